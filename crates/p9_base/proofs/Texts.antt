@@ -1,0 +1,25 @@
+-- Texts, kept in place and tested.
+use Rattle.std.proofs.Common.{◌≡◌, ℕ, ◌≤◌, List, ◌++◌, true, IsTrue, length, take, drop, replicate, refl}
+use Rattle.std.specs.Prelude.{IsUtf8, ◌==◌, not}
+use Rattle.std.specs.List.{list_any}
+use Rattle.std.proofs.Math.Seq.{take-append_seam}
+use Rattle.std.proofs.lemmas.Bool.{and_parts}
+use Rattle.std.proofs.lemmas.Str.{IsUtf8-from_is_utf8, is_utf8-from_IsUtf8}
+use Rattle.p9_base.specs.Text.{is_text, padded}
+use Rattle.p9_base.specs.Padding.{padded-take}
+
+-- a text is UTF-8
+pub IsUtf8-from_is_text : (s : List ℕ) → IsTrue (is_text s) → IsUtf8 s
+IsUtf8-from_is_text s h = IsUtf8-from_is_utf8 s (and_parts _ _ h).0
+
+-- characters are a text where none is NUL
+pub is_text-IsUtf8 : (s : List ℕ) → IsUtf8 s → not (list_any (λ (b : ℕ). b == 0) s) ≡ is_text s
+is_text-IsUtf8 s utf8 = rw (is_utf8-from_IsUtf8 s utf8) refl
+
+-- what is kept of a text that was copied over the front of zeros
+pub kept_text : (n : ℕ) (text front : List ℕ) → length text ≤ n → IsTrue (is_text text) → front ≡ text →
+    (length text ≤ n)
+    × (front ++ drop (length text) (replicate n 0) ≡ padded n (take (length text) (front ++ drop (length text) (replicate n 0))))
+    × IsTrue (is_text (take (length text) (front ++ drop (length text) (replicate n 0))))
+kept_text n text front fits sound same =
+    rw same (fits, padded-take n text fits, rw take-append_seam sound)

@@ -1,0 +1,5 @@
+pub mod Text
+pub mod Padding
+pub mod TextFields
+pub mod Name
+pub mod User

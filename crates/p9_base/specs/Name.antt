@@ -1,0 +1,11 @@
+-- What a file may be called.
+use Rattle.std.specs.Prelude.{ℕ, ◌==◌, ◌&&◌, ◌||◌, Bool, not, nat_le, List, length, codes}
+use Rattle.std.specs.List.{list_any}
+use Rattle.std.specs.Str.{bytes_eq}
+use Rattle.p9_base.specs.Text.{is_text}
+
+-- 1 to 255 bytes of text, without '/', and neither "." nor ".."
+abbrev pub is_name : List ℕ → Bool
+is_name s =
+    nat_le 1 (length s) && nat_le (length s) 255 && is_text s && not (list_any (λ b. b == 47) s)
+    && not (bytes_eq s (codes ".") || bytes_eq s (codes ".."))

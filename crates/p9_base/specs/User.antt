@@ -1,0 +1,7 @@
+-- What a user or a group may be called.
+use Rattle.std.specs.Prelude.{ℕ, ◌&&◌, Bool, nat_le, List, length}
+use Rattle.p9_base.specs.Text.{is_text}
+
+-- 1 to 63 bytes of text
+abbrev pub is_user : List ℕ → Bool
+is_user s = nat_le 1 (length s) && nat_le (length s) 63 && is_text s

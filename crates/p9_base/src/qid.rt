@@ -1,0 +1,13 @@
+//! What a server tells of a file's identity, as intro(5).
+
+/// A server's unique identification of a file: two files are the same exactly where their paths
+/// are, and its version grows with each change of its contents.
+#[derive(Clone, Copy, Debug, PartialEq, Eq)]
+pub struct Qid {
+    /// The high byte of the file's mode: `0x80` for a directory.
+    pub kind: u8,
+    /// How often the file was changed, modulo 2^32.
+    pub version: u32,
+    /// The file's number among all files of all servers.
+    pub path: u64,
+}
