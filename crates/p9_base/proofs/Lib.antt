@@ -1,1 +1,2 @@
+mod Modes
 mod Texts

@@ -3,3 +3,6 @@ pub mod Padding
 pub mod TextFields
 pub mod Name
 pub mod User
+pub mod Fault
+pub mod Mode
+pub mod Rights

@@ -4,15 +4,21 @@
 //! as a list of bytes, and every other type as the record or the case that it is.
 #![tactic(auto)]
 
+mod fault;
 mod memory;
+mod mode;
 mod name;
 mod node_ref;
 mod qid;
+mod rights;
 mod text;
 mod user;
 
+pub use fault::Fault;
 pub use memory::NoMemory;
+pub use mode::{DMAPPEND, DMDIR, DMEXCL, DMTMP, FileFlags, Kind, Mode, Permissions, Rights};
 pub use name::{Name, valid_name};
 pub use node_ref::NodeRef;
 pub use qid::Qid;
+pub use rights::granted;
 pub use user::User;

@@ -1,0 +1,127 @@
+-- A mode's bits determine the mode.
+use Rattle.std.proofs.Common.{◌≡◌, ℕ, ◌+◌, ◌-◌, ◌*◌, ◌/◌, ◌%◌, ◌<◌, ◌^◌, Bool, true, false, arith, refl, sym, ap, ◌∙◌, lit<}
+use Rattle.std.specs.Prelude.{◌==◌}
+use Rattle.p9_base.specs.declared.mode.Rights.{Rights}
+use Rattle.p9_base.specs.declared.mode.Permissions.{Permissions}
+use Rattle.p9_base.specs.declared.mode.FileFlags.{FileFlags}
+use Rattle.p9_base.specs.declared.mode.Kind.{Kind}
+use Rattle.p9_base.specs.declared.mode.Kind.TheVariants.{Directory, File}
+use Rattle.p9_base.specs.declared.mode.Mode.{Mode}
+use Rattle.p9_base.specs.Mode.{rights_bits, permissions_bits, flags_bits, flags_among, kind_bits, mode_bits}
+
+rights_of : ℕ → Rights
+rights_of n = record { read = n / 4 == 1; write = n / 2 % 2 == 1; execute = n % 2 == 1 }
+
+-- three bits give the rights back
+rights_of-rights_bits : (r : Rights) → rights_of (rights_bits r) ≡ r
+unfolding rights_of
+rights_of-rights_bits r = go r.read r.write r.execute where
+  go : (a b c : Bool) → rights_of (rights_bits (record { read = a; write = b; execute = c })) ≡ record { read = a; write = b; execute = c }
+  go true true true = refl
+  go true true false = refl
+  go true false true = refl
+  go true false false = refl
+  go false true true = refl
+  go false true false = refl
+  go false false true = refl
+  go false false false = refl
+
+rights_bits_lt : (r : Rights) → rights_bits r < 8
+rights_bits_lt r = go r.read r.write r.execute where
+  go : (a b c : Bool) → rights_bits (record { read = a; write = b; execute = c }) < 8
+  go true true true = lit< tt
+  go true true false = lit< tt
+  go true false true = lit< tt
+  go true false false = lit< tt
+  go false true true = lit< tt
+  go false true false = lit< tt
+  go false false true = lit< tt
+  go false false false = lit< tt
+
+-- three bits determine the rights
+rights_bits-injective : (r s : Rights) → rights_bits r ≡ rights_bits s → r ≡ s
+rights_bits-injective r s e = sym (rights_of-rights_bits r) ∙ ap rights_of e ∙ rights_of-rights_bits s
+
+abbrev of_classes : Rights → Rights → Rights → Permissions
+of_classes a b c = record { owner = a; group = b; others = c }
+
+-- nine bits determine the permissions
+permissions_bits-injective : (p q : Permissions) → permissions_bits p ≡ permissions_bits q → p ≡ q
+permissions_bits-injective p q e =
+    let a = rights_bits_lt p.owner in
+    let b = rights_bits_lt p.group in
+    let c = rights_bits_lt p.others in
+    let a' = rights_bits_lt q.owner in
+    let b' = rights_bits_lt q.group in
+    let c' = rights_bits_lt q.others in
+    let owner : rights_bits p.owner ≡ rights_bits q.owner = omega arith in
+    let group : rights_bits p.group ≡ rights_bits q.group = omega arith in
+    let others : rights_bits p.others ≡ rights_bits q.others = omega arith in
+    ap (λ r. of_classes r p.group p.others) (rights_bits-injective p.owner q.owner owner)
+    ∙ ap (λ r. of_classes q.owner r p.others) (rights_bits-injective p.group q.group group)
+    ∙ ap (λ r. of_classes q.owner q.group r) (rights_bits-injective p.others q.others others)
+
+permissions_bits_lt : (p : Permissions) → permissions_bits p < 512
+permissions_bits_lt p =
+    let a = rights_bits_lt p.owner in
+    let b = rights_bits_lt p.group in
+    let c = rights_bits_lt p.others in
+    omega arith
+
+-- a file's bits give its flags back
+flags_among-flags_bits : (f : FileFlags) → flags_among (flags_bits f) ≡ f
+flags_among-flags_bits f = go f.append_only f.exclusive f.temporary where
+  go : (a e t : Bool) → flags_among (flags_bits (record { append_only = a; exclusive = e; temporary = t })) ≡ record { append_only = a; exclusive = e; temporary = t }
+  go true true true = refl
+  go true true false = refl
+  go true false true = refl
+  go true false false = refl
+  go false true true = refl
+  go false true false = refl
+  go false false true = refl
+  go false false false = refl
+
+record IsFlagBits (n : ℕ) : Type 0 where
+  below : n < 2 ^ 31
+  whole : n % 512 ≡ 0
+
+flag_bits : (f : FileFlags) → IsFlagBits (flags_bits f)
+flag_bits f = go f.append_only f.exclusive f.temporary where
+  go : (a e t : Bool) → IsFlagBits (flags_bits (record { append_only = a; exclusive = e; temporary = t }))
+  go true true true = record { below = lit< tt; whole = refl }
+  go true true false = record { below = lit< tt; whole = refl }
+  go true false true = record { below = lit< tt; whole = refl }
+  go true false false = record { below = lit< tt; whole = refl }
+  go false true true = record { below = lit< tt; whole = refl }
+  go false true false = record { below = lit< tt; whole = refl }
+  go false false true = record { below = lit< tt; whole = refl }
+  go false false false = record { below = lit< tt; whole = refl }
+
+kind_bits_whole : (k : Kind) → kind_bits k % 512 ≡ 0
+kind_bits_whole Directory = refl
+kind_bits_whole (File f) = (flag_bits f).whole
+
+kind_bits-injective : (j k : Kind) → kind_bits j ≡ kind_bits k → j ≡ k
+kind_bits-injective Directory Directory e = refl
+kind_bits-injective Directory (File g) e = let low = (flag_bits g).below in absurd (omega arith)
+kind_bits-injective (File f) Directory e = let low = (flag_bits f).below in absurd (omega arith)
+kind_bits-injective (File f) (File g) e =
+    ap File (sym (flags_among-flags_bits f) ∙ ap flags_among e ∙ flags_among-flags_bits g)
+
+-- the bits above the low nine are the kind's
+pub kind_bits-mode_bits : (m : Mode) (bits : ℕ) → mode_bits m ≡ bits → kind_bits m.kind ≡ bits - bits % 512
+kind_bits-mode_bits m bits e =
+    let whole = kind_bits_whole m.kind in
+    let low = permissions_bits_lt m.permissions in
+    omega arith
+
+abbrev of_parts : Kind → Permissions → Mode
+of_parts k p = record { kind = k; permissions = p }
+
+-- all bits determine the mode
+pub mode_bits-injective : (m n : Mode) → mode_bits m ≡ mode_bits n → m ≡ n
+mode_bits-injective m n e =
+    let kinds : kind_bits m.kind ≡ kind_bits n.kind = kind_bits-mode_bits m _ e ∙ sym (kind_bits-mode_bits n _ refl) in
+    let low : permissions_bits m.permissions ≡ permissions_bits n.permissions = omega arith in
+    ap (λ k. of_parts k m.permissions) (kind_bits-injective m.kind n.kind kinds)
+    ∙ ap (λ p. of_parts n.kind p) (permissions_bits-injective m.permissions n.permissions low)

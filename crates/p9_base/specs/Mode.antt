@@ -1,0 +1,50 @@
+-- A node's mode and its bits, as stat(5).
+use Rattle.std.specs.Prelude.{ℕ, ◌+◌, ◌*◌, ◌/◌, ◌^◌, ◌==◌, Bool, true, false, not, bit_and, if◌then◌else◌}
+use Rattle.p9_base.specs.declared.mode.Rights.{Rights}
+use Rattle.p9_base.specs.declared.mode.Permissions.{Permissions}
+use Rattle.p9_base.specs.declared.mode.FileFlags.{FileFlags}
+use Rattle.p9_base.specs.declared.mode.Kind.{Kind}
+use Rattle.p9_base.specs.declared.mode.Kind.TheVariants.{Directory, File}
+use Rattle.p9_base.specs.declared.mode.Mode.{Mode}
+
+-- a bit, where it is set
+abbrev pub bit : Bool → ℕ → ℕ
+bit b n = if b then n else 0
+
+-- read, write, execute
+abbrev pub rights_bits : Rights → ℕ
+rights_bits r = bit r.read 4 + bit r.write 2 + bit r.execute 1
+
+-- three octal digits: the owner's, the group's, the others'
+abbrev pub permissions_bits : Permissions → ℕ
+permissions_bits p = 64 * rights_bits p.owner + 8 * rights_bits p.group + rights_bits p.others
+
+abbrev pub flags_bits : FileFlags → ℕ
+flags_bits f = bit f.append_only (2 ^ 30) + bit f.exclusive (2 ^ 29) + bit f.temporary (2 ^ 26)
+
+-- the flags that are set among the bits
+abbrev pub flags_among : ℕ → FileFlags
+flags_among bits = record {
+  append_only = not (bit_and bits (2 ^ 30) == 0);
+  exclusive = not (bit_and bits (2 ^ 29) == 0);
+  temporary = not (bit_and bits (2 ^ 26) == 0);
+}
+
+-- the bits above the permissions
+abbrev pub kind_bits : Kind → ℕ
+kind_bits Directory = 2 ^ 31
+kind_bits (File f) = flags_bits f
+
+abbrev pub mode_bits : Mode → ℕ
+mode_bits m = kind_bits m.kind + permissions_bits m.permissions
+
+abbrev pub is_dir_kind : Kind → Bool
+is_dir_kind Directory = true
+is_dir_kind (File f) = false
+
+abbrev pub is_dir : Mode → Bool
+is_dir m = is_dir_kind m.kind
+
+-- the mode shifted right by 24
+abbrev pub qid_kind : Mode → ℕ
+qid_kind m = mode_bits m / 2 ^ 24

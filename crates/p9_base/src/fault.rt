@@ -1,0 +1,183 @@
+//! The faults that a reply can name, each with the number that documents give it and its text.
+
+ghost use Rattle.std.specs.Prelude.{◌≡◌, ◌≤◌};
+ghost use Rattle.p9_base.specs.Fault.{number_of, text_of};
+
+use crate::memory::NoMemory;
+use std::alloc::{AllocError, AllocFailed};
+use thiserror::Error;
+
+/// Why a request is refused. The text of each is what error(5)'s reply carries.
+#[derive(Clone, Copy, Debug, PartialEq, Eq, Error)]
+pub enum Fault {
+    /// The bytes are no message, or more than the session's msize.
+    #[error("malformed message")]
+    Malformed,
+    /// A session's first message is not a version.
+    #[error("version not set")]
+    VersionNotSet,
+    /// A version asks for an msize below 512.
+    #[error("msize too small")]
+    SmallMsize,
+    /// There is no authentication: an auth, or an attach with an afid.
+    #[error("authentication not required")]
+    NoAuthentication,
+    /// An attach by somebody who is no listed user.
+    #[error("unknown user")]
+    UnknownUser,
+    /// An attach to a tree that is not there.
+    #[error("unknown attach name")]
+    UnknownAttachName,
+    /// The session has no such fid, or it may not be one.
+    #[error("unknown fid")]
+    UnknownFid,
+    /// A new fid that the session has already.
+    #[error("fid in use")]
+    FidInUse,
+    /// A walk, an open or a create of an open fid.
+    #[error("fid already open")]
+    FidOpen,
+    /// A read or write of a fid that is not open for it.
+    #[error("fid not open for this")]
+    FidNotOpen,
+    /// A file where a directory has to stand.
+    #[error("not a directory")]
+    NotDirectory,
+    /// A name that no member of the directory has.
+    #[error("file does not exist")]
+    NotFound,
+    /// The user lacks a permission.
+    #[error("permission denied")]
+    PermissionDenied,
+    /// The fid's file was removed.
+    #[error("phase error")]
+    PhaseError,
+    /// A mode to open or create with that means nothing.
+    #[error("bad open mode")]
+    BadOpenMode,
+    /// A directory where a file has to stand.
+    #[error("is a directory")]
+    IsDirectory,
+    /// An exclusive-use file that some fid has open.
+    #[error("exclusive use file already open")]
+    ExclusiveUse,
+    /// A name that no file may have.
+    #[error("bad file name")]
+    BadFileName,
+    /// A create or a rename to a name that the directory has.
+    #[error("file already exists")]
+    FileExists,
+    /// A create in a union of which no member permits it.
+    #[error("mounted directory forbids creation")]
+    CreationForbidden,
+    /// A directory read at an offset that is neither 0 nor where the last one ended.
+    #[error("bad directory offset")]
+    BadDirectoryOffset,
+    /// A directory read with no room for the next entry.
+    #[error("read count too small")]
+    SmallReadCount,
+    /// A file would have more bytes than files may have.
+    #[error("file too large")]
+    FileTooLarge,
+    /// A remove of a directory with entries.
+    #[error("directory not empty")]
+    NotEmpty,
+    /// A remove or a rename of a server's root.
+    #[error("root can't be removed or renamed")]
+    IsRoot,
+    /// A wstat of a field that never changes.
+    #[error("wstat of a fixed field")]
+    FixedField,
+    /// A session has as many fids as it may have.
+    #[error("too many fids")]
+    TooManyFids,
+    /// A server has given all its qid numbers.
+    #[error("qid numbers used up")]
+    QidsUsedUp,
+    /// Memory was refused.
+    #[error("out of memory")]
+    OutOfMemory,
+    /// A fid is as far from its place of attachment as it may be.
+    #[error("path too deep")]
+    PathTooDeep,
+}
+
+impl Fault {
+    /// The fault's number in the documents, 1 to 30.
+    pub fn number(self) -> u8
+        ensures { result ≡ number_of self }
+    {
+        self as u8 + 1
+    }
+
+    /// The text that a reply carries, at most 34 bytes.
+    pub fn text(self) -> &'static str
+        ensures value { result.now ≡ text_of self }
+    {
+        match self {
+            Fault::Malformed => "malformed message",
+            Fault::VersionNotSet => "version not set",
+            Fault::SmallMsize => "msize too small",
+            Fault::NoAuthentication => "authentication not required",
+            Fault::UnknownUser => "unknown user",
+            Fault::UnknownAttachName => "unknown attach name",
+            Fault::UnknownFid => "unknown fid",
+            Fault::FidInUse => "fid in use",
+            Fault::FidOpen => "fid already open",
+            Fault::FidNotOpen => "fid not open for this",
+            Fault::NotDirectory => "not a directory",
+            Fault::NotFound => "file does not exist",
+            Fault::PermissionDenied => "permission denied",
+            Fault::PhaseError => "phase error",
+            Fault::BadOpenMode => "bad open mode",
+            Fault::IsDirectory => "is a directory",
+            Fault::ExclusiveUse => "exclusive use file already open",
+            Fault::BadFileName => "bad file name",
+            Fault::FileExists => "file already exists",
+            Fault::CreationForbidden => "mounted directory forbids creation",
+            Fault::BadDirectoryOffset => "bad directory offset",
+            Fault::SmallReadCount => "read count too small",
+            Fault::FileTooLarge => "file too large",
+            Fault::NotEmpty => "directory not empty",
+            Fault::IsRoot => "root can't be removed or renamed",
+            Fault::FixedField => "wstat of a fixed field",
+            Fault::TooManyFids => "too many fids",
+            Fault::QidsUsedUp => "qid numbers used up",
+            Fault::OutOfMemory => "out of memory",
+            Fault::PathTooDeep => "path too deep",
+        }
+    }
+}
+
+impl From<NoMemory> for Fault {
+    ghost use Rattle.std.specs.Prelude.{◌≡◌};
+    ghost use Rattle.p9_base.specs.declared.fault.Fault.TheVariants.{OutOfMemory};
+
+    ghost from_gives = { λ _ fault. fault ≡ OutOfMemory };
+
+    fn from(_error: NoMemory) -> Fault {
+        Fault::OutOfMemory
+    }
+}
+
+impl From<AllocError> for Fault {
+    ghost use Rattle.std.specs.Prelude.{◌≡◌};
+    ghost use Rattle.p9_base.specs.declared.fault.Fault.TheVariants.{OutOfMemory};
+
+    ghost from_gives = { λ _ fault. fault ≡ OutOfMemory };
+
+    fn from(_error: AllocError) -> Fault {
+        Fault::OutOfMemory
+    }
+}
+
+impl<T: Drop> From<AllocFailed<T>> for Fault {
+    ghost use Rattle.std.specs.Prelude.{◌≡◌};
+    ghost use Rattle.p9_base.specs.declared.fault.Fault.TheVariants.{OutOfMemory};
+
+    ghost from_gives = { λ _ fault. fault ≡ OutOfMemory };
+
+    fn from(_error: AllocFailed<T>) -> Fault {
+        Fault::OutOfMemory
+    }
+}
