@@ -8,7 +8,8 @@ use prog.Memory.{Memory}
 use prog.Routine.{Routine}
 use types.Logic.{Logic, sem}
 use contract.Monad.{Fun}
-use types.Kit.{‵, raw, ◌⊛◌, some, later, ◌$◌, ◌∵◌, !, qed, move, keep, use1, split, join, pick, fjoin, feq_l, feq_i, check, show, await, updating, now as at_once, done}
+use types.Kit.{‵, raw, ◌⊛◌, some, later, ◌$◌, ◌∵◌, !, qed, move, keep, use1, split, join, pick}
+use types.Kit.{fjoin, feq_l, feq_i, check, show, await, updating, now as at_once, done}
 use denote.RattleType.{RattleType}
 use denote.Memory.{hidden_shr}
 use denote.Builtin.{bool}
@@ -22,28 +23,48 @@ use Rattle.p9_refusing.specs.contracts.allocator.refuses as refuses
 abbrev pub Counter : RattleType
 Counter = cell.the_row requests.the_row
 
-module _ {M : Type 1} {𝓤 : Ura M} (𝓛 : Logic 𝓤) (at_mem : Memory → SProp 𝓤) (run : Routine → Fun 𝓤) where
-  abbrev pub Refuses : Contract 𝓤
-  Refuses = triple_of 𝓛 refuses.signature (refuses.spec 𝓛 at_mem run)
+module _ {M : Type 1} {𝓤 : Ura M} (𝓛 : Logic 𝓤) (at_mem : Memory → SProp 𝓤)
+    (run : Routine → Fun 𝓤) where
+  abbrev pub Counts : Contract 𝓤
+  Counts = triple_of 𝓛 refuses.signature (refuses.spec 𝓛 at_mem run)
 
-  abbrev pub at_refuses : Lft → Share → ℕ × ℕ → Refuses.Ghost
-  at_refuses κ q c = (((κ, tt), (q, tt), tt, (record { ref_ptr = c; now = record { value = tt } }, tt), (vptr c.0 c.1 ∷ [], tt)), tt)
+  abbrev pub at_counts : Lft → Share → ℕ × ℕ → Counts.Ghost
+  at_counts κ q c = (
+    (
+      (κ, tt),
+      (q, tt),
+      tt,
+      (record { ref_ptr = c; now = record { value = tt } }, tt),
+      (vptr c.0 c.1 ∷ [], tt),
+    ),
+    tt,
+  )
 
-module _ {M : Type 1} {𝓤 : Ura M} (𝓛 : Logic 𝓤) (at_mem : Memory → SProp 𝓤) (run : Routine → Fun 𝓤) (κ : Lft) (q : Share) (c : ℕ × ℕ) where
+module _ {M : Type 1} {𝓤 : Ura M} (𝓛 : Logic 𝓤) (at_mem : Memory → SProp 𝓤)
+    (run : Routine → Fun 𝓤) (κ : Lft) (q : Share) (c : ℕ × ℕ) where
   open 𝓛 use {H, A}
 
   abbrev pub Shared : SProp 𝓤
   Shared = sem 𝓛 (hidden_shr Counter κ (record { value = tt }) c.0 c.1)
 
-  pub Refuses-goes : ent 𝓤 (sep 𝓤 Shared (A.lft κ q)) ((Refuses 𝓛 at_mem run).pre (at_refuses 𝓛 at_mem run κ q c))
-  Refuses-goes =
+  -- It is handed a reference to the counter, and a token of its lifetime.
+  pub Counts-goes : ent 𝓤 (sep 𝓤 Shared (A.lft κ q))
+      ((Counts 𝓛 at_mem run).pre (at_counts 𝓛 at_mem run κ q c))
+  Counts-goes =
       qed 𝓛 (‵ (hidden_shr Counter κ (record { value = tt }) c.0 c.1) ∷ ‵ (flft κ q) ∷ []) ∵
-      feq_i ! (List Val) (vptr c.0 c.1 ∷ []) (vptr c.0 c.1 ∷ []) refl $ fjoin ! $ nothing ! $ move ! (1 ∷ []) $ fjoin ! $
+      feq_i ! (List Val) (vptr c.0 c.1 ∷ []) (vptr c.0 c.1 ∷ []) refl $ fjoin ! $ nothing ! $
+      move ! (1 ∷ []) $ fjoin ! $
       nothing ! $ move ! (2 ∷ []) $ join ! $ join ! $ nothing ! $ move ! (1 ∷ []) $ done !
 
-  pub Refuses-gives : (v : Val) → ent 𝓤 ((Refuses 𝓛 at_mem run).post (at_refuses 𝓛 at_mem run κ q c) v) (H.⇛ (ex 𝓤 (λ (y : Bool). guard 𝓤 (v ≡ vbool y) (A.lft κ q))))
-  Refuses-gives v =
-      qed 𝓛 (raw ((Refuses 𝓛 at_mem run).post (at_refuses 𝓛 at_mem run κ q c) v) ∷ []) ∵ updating ! $
-      use1 𝓛 (later (some (λ (y : Bool). ((‵ (flft κ q) ⊛ ‵ ftrue) ⊛ ‵ (bool.own_val y (v ∷ []))) ⊛ some (λ (ws : Unit {0} × Unit {0}). ‵ (fsep ftrue ftrue) ⊛ ‵ ftrue)))) (id⊢ 𝓤 _) $
-      await ! tt $ pick ! (λ y. split ! $ split ! $ move ! (1 ∷ []) $ feq_l ! (λ e. split ! $ at_once ! $
-      show ! (λ (z : Bool). guard 𝓤 (v ≡ vbool z) (A.lft κ q)) y $ check ! (ap only e) $ keep ! (0 ∷ []) $ done !))
+  -- Its caller has the token again, and a flag.
+  pub Counts-gives : (v : Val)
+      → ent 𝓤 ((Counts 𝓛 at_mem run).post (at_counts 𝓛 at_mem run κ q c) v)
+      (H.⇛ (ex 𝓤 (λ (y : Bool). guard 𝓤 (v ≡ vbool y) (A.lft κ q))))
+  Counts-gives v =
+      qed 𝓛 (raw ((Counts 𝓛 at_mem run).post (at_counts 𝓛 at_mem run κ q c) v) ∷ []) ∵
+      updating ! $ use1 𝓛 (later (some (λ (y : Bool). ((‵ (flft κ q) ⊛ ‵ ftrue) ⊛ ‵ (bool.own_val y (v ∷ [])))
+      ⊛ some (λ (ws : Unit {0} × Unit {0}). ‵ (fsep ftrue ftrue) ⊛ ‵ ftrue)))) (id⊢ 𝓤 _) $
+      await ! tt $ pick ! (λ y. split ! $ split ! $ move ! (1 ∷ []) $ feq_l ! (λ e. split ! $
+      at_once ! $
+      show ! (λ (z : Bool). guard 𝓤 (v ≡ vbool z) (A.lft κ q)) y $ check ! (ap only e) $
+      keep ! (0 ∷ []) $ done !))

@@ -1,3 +1,5 @@
+ghost use Rattle.std.specs.Prelude.{◌≡◌};
+
 use crate::count::Requests;
 use std::alloc::{AllocError, Allocator};
 use std::cell::Cell;
@@ -6,8 +8,8 @@ use std::cell::Cell;
 /// A reference to it is an allocator that can be copied.
 ///
 /// What it counts stands in a cell, of which no clause can speak: which request is refused, and what
-/// `requests` and `has_refused` answer, is tested. That a block which it hands out is one of the inner
-/// allocator, and goes back to it, is proved.
+/// `requests` and `has_refused` answer, is tested. That a block which it hands out is one of the
+/// inner allocator's, and goes back to it, is proved.
 #[derive(Drop)]
 pub struct Refusing<B: Allocator> {
     inner: B,
@@ -15,22 +17,26 @@ pub struct Refusing<B: Allocator> {
 }
 
 impl<B: Allocator> Refusing<B> {
+    ghost use Rattle.p9_refusing.specs.Refusing.{inner_of};
+
     /// An allocator that refuses nothing yet, and hands out the memory of `inner`.
-    pub fn new(inner: B) -> Refusing<B> {
+    pub fn new(inner: B) -> Refusing<B>
+        ensures { inner_of result ≡ inner }
+    {
         Refusing {
             inner,
             requests: Cell::new(Requests::new()),
         }
     }
 
-    /// Refuses the `n`-th request from now on, once: 1 is the next one, and 0 is none. The request that
-    /// was named before is refused no more.
+    /// Refuses the `n`-th request from now on, once: 1 is the next one, and 0 is none. The request
+    /// that was named before is refused no more.
     pub fn refuse(&self, n: u64) {
         self.requests.set(self.requests.get().refusing(n));
     }
 
-    /// How many requests were made so far, the refused ones among them. Memory that is given back is
-    /// no request.
+    /// How many requests were made so far, the refused ones among them. Memory that is given back
+    /// is no request; a block that grows or shrinks is one.
     pub fn requests(&self) -> u64 {
         self.requests.get().made
     }
@@ -43,13 +49,15 @@ impl<B: Allocator> Refusing<B> {
 
 /// Counts a request, and says whether it is refused.
 fn refuses(requests: &Cell<Requests>) -> bool {
-    let counted = requests.get().next();
+    let counted = requests.get().after_request();
     requests.set(counted);
     counted.is_refused()
 }
 
 unsafe impl<B: Allocator> Allocator for Refusing<B> {
-    ghost dealloc_token = { λ refusing ty ptr. B.dealloc_token refusing.inner ty ptr };
+    ghost use Rattle.p9_refusing.specs.Refusing.{inner_of};
+
+    ghost dealloc_token = { λ refusing. B.dealloc_token (inner_of refusing) };
 
     fn allocate(&self, size: usize, align: usize) -> Result<*mut u8, AllocError> {
         if refuses(&self.requests) {
