@@ -1,4 +1,4 @@
-use Rattle.std.proofs.Common.{◌≡◌, ◌+◌, ◌-◌, ◌≤◌, ℕ}
+use Rattle.std.proofs.Common.{◌≡◌, ◌+◌, ◌-◌, ◌≤◌}
 use Rattle.p9_refusing.specs.TakesTurns.{TakesTurns}
 use Rattle.p9_refusing.proofs.turns.refuse_each.Given as goal
 
