@@ -17,21 +17,17 @@ loop-n-preserved g c = (
 
 pub returns : goal.returns
 returns g c = elim c.loop-n-test.branch [
-  | else-loop-n-test w ↦ record {
-    turns = (
-      c.loop-n.make,
-      c.loop-n.run,
-      subst (TakesTurns _ _ _ _ _ _)
-          (omega (arith, c.loop-n.invariant.3, w.refusals-is, w.loop-n-test.false))
-          c.loop-n.invariant.2,
-    );
-  }
-  | then-loop-n-test+then-not-has_refused w ↦ record {
-    turns = (
-      w.make-value.new.self,
-      w.run.new.self,
-      TakesTurns-next _ _ _ _ _ _ _ _ _ _ _
-          c.loop-n.invariant.2 w.make-value.ensures w.run.ensures (omega (arith, w.refusals-is)),
-    );
-  }
+  | else-loop-n-test w ↦ (
+    c.loop-n.make,
+    c.loop-n.run,
+    subst (TakesTurns _ _ _ _ _ _)
+        (omega (arith, c.loop-n.invariant.3, w.refusals-is, w.loop-n-test.false))
+        c.loop-n.invariant.2,
+  )
+  | then-loop-n-test+then-not-has_refused w ↦ (
+    w.make-value.new.self,
+    w.run.new.self,
+    TakesTurns-next _ _ _ _ _ _ _ _ _ _ _
+        c.loop-n.invariant.2 w.make-value.ensures w.run.ensures (omega (arith, w.refusals-is)),
+  )
 ]

@@ -15,9 +15,9 @@ use contract.BorrowLft.{◌⊑◌, ⊑_trans}
 use contract.Monad.{Fun, fact}
 use contract.Running.{tables, tables_of}
 use sound.WpLaws.{fm_of, WpFn-mono}
-use types.Kit.{Item, ‵, raw, ◌⊛◌, some, later, given, prop, at_ret, Sq, ◌$◌, ◌∵◌, !, qed, move, keep}
-use types.Kit.{drop, use0, use1, use2, split, join, pick, learn, fsplit, fjoin, suffices, await}
-use types.Kit.{done}
+use types.Kit.{Item, ‵, raw, ◌⊛◌, some, later, given, prop, at_ret, Sq, ◌$◌, ◌∵◌, !, qed, done}
+use types.Kit.{move, keep, drop, use0, use1, use2, split, join, pick, learn, fsplit, fjoin}
+use types.Kit.{suffices, await}
 use types.Part.{agg}
 use types.Run.{stop, fld, addr, lit, no_more, and_then, first, branches, skips, exec, returns}
 use types.Run.{returns_within, enter}
