@@ -1,3 +1,6 @@
 mod Faults
 mod Modes
 mod Texts
+mod Splits
+mod Decimals
+mod StatementLemmas
