@@ -4,3 +4,4 @@ mod Texts
 mod Splits
 mod Decimals
 mod StatementLemmas
+pub mod TryFold

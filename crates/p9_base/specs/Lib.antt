@@ -9,3 +9,4 @@ pub mod Rights
 pub mod Line
 pub mod Decimal
 pub mod Statement
+pub mod TryFold
