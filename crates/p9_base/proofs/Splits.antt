@@ -53,6 +53,6 @@ module _ (test : ℕ → Bool) (ascii : (c : ℕ) → test c ≡ true → c < 12
       let cut = k.1.1.1 in (
         k.1.0 test h,
         ap (λ b. cond b (slice_split test (split_text t)) []) (sym k.0)
-        ∙ slice_split-found (split_text t) x.now (split_text u) (split_has_more u) cut.0 (cut.1 test h) cut.2,
+            ∙ slice_split-found (split_text t) x.now (split_text u) (split_has_more u) cut.0 (cut.1 test h) cut.2,
       ))
       s pattern)

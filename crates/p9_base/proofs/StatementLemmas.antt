@@ -20,9 +20,9 @@ statements_in-add-one n lines line l at =
     let short : n < length (map words_of lines) = omega (arith, length-map lines words_of) in
     let long : n < length numbered = omega (arith, length-enumerate_from 1 (map words_of lines)) in
     let here : get_or numbered n (n + 1, words_of line) ≡ (n + 1, words_of line) =
-        get_or-enumerate_from 1 (map words_of lines) n (n + 1, words_of line) short
-        ∙ ap (λ k. (k, get_or (map words_of lines) n (words_of line))) (omega arith)
-        ∙ ap (λ words. (n + 1, words)) (get_or-map words_of lines n line (words_of line) l ∙ ap words_of (sym at)) in
+    get_or-enumerate_from 1 (map words_of lines) n (n + 1, words_of line) short
+    ∙ ap (λ k. (k, get_or (map words_of lines) n (words_of line))) (omega arith)
+    ∙ ap (λ words. (n + 1, words)) (get_or-map words_of lines n line (words_of line) l ∙ ap words_of (sym at)) in
     filter_more (λ entry. not (is_skipped entry.1)) numbered n (n + 1, words_of line) long
     ∙ ap (λ entry. statements_in n lines ++ cond (not (is_skipped entry.1)) (entry ∷ []) []) here
 

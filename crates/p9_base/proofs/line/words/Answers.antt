@@ -17,8 +17,8 @@ pub returns : goal.returns
 returns g c =
     map_from_collect _ c.collect.ensures.ran
     (YieldsList-from_filter _ (λ word. nat_lt 0 (length word))
-      (YieldsList-at c.filter.ensures.source
-        (YieldsList-from_split_by is_blank is_blank-ascii (λ (set : List ℕ) test. (d : ℕ) → char_set_contains set d ≡ test d)
-          c.args.line.now c.split.ensures.text c.split.ensures.has_more
-          (λ d. ap (λ set. char_set_contains set d) c.split.ensures.pattern ∙ char_set_contains-blanks d)))
-      c.filter.ensures.closure (λ x b q k. search (rules, tests)))
+    (YieldsList-at c.filter.ensures.source
+    (YieldsList-from_split_by is_blank is_blank-ascii (λ (set : List ℕ) test. (d : ℕ) → char_set_contains set d ≡ test d)
+    c.args.line.now c.split.ensures.text c.split.ensures.has_more
+    (λ d. ap (λ set. char_set_contains set d) c.split.ensures.pattern ∙ char_set_contains-blanks d)))
+    c.filter.ensures.closure (λ x b q k. search (rules, tests)))
