@@ -27,10 +27,11 @@ statements_in-add-one n lines line l at =
     ∙ ap (λ entry. statements_in n lines ++ cond (not (is_skipped entry.1)) (entry ∷ []) []) here
 
 -- what a loop over the lines has, once it has read one line more
-pub statements_in-step : (skipped : Bool) (n : ℕ) (d : Bor (List ℕ)) (items : List (Bor (List ℕ))) (lines words : List (List ℕ)) (before : List (ℕ × List (List ℕ))) →
-    map (λ line. line.now) items ≡ lines → n < length items → words ≡ words_of (get_or items n d).now → skipped ≡ is_skipped words → before ≡ statements_in n lines →
+pub statements_in-step : (n : ℕ) (d : Bor (List ℕ)) (items : List (Bor (List ℕ))) (lines words : List (List ℕ)) (before : List (ℕ × List (List ℕ))) →
+    map (λ line. line.now) items ≡ lines → n < length items → words ≡ words_of (get_or items n d).now → before ≡ statements_in n lines →
+    (skipped : Bool) → skipped ≡ is_skipped words →
     before ++ cond (not skipped) ((n + 1, words) ∷ []) [] ≡ statements_in (n + 1) lines
-statements_in-step skipped n d items lines words before same l read test kept =
+statements_in-step n d items lines words before same l read kept skipped test =
     let line = (get_or items n d).now in
     let short : n < length lines = omega (arith, ap length same, length-map items (λ (line : Bor (List ℕ)). line.now)) in
     let at : line ≡ get_or lines n line = sym (get_or-map (λ (line : Bor (List ℕ)). line.now) items n d line l) ∙ ap (λ lines. get_or lines n line) same in

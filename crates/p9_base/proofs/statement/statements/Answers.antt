@@ -10,16 +10,13 @@ pub loop-i-preserved : goal.loop-i-preserved
 loop-i-preserved g c =
     let lines = ap (map (λ line. line.now)) c.deref-line-items.ensures.value ∙ c.in_ok-lines.ensures in
     let test = c.is_skipped.ensures ∙ ap (λ words. is_skipped (map (λ word. word.now) words)) c.as_slice.ensures.value in
+    let one_more = statements_in-step c.loop-i.i _ c.deref-line-items.result.now _ _ _ lines c.loop-i-test.true c.in_ok-words.ensures c.loop-i.invariant in
     elim c.if-not-is_skipped.branch [
       | then-not-is_skipped+in_ok-push w ↦
-          ap (λ statements. map statement_value statements.items) w.statements-is
-          ∙ ap (map statement_value) w.in_ok-push.ensures.items
-          ∙ map_push statement_value c.loop-i.statements.items _
-          ∙ statements_in-step false c.loop-i.i _ c.deref-line-items.result.now (lines_of c.args.text.now) _ _ lines c.loop-i-test.true c.in_ok-words.ensures (sym w.if-not-is_skipped.true ∙ test) c.loop-i.invariant
+          rw (w.statements-is, w.in_ok-push.ensures.items)
+          (map_push statement_value c.loop-i.statements.items _ ∙ one_more false (sym w.if-not-is_skipped.true ∙ test))
       | else-not-is_skipped w ↦
-          ap (λ statements. map statement_value statements.items) w.statements-is
-          ∙ sym (append-nil _)
-          ∙ statements_in-step true c.loop-i.i _ c.deref-line-items.result.now (lines_of c.args.text.now) _ _ lines c.loop-i-test.true c.in_ok-words.ensures (sym w.if-not-is_skipped.false ∙ test) c.loop-i.invariant
+          rw w.statements-is (sym (append-nil _) ∙ one_more true (sym w.if-not-is_skipped.false ∙ test))
     ]
 
 pub returns : goal.returns
