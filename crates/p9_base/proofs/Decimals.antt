@@ -1,5 +1,5 @@
 -- What `parse` gives at the digits of a word.
-use Rattle.std.proofs.Common.{◌≡◌, ℕ, ◌<◌, ◌≤◌, ◌^◌, cond, ⊎_elim, List, length, Option, Some, None, Result, Ok, Err, true, false, IsTrue, refl, sym, ap, ◌∙◌, arith, rules}
+use Rattle.std.proofs.Common.{◌≡◌, ℕ, ◌<◌, ◌≤◌, ◌^◌, cond, ⊎_elim, List, length, Option, Some, None, Result, Ok, Err, true, false, refl, sym, arith, rules}
 use Rattle.std.specs.Prelude.{nat_lt}
 use Rattle.std.specs.Bool.{then_some}
 use Rattle.std.specs.Char.{is_ascii_digit}

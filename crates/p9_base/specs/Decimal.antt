@@ -11,4 +11,5 @@ is_decimal word = not (length word == 0) && list_all is_ascii_digit word
 -- the number that the digits of a word write, where it is below the limit
 unfoldable pub number_of : ℕ → List ℕ → Option ℕ
 number_of limit word =
-    if is_decimal word && nat_lt (digits_value 10 word) limit then Some (digits_value 10 word) else None
+    let value = digits_value 10 word in
+    if is_decimal word && nat_lt value limit then Some value else None

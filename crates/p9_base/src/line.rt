@@ -11,14 +11,14 @@ use std::alloc::{AllocError, Allocator};
 /// The lines of a text, in order and without their newlines. Where the text ends with a newline,
 /// an empty line follows it.
 pub fn lines<A: Allocator + Copy>(alloc: A, text: &str) -> Result<Vec<&str, A>, AllocError>
-    ensures { IfOk result (λ lines. map (λ line. line.now) lines.items ≡ lines_of text.now) }
+    ensures { IfOk result (λ found. map (λ line. line.now) found.items ≡ lines_of text.now) }
 {
     text.split('\n').collect(alloc)
 }
 
-/// The words of a line, in order: each run of bytes without a blank and a tab.
+/// The words of a line, in order: the longest runs of bytes that are neither a blank nor a tab.
 pub fn words<A: Allocator + Copy>(alloc: A, line: &str) -> Result<Vec<&str, A>, AllocError>
-    ensures { IfOk result (λ words. map (λ word. word.now) words.items ≡ words_of line.now) }
+    ensures { IfOk result (λ found. map (λ word. word.now) found.items ≡ words_of line.now) }
 {
     line.split([' ', '\t'])
         .filter(|word| !word.is_empty())

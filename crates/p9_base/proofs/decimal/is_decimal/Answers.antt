@@ -1,9 +1,8 @@
-use Rattle.std.proofs.Common.{◌≡◌, ap, rules, tests, ◌∙◌}
+use Rattle.std.proofs.Common.{◌≡◌, rules, tests}
 use Rattle.std.specs.Char.{is_ascii_digit}
 use Rattle.std.specs.List.{list_all}
 use Rattle.std.proofs.lemmas.Iterator.Adapters.{YieldsList-from_bytes}
 use Rattle.std.proofs.lemmas.Iterator.Search.{all_from_yields_List}
-use Rattle.p9_base.specs.Decimal.{is_decimal}
 use Rattle.p9_base.proofs.decimal.is_decimal.Goals as goal
 
 pub returns-then-not-is_empty : goal.returns-then-not-is_empty

@@ -1,4 +1,4 @@
-use Rattle.std.proofs.Common.{rules, tests, arith, ◌≡◌, ℕ, ◌<◌, Bool, true, List, ◌∷◌, [], nat_lt, length, ap, ◌∙◌}
+use Rattle.std.proofs.Common.{rules, tests, arith, ◌≡◌, ℕ, ◌<◌, true, List, ◌∷◌, [], nat_lt, length, ap, ◌∙◌}
 use Rattle.std.specs.Char.{char_set_contains}
 use Rattle.std.proofs.lemmas.Iterator.Consumers.{map_from_collect, YieldsList-from_filter, YieldsList-at}
 use Rattle.p9_base.specs.Line.{is_blank}

@@ -1,6 +1,6 @@
-use Rattle.std.proofs.Common.{arith, ◌≡◌, ◌+◌, false, true, append-nil, length, map, ap, sym, ◌∙◌}
+use Rattle.std.proofs.Common.{arith, false, true, append-nil, length, map, ap, sym, ◌∙◌}
 use Rattle.std.proofs.lemmas.List.{map_push, length-map}
-use Rattle.p9_base.specs.Line.{lines_of, is_skipped}
+use Rattle.p9_base.specs.Line.{is_skipped}
 use Rattle.p9_base.specs.Statement.{statement_value}
 use Rattle.p9_base.proofs.StatementLemmas.{statements_in-step, statements_in-all}
 use Rattle.p9_base.proofs.statement.statements.Goals as goal
