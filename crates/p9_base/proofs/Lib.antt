@@ -1,7 +1,7 @@
-mod Faults
-mod Modes
-mod Texts
-mod Splits
-mod Decimals
-mod StatementLemmas
+pub mod Faults
+pub mod Modes
+pub mod Texts
+pub mod Splits
+pub mod Decimals
+pub mod StatementLemmas
 pub mod TryFold
