@@ -9,7 +9,8 @@ use Rattle.std.proofs.lemmas.List.{take_at, drop_at, take-append-drop, length-ap
 use Rattle.byteorder.specs.Endian.{little_number}
 use Rattle.byteorder.specs.Numbers.{little_from-lt, little_number-reads_back, length-bytes_low_first}
 use Rattle.p9_base.specs.Text.{is_text}
-use Rattle.p9_wire.specs.Fields.{number, text, counted, several, sized, qid_bytes, stat_fields, stat_bytes, stat_len, FitsText, FitsQid, FitsSeveral, FitsStatFields, FitsStat}
+use Rattle.p9_wire.specs.Message.{StatFields}
+use Rattle.p9_wire.specs.Fields.{number, text, counted, several, sized, qid_bytes, stat_fields, stat_bytes, stat_len, FitsText, FitsNames, FitsStat, QidNumbersFit, StatNumbersFit}
 use Rattle.p9_wire.specs.FieldReading.{◌and_then◌, Reader, number_at, bytes_at, ◌then◌, made, text_at, nothing_at, qid_at, counted_at, times, several_at, sized_at, stat_fields_at, stat_at}
 use Rattle.p9_wire.proofs.Bytes.{IsBytes, IsBytes-back, IsBytes-front, number-back}
 use Rattle.p9_wire.proofs.Lengths.{length-stat_bytes, length-stat_fields}
@@ -34,6 +35,10 @@ some_is x y e = cc
 unless_passed : {A : Type 0} (b : Bool) (r : Option A) (y : A) → cond b None r ≡ Some y → (b ≡ false) × (r ≡ Some y)
 unless_passed false r y e = (refl, e)
 unless_passed true r y e = absurd cc
+
+-- at most sixteen
+abbrev pub FitsSeveral : {A : Type 0} → (A → Type 0) → List A → Type 0
+FitsSeveral F xs = (length xs ≤ 16) × AllByRecursion F xs
 
 -- what has a length that two bytes hold
 abbrev FitsSized : {A : Type 0} → (A → List ℕ) → (A → Type 0) → A → Type 0
@@ -132,7 +137,7 @@ same-codes {A} {B} {f} {F} {r} {G} c make fields there back out in_ = record {
   again = λ x rest h. made_again c make (fields x) rest (in_ x h) ∙ ap (λ (b : B). Some (b, rest)) (back x);
 }
 
-pub qid-codes : Codes qid_bytes FitsQid qid_at
+pub qid-codes : Codes qid_bytes QidNumbersFit qid_at
 unfolding qid_at
 qid-codes = same-codes (then-codes (then-codes (number-codes 1) (number-codes 4)) (number-codes 8)) (λ x. record { kind = x.0.0; version = x.0.1; path = x.1 }) (λ q. ((q.kind, q.version), q.path))
     (λ a. refl) (λ b. refl) (λ b h. record { kind = h.0.0; version = h.0.1; path = h.1 }) (λ b h. ((h.kind, h.version), h.path))
@@ -182,15 +187,15 @@ module _ {A : Type 0} {f : A → List ℕ} {F : A → Type 0} {r : Reader A} (c 
       let t0 = number_takes 2 bytes a.0 fits a.1 in
       let t1 = times_take a.0.0 a.0.1 x (IsBytes-back (number 2 a.0.0) a.0.1 (subst IsBytes t0.0 fits)) g.1 in
       let few : a.0.0 ≤ 16 = ltb-false _ _ g.0 in
-      (t0.0 ∙ ap (λ (back : List ℕ). number 2 a.0.0 ++ back) t1.0 ∙ sym (append_assoc (number 2 a.0.0) (flat_map f x.0) x.1) ∙ ap (λ (n : ℕ). (number 2 n ++ flat_map f x.0) ++ x.1) (sym t1.1), record { few = omega (arith, few, t1.1); each = t1.2 })
+      (t0.0 ∙ ap (λ (back : List ℕ). number 2 a.0.0 ++ back) t1.0 ∙ sym (append_assoc (number 2 a.0.0) (flat_map f x.0) x.1) ∙ ap (λ (n : ℕ). (number 2 n ++ flat_map f x.0) ++ x.1) (sym t1.1), (omega (arith, few, t1.1), t1.2))
 
   several_again : (xs : List A) (rest : List ℕ) → FitsSeveral F xs → several_at r (several f xs ++ rest) ≡ Some (xs, rest)
   unfolding several_at
   several_again xs rest fits =
       let first : number_at 2 (several f xs ++ rest) ≡ Some (length xs, flat_map f xs ++ rest) =
-      ap (number_at 2) (append_assoc (number 2 (length xs)) (flat_map f xs) rest) ∙ number_again 2 (length xs) (flat_map f xs ++ rest) (omega (arith, fits.few)) in
-      let few : ltb 16 (length xs) ≡ false = le-ltb _ _ fits.few in
-      rw (first, few, times_again xs rest fits.each) refl
+      ap (number_at 2) (append_assoc (number 2 (length xs)) (flat_map f xs) rest) ∙ number_again 2 (length xs) (flat_map f xs ++ rest) (omega (arith, fits.0)) in
+      let few : ltb 16 (length xs) ≡ false = le-ltb _ _ fits.0 in
+      rw (first, few, times_again xs rest fits.1) refl
 
   pub several-codes : Codes (several f) (FitsSeveral F) (several_at r)
   several-codes = record { takes = several_takes; again = several_again }
@@ -224,15 +229,50 @@ module _ {A : Type 0} {f : A → List ℕ} {F : A → Type 0} {r : Reader A} (c 
   pub sized-codes : Codes (sized f) (FitsSized f F) (sized_at r)
   sized-codes = record { takes = sized_takes; again = sized_again }
 
-pub stat_fields-codes : Codes stat_fields FitsStatFields stat_fields_at
+pub record StatFieldsFit (s : StatFields) : Type 0 where
+  numbers : StatNumbersFit s
+  name : FitsText s.name
+  uid : FitsText s.uid
+  gid : FitsText s.gid
+  muid : FitsText s.muid
+
+stat_fields-codes : Codes stat_fields StatFieldsFit stat_fields_at
 unfolding stat_fields_at
-stat_fields-codes = same-codes
-    (then-codes (then-codes (then-codes (then-codes (then-codes (then-codes (then-codes (then-codes (then-codes (then-codes (number-codes 2) (number-codes 4)) qid-codes) (number-codes 4)) (number-codes 4)) (number-codes 4)) (number-codes 8)) text-codes) text-codes) text-codes) text-codes)
-    (λ x. record { kind = x.0.0.0.0.0.0.0.0.0.0; dev = x.0.0.0.0.0.0.0.0.0.1; qid = x.0.0.0.0.0.0.0.0.1; mode = x.0.0.0.0.0.0.0.1; atime = x.0.0.0.0.0.0.1; mtime = x.0.0.0.0.0.1; length = x.0.0.0.0.1; name = x.0.0.0.1; uid = x.0.0.1; gid = x.0.1; muid = x.1 })
+stat_fields-codes =
+    let numbers = then-codes (then-codes (then-codes (then-codes (then-codes (then-codes (number-codes 2) (number-codes 4)) qid-codes) (number-codes 4)) (number-codes 4)) (number-codes 4)) (number-codes 8) in
+    let all = then-codes (then-codes (then-codes (then-codes numbers text-codes) text-codes) text-codes) text-codes in
+    same-codes all
+    (λ x. record {
+      kind = x.0.0.0.0.0.0.0.0.0.0;
+      dev = x.0.0.0.0.0.0.0.0.0.1;
+      qid = x.0.0.0.0.0.0.0.0.1;
+      mode = x.0.0.0.0.0.0.0.1;
+      atime = x.0.0.0.0.0.0.1;
+      mtime = x.0.0.0.0.0.1;
+      length = x.0.0.0.0.1;
+      name = x.0.0.0.1;
+      uid = x.0.0.1;
+      gid = x.0.1;
+      muid = x.1;
+    })
     (λ s. ((((((((((s.kind, s.dev), s.qid), s.mode), s.atime), s.mtime), s.length), s.name), s.uid), s.gid), s.muid))
     (λ a. refl) (λ b. refl)
-    (λ b x. record { kind = x.0.0.0.0.0.0.0.0.0.0; dev = x.0.0.0.0.0.0.0.0.0.1; qid = x.0.0.0.0.0.0.0.0.1; mode = x.0.0.0.0.0.0.0.1; atime = x.0.0.0.0.0.0.1; mtime = x.0.0.0.0.0.1; length = x.0.0.0.0.1; name = x.0.0.0.1; uid = x.0.0.1; gid = x.0.1; muid = x.1 })
-    (λ b s. ((((((((((s.kind, s.dev), s.qid), s.mode), s.atime), s.mtime), s.length), s.name), s.uid), s.gid), s.muid))
+    (λ b x. record {
+      numbers = record {
+        kind = x.0.0.0.0.0.0.0.0.0.0;
+        dev = x.0.0.0.0.0.0.0.0.0.1;
+        qid = x.0.0.0.0.0.0.0.0.1;
+        mode = x.0.0.0.0.0.0.0.1;
+        atime = x.0.0.0.0.0.0.1;
+        mtime = x.0.0.0.0.0.1;
+        length = x.0.0.0.0.1;
+      };
+      name = x.0.0.0.1;
+      uid = x.0.0.1;
+      gid = x.0.1;
+      muid = x.1;
+    })
+    (λ b s. let n = s.numbers in ((((((((((n.kind, n.dev), n.qid), n.mode), n.atime), n.mtime), n.length), s.name), s.uid), s.gid), s.muid))
 
 -- the same values, said in other words
 refit : {A : Type 0} {f : A → List ℕ} {F G : A → Type 0} {r : Reader A} → Codes f F r → ((x : A) → F x → G x) → ((x : A) → G x → F x) → Codes f G r
@@ -241,10 +281,10 @@ refit c out in_ = record {
   again = λ x rest h. c.again x rest (in_ x h);
 }
 
-pub stat-codes : Codes (sized stat_bytes) FitsStat stat_at
+pub stat-codes : Codes (sized stat_bytes) (λ s. StatNumbersFit s × FitsStat s) stat_at
 stat-codes = refit (sized-codes (sized-codes stat_fields-codes))
-    (λ s h. record { fields = h.0.0; short = omega (arith, length-stat_bytes s, h.1) })
-    (λ s h. ((h.fields, omega (arith, length-stat_fields s, h.short)), omega (arith, length-stat_bytes s, h.short)))
+    (λ s h. let f = h.0.0 in (f.numbers, record { name = f.name; uid = f.uid; gid = f.gid; muid = f.muid; short = omega (arith, length-stat_bytes s, h.1) }))
+    (λ s h. let n = h.0 in let f = h.1 in ((record { numbers = n; name = f.name; uid = f.uid; gid = f.gid; muid = f.muid }, omega (arith, length-stat_fields s, f.short)), omega (arith, length-stat_bytes s, f.short)))
 
 pub nothing-codes : Codes (λ (x : Unit {0}). []) (λ (x : Unit {0}). Unit {0}) nothing_at
 nothing-codes = record { takes = λ bytes x fits e. (ap (λ (y : Unit {0} × List ℕ). y.1) (some_is _ x e), tt); again = λ x rest h. refl }

@@ -1,14 +1,14 @@
 -- How many bytes fields, bodies and frames take.
-use Rattle.std.proofs.Common.{◌≡◌, ℕ, ◌+◌, ◌*◌, List, [], ◌∷◌, ◌++◌, length, refl, arith}
+use Rattle.std.proofs.Common.{◌≡◌, ℕ, ◌+◌, ◌*◌, ◌^◌, ◌<◌, ◌≤◌, List, [], ◌∷◌, ◌++◌, length, refl, arith}
 use Rattle.std.specs.Prelude.{sum_by}
-use Rattle.std.specs.List.{flat_map}
+use Rattle.std.specs.List.{flat_map, AllByRecursion}
 use Rattle.std.proofs.lemmas.List.{length-append}
 use Rattle.std.proofs.lemmas.List.Sums.{sum_by-cons}
 use Rattle.std.proofs.lemmas.List.Concat.{flat_map-cons}
 use Rattle.p9_base.specs.declared.qid.Qid.{Qid}
 use Rattle.p9_wire.specs.Message.{StatFields, TMessage, Tversion, Tauth, Tattach, Tflush, Twalk, Topen, Tcreate, Tread, Twrite, Tclunk, Tremove, Tstat, Twstat, RMessage, Rversion, Rattach, Rerror, Rflush, Rwalk, Ropen, Rcreate, Rread, Rwrite, Rclunk, Rremove, Rstat, Rwstat}
-use Rattle.p9_wire.specs.Fields.{number, text, qid_bytes, stat_fields, stat_bytes, stat_len}
-use Rattle.p9_wire.specs.Spelling.{frame, t_body, t_len, r_body, r_len}
+use Rattle.p9_wire.specs.Fields.{number, text, qid_bytes, stat_fields, stat_bytes, stat_len, FitsText, FitsStat}
+use Rattle.p9_wire.specs.Spelling.{frame, t_body, t_len, TFits, r_body, r_len, RFits}
 use Rattle.p9_wire.proofs.Bytes.{length_number}
 
 length-texts : (names : List (List ℕ)) → length (flat_map text names) ≡ sum_by (λ n. 2 + length n) names
@@ -63,3 +63,42 @@ length-parts size kind tag body = simp (length-append, length_number) (omega ari
 
 pub length-frame : (kind tag : ℕ) (body : List ℕ) → length (frame kind tag body) ≡ 7 + length body
 length-frame kind tag body = length-parts (7 + length body) kind tag body
+
+-- four bytes hold the size of a message that fits
+
+pub length-names-fits : (names : List (List ℕ)) → AllByRecursion FitsText names → sum_by (λ n. 2 + length n) names ≤ 65537 * length names
+length-names-fits [] h = omega arith
+length-names-fits (n ∷ ns) h =
+    let others = length-names-fits ns h.1 in
+    let short = h.0.short in
+    rw (sum_by-cons (λ (n : List ℕ). 2 + length n) n ns) (omega arith)
+
+pub t_len-fits : (m : TMessage) → TFits m → 7 + t_len m < 2 ^ 32
+t_len-fits (Tversion msize version) f = omega (arith, f.short)
+t_len-fits (Tauth afid uname aname) f = omega (arith, f.0.short, f.1.short)
+t_len-fits (Tattach fid afid uname aname) f = omega (arith, f.0.short, f.1.short)
+t_len-fits (Tflush oldtag) f = omega arith
+t_len-fits (Twalk fid newfid names) f = omega (arith, f.few, length-names-fits names f.each)
+t_len-fits (Topen fid mode) f = omega arith
+t_len-fits (Tcreate fid name perm mode) f = omega (arith, f.short)
+t_len-fits (Tread fid offset count) f = omega arith
+t_len-fits (Twrite fid offset bytes) f = omega (arith, f)
+t_len-fits (Tclunk fid) f = omega arith
+t_len-fits (Tremove fid) f = omega arith
+t_len-fits (Tstat fid) f = omega arith
+t_len-fits (Twstat fid stat) f = omega (arith, f.short)
+
+pub r_len-fits : (m : RMessage) → RFits m → 7 + r_len m < 2 ^ 32
+r_len-fits (Rversion msize version) f = omega (arith, f.short)
+r_len-fits (Rattach qid) f = omega arith
+r_len-fits (Rerror ename) f = omega (arith, f.short)
+r_len-fits Rflush f = omega arith
+r_len-fits (Rwalk qids) f = omega (arith, f)
+r_len-fits (Ropen qid iounit) f = omega arith
+r_len-fits (Rcreate qid iounit) f = omega arith
+r_len-fits (Rread bytes) f = omega (arith, f)
+r_len-fits (Rwrite count) f = omega arith
+r_len-fits Rclunk f = omega arith
+r_len-fits Rremove f = omega arith
+r_len-fits (Rstat stat) f = omega (arith, f.short)
+r_len-fits Rwstat f = omega arith

@@ -7,5 +7,5 @@ pub mod Framing
 pub mod TGrammar
 pub mod RGrammar
 pub mod Puts
-pub mod PutAll
+pub mod Items
 pub mod Streams

@@ -1,12 +1,61 @@
 -- Each reply is read as it is spelled.
-use Rattle.std.proofs.Common.{◌≡◌, ℕ, ◌+◌, ◌<◌, ◌^◌, List, ◌++◌, Some, refl, arith}
+use Rattle.std.proofs.Common.{◌≡◌, ℕ, ◌+◌, ◌<◌, ◌^◌, List, ◌++◌, length, Some, refl, arith}
 use Rattle.p9_wire.specs.Message.{RMessage, Rversion, Rattach, Rerror, Rflush, Rwalk, Ropen, Rcreate, Rread, Rwrite, Rclunk, Rremove, Rstat, Rwstat}
-use Rattle.p9_wire.specs.Spelling.{r_type, r_body, r_len, RFieldsFit, RFits, r_spelling, RSpells}
+use Rattle.p9_wire.specs.Fields.{FitsText, FitsStat, QidNumbersFit, StatNumbersFit}
+use Rattle.p9_wire.specs.Spelling.{r_type, r_body, r_len, RNumbersFit, RFits, r_spelling, RSpells}
 use Rattle.p9_wire.specs.Reading.{r_version_at, r_attach_at, r_error_at, r_flush_at, r_walk_at, r_open_at, r_create_at, r_read_at, r_write_at, r_clunk_at, r_remove_at, r_stat_at, r_wstat_at, r_body_at, r_message_of}
 use Rattle.p9_wire.proofs.Bytes.{IsBytes}
-use Rattle.p9_wire.proofs.Lengths.{length-r_body}
-use Rattle.p9_wire.proofs.Codes.{Codes, number-codes, text-codes, counted-codes, several-codes, qid-codes, stat-codes, then-codes, nothing-codes, made_again}
+use Rattle.p9_wire.proofs.Lengths.{length-r_body, r_len-fits}
+use Rattle.p9_wire.proofs.Codes.{Codes, number-codes, text-codes, counted-codes, several-codes, qid-codes, stat-codes, then-codes, FitsSeveral, nothing-codes, made_again}
 use Rattle.p9_wire.proofs.Framing.{Taken, Reads, Framed, Decides, taken, chosen, message_takes, message_again}
+
+-- each field fits, in the order of the fields
+abbrev RFieldsFit : RMessage → Type 0
+RFieldsFit (Rversion msize version) = (msize < 2 ^ 32) × FitsText version
+RFieldsFit (Rattach qid) = QidNumbersFit qid
+RFieldsFit (Rerror ename) = FitsText ename
+RFieldsFit Rflush = Unit {0}
+RFieldsFit (Rwalk qids) = FitsSeveral QidNumbersFit qids
+RFieldsFit (Ropen qid iounit) = QidNumbersFit qid × (iounit < 2 ^ 32)
+RFieldsFit (Rcreate qid iounit) = QidNumbersFit qid × (iounit < 2 ^ 32)
+RFieldsFit (Rread bytes) = length bytes < 2 ^ 32
+RFieldsFit (Rwrite count) = count < 2 ^ 32
+RFieldsFit Rclunk = Unit {0}
+RFieldsFit Rremove = Unit {0}
+RFieldsFit (Rstat stat) = StatNumbersFit stat × FitsStat stat
+RFieldsFit Rwstat = Unit {0}
+
+-- the fields apart: numbers, and all else
+fields-apart : (m : RMessage) → RFieldsFit m → 7 + r_len m < 2 ^ 32 → RNumbersFit m × RFits m
+fields-apart (Rversion msize version) h size = h
+fields-apart (Rattach qid) h size = (h, tt)
+fields-apart (Rerror ename) h size = (tt, h)
+fields-apart Rflush h size = (tt, tt)
+fields-apart (Rwalk qids) h size = (h.1, h.0)
+fields-apart (Ropen qid iounit) h size = (h, tt)
+fields-apart (Rcreate qid iounit) h size = (h, tt)
+fields-apart (Rread bytes) h size = (tt, omega (arith, size))
+fields-apart (Rwrite count) h size = (h, tt)
+fields-apart Rclunk h size = (tt, tt)
+fields-apart Rremove h size = (tt, tt)
+fields-apart (Rstat stat) h size = h
+fields-apart Rwstat h size = (tt, tt)
+
+-- and together
+fields-joined : (m : RMessage) → RNumbersFit m → RFits m → RFieldsFit m
+fields-joined (Rversion msize version) n f = (n, f)
+fields-joined (Rattach qid) n f = n
+fields-joined (Rerror ename) n f = f
+fields-joined Rflush n f = tt
+fields-joined (Rwalk qids) n f = (f, n)
+fields-joined (Ropen qid iounit) n f = n
+fields-joined (Rcreate qid iounit) n f = n
+fields-joined (Rread bytes) n f = omega (arith, f)
+fields-joined (Rwrite count) n f = n
+fields-joined Rclunk n f = tt
+fields-joined Rremove n f = tt
+fields-joined (Rstat stat) n f = (n, f)
+fields-joined Rwstat n f = tt
 
 abbrev Read : ℕ → List ℕ → RMessage × List ℕ → Type 0
 Read = Taken r_type r_body RFieldsFit r_body_at
@@ -121,17 +170,14 @@ unfolding r_message_of r_spelling
 r-decides = record {
   sound = λ bytes tag m fits e.
       let framed = message_takes r_type r_body RFieldsFit r_body_at reads bytes (tag, m) fits e in
-      record {
-        whole = framed.whole;
-        fits = record { fields = framed.fits; size = omega (arith, length-r_body m, framed.size_fits) };
-        tag_fits = framed.tag_fits;
-      };
+      let apart = fields-apart m framed.fits (omega (arith, length-r_body m, framed.size_fits)) in
+      record { whole = framed.whole; numbers = apart.0; fits = apart.1; tag_fits = framed.tag_fits };
   complete = λ bytes tag m spelled.
       let framed : Framed r_type r_body RFieldsFit r_body_at bytes tag m = record {
         whole = spelled.whole;
-        fits = spelled.fits.fields;
+        fits = fields-joined m spelled.numbers spelled.fits;
         tag_fits = spelled.tag_fits;
-        size_fits = omega (arith, length-r_body m, spelled.fits.size);
+        size_fits = omega (arith, length-r_body m, r_len-fits m spelled.fits);
       } in
       message_again r_type r_body RFieldsFit r_body_at reads bytes tag m framed;
 }

@@ -1,12 +1,61 @@
 -- Each request is read as it is spelled.
-use Rattle.std.proofs.Common.{◌≡◌, ℕ, ◌+◌, ◌<◌, ◌^◌, List, ◌++◌, Some, refl, arith}
+use Rattle.std.proofs.Common.{◌≡◌, ℕ, ◌+◌, ◌<◌, ◌^◌, List, ◌++◌, length, Some, refl, arith}
 use Rattle.p9_wire.specs.Message.{TMessage, Tversion, Tauth, Tattach, Tflush, Twalk, Topen, Tcreate, Tread, Twrite, Tclunk, Tremove, Tstat, Twstat}
-use Rattle.p9_wire.specs.Spelling.{t_type, t_body, t_len, TFieldsFit, TFits, t_spelling, TSpells}
+use Rattle.p9_wire.specs.Fields.{FitsText, FitsStat, StatNumbersFit}
+use Rattle.p9_wire.specs.Spelling.{t_type, t_body, t_len, TNumbersFit, TFits, t_spelling, TSpells}
 use Rattle.p9_wire.specs.Reading.{t_version_at, t_auth_at, t_attach_at, t_flush_at, t_walk_at, t_open_at, t_create_at, t_read_at, t_write_at, t_clunk_at, t_remove_at, t_stat_at, t_wstat_at, t_body_at, t_message_of}
 use Rattle.p9_wire.proofs.Bytes.{IsBytes}
-use Rattle.p9_wire.proofs.Lengths.{length-t_body}
-use Rattle.p9_wire.proofs.Codes.{Codes, number-codes, text-codes, counted-codes, several-codes, qid-codes, stat-codes, then-codes, nothing-codes, made_again}
+use Rattle.p9_wire.proofs.Lengths.{length-t_body, t_len-fits}
+use Rattle.p9_wire.proofs.Codes.{Codes, number-codes, text-codes, counted-codes, several-codes, qid-codes, stat-codes, then-codes, FitsSeveral, nothing-codes, made_again}
 use Rattle.p9_wire.proofs.Framing.{Taken, Reads, Framed, Decides, taken, chosen, message_takes, message_again}
+
+-- each field fits, in the order of the fields
+abbrev TFieldsFit : TMessage → Type 0
+TFieldsFit (Tversion msize version) = (msize < 2 ^ 32) × FitsText version
+TFieldsFit (Tauth afid uname aname) = (afid < 2 ^ 32) × FitsText uname × FitsText aname
+TFieldsFit (Tattach fid afid uname aname) = (fid < 2 ^ 32) × (afid < 2 ^ 32) × FitsText uname × FitsText aname
+TFieldsFit (Tflush oldtag) = oldtag < 2 ^ 16
+TFieldsFit (Twalk fid newfid names) = (fid < 2 ^ 32) × (newfid < 2 ^ 32) × FitsSeveral FitsText names
+TFieldsFit (Topen fid mode) = (fid < 2 ^ 32) × (mode < 2 ^ 8)
+TFieldsFit (Tcreate fid name perm mode) = (fid < 2 ^ 32) × FitsText name × (perm < 2 ^ 32) × (mode < 2 ^ 8)
+TFieldsFit (Tread fid offset count) = (fid < 2 ^ 32) × (offset < 2 ^ 64) × (count < 2 ^ 32)
+TFieldsFit (Twrite fid offset bytes) = (fid < 2 ^ 32) × (offset < 2 ^ 64) × (length bytes < 2 ^ 32)
+TFieldsFit (Tclunk fid) = fid < 2 ^ 32
+TFieldsFit (Tremove fid) = fid < 2 ^ 32
+TFieldsFit (Tstat fid) = fid < 2 ^ 32
+TFieldsFit (Twstat fid stat) = (fid < 2 ^ 32) × (StatNumbersFit stat × FitsStat stat)
+
+-- the fields apart: numbers, and all else
+fields-apart : (m : TMessage) → TFieldsFit m → 7 + t_len m < 2 ^ 32 → TNumbersFit m × TFits m
+fields-apart (Tversion msize version) h size = h
+fields-apart (Tauth afid uname aname) h size = (h.0, (h.1, h.2))
+fields-apart (Tattach fid afid uname aname) h size = ((h.0, h.1), (h.2, h.3))
+fields-apart (Tflush oldtag) h size = (h, tt)
+fields-apart (Twalk fid newfid names) h size = ((h.0, h.1), record { few = h.2.0; each = h.2.1 })
+fields-apart (Topen fid mode) h size = (h, tt)
+fields-apart (Tcreate fid name perm mode) h size = ((h.0, h.2, h.3), h.1)
+fields-apart (Tread fid offset count) h size = (h, tt)
+fields-apart (Twrite fid offset bytes) h size = ((h.0, h.1), omega (arith, size))
+fields-apart (Tclunk fid) h size = (h, tt)
+fields-apart (Tremove fid) h size = (h, tt)
+fields-apart (Tstat fid) h size = (h, tt)
+fields-apart (Twstat fid stat) h size = ((h.0, h.1.0), h.1.1)
+
+-- and together
+fields-joined : (m : TMessage) → TNumbersFit m → TFits m → TFieldsFit m
+fields-joined (Tversion msize version) n f = (n, f)
+fields-joined (Tauth afid uname aname) n f = (n, f.0, f.1)
+fields-joined (Tattach fid afid uname aname) n f = (n.0, n.1, f.0, f.1)
+fields-joined (Tflush oldtag) n f = n
+fields-joined (Twalk fid newfid names) n f = (n.0, n.1, (f.few, f.each))
+fields-joined (Topen fid mode) n f = n
+fields-joined (Tcreate fid name perm mode) n f = (n.0, f, n.1, n.2)
+fields-joined (Tread fid offset count) n f = n
+fields-joined (Twrite fid offset bytes) n f = (n.0, n.1, omega (arith, f))
+fields-joined (Tclunk fid) n f = n
+fields-joined (Tremove fid) n f = n
+fields-joined (Tstat fid) n f = n
+fields-joined (Twstat fid stat) n f = (n.0, (n.1, f))
 
 abbrev Read : ℕ → List ℕ → TMessage × List ℕ → Type 0
 Read = Taken t_type t_body TFieldsFit t_body_at
@@ -121,17 +170,14 @@ unfolding t_message_of t_spelling
 t-decides = record {
   sound = λ bytes tag m fits e.
       let framed = message_takes t_type t_body TFieldsFit t_body_at reads bytes (tag, m) fits e in
-      record {
-        whole = framed.whole;
-        fits = record { fields = framed.fits; size = omega (arith, length-t_body m, framed.size_fits) };
-        tag_fits = framed.tag_fits;
-      };
+      let apart = fields-apart m framed.fits (omega (arith, length-t_body m, framed.size_fits)) in
+      record { whole = framed.whole; numbers = apart.0; fits = apart.1; tag_fits = framed.tag_fits };
   complete = λ bytes tag m spelled.
       let framed : Framed t_type t_body TFieldsFit t_body_at bytes tag m = record {
         whole = spelled.whole;
-        fits = spelled.fits.fields;
+        fits = fields-joined m spelled.numbers spelled.fits;
         tag_fits = spelled.tag_fits;
-        size_fits = omega (arith, length-t_body m, spelled.fits.size);
+        size_fits = omega (arith, length-t_body m, t_len-fits m spelled.fits);
       } in
       message_again t_type t_body TFieldsFit t_body_at reads bytes tag m framed;
 }

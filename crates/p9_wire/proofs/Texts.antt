@@ -1,5 +1,5 @@
 -- The test of a text, by its parts.
-use Rattle.std.proofs.Common.{◌≡◌, ℕ, Bool, true, false, eqb, List, ap}
+use Rattle.std.proofs.Common.{◌≡◌, ℕ, Bool, true, false, eqb, List, refl, ap}
 use Rattle.std.specs.Prelude.{not}
 use Rattle.std.specs.List.{list_any}
 use Rattle.std.specs.Str.{IsUtf8}
@@ -18,3 +18,7 @@ has_nul bytes nul = and_right _ _ (ap not nul)
 -- nor is what is not UTF-8
 pub no_utf8 : (bytes : List ℕ) → (IsUtf8 bytes → ⊥) → is_text bytes ≡ false
 no_utf8 bytes bad = and_left _ _ (false_from_ne_true _ (λ e. bad (IsUtf8-from_is_utf8 bytes e)))
+
+-- of UTF-8, a text is what has no NUL
+pub is_text-utf8 : (bytes : List ℕ) → IsUtf8 bytes → not (list_any (λ (b : ℕ). eqb b 0) bytes) ≡ is_text bytes
+is_text-utf8 bytes utf8 = rw (is_utf8-from_IsUtf8 bytes utf8) refl

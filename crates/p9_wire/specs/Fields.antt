@@ -47,30 +47,31 @@ pub record FitsText (s : List ℕ) : Type 0 where
   pub short : length s < 2 ^ 16
   pub valid : IsTrue (is_text s)
 
-pub record FitsQid (q : Qid) : Type 0 where
-  pub kind : q.kind < 2 ^ 8
-  pub version : q.version < 2 ^ 32
-  pub path : q.path < 2 ^ 64
+-- at most sixteen texts
+pub record FitsNames (names : List (List ℕ)) : Type 0 where
+  pub few : length names ≤ 16
+  pub each : AllByRecursion FitsText names
 
--- at most sixteen, each of which fits
-pub record FitsSeveral {A : Type 0} (Fits : A → Type 0) (xs : List A) : Type 0 where
-  pub few : length xs ≤ 16
-  pub each : AllByRecursion Fits xs
-
-pub record FitsStatFields (s : StatFields) : Type 0 where
-  pub kind : s.kind < 2 ^ 16
-  pub dev : s.dev < 2 ^ 32
-  pub qid : FitsQid s.qid
-  pub mode : s.mode < 2 ^ 32
-  pub atime : s.atime < 2 ^ 32
-  pub mtime : s.mtime < 2 ^ 32
-  pub length : s.length < 2 ^ 64
+-- the texts fit, and two bytes hold the length of it all
+pub record FitsStat (s : StatFields) : Type 0 where
   pub name : FitsText s.name
   pub uid : FitsText s.uid
   pub gid : FitsText s.gid
   pub muid : FitsText s.muid
-
--- the fields fit, and two bytes hold the length of it all
-pub record FitsStat (s : StatFields) : Type 0 where
-  pub fields : FitsStatFields s
   pub short : stat_len s < 2 ^ 16
+
+-- each number is in the range of its field
+
+pub record QidNumbersFit (q : Qid) : Type 0 where
+  pub kind : q.kind < 2 ^ 8
+  pub version : q.version < 2 ^ 32
+  pub path : q.path < 2 ^ 64
+
+pub record StatNumbersFit (s : StatFields) : Type 0 where
+  pub kind : s.kind < 2 ^ 16
+  pub dev : s.dev < 2 ^ 32
+  pub qid : QidNumbersFit s.qid
+  pub mode : s.mode < 2 ^ 32
+  pub atime : s.atime < 2 ^ 32
+  pub mtime : s.mtime < 2 ^ 32
+  pub length : s.length < 2 ^ 64

@@ -1,7 +1,8 @@
 -- The grammar of messages: the one spelling of each, and what has a spelling.
-use Rattle.std.specs.Prelude.{◌≡◌, ℕ, ◌+◌, ◌*◌, ◌<◌, ◌^◌, List, [], ◌++◌, length, sum_by}
+use Rattle.std.specs.Prelude.{◌≡◌, ℕ, ◌+◌, ◌*◌, ◌<◌, ◌≤◌, ◌^◌, List, [], ◌++◌, length, sum_by}
+use Rattle.std.specs.List.{AllByRecursion}
 use Rattle.p9_wire.specs.Message.{TMessage, Tversion, Tauth, Tattach, Tflush, Twalk, Topen, Tcreate, Tread, Twrite, Tclunk, Tremove, Tstat, Twstat, RMessage, Rversion, Rattach, Rerror, Rflush, Rwalk, Ropen, Rcreate, Rread, Rwrite, Rclunk, Rremove, Rstat, Rwstat}
-use Rattle.p9_wire.specs.Fields.{number, text, counted, several, sized, qid_bytes, stat_bytes, stat_len, FitsText, FitsQid, FitsSeveral, FitsStat}
+use Rattle.p9_wire.specs.Fields.{number, text, counted, several, sized, qid_bytes, stat_bytes, stat_len, FitsText, FitsNames, FitsStat, QidNumbersFit, StatNumbersFit}
 
 -- size, which counts itself, type, tag and body
 abbrev pub frame : ℕ → ℕ → List ℕ → List ℕ
@@ -55,26 +56,37 @@ t_len (Tremove fid) = 4
 t_len (Tstat fid) = 4
 t_len (Twstat fid stat) = 4 + 2 + stat_len stat
 
--- each field has a spelling
-abbrev pub TFieldsFit : TMessage → Type 0
-TFieldsFit (Tversion msize version) = (msize < 2 ^ 32) × FitsText version
-TFieldsFit (Tauth afid uname aname) = (afid < 2 ^ 32) × FitsText uname × FitsText aname
-TFieldsFit (Tattach fid afid uname aname) = (fid < 2 ^ 32) × (afid < 2 ^ 32) × FitsText uname × FitsText aname
-TFieldsFit (Tflush oldtag) = oldtag < 2 ^ 16
-TFieldsFit (Twalk fid newfid names) = (fid < 2 ^ 32) × (newfid < 2 ^ 32) × FitsSeveral FitsText names
-TFieldsFit (Topen fid mode) = (fid < 2 ^ 32) × (mode < 2 ^ 8)
-TFieldsFit (Tcreate fid name perm mode) = (fid < 2 ^ 32) × FitsText name × (perm < 2 ^ 32) × (mode < 2 ^ 8)
-TFieldsFit (Tread fid offset count) = (fid < 2 ^ 32) × (offset < 2 ^ 64) × (count < 2 ^ 32)
-TFieldsFit (Twrite fid offset bytes) = (fid < 2 ^ 32) × (offset < 2 ^ 64) × (length bytes < 2 ^ 32)
-TFieldsFit (Tclunk fid) = fid < 2 ^ 32
-TFieldsFit (Tremove fid) = fid < 2 ^ 32
-TFieldsFit (Tstat fid) = fid < 2 ^ 32
-TFieldsFit (Twstat fid stat) = (fid < 2 ^ 32) × FitsStat stat
+-- each number is in the range of its field, as the types of the code ensure
+abbrev pub TNumbersFit : TMessage → Type 0
+TNumbersFit (Tversion msize version) = msize < 2 ^ 32
+TNumbersFit (Tauth afid uname aname) = afid < 2 ^ 32
+TNumbersFit (Tattach fid afid uname aname) = (fid < 2 ^ 32) × (afid < 2 ^ 32)
+TNumbersFit (Tflush oldtag) = oldtag < 2 ^ 16
+TNumbersFit (Twalk fid newfid names) = (fid < 2 ^ 32) × (newfid < 2 ^ 32)
+TNumbersFit (Topen fid mode) = (fid < 2 ^ 32) × (mode < 2 ^ 8)
+TNumbersFit (Tcreate fid name perm mode) = (fid < 2 ^ 32) × (perm < 2 ^ 32) × (mode < 2 ^ 8)
+TNumbersFit (Tread fid offset count) = (fid < 2 ^ 32) × (offset < 2 ^ 64) × (count < 2 ^ 32)
+TNumbersFit (Twrite fid offset bytes) = (fid < 2 ^ 32) × (offset < 2 ^ 64)
+TNumbersFit (Tclunk fid) = fid < 2 ^ 32
+TNumbersFit (Tremove fid) = fid < 2 ^ 32
+TNumbersFit (Tstat fid) = fid < 2 ^ 32
+TNumbersFit (Twstat fid stat) = (fid < 2 ^ 32) × StatNumbersFit stat
 
--- so the request has a spelling: its fields do, and four bytes hold its size
-pub record TFits (m : TMessage) : Type 0 where
-  pub fields : TFieldsFit m
-  pub size : 7 + t_len m < 2 ^ 32
+-- texts are texts, lists are short, and four bytes hold the size of it all
+abbrev pub TFits : TMessage → Type 0
+TFits (Tversion msize version) = FitsText version
+TFits (Tauth afid uname aname) = FitsText uname × FitsText aname
+TFits (Tattach fid afid uname aname) = FitsText uname × FitsText aname
+TFits (Tflush oldtag) = Unit {0}
+TFits (Twalk fid newfid names) = FitsNames names
+TFits (Topen fid mode) = Unit {0}
+TFits (Tcreate fid name perm mode) = FitsText name
+TFits (Tread fid offset count) = Unit {0}
+TFits (Twrite fid offset bytes) = 23 + length bytes < 2 ^ 32
+TFits (Tclunk fid) = Unit {0}
+TFits (Tremove fid) = Unit {0}
+TFits (Tstat fid) = Unit {0}
+TFits (Twstat fid stat) = FitsStat stat
 
 -- the bytes of a request with its tag
 unfoldable pub t_spelling : ℕ → TMessage → List ℕ
@@ -83,6 +95,7 @@ t_spelling tag m = frame (t_type m) tag (t_body m)
 -- these bytes are the request with this tag, and nothing stands behind it
 pub record TSpells (bytes : List ℕ) (tag : ℕ) (m : TMessage) : Type 0 where
   pub whole : bytes ≡ t_spelling tag m
+  pub numbers : TNumbersFit m
   pub fits : TFits m
   pub tag_fits : tag < 2 ^ 16
 
@@ -134,26 +147,37 @@ r_len Rremove = 0
 r_len (Rstat stat) = 2 + stat_len stat
 r_len Rwstat = 0
 
--- each field has a spelling
-abbrev pub RFieldsFit : RMessage → Type 0
-RFieldsFit (Rversion msize version) = (msize < 2 ^ 32) × FitsText version
-RFieldsFit (Rattach qid) = FitsQid qid
-RFieldsFit (Rerror ename) = FitsText ename
-RFieldsFit Rflush = Unit {0}
-RFieldsFit (Rwalk qids) = FitsSeveral FitsQid qids
-RFieldsFit (Ropen qid iounit) = FitsQid qid × (iounit < 2 ^ 32)
-RFieldsFit (Rcreate qid iounit) = FitsQid qid × (iounit < 2 ^ 32)
-RFieldsFit (Rread bytes) = length bytes < 2 ^ 32
-RFieldsFit (Rwrite count) = count < 2 ^ 32
-RFieldsFit Rclunk = Unit {0}
-RFieldsFit Rremove = Unit {0}
-RFieldsFit (Rstat stat) = FitsStat stat
-RFieldsFit Rwstat = Unit {0}
+-- each number is in the range of its field, as the types of the code ensure
+abbrev pub RNumbersFit : RMessage → Type 0
+RNumbersFit (Rversion msize version) = msize < 2 ^ 32
+RNumbersFit (Rattach qid) = QidNumbersFit qid
+RNumbersFit (Rerror ename) = Unit {0}
+RNumbersFit Rflush = Unit {0}
+RNumbersFit (Rwalk qids) = AllByRecursion QidNumbersFit qids
+RNumbersFit (Ropen qid iounit) = QidNumbersFit qid × (iounit < 2 ^ 32)
+RNumbersFit (Rcreate qid iounit) = QidNumbersFit qid × (iounit < 2 ^ 32)
+RNumbersFit (Rread bytes) = Unit {0}
+RNumbersFit (Rwrite count) = count < 2 ^ 32
+RNumbersFit Rclunk = Unit {0}
+RNumbersFit Rremove = Unit {0}
+RNumbersFit (Rstat stat) = StatNumbersFit stat
+RNumbersFit Rwstat = Unit {0}
 
--- so the reply has a spelling: its fields do, and four bytes hold its size
-pub record RFits (m : RMessage) : Type 0 where
-  pub fields : RFieldsFit m
-  pub size : 7 + r_len m < 2 ^ 32
+-- texts are texts, lists are short, and four bytes hold the size of it all
+abbrev pub RFits : RMessage → Type 0
+RFits (Rversion msize version) = FitsText version
+RFits (Rattach qid) = Unit {0}
+RFits (Rerror ename) = FitsText ename
+RFits Rflush = Unit {0}
+RFits (Rwalk qids) = length qids ≤ 16
+RFits (Ropen qid iounit) = Unit {0}
+RFits (Rcreate qid iounit) = Unit {0}
+RFits (Rread bytes) = 11 + length bytes < 2 ^ 32
+RFits (Rwrite count) = Unit {0}
+RFits Rclunk = Unit {0}
+RFits Rremove = Unit {0}
+RFits (Rstat stat) = FitsStat stat
+RFits Rwstat = Unit {0}
 
 -- the bytes of a reply with its tag
 unfoldable pub r_spelling : ℕ → RMessage → List ℕ
@@ -162,5 +186,6 @@ r_spelling tag m = frame (r_type m) tag (r_body m)
 -- these bytes are the reply with this tag, and nothing stands behind it
 pub record RSpells (bytes : List ℕ) (tag : ℕ) (m : RMessage) : Type 0 where
   pub whole : bytes ≡ r_spelling tag m
+  pub numbers : RNumbersFit m
   pub fits : RFits m
   pub tag_fits : tag < 2 ^ 16

@@ -19,6 +19,9 @@ pub const HEADER: usize = 7;
 /// less these.
 pub const IOHDRSZ: u32 = 24;
 
+/// The bytes of a qid: `type[1] vers[4] path[8]`.
+pub const QID: usize = 13;
+
 /// The bytes of a stat whose four texts are empty, its own size among them.
 pub const STAT_FIXED: usize = 49;
 

@@ -69,7 +69,7 @@ fn take_sized(bytes: &[u8]) -> Option<(&[u8], &[u8])>
     take_bytes(count as usize, rest)
 }
 
-fn has_nul(bytes: &[u8]) -> bool
+pub fn has_nul(bytes: &[u8]) -> bool
     ensures { result ≡ list_any (λ b. b == 0) bytes.now }
 {
     bytes.contains(&0)

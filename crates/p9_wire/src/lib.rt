@@ -8,6 +8,7 @@
 
 mod constants;
 mod fields;
+mod fits;
 mod frame;
 pub mod laws;
 mod message;

@@ -129,8 +129,11 @@ pub fn put_qids(out: &mut [u8], at: usize, qids: &Qids) -> usize
 }
 
 /// How many bytes a stat takes, its own size among them.
-fn stat_size(stat: &Stat<'_>) -> usize
-    requires { FitsStat (stat_view stat.now) }
+pub fn stat_size(stat: &Stat<'_>) -> usize
+    requires name { length stat.now.name.now < 2 ^ 16 }
+    requires uid { length stat.now.uid.now < 2 ^ 16 }
+    requires gid { length stat.now.gid.now < 2 ^ 16 }
+    requires muid { length stat.now.muid.now < 2 ^ 16 }
     ensures { result ≡ stat_len (stat_view stat.now) }
 {
     STAT_FIXED + stat.name.len() + stat.uid.len() + stat.gid.len() + stat.muid.len()

@@ -2,7 +2,7 @@ use Rattle.std.proofs.Common.{length, get_or, arith}
 use Rattle.std.proofs.lemmas.Option.{slice_get-get_or}
 use Rattle.p9_base.specs.declared.qid.Qid.{Qid}
 use Rattle.p9_wire.specs.Fields.{number, qid_bytes}
-use Rattle.p9_wire.proofs.PutAll.{puts_more}
+use Rattle.p9_wire.proofs.Items.{puts_more}
 use Rattle.p9_wire.proofs.put.put_qids.Goals as goal
 
 none : Qid

@@ -1,7 +1,7 @@
 use Rattle.std.proofs.Common.{arith}
 use Rattle.p9_wire.specs.Message.{t_view}
 use Rattle.p9_wire.specs.Spelling.{t_spelling}
-use Rattle.p9_wire.proofs.Lengths.{length-t_body}
+use Rattle.p9_wire.proofs.Lengths.{length-t_body, t_len-fits}
 use Rattle.p9_wire.proofs.Puts.{framed}
 use Rattle.p9_wire.proofs.t_writing.write_t.Goals as goal
 
@@ -13,4 +13,4 @@ unfolding t_spelling
 returns-clause-bytes c = framed _ _ _ _ _ _ _ (omega (arith, c.requires.room)) c.put_body-end.ensures (rw c.kind_of.ensures at c.put_header.ensures)
 
 pub overflow_cast-end : goal.overflow_cast-end
-overflow_cast-end c = omega (arith, length-t_body (t_view c.args.m.now), c.put_body-end.ensures.ends, c.requires.fits.size)
+overflow_cast-end c = omega (arith, length-t_body (t_view c.args.m.now), c.put_body-end.ensures.ends, t_len-fits (t_view c.args.m.now) c.requires.fits)
