@@ -30,3 +30,6 @@ pub use r_reading::read_r;
 pub use r_writing::{finish_read, write_r};
 pub use t_reading::read_t;
 pub use t_writing::write_t;
+
+#[cfg(test)]
+mod tests;
