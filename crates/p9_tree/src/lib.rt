@@ -17,4 +17,4 @@ pub use forest::Forest;
 pub use new::New;
 pub use node::Node;
 pub use plain::PlainTree;
-pub use tree::Tree;
+pub use tree::{NEXT_MAX, Tree};
