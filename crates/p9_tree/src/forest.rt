@@ -59,8 +59,8 @@ impl<T: Tree> Forest<T> {
         ensures count { result ≡ length (read_from offset (length buffer.old) (bytes_of at (map T.state self.now.trees.items))) }
         ensures filled { buffer.new ≡ put_front (read_from offset (length buffer.old) (bytes_of at (map T.state self.now.trees.items))) buffer.old }
     {
-        match self.trees.get(at.server as usize) {
-            Some(tree) => tree.read_into(at.number, offset, buffer),
+        match self.node(at) {
+            Some(node) => node.read_into(offset, buffer),
             None => 0,
         }
     }
