@@ -1,7 +1,7 @@
 -- A server of which a file or an empty directory is taken out is well-formed.
 use Rattle.std.proofs.Common.{◌≡◌, ◌≢◌, ℕ, suc, ◌+◌, ◌<◌, ◌≤◌, Bool, true, false, cond, eqb, List, [], ◌∷◌, ◌++◌, length, get_or, Option, Some, None, IsTrue, IsFalse, refl, sym, ap, ◌∙◌, subst, inl, inr, arith, All, AllPairs}
 use Rattle.std.specs.Option.{option_map_or}
-use Rattle.std.specs.List.{list_any, position, remove}
+use Rattle.std.specs.List.{position, remove}
 use Rattle.std.proofs.lemmas.Bool.Decides.{nat_tests}
 use Rattle.std.proofs.lemmas.List.Elements.{All-head, All-tail, All-cons}
 use Rattle.std.proofs.lemmas.List.Quantifiers.{all_pairs_remove}

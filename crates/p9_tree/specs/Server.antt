@@ -1,7 +1,6 @@
 -- A server: its nodes by rising number, and the number that its next new node gets.
 use Rattle.std.specs.Prelude.{◌≡◌, ℕ, ◌+◌, ◌<◌, ◌≤◌, ◌^◌, ◌&&◌, Bool, true, false, List, [], ◌∷◌, ◌++◌, Option, Some, None, IsTrue, is_some, codes, length, find, All, AllPairs, if◌then◌else◌}
 use Rattle.std.specs.Option.{option_map_or}
-use Rattle.std.specs.List.{list_any}
 use Rattle.p9_base.specs.declared.mode.Kind.TheVariants.{Directory}
 use Rattle.p9_base.specs.declared.mode.Rights.{Rights}
 use Rattle.p9_base.specs.declared.mode.Mode.{Mode}
@@ -38,8 +37,9 @@ is_dir_at k nodes = option_map_or is_dir (node_at k nodes) false
 abbrev pub bytes_at : ℕ → List Node → List ℕ
 bytes_at k nodes = option_map_or (λ n. n.bytes) (node_at k nodes) []
 
+-- whether a node stands in the directory
 abbrev pub has_children : ℕ → List Node → Bool
-has_children dir nodes = list_any (is_in dir) nodes
+has_children dir nodes = is_some (child_after dir None nodes)
 
 -- Well-formed servers.
 

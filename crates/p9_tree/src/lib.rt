@@ -18,3 +18,6 @@ pub use new::New;
 pub use node::Node;
 pub use plain::PlainTree;
 pub use tree::{NEXT_MAX, Tree};
+
+#[cfg(test)]
+mod tests;

@@ -25,7 +25,7 @@ pub const NEXT_MAX: u64 = 1 << 48;
 ///
 /// A call that names a number at which there is no node changes nothing. Only `add` and `write`
 /// take memory; where it is refused they answer so, and the tree is as before.
-pub trait Tree: Sized {
+pub trait Tree: Sized + Drop {
     /// The allocator of all that grows in it.
     type Alloc: Allocator + Copy;
 
