@@ -12,7 +12,7 @@ mod node;
 mod plain;
 mod tree;
 
-pub use bytes::{Bytes, FILE_MAX};
+pub use bytes::FILE_MAX;
 pub use forest::Forest;
 pub use new::New;
 pub use node::Node;

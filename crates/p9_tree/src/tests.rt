@@ -127,8 +127,158 @@ fn each_node_is_found<T: Tree>(rt: &impl Abort, alloc: T::Alloc) -> Result<(), N
     Ok(())
 }
 
+// The children come by rising number, each once.
+fn children_come_in_order<T: Tree>(rt: &impl Abort, alloc: T::Alloc) -> Result<(), NoMemory> {
+    let tree = small::<T>(rt, alloc)?;
+    let first = tree.after(1, None).map(|n| n.number());
+    assert_eq!(rt; first, Some(2));
+    assert_eq!(rt; tree.after(1, first).map(|n| n.number()), Some(3));
+    assert!(rt; tree.after(1, Some(3)).is_none());
+    assert!(rt; tree.after(2, None).is_none());
+    Ok(())
+}
+
+fn bytes_change<T: Tree>(rt: &impl Abort, alloc: T::Alloc) -> Result<(), NoMemory> {
+    let mut tree = small::<T>(rt, alloc)?;
+    write(rt, &mut tree, 3, 1, b"op")?;
+    assert_eq!(rt;
+        tree.node(3).expect(rt, "the file").bytes(),
+        b"hop".as_slice()
+    );
+    tree.cut(3, 1);
+    assert_eq!(rt;
+        tree.node(3).expect(rt, "the file").bytes(),
+        b"h".as_slice()
+    );
+    write(rt, &mut tree, 3, 3, b"!")?;
+    assert_eq!(rt;
+        tree.node(3).expect(rt, "the file").bytes(),
+        b"h\0\0!".as_slice()
+    );
+    write(rt, &mut tree, 3, FILE_MAX as u64 - 1, b".")?;
+    assert_eq!(rt; tree.node(3).expect(rt, "the file").bytes().len(), FILE_MAX);
+    let mut buffer = *b"......";
+    assert_eq!(rt; tree.read_into(3, 2, &mut buffer[..3]), 3);
+    assert_eq!(rt; buffer, *b"\0!\0...");
+    assert_eq!(rt; tree.read_into(3, FILE_MAX as u64 - 1, &mut buffer), 1);
+    assert_eq!(rt; buffer, *b".!\0...");
+    assert_eq!(rt; tree.read_into(3, u64::MAX, &mut buffer), 0);
+    Ok(())
+}
+
+// Writes where the tree's look-ups say that it may be written.
+fn write<T: Tree>(
+    rt: &impl Abort,
+    tree: &mut T,
+    number: u64,
+    offset: u64,
+    bytes: &[u8],
+) -> Result<(), NoMemory> {
+    assert!(rt; !tree.node(number).is_some_and(|n| n.is_dir()));
+    assert!(rt; offset <= FILE_MAX as u64 && bytes.len() <= FILE_MAX - offset as usize);
+    tree.write(number, offset, bytes)
+}
+
+fn fields_change<T: Tree>(rt: &impl Abort, alloc: T::Alloc) -> Result<(), NoMemory> {
+    let mut tree = small::<T>(rt, alloc)?;
+    tree.bump(1, user(rt, "rob"), 7);
+    tree.touch(1, 9);
+    let dir = tree.node(1).expect(rt, "the directory");
+    assert_eq!(rt; dir.muid().as_str(), "rob");
+    assert_eq!(rt; dir.uid().as_str(), "glenda");
+    assert_eq!(rt; (dir.version(), dir.atime(), dir.mtime()), (1, 9, 7));
+    let glenda = user(rt, "glenda");
+    tree.set_root(Permissions::from_bits(0o777), glenda, user(rt, "staff"));
+    let root = tree.node(0).expect(rt, "the root");
+    assert_eq!(rt; root.mode().bits(), 0x8000_01ff);
+    assert_eq!(rt; root.uid().as_str(), "glenda");
+    assert_eq!(rt; root.gid().as_str(), "staff");
+    assert_eq!(rt; root.muid().as_str(), "glenda");
+    assert_eq!(rt; root.version(), 0);
+    Ok(())
+}
+
+fn numbers_are_given_once<T: Tree>(rt: &impl Abort, alloc: T::Alloc) -> Result<(), NoMemory> {
+    let mut tree = small::<T>(rt, alloc)?;
+    assert!(rt; tree.after(3, None).is_none());
+    tree.drop_leaf(3);
+    assert!(rt; tree.node(3).is_none());
+    assert_eq!(rt; tree.node(1).expect(rt, "the directory").version(), 0);
+    assert_eq!(rt; add(rt, &mut tree, 1, &new_of(rt, &SMALL[2]))?, 4);
+    Ok(())
+}
+
+// A forest's calls are its trees'; where there is no such server, there is nothing.
+fn forest_has_its_trees<T: Tree>(rt: &impl Abort, alloc: T::Alloc) -> Result<(), NoMemory> {
+    let mut forest = Forest::<T> {
+        trees: Vec::new(alloc),
+    };
+    assert_eq!(rt; forest.next_of(0), 0);
+    forest.trees.push(T::with_root(alloc)?)?;
+    forest.trees.push(small(rt, alloc)?)?;
+    assert_eq!(rt; (forest.next_of(0), forest.next_of(1)), (1, 4));
+    let file = NodeRef {
+        server: 1,
+        number: 3,
+    };
+    is_as_made(rt, forest.node(file), &SMALL[2]);
+    let dir = NodeRef {
+        server: 1,
+        number: 1,
+    };
+    is_as_made(rt, forest.child(dir, &name(rt, "f")), &SMALL[2]);
+    is_as_made(rt, forest.after(dir, Some(2)), &SMALL[2]);
+    forest.bump(dir, user(rt, "rob"), 7);
+    forest.touch(file, 8);
+    forest.cut(file, 1);
+    let mut buffer = *b"..";
+    assert_eq!(rt; forest.read_into(file, 0, &mut buffer), 1);
+    assert_eq!(rt; buffer, *b"h.");
+    let new = New {
+        name: name(rt, "g"),
+        ..new_of(rt, &SMALL[2])
+    };
+    assert!(rt; forest.next_of(dir.server) < NEXT_MAX);
+    assert!(rt; forest.node(dir).is_some_and(|n| n.is_dir()));
+    assert!(rt; forest.child(dir, &new.name).is_none());
+    assert!(rt; !new.mode.is_dir() && new.bytes.len() <= FILE_MAX);
+    let made = forest.add(dir, &new)?;
+    assert_eq!(rt; (made.server, made.number), (1, 4));
+    assert!(rt; !forest.node(made).is_some_and(|n| n.is_dir()));
+    forest.write(made, 2, b"!")?;
+    assert_eq!(rt;
+        forest.node(made).expect(rt, "the file").bytes(),
+        b"hi!".as_slice()
+    );
+    assert!(rt; made.number != 0 && forest.after(made, None).is_none());
+    forest.drop_leaf(made);
+    assert!(rt; forest.node(made).is_none());
+    let absent = NodeRef {
+        server: 2,
+        number: 0,
+    };
+    assert!(rt; forest.node(absent).is_none());
+    assert_eq!(rt; forest.read_into(absent, 0, &mut buffer), 0);
+    Ok(())
+}
+
 #[test]
 fn plain_tree_finds_each_node(rt: HostRuntime) -> Result<(), Fail> {
     each_node_is_found::<PlainTree<Global>>(&rt, rt.alloc())?;
+    children_come_in_order::<PlainTree<Global>>(&rt, rt.alloc())?;
+    Ok(())
+}
+
+#[test]
+fn plain_tree_changes_nodes(rt: HostRuntime) -> Result<(), Fail> {
+    bytes_change::<PlainTree<Global>>(&rt, rt.alloc())?;
+    fields_change::<PlainTree<Global>>(&rt, rt.alloc())?;
+    numbers_are_given_once::<PlainTree<Global>>(&rt, rt.alloc())?;
+    Ok(())
+}
+
+#[test]
+fn forest_of_plain_trees(rt: HostRuntime) -> Result<(), Fail> {
+    forest_has_its_trees::<PlainTree<Global>>(&rt, rt.alloc())?;
     Ok(())
 }
