@@ -2,11 +2,13 @@
 
 use crate::{FILE_MAX, Forest, NEXT_MAX, New, Node, PlainTree, Tree};
 use p9_base::{Mode, Name, NoMemory, NodeRef, Permissions, User};
+use p9_refusing::{Refusing, refuse_each};
 use std::alloc::{Allocator, Global};
 use std::process::Abort;
 use std::test::Fail;
 
 // What a test expects of a node. Its owner is its group and its last changer, too.
+#[derive(Clone, Copy)]
 struct Expected {
     number: u64,
     parent: Option<u64>,
@@ -208,41 +210,69 @@ fn numbers_are_given_once<T: Tree>(rt: &impl Abort, alloc: T::Alloc) -> Result<(
     Ok(())
 }
 
-// A forest's calls are its trees'; where there is no such server, there is nothing.
-fn forest_has_its_trees<T: Tree>(rt: &impl Abort, alloc: T::Alloc) -> Result<(), NoMemory> {
-    let mut forest = Forest::<T> {
-        trees: Vec::new(alloc),
-    };
-    assert_eq!(rt; forest.next_of(0), 0);
-    forest.trees.push(T::with_root(alloc)?)?;
-    forest.trees.push(small(rt, alloc)?)?;
-    assert_eq!(rt; (forest.next_of(0), forest.next_of(1)), (1, 4));
-    let file = NodeRef {
-        server: 1,
-        number: 3,
-    };
-    is_as_made(rt, forest.node(file), &SMALL[2]);
-    let dir = NodeRef {
-        server: 1,
-        number: 1,
-    };
-    is_as_made(rt, forest.child(dir, &name(rt, "f")), &SMALL[2]);
-    is_as_made(rt, forest.after(dir, Some(2)), &SMALL[2]);
-    forest.bump(dir, user(rt, "rob"), 7);
-    forest.touch(file, 8);
-    forest.cut(file, 1);
+const DIRECTORY: NodeRef = NodeRef {
+    server: 1,
+    number: 1,
+};
+
+const FILE: NodeRef = NodeRef {
+    server: 1,
+    number: 3,
+};
+
+const ABSENT: NodeRef = NodeRef {
+    server: 2,
+    number: 0,
+};
+
+// A server of a root alone, and the sample world behind it.
+fn two_servers<T: Tree>(rt: &impl Abort, alloc: T::Alloc) -> Result<Forest<T>, NoMemory> {
+    let mut trees = Vec::new(alloc);
+    trees.push(T::with_root(alloc)?)?;
+    trees.push(small(rt, alloc)?)?;
+    Ok(Forest { trees })
+}
+
+// Where there is no such server, there is nothing.
+fn forest_finds_each_node<T: Tree>(rt: &impl Abort, alloc: T::Alloc) -> Result<(), NoMemory> {
+    let forest = two_servers::<T>(rt, alloc)?;
+    assert_eq!(rt;
+        (forest.next_of(0), forest.next_of(1), forest.next_of(2)),
+        (1, 4, 0)
+    );
+    is_as_made(rt, forest.node(FILE), &SMALL[2]);
+    is_as_made(rt, forest.child(DIRECTORY, &name(rt, "f")), &SMALL[2]);
+    is_as_made(rt, forest.after(DIRECTORY, Some(2)), &SMALL[2]);
+    assert!(rt; forest.node(ABSENT).is_none());
+    assert!(rt; forest.after(ABSENT, None).is_none());
+    Ok(())
+}
+
+fn forest_changes_nodes<T: Tree>(rt: &impl Abort, alloc: T::Alloc) -> Result<(), NoMemory> {
+    let mut forest = two_servers::<T>(rt, alloc)?;
+    forest.bump(DIRECTORY, user(rt, "rob"), 7);
+    forest.touch(FILE, 8);
+    forest.cut(FILE, 1);
     let mut buffer = *b"..";
-    assert_eq!(rt; forest.read_into(file, 0, &mut buffer), 1);
+    assert_eq!(rt; forest.read_into(FILE, 0, &mut buffer), 1);
     assert_eq!(rt; buffer, *b"h.");
+    assert_eq!(rt; forest.read_into(ABSENT, 0, &mut buffer), 0);
+    let dir = forest.node(DIRECTORY).expect(rt, "the directory");
+    assert_eq!(rt; (dir.version(), dir.mtime()), (1, 7));
+    Ok(())
+}
+
+fn forest_grows_and_shrinks<T: Tree>(rt: &impl Abort, alloc: T::Alloc) -> Result<(), NoMemory> {
+    let mut forest = two_servers::<T>(rt, alloc)?;
     let new = New {
         name: name(rt, "g"),
         ..new_of(rt, &SMALL[2])
     };
-    assert!(rt; forest.next_of(dir.server) < NEXT_MAX);
-    assert!(rt; forest.node(dir).is_some_and(|n| n.is_dir()));
-    assert!(rt; forest.child(dir, &new.name).is_none());
+    assert!(rt; forest.next_of(DIRECTORY.server) < NEXT_MAX);
+    assert!(rt; forest.node(DIRECTORY).is_some_and(|n| n.is_dir()));
+    assert!(rt; forest.child(DIRECTORY, &new.name).is_none());
     assert!(rt; !new.mode.is_dir() && new.bytes.len() <= FILE_MAX);
-    let made = forest.add(dir, &new)?;
+    let made = forest.add(DIRECTORY, &new)?;
     assert_eq!(rt; (made.server, made.number), (1, 4));
     assert!(rt; !forest.node(made).is_some_and(|n| n.is_dir()));
     forest.write(made, 2, b"!")?;
@@ -253,13 +283,41 @@ fn forest_has_its_trees<T: Tree>(rt: &impl Abort, alloc: T::Alloc) -> Result<(),
     assert!(rt; made.number != 0 && forest.after(made, None).is_none());
     forest.drop_leaf(made);
     assert!(rt; forest.node(made).is_none());
-    let absent = NodeRef {
-        server: 2,
-        number: 0,
-    };
-    assert!(rt; forest.node(absent).is_none());
-    assert_eq!(rt; forest.read_into(absent, 0, &mut buffer), 0);
     Ok(())
+}
+
+// The tree is the sample world.
+fn is_small<T: Tree>(rt: &impl Abort, tree: &T) {
+    assert_eq!(rt; tree.next(), 4);
+    is_as_made(rt, tree.node(0), &ROOT);
+    for node in &SMALL {
+        is_as_made(rt, tree.node(node.number), node);
+    }
+}
+
+// Writes past a file's end, and adds a file to the sample world, each again where it was refused.
+fn grow<T: Tree>(rt: &impl Abort, mut tree: T) {
+    if write(rt, &mut tree, 3, 2, b" there").is_err() {
+        is_small(rt, &tree);
+        assert!(rt; write(rt, &mut tree, 3, 2, b" there").is_ok());
+    }
+    let written = Expected {
+        bytes: b"hi there",
+        ..SMALL[2]
+    };
+    is_as_made(rt, tree.node(3), &written);
+    let file = Expected {
+        number: 4,
+        name: "g",
+        ..SMALL[2]
+    };
+    if add(rt, &mut tree, 1, &new_of(rt, &file)).is_err() {
+        assert_eq!(rt; tree.next(), 4);
+        assert!(rt; tree.node(4).is_none());
+        is_as_made(rt, tree.node(3), &written);
+        assert!(rt; add(rt, &mut tree, 1, &new_of(rt, &file)).is_ok());
+    }
+    is_as_made(rt, tree.node(4), &file);
 }
 
 #[test]
@@ -279,6 +337,28 @@ fn plain_tree_changes_nodes(rt: HostRuntime) -> Result<(), Fail> {
 
 #[test]
 fn forest_of_plain_trees(rt: HostRuntime) -> Result<(), Fail> {
-    forest_has_its_trees::<PlainTree<Global>>(&rt, rt.alloc())?;
+    forest_finds_each_node::<PlainTree<Global>>(&rt, rt.alloc())?;
+    forest_changes_nodes::<PlainTree<Global>>(&rt, rt.alloc())?;
+    forest_grows_and_shrinks::<PlainTree<Global>>(&rt, rt.alloc())?;
     Ok(())
+}
+
+// Each growth is refused in turn, and then goes through.
+#[test]
+fn plain_tree_is_as_before_at_each_refusal(rt: HostRuntime) {
+    let memory = Refusing::new(rt.alloc());
+    let refusals = refuse_each(
+        &memory,
+        || small::<PlainTree<&Refusing<Global>>>(&rt, &memory).expect(&rt, "ample memory"),
+        |tree| grow(&rt, tree),
+    );
+    assert!(rt; refusals >= 2);
+}
+
+#[test]
+fn plain_tree_asks_again_for_its_root(rt: HostRuntime) {
+    let memory = Refusing::new(rt.alloc());
+    memory.refuse(1);
+    assert!(rt; PlainTree::with_root(&memory).is_err());
+    assert!(rt; PlainTree::with_root(&memory).is_ok());
 }
