@@ -1,0 +1,11 @@
+//! Places: the mount table with its union directories, trails, and walks along them, as bind(1)
+//! and walk(5).
+//!
+//! A mount table is seen as the list of its rows, and a trail as the list of its places.
+#![tactic(auto)]
+
+mod row;
+mod table;
+
+pub use row::{Member, Members, Order, Row};
+pub use table::{MountTable, UnmountError};
