@@ -1,6 +1,6 @@
 -- The mount table: a list of rows, each a key and the members that stand for it, as bind(1).
-use Rattle.std.specs.Prelude.{◌≡◌, ◌≢◌, Bool, true, false, List, [], ◌∷◌, Option, Some, None, Result, Ok, Err, is_some, unwrap_or, All, if◌then◌else◌}
-use Rattle.std.specs.List.{IsDistinct, list_any}
+use Rattle.std.specs.Prelude.{◌<◌, Bool, true, false, List, [], ◌∷◌, Option, Some, None, Result, Ok, Err, is_some, length, unwrap_or, position, remove, All, if◌then◌else◌}
+use Rattle.std.specs.List.{IsDistinct}
 use Rattle.std.specs.Map.{lookup, remove_entry, keys_of}
 use Rattle.std.specs.Option.{option_map_or}
 use Rattle.indexmap.specs.IndexMap.{insert_entry}
@@ -16,7 +16,7 @@ MountRow = NodeRef × List Member
 
 -- no row is empty, and no key has two rows
 pub record IsTable (table : List MountRow) : Type 0 where
-  pub not_empty : All (λ row. row.1 ≢ []) table
+  pub not_empty : All (λ row. 0 < length row.1) table
   pub distinct : IsDistinct same_node (keys_of table)
 
 abbrev pub row_of : NodeRef → List MountRow → Option (List Member)
@@ -47,15 +47,10 @@ abbrev pub with_members : NodeRef → List Member → List MountRow → List Mou
 with_members key [] table = without_row key table
 with_members key (m ∷ ms) table = with_row key (m ∷ ms) table
 
--- the members without the first that is the node
-abbrev pub without_node : NodeRef → List Member → List Member
-without_node node [] = []
-without_node node (m ∷ ms) = if is_of node m then ms else m ∷ without_node node ms
-
--- the row without the node
+-- without the first of the row's members that is the node
 abbrev pub without_member : NodeRef → NodeRef → List MountRow → List Member → Result (List MountRow) UnmountError
 without_member key node table members =
-    if list_any (is_of node) members then Ok (with_members key (without_node node members) table) else Err NotMember
+    option_map_or (λ i. Ok (with_members key (remove members i) table)) (position (is_of node) members) (Err NotMember)
 
 -- without the key's row, or without one node in it
 abbrev pub unmounted : NodeRef → Option NodeRef → List MountRow → Result (List MountRow) UnmountError

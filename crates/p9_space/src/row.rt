@@ -1,6 +1,6 @@
 //! The members of a union directory.
 
-ghost use Rattle.std.specs.Prelude.{◌≡◌, ◌≢◌, ◌++◌, ◌∷◌, ◌<◌, ◌↔◌, [], true, IsTrue, length, unwrap_or, slice_get, remove, position, IfOk, OnOk, OnErr};
+ghost use Rattle.std.specs.Prelude.{◌≡◌, ◌≢◌, ◌++◌, ◌∷◌, ◌<◌, ◌↔◌, [], true, IsTrue, length, unwrap_or, slice_get, remove, position, IfSome, IfOk, OnOk, OnErr};
 ghost use Rattle.std.specs.Option.{option_copied};
 ghost use Rattle.p9_space.specs.Row.{brought, is_of, member};
 
@@ -98,7 +98,8 @@ impl<A: Allocator + Copy> Row<A> {
 
     /// The position of the first member that is the node.
     pub fn position(&self, node: NodeRef) -> Option<usize>
-        ensures { result ≡ position (is_of node) self.now }
+        ensures first { result ≡ position (is_of node) self.now }
+        ensures within { IfSome result (λ i. i < length self.now) }
     {
         self.members.iter().position(|m| m.node == node)
     }

@@ -1,7 +1,9 @@
 //! The mount table.
 
-ghost use Rattle.std.specs.Prelude.{◌≡◌, ◌++◌, ◌<◌, ◌↔◌, [], IsTrue, length, slice_get, OnOk, OnErr, IfOk, IfErr};
-ghost use Rattle.p9_space.specs.Table.{IsTable, bound, standing, unmounted, members_of};
+ghost use Rattle.std.specs.Prelude.{◌≡◌, ◌++◌, ◌<◌, ◌↔◌, [], IsTrue, IsSome, is_some, length, remove, slice_get, OnOk, OnErr, IfOk, IfErr};
+ghost use Rattle.std.specs.Bool.{OnFalse};
+ghost use Rattle.p9_space.specs.Row.{brought, joined};
+ghost use Rattle.p9_space.specs.Table.{IsTable, bound, standing, unmounted, members_of, row_of, with_row, without_row};
 
 use crate::row::{Member, Members, Order, Row};
 use indexmap::IndexMap;
@@ -37,7 +39,9 @@ pub struct MountTable<A: Allocator + Copy> {
 
 impl<A: Allocator + Copy> Model for MountTable<A> {
     ghost use Rattle.std.specs.Prelude.{List};
-    ghost use Rattle.p9_space.specs.Table.{MountRow, IsTable};
+    ghost use Rattle.std.specs.Bool.{OnFalse};
+ghost use Rattle.p9_space.specs.Row.{brought, joined};
+ghost use Rattle.p9_space.specs.Table.{MountRow, IsTable};
 
     ghost Value = { List MountRow };
 
@@ -74,6 +78,21 @@ impl<A: Allocator + Copy> MountTable<A> {
         ensures ok { OnOk result (self.new ≡ bound key nodes.now order create self.old) }
         ensures err { OnErr result (self.new ≡ self.old) }
     {
+        let row = self.joined(key, nodes, order, create)?;
+        self.rows.insert(key, row)?;
+        Ok(())
+    }
+
+    // The row that a bind makes.
+    fn joined(
+        &self,
+        key: NodeRef,
+        nodes: &[NodeRef],
+        order: Order,
+        create: bool,
+    ) -> Result<Row<A>, NoMemory>
+        ensures { IfOk result (λ row. row ≡ joined order (brought nodes.now create) (standing key self.now)) }
+    {
         let mut row = Row::new(self.alloc);
         match order {
             Order::Replace => row.push_brought(nodes, create)?,
@@ -86,8 +105,7 @@ impl<A: Allocator + Copy> MountTable<A> {
                 row.push_brought(nodes, create)?;
             }
         }
-        self.rows.insert(key, row)?;
-        Ok(())
+        Ok(row)
     }
 
     // Adds what a bind before or after the key finds there.
@@ -124,10 +142,20 @@ impl<A: Allocator + Copy> MountTable<A> {
         ensures err { IfErr result (λ e. unmounted key None self.old ≡ Err e) }
         ensures unchanged { OnErr result (self.new ≡ self.old) }
     {
-        match self.rows.shift_remove(&key) {
-            Some(_) => Ok(()),
-            None => Err(UnmountError::NotMounted),
+        if self.remove_row(key) {
+            Ok(())
+        } else {
+            Err(UnmountError::NotMounted)
         }
+    }
+
+    // Takes the key's row away, and answers whether there was one.
+    fn remove_row(&mut self, key: NodeRef) -> bool
+        ensures found { result ≡ is_some (row_of key self.old) }
+        ensures removed { self.new ≡ without_row key self.old }
+        ensures unchanged { OnFalse result (self.new ≡ self.old) }
+    {
+        self.rows.shift_remove(&key).is_some()
     }
 
     fn unmount_member(&mut self, key: NodeRef, node: NodeRef) -> Result<(), UnmountError>
@@ -135,14 +163,28 @@ impl<A: Allocator + Copy> MountTable<A> {
         ensures err { IfErr result (λ e. unmounted key (Some node) self.old ≡ Err e) }
         ensures unchanged { OnErr result (self.new ≡ self.old) }
     {
-        let row = self.rows.get(&key).ok_or(UnmountError::NotMounted)?;
-        let position = row.position(node).ok_or(UnmountError::NotMember)?;
+        let Some(row) = self.rows.get(&key) else {
+            return Err(UnmountError::NotMounted);
+        };
+        let Some(position) = row.position(node) else {
+            return Err(UnmountError::NotMember);
+        };
         if row.as_slice().len() == 1 {
-            let _ = self.rows.shift_remove(&key);
-        } else if let Some(row) = self.rows.get_mut(&key) {
-            row.remove(position);
+            let _ = self.remove_row(key);
+        } else {
+            self.remove_member(key, position);
         }
         Ok(())
+    }
+
+    // Takes a member out of a row that has others.
+    fn remove_member(&mut self, key: NodeRef, position: usize)
+        requires row { IsSome (row_of key self.old) }
+        requires within { position < length (members_of key self.old) }
+        requires others { 1 < length (members_of key self.old) }
+        ensures { self.new ≡ with_row key (remove (members_of key self.old) position) self.old }
+    {
+        self.rows.get_mut(&key).unwrap().remove(position);
     }
 
     /// What stands for the key: the members of its row, or the key alone, which permits creation.
