@@ -1,0 +1,2 @@
+pub mod ForestLemmas
+pub mod TextLemmas

@@ -1,0 +1,15 @@
+-- The bytes of a file, as read(5) has them.
+use Rattle.std.specs.Prelude.{ℕ, ◌+◌, List, ◌++◌, length, take, drop}
+use Rattle.p9_base.specs.Text.{padded}
+
+-- up to count bytes from the offset on, as many as are there
+abbrev pub read_from : ℕ → ℕ → List ℕ → List ℕ
+read_from offset count old = take count (drop offset old)
+
+-- the bytes after a write at the offset; a gap before it is filled with zeros
+abbrev pub overwritten : ℕ → List ℕ → List ℕ → List ℕ
+overwritten offset bytes old = take offset (padded offset old) ++ bytes ++ drop (offset + length bytes) old
+
+-- at most the first bytes
+abbrev pub cut_to : ℕ → List ℕ → List ℕ
+cut_to size old = take size old

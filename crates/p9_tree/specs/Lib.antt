@@ -1,0 +1,5 @@
+pub mod Bytes
+pub mod Node
+pub mod New
+pub mod Server
+pub mod Forest

@@ -1,0 +1,44 @@
+-- A file or directory of a server, as stat(5), and what a request changes in it.
+use Rattle.std.specs.Prelude.{ℕ, ◌+◌, ◌^◌, ◌%◌, ◌==◌, ◌&&◌, Bool, true, false, nat_lt, List, Option, codes}
+use Rattle.std.specs.Option.{option_map_or}
+use Rattle.std.specs.Str.{bytes_eq}
+use Rattle.p9_base.specs.declared.mode.Mode.{Mode}
+use Rattle.p9_base.specs.declared.mode.Permissions.{Permissions}
+use Rattle.p9_base.specs.declared.mode.Kind.TheVariants.{Directory}
+use Rattle.p9_base.specs.Mode.{is_dir as is_dir_mode}
+
+-- the root has no parent; a directory has no bytes
+pub record Node : Type 0 where
+  pub number : ℕ
+  pub parent : Option ℕ
+  pub name : List ℕ
+  pub mode : Mode
+  pub uid : List ℕ
+  pub gid : List ℕ
+  pub muid : List ℕ
+  pub version : ℕ
+  pub atime : ℕ
+  pub mtime : ℕ
+  pub bytes : List ℕ
+
+-- the name of a server's root
+abbrev pub root_name : List ℕ
+root_name = codes "/"
+
+abbrev pub is_dir : Node → Bool
+is_dir n = is_dir_mode n.mode
+
+abbrev pub has_number : ℕ → Node → Bool
+has_number k n = n.number == k
+
+-- it stands in the directory
+abbrev pub is_in : ℕ → Node → Bool
+is_in dir n = option_map_or (λ parent. parent == dir) n.parent false
+
+-- it stands in the directory under the name
+abbrev pub is_child : ℕ → List ℕ → Node → Bool
+is_child dir name n = is_in dir n && bytes_eq n.name name
+
+-- its number is greater than the floor, if there is one
+abbrev pub is_above : Option ℕ → Node → Bool
+is_above floor n = option_map_or (λ k. nat_lt k n.number) floor true

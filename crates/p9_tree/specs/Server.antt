@@ -1,0 +1,94 @@
+-- A server: its nodes by rising number, and the number that its next new node gets.
+use Rattle.std.specs.Prelude.{◌≡◌, ℕ, ◌+◌, ◌<◌, ◌≤◌, ◌^◌, ◌&&◌, Bool, true, false, List, [], ◌∷◌, ◌++◌, Option, Some, None, IsTrue, is_some, codes, length, find, All, AllPairs, if◌then◌else◌}
+use Rattle.std.specs.Option.{option_map_or}
+use Rattle.std.specs.List.{list_any}
+use Rattle.p9_base.specs.declared.mode.Kind.TheVariants.{Directory}
+use Rattle.p9_base.specs.declared.mode.Rights.{Rights}
+use Rattle.p9_base.specs.declared.mode.Mode.{Mode}
+use Rattle.p9_base.specs.Name.{is_name}
+use Rattle.p9_tree.specs.declared.bytes.TheConstants.{FILE_MAX}
+use Rattle.p9_tree.specs.Node.{Node, root_name, has_number, is_in, is_child, is_above, is_dir}
+
+pub record Server : Type 0 where
+  pub nodes : List Node
+  pub next : ℕ
+
+-- Look-ups.
+
+-- the node of the number
+abbrev pub node_at : ℕ → List Node → Option Node
+node_at k nodes = find (has_number k) nodes
+
+-- the node of the name in the directory
+abbrev pub child_of : ℕ → List ℕ → List Node → Option Node
+child_of dir name nodes = find (is_child dir name) nodes
+
+-- the node of least number in the directory, above the floor if there is one
+abbrev pub child_after : ℕ → Option ℕ → List Node → Option Node
+child_after dir floor nodes = find (λ n. is_in dir n && is_above floor n) nodes
+
+abbrev pub exists_at : ℕ → List Node → Bool
+exists_at k nodes = is_some (node_at k nodes)
+
+abbrev pub is_dir_at : ℕ → List Node → Bool
+is_dir_at k nodes = option_map_or is_dir (node_at k nodes) false
+
+abbrev pub has_children : ℕ → List Node → Bool
+has_children dir nodes = list_any (is_in dir) nodes
+
+-- Well-formed servers.
+
+-- what holds of a node by itself; that its mode has no bit without a meaning is in the type of modes
+pub record IsSound (n : Node) : Type 0 where
+  pub small : length n.bytes ≤ FILE_MAX
+  pub empty_dir : IsTrue (is_dir n) → n.bytes ≡ []
+  pub valid_name : (p : ℕ) → n.parent ≡ Some p → IsTrue (is_name n.name)
+  pub root_name : n.parent ≡ None → n.name ≡ root_name
+
+pub record WellFormed (s : Server) : Type 0 where
+  pub few : s.next ≤ 2 ^ 48
+  pub rising : AllPairs (λ m n. m.number < n.number) s.nodes
+  pub below : All (λ n. n.number < s.next) s.nodes
+  pub sound : (k : ℕ) (n : Node) → node_at k s.nodes ≡ Some n → IsSound n
+  pub root : IsTrue (is_dir_at 0 s.nodes)
+  pub only_root : (k : ℕ) (n : Node) → node_at k s.nodes ≡ Some n → n.parent ≡ None → k ≡ 0
+  pub parent_below : (k p : ℕ) (n : Node) → node_at k s.nodes ≡ Some n → n.parent ≡ Some p → p < k
+  pub parent_dir : (k p : ℕ) (n : Node) → node_at k s.nodes ≡ Some n → n.parent ≡ Some p → IsTrue (is_dir_at p s.nodes)
+  pub siblings : (j k p : ℕ) (m n : Node) → node_at j s.nodes ≡ Some m → node_at k s.nodes ≡ Some n → m.parent ≡ Some p → n.parent ≡ Some p → m.name ≡ n.name → j ≡ k
+
+-- Servers that are made, and changes.
+
+abbrev pub all_rights : Rights
+all_rights = record { read = true; write = true; execute = true }
+
+abbrev pub read_and_search : Rights
+read_and_search = record { read = true; write = false; execute = true }
+
+-- rwxr-xr-x
+abbrev pub root_mode : Mode
+root_mode = record {
+  kind = Directory;
+  permissions = record { owner = all_rights; group = read_and_search; others = read_and_search };
+}
+
+abbrev pub root_node : Node
+root_node = record {
+  number = 0;
+  parent = None;
+  name = root_name;
+  mode = root_mode;
+  uid = codes "sys";
+  gid = codes "sys";
+  muid = codes "sys";
+  version = 0;
+  atime = 0;
+  mtime = 0;
+  bytes = [];
+}
+
+-- a server of a root alone
+abbrev pub rooted : Server
+rooted = record { nodes = root_node ∷ []; next = 1 }
+
+abbrev pub with_nodes : Server → List Node → Server
+with_nodes s nodes = record { nodes = nodes; next = s.next }

@@ -1,0 +1,20 @@
+//! Servers' trees of files in memory, as intro(5) and stat(5).
+//!
+//! A server's tree is seen as the list of its nodes, by rising number, and the number that the
+//! next new node gets, whichever way it is kept: the trait [`Tree`] says what it does to that
+//! list. A [`Forest`] has the trees of all servers.
+#![tactic(auto)]
+
+mod bytes;
+mod forest;
+mod new;
+mod node;
+mod plain;
+mod tree;
+
+pub use bytes::{Bytes, FILE_MAX};
+pub use forest::Forest;
+pub use new::New;
+pub use node::Node;
+pub use plain::PlainTree;
+pub use tree::Tree;

@@ -1,0 +1,155 @@
+//! A file or directory of a server.
+
+ghost use Rattle.std.specs.Prelude.{◌≡◌, ◌≤◌, ◌&&◌, IsTrue, length};
+ghost use Rattle.p9_base.specs.Text.{is_text};
+ghost use Rattle.p9_tree.specs.Node.{is_dir, is_in, is_child, is_above};
+
+use crate::bytes::Bytes;
+use p9_base::{Mode, Name, User};
+use std::alloc::Allocator;
+use std::marker::Model;
+
+/// A file or directory of a server, as stat(5). Contracts see its fields as one flat record.
+#[derive(Drop)]
+pub struct Node<A: Allocator> {
+    pub(crate) number: u64,
+    pub(crate) entry: Option<Entry>,
+    pub(crate) mode: Mode,
+    pub(crate) uid: User,
+    pub(crate) gid: User,
+    pub(crate) muid: User,
+    pub(crate) version: u32,
+    pub(crate) atime: u32,
+    pub(crate) mtime: u32,
+    pub(crate) bytes: Bytes<A>,
+}
+
+/// Where a node stands: in which directory, and under which name. The root stands nowhere.
+#[derive(Clone, Copy)]
+pub(crate) struct Entry {
+    pub parent: u64,
+    pub name: Name,
+}
+
+impl<A: Allocator> Model for Node<A> {
+    ghost use Rattle.std.specs.Prelude.{option_map};
+    ghost use Rattle.std.specs.Option.{option_map_or};
+    ghost use Rattle.p9_tree.specs.Node.{Node as NodeOf, root_name};
+
+    ghost Value = { NodeOf };
+
+    ghost view = { λ n. record { number = n.number; parent = option_map (λ e. e.parent) n.entry; name = option_map_or (λ e. e.name) n.entry root_name; mode = n.mode; uid = n.uid; gid = n.gid; muid = n.muid; version = n.version; atime = n.atime; mtime = n.mtime; bytes = n.bytes } };
+}
+
+impl<A: Allocator> Node<A> {
+    /// Its number at its server. The root's is 0.
+    pub fn number(&self) -> u64
+        ensures { result ≡ self.now.number }
+    {
+        self.number
+    }
+
+    /// The number of the directory that it stands in. The root has none.
+    pub fn parent(&self) -> Option<u64>
+        ensures { result ≡ self.now.parent }
+    {
+        self.entry.map(|e| e.parent)
+    }
+
+    /// Its name in its directory. The root's is `/`.
+    pub fn name(&self) -> &str
+        ensures name { result.now ≡ self.now.name }
+        ensures text { IsTrue (is_text self.now.name) }
+        ensures short { length self.now.name ≤ 255 }
+    {
+        match &self.entry {
+            Some(entry) => entry.name.as_str(),
+            None => "/",
+        }
+    }
+
+    /// Its kind and permissions.
+    pub fn mode(&self) -> Mode
+        ensures { result ≡ self.now.mode }
+    {
+        self.mode
+    }
+
+    /// Its owner.
+    pub fn uid(&self) -> &User
+        ensures { result.now ≡ self.now.uid }
+    {
+        &self.uid
+    }
+
+    /// Its group.
+    pub fn gid(&self) -> &User
+        ensures { result.now ≡ self.now.gid }
+    {
+        &self.gid
+    }
+
+    /// The user who changed it last.
+    pub fn muid(&self) -> &User
+        ensures { result.now ≡ self.now.muid }
+    {
+        &self.muid
+    }
+
+    /// How often it was changed, modulo 2^32.
+    pub fn version(&self) -> u32
+        ensures { result ≡ self.now.version }
+    {
+        self.version
+    }
+
+    /// When it was last read or changed, in seconds since 1970, modulo 2^32.
+    pub fn atime(&self) -> u32
+        ensures { result ≡ self.now.atime }
+    {
+        self.atime
+    }
+
+    /// When it was last changed, in seconds since 1970, modulo 2^32.
+    pub fn mtime(&self) -> u32
+        ensures { result ≡ self.now.mtime }
+    {
+        self.mtime
+    }
+
+    /// A file's bytes. A directory has none.
+    pub fn bytes(&self) -> &[u8]
+        ensures { result.now ≡ self.now.bytes }
+    {
+        self.bytes.as_slice()
+    }
+
+    /// Whether it is a directory.
+    pub fn is_dir(&self) -> bool
+        ensures { result ≡ is_dir self.now }
+    {
+        self.mode.is_dir()
+    }
+
+    /// Whether it stands in the directory of this number.
+    pub fn is_in(&self, dir: u64) -> bool
+        ensures { result ≡ is_in dir self.now }
+    {
+        self.entry.is_some_and(|e| e.parent == dir)
+    }
+
+    /// Whether it stands in the directory of this number under the name.
+    pub fn is_child(&self, dir: u64, name: &Name) -> bool
+        ensures { result ≡ is_child dir name.now self.now }
+    {
+        self.entry
+            .is_some_and(|e| e.parent == dir && e.name == *name)
+    }
+
+    /// Whether its number is greater than the floor, if there is one.
+    pub fn is_above(&self, floor: Option<u64>) -> bool
+        ensures { result ≡ is_above floor self.now }
+    {
+        floor.is_none_or(|k| k < self.number)
+    }
+}
