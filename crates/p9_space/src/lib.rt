@@ -6,6 +6,8 @@
 
 mod row;
 mod table;
+mod trail;
 
 pub use row::{Member, Members, Order, Row};
 pub use table::{MountTable, UnmountError};
+pub use trail::{PLACES_MAX, Trail};
