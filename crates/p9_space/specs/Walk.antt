@@ -14,20 +14,10 @@ use Rattle.p9_space.specs.declared.rights.TheConstants.{TO_EXECUTE}
 use Rattle.p9_space.specs.declared.trail.TheConstants.{PLACES_MAX}
 use Rattle.p9_space.specs.declared.walk.Step.{Step}
 use Rattle.p9_space.specs.declared.walk.Step.TheVariants.{Up, To}
+use Rattle.p9_space.specs.Place.{file_of}
 use Rattle.p9_space.specs.Rights.{may}
 use Rattle.p9_space.specs.Table.{MountRow, members_of}
 use Rattle.p9_space.specs.Trail.{here, upward}
-
-abbrev pub first_node : NodeRef → List Member → NodeRef
-first_node place [] = place
-first_node place (m ∷ ms) = m.node
-
--- the file of a place is its first member, alive or not
-abbrev pub file_ref : NodeRef → List MountRow → NodeRef
-file_ref place table = first_node place (members_of place table)
-
-abbrev pub file_of : NodeRef → List MountRow → List Server → Option Node
-file_of place table forest = node_of (file_ref place table) forest
 
 -- the user may search the directory; without a user everybody may
 abbrev pub may_search : Option (List ℕ) → Node → Bool

@@ -14,4 +14,4 @@ pub use rights::{TO_EXECUTE, TO_READ, TO_WRITE, may, rules};
 pub use row::{Member, Members, Order, Row};
 pub use table::{MountTable, UnmountError};
 pub use trail::{PLACES_MAX, Trail};
-pub use walk::{Step, file_ref, find_step, resolve};
+pub use walk::{Step, find_step, resolve};

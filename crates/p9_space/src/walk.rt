@@ -5,7 +5,7 @@ ghost use Rattle.std.specs.List.{list_any};
 ghost use Rattle.std.specs.Option.{option_copied};
 ghost use Rattle.p9_base.specs.declared.fault.Fault.TheVariants.{OutOfMemory};
 ghost use Rattle.p9_space.specs.Trail.{here};
-ghost use Rattle.p9_space.specs.Walk.{arrived, child_among, child_ref, file_of, file_ref, is_alive, is_alive_dir, is_searched, may_search, step_among, step_down, step_of, stepped, walk};
+ghost use Rattle.p9_space.specs.Walk.{child_among, child_ref, is_alive, is_alive_dir, is_searched, may_search, step_among, step_down, step_of, stepped, walk};
 
 use crate::rights::{TO_EXECUTE, may};
 use crate::row::Member;
@@ -38,16 +38,6 @@ impl<A: Allocator + Copy> Trail<A> {
             }
             Step::To(place) => self.push(place),
         }
-    }
-}
-
-/// The file of a place: its first member, whether it exists or not.
-pub fn file_ref<A: Allocator + Copy>(table: &MountTable<A>, place: NodeRef) -> NodeRef
-    ensures { result ≡ file_ref place table.now }
-{
-    match table.members(place).get(0) {
-        Some(member) => member.node,
-        None => place,
     }
 }
 
@@ -240,7 +230,7 @@ pub fn find_step<T: Tree, A: Allocator + Copy, B: Allocator + Copy>(
         user,
     )?;
     let place = place_after(trail, step);
-    if forest.node(file_ref(table, place)).is_none() {
+    if forest.node(table.file(place)).is_none() {
         return Err(Fault::PhaseError);
     }
     Ok(step)
