@@ -6,7 +6,6 @@ ghost use Rattle.p9_space.specs.Row.{brought, is_of, member};
 
 use p9_base::{NoMemory, NodeRef};
 use std::alloc::{AllocError, Allocator};
-use std::clone::Clone;
 use std::marker::Model;
 
 /// A member of a union directory.
@@ -28,7 +27,7 @@ pub enum Order {
 
 /// The members that stand for a key of the mount table, in the order in which a walk tries them.
 #[derive(Drop)]
-pub struct Row<A: Allocator> {
+pub(crate) struct Row<A: Allocator> {
     members: Vec<Member, A>,
 }
 
@@ -142,7 +141,7 @@ impl<'a> Model for Members<'a> {
 
 impl<'a> Members<'a> {
     /// The members of the row, or where there is no row the key alone, which permits creation.
-    pub fn new(row: Option<&'a [Member]>, key: NodeRef) -> Members<'a>
+    pub(crate) fn new(row: Option<&'a [Member]>, key: NodeRef) -> Members<'a>
         ensures { result ≡ unwrap_or (option_copied row.entry) (member true key ∷ []) }
     {
         Members {

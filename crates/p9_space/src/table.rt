@@ -40,9 +40,6 @@ pub struct MountTable<A: Allocator + Copy> {
 
 impl<A: Allocator + Copy> Model for MountTable<A> {
     ghost use Rattle.std.specs.Prelude.{List};
-    ghost use Rattle.std.specs.Bool.{OnFalse};
-    ghost use Rattle.p9_space.specs.Place.{file_ref};
-    ghost use Rattle.p9_space.specs.Row.{brought, joined};
     ghost use Rattle.p9_space.specs.Table.{MountRow, IsTable};
 
     ghost Value = { List MountRow };

@@ -84,7 +84,7 @@ impl<A: Allocator + Copy> Trail<A> {
     }
 
     /// The place before the last, or the last where there is no other.
-    pub fn above(&self) -> NodeRef
+    pub(crate) fn above(&self) -> NodeRef
         ensures { result ≡ here (upward self.now) }
     {
         if self.places.len() > 1 {
