@@ -1,0 +1,17 @@
+//! Places: the mount table with its union directories, trails, and walks along them, as bind(1)
+//! and walk(5).
+//!
+//! A mount table is seen as the list of its rows, and a trail as the list of its places.
+#![tactic(auto)]
+
+mod rights;
+mod row;
+mod table;
+mod trail;
+mod walk;
+
+pub use rights::{TO_EXECUTE, TO_READ, TO_WRITE, may, rules};
+pub use row::{Member, Members, Order};
+pub use table::{MountTable, UnmountError};
+pub use trail::{PLACES_MAX, Trail};
+pub use walk::{Step, find_step, resolve};

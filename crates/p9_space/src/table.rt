@@ -1,0 +1,246 @@
+//! The mount table.
+
+ghost use Rattle.std.specs.Prelude.{◌≡◌, ◌++◌, ◌<◌, ◌↔◌, [], IsTrue, IsSome, is_some, length, remove, slice_get, OnOk, OnErr, IfOk, IfErr};
+ghost use Rattle.std.specs.Bool.{OnFalse};
+ghost use Rattle.p9_space.specs.Place.{file_ref};
+ghost use Rattle.p9_space.specs.Row.{brought, joined};
+ghost use Rattle.p9_space.specs.Table.{IsTable, bound, standing, unmounted, members_of, row_of, with_row, without_row};
+
+use crate::row::{Member, Members, Order, Row};
+use indexmap::IndexMap;
+use p9_base::{NoMemory, NodeRef};
+use std::alloc::Allocator;
+use std::hash::{BuildHasherDefault, FoldHasher};
+use std::marker::Model;
+use thiserror::Error;
+
+/// Why nothing is unmounted.
+#[derive(Clone, Copy, Debug, PartialEq, Eq, Error)]
+pub enum UnmountError {
+    /// Nothing is mounted there.
+    #[error("not mounted")]
+    NotMounted,
+    /// The node is no member of the union.
+    #[error("not in the union")]
+    NotMember,
+}
+
+type Rows<A> = IndexMap<NodeRef, Row<A>, BuildHasherDefault<FoldHasher>, A>;
+
+/// The mount table: rows of a key and its members, as bind(1). A walk that comes to a key goes on
+/// in the members.
+///
+/// It is seen as the list of its rows, in the order of their making. No row is empty, and no key has
+/// two.
+#[derive(Drop)]
+pub struct MountTable<A: Allocator + Copy> {
+    alloc: A,
+    rows: Rows<A>,
+}
+
+impl<A: Allocator + Copy> Model for MountTable<A> {
+    ghost use Rattle.std.specs.Prelude.{List};
+    ghost use Rattle.p9_space.specs.Table.{MountRow, IsTable};
+
+    ghost Value = { List MountRow };
+
+    ghost view = { λ t. t.rows.entries };
+
+    ghost invariant = { λ t. IsTable t.rows.entries };
+}
+
+impl<A: Allocator + Copy> MountTable<A> {
+    /// A table without rows. This takes no memory.
+    pub fn new(alloc: A) -> MountTable<A>
+        ensures { result ≡ [] }
+    {
+        MountTable {
+            alloc,
+            rows: IndexMap::new(alloc),
+        }
+    }
+
+    /// Binds nodes in the place of the key, or before or after what stands there, as bind(1). The
+    /// first node permits creation where `create` says so; the others don't.
+    ///
+    /// A row that is replaced keeps its place in the table, and a new one goes last. A bind before
+    /// or after a key without a row finds the key itself there, without creation. A refusal leaves
+    /// the table.
+    pub fn bind(
+        &mut self,
+        key: NodeRef,
+        nodes: &[NodeRef],
+        order: Order,
+        create: bool,
+    ) -> Result<(), NoMemory>
+        requires { 0 < length nodes.now }
+        ensures ok { OnOk result (self.new ≡ bound key nodes.now order create self.old) }
+        ensures err { OnErr result (self.new ≡ self.old) }
+    {
+        let row = self.joined(key, nodes, order, create)?;
+        self.rows.insert(key, row)?;
+        Ok(())
+    }
+
+    // The row that a bind makes.
+    fn joined(
+        &self,
+        key: NodeRef,
+        nodes: &[NodeRef],
+        order: Order,
+        create: bool,
+    ) -> Result<Row<A>, NoMemory>
+        ensures { IfOk result (λ row. row ≡ joined order (brought nodes.now create) (standing key self.now)) }
+    {
+        let mut row = Row::new(self.alloc);
+        match order {
+            Order::Replace => row.push_brought(nodes, create)?,
+            Order::Before => {
+                row.push_brought(nodes, create)?;
+                self.push_standing(&mut row, key)?;
+            }
+            Order::After => {
+                self.push_standing(&mut row, key)?;
+                row.push_brought(nodes, create)?;
+            }
+        }
+        Ok(row)
+    }
+
+    // Adds what a bind before or after the key finds there.
+    fn push_standing(&self, row: &mut Row<A>, key: NodeRef) -> Result<(), NoMemory>
+        ensures ok { OnOk result (row.new ≡ row.old ++ standing key self.now) }
+    {
+        match self.rows.get(&key) {
+            Some(found) => row.extend(found.as_slice()),
+            None => row.push(Member {
+                node: key,
+                create: false,
+            }),
+        }
+    }
+
+    /// Takes the key's row away, or one member out of it: the first that is the node. A row that
+    /// loses its last member goes, and the rows behind one that goes close up.
+    ///
+    /// Without a row this is [`UnmountError::NotMounted`], and where no member is the node
+    /// [`UnmountError::NotMember`]; both leave the table. It takes no memory.
+    pub fn unmount(&mut self, key: NodeRef, node: Option<NodeRef>) -> Result<(), UnmountError>
+        ensures ok { OnOk result (unmounted key node self.old ≡ Ok self.new) }
+        ensures err { IfErr result (λ e. unmounted key node self.old ≡ Err e) }
+        ensures unchanged { OnErr result (self.new ≡ self.old) }
+    {
+        match node {
+            None => self.unmount_row(key),
+            Some(node) => self.unmount_member(key, node),
+        }
+    }
+
+    fn unmount_row(&mut self, key: NodeRef) -> Result<(), UnmountError>
+        ensures ok { OnOk result (unmounted key None self.old ≡ Ok self.new) }
+        ensures err { IfErr result (λ e. unmounted key None self.old ≡ Err e) }
+        ensures unchanged { OnErr result (self.new ≡ self.old) }
+    {
+        if self.remove_row(key) {
+            Ok(())
+        } else {
+            Err(UnmountError::NotMounted)
+        }
+    }
+
+    // Takes the key's row away, and answers whether there was one.
+    fn remove_row(&mut self, key: NodeRef) -> bool
+        ensures found { result ≡ is_some (row_of key self.old) }
+        ensures removed { self.new ≡ without_row key self.old }
+        ensures unchanged { OnFalse result (self.new ≡ self.old) }
+    {
+        self.rows.shift_remove(&key).is_some()
+    }
+
+    fn unmount_member(&mut self, key: NodeRef, node: NodeRef) -> Result<(), UnmountError>
+        ensures ok { OnOk result (unmounted key (Some node) self.old ≡ Ok self.new) }
+        ensures err { IfErr result (λ e. unmounted key (Some node) self.old ≡ Err e) }
+        ensures unchanged { OnErr result (self.new ≡ self.old) }
+    {
+        let Some(row) = self.rows.get(&key) else {
+            return Err(UnmountError::NotMounted);
+        };
+        let Some(position) = row.position(node) else {
+            return Err(UnmountError::NotMember);
+        };
+        if row.as_slice().len() == 1 {
+            let _ = self.remove_row(key);
+        } else {
+            self.remove_member(key, position);
+        }
+        Ok(())
+    }
+
+    // Takes a member out of a row that has others.
+    fn remove_member(&mut self, key: NodeRef, position: usize)
+        requires row { IsSome (row_of key self.old) }
+        requires within { position < length (members_of key self.old) }
+        requires others { 1 < length (members_of key self.old) }
+        ensures { self.new ≡ with_row key (remove (members_of key self.old) position) self.old }
+    {
+        self.rows.get_mut(&key).unwrap().remove(position);
+    }
+
+    /// What stands for the key: the members of its row, or the key alone, which permits creation.
+    pub fn members(&self, key: NodeRef) -> Members<'_>
+        ensures members { result ≡ members_of key self.now }
+        ensures not_empty { 0 < length result }
+    {
+        Members::new(self.rows.get(&key).map(|row| row.as_slice()), key)
+    }
+
+    /// The file of a place: its first member, whether it exists or not.
+    pub fn file(&self, place: NodeRef) -> NodeRef
+        ensures { result ≡ file_ref place self.now }
+    {
+        match self.members(place).get(0) {
+            Some(member) => member.node,
+            None => place,
+        }
+    }
+
+    /// Takes all rows away.
+    pub fn clear(&mut self)
+        ensures { self.new ≡ [] }
+    {
+        self.rows.clear();
+    }
+
+    /// Another table of the same rows.
+    pub fn copy(&self) -> Result<MountTable<A>, NoMemory>
+        ensures { IfOk result (λ copy. copy ≡ self.now) }
+    {
+        Ok(MountTable {
+            alloc: self.alloc,
+            rows: self.rows.clone()?,
+        })
+    }
+
+    /// How many rows there are.
+    pub fn len(&self) -> usize
+        ensures len { result ≡ length self.now }
+        ensures sound { IsTable self.now }
+    {
+        self.rows.len()
+    }
+
+    /// Whether there is no row.
+    pub fn is_empty(&self) -> bool
+        ensures { IsTrue result ↔ (self.now ≡ []) }
+    {
+        self.rows.is_empty()
+    }
+
+    /// The key and the members of the row at a position, counted from 0.
+    pub fn row(&self, position: usize) -> Option<(NodeRef, Members<'_>)>
+        ensures { result ≡ slice_get self.now position }
+    {
+        let (key, row) = self.rows.get_index(position)?;
+        Some((*key, Members::new(Some(row.as_slice()), *key)))
+    }
+}

@@ -1,0 +1,106 @@
+//! Trails: how a fid or a current directory was reached.
+
+ghost use Rattle.std.specs.Prelude.{◌≡◌, ◌++◌, ◌∷◌, ◌<◌, [], length, slice_get, IfOk, OnOk, OnErr};
+ghost use Rattle.p9_space.specs.Trail.{IsTrail, here, upward};
+
+use p9_base::{NoMemory, NodeRef};
+use std::alloc::Allocator;
+use std::marker::Model;
+
+/// The most places of a trail.
+pub const PLACES_MAX: usize = 64;
+
+/// The places that a walk came by, from the place of attachment on: at least one, and at most
+/// [`PLACES_MAX`]. A place is a key of the mount table; its file is its first member.
+///
+/// It makes `..` lexical: it goes back the way one came, whatever the parent of the file is.
+#[derive(Drop)]
+pub struct Trail<A: Allocator> {
+    places: Vec<NodeRef, A>,
+}
+
+impl<A: Allocator> Model for Trail<A> {
+    ghost use Rattle.std.specs.Prelude.{List};
+    ghost use Rattle.p9_base.specs.declared.node_ref.NodeRef.{NodeRef};
+    ghost use Rattle.p9_space.specs.Trail.{IsTrail};
+
+    ghost Value = { List NodeRef };
+
+    ghost view = { λ t. t.places.items };
+
+    ghost invariant = { λ t. IsTrail t.places.items };
+}
+
+impl<A: Allocator + Copy> Trail<A> {
+    /// The trail of one place.
+    pub fn at(alloc: A, place: NodeRef) -> Result<Trail<A>, NoMemory>
+        ensures { IfOk result (λ trail. trail ≡ place ∷ []) }
+    {
+        let mut places = Vec::new(alloc);
+        places.push(place)?;
+        Ok(Trail { places })
+    }
+
+    /// Another trail of the same places.
+    pub fn copy(&self) -> Result<Trail<A>, NoMemory>
+        ensures { IfOk result (λ copy. copy ≡ self.now) }
+    {
+        Ok(Trail {
+            places: self.places.clone()?,
+        })
+    }
+
+    /// Goes on to a place. A refusal leaves the trail.
+    pub fn push(&mut self, place: NodeRef) -> Result<(), NoMemory>
+        requires { length self.old < PLACES_MAX }
+        ensures ok { OnOk result (self.new ≡ self.old ++ place ∷ []) }
+        ensures err { OnErr result (self.new ≡ self.old) }
+    {
+        self.places.push(place)?;
+        Ok(())
+    }
+
+    /// How many places there are: 1 to [`PLACES_MAX`].
+    pub fn len(&self) -> usize
+        ensures len { result ≡ length self.now }
+        ensures sound { IsTrail self.now }
+    {
+        self.places.len()
+    }
+
+    /// The place at a position, counted from 0, the place of attachment.
+    pub fn get(&self, position: usize) -> Option<NodeRef>
+        ensures { result ≡ slice_get self.now position }
+    {
+        self.places.get(position).copied()
+    }
+
+    /// The last place, at which the trail has arrived.
+    pub fn here(&self) -> NodeRef
+        ensures last { result ≡ here self.now }
+        ensures sound { IsTrail self.now }
+    {
+        self.places[self.places.len() - 1]
+    }
+
+    /// The place before the last, or the last where there is no other.
+    pub(crate) fn above(&self) -> NodeRef
+        ensures { result ≡ here (upward self.now) }
+    {
+        if self.places.len() > 1 {
+            self.places[self.places.len() - 2]
+        } else {
+            self.places[0]
+        }
+    }
+
+    /// Goes back by one place, as `..` does; at the place of attachment it stays. This takes no
+    /// memory.
+    pub fn step_up(&mut self)
+        ensures { self.new ≡ upward self.old }
+    {
+        if self.places.len() > 1 {
+            let _ = self.places.pop();
+        }
+    }
+}
