@@ -11,6 +11,8 @@ mod name;
 mod node_ref;
 mod qid;
 mod rights;
+#[cfg(test)]
+mod tests;
 mod text;
 mod user;
 
