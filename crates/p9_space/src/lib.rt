@@ -4,10 +4,14 @@
 //! A mount table is seen as the list of its rows, and a trail as the list of its places.
 #![tactic(auto)]
 
+mod rights;
 mod row;
 mod table;
 mod trail;
+mod walk;
 
+pub use rights::{TO_EXECUTE, TO_READ, TO_WRITE, may, rules};
 pub use row::{Member, Members, Order, Row};
 pub use table::{MountTable, UnmountError};
 pub use trail::{PLACES_MAX, Trail};
+pub use walk::{Step, find_step, resolve};

@@ -2,6 +2,7 @@
 
 ghost use Rattle.std.specs.Prelude.{◌≡◌, ◌++◌, ◌<◌, ◌↔◌, [], IsTrue, IsSome, is_some, length, remove, slice_get, OnOk, OnErr, IfOk, IfErr};
 ghost use Rattle.std.specs.Bool.{OnFalse};
+ghost use Rattle.p9_space.specs.Place.{file_ref};
 ghost use Rattle.p9_space.specs.Row.{brought, joined};
 ghost use Rattle.p9_space.specs.Table.{IsTable, bound, standing, unmounted, members_of, row_of, with_row, without_row};
 
@@ -40,8 +41,9 @@ pub struct MountTable<A: Allocator + Copy> {
 impl<A: Allocator + Copy> Model for MountTable<A> {
     ghost use Rattle.std.specs.Prelude.{List};
     ghost use Rattle.std.specs.Bool.{OnFalse};
-ghost use Rattle.p9_space.specs.Row.{brought, joined};
-ghost use Rattle.p9_space.specs.Table.{MountRow, IsTable};
+    ghost use Rattle.p9_space.specs.Place.{file_ref};
+    ghost use Rattle.p9_space.specs.Row.{brought, joined};
+    ghost use Rattle.p9_space.specs.Table.{MountRow, IsTable};
 
     ghost Value = { List MountRow };
 
@@ -193,6 +195,16 @@ impl<A: Allocator + Copy> MountTable<A> {
         ensures not_empty { 0 < length result }
     {
         Members::new(self.rows.get(&key).map(|row| row.as_slice()), key)
+    }
+
+    /// The file of a place: its first member, whether it exists or not.
+    pub fn file(&self, place: NodeRef) -> NodeRef
+        ensures { result ≡ file_ref place self.now }
+    {
+        match self.members(place).get(0) {
+            Some(member) => member.node,
+            None => place,
+        }
     }
 
     /// Takes all rows away.

@@ -1,7 +1,7 @@
 //! Trails: how a fid or a current directory was reached.
 
-ghost use Rattle.std.specs.Prelude.{◌≡◌, ◌++◌, ◌∷◌, ◌<◌, ◌≤◌, [], length, slice_get, IfOk, OnOk, OnErr};
-ghost use Rattle.p9_space.specs.Trail.{here, upward};
+ghost use Rattle.std.specs.Prelude.{◌≡◌, ◌++◌, ◌∷◌, ◌<◌, [], length, slice_get, IfOk, OnOk, OnErr};
+ghost use Rattle.p9_space.specs.Trail.{IsTrail, here, upward};
 
 use p9_base::{NoMemory, NodeRef};
 use std::alloc::Allocator;
@@ -63,8 +63,7 @@ impl<A: Allocator + Copy> Trail<A> {
     /// How many places there are: 1 to [`PLACES_MAX`].
     pub fn len(&self) -> usize
         ensures len { result ≡ length self.now }
-        ensures some { 0 < result }
-        ensures few { result ≤ PLACES_MAX }
+        ensures sound { IsTrail self.now }
     {
         self.places.len()
     }
@@ -78,9 +77,21 @@ impl<A: Allocator + Copy> Trail<A> {
 
     /// The last place, at which the trail has arrived.
     pub fn here(&self) -> NodeRef
-        ensures { result ≡ here self.now }
+        ensures last { result ≡ here self.now }
+        ensures sound { IsTrail self.now }
     {
         self.places[self.places.len() - 1]
+    }
+
+    /// The place before the last, or the last where there is no other.
+    pub fn above(&self) -> NodeRef
+        ensures { result ≡ here (upward self.now) }
+    {
+        if self.places.len() > 1 {
+            self.places[self.places.len() - 2]
+        } else {
+            self.places[0]
+        }
     }
 
     /// Goes back by one place, as `..` does; at the place of attachment it stays. This takes no

@@ -1,0 +1,10 @@
+use Rattle.std.proofs.Common.{◌≡◌, drop, map}
+use Rattle.std.specs.Option.{option_copied}
+use Rattle.p9_space.specs.Walk.{child_among}
+use Rattle.p9_space.proofs.walk.named_child.Given as goal
+
+-- the members that are left give the answer
+abbrev pub invariant-loop-member : goal.invariant-loop-member
+invariant-loop-member g l =
+    let forest = map g.T.Tree.state l.forest.trees.items in
+    child_among forest (option_copied l.user) l.name (drop l.member-index l.members) ≡ child_among forest (option_copied l.user) l.name l.members

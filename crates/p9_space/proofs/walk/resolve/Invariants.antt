@@ -1,0 +1,10 @@
+use Rattle.std.proofs.Common.{◌≡◌, drop, map}
+use Rattle.std.specs.Option.{option_copied}
+use Rattle.p9_space.specs.Walk.{walk}
+use Rattle.p9_space.proofs.walk.resolve.Given as goal
+
+-- the walk along the names that are left, from here, is the whole walk
+abbrev pub invariant-loop-name : goal.invariant-loop-name
+invariant-loop-name g l =
+    let forest = map g.T.Tree.state l.forest.trees.items in
+    walk forest l.table (option_copied l.user) l.trail (map (λ n. n.now) (drop l.name-index l.names)) ≡ walk forest l.table (option_copied l.user) l.start (map (λ n. n.now) l.names)
