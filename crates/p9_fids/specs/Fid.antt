@@ -1,12 +1,16 @@
 -- The fids of a session: a finite map from numbers to users, trails and what is open.
-use Rattle.std.specs.Prelude.{ℕ, ◌==◌, Bool, nat_le, List, Option, None, Some, length, is_some, if◌then◌else◌}
+use Rattle.std.specs.Prelude.{ℕ, ◌==◌, ◌&&◌, Bool, count_by, nat_le, List, Option, None, Some, length, is_some, if◌then◌else◌}
 use Rattle.std.specs.Option.{option_map_or}
 use Rattle.std.specs.Ordering.{nat_cmp}
-use Rattle.std.specs.Map.{lookup, remove_entry, set_value}
+use Rattle.std.specs.Map.{lookup, remove_entry, set_value, values_of}
 use Rattle.std.specs.BTreeMap.{insert_entry, is_at}
 use Rattle.p9_base.specs.declared.fault.Fault.{Fault}
 use Rattle.p9_base.specs.declared.fault.Fault.TheVariants.{FidInUse, TooManyFids, UnknownFid}
 use Rattle.p9_base.specs.declared.node_ref.NodeRef.{NodeRef}
+use Rattle.p9_space.specs.Place.{file_ref}
+use Rattle.p9_space.specs.Row.{same_node}
+use Rattle.p9_space.specs.Table.{MountRow}
+use Rattle.p9_space.specs.Trail.{here}
 use Rattle.p9_fids.specs.declared.opened.Opened.{Opened}
 use Rattle.p9_fids.specs.declared.table.TheConstants.{FIDS_MAX, NOFID}
 
@@ -45,3 +49,11 @@ put_fault fid fids =
     else if is_some (fid_at fid fids) then Some FidInUse
     else if nat_le FIDS_MAX (length fids) then Some TooManyFids
     else None
+
+-- an open fid has the node as its file
+abbrev pub is_open_on : List MountRow → NodeRef → Fid → Bool
+is_open_on table node v = is_some v.opened && same_node (file_ref (here v.trail) table) node
+
+-- how many do
+abbrev pub open_count : List MountRow → NodeRef → List FidRow → ℕ
+open_count table node fids = count_by (is_open_on table node) (values_of fids)

@@ -3,12 +3,12 @@
 ghost use Rattle.std.specs.Prelude.{◌≡◌, ◌⊎◌, [], None, Some, length, slice_get, IfErr, IsSome, OnErr, OnOk};
 ghost use Rattle.std.specs.Option.{option_copied, option_map};
 ghost use Rattle.p9_base.specs.declared.fault.Fault.TheVariants.{OutOfMemory};
-ghost use Rattle.p9_fids.specs.Fid.{changed_fid, fid_at, opened_as, put_fault, trailed, with_fid, without_fid};
+ghost use Rattle.p9_fids.specs.Fid.{changed_fid, fid_at, open_count, opened_as, put_fault, trailed, with_fid, without_fid};
 
 use crate::fid::Fid;
 use crate::opened::Opened;
-use p9_base::Fault;
-use p9_space::Trail;
+use p9_base::{Fault, NodeRef};
+use p9_space::{MountTable, Trail};
 use std::alloc::Allocator;
 use std::collections::BTreeMap;
 use std::marker::Model;
@@ -68,24 +68,32 @@ impl<A: Allocator + Copy> FidTable<A> {
         }
     }
 
-    /// Adds a fid.
-    ///
-    /// [`NOFID`] is [`Fault::UnknownFid`]; a fid that is there, [`Fault::FidInUse`]; more than
-    /// [`FIDS_MAX`] of them, [`Fault::TooManyFids`]; tested in this order. Else memory may be
-    /// refused, [`Fault::OutOfMemory`]. A refusal leaves the fids, and drops the new one.
+    /// Why this fid can't be added: [`NOFID`] is [`Fault::UnknownFid`]; a fid that is there,
+    /// [`Fault::FidInUse`]; more than [`FIDS_MAX`] of them, [`Fault::TooManyFids`]; tested in this
+    /// order.
+    pub fn put_fault(&self, fid: u32) -> Option<Fault>
+        ensures { result ≡ put_fault fid self.now }
+    {
+        if fid == NOFID {
+            Some(Fault::UnknownFid)
+        } else if self.fids.contains_key(&fid) {
+            Some(Fault::FidInUse)
+        } else if self.fids.len() >= FIDS_MAX {
+            Some(Fault::TooManyFids)
+        } else {
+            None
+        }
+    }
+
+    /// Adds a fid, unless [`FidTable::put_fault`] tells why not, or memory is refused, which is
+    /// [`Fault::OutOfMemory`]. A refusal leaves the fids, and drops the new one.
     pub fn put(&mut self, fid: u32, value: Fid<A>) -> Result<(), Fault>
         ensures ok { OnOk result ((put_fault fid self.old ≡ None) × (self.new ≡ with_fid fid value self.old)) }
         ensures err { IfErr result (λ fault. (put_fault fid self.old ≡ Some fault) ⊎ ((put_fault fid self.old ≡ None) × (fault ≡ OutOfMemory))) }
         ensures unchanged { OnErr result (self.new ≡ self.old) }
     {
-        if fid == NOFID {
-            return Err(Fault::UnknownFid);
-        }
-        if self.fids.contains_key(&fid) {
-            return Err(Fault::FidInUse);
-        }
-        if self.fids.len() >= FIDS_MAX {
-            return Err(Fault::TooManyFids);
+        if let Some(fault) = self.put_fault(fid) {
+            return Err(fault);
         }
         self.fids.insert(fid, value)?;
         Ok(())
@@ -115,5 +123,16 @@ impl<A: Allocator + Copy> FidTable<A> {
     {
         let value = self.fids.get_mut(&fid).unwrap();
         value.opened = Some(opened);
+    }
+
+    /// How many open fids have the node as their file: the first member of the place where their
+    /// trail ends.
+    pub fn open_count(&self, table: &MountTable<A>, node: NodeRef) -> usize
+        ensures { result ≡ open_count table.now node self.now }
+    {
+        self.fids
+            .values()
+            .filter(|fid| fid.opened.is_some() && table.file(fid.trail.here()) == node)
+            .count()
     }
 }
