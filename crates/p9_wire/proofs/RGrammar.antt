@@ -73,7 +73,6 @@ unfolding r_error_at
 read-error = taken r_type r_body RFieldsFit r_body_at text-codes Rerror 107 (λ a. refl) (λ a. refl) (λ a h. h)
 
 read-flush : (bytes : List ℕ) (x : RMessage × List ℕ) → IsBytes bytes → r_flush_at bytes ≡ Some x → Read 109 bytes x
-unfolding r_flush_at
 read-flush = taken r_type r_body RFieldsFit r_body_at nothing-codes (λ x. Rflush) 109 (λ a. refl) (λ a. refl) (λ a h. h)
 
 read-walk : (bytes : List ℕ) (x : RMessage × List ℕ) → IsBytes bytes → r_walk_at bytes ≡ Some x → Read 111 bytes x
@@ -97,11 +96,9 @@ unfolding r_write_at
 read-write = taken r_type r_body RFieldsFit r_body_at (number-codes 4) Rwrite 119 (λ a. refl) (λ a. refl) (λ a h. h)
 
 read-clunk : (bytes : List ℕ) (x : RMessage × List ℕ) → IsBytes bytes → r_clunk_at bytes ≡ Some x → Read 121 bytes x
-unfolding r_clunk_at
 read-clunk = taken r_type r_body RFieldsFit r_body_at nothing-codes (λ x. Rclunk) 121 (λ a. refl) (λ a. refl) (λ a h. h)
 
 read-remove : (bytes : List ℕ) (x : RMessage × List ℕ) → IsBytes bytes → r_remove_at bytes ≡ Some x → Read 123 bytes x
-unfolding r_remove_at
 read-remove = taken r_type r_body RFieldsFit r_body_at nothing-codes (λ x. Rremove) 123 (λ a. refl) (λ a. refl) (λ a h. h)
 
 read-stat : (bytes : List ℕ) (x : RMessage × List ℕ) → IsBytes bytes → r_stat_at bytes ≡ Some x → Read 125 bytes x
@@ -109,7 +106,6 @@ unfolding r_stat_at
 read-stat = taken r_type r_body RFieldsFit r_body_at stat-codes Rstat 125 (λ a. refl) (λ a. refl) (λ a h. h)
 
 read-wstat : (bytes : List ℕ) (x : RMessage × List ℕ) → IsBytes bytes → r_wstat_at bytes ≡ Some x → Read 127 bytes x
-unfolding r_wstat_at
 read-wstat = taken r_type r_body RFieldsFit r_body_at nothing-codes (λ x. Rwstat) 127 (λ a. refl) (λ a. refl) (λ a h. h)
 
 takes : (k : ℕ) (bytes : List ℕ) (x : RMessage × List ℕ) → IsBytes bytes → r_body_at k bytes ≡ Some x → Read k bytes x
@@ -131,7 +127,7 @@ takes k bytes x fits e =
     (λ e. absurd cc)))))))))))))
 
 again : (m : RMessage) (rest : List ℕ) → RFieldsFit m → r_body_at (r_type m) (r_body m ++ rest) ≡ Some (m, rest)
-unfolding r_body_at r_version_at r_attach_at r_error_at r_flush_at r_walk_at r_open_at r_create_at r_read_at r_write_at r_clunk_at r_remove_at r_stat_at r_wstat_at
+unfolding r_body_at r_version_at r_attach_at r_error_at r_walk_at r_open_at r_create_at r_read_at r_write_at r_stat_at
 again (Rversion msize version) rest h = made_again (then-codes (number-codes 4) text-codes) (λ x. Rversion x.0 x.1) (msize, version) rest h
 again (Rattach qid) rest h = made_again qid-codes Rattach qid rest h
 again (Rerror ename) rest h = made_again text-codes Rerror ename rest h

@@ -1,8 +1,9 @@
 -- The frames of a byte string, case by case.
-use Rattle.std.proofs.Common.{◌≡◌, ℕ, zero, suc, ◌+◌, ◌≤◌, ◌<◌, Bool, true, false, cond, ◌||◌, ltb, List, length, take, drop, refl, ap, subst, ◌∙◌, arith}
-use Rattle.std.proofs.lemmas.Bool.{ltb-false, lt-ltb}
-use Rattle.std.proofs.lemmas.List.{length-drop}
+use Rattle.std.proofs.Common.{◌≡◌, ℕ, zero, suc, ◌+◌, ◌≤◌, ◌<◌, Bool, true, false, cond, ◌||◌, ltb, List, ◌++◌, length, take, drop, inl, inr, refl, ap, subst, ◌∙◌, arith}
+use Rattle.std.proofs.lemmas.Bool.{cases_lt, ltb-false, lt-ltb, le-ltb}
+use Rattle.std.proofs.lemmas.List.{length-append, length-drop}
 use Rattle.byteorder.specs.Endian.{little_number}
+use Rattle.byteorder.specs.Numbers.{little_from-append}
 use Rattle.p9_wire.specs.declared.frame.Frame.{Frame}
 use Rattle.p9_wire.specs.declared.frame.Frame.TheVariants.{Need, Whole, Broken}
 use Rattle.p9_wire.specs.Frame.{msize_max, first_frame, Frames, Next, Rest, BrokenSize, frames_by, frames_within, frames, BeginsFrames}
@@ -23,9 +24,9 @@ whole_size bytes size e =
     let least : 7 ≤ said = ltb-false _ _ c.0 in
     omega (arith, c.1)
 
--- less than a size stands in no bytes
-pub first_frame-short : (bytes : List ℕ) → length bytes ≤ 0 → first_frame bytes ≡ Need
-first_frame-short bytes short = let few : ltb (length bytes) 4 ≡ true = lt-ltb _ _ (omega arith) in rw few refl
+-- fewer than four bytes hold no size
+pub first_frame-few : (bytes : List ℕ) → length bytes < 4 → first_frame bytes ≡ Need
+first_frame-few bytes short = let few : ltb (length bytes) 4 ≡ true = lt-ltb _ _ (omega arith) in rw few refl
 
 -- what stands behind is looked at only behind a whole frame
 frames_by-same : (f : Frame) (bytes : List ℕ) (r s : List ℕ → Frames) → ((size : ℕ) → f ≡ Whole size → r (drop size bytes) ≡ s (drop size bytes)) → frames_by f bytes r ≡ frames_by f bytes s
@@ -37,8 +38,8 @@ frames_by-same Broken bytes r s h = refl
 frames_within-enough : (k j : ℕ) (bytes : List ℕ) → length bytes ≤ k → length bytes ≤ j → frames_within k bytes ≡ frames_within j bytes
 unfolding frames_within
 frames_within-enough zero zero bytes p q = refl
-frames_within-enough zero (suc j) bytes p q = rw (first_frame-short bytes p) refl
-frames_within-enough (suc k) zero bytes p q = rw (first_frame-short bytes q) refl
+frames_within-enough zero (suc j) bytes p q = rw (first_frame-few bytes (omega arith)) refl
+frames_within-enough (suc k) zero bytes p q = rw (first_frame-few bytes (omega arith)) refl
 frames_within-enough (suc k) (suc j) bytes p q =
     frames_by-same (first_frame bytes) bytes (frames_within k) (frames_within j) (λ size e.
     let some : 7 ≤ size = whole_size bytes size e in
@@ -62,3 +63,24 @@ begins_frames bytes = begun (first_frame bytes) refl
 -- the same, of an answer that equals it
 pub begins_frames_as : (f : Frame) (bytes : List ℕ) → first_frame bytes ≡ f → BeginsFrames f bytes
 begins_frames_as f bytes e = subst (λ (g : Frame). BeginsFrames g bytes) e (begins_frames bytes)
+
+-- the choice at the front, where more bytes cannot be too few again
+still : (b p q : Bool) (size : ℕ) → (p ≡ false → q ≡ false) → (cond b Broken (cond p Need (Whole size)) ≡ Need → ⊥)
+    → cond b Broken (cond q Need (Whole size)) ≡ cond b Broken (cond p Need (Whole size))
+still true p q size more known = refl
+still false true q size more known = absurd (known refl)
+still false false q size more known = rw (more refl) refl
+
+-- bytes that come later leave a whole frame whole and a broken size broken
+pub first_frame-append : (bytes more : List ℕ) → (first_frame bytes ≡ Need → ⊥) → first_frame (bytes ++ more) ≡ first_frame bytes
+first_frame-append bytes more known = elim (cases_lt (length bytes) 4) [
+  | inl few ↦ absurd (known (first_frame-few bytes few))
+  | inr enough ↦
+      let old : ltb (length bytes) 4 ≡ false = le-ltb _ _ enough in
+      let new : ltb (length (bytes ++ more)) 4 ≡ false = le-ltb _ _ (omega (arith, length-append bytes more)) in
+      let size = little_number 4 bytes in
+      let said : little_number 4 (bytes ++ more) ≡ size = little_from-append 4 bytes more enough in
+      let longer : ltb (length bytes) size ≡ false → ltb (length (bytes ++ more)) size ≡ false =
+      λ e. let held : size ≤ length bytes = ltb-false _ _ e in le-ltb _ _ (omega (arith, held, length-append bytes more)) in
+      rw (new, old, said) (still (ltb size 7 || ltb msize_max size) (ltb (length bytes) size) (ltb (length (bytes ++ more)) size) size longer (λ e. known (rw old e)))
+]

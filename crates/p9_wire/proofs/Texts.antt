@@ -19,6 +19,9 @@ has_nul bytes nul = and_right _ _ (ap not nul)
 pub no_utf8 : (bytes : List ℕ) → (IsUtf8 bytes → ⊥) → is_text bytes ≡ false
 no_utf8 bytes bad = and_left _ _ (false_from_ne_true _ (λ e. bad (IsUtf8-from_is_utf8 bytes e)))
 
+-- the three of them
+pub ruleset text_rules = (is_text_of, has_nul, no_utf8)
+
 -- of UTF-8, a text is what has no NUL
 pub is_text-utf8 : (bytes : List ℕ) → IsUtf8 bytes → not (list_any (λ (b : ℕ). eqb b 0) bytes) ≡ is_text bytes
 is_text-utf8 bytes utf8 = rw (is_utf8-from_IsUtf8 bytes utf8) refl

@@ -34,14 +34,21 @@ nothing_at bytes = Some (tt, bytes)
 
 -- a number in so many bytes
 abbrev pub number_at : ℕ → Reader ℕ
-number_at n bytes = if nat_lt (length bytes) n then None else Some (little_number n bytes, drop n bytes)
+number_at n bytes =
+    if nat_lt (length bytes) n then None else Some (little_number n bytes, drop n bytes)
 
 -- so many bytes
 abbrev pub bytes_at : ℕ → Reader (List ℕ)
 bytes_at n bytes = if nat_lt (length bytes) n then None else Some (take n bytes, drop n bytes)
 
+-- a length in two bytes, and so many
+abbrev pub sized_bytes_at : Reader (List ℕ)
+sized_bytes_at bytes = number_at 2 bytes and_then λ n. bytes_at n.0 n.1
+
 unfoldable pub text_at : Reader (List ℕ)
-text_at bytes = number_at 2 bytes and_then λ n. bytes_at n.0 n.1 and_then λ s. if is_text s.0 then Some s else None
+text_at bytes =
+    number_at 2 bytes and_then λ n. bytes_at n.0 n.1 and_then λ s.
+    if is_text s.0 then Some s else None
 
 unfoldable pub counted_at : Reader (List ℕ)
 counted_at bytes = number_at 4 bytes and_then λ n. bytes_at n.0 n.1
@@ -62,7 +69,9 @@ sized_at r bytes =
     if length x.1 == 0 then Some (x.0, s.1) else None
 
 unfoldable pub qid_at : Reader Qid
-qid_at = made (λ x. record { kind = x.0.0; version = x.0.1; path = x.1 }) (number_at 1 then number_at 4 then number_at 8)
+qid_at =
+    made (λ x. record { kind = x.0.0; version = x.0.1; path = x.1 })
+    (number_at 1 then number_at 4 then number_at 8)
 
 unfoldable pub stat_fields_at : Reader StatFields
 stat_fields_at =
@@ -79,7 +88,8 @@ stat_fields_at =
       gid = x.0.1;
       muid = x.1;
     })
-    (number_at 2 then number_at 4 then qid_at then number_at 4 then number_at 4 then number_at 4 then number_at 8 then text_at then text_at then text_at then text_at)
+    (number_at 2 then number_at 4 then qid_at then number_at 4 then number_at 4 then number_at 4 then number_at 8
+    then text_at then text_at then text_at then text_at)
 
 -- as a message holds a stat: a length, and the stat's own size and fields, which take it up
 abbrev pub stat_at : Reader StatFields

@@ -31,7 +31,8 @@ qid_bytes q = number 1 q.kind ++ number 4 q.version ++ number 8 q.path
 
 abbrev pub stat_fields : StatFields → List ℕ
 stat_fields s =
-    number 2 s.kind ++ number 4 s.dev ++ qid_bytes s.qid ++ number 4 s.mode ++ number 4 s.atime ++ number 4 s.mtime ++ number 8 s.length
+    number 2 s.kind ++ number 4 s.dev ++ qid_bytes s.qid ++ number 4 s.mode
+    ++ number 4 s.atime ++ number 4 s.mtime ++ number 8 s.length
     ++ text s.name ++ text s.uid ++ text s.gid ++ text s.muid
 
 -- a stat begins with its size, which counts the bytes behind itself

@@ -16,7 +16,7 @@ first_frame bytes =
     if nat_lt size 7 || nat_lt msize_max size then Broken
     else (if nat_lt (length bytes) size then Need else Whole size))
 
--- whole frames from the front, ended by a rest that is no whole frame, or by a size that no frame has
+-- whole frames from the front, ended by a rest that is no whole frame or by a size of no frame
 pub data Frames : Type 0 where
   Next : (frame : List ℕ) (others : Frames) → Frames
   Rest : (bytes : List ℕ) → Frames

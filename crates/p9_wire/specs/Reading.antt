@@ -1,4 +1,4 @@
--- The messages read from their bytes: the function whose answers are exactly what the grammar spells.
+-- The messages read from their bytes: a function that answers exactly what the grammar spells.
 use Rattle.std.specs.Prelude.{ℕ, ◌==◌, List, length, Option, Some, None, if◌then◌else◌}
 use Rattle.p9_wire.specs.Message.{TMessage, Tversion, Tauth, Tattach, Tflush, Twalk, Topen, Tcreate, Tread, Twrite, Tclunk, Tremove, Tstat, Twstat, RMessage, Rversion, Rattach, Rerror, Rflush, Rwalk, Ropen, Rcreate, Rread, Rwrite, Rclunk, Rremove, Rstat, Rwstat}
 use Rattle.p9_wire.specs.FieldReading.{◌and_then◌, Reader, ◌then◌, made, nothing_at, number_at, text_at, counted_at, several_at, qid_at, stat_at}
@@ -7,12 +7,14 @@ use Rattle.p9_wire.specs.FieldReading.{◌and_then◌, Reader, ◌then◌, made,
 unfoldable pub header_at : List ℕ → Option (ℕ × ℕ × List ℕ)
 header_at bytes =
     number_at 4 bytes and_then λ size.
-    if size.0 == length bytes then ((number_at 1 then number_at 2) size.1 and_then λ x. Some (x.0.0, x.0.1, x.1)) else None
+    if size.0 == length bytes
+    then ((number_at 1 then number_at 2) size.1 and_then λ x. Some (x.0.0, x.0.1, x.1)) else None
 
 -- the tag and the message, where the message takes up all of the bytes
 abbrev pub message_at : {M : Type 0} → (ℕ → Reader M) → List ℕ → Option (ℕ × M)
 message_at body_at bytes =
-    header_at bytes and_then λ f. body_at f.0 f.2 and_then λ m. if length m.1 == 0 then Some (f.1, m.0) else None
+    header_at bytes and_then λ f. body_at f.0 f.2 and_then λ m.
+    if length m.1 == 0 then Some (f.1, m.0) else None
 
 -- requests
 
@@ -23,7 +25,9 @@ unfoldable pub t_auth_at : Reader TMessage
 t_auth_at = made (λ x. Tauth x.0.0 x.0.1 x.1) (number_at 4 then text_at then text_at)
 
 unfoldable pub t_attach_at : Reader TMessage
-t_attach_at = made (λ x. Tattach x.0.0.0 x.0.0.1 x.0.1 x.1) (number_at 4 then number_at 4 then text_at then text_at)
+t_attach_at =
+    made (λ x. Tattach x.0.0.0 x.0.0.1 x.0.1 x.1)
+    (number_at 4 then number_at 4 then text_at then text_at)
 
 unfoldable pub t_flush_at : Reader TMessage
 t_flush_at = made Tflush (number_at 2)
@@ -35,7 +39,9 @@ unfoldable pub t_open_at : Reader TMessage
 t_open_at = made (λ x. Topen x.0 x.1) (number_at 4 then number_at 1)
 
 unfoldable pub t_create_at : Reader TMessage
-t_create_at = made (λ x. Tcreate x.0.0.0 x.0.0.1 x.0.1 x.1) (number_at 4 then text_at then number_at 4 then number_at 1)
+t_create_at =
+    made (λ x. Tcreate x.0.0.0 x.0.0.1 x.0.1 x.1)
+    (number_at 4 then text_at then number_at 4 then number_at 1)
 
 unfoldable pub t_read_at : Reader TMessage
 t_read_at = made (λ x. Tread x.0.0 x.0.1 x.1) (number_at 4 then number_at 8 then number_at 4)
@@ -87,7 +93,7 @@ r_attach_at = made Rattach qid_at
 unfoldable pub r_error_at : Reader RMessage
 r_error_at = made Rerror text_at
 
-unfoldable pub r_flush_at : Reader RMessage
+abbrev pub r_flush_at : Reader RMessage
 r_flush_at = made (λ x. Rflush) nothing_at
 
 unfoldable pub r_walk_at : Reader RMessage
@@ -105,16 +111,16 @@ r_read_at = made Rread counted_at
 unfoldable pub r_write_at : Reader RMessage
 r_write_at = made Rwrite (number_at 4)
 
-unfoldable pub r_clunk_at : Reader RMessage
+abbrev pub r_clunk_at : Reader RMessage
 r_clunk_at = made (λ x. Rclunk) nothing_at
 
-unfoldable pub r_remove_at : Reader RMessage
+abbrev pub r_remove_at : Reader RMessage
 r_remove_at = made (λ x. Rremove) nothing_at
 
 unfoldable pub r_stat_at : Reader RMessage
 r_stat_at = made Rstat stat_at
 
-unfoldable pub r_wstat_at : Reader RMessage
+abbrev pub r_wstat_at : Reader RMessage
 r_wstat_at = made (λ x. Rwstat) nothing_at
 
 unfoldable pub r_body_at : ℕ → Reader RMessage

@@ -5,7 +5,7 @@ ghost use Rattle.std.specs.Prelude.{◌≡◌, ◌≤◌, ◌==◌, Some, None, 
 ghost use Rattle.std.specs.List.{list_any};
 ghost use Rattle.p9_base.specs.Text.{is_text};
 ghost use Rattle.p9_wire.specs.Message.{stat_view};
-ghost use Rattle.p9_wire.specs.FieldReading.{◌and_then◌, Gives, number_at, bytes_at, text_at, qid_at, counted_at, times, several_at, sized_at, stat_fields_at, stat_at};
+ghost use Rattle.p9_wire.specs.FieldReading.{Gives, number_at, bytes_at, sized_bytes_at, text_at, qid_at, counted_at, times, several_at, sized_at, stat_fields_at, stat_at};
 ghost use Rattle.p9_wire.specs.Reading.{header_at};
 
 use crate::constants::MAXWELEM;
@@ -63,10 +63,10 @@ fn take_bytes(count: usize, bytes: &[u8]) -> Option<(&[u8], &[u8])>
 
 /// The bytes whose number stands in the two bytes before them.
 fn take_sized(bytes: &[u8]) -> Option<(&[u8], &[u8])>
-    ensures { Gives (λ x. (x.0.now, x.1.now)) result (number_at 2 bytes.now and_then λ n. bytes_at n.0 n.1) }
+    ensures { Gives (λ x. (x.0.now, x.1.now)) result (sized_bytes_at bytes.now) }
 {
-    let (count, rest) = take_u16(bytes)?;
-    take_bytes(count as usize, rest)
+    let (len, rest) = take_u16(bytes)?;
+    take_bytes(len as usize, rest)
 }
 
 pub fn has_nul(bytes: &[u8]) -> bool
@@ -76,7 +76,7 @@ pub fn has_nul(bytes: &[u8]) -> bool
 }
 
 /// The text that these bytes are: UTF-8 without NUL.
-#[tactic(auto, using(crate::proofs::Texts::is_text_of, crate::proofs::Texts::has_nul, crate::proofs::Texts::no_utf8))]
+#[tactic(auto, using(crate::proofs::Texts::text_rules))]
 fn text_from(bytes: &[u8]) -> Option<&str>
     ensures { Gives (λ s. s.now) result (if is_text bytes.now then Some bytes.now else None) }
 {
@@ -144,12 +144,12 @@ fn some_names(count: usize, bytes: &[u8]) -> Option<(Names<'_>, &[u8])>
 pub fn take_names(bytes: &[u8]) -> Option<(Names<'_>, &[u8])>
     ensures { Gives (λ x. (x.0, x.1.now)) result (several_at text_at bytes.now) }
 {
-    let (count, rest) = take_u16(bytes)?;
-    let count = count as usize;
-    if count > MAXWELEM {
+    let (nwname, rest) = take_u16(bytes)?;
+    let nwname = nwname as usize;
+    if nwname > MAXWELEM {
         return None;
     }
-    some_names(count, rest)
+    some_names(nwname, rest)
 }
 
 fn some_qids(count: usize, bytes: &[u8]) -> Option<(Qids, &[u8])>
@@ -175,12 +175,12 @@ fn some_qids(count: usize, bytes: &[u8]) -> Option<(Qids, &[u8])>
 pub fn take_qids(bytes: &[u8]) -> Option<(Qids, &[u8])>
     ensures { Gives (λ x. (x.0, x.1.now)) result (several_at qid_at bytes.now) }
 {
-    let (count, rest) = take_u16(bytes)?;
-    let count = count as usize;
-    if count > MAXWELEM {
+    let (nwqid, rest) = take_u16(bytes)?;
+    let nwqid = nwqid as usize;
+    if nwqid > MAXWELEM {
         return None;
     }
-    some_qids(count, rest)
+    some_qids(nwqid, rest)
 }
 
 /// A stat without its size.

@@ -1,10 +1,11 @@
 //! What follows from the grammar alone. Each function does nothing: its clauses are the laws.
 
-ghost use Rattle.std.specs.Prelude.{◌≡◌, ℕ, ◌+◌, List, length};
+ghost use Rattle.std.specs.Prelude.{◌≡◌, ◌≢◌, ℕ, ◌+◌, List, ◌++◌, length};
 ghost use Rattle.p9_wire.specs.Message.{TMessage, RMessage};
 ghost use Rattle.p9_wire.specs.Spelling.{t_len, t_spelling, TSpells, r_len, r_spelling, RSpells};
 ghost use Rattle.p9_wire.specs.Reading.{t_message_of, r_message_of};
 ghost use Rattle.p9_wire.specs.Frame.{first_frame, BeginsFrames};
+ghost use Rattle.p9_wire.specs.declared.frame.Frame.TheVariants.{Need};
 ghost use Rattle.p9_wire.specs.Laws.{ReadsSpellings, ReadsEachSpelling, HasOneMessage, HasOneSpelling};
 
 /// Requests and their spellings are one for one, and `t_message_of` reads exactly these.
@@ -25,7 +26,10 @@ pub fn replies_are_spelled_once()
     ensures len { (tag : ℕ) (m : RMessage) → length (r_spelling tag m) ≡ 7 + r_len m }
 {}
 
-/// The frames of a byte string begin with what stands at its front.
+/// The frames of a byte string begin with what stands at its front, and bytes that come later leave
+/// a whole frame whole and a broken size broken.
 pub fn frames_begin_at_the_front()
-    ensures { (bytes : List ℕ) → BeginsFrames (first_frame bytes) bytes }
+    ensures first { (bytes : List ℕ) → BeginsFrames (first_frame bytes) bytes }
+    ensures later { (bytes more : List ℕ) → first_frame bytes ≢ Need
+        → first_frame (bytes ++ more) ≡ first_frame bytes }
 {}

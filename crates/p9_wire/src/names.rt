@@ -37,7 +37,7 @@ impl<'a> Names<'a> {
         ensures len { result ≡ length self.now }
         ensures few { result ≤ MAXWELEM }
     {
-        self.len
+        self.as_slice().len()
     }
 
     /// Whether there are none.

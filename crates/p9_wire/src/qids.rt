@@ -43,7 +43,7 @@ impl Qids {
         ensures len { result ≡ length self.now }
         ensures few { result ≤ MAXWELEM }
     {
-        self.len
+        self.as_slice().len()
     }
 
     /// Whether there are none.

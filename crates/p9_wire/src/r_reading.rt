@@ -91,7 +91,7 @@ fn stat(body: &[u8]) -> Option<(RMsg<'_>, &[u8])>
 }
 
 /// The body of a message of this type, and the bytes behind it.
-#[tactic(auto, unfolding(crate::specs::Reading::r_body_at, crate::specs::Reading::r_flush_at, crate::specs::Reading::r_clunk_at, crate::specs::Reading::r_remove_at, crate::specs::Reading::r_wstat_at))]
+#[tactic(auto, unfolding(crate::specs::Reading::r_body_at))]
 fn body_of(kind: u8, body: &[u8]) -> Option<(RMsg<'_>, &[u8])>
     ensures { Gives (λ x. (r_view x.0, x.1.now)) result (r_body_at kind body.now) }
 {

@@ -84,7 +84,8 @@ pub fn finish_read(tag: u16, count: u32, out: &mut [u8]) -> usize
     requires size { 11 + count < 2 ^ 32 }
     requires room { 11 + count ≤ length out.old }
     ensures len { result ≡ 11 + count }
-    ensures bytes { Writes (r_spelling tag (Rread (take count (drop 11 out.old)))) result out.old out.new }
+    ensures bytes { let bytes = take count (drop 11 out.old) in
+        Writes (r_spelling tag (Rread bytes)) result out.old out.new }
 {
     let at = put_u32(out, HEADER, count);
     let end = at + count as usize;
