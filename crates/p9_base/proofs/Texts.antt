@@ -1,16 +1,26 @@
 -- Texts, kept in place and tested.
-use Rattle.std.proofs.Common.{◌≡◌, ℕ, ◌≤◌, List, ◌++◌, true, IsTrue, length, take, drop, replicate, refl}
-use Rattle.std.specs.Prelude.{IsUtf8, ◌==◌, not}
-use Rattle.std.specs.List.{list_any}
+use Rattle.std.proofs.Common.{◌≡◌, ℕ, ◌≤◌, List, [], ◌∷◌, ◌++◌, zero, suc, true, IsTrue, length, take, drop, replicate, refl, lit<}
+use Rattle.std.specs.Prelude.{IsUtf8, ◌==◌, not, nat_lt}
+use Rattle.std.specs.List.{list_any, list_all}
+use Rattle.std.specs.Str.{IsAscii}
 use Rattle.std.proofs.Math.Seq.{take-append_seam}
-use Rattle.std.proofs.lemmas.Bool.{and_parts}
-use Rattle.std.proofs.lemmas.Str.{IsUtf8-from_is_utf8, is_utf8-from_IsUtf8}
+use Rattle.std.proofs.lemmas.Bool.{and_parts, and_from, ltb-true}
+use Rattle.std.proofs.lemmas.Str.{IsUtf8-from_is_utf8, is_utf8-from_IsUtf8, IsUtf8-from_ascii}
 use Rattle.p9_base.specs.Text.{is_text, padded}
 use Rattle.p9_base.specs.Padding.{padded-take}
 
 -- a text is UTF-8
 pub IsUtf8-from_is_text : (s : List ℕ) → IsTrue (is_text s) → IsUtf8 s
 IsUtf8-from_is_text s h = IsUtf8-from_is_utf8 s (and_parts _ _ h).0
+
+IsAscii-from_test : (s : List ℕ) → list_all (λ (b : ℕ). nat_lt b 128) s ≡ true → IsAscii s
+IsAscii-from_test [] below i = lit< tt
+IsAscii-from_test (b ∷ bs) below zero = ltb-true b 128 (and_parts _ _ below).0
+IsAscii-from_test (b ∷ bs) below (suc i) = IsAscii-from_test bs (and_parts _ _ below).1 i
+
+-- bytes below 128 without NUL are a text
+pub is_text-ascii : (s : List ℕ) → list_all (λ (b : ℕ). nat_lt b 128) s ≡ true → not (list_any (λ (b : ℕ). b == 0) s) ≡ true → is_text s ≡ true
+is_text-ascii s below no_nul = and_from _ _ (is_utf8-from_IsUtf8 s (IsUtf8-from_ascii s (IsAscii-from_test s below))) no_nul
 
 -- characters are a text where none is NUL
 pub is_text-IsUtf8 : (s : List ℕ) → IsUtf8 s → not (list_any (λ (b : ℕ). b == 0) s) ≡ is_text s

@@ -1,7 +1,8 @@
 //! The faults that a reply can name, each with the number that documents give it and its text.
 
-ghost use Rattle.std.specs.Prelude.{◌≡◌, ◌≤◌};
+ghost use Rattle.std.specs.Prelude.{◌≡◌, ◌≤◌, IsTrue, length};
 ghost use Rattle.p9_base.specs.Fault.{number_of, text_of};
+ghost use Rattle.p9_base.specs.Text.{is_text};
 
 use crate::memory::NoMemory;
 use std::alloc::{AllocError, AllocFailed};
@@ -111,8 +112,11 @@ impl Fault {
     }
 
     /// The text that a reply carries, at most 34 bytes.
+    #[tactic(auto, using(crate::proofs::Faults::fault_text_is_text))]
     pub fn text(self) -> &'static str
         ensures value { result.now ≡ text_of self }
+        ensures short { length (text_of self) ≤ 34 }
+        ensures sound { IsTrue (is_text (text_of self)) }
     {
         match self {
             Fault::Malformed => "malformed message",

@@ -4,21 +4,29 @@
 //! as a list of bytes, and every other type as the record or the case that it is.
 #![tactic(auto)]
 
+mod decimal;
 mod fault;
+mod line;
 mod memory;
 mod mode;
 mod name;
 mod node_ref;
 mod qid;
 mod rights;
+mod statement;
+#[cfg(test)]
+mod tests;
 mod text;
 mod user;
 
+pub use decimal::number;
 pub use fault::Fault;
+pub use line::{is_skipped, lines, words};
 pub use memory::NoMemory;
 pub use mode::{DMAPPEND, DMDIR, DMEXCL, DMTMP, FileFlags, Kind, Mode, Permissions, Rights};
 pub use name::{Name, valid_name};
 pub use node_ref::NodeRef;
 pub use qid::Qid;
 pub use rights::granted;
+pub use statement::{Statement, statements};
 pub use user::User;

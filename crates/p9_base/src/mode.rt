@@ -58,8 +58,8 @@ pub struct Mode {
 }
 
 impl Rights {
-    /// The bits of a class, below 8: read 4, write 2, execute 1.
-    pub fn bits(self) -> u32
+    // The bits of a class, below 8: read 4, write 2, execute 1.
+    fn bits(self) -> u32
         ensures value { result ≡ rights_bits self }
         ensures short { result < 8 }
     {
@@ -86,8 +86,8 @@ impl Rights {
             && (self.execute || !wanted.execute)
     }
 
-    /// The rights of these bits, of which there are three.
-    pub fn from_bits(bits: u32) -> Rights
+    // The rights of these bits, of which there are three.
+    fn from_bits(bits: u32) -> Rights
         requires { bits < 8 }
         ensures { rights_bits result ≡ bits }
     {
@@ -122,8 +122,8 @@ impl Permissions {
 }
 
 impl Kind {
-    /// The bits of a mode above its permissions.
-    pub fn bits(self) -> u32
+    // The bits of a mode above its permissions.
+    fn bits(self) -> u32
         ensures value { result ≡ kind_bits self }
     {
         match self {
@@ -158,8 +158,8 @@ impl Kind {
 }
 
 impl FileFlags {
-    /// The bits of these flags in a mode.
-    pub fn bits(self) -> u32
+    // The bits of these flags in a mode.
+    fn bits(self) -> u32
         ensures { result ≡ flags_bits self }
     {
         DMAPPEND * u32::from(self.append_only)
@@ -167,8 +167,8 @@ impl FileFlags {
             + DMTMP * u32::from(self.temporary)
     }
 
-    /// The flags that are set among the bits of a mode.
-    pub fn among(bits: u32) -> FileFlags
+    // The flags that are set among the bits of a mode.
+    fn among(bits: u32) -> FileFlags
         ensures { result ≡ flags_among bits }
     {
         FileFlags {

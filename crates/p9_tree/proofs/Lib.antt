@@ -1,2 +1,7 @@
-pub mod ForestLemmas
 pub mod TextLemmas
+pub mod BytesLemmas
+pub mod Lookups
+pub mod Added
+pub mod Changed
+pub mod Dropped
+pub mod ForestLemmas

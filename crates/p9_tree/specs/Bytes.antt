@@ -13,3 +13,7 @@ overwritten offset bytes old = take offset (padded offset old) ++ bytes ++ drop 
 -- at most the first bytes
 abbrev pub cut_to : ℕ → List ℕ → List ℕ
 cut_to size old = take size old
+
+-- the bytes over the front of the buffer, the rest of which stays
+abbrev pub put_front : List ℕ → List ℕ → List ℕ
+put_front bytes buffer = bytes ++ drop (length bytes) buffer

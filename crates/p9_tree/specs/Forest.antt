@@ -1,8 +1,8 @@
 -- The servers by their numbers.
-use Rattle.std.specs.Prelude.{◌≡◌, ℕ, List, [], Option, Some, slice_get, unwrap_or}
+use Rattle.std.specs.Prelude.{◌≡◌, ℕ, List, [], Option, Some, slice_get, slice_set, unwrap_or, Bool}
 use Rattle.p9_base.specs.declared.node_ref.NodeRef.{NodeRef}
 use Rattle.p9_tree.specs.Node.{Node}
-use Rattle.p9_tree.specs.Server.{Server, WellFormed, node_at, child_of, child_after}
+use Rattle.p9_tree.specs.Server.{Server, WellFormed, bytes_at, child_after, child_of, has_children, is_dir_at, node_at, with_changed}
 
 -- a server that isn't there is one without nodes
 abbrev pub no_server : Server
@@ -26,6 +26,25 @@ child_in_after dir floor forest = child_after dir.number floor (server_at dir.se
 -- the number that the server's next new node gets; 0 where there is no such server
 abbrev pub next_of : ℕ → List Server → ℕ
 next_of server forest = (server_at server forest).next
+
+-- whether it is a directory that exists
+abbrev pub is_dir_of : NodeRef → List Server → Bool
+is_dir_of r forest = is_dir_at r.number (server_at r.server forest).nodes
+
+abbrev pub has_children_of : NodeRef → List Server → Bool
+has_children_of dir forest = has_children dir.number (server_at dir.server forest).nodes
+
+-- the file's bytes; none where there is no such file
+abbrev pub bytes_of : NodeRef → List Server → List ℕ
+bytes_of r forest = bytes_at r.number (server_at r.server forest).nodes
+
+-- one server is changed, if it is there
+abbrev pub tree_changed_at : ℕ → (Server → Server) → List Server → List Server
+tree_changed_at server change forest = slice_set forest server (change (server_at server forest))
+
+-- one node is changed, if it is there
+abbrev pub forest_changed_at : NodeRef → (Node → Node) → List Server → List Server
+forest_changed_at r f forest = tree_changed_at r.server (with_changed r.number f) forest
 
 -- each server is well-formed
 pub record IsForest (forest : List Server) : Type 0 where

@@ -42,3 +42,20 @@ is_child dir name n = is_in dir n && bytes_eq n.name name
 -- its number is greater than the floor, if there is one
 abbrev pub is_above : Option ℕ → Node → Bool
 is_above floor n = option_map_or (λ k. nat_lt k n.number) floor true
+
+-- Changes of a node.
+
+-- after a change of the file, or of the directory's entries, by the user
+abbrev pub marked : List ℕ → ℕ → Node → Node
+marked user now n = record n { muid = user; version = (n.version + 1) % 2 ^ 32; atime = now; mtime = now }
+
+-- after the file was read
+abbrev pub touched : ℕ → Node → Node
+touched now n = record n { atime = now }
+
+-- a directory with these permissions, owner and group, changed last by the owner
+abbrev pub with_owner : Permissions → List ℕ → List ℕ → Node → Node
+with_owner permissions uid gid n = record n { mode = record { kind = Directory; permissions = permissions }; uid = uid; gid = gid; muid = uid }
+
+abbrev pub with_bytes : (List ℕ → List ℕ) → Node → Node
+with_bytes f n = record n { bytes = f n.bytes }

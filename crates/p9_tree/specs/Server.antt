@@ -1,12 +1,12 @@
 -- A server: its nodes by rising number, and the number that its next new node gets.
 use Rattle.std.specs.Prelude.{◌≡◌, ℕ, ◌+◌, ◌<◌, ◌≤◌, ◌^◌, ◌&&◌, Bool, true, false, List, [], ◌∷◌, ◌++◌, Option, Some, None, IsTrue, is_some, codes, length, find, All, AllPairs, if◌then◌else◌}
 use Rattle.std.specs.Option.{option_map_or}
-use Rattle.std.specs.List.{list_any}
 use Rattle.p9_base.specs.declared.mode.Kind.TheVariants.{Directory}
 use Rattle.p9_base.specs.declared.mode.Rights.{Rights}
 use Rattle.p9_base.specs.declared.mode.Mode.{Mode}
 use Rattle.p9_base.specs.Name.{is_name}
 use Rattle.p9_tree.specs.declared.bytes.TheConstants.{FILE_MAX}
+use Rattle.p9_tree.specs.declared.tree.TheConstants.{NEXT_MAX}
 use Rattle.p9_tree.specs.Node.{Node, root_name, has_number, is_in, is_child, is_above, is_dir}
 
 pub record Server : Type 0 where
@@ -33,8 +33,13 @@ exists_at k nodes = is_some (node_at k nodes)
 abbrev pub is_dir_at : ℕ → List Node → Bool
 is_dir_at k nodes = option_map_or is_dir (node_at k nodes) false
 
+-- the file's bytes; none where there is no such file
+abbrev pub bytes_at : ℕ → List Node → List ℕ
+bytes_at k nodes = option_map_or (λ n. n.bytes) (node_at k nodes) []
+
+-- whether a node stands in the directory
 abbrev pub has_children : ℕ → List Node → Bool
-has_children dir nodes = list_any (is_in dir) nodes
+has_children dir nodes = is_some (child_after dir None nodes)
 
 -- Well-formed servers.
 
@@ -46,7 +51,7 @@ pub record IsSound (n : Node) : Type 0 where
   pub root_name : n.parent ≡ None → n.name ≡ root_name
 
 pub record WellFormed (s : Server) : Type 0 where
-  pub few : s.next ≤ 2 ^ 48
+  pub few : s.next ≤ NEXT_MAX
   pub rising : AllPairs (λ m n. m.number < n.number) s.nodes
   pub below : All (λ n. n.number < s.next) s.nodes
   pub sound : (k : ℕ) (n : Node) → node_at k s.nodes ≡ Some n → IsSound n
@@ -56,7 +61,15 @@ pub record WellFormed (s : Server) : Type 0 where
   pub parent_dir : (k p : ℕ) (n : Node) → node_at k s.nodes ≡ Some n → n.parent ≡ Some p → IsTrue (is_dir_at p s.nodes)
   pub siblings : (j k p : ℕ) (m n : Node) → node_at j s.nodes ≡ Some m → node_at k s.nodes ≡ Some n → m.parent ≡ Some p → n.parent ≡ Some p → m.name ≡ n.name → j ≡ k
 
--- Servers that are made, and changes.
+-- the node may join the server, in the directory
+pub record CanAdd (s : Server) (dir : ℕ) (n : Node) : Type 0 where
+  pub room : s.next < NEXT_MAX
+  pub into : IsTrue (is_dir_at dir s.nodes)
+  pub free : child_of dir n.name s.nodes ≡ None
+  pub small : length n.bytes ≤ FILE_MAX
+  pub empty_dir : IsTrue (is_dir n) → n.bytes ≡ []
+
+-- A new server.
 
 abbrev pub all_rights : Rights
 all_rights = record { read = true; write = true; execute = true }
@@ -90,5 +103,27 @@ root_node = record {
 abbrev pub rooted : Server
 rooted = record { nodes = root_node ∷ []; next = 1 }
 
+-- Changes.
+
 abbrev pub with_nodes : Server → List Node → Server
 with_nodes s nodes = record { nodes = nodes; next = s.next }
+
+-- the node of the number is changed
+abbrev pub changed_at : ℕ → (Node → Node) → List Node → List Node
+changed_at k f [] = []
+changed_at k f (n ∷ ns) = if has_number k n then f n ∷ ns else n ∷ changed_at k f ns
+
+-- the node of the number is taken out
+abbrev pub dropped_at : ℕ → List Node → List Node
+dropped_at k [] = []
+dropped_at k (n ∷ ns) = if has_number k n then ns else n ∷ dropped_at k ns
+
+abbrev pub with_changed : ℕ → (Node → Node) → Server → Server
+with_changed k f s = with_nodes s (changed_at k f s.nodes)
+
+abbrev pub with_dropped : ℕ → Server → Server
+with_dropped k s = with_nodes s (dropped_at k s.nodes)
+
+-- the node, whose number is the next, joins
+abbrev pub added : Server → Node → Server
+added s n = record { nodes = s.nodes ++ n ∷ []; next = s.next + 1 }

@@ -1,7 +1,10 @@
 //! The bytes of a file.
 
-ghost use Rattle.std.specs.Prelude.{◌≡◌, []};
+ghost use Rattle.std.specs.Prelude.{◌≡◌, ◌+◌, ◌≤◌, [], ◌++◌, IfOk, OnOk, OnErr, drop, length, take};
+ghost use Rattle.p9_base.specs.Text.{padded};
+ghost use Rattle.p9_tree.specs.Bytes.{cut_to, overwritten, put_front, read_from};
 
+use p9_base::NoMemory;
 use std::alloc::Allocator;
 use std::marker::Model;
 
@@ -37,5 +40,66 @@ impl<A: Allocator> Bytes<A> {
         ensures { result.now ≡ self.now }
     {
         self.items.as_slice()
+    }
+
+    /// A copy of these.
+    pub fn copy_of(alloc: A, bytes: &[u8]) -> Result<Bytes<A>, NoMemory>
+        ensures { IfOk result (λ copy. copy ≡ bytes.now) }
+    {
+        Ok(Bytes {
+            items: Vec::from_slice(alloc, bytes)?,
+        })
+    }
+
+    /// Writes at the offset, and fills a gap before it with zeros. Where memory is refused, all
+    /// stays as it was.
+    pub fn write(&mut self, offset: u64, bytes: &[u8]) -> Result<(), NoMemory>
+        requires { offset + length bytes.now ≤ FILE_MAX }
+        ensures ok { OnOk result (self.new ≡ overwritten offset bytes.now self.old) }
+        ensures err { OnErr result (self.new ≡ self.old) }
+    {
+        let start = offset as usize;
+        self.pad_to(start + bytes.len())?;
+        self.put(start, bytes);
+        Ok(())
+    }
+
+    // Brings them to this length, if they are fewer, by zeros behind them.
+    fn pad_to(&mut self, len: usize) -> Result<(), NoMemory>
+        ensures ok { OnOk result (self.new ≡ padded len self.old) }
+        ensures err { OnErr result (self.new ≡ self.old) }
+    {
+        if self.items.len() < len {
+            self.items.resize(len, 0)?;
+        }
+        Ok(())
+    }
+
+    // Copies the bytes over those that stand at the start and behind it.
+    fn put(&mut self, start: usize, bytes: &[u8])
+        requires { start + length bytes.now ≤ length self.old }
+        ensures { self.new ≡ take start self.old ++ bytes.now ++ drop (start + length bytes.now) self.old }
+    {
+        self.items[start..start + bytes.len()].copy_from_slice(bytes);
+    }
+
+    /// Keeps at most the first bytes. This takes no memory.
+    pub fn cut(&mut self, size: u64)
+        ensures { self.new ≡ cut_to size self.old }
+    {
+        self.items.truncate(size as usize);
+    }
+
+    /// Copies the bytes from the offset on, as many as are there and have room, over the front of
+    /// the buffer, and answers how many they are. The rest of the buffer stays.
+    pub fn read_into(&self, offset: u64, buffer: &mut [u8]) -> usize
+        ensures count { result ≡ length (read_from offset (length buffer.old) self.now) }
+        ensures filled { buffer.new ≡ put_front (read_from offset (length buffer.old) self.now) buffer.old }
+    {
+        let start = self.items.len().min(offset as usize);
+        let rest = &self.items[start..];
+        let count = rest.len().min(buffer.len());
+        buffer[..count].copy_from_slice(&rest[..count]);
+        count
     }
 }

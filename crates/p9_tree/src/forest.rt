@@ -1,12 +1,18 @@
 //! The trees of all servers.
 
-ghost use Rattle.std.specs.Prelude.{◌≡◌, map};
+ghost use Rattle.std.specs.Prelude.{◌≡◌, ◌≢◌, ◌+◌, ◌≤◌, IfOk, IsFalse, OnErr, OnOk, length, map};
 ghost use Rattle.std.specs.Option.{option_copied};
-ghost use Rattle.p9_tree.specs.Forest.{IsForest, child_in, child_in_after, next_of, node_of};
+ghost use Rattle.p9_tree.specs.Bytes.{cut_to, overwritten, put_front, read_from};
+ghost use Rattle.p9_tree.specs.Forest.{IsForest, bytes_of, child_in, child_in_after, forest_changed_at, has_children_of, is_dir_of, next_of, node_of, server_at, tree_changed_at};
+ghost use Rattle.p9_tree.specs.New.{new_node};
+ghost use Rattle.p9_tree.specs.Node.{marked, touched, with_bytes};
+ghost use Rattle.p9_tree.specs.Server.{CanAdd, added, with_dropped};
 
+use crate::bytes::FILE_MAX;
+use crate::new::New;
 use crate::node::Node;
 use crate::tree::Tree;
-use p9_base::{Name, NodeRef};
+use p9_base::{Name, NoMemory, NodeRef, User};
 
 /// The trees of all servers. A tree's position is its server's number. There may be none.
 #[derive(Drop)]
@@ -45,6 +51,85 @@ impl<T: Tree> Forest<T> {
         self.trees
             .get(server as usize)
             .map_or(0, |tree| tree.next())
+    }
+
+    /// Copies the file's bytes from the offset on, as many as are there and have room, over the
+    /// front of the buffer, and answers how many they are. The rest of the buffer stays.
+    pub fn read_into(&self, at: NodeRef, offset: u64, buffer: &mut [u8]) -> usize
+        ensures count { result ≡ length (read_from offset (length buffer.old) (bytes_of at (map T.state self.now.trees.items))) }
+        ensures filled { buffer.new ≡ put_front (read_from offset (length buffer.old) (bytes_of at (map T.state self.now.trees.items))) buffer.old }
+    {
+        match self.node(at) {
+            Some(node) => node.read_into(offset, buffer),
+            None => 0,
+        }
+    }
+
+    /// Makes a node of the server's next number in the directory. Where memory is refused, the
+    /// forest is as before.
+    pub fn add(&mut self, dir: NodeRef, new: &New<'_>) -> Result<NodeRef, NoMemory>
+        requires { let server = server_at dir.server (map T.state self.old.trees.items) in CanAdd server dir.number (new_node server.next dir.number new.now) }
+        ensures made { IfOk result (λ made. made ≡ record { server = dir.server; number = next_of dir.server (map T.state self.old.trees.items) }) }
+        ensures ok { OnOk result (map T.state self.new.trees.items ≡ tree_changed_at dir.server (λ s. added s (new_node s.next dir.number new.now)) (map T.state self.old.trees.items)) }
+        ensures err { OnErr result (map T.state self.new.trees.items ≡ map T.state self.old.trees.items) }
+    {
+        let number = self.trees[dir.server as usize].add(dir.number, new)?;
+        Ok(NodeRef {
+            server: dir.server,
+            number,
+        })
+    }
+
+    /// Takes out a file or an empty directory. Its parent isn't marked.
+    pub fn drop_leaf(&mut self, at: NodeRef)
+        requires not_root { at.number ≢ 0 }
+        requires empty { IsFalse (has_children_of at (map T.state self.old.trees.items)) }
+        ensures { map T.state self.new.trees.items ≡ tree_changed_at at.server (with_dropped at.number) (map T.state self.old.trees.items) }
+    {
+        if let Some(tree) = self.trees.get_mut(at.server as usize) {
+            tree.drop_leaf(at.number);
+        }
+    }
+
+    /// Marks the node: the user changed the file, or an entry of the directory, now.
+    pub fn bump(&mut self, at: NodeRef, user: User, now: u32)
+        ensures { map T.state self.new.trees.items ≡ forest_changed_at at (marked user now) (map T.state self.old.trees.items) }
+    {
+        if let Some(tree) = self.trees.get_mut(at.server as usize) {
+            tree.bump(at.number, user, now);
+        }
+    }
+
+    /// Makes the clock reading the time when the file was last read.
+    pub fn touch(&mut self, at: NodeRef, now: u32)
+        ensures { map T.state self.new.trees.items ≡ forest_changed_at at (touched now) (map T.state self.old.trees.items) }
+    {
+        if let Some(tree) = self.trees.get_mut(at.server as usize) {
+            tree.touch(at.number, now);
+        }
+    }
+
+    /// Writes into a file at the offset, and fills a gap before it with zeros. It isn't marked.
+    /// Where memory is refused, the forest is as before.
+    pub fn write(&mut self, at: NodeRef, offset: u64, bytes: &[u8]) -> Result<(), NoMemory>
+        requires file { IsFalse (is_dir_of at (map T.state self.old.trees.items)) }
+        requires fits { offset + length bytes.now ≤ FILE_MAX }
+        ensures ok { OnOk result (map T.state self.new.trees.items ≡ forest_changed_at at (with_bytes (overwritten offset bytes.now)) (map T.state self.old.trees.items)) }
+        ensures err { OnErr result (map T.state self.new.trees.items ≡ map T.state self.old.trees.items) }
+    {
+        if let Some(tree) = self.trees.get_mut(at.server as usize) {
+            tree.write(at.number, offset, bytes)?;
+        }
+        Ok(())
+    }
+
+    /// Keeps at most the first bytes of a file. It isn't marked.
+    pub fn cut(&mut self, at: NodeRef, size: u64)
+        ensures { map T.state self.new.trees.items ≡ forest_changed_at at (with_bytes (cut_to size)) (map T.state self.old.trees.items) }
+    {
+        if let Some(tree) = self.trees.get_mut(at.server as usize) {
+            tree.cut(at.number, size);
+        }
     }
 
     /// Each server of a forest is well-formed. This does nothing when it runs; it is for a caller

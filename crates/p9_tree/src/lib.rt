@@ -12,9 +12,12 @@ mod node;
 mod plain;
 mod tree;
 
-pub use bytes::{Bytes, FILE_MAX};
+pub use bytes::FILE_MAX;
 pub use forest::Forest;
 pub use new::New;
 pub use node::Node;
 pub use plain::PlainTree;
-pub use tree::Tree;
+pub use tree::{NEXT_MAX, Tree};
+
+#[cfg(test)]
+mod tests;

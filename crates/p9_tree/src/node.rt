@@ -1,11 +1,15 @@
 //! A file or directory of a server.
 
-ghost use Rattle.std.specs.Prelude.{◌≡◌, ◌≤◌, ◌&&◌, IsTrue, length};
+ghost use Rattle.std.specs.Prelude.{◌≡◌, ◌+◌, ◌≤◌, ◌&&◌, IsTrue, IfOk, OnOk, OnErr, length};
+ghost use Rattle.p9_base.specs.Name.{is_name};
 ghost use Rattle.p9_base.specs.Text.{is_text};
-ghost use Rattle.p9_tree.specs.Node.{is_dir, is_in, is_child, is_above};
+ghost use Rattle.p9_tree.specs.Bytes.{cut_to, overwritten, put_front, read_from};
+ghost use Rattle.p9_tree.specs.New.{new_node};
+ghost use Rattle.p9_tree.specs.Node.{is_above, is_child, is_dir, is_in, marked, touched, with_bytes, with_owner};
 
-use crate::bytes::Bytes;
-use p9_base::{Mode, Name, User};
+use crate::bytes::{Bytes, FILE_MAX};
+use crate::new::New;
+use p9_base::{Kind, Mode, Name, NoMemory, Permissions, User, valid_name};
 use std::alloc::Allocator;
 use std::marker::Model;
 
@@ -151,5 +155,84 @@ impl<A: Allocator> Node<A> {
         ensures { result ≡ is_above floor self.now }
     {
         floor.is_none_or(|k| k < self.number)
+    }
+}
+
+impl<A: Allocator> Node<A> {
+    /// A new node of this number, in the directory. Its version is 0.
+    pub(crate) fn new(alloc: A, number: u64, dir: u64, new: &New<'_>) -> Result<Node<A>, NoMemory>
+        ensures node { IfOk result (λ node. node ≡ new_node number dir new.now) }
+        ensures name { IsTrue (is_name new.now.name) }
+    {
+        prove!(valid_name(new.name.as_str()));
+        Ok(Node {
+            number,
+            entry: Some(Entry {
+                parent: dir,
+                name: new.name,
+            }),
+            mode: new.mode,
+            uid: new.uid,
+            gid: new.gid,
+            muid: new.muid,
+            version: 0,
+            atime: new.atime,
+            mtime: new.mtime,
+            bytes: Bytes::copy_of(alloc, new.bytes)?,
+        })
+    }
+
+    /// Notes that the user changed the file, or an entry of the directory, now.
+    pub(crate) fn mark(&mut self, user: User, now: u32)
+        ensures { self.new ≡ marked user now self.old }
+    {
+        self.muid = user;
+        self.version = self.version.wrapping_add(1);
+        self.atime = now;
+        self.mtime = now;
+    }
+
+    /// Notes that the file was read now.
+    pub(crate) fn touch(&mut self, now: u32)
+        ensures { self.new ≡ touched now self.old }
+    {
+        self.atime = now;
+    }
+
+    /// Makes it a directory of these permissions, owner and group, changed last by the owner.
+    pub(crate) fn give(&mut self, permissions: Permissions, uid: User, gid: User)
+        ensures { self.new ≡ with_owner permissions uid gid self.old }
+    {
+        self.mode = Mode {
+            kind: Kind::Directory,
+            permissions,
+        };
+        self.uid = uid;
+        self.gid = gid;
+        self.muid = uid;
+    }
+
+    /// Writes into the file's bytes, as [`Bytes::write`].
+    pub(crate) fn write(&mut self, offset: u64, bytes: &[u8]) -> Result<(), NoMemory>
+        requires { offset + length bytes.now ≤ FILE_MAX }
+        ensures ok { OnOk result (self.new ≡ with_bytes (overwritten offset bytes.now) self.old) }
+        ensures err { OnErr result (self.new ≡ self.old) }
+    {
+        self.bytes.write(offset, bytes)
+    }
+
+    /// Keeps at most the first of the file's bytes.
+    pub(crate) fn cut(&mut self, size: u64)
+        ensures { self.new ≡ with_bytes (cut_to size) self.old }
+    {
+        self.bytes.cut(size);
+    }
+
+    /// Copies of the file's bytes into the buffer, as [`Bytes::read_into`].
+    pub(crate) fn read_into(&self, offset: u64, buffer: &mut [u8]) -> usize
+        ensures count { result ≡ length (read_from offset (length buffer.old) self.now.bytes) }
+        ensures filled { buffer.new ≡ put_front (read_from offset (length buffer.old) self.now.bytes) buffer.old }
+    {
+        self.bytes.read_into(offset, buffer)
     }
 }

@@ -1,9 +1,11 @@
 //! A tree as a vector of nodes.
 
-ghost use Rattle.std.specs.Prelude.{◌≡◌, codes};
+ghost use Rattle.std.specs.Prelude.{◌≡◌, codes, position};
+ghost use Rattle.p9_tree.specs.Node.{has_number};
 ghost use Rattle.p9_tree.specs.Server.{Server, WellFormed, root_mode};
 
 use crate::bytes::Bytes;
+use crate::new::New;
 use crate::node::Node;
 use crate::tree::Tree;
 use p9_base::{Kind, Mode, Name, NoMemory, Permissions, Rights, User};
@@ -62,6 +64,67 @@ impl<A: Allocator + Copy> Tree for PlainTree<A> {
         self.nodes
             .iter()
             .find(|n| n.is_in(dir) && n.is_above(floor))
+    }
+
+    fn set_root(&mut self, permissions: Permissions, uid: User, gid: User) {
+        if let Some(at) = self.place(0) {
+            self.nodes[at].give(permissions, uid, gid);
+        }
+    }
+
+    fn add(&mut self, dir: u64, new: &New<'_>) -> Result<u64, NoMemory> {
+        let number = self.next;
+        let node = Node::new(self.alloc, number, dir, new)?;
+        self.nodes.push(node)?;
+        self.next = number + 1;
+        Ok(number)
+    }
+
+    fn drop_leaf(&mut self, number: u64) {
+        if let Some(at) = self.place(number) {
+            let _ = self.nodes.remove(at);
+        }
+    }
+
+    fn bump(&mut self, number: u64, user: User, now: u32) {
+        if let Some(at) = self.place(number) {
+            self.nodes[at].mark(user, now);
+        }
+    }
+
+    fn touch(&mut self, number: u64, now: u32) {
+        if let Some(at) = self.place(number) {
+            self.nodes[at].touch(now);
+        }
+    }
+
+    fn write(&mut self, number: u64, offset: u64, bytes: &[u8]) -> Result<(), NoMemory> {
+        if let Some(at) = self.place(number) {
+            self.nodes[at].write(offset, bytes)?;
+        }
+        Ok(())
+    }
+
+    fn cut(&mut self, number: u64, size: u64) {
+        if let Some(at) = self.place(number) {
+            self.nodes[at].cut(size);
+        }
+    }
+
+    fn read_into(&self, number: u64, offset: u64, buffer: &mut [u8]) -> usize {
+        match self.node(number) {
+            Some(node) => node.read_into(offset, buffer),
+            None => 0,
+        }
+    }
+}
+
+impl<A: Allocator + Copy> PlainTree<A> {
+    // Where the node of this number stands among all.
+    fn place(&self, number: u64) -> Option<usize>
+        ensures { result ≡ position (has_number number) self.now.nodes.items }
+    {
+        self.nodes.iter().position(|n| n.number() == number)
     }
 }
 

@@ -1,20 +1,31 @@
 //! What a server's tree does, however it is kept.
 
-ghost use Rattle.std.specs.Prelude.{◌≡◌, IfOk};
+ghost use Rattle.std.specs.Prelude.{◌≡◌, ◌≢◌, ◌+◌, ◌≤◌, IfOk, IsFalse, OnErr, OnOk, length};
 ghost use Rattle.std.specs.Option.{option_copied};
-ghost use Rattle.p9_tree.specs.Server.{Server, WellFormed, node_at, child_of, child_after, rooted};
+ghost use Rattle.p9_tree.specs.Bytes.{cut_to, overwritten, put_front, read_from};
+ghost use Rattle.p9_tree.specs.New.{new_node};
+ghost use Rattle.p9_tree.specs.Node.{marked, touched, with_bytes, with_owner};
+ghost use Rattle.p9_tree.specs.Server.{CanAdd, Server, WellFormed, added, bytes_at, child_after, child_of, has_children, is_dir_at, node_at, rooted, with_changed, with_dropped};
 
+use crate::bytes::FILE_MAX;
+use crate::new::New;
 use crate::node::Node;
-use p9_base::{Name, NoMemory};
+use p9_base::{Name, NoMemory, Permissions, User};
 use std::alloc::Allocator;
+
+/// The greatest next number. A server whose next number it is makes no more nodes.
+pub const NEXT_MAX: u64 = 1 << 48;
 
 /// The tree of a server: its nodes by rising number, and the number that the next new node gets.
 ///
-/// Each tree is well-formed: its numbers are below the next, which is at most 2^48; node 0 is a
+/// Each tree is well-formed: its numbers are below the next, which is at most [`NEXT_MAX`]; node 0 is a
 /// directory named `/` and the one without a parent; each other node has a valid name, and a
 /// directory of smaller number for a parent, in which no other has its name; a file has at most
-/// [`FILE_MAX`](crate::FILE_MAX) bytes, and a directory none.
-pub trait Tree: Sized {
+/// [`FILE_MAX`] bytes, and a directory none.
+///
+/// A call that names a number at which there is no node changes nothing. Only `add` and `write`
+/// take memory; where it is refused they answer so, and the tree is as before.
+pub trait Tree: Sized + Drop {
     /// The allocator of all that grows in it.
     type Alloc: Allocator + Copy;
 
@@ -40,6 +51,50 @@ pub trait Tree: Sized {
     /// The node of least number in the directory, above the floor if there is one.
     fn after(&self, dir: u64, floor: Option<u64>) -> Option<&Node<Self::Alloc>>
         ensures { option_copied result ≡ child_after dir floor (state self.now).nodes };
+
+    /// Makes the permissions, owner and group of the root these, and the owner the user who
+    /// changed it last.
+    fn set_root(&mut self, permissions: Permissions, uid: User, gid: User)
+        ensures { state self.new ≡ with_changed 0 (with_owner permissions uid gid) (state self.old) };
+
+    /// Makes a node of the next number in the directory, and answers its number.
+    fn add(&mut self, dir: u64, new: &New<'_>) -> Result<u64, NoMemory>
+        requires { CanAdd (state self.old) dir (new_node (state self.old).next dir new.now) }
+        ensures number { IfOk result (λ number. number ≡ (state self.old).next) }
+        ensures ok { OnOk result (state self.new ≡ added (state self.old) (new_node (state self.old).next dir new.now)) }
+        ensures err { OnErr result (state self.new ≡ state self.old) };
+
+    /// Takes out a file or an empty directory. Its parent isn't marked.
+    fn drop_leaf(&mut self, number: u64)
+        requires not_root { number ≢ 0 }
+        requires empty { IsFalse (has_children number (state self.old).nodes) }
+        ensures { state self.new ≡ with_dropped number (state self.old) };
+
+    /// Marks the node: the user changed the file, or an entry of the directory, now. Its version
+    /// grows by 1 modulo 2^32, and both its times become the clock reading.
+    fn bump(&mut self, number: u64, user: User, now: u32)
+        ensures { state self.new ≡ with_changed number (marked user now) (state self.old) };
+
+    /// Makes the clock reading the time when the file was last read.
+    fn touch(&mut self, number: u64, now: u32)
+        ensures { state self.new ≡ with_changed number (touched now) (state self.old) };
+
+    /// Writes into a file at the offset, and fills a gap before it with zeros. It isn't marked.
+    fn write(&mut self, number: u64, offset: u64, bytes: &[u8]) -> Result<(), NoMemory>
+        requires file { IsFalse (is_dir_at number (state self.old).nodes) }
+        requires fits { offset + length bytes.now ≤ FILE_MAX }
+        ensures ok { OnOk result (state self.new ≡ with_changed number (with_bytes (overwritten offset bytes.now)) (state self.old)) }
+        ensures err { OnErr result (state self.new ≡ state self.old) };
+
+    /// Keeps at most the first bytes of a file. It isn't marked.
+    fn cut(&mut self, number: u64, size: u64)
+        ensures { state self.new ≡ with_changed number (with_bytes (cut_to size)) (state self.old) };
+
+    /// Copies the file's bytes from the offset on, as many as are there and have room, over the
+    /// front of the buffer, and answers how many they are. The rest of the buffer stays.
+    fn read_into(&self, number: u64, offset: u64, buffer: &mut [u8]) -> usize
+        ensures count { result ≡ length (read_from offset (length buffer.old) (bytes_at number (state self.now).nodes)) }
+        ensures filled { buffer.new ≡ put_front (read_from offset (length buffer.old) (bytes_at number (state self.now).nodes)) buffer.old };
 
     ghost well_formed: { (tree : Self) → WellFormed (state tree) };
 }

@@ -1,0 +1,12 @@
+-- What a list does, one item after another, until one is refused.
+use Rattle.std.specs.Prelude.{List, [], ◌∷◌, Result, Ok, Err}
+
+-- what comes of a value, unless it is an error
+abbrev pub and_then : {S T E : Type 0} → Result S E → (S → Result T E) → Result T E
+and_then (Ok value) continue = continue value
+and_then (Err error) continue = Err error
+
+-- what the items make of a start, in their order: the last value, or the first error
+abbrev pub try_fold : {S X E : Type 0} → (S → X → Result S E) → S → List X → Result S E
+try_fold step start [] = Ok start
+try_fold step start (x ∷ xs) = and_then (step start x) (λ next. try_fold step next xs)

@@ -1,0 +1,65 @@
+//! The lines of a text, and the words of a line.
+//!
+//! A line ends at a newline or at the end of the text. Blanks and tabs separate words, and
+//! nothing else does: a carriage return is a byte of a word like any other.
+
+ghost use Rattle.std.specs.Prelude.{◌≡◌, map, IfOk};
+ghost use Rattle.p9_base.specs.Line.{lines_of, words_of, is_skipped as skip_test};
+
+use std::alloc::{AllocError, Allocator};
+
+/// The lines of a text, in order and without their newlines. Where the text ends with a newline,
+/// an empty line follows it.
+pub fn lines<A: Allocator + Copy>(alloc: A, text: &str) -> Result<Vec<&str, A>, AllocError>
+    ensures { IfOk result (λ found. map (λ line. line.now) found.items ≡ lines_of text.now) }
+{
+    text.split('\n').collect(alloc)
+}
+
+/// The words of a line, in order: the longest runs of bytes that are neither a blank nor a tab.
+pub fn words<A: Allocator + Copy>(alloc: A, line: &str) -> Result<Vec<&str, A>, AllocError>
+    ensures { IfOk result (λ found. map (λ word. word.now) found.items ≡ words_of line.now) }
+{
+    line.split([' ', '\t'])
+        .filter(|word| !word.is_empty())
+        .collect(alloc)
+}
+
+/// Whether a line of these words is skipped: it has none, or its first begins with `#`.
+pub fn is_skipped(words: &[&str]) -> bool
+    ensures { result ≡ skip_test (map (λ word. word.now) words.now) }
+{
+    match words {
+        [] => true,
+        [first, ..] => first.starts_with('#'),
+    }
+}
+
+#[cfg(test)]
+mod tests {
+    use super::*;
+    use std::test::Fail;
+
+    #[test]
+    fn cuts_a_text_into_lines(rt: HostRuntime) -> Result<(), Fail> {
+        let alloc = rt.alloc();
+        let found = lines(alloc, "server main\r\n\n dir")?;
+        assert_eq!(rt; found.as_slice(), ["server main\r", "", " dir"].as_slice());
+        let found = lines(alloc, "")?;
+        assert_eq!(rt; found.as_slice(), [""].as_slice());
+        Ok(())
+    }
+
+    #[test]
+    fn cuts_a_line_into_words(rt: HostRuntime) -> Result<(), Fail> {
+        let alloc = rt.alloc();
+        let found = words(alloc, "\tdir  /usr \t755 gl\u{a0}nda\r\u{b} \r")?;
+        assert_eq!(rt;
+            found.as_slice(),
+            ["dir", "/usr", "755", "gl\u{a0}nda\r\u{b}", "\r"].as_slice()
+        );
+        let found = words(alloc, " \t ")?;
+        assert_eq!(rt; found.len(), 0);
+        Ok(())
+    }
+}

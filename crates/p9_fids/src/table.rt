@@ -1,0 +1,138 @@
+//! The fids of a session.
+
+ghost use Rattle.std.specs.Prelude.{◌≡◌, ◌⊎◌, [], None, Some, length, slice_get, IfErr, IsSome, OnErr, OnOk};
+ghost use Rattle.std.specs.Option.{option_copied, option_map};
+ghost use Rattle.p9_base.specs.declared.fault.Fault.TheVariants.{OutOfMemory};
+ghost use Rattle.p9_fids.specs.Fid.{changed_fid, fid_at, open_count, opened_as, put_fault, trailed, with_fid, without_fid};
+
+use crate::fid::Fid;
+use crate::opened::Opened;
+use p9_base::{Fault, NodeRef};
+use p9_space::{MountTable, Trail};
+use std::alloc::Allocator;
+use std::collections::BTreeMap;
+use std::marker::Model;
+
+/// The number that is no fid, as intro(5).
+pub const NOFID: u32 = 0xFFFF_FFFF;
+
+/// The most fids of a session.
+pub const FIDS_MAX: usize = 1024;
+
+/// The fids of a session, by rising number. It is seen as the list of the fids with their numbers.
+#[derive(Drop)]
+pub struct FidTable<A: Allocator + Copy> {
+    fids: BTreeMap<u32, Fid<A>, A>,
+}
+
+impl<A: Allocator + Copy> Model for FidTable<A> {
+    ghost use Rattle.std.specs.Prelude.{List};
+    ghost use Rattle.p9_fids.specs.Fid.{FidRow};
+
+    ghost Value = { List FidRow };
+
+    ghost view = { λ t. t.fids.entries };
+}
+
+impl<A: Allocator + Copy> FidTable<A> {
+    /// No fids. This takes no memory.
+    pub fn new(alloc: A) -> FidTable<A>
+        ensures { result ≡ [] }
+    {
+        FidTable {
+            fids: BTreeMap::new(alloc),
+        }
+    }
+
+    /// How many fids there are.
+    pub fn len(&self) -> usize
+        ensures { result ≡ length self.now }
+    {
+        self.fids.len()
+    }
+
+    /// The fid of this number.
+    pub fn get(&self, fid: u32) -> Option<&Fid<A>>
+        ensures { option_copied result ≡ fid_at fid self.now }
+    {
+        self.fids.get(&fid)
+    }
+
+    /// The least fid.
+    pub fn first(&self) -> Option<u32>
+        ensures { result ≡ option_map (λ row. row.0) (slice_get self.now 0) }
+    {
+        match self.fids.first_key_value() {
+            Some((fid, _)) => Some(*fid),
+            None => None,
+        }
+    }
+
+    /// Why this fid can't be added: [`NOFID`] is [`Fault::UnknownFid`]; a fid that is there,
+    /// [`Fault::FidInUse`]; more than [`FIDS_MAX`] of them, [`Fault::TooManyFids`]; tested in this
+    /// order.
+    pub fn put_fault(&self, fid: u32) -> Option<Fault>
+        ensures { result ≡ put_fault fid self.now }
+    {
+        if fid == NOFID {
+            Some(Fault::UnknownFid)
+        } else if self.fids.contains_key(&fid) {
+            Some(Fault::FidInUse)
+        } else if self.fids.len() >= FIDS_MAX {
+            Some(Fault::TooManyFids)
+        } else {
+            None
+        }
+    }
+
+    /// Adds a fid, unless [`FidTable::put_fault`] tells why not, or memory is refused, which is
+    /// [`Fault::OutOfMemory`]. A refusal leaves the fids, and drops the new one.
+    pub fn put(&mut self, fid: u32, value: Fid<A>) -> Result<(), Fault>
+        ensures ok { OnOk result ((put_fault fid self.old ≡ None) × (self.new ≡ with_fid fid value self.old)) }
+        ensures err { IfErr result (λ fault. (put_fault fid self.old ≡ Some fault) ⊎ ((put_fault fid self.old ≡ None) × (fault ≡ OutOfMemory))) }
+        ensures unchanged { OnErr result (self.new ≡ self.old) }
+    {
+        if let Some(fault) = self.put_fault(fid) {
+            return Err(fault);
+        }
+        self.fids.insert(fid, value)?;
+        Ok(())
+    }
+
+    /// Ends a fid, and gives what it was.
+    pub fn take(&mut self, fid: u32) -> Option<Fid<A>>
+        ensures value { result ≡ fid_at fid self.old }
+        ensures after { self.new ≡ without_fid fid self.old }
+    {
+        self.fids.remove(&fid)
+    }
+
+    /// Makes a fid stand where the trail leads.
+    pub fn move_to(&mut self, fid: u32, trail: Trail<A>)
+        requires { IsSome (fid_at fid self.old) }
+        ensures { self.new ≡ changed_fid fid (trailed trail) self.old }
+    {
+        let value = self.fids.get_mut(&fid).unwrap();
+        value.trail = trail;
+    }
+
+    /// Says what a fid is open for.
+    pub fn set_opened(&mut self, fid: u32, opened: Opened)
+        requires { IsSome (fid_at fid self.old) }
+        ensures { self.new ≡ changed_fid fid (opened_as opened) self.old }
+    {
+        let value = self.fids.get_mut(&fid).unwrap();
+        value.opened = Some(opened);
+    }
+
+    /// How many open fids have the node as their file: the first member of the place where their
+    /// trail ends.
+    pub fn open_count(&self, table: &MountTable<A>, node: NodeRef) -> usize
+        ensures { result ≡ open_count table.now node self.now }
+    {
+        self.fids
+            .values()
+            .filter(|fid| fid.opened.is_some() && table.file(fid.trail.here()) == node)
+            .count()
+    }
+}

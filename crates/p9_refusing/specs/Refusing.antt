@@ -1,0 +1,5 @@
+use Rattle.p9_refusing.specs.declared.allocator.Refusing.{Refusing}
+
+-- The allocator whose memory it hands out.
+abbrev pub inner_of : {B : Type 0} → Refusing B → B
+inner_of refusing = refusing.inner

@@ -1,0 +1,136 @@
+-- A server of which one node is changed where it stands is well-formed.
+use Rattle.std.proofs.Common.{◌≡◌, ◌≢◌, ℕ, zero, suc, ◌+◌, ◌<◌, ◌≤◌, Bool, true, false, not, cond, eqb, List, [], ◌∷◌, ◌++◌, ◌⊎◌, length, get_or, set, Option, Some, None, Result, Ok, Err, IsTrue, IsFalse, refl, sym, ap, ◌∙◌, subst, inl, inr, arith, All, AllPairs}
+use Rattle.std.specs.Option.{option_map, option_map_or}
+use Rattle.std.specs.Result.{OnOk, OnErr}
+use Rattle.std.proofs.Math.Seq.{take-nil}
+use Rattle.std.specs.List.{position}
+use Rattle.std.proofs.lemmas.Bool.Decides.{nat_tests}
+use Rattle.std.proofs.lemmas.List.Elements.{All-head, All-tail, All-cons, All-nil}
+use Rattle.p9_base.specs.declared.mode.Permissions.{Permissions}
+use Rattle.p9_tree.specs.declared.bytes.TheConstants.{FILE_MAX}
+use Rattle.p9_tree.specs.Bytes.{overwritten, cut_to}
+use Rattle.p9_tree.specs.Node.{Node, has_number, is_dir, marked, touched, with_bytes, with_owner}
+use Rattle.p9_tree.specs.Server.{Server, node_at, is_dir_at, IsSound, WellFormed, changed_at, with_nodes, with_changed}
+use Rattle.p9_tree.proofs.BytesLemmas.{length-cut_to, length-overwritten}
+use Rattle.p9_tree.proofs.Lookups.{number-node_at, node_at-position, set-changed_at}
+
+-- a change that leaves each node where it stands
+pub record KeepsPlace (f : Node → Node) : Type 0 where
+  pub number : (n : Node) → (f n).number ≡ n.number
+  pub parent : (n : Node) → (f n).parent ≡ n.parent
+  pub name : (n : Node) → (f n).name ≡ n.name
+
+-- a change that leaves the node sound, and a directory or a file as it is
+pub record KeepsSound (f : Node → Node) (n : Node) : Type 0 where
+  pub sound : IsSound n → IsSound (f n)
+  pub dir : IsSound n → is_dir (f n) ≡ is_dir n
+
+module _ (k : ℕ) (f : Node → Node) (keeps : KeepsPlace f) where
+  -- a look-up after the change
+  pub node_at-changed_at : (j : ℕ) (xs : List Node) → node_at j (changed_at k f xs) ≡ (cond (eqb j k) (option_map f (node_at k xs)) (node_at j xs))
+  node_at-changed_at j [] = grind (arith, nat_tests)
+  node_at-changed_at j (x ∷ xs) = grind (arith, nat_tests, keeps.number x, node_at-changed_at j xs)
+
+  length-changed_at : (xs : List Node) → length (changed_at k f xs) ≡ length xs
+  length-changed_at [] = refl
+  length-changed_at (x ∷ xs) = grind (arith, length-changed_at xs)
+
+  number-get_or-changed_at : (xs : List Node) (i : ℕ) (d : Node) → (get_or (changed_at k f xs) i d).number ≡ (get_or xs i d).number
+  number-get_or-changed_at [] i d = refl
+  number-get_or-changed_at (x ∷ xs) zero d = grind (arith, keeps.number x)
+  number-get_or-changed_at (x ∷ xs) (suc i) d = grind (arith, number-get_or-changed_at xs i d)
+
+  -- what is found afterwards was there, changed or as it is
+  was : (j : ℕ) (xs : List Node) (n : Node) → node_at j (changed_at k f xs) ≡ Some n → (m : Node) × (node_at j xs ≡ Some m) × (((j ≡ k) × (f m ≡ n)) ⊎ (m ≡ n))
+  was j xs n e = elim (node_at j xs) as (λ o. node_at j xs ≡ o → (m : Node) × (node_at j xs ≡ Some m) × (((j ≡ k) × (f m ≡ n)) ⊎ (m ≡ n))) [
+    | None ↦ λ at. absurd (grind (arith, nat_tests, node_at-changed_at j xs))
+    | Some m ↦ λ at. (m, at, grind (arith, nat_tests, node_at-changed_at j xs))
+  ] refl
+
+  is_dir_at-changed_at : (j : ℕ) (xs : List Node) → ((n : Node) → node_at k xs ≡ Some n → is_dir (f n) ≡ is_dir n) → is_dir_at j (changed_at k f xs) ≡ is_dir_at j xs
+  is_dir_at-changed_at j xs dir = elim (node_at k xs) as (λ o. node_at k xs ≡ o → is_dir_at j (changed_at k f xs) ≡ is_dir_at j xs) [
+    | None ↦ λ at. grind (arith, nat_tests, node_at-changed_at j xs)
+    | Some m ↦ λ at. grind (arith, nat_tests, node_at-changed_at j xs, dir m at)
+  ] refl
+
+  module _ (s : Server) (w : WellFormed s) (sound : (n : Node) → node_at k s.nodes ≡ Some n → KeepsSound f n) where
+    -- what is found afterwards was there, of the same parent and name
+    same_place : (j : ℕ) (n : Node) → node_at j (changed_at k f s.nodes) ≡ Some n → (m : Node) × (node_at j s.nodes ≡ Some m) × (m.parent ≡ n.parent) × (m.name ≡ n.name)
+    same_place j n e = let b = was j s.nodes n e in elim b.2 [
+      | inl changed ↦ (b.0, b.1, sym (keeps.parent b.0) ∙ ap (λ (x : Node). x.parent) changed.1, sym (keeps.name b.0) ∙ ap (λ (x : Node). x.name) changed.1)
+      | inr same ↦ (b.0, b.1, ap (λ (x : Node). x.parent) same, ap (λ (x : Node). x.name) same)
+    ]
+
+    same_dir : (j : ℕ) → is_dir_at j (changed_at k f s.nodes) ≡ is_dir_at j s.nodes
+    same_dir j = is_dir_at-changed_at j s.nodes (λ n e. (sound n e).dir (w.sound k n e))
+
+    pub WellFormed-changed : WellFormed (with_changed k f s)
+    WellFormed-changed = record {
+      few = w.few;
+      rising = λ i j d lt in_range. let old : j < length s.nodes = omega (arith, length-changed_at s.nodes) in omega (arith, number-get_or-changed_at s.nodes i d, number-get_or-changed_at s.nodes j d, w.rising i j d lt old);
+      below = λ i d in_range. let old : i < length s.nodes = omega (arith, length-changed_at s.nodes) in omega (arith, number-get_or-changed_at s.nodes i d, w.below i d old);
+      sound = λ j n e. let b = was j s.nodes n e in elim b.2 [
+        | inl changed ↦ (let found : node_at k s.nodes ≡ Some b.0 = subst (λ q. node_at q s.nodes ≡ Some b.0) changed.0 b.1 in subst IsSound changed.1 ((sound b.0 found).sound (w.sound k b.0 found)))
+        | inr same ↦ subst IsSound same (w.sound j b.0 b.1)
+      ];
+      root = same_dir 0 ∙ w.root;
+      only_root = λ j n e no_parent. let b = same_place j n e in w.only_root j b.0 b.1 (b.2 ∙ no_parent);
+      parent_below = λ j p n e in_p. let b = same_place j n e in w.parent_below j p b.0 b.1 (b.2 ∙ in_p);
+      parent_dir = λ j p n e in_p. let b = same_place j n e in same_dir p ∙ w.parent_dir j p b.0 b.1 (b.2 ∙ in_p);
+      siblings = λ i j p m n e1 e2 in_m in_n same. let a = same_place i m e1 in let b = same_place j n e2 in w.siblings i j p a.0 b.0 a.1 b.1 (a.2 ∙ in_m) (b.2 ∙ in_n) (a.3 ∙ same ∙ sym b.3);
+    }
+
+-- the same of a node that is written over, at its place
+pub WellFormed-set : (k : ℕ) (f : Node → Node) (s : Server) (i : ℕ) (n y : Node) → position (has_number k) s.nodes ≡ Some i → n ≡ get_or s.nodes i n → y ≡ f n → KeepsPlace f → KeepsSound f n → WellFormed s → WellFormed (with_nodes s (set s.nodes i y))
+WellFormed-set k f s i n y place read new keeps sound w =
+    let found : node_at k s.nodes ≡ Some n = node_at-position k s.nodes i n place read in
+    rw (set-changed_at k f s.nodes i n y place read new) (WellFormed-changed k f keeps s w (λ m e. let same : n ≡ m = cc in subst (KeepsSound f) same sound))
+
+pub keeps-same : KeepsPlace (λ n. n)
+keeps-same = record { number = λ n. refl; parent = λ n. refl; name = λ n. refl }
+
+pub sound-same : (n : Node) → KeepsSound (λ n. n) n
+sound-same n = record { sound = λ s. s; dir = λ s. refl }
+
+pub keeps-marked : (user : List ℕ) (now : ℕ) → KeepsPlace (marked user now)
+keeps-marked user now = record { number = λ n. refl; parent = λ n. refl; name = λ n. refl }
+
+pub sound-marked : (user : List ℕ) (now : ℕ) (n : Node) → KeepsSound (marked user now) n
+sound-marked user now n = record { sound = λ s. record { small = s.small; empty_dir = s.empty_dir; valid_name = s.valid_name; root_name = s.root_name }; dir = λ s. refl }
+
+pub keeps-touched : (now : ℕ) → KeepsPlace (touched now)
+keeps-touched now = record { number = λ n. refl; parent = λ n. refl; name = λ n. refl }
+
+pub sound-touched : (now : ℕ) (n : Node) → KeepsSound (touched now) n
+sound-touched now n = record { sound = λ s. record { small = s.small; empty_dir = s.empty_dir; valid_name = s.valid_name; root_name = s.root_name }; dir = λ s. refl }
+
+pub keeps-with_owner : (permissions : Permissions) (uid gid : List ℕ) → KeepsPlace (with_owner permissions uid gid)
+keeps-with_owner permissions uid gid = record { number = λ n. refl; parent = λ n. refl; name = λ n. refl }
+
+pub sound-with_owner : (permissions : Permissions) (uid gid : List ℕ) (n : Node) → IsTrue (is_dir n) → KeepsSound (with_owner permissions uid gid) n
+sound-with_owner permissions uid gid n is_directory = record { sound = λ s. record { small = s.small; empty_dir = λ _. s.empty_dir is_directory; valid_name = s.valid_name; root_name = s.root_name }; dir = λ s. sym is_directory }
+
+pub keeps-with_bytes : (f : List ℕ → List ℕ) → KeepsPlace (with_bytes f)
+keeps-with_bytes f = record { number = λ n. refl; parent = λ n. refl; name = λ n. refl }
+
+pub sound-with_bytes : (f : List ℕ → List ℕ) (n : Node) → (length n.bytes ≤ FILE_MAX → length (f n.bytes) ≤ FILE_MAX) → (IsTrue (is_dir n) → n.bytes ≡ [] → f n.bytes ≡ []) → KeepsSound (with_bytes f) n
+sound-with_bytes f n small empty = record { sound = λ s. record { small = small s.small; empty_dir = λ d. empty d (s.empty_dir d); valid_name = s.valid_name; root_name = s.root_name }; dir = λ s. refl }
+
+pub sound-cut_to : (size : ℕ) (n : Node) → KeepsSound (with_bytes (cut_to size)) n
+sound-cut_to size n = sound-with_bytes (cut_to size) n (length-cut_to size n.bytes FILE_MAX) (λ d none. ap (cut_to size) none ∙ take-nil size)
+
+-- a file that is there stays sound after a write that fits
+pub sound-overwritten : (offset : ℕ) (bytes : List ℕ) (s : Server) (k i : ℕ) (n : Node) → position (has_number k) s.nodes ≡ Some i → n ≡ get_or s.nodes i n → IsFalse (is_dir_at k s.nodes) → offset + length bytes ≤ FILE_MAX → KeepsSound (with_bytes (overwritten offset bytes)) n
+sound-overwritten offset bytes s k i n place read file fits =
+    let found : node_at k s.nodes ≡ Some n = node_at-position k s.nodes i n place read in
+    let not_dir : is_dir n ≡ false = sym (ap (λ o. option_map_or is_dir o false) found) ∙ file in
+    sound-with_bytes (overwritten offset bytes) n (length-overwritten offset bytes n.bytes FILE_MAX fits) (λ d none. absurd (cc))
+
+-- the root that is written over is a directory
+pub root_is_dir : (s : Server) (i : ℕ) (n : Node) → WellFormed s → position (has_number 0) s.nodes ≡ Some i → n ≡ get_or s.nodes i n → IsTrue (is_dir n)
+root_is_dir s i n w place read = sym (ap (λ o. option_map_or is_dir o false) (node_at-position 0 s.nodes i n place read)) ∙ w.root
+
+-- what a call answers says whether it was done
+pub done_or_kept : {T E : Type 0} (r : Result T E) {A B : Type 0} → OnOk r A → OnErr r B → A ⊎ B
+done_or_kept (Ok x) done kept = inl done
+done_or_kept (Err e) done kept = inr kept

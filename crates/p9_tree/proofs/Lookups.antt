@@ -1,0 +1,99 @@
+-- What a look-up in a server's list of nodes finds.
+use Rattle.std.proofs.Common.{◌≡◌, ℕ, ◌+◌, ◌<◌, ◌≤◌, Bool, true, false, cond, eqb, List, [], ◌∷◌, ◌++◌, length, get_or, set, Option, Some, None, refl, sym, ap, ◌∙◌, subst, inl, inr, one-add, arith, All}
+use Rattle.std.specs.List.{find, slice_get, position, position_or_len, remove}
+use Rattle.std.proofs.lemmas.Bool.{lt-ltb, le-ltb, cases_lt}
+use Rattle.std.proofs.lemmas.List.Folds.{find_at}
+use Rattle.std.proofs.lemmas.Option.{slice_get_read}
+use Rattle.std.proofs.lemmas.Bool.Decides.{nat_tests}
+use Rattle.std.proofs.lemmas.List.Elements.{All-head, All-tail}
+use Rattle.p9_tree.specs.Node.{Node, has_number}
+use Rattle.p9_tree.specs.Server.{node_at, changed_at, dropped_at}
+
+-- a node that is found has the number
+pub number-node_at : (k : ℕ) (xs : List Node) (n : Node) → node_at k xs ≡ Some n → n.number ≡ k
+number-node_at k [] n e = cc
+number-node_at k (x ∷ xs) n e = grind (arith, nat_tests, number-node_at k xs n)
+
+-- what holds of all holds of a node that is found
+pub All-node_at : (P : Node → Type 0) (k : ℕ) (xs : List Node) (n : Node) → All P xs → node_at k xs ≡ Some n → P n
+All-node_at P k [] n all e = absurd (cc)
+All-node_at P k (x ∷ xs) n all e =
+    let here : P x = All-head P x xs all in
+    elim (eqb x.number k) as (λ b. cond b (Some x) (node_at k xs) ≡ Some n → P n) [
+      | true ↦ λ same. let e' : x ≡ n = cc in subst P e' here
+      | false ↦ λ later. All-node_at P k xs n (All-tail P x xs all) later
+    ] e
+
+-- no node has a number past all
+pub node_at-past : (k : ℕ) (xs : List Node) → All (λ n. n.number < k) xs → node_at k xs ≡ None
+node_at-past k [] below = refl
+node_at-past k (x ∷ xs) below =
+    let here : x.number < k = All-head (λ n. n.number < k) x xs below in
+    grind (arith, nat_tests, node_at-past k xs (All-tail (λ n. n.number < k) x xs below))
+
+-- no node has a number before all
+pub node_at-before : (k : ℕ) (xs : List Node) → All (λ n. k < n.number) xs → node_at k xs ≡ None
+node_at-before k [] above = refl
+node_at-before k (x ∷ xs) above =
+    let here : k < x.number = All-head (λ n. k < n.number) x xs above in
+    grind (arith, nat_tests, node_at-before k xs (All-tail (λ n. k < n.number) x xs above))
+
+module _ (k : ℕ) (xs : List Node) where
+  -- the place of the number is within the list
+  pub place_within : (i : ℕ) → position (has_number k) xs ≡ Some i → (i ≡ position_or_len (has_number k) xs) × (i < length xs)
+  place_within i e = elim (cases_lt (position_or_len (has_number k) xs) (length xs)) [
+    | inl lt ↦ (let t = lt-ltb _ _ lt in let same : i ≡ position_or_len (has_number k) xs = cc in (same, omega arith))
+    | inr ge ↦ (let t = le-ltb _ _ ge in absurd (cc))
+  ]
+
+  -- the number has no place
+  pub place_past : position (has_number k) xs ≡ None → length xs ≤ position_or_len (has_number k) xs
+  place_past e = elim (cases_lt (position_or_len (has_number k) xs) (length xs)) [
+    | inl lt ↦ (let t = lt-ltb _ _ lt in absurd (cc))
+    | inr ge ↦ ge
+  ]
+
+  -- the node at the number's place is the one that a look-up finds
+  pub node_at-position : (i : ℕ) (n : Node) → position (has_number k) xs ≡ Some i → n ≡ get_or xs i n → node_at k xs ≡ Some n
+  node_at-position i n e read =
+      let at = place_within i e in
+      find_at (has_number k) xs ∙ ap (λ q. slice_get xs q) (sym at.0) ∙ slice_get_read xs (length xs) i n refl at.1 read
+
+-- a write over the node of a number changes it
+set-changed_here : (k : ℕ) (f : Node → Node) (xs : List Node) (n : Node) → position_or_len (has_number k) xs < length xs → n ≡ get_or xs (position_or_len (has_number k) xs) n → set xs (position_or_len (has_number k) xs) (f n) ≡ changed_at k f xs
+set-changed_here k f [] n lt e = absurd (omega arith)
+set-changed_here k f (x ∷ xs) n lt e = grind (arith, nat_tests, set-changed_here k f xs n)
+
+pub set-changed_at : (k : ℕ) (f : Node → Node) (xs : List Node) (i : ℕ) (n y : Node) → position (has_number k) xs ≡ Some i → n ≡ get_or xs i n → y ≡ f n → set xs i y ≡ changed_at k f xs
+set-changed_at k f xs i n y e read new =
+    let at = place_within k xs i e in
+    ap (λ z. set xs i z) new ∙ ap (λ q. set xs q (f n)) at.0 ∙ set-changed_here k f xs n (subst (λ q. q < length xs) at.0 at.1) (read ∙ ap (λ q. get_or xs q n) at.0)
+
+-- where there is no node of the number, none is changed
+absent-changed_here : (k : ℕ) (f : Node → Node) (xs : List Node) → length xs ≤ position_or_len (has_number k) xs → xs ≡ changed_at k f xs
+absent-changed_here k f [] ge = refl
+absent-changed_here k f (x ∷ xs) ge = grind (arith, nat_tests, absent-changed_here k f xs)
+
+pub absent-changed_at : (k : ℕ) (f : Node → Node) (xs : List Node) → position (has_number k) xs ≡ None → xs ≡ changed_at k f xs
+absent-changed_at k f xs e = absent-changed_here k f xs (place_past k xs e)
+
+-- taking out the node of a number drops it
+remove-dropped_here : (k : ℕ) (xs : List Node) → position_or_len (has_number k) xs < length xs → remove xs (position_or_len (has_number k) xs) ≡ dropped_at k xs
+remove-dropped_here k [] lt = absurd (omega arith)
+remove-dropped_here k (x ∷ xs) lt =
+    let at : ℕ = position_or_len (has_number k) xs in
+    let later : remove (x ∷ xs) (1 + at) ≡ x ∷ remove xs at = rw (one-add) in
+    grind (arith, nat_tests, remove-dropped_here k xs)
+
+pub remove-dropped_at : (k : ℕ) (xs ys : List Node) (i : ℕ) → position (has_number k) xs ≡ Some i → ys ≡ remove xs i → ys ≡ dropped_at k xs
+remove-dropped_at k xs ys i e rest =
+    let at = place_within k xs i e in
+    rest ∙ ap (λ q. remove xs q) at.0 ∙ remove-dropped_here k xs (subst (λ q. q < length xs) at.0 at.1)
+
+-- where there is no node of the number, none is dropped
+absent-dropped_here : (k : ℕ) (xs : List Node) → length xs ≤ position_or_len (has_number k) xs → xs ≡ dropped_at k xs
+absent-dropped_here k [] ge = refl
+absent-dropped_here k (x ∷ xs) ge = grind (arith, nat_tests, absent-dropped_here k xs)
+
+pub absent-dropped_at : (k : ℕ) (xs : List Node) → position (has_number k) xs ≡ None → xs ≡ dropped_at k xs
+absent-dropped_at k xs e = absent-dropped_here k xs (place_past k xs e)

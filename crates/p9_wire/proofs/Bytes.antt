@@ -1,0 +1,62 @@
+-- The bytes of a number that was read are those it was read from.
+use Rattle.std.proofs.Common.{◌≡◌, ℕ, zero, suc, ◌+◌, ◌*◌, ◌/◌, ◌%◌, ◌^◌, ◌<◌, ◌≤◌, List, [], ◌∷◌, ◌++◌, length, take, get_or, refl, sym, ap, ◌∙◌, inl, inr, arith}
+use Rattle.std.proofs.Math.Nat.{div-div-eq-div-mul, div-one, pow-succ'}
+use Rattle.std.proofs.lemmas.List.{get_or-append-add, get_or_append_left, get_or_past}
+use Rattle.std.proofs.lemmas.Bool.{cases_lt}
+use Rattle.std.specs.Int.{byte_at, bytes_low_first}
+use Rattle.byteorder.specs.Endian.{little_from, little_number, little_bytes}
+use Rattle.byteorder.specs.Numbers.{little_from-cons, length-bytes_low_first}
+use Rattle.p9_wire.specs.Fields.{number}
+
+-- each item is a byte
+abbrev pub IsBytes : List ℕ → Type 0
+IsBytes bytes = (i : ℕ) → get_or bytes i 0 < 256
+
+-- a list whose items are bytes
+pub each_fits : (bytes : List ℕ) → ((k : ℕ) (d : ℕ) → k < length bytes → get_or bytes k d < 256) → IsBytes bytes
+each_fits bytes fits i = elim (cases_lt i (length bytes)) [
+  | inl lt ↦ fits i 0 lt
+  | inr le ↦ rw (get_or_past bytes i 0 le) (omega arith)
+]
+
+pub IsBytes-back : (front back : List ℕ) → IsBytes (front ++ back) → IsBytes back
+IsBytes-back front back h i = rw (← get_or-append-add front back i 0) (h (length front + i))
+
+pub IsBytes-front : (front back : List ℕ) → IsBytes (front ++ back) → IsBytes front
+IsBytes-front front back h i = elim (cases_lt i (length front)) [
+  | inl lt ↦ rw (← get_or_append_left front back 0 i lt) (h i)
+  | inr le ↦ rw (get_or_past front i 0 le) (omega arith)
+]
+
+IsBytes-rest : (b : ℕ) (bytes : List ℕ) → IsBytes (b ∷ bytes) → IsBytes bytes
+IsBytes-rest b bytes h i = h (suc i)
+
+byte_at-pow : (k x : ℕ) → byte_at k x ≡ x / 256 ^ k % 256
+byte_at-pow zero x = ap (λ (y : ℕ). y % 256) (sym (div-one x))
+byte_at-pow (suc k) x = refl
+
+byte_at-suc : (i x : ℕ) → byte_at (suc i) x ≡ byte_at i (x / 256)
+byte_at-suc i x =
+    ap (λ (p : ℕ). x / p % 256) (pow-succ' 256 i)
+    ∙ ap (λ (q : ℕ). q % 256) (sym (div-div-eq-div-mul x 256 (256 ^ i)))
+    ∙ sym (byte_at-pow i (x / 256))
+
+low_first-suc : (i n x : ℕ) → bytes_low_first (suc i) n x ≡ bytes_low_first i n (x / 256)
+low_first-suc i zero x = refl
+low_first-suc i (suc n) x = rw (byte_at-suc i x, low_first-suc (suc i) n x) refl
+
+pub number-back : (n : ℕ) (bytes : List ℕ) → IsBytes bytes → n ≤ length bytes → little_bytes n (little_number n bytes) ≡ take n bytes
+number-back zero bytes fits long = refl
+number-back (suc n) [] fits long = absurd (omega arith)
+number-back (suc n) (a ∷ bytes) fits long =
+    let rest = little_from 0 n bytes in
+    let low : a < 256 = fits 0 in
+    let value : little_from 0 (suc n) (a ∷ bytes) ≡ a + 256 * rest = ap (λ (r : ℕ). a + 256 * r) (little_from-cons 0 n a bytes) in
+    let first : (a + 256 * rest) % 256 ≡ a = omega arith in
+    let others : (a + 256 * rest) / 256 ≡ rest = omega arith in
+    let ih = number-back n bytes (IsBytes-rest a bytes fits) (omega arith) in
+    rw (value, first, low_first-suc 0 n (a + 256 * rest), others, ih) refl
+
+pub length_number : (n x : ℕ) → length (number n x) ≡ n
+unfolding number
+length_number n x = length-bytes_low_first 0 n x

@@ -1,0 +1,11 @@
+pub mod Bytes
+pub mod Texts
+pub mod Lengths
+pub mod Codes
+pub mod Times
+pub mod Framing
+pub mod TGrammar
+pub mod RGrammar
+pub mod Puts
+pub mod Items
+pub mod Streams

@@ -1,0 +1,64 @@
+-- The frames of a byte string, case by case.
+use Rattle.std.proofs.Common.{◌≡◌, ℕ, zero, suc, ◌+◌, ◌≤◌, ◌<◌, Bool, true, false, cond, ◌||◌, ltb, List, length, take, drop, refl, ap, subst, ◌∙◌, arith}
+use Rattle.std.proofs.lemmas.Bool.{ltb-false, lt-ltb}
+use Rattle.std.proofs.lemmas.List.{length-drop}
+use Rattle.byteorder.specs.Endian.{little_number}
+use Rattle.p9_wire.specs.declared.frame.Frame.{Frame}
+use Rattle.p9_wire.specs.declared.frame.Frame.TheVariants.{Need, Whole, Broken}
+use Rattle.p9_wire.specs.Frame.{msize_max, first_frame, Frames, Next, Rest, BrokenSize, frames_by, frames_within, frames, BeginsFrames}
+
+-- the choice that ends at a whole frame
+chosen : (a b c d : Bool) (m n : ℕ) → cond a Need (cond (b || c) Broken (cond d Need (Whole m))) ≡ Whole n → (b ≡ false) × (m ≡ n)
+chosen false false false false m n e = (refl, cc)
+chosen false false false true m n e = absurd cc
+chosen false false true d m n e = absurd cc
+chosen false true c d m n e = absurd cc
+chosen true b c d m n e = absurd cc
+
+-- a whole frame has seven bytes or more
+pub whole_size : (bytes : List ℕ) (size : ℕ) → first_frame bytes ≡ Whole size → 7 ≤ size
+whole_size bytes size e =
+    let said = little_number 4 bytes in
+    let c = chosen (ltb (length bytes) 4) (ltb said 7) (ltb msize_max said) (ltb (length bytes) said) said size e in
+    let least : 7 ≤ said = ltb-false _ _ c.0 in
+    omega (arith, c.1)
+
+-- less than a size stands in no bytes
+pub first_frame-short : (bytes : List ℕ) → length bytes ≤ 0 → first_frame bytes ≡ Need
+first_frame-short bytes short = let few : ltb (length bytes) 4 ≡ true = lt-ltb _ _ (omega arith) in rw few refl
+
+-- what stands behind is looked at only behind a whole frame
+frames_by-same : (f : Frame) (bytes : List ℕ) (r s : List ℕ → Frames) → ((size : ℕ) → f ≡ Whole size → r (drop size bytes) ≡ s (drop size bytes)) → frames_by f bytes r ≡ frames_by f bytes s
+frames_by-same Need bytes r s h = refl
+frames_by-same (Whole size) bytes r s h = ap (Next (take size bytes)) (h size refl)
+frames_by-same Broken bytes r s h = refl
+
+-- no more frames than bytes are looked for
+frames_within-enough : (k j : ℕ) (bytes : List ℕ) → length bytes ≤ k → length bytes ≤ j → frames_within k bytes ≡ frames_within j bytes
+unfolding frames_within
+frames_within-enough zero zero bytes p q = refl
+frames_within-enough zero (suc j) bytes p q = rw (first_frame-short bytes p) refl
+frames_within-enough (suc k) zero bytes p q = rw (first_frame-short bytes q) refl
+frames_within-enough (suc k) (suc j) bytes p q =
+    frames_by-same (first_frame bytes) bytes (frames_within k) (frames_within j) (λ size e.
+    let some : 7 ≤ size = whole_size bytes size e in
+    frames_within-enough k j (drop size bytes) (omega (arith, length-drop size bytes)) (omega (arith, length-drop size bytes)))
+
+-- the frames of a byte string begin with what stands at its front
+pub begins_frames : (bytes : List ℕ) → BeginsFrames (first_frame bytes) bytes
+unfolding frames frames_within
+begins_frames bytes = begun (first_frame bytes) refl
+  where
+    once : frames bytes ≡ frames_by (first_frame bytes) bytes (frames_within (length bytes))
+    once = frames_within-enough (length bytes) (suc (length bytes)) bytes (omega arith) (omega arith)
+
+    begun : (f : Frame) → first_frame bytes ≡ f → BeginsFrames f bytes
+    begun Need e = once ∙ ap (λ (f : Frame). frames_by f bytes (frames_within (length bytes))) e
+    begun (Whole size) e =
+        once ∙ ap (λ (f : Frame). frames_by f bytes (frames_within (length bytes))) e
+        ∙ ap (Next (take size bytes)) (frames_within-enough (length bytes) (length (drop size bytes)) (drop size bytes) (omega (arith, length-drop size bytes)) (omega arith))
+    begun Broken e = once ∙ ap (λ (f : Frame). frames_by f bytes (frames_within (length bytes))) e
+
+-- the same, of an answer that equals it
+pub begins_frames_as : (f : Frame) (bytes : List ℕ) → first_frame bytes ≡ f → BeginsFrames f bytes
+begins_frames_as f bytes e = subst (λ (g : Frame). BeginsFrames g bytes) e (begins_frames bytes)

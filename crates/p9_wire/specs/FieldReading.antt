@@ -1,0 +1,86 @@
+-- Fields read from left to right: a field is a value and the bytes behind it.
+use Rattle.std.specs.Prelude.{◌≡◌, ℕ, zero, suc, ◌==◌, List, [], ◌∷◌, length, take, drop, Option, Some, None, nat_lt, if◌then◌else◌}
+use Rattle.byteorder.specs.Endian.{little_number}
+use Rattle.p9_base.specs.declared.qid.Qid.{Qid}
+use Rattle.p9_base.specs.Text.{is_text}
+use Rattle.p9_wire.specs.Message.{StatFields}
+
+infixl 10 ◌and_then◌
+abbrev pub ◌and_then◌ : {A B : Type 0} → Option A → (A → Option B) → Option B
+None and_then f = None
+(Some x) and_then f = f x
+
+-- what a function returned, seen by view, is what reading gives
+abbrev pub Gives : {X Y : Type 0} → (X → Y) → Option X → Option Y → Type 0
+Gives view None read = read ≡ None
+Gives view (Some x) read = read ≡ Some (view x)
+
+-- a reader of fields
+abbrev pub Reader : Type 0 → Type 0
+Reader A = List ℕ → Option (A × List ℕ)
+
+-- one field behind another
+infixl 20 ◌then◌
+abbrev pub ◌then◌ : {A B : Type 0} → Reader A → Reader B → Reader (A × B)
+(r then s) bytes = r bytes and_then λ a. s a.1 and_then λ b. Some ((a.0, b.0), b.1)
+
+-- what is made of a field
+abbrev pub made : {A B : Type 0} → (A → B) → Reader A → Reader B
+made f r bytes = r bytes and_then λ a. Some (f a.0, a.1)
+
+-- no field
+abbrev pub nothing_at : Reader (Unit {0})
+nothing_at bytes = Some (tt, bytes)
+
+-- a number in so many bytes
+abbrev pub number_at : ℕ → Reader ℕ
+number_at n bytes = if nat_lt (length bytes) n then None else Some (little_number n bytes, drop n bytes)
+
+-- so many bytes
+abbrev pub bytes_at : ℕ → Reader (List ℕ)
+bytes_at n bytes = if nat_lt (length bytes) n then None else Some (take n bytes, drop n bytes)
+
+unfoldable pub text_at : Reader (List ℕ)
+text_at bytes = number_at 2 bytes and_then λ n. bytes_at n.0 n.1 and_then λ s. if is_text s.0 then Some s else None
+
+unfoldable pub counted_at : Reader (List ℕ)
+counted_at bytes = number_at 4 bytes and_then λ n. bytes_at n.0 n.1
+
+-- so many, one behind another
+unfoldable pub times : {A : Type 0} → Reader A → ℕ → Reader (List A)
+times r zero bytes = Some ([], bytes)
+times r (suc n) bytes = r bytes and_then λ x. times r n x.1 and_then λ xs. Some (x.0 ∷ xs.0, xs.1)
+
+-- a number of at most sixteen, and so many
+unfoldable pub several_at : {A : Type 0} → Reader A → Reader (List A)
+several_at r bytes = number_at 2 bytes and_then λ n. if nat_lt 16 n.0 then None else times r n.0 n.1
+
+-- a length, and what takes up all of so many bytes
+unfoldable pub sized_at : {A : Type 0} → Reader A → Reader A
+sized_at r bytes =
+    number_at 2 bytes and_then λ n. bytes_at n.0 n.1 and_then λ s. r s.0 and_then λ x.
+    if length x.1 == 0 then Some (x.0, s.1) else None
+
+unfoldable pub qid_at : Reader Qid
+qid_at = made (λ x. record { kind = x.0.0; version = x.0.1; path = x.1 }) (number_at 1 then number_at 4 then number_at 8)
+
+unfoldable pub stat_fields_at : Reader StatFields
+stat_fields_at =
+    made (λ x. record {
+      kind = x.0.0.0.0.0.0.0.0.0.0;
+      dev = x.0.0.0.0.0.0.0.0.0.1;
+      qid = x.0.0.0.0.0.0.0.0.1;
+      mode = x.0.0.0.0.0.0.0.1;
+      atime = x.0.0.0.0.0.0.1;
+      mtime = x.0.0.0.0.0.1;
+      length = x.0.0.0.0.1;
+      name = x.0.0.0.1;
+      uid = x.0.0.1;
+      gid = x.0.1;
+      muid = x.1;
+    })
+    (number_at 2 then number_at 4 then qid_at then number_at 4 then number_at 4 then number_at 4 then number_at 8 then text_at then text_at then text_at then text_at)
+
+-- as a message holds a stat: a length, and the stat's own size and fields, which take it up
+abbrev pub stat_at : Reader StatFields
+stat_at = sized_at (sized_at stat_fields_at)

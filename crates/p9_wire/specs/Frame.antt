@@ -1,0 +1,43 @@
+-- The frames of a byte string.
+use Rattle.std.specs.Prelude.{◌≡◌, ℕ, zero, suc, List, length, take, drop, nat_lt, ◌||◌, if◌then◌else◌}
+use Rattle.byteorder.specs.Endian.{little_number}
+use Rattle.p9_wire.specs.declared.frame.Frame.{Frame}
+use Rattle.p9_wire.specs.declared.frame.Frame.TheVariants.{Need, Whole, Broken}
+
+-- the greatest size of a frame
+abbrev pub msize_max : ℕ
+msize_max = 65536
+
+-- what stands at the front of bytes: four of them say a frame's size, which counts itself
+abbrev pub first_frame : List ℕ → Frame
+first_frame bytes =
+    if nat_lt (length bytes) 4 then Need
+    else (let size = little_number 4 bytes in
+    if nat_lt size 7 || nat_lt msize_max size then Broken
+    else (if nat_lt (length bytes) size then Need else Whole size))
+
+-- whole frames from the front, ended by a rest that is no whole frame, or by a size that no frame has
+pub data Frames : Type 0 where
+  Next : (frame : List ℕ) (others : Frames) → Frames
+  Rest : (bytes : List ℕ) → Frames
+  BrokenSize : Frames
+
+-- what begins so, and what to make of the bytes behind a whole frame
+abbrev pub frames_by : Frame → List ℕ → (List ℕ → Frames) → Frames
+frames_by Need bytes others = Rest bytes
+frames_by (Whole size) bytes others = Next (take size bytes) (others (drop size bytes))
+frames_by Broken bytes others = BrokenSize
+
+-- at most so many frames, which are all where there are no fewer than bytes
+unfoldable pub frames_within : ℕ → List ℕ → Frames
+frames_within zero bytes = Rest bytes
+frames_within (suc n) bytes = frames_by (first_frame bytes) bytes (frames_within n)
+
+unfoldable pub frames : List ℕ → Frames
+frames bytes = frames_within (length bytes) bytes
+
+-- this is the first case of the frames of these bytes
+abbrev pub BeginsFrames : Frame → List ℕ → Type 0
+BeginsFrames Need bytes = frames bytes ≡ Rest bytes
+BeginsFrames (Whole size) bytes = frames bytes ≡ Next (take size bytes) (frames (drop size bytes))
+BeginsFrames Broken bytes = frames bytes ≡ BrokenSize

@@ -1,0 +1,25 @@
+-- The words of the laws: how a function that reads and a relation that says what is spelled agree.
+use Rattle.std.specs.Prelude.{◌≡◌, ℕ, ◌<◌, ◌^◌, List, Option, Some, All}
+
+abbrev pub IsBytes : List ℕ → Type 0
+IsBytes bytes = All (λ b. b < 2 ^ 8) bytes
+
+-- what is read of bytes has them as its spelling
+abbrev pub ReadsSpellings : {M : Type 0} → (List ℕ → Option (ℕ × M)) → (List ℕ → ℕ → M → Type 0) → Type 0
+ReadsSpellings {M} message_of Spells =
+    (bytes : List ℕ) (tag : ℕ) (m : M) → IsBytes bytes → message_of bytes ≡ Some (tag, m) → Spells bytes tag m
+
+-- each spelling is read
+abbrev pub ReadsEachSpelling : {M : Type 0} → (List ℕ → Option (ℕ × M)) → (List ℕ → ℕ → M → Type 0) → Type 0
+ReadsEachSpelling {M} message_of Spells =
+    (bytes : List ℕ) (tag : ℕ) (m : M) → Spells bytes tag m → message_of bytes ≡ Some (tag, m)
+
+-- a spelling has one tag and one message
+abbrev pub HasOneMessage : {M : Type 0} → (List ℕ → ℕ → M → Type 0) → Type 0
+HasOneMessage {M} Spells =
+    (bytes : List ℕ) (tag other : ℕ) (m n : M) → Spells bytes tag m → Spells bytes other n → (tag ≡ other) × (m ≡ n)
+
+-- a message with a tag has one spelling
+abbrev pub HasOneSpelling : {M : Type 0} → (List ℕ → ℕ → M → Type 0) → Type 0
+HasOneSpelling {M} Spells =
+    (bytes others : List ℕ) (tag : ℕ) (m : M) → Spells bytes tag m → Spells others tag m → bytes ≡ others

@@ -1,0 +1,13 @@
+-- What a writer leaves in a buffer.
+use Rattle.std.specs.Prelude.{◌≡◌, ℕ, ◌+◌, List, ◌++◌, length, take, drop}
+
+-- the bytes stand from a place on; in front of it all is as it was, and from next on too
+pub record Puts (bytes : List ℕ) (at next : ℕ) (old new : List ℕ) : Type 0 where
+  pub ends : next ≡ at + length bytes
+  pub front : take next new ≡ take at old ++ bytes
+  pub back : drop next new ≡ drop next old
+
+-- the spelling stands at the front and ends there, and what stood behind it stays
+pub record Writes (spelling : List ℕ) (end : ℕ) (old new : List ℕ) : Type 0 where
+  pub ends : end ≡ length spelling
+  pub bytes : new ≡ spelling ++ drop end old

@@ -1,0 +1,258 @@
+//! Fields taken from the front of bytes. Each answers its value and the bytes behind it, or None
+//! where the bytes begin with no such field.
+
+ghost use Rattle.std.specs.Prelude.{◌≡◌, ◌≤◌, ◌==◌, Some, None, if◌then◌else◌};
+ghost use Rattle.std.specs.List.{list_any};
+ghost use Rattle.p9_base.specs.Text.{is_text};
+ghost use Rattle.p9_wire.specs.Message.{stat_view};
+ghost use Rattle.p9_wire.specs.FieldReading.{◌and_then◌, Gives, number_at, bytes_at, text_at, qid_at, counted_at, times, several_at, sized_at, stat_fields_at, stat_at};
+ghost use Rattle.p9_wire.specs.Reading.{header_at};
+
+use crate::constants::MAXWELEM;
+use crate::message::Stat;
+use crate::names::Names;
+use crate::qids::Qids;
+use byteorder::{ByteOrder, LittleEndian};
+use p9_base::Qid;
+use std::str::from_utf8;
+
+pub fn take_u8(bytes: &[u8]) -> Option<(u8, &[u8])>
+    ensures { Gives (λ x. (x.0, x.1.now)) result (number_at 1 bytes.now) }
+{
+    match bytes {
+        [] => None,
+        [first, rest @ ..] => Some((*first, rest)),
+    }
+}
+
+pub fn take_u16(bytes: &[u8]) -> Option<(u16, &[u8])>
+    ensures { Gives (λ x. (x.0, x.1.now)) result (number_at 2 bytes.now) }
+{
+    if bytes.len() < 2 {
+        return None;
+    }
+    Some((LittleEndian::read_u16(bytes), &bytes[2..]))
+}
+
+pub fn take_u32(bytes: &[u8]) -> Option<(u32, &[u8])>
+    ensures { Gives (λ x. (x.0, x.1.now)) result (number_at 4 bytes.now) }
+{
+    if bytes.len() < 4 {
+        return None;
+    }
+    Some((LittleEndian::read_u32(bytes), &bytes[4..]))
+}
+
+pub fn take_u64(bytes: &[u8]) -> Option<(u64, &[u8])>
+    ensures { Gives (λ x. (x.0, x.1.now)) result (number_at 8 bytes.now) }
+{
+    if bytes.len() < 8 {
+        return None;
+    }
+    Some((LittleEndian::read_u64(bytes), &bytes[8..]))
+}
+
+fn take_bytes(count: usize, bytes: &[u8]) -> Option<(&[u8], &[u8])>
+    ensures { Gives (λ x. (x.0.now, x.1.now)) result (bytes_at count bytes.now) }
+{
+    if bytes.len() < count {
+        return None;
+    }
+    Some(bytes.split_at(count))
+}
+
+/// The bytes whose number stands in the two bytes before them.
+fn take_sized(bytes: &[u8]) -> Option<(&[u8], &[u8])>
+    ensures { Gives (λ x. (x.0.now, x.1.now)) result (number_at 2 bytes.now and_then λ n. bytes_at n.0 n.1) }
+{
+    let (count, rest) = take_u16(bytes)?;
+    take_bytes(count as usize, rest)
+}
+
+pub fn has_nul(bytes: &[u8]) -> bool
+    ensures { result ≡ list_any (λ b. b == 0) bytes.now }
+{
+    bytes.contains(&0)
+}
+
+/// The text that these bytes are: UTF-8 without NUL.
+#[tactic(auto, using(crate::proofs::Texts::is_text_of, crate::proofs::Texts::has_nul, crate::proofs::Texts::no_utf8))]
+fn text_from(bytes: &[u8]) -> Option<&str>
+    ensures { Gives (λ s. s.now) result (if is_text bytes.now then Some bytes.now else None) }
+{
+    match from_utf8(bytes) {
+        Ok(text) => { if has_nul(bytes) { None } else { Some(text) } }
+        Err(_) => None,
+    }
+}
+
+/// A text behind two bytes of length.
+#[tactic(auto, unfolding(crate::specs::FieldReading::text_at))]
+pub fn take_text(bytes: &[u8]) -> Option<(&str, &[u8])>
+    ensures { Gives (λ x. (x.0.now, x.1.now)) result (text_at bytes.now) }
+{
+    let (front, rest) = take_sized(bytes)?;
+    let text = text_from(front)?;
+    Some((text, rest))
+}
+
+/// `type[1] vers[4] path[8]`.
+#[tactic(auto, unfolding(crate::specs::FieldReading::qid_at))]
+pub fn take_qid(bytes: &[u8]) -> Option<(Qid, &[u8])>
+    ensures { Gives (λ x. (x.0, x.1.now)) result (qid_at bytes.now) }
+{
+    let (kind, rest) = take_u8(bytes)?;
+    let (version, rest) = take_u32(rest)?;
+    let (path, rest) = take_u64(rest)?;
+    let qid = Qid {
+        kind,
+        version,
+        path,
+    };
+    Some((qid, rest))
+}
+
+/// Data behind four bytes of count.
+#[tactic(auto, unfolding(crate::specs::FieldReading::counted_at))]
+pub fn take_counted(bytes: &[u8]) -> Option<(&[u8], &[u8])>
+    ensures { Gives (λ x. (x.0.now, x.1.now)) result (counted_at bytes.now) }
+{
+    let (count, rest) = take_u32(bytes)?;
+    take_bytes(count as usize, rest)
+}
+
+fn some_names(count: usize, bytes: &[u8]) -> Option<(Names<'_>, &[u8])>
+    requires { count ≤ 16 }
+    ensures { Gives (λ x. (x.0, x.1.now)) result (times text_at count bytes.now) }
+{
+    let mut names = Names::new();
+    let mut rest = bytes;
+    for i in 0..count {
+        match take_text(rest) {
+            None => return None,
+            Some((name, after)) => {
+                names.push(name);
+                rest = after;
+            }
+        }
+    }
+    Some((names, rest))
+}
+
+/// At most sixteen texts behind two bytes of their number.
+#[tactic(auto, unfolding(crate::specs::FieldReading::several_at))]
+pub fn take_names(bytes: &[u8]) -> Option<(Names<'_>, &[u8])>
+    ensures { Gives (λ x. (x.0, x.1.now)) result (several_at text_at bytes.now) }
+{
+    let (count, rest) = take_u16(bytes)?;
+    let count = count as usize;
+    if count > MAXWELEM {
+        return None;
+    }
+    some_names(count, rest)
+}
+
+fn some_qids(count: usize, bytes: &[u8]) -> Option<(Qids, &[u8])>
+    requires { count ≤ 16 }
+    ensures { Gives (λ x. (x.0, x.1.now)) result (times qid_at count bytes.now) }
+{
+    let mut qids = Qids::new();
+    let mut rest = bytes;
+    for i in 0..count {
+        match take_qid(rest) {
+            None => return None,
+            Some((qid, after)) => {
+                qids.push(qid);
+                rest = after;
+            }
+        }
+    }
+    Some((qids, rest))
+}
+
+/// At most sixteen qids behind two bytes of their number.
+#[tactic(auto, unfolding(crate::specs::FieldReading::several_at))]
+pub fn take_qids(bytes: &[u8]) -> Option<(Qids, &[u8])>
+    ensures { Gives (λ x. (x.0, x.1.now)) result (several_at qid_at bytes.now) }
+{
+    let (count, rest) = take_u16(bytes)?;
+    let count = count as usize;
+    if count > MAXWELEM {
+        return None;
+    }
+    some_qids(count, rest)
+}
+
+/// A stat without its size.
+#[tactic(auto, unfolding(crate::specs::FieldReading::stat_fields_at))]
+fn take_stat_fields(bytes: &[u8]) -> Option<(Stat<'_>, &[u8])>
+    ensures { Gives (λ x. (stat_view x.0, x.1.now)) result (stat_fields_at bytes.now) }
+{
+    let (kind, rest) = take_u16(bytes)?;
+    let (dev, rest) = take_u32(rest)?;
+    let (qid, rest) = take_qid(rest)?;
+    let (mode, rest) = take_u32(rest)?;
+    let (atime, rest) = take_u32(rest)?;
+    let (mtime, rest) = take_u32(rest)?;
+    let (length, rest) = take_u64(rest)?;
+    let (name, rest) = take_text(rest)?;
+    let (uid, rest) = take_text(rest)?;
+    let (gid, rest) = take_text(rest)?;
+    let (muid, rest) = take_text(rest)?;
+    let stat = Stat {
+        kind,
+        dev,
+        qid,
+        mode,
+        atime,
+        mtime,
+        length,
+        name,
+        uid,
+        gid,
+        muid,
+    };
+    Some((stat, rest))
+}
+
+/// A stat behind its size, which its fields take up.
+#[tactic(auto, unfolding(crate::specs::FieldReading::sized_at))]
+fn take_plain_stat(bytes: &[u8]) -> Option<(Stat<'_>, &[u8])>
+    ensures { Gives (λ x. (stat_view x.0, x.1.now)) result (sized_at stat_fields_at bytes.now) }
+{
+    let (front, rest) = take_sized(bytes)?;
+    let (stat, end) = take_stat_fields(front)?;
+    if end.is_empty() {
+        Some((stat, rest))
+    } else {
+        None
+    }
+}
+
+/// A stat as a message holds it: behind two bytes of length, which its size and fields take up.
+#[tactic(auto, unfolding(crate::specs::FieldReading::sized_at))]
+pub fn take_stat(bytes: &[u8]) -> Option<(Stat<'_>, &[u8])>
+    ensures { Gives (λ x. (stat_view x.0, x.1.now)) result (stat_at bytes.now) }
+{
+    let (front, rest) = take_sized(bytes)?;
+    let (stat, end) = take_plain_stat(front)?;
+    if end.is_empty() {
+        Some((stat, rest))
+    } else {
+        None
+    }
+}
+
+/// `size[4] type[1] tag[2]`: type, tag and body of a frame that has all of these bytes.
+#[tactic(auto, unfolding(crate::specs::Reading::header_at))]
+pub fn take_header(bytes: &[u8]) -> Option<(u8, u16, &[u8])>
+    ensures { Gives (λ x. (x.0, x.1, x.2.now)) result (header_at bytes.now) }
+{
+    let (size, rest) = take_u32(bytes)?;
+    if size as usize != bytes.len() {
+        return None;
+    }
+    let (kind, rest) = take_u8(rest)?;
+    let (tag, rest) = take_u16(rest)?;
+    Some((kind, tag, rest))
+}

@@ -1,0 +1,157 @@
+//! The tests that a caller of the writers may make: whether a message has a spelling, and how long
+//! that is. A number fits by its type, so only texts and lengths are looked at.
+
+ghost use Rattle.std.specs.Prelude.{◌≡◌, ◌<◌, ◌+◌, ◌^◌, ◌↔◌, IsTrue, length, sum_by};
+ghost use Rattle.p9_base.specs.Text.{is_text as text_test};
+ghost use Rattle.p9_wire.specs.Fields.{FitsText, FitsNames, FitsStat};
+ghost use Rattle.p9_wire.specs.Message.{stat_view, t_view, r_view};
+ghost use Rattle.p9_wire.specs.Spelling.{t_len, TFits, r_len, RFits};
+
+use crate::constants::{HEADER, MAXWELEM, QID};
+use crate::fields::has_nul;
+use crate::message::{RMsg, Stat, TMsg};
+use crate::names::Names;
+use crate::put::stat_size;
+
+/// The most bytes of a text, whose length stands in two.
+const TEXT_MAX: usize = 65_535;
+
+/// The most bytes of a frame as its size can say: more than `MSIZE_MAX`, and so without a session.
+const FRAME_MAX: usize = 0xFFFF_FFFF;
+
+fn is_text(text: &str) -> bool
+    ensures { result ≡ text_test text.now }
+{
+    !has_nul(text.as_bytes())
+}
+
+fn text_fits(text: &str) -> bool
+    ensures { IsTrue result ↔ FitsText text.now }
+{
+    text.len() <= TEXT_MAX && is_text(text)
+}
+
+fn names_fit(names: &Names<'_>) -> bool
+    ensures { IsTrue result ↔ FitsNames names.now }
+{
+    for i in 0..names.len() {
+        if !text_fits(names.get(i)) {
+            return false;
+        }
+    }
+    true
+}
+
+fn names_size(names: &Names<'_>) -> usize
+    requires { FitsNames names.now }
+    ensures sum { result ≡ sum_by (λ n. 2 + length n) names.now }
+    ensures small { result < 2 ^ 21 }
+{
+    let mut size = 0;
+    for i in 0..names.len() {
+        size += 2 + names.get(i).len();
+    }
+    size
+}
+
+fn stat_fits(stat: &Stat<'_>) -> bool
+    ensures { IsTrue result ↔ FitsStat (stat_view stat.now) }
+{
+    let texts_fit = text_fits(stat.name)
+        && text_fits(stat.uid)
+        && text_fits(stat.gid)
+        && text_fits(stat.muid);
+    texts_fit && stat_size(stat) <= TEXT_MAX
+}
+
+impl TMsg<'_> {
+    /// Whether the request has a spelling, as `write_t` asks: its texts have no NUL and are short
+    /// enough for their length, and so is the whole for its size.
+    pub fn fits(&self) -> bool
+        ensures { IsTrue result ↔ TFits (t_view self.now) }
+    {
+        match self {
+            TMsg::Version { version, .. } => text_fits(version),
+            TMsg::Auth { uname, aname, .. } => text_fits(uname) && text_fits(aname),
+            TMsg::Attach { uname, aname, .. } => text_fits(uname) && text_fits(aname),
+            TMsg::Flush { .. } => true,
+            TMsg::Walk { names, .. } => names_fit(names),
+            TMsg::Open { .. } => true,
+            TMsg::Create { name, .. } => text_fits(name),
+            TMsg::Read { .. } => true,
+            TMsg::Write { bytes, .. } => bytes.len() <= FRAME_MAX - 23,
+            TMsg::Clunk { .. } => true,
+            TMsg::Remove { .. } => true,
+            TMsg::Stat { .. } => true,
+            TMsg::Wstat { stat, .. } => stat_fits(stat),
+        }
+    }
+
+    /// How many bytes the request takes, its header among them.
+    pub fn size(&self) -> usize
+        requires { TFits (t_view self.now) }
+        ensures { result ≡ 7 + t_len (t_view self.now) }
+    {
+        match self {
+            TMsg::Version { version, .. } => HEADER + 4 + 2 + version.len(),
+            TMsg::Auth { uname, aname, .. } => HEADER + 4 + 2 + uname.len() + 2 + aname.len(),
+            TMsg::Attach { uname, aname, .. } => HEADER + 8 + 2 + uname.len() + 2 + aname.len(),
+            TMsg::Flush { .. } => HEADER + 2,
+            TMsg::Walk { names, .. } => HEADER + 8 + 2 + names_size(names),
+            TMsg::Open { .. } => HEADER + 4 + 1,
+            TMsg::Create { name, .. } => HEADER + 4 + 2 + name.len() + 4 + 1,
+            TMsg::Read { .. } => HEADER + 4 + 8 + 4,
+            TMsg::Write { bytes, .. } => HEADER + 4 + 8 + 4 + bytes.len(),
+            TMsg::Clunk { .. } => HEADER + 4,
+            TMsg::Remove { .. } => HEADER + 4,
+            TMsg::Stat { .. } => HEADER + 4,
+            TMsg::Wstat { stat, .. } => HEADER + 4 + 2 + stat_size(stat),
+        }
+    }
+}
+
+impl RMsg<'_> {
+    /// Whether the reply has a spelling, as `write_r` asks: its texts have no NUL and are short
+    /// enough for their length, and so is the whole for its size.
+    pub fn fits(&self) -> bool
+        ensures { IsTrue result ↔ RFits (r_view self.now) }
+    {
+        match self {
+            RMsg::Version { version, .. } => text_fits(version),
+            RMsg::Attach { .. } => true,
+            RMsg::Error { ename } => text_fits(ename),
+            RMsg::Flush => true,
+            RMsg::Walk { qids } => qids.len() <= MAXWELEM,
+            RMsg::Open { .. } => true,
+            RMsg::Create { .. } => true,
+            RMsg::Read { bytes } => bytes.len() <= FRAME_MAX - 11,
+            RMsg::Write { .. } => true,
+            RMsg::Clunk => true,
+            RMsg::Remove => true,
+            RMsg::Stat { stat } => stat_fits(stat),
+            RMsg::Wstat => true,
+        }
+    }
+
+    /// How many bytes the reply takes, its header among them.
+    pub fn size(&self) -> usize
+        requires { RFits (r_view self.now) }
+        ensures { result ≡ 7 + r_len (r_view self.now) }
+    {
+        match self {
+            RMsg::Version { version, .. } => HEADER + 4 + 2 + version.len(),
+            RMsg::Attach { .. } => HEADER + QID,
+            RMsg::Error { ename } => HEADER + 2 + ename.len(),
+            RMsg::Flush => HEADER,
+            RMsg::Walk { qids } => HEADER + 2 + QID * qids.len(),
+            RMsg::Open { .. } => HEADER + QID + 4,
+            RMsg::Create { .. } => HEADER + QID + 4,
+            RMsg::Read { bytes } => HEADER + 4 + bytes.len(),
+            RMsg::Write { .. } => HEADER + 4,
+            RMsg::Clunk => HEADER,
+            RMsg::Remove => HEADER,
+            RMsg::Stat { stat } => HEADER + 2 + stat_size(stat),
+            RMsg::Wstat => HEADER,
+        }
+    }
+}

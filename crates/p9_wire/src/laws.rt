@@ -1,0 +1,31 @@
+//! What follows from the grammar alone. Each function does nothing: its clauses are the laws.
+
+ghost use Rattle.std.specs.Prelude.{◌≡◌, ℕ, ◌+◌, List, length};
+ghost use Rattle.p9_wire.specs.Message.{TMessage, RMessage};
+ghost use Rattle.p9_wire.specs.Spelling.{t_len, t_spelling, TSpells, r_len, r_spelling, RSpells};
+ghost use Rattle.p9_wire.specs.Reading.{t_message_of, r_message_of};
+ghost use Rattle.p9_wire.specs.Frame.{first_frame, BeginsFrames};
+ghost use Rattle.p9_wire.specs.Laws.{ReadsSpellings, ReadsEachSpelling, HasOneMessage, HasOneSpelling};
+
+/// Requests and their spellings are one for one, and `t_message_of` reads exactly these.
+pub fn requests_are_spelled_once()
+    ensures sound { ReadsSpellings t_message_of TSpells }
+    ensures complete { ReadsEachSpelling t_message_of TSpells }
+    ensures one_message { HasOneMessage TSpells }
+    ensures one_spelling { HasOneSpelling TSpells }
+    ensures len { (tag : ℕ) (m : TMessage) → length (t_spelling tag m) ≡ 7 + t_len m }
+{}
+
+/// Replies and their spellings are one for one, and `r_message_of` reads exactly these.
+pub fn replies_are_spelled_once()
+    ensures sound { ReadsSpellings r_message_of RSpells }
+    ensures complete { ReadsEachSpelling r_message_of RSpells }
+    ensures one_message { HasOneMessage RSpells }
+    ensures one_spelling { HasOneSpelling RSpells }
+    ensures len { (tag : ℕ) (m : RMessage) → length (r_spelling tag m) ≡ 7 + r_len m }
+{}
+
+/// The frames of a byte string begin with what stands at its front.
+pub fn frames_begin_at_the_front()
+    ensures { (bytes : List ℕ) → BeginsFrames (first_frame bytes) bytes }
+{}

@@ -1,0 +1,35 @@
+//! The messages of 9P2000 as bytes, and back.
+//!
+//! A frame is `size[4] type[1] tag[2]` and a body, as intro(5) lays it out. The codec is exact in
+//! both directions: a message with a tag has one spelling, which the writers put at the front of
+//! the caller's buffer, and the readers answer a message exactly where some message has these
+//! bytes. Nothing here allocates: texts and data are slices of the frame.
+#![tactic(auto)]
+
+mod constants;
+mod fields;
+mod fits;
+mod frame;
+pub mod laws;
+mod message;
+mod names;
+mod put;
+mod qids;
+mod r_reading;
+mod r_writing;
+mod t_reading;
+mod t_writing;
+
+pub use constants::{HEADER, IOHDRSZ, MAXWELEM, MSIZE_MAX, NOFID, NOTAG, STAT_FIXED};
+pub use frame::{Frame, frame_of};
+pub use message::{RMsg, Stat, TMsg};
+pub use names::Names;
+pub use put::write_stat;
+pub use qids::Qids;
+pub use r_reading::read_r;
+pub use r_writing::{finish_read, write_r};
+pub use t_reading::read_t;
+pub use t_writing::write_t;
+
+#[cfg(test)]
+mod tests;

@@ -1,0 +1,139 @@
+//! What a message says, apart from its tag.
+
+use crate::names::Names;
+use crate::qids::Qids;
+use p9_base::Qid;
+
+/// What a server tells of a file, or a client asks to change, as stat(5). The fields stand in the
+/// order of their bytes.
+#[derive(Clone, Copy, Debug)]
+pub struct Stat<'a> {
+    /// The type of the server's device, for the kernel's use.
+    pub kind: u16,
+    /// The server's number among those of its type, for the kernel's use.
+    pub dev: u32,
+    /// The file's identity and version.
+    pub qid: Qid,
+    /// Permissions and flags.
+    pub mode: u32,
+    /// When the contents were last read, in seconds since 1970.
+    pub atime: u32,
+    /// When the contents were last changed, in seconds since 1970.
+    pub mtime: u32,
+    /// The length of the contents in bytes.
+    pub length: u64,
+    /// The last name of the file's path.
+    pub name: &'a str,
+    /// The owner's name.
+    pub uid: &'a str,
+    /// The group's name.
+    pub gid: &'a str,
+    /// The name of the user who last changed the contents.
+    pub muid: &'a str,
+}
+
+/// What a client asks, in the order of the manual. Texts and data are slices of the frame.
+#[derive(Debug, Drop)]
+pub enum TMsg<'a> {
+    /// Begins a session, as version(5): the greatest frame that the client will send or take, and
+    /// the dialect that it speaks.
+    Version {
+        msize: u32,
+        version: &'a str,
+    },
+    /// Asks for a fid to authenticate through, as attach(5).
+    Auth {
+        afid: u32,
+        uname: &'a str,
+        aname: &'a str,
+    },
+    /// Makes a fid for the root of a tree, as attach(5). `afid` is `NOFID` without authentication.
+    Attach {
+        fid: u32,
+        afid: u32,
+        uname: &'a str,
+        aname: &'a str,
+    },
+    /// Asks that the message with this tag be given up, as flush(5).
+    Flush {
+        oldtag: u16,
+    },
+    /// Goes down a path of at most sixteen names, as walk(5).
+    Walk {
+        fid: u32,
+        newfid: u32,
+        names: Names<'a>,
+    },
+    /// Makes a fid ready for reading or writing, as open(5).
+    Open {
+        fid: u32,
+        mode: u8,
+    },
+    /// Makes a file in a directory and opens it, as open(5).
+    Create {
+        fid: u32,
+        name: &'a str,
+        perm: u32,
+        mode: u8,
+    },
+    /// Asks for at most `count` bytes from an offset on, as read(5).
+    Read {
+        fid: u32,
+        offset: u64,
+        count: u32,
+    },
+    /// Gives bytes to stand from an offset on, as read(5).
+    Write {
+        fid: u32,
+        offset: u64,
+        bytes: &'a [u8],
+    },
+    /// Forgets a fid, as clunk(5).
+    Clunk {
+        fid: u32,
+    },
+    /// Removes a file and forgets its fid, as remove(5).
+    Remove {
+        fid: u32,
+    },
+    /// Asks what is told of a file, as stat(5).
+    Stat {
+        fid: u32,
+    },
+    /// Changes what is told of a file, as stat(5).
+    Wstat {
+        fid: u32,
+        stat: Stat<'a>,
+    },
+}
+
+/// What a server answers, in the order of the manual. Texts and data are slices of the frame.
+#[derive(Debug, Drop)]
+pub enum RMsg<'a> {
+    /// The session's greatest frame and its dialect, `unknown` where it has none, as version(5).
+    Version { msize: u32, version: &'a str },
+    /// The root's qid, as attach(5).
+    Attach { qid: Qid },
+    /// Why the request is refused, as error(5). It may answer any request.
+    Error { ename: &'a str },
+    /// Nothing will be sent for the flushed tag any more, as flush(5).
+    Flush,
+    /// The qids of the names that were walked, at most sixteen, as walk(5).
+    Walk { qids: Qids },
+    /// The file's qid, and the most bytes that one message reads or writes, as open(5).
+    Open { qid: Qid, iounit: u32 },
+    /// The same of a new file, as open(5).
+    Create { qid: Qid, iounit: u32 },
+    /// The bytes that were read, as read(5).
+    Read { bytes: &'a [u8] },
+    /// How many bytes were written, as read(5).
+    Write { count: u32 },
+    /// The fid is forgotten, as clunk(5).
+    Clunk,
+    /// The file is removed, as remove(5).
+    Remove,
+    /// What is told of the file, as stat(5).
+    Stat { stat: Stat<'a> },
+    /// It is changed, as stat(5).
+    Wstat,
+}

@@ -1,0 +1,72 @@
+//! The qids of a walk, kept in place.
+
+ghost use Rattle.std.specs.Prelude.{◌≡◌, ◌==◌, ◌<◌, ◌≤◌, ◌++◌, ◌∷◌, [], List, take, length};
+ghost use Rattle.p9_base.specs.declared.qid.Qid.{Qid};
+
+use crate::constants::MAXWELEM;
+use p9_base::Qid;
+use std::marker::Model;
+
+/// Up to sixteen qids, as one message of walk(5) holds. A contract sees them as a list.
+#[derive(Debug, Drop)]
+pub struct Qids {
+    items: [Qid; MAXWELEM],
+    len: usize,
+}
+
+impl Model for Qids {
+    ghost Value = { List Qid };
+
+    ghost view = { λ q. take q.len q.items };
+
+    ghost invariant = { λ q. (length q.items ≡ 16) × (q.len ≤ 16) };
+}
+
+impl Qids {
+    /// No qids.
+    pub fn new() -> Qids
+        ensures { result ≡ [] }
+    {
+        let unused = Qid {
+            kind: 0,
+            version: 0,
+            path: 0,
+        };
+        Qids {
+            items: [unused; MAXWELEM],
+            len: 0,
+        }
+    }
+
+    /// How many qids there are, at most `MAXWELEM`.
+    pub fn len(&self) -> usize
+        ensures len { result ≡ length self.now }
+        ensures few { result ≤ MAXWELEM }
+    {
+        self.len
+    }
+
+    /// Whether there are none.
+    pub fn is_empty(&self) -> bool
+        ensures { result ≡ (length self.now == 0) }
+    {
+        self.len == 0
+    }
+
+    /// The qids in order.
+    pub fn as_slice(&self) -> &[Qid]
+        ensures qids { result.now ≡ self.now }
+        ensures few { length result.now ≤ MAXWELEM }
+    {
+        &self.items[..self.len]
+    }
+
+    /// Adds a qid behind the others.
+    pub fn push(&mut self, qid: Qid)
+        requires { length self.old < MAXWELEM }
+        ensures { self.new ≡ self.old ++ qid ∷ [] }
+    {
+        self.items[self.len] = qid;
+        self.len += 1;
+    }
+}

@@ -1,0 +1,117 @@
+//! Requests into bytes.
+
+ghost use Rattle.std.specs.Prelude.{◌≡◌, ◌≤◌, ◌+◌, length};
+ghost use Rattle.p9_wire.specs.Message.{t_view};
+ghost use Rattle.p9_wire.specs.Spelling.{t_type, t_body, t_len, TFits, t_spelling};
+ghost use Rattle.p9_wire.specs.Writing.{Puts, Writes};
+
+use crate::constants::{
+    HEADER, TATTACH, TAUTH, TCLUNK, TCREATE, TFLUSH, TOPEN, TREAD, TREMOVE, TSTAT, TVERSION, TWALK,
+    TWRITE, TWSTAT,
+};
+use crate::message::TMsg;
+use crate::put::{
+    put_counted, put_header, put_names, put_sized_stat, put_text, put_u8, put_u16, put_u32, put_u64,
+};
+
+fn kind_of(m: &TMsg<'_>) -> u8
+    ensures { result ≡ t_type (t_view m.now) }
+{
+    match m {
+        TMsg::Version { .. } => TVERSION,
+        TMsg::Auth { .. } => TAUTH,
+        TMsg::Attach { .. } => TATTACH,
+        TMsg::Flush { .. } => TFLUSH,
+        TMsg::Walk { .. } => TWALK,
+        TMsg::Open { .. } => TOPEN,
+        TMsg::Create { .. } => TCREATE,
+        TMsg::Read { .. } => TREAD,
+        TMsg::Write { .. } => TWRITE,
+        TMsg::Clunk { .. } => TCLUNK,
+        TMsg::Remove { .. } => TREMOVE,
+        TMsg::Stat { .. } => TSTAT,
+        TMsg::Wstat { .. } => TWSTAT,
+    }
+}
+
+/// Puts the body behind the place of the header.
+fn put_body(m: &TMsg<'_>, out: &mut [u8]) -> usize
+    requires fits { TFits (t_view m.now) }
+    requires room { 7 + t_len (t_view m.now) ≤ length out.old }
+    ensures { Puts (t_body (t_view m.now)) 7 result out.old out.new }
+{
+    match m {
+        TMsg::Version { msize, version } => {
+            let at = put_u32(out, HEADER, *msize);
+            put_text(out, at, version)
+        }
+        TMsg::Auth { afid, uname, aname } => {
+            let at = put_u32(out, HEADER, *afid);
+            let at = put_text(out, at, uname);
+            put_text(out, at, aname)
+        }
+        TMsg::Attach {
+            fid,
+            afid,
+            uname,
+            aname,
+        } => {
+            let at = put_u32(out, HEADER, *fid);
+            let at = put_u32(out, at, *afid);
+            let at = put_text(out, at, uname);
+            put_text(out, at, aname)
+        }
+        TMsg::Flush { oldtag } => put_u16(out, HEADER, *oldtag),
+        TMsg::Walk { fid, newfid, names } => {
+            let at = put_u32(out, HEADER, *fid);
+            let at = put_u32(out, at, *newfid);
+            put_names(out, at, names)
+        }
+        TMsg::Open { fid, mode } => {
+            let at = put_u32(out, HEADER, *fid);
+            put_u8(out, at, *mode)
+        }
+        TMsg::Create {
+            fid,
+            name,
+            perm,
+            mode,
+        } => {
+            let at = put_u32(out, HEADER, *fid);
+            let at = put_text(out, at, name);
+            let at = put_u32(out, at, *perm);
+            put_u8(out, at, *mode)
+        }
+        TMsg::Read { fid, offset, count } => {
+            let at = put_u32(out, HEADER, *fid);
+            let at = put_u64(out, at, *offset);
+            put_u32(out, at, *count)
+        }
+        TMsg::Write { fid, offset, bytes } => {
+            let at = put_u32(out, HEADER, *fid);
+            let at = put_u64(out, at, *offset);
+            put_counted(out, at, bytes)
+        }
+        TMsg::Clunk { fid } => put_u32(out, HEADER, *fid),
+        TMsg::Remove { fid } => put_u32(out, HEADER, *fid),
+        TMsg::Stat { fid } => put_u32(out, HEADER, *fid),
+        TMsg::Wstat { fid, stat } => {
+            let at = put_u32(out, HEADER, *fid);
+            put_sized_stat(out, at, stat)
+        }
+    }
+}
+
+/// Writes a request with its tag at the front of the buffer, and answers its length. What stands
+/// behind it stays. The buffer has room for it, and it has a spelling: `size` and `fits` of `TMsg`
+/// tell both.
+pub fn write_t(m: &TMsg<'_>, tag: u16, out: &mut [u8]) -> usize
+    requires fits { TFits (t_view m.now) }
+    requires room { 7 + t_len (t_view m.now) ≤ length out.old }
+    ensures len { result ≡ 7 + t_len (t_view m.now) }
+    ensures bytes { Writes (t_spelling tag (t_view m.now)) result out.old out.new }
+{
+    let end = put_body(m, out);
+    put_header(out, end as u32, kind_of(m), tag);
+    end
+}
