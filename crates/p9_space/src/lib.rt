@@ -7,6 +7,8 @@
 mod rights;
 mod row;
 mod table;
+#[cfg(test)]
+mod tests;
 mod trail;
 mod walk;
 
