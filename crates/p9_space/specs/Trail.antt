@@ -1,7 +1,9 @@
 -- Trails: the places that a walk came by, from the place of attachment on.
-use Rattle.std.specs.Prelude.{◌-◌, ◌<◌, ◌≤◌, List, length, slice_index_or, take, nat_lt, if◌then◌else◌}
+use Rattle.std.specs.Prelude.{◌-◌, ◌<◌, ◌≤◌, List, [], ◌∷◌, ◌++◌, length, slice_index_or, take, nat_lt, if◌then◌else◌}
 use Rattle.p9_base.specs.declared.node_ref.NodeRef.{NodeRef}
 use Rattle.p9_space.specs.declared.trail.TheConstants.{PLACES_MAX}
+use Rattle.p9_space.specs.declared.trail.Step.{Step}
+use Rattle.p9_space.specs.declared.trail.Step.TheVariants.{Up, To}
 
 -- one place at least, and not too many
 pub record IsTrail (trail : List NodeRef) : Type 0 where
@@ -15,3 +17,8 @@ here trail = slice_index_or trail (length trail - 1) (record { server = 0; numbe
 -- back by one place; a trail of one place stays
 abbrev pub upward : List NodeRef → List NodeRef
 upward trail = if nat_lt 1 (length trail) then take (length trail - 1) trail else trail
+
+-- the places after a step
+abbrev pub stepped : List NodeRef → Step → List NodeRef
+stepped trail Up = upward trail
+stepped trail (To place) = trail ++ place ∷ []

@@ -1,5 +1,5 @@
 -- Walks over the servers and the mount table, as walk(5).
-use Rattle.std.specs.Prelude.{ℕ, ◌==◌, ◌&&◌, Bool, true, false, not, List, [], ◌∷◌, ◌++◌, Option, Some, None, Result, Ok, Err, is_some, codes, length, if◌then◌else◌}
+use Rattle.std.specs.Prelude.{ℕ, ◌==◌, ◌&&◌, Bool, true, false, not, List, [], ◌∷◌, Option, Some, None, Result, Ok, Err, is_some, codes, length, if◌then◌else◌}
 use Rattle.std.specs.Option.{option_map, option_map_or}
 use Rattle.std.specs.List.{list_any}
 use Rattle.std.specs.Str.{bytes_eq}
@@ -12,12 +12,12 @@ use Rattle.p9_tree.specs.Forest.{node_of, child_in}
 use Rattle.p9_space.specs.declared.row.Member.{Member}
 use Rattle.p9_space.specs.declared.rights.TheConstants.{TO_EXECUTE}
 use Rattle.p9_space.specs.declared.trail.TheConstants.{PLACES_MAX}
-use Rattle.p9_space.specs.declared.walk.Step.{Step}
-use Rattle.p9_space.specs.declared.walk.Step.TheVariants.{Up, To}
+use Rattle.p9_space.specs.declared.trail.Step.{Step}
+use Rattle.p9_space.specs.declared.trail.Step.TheVariants.{Up, To}
 use Rattle.p9_space.specs.Place.{file_of}
 use Rattle.p9_space.specs.Rights.{may}
 use Rattle.p9_space.specs.Table.{MountRow, members_of}
-use Rattle.p9_space.specs.Trail.{here, upward}
+use Rattle.p9_space.specs.Trail.{here, stepped}
 
 -- the user may search the directory; without a user everybody may
 abbrev pub may_search : Option (List ℕ) → Node → Bool
@@ -32,11 +32,6 @@ or_else (Some x) other = Some x
 abbrev pub and_then : {X Y : Type 0} → Result X Fault → (X → Result Y Fault) → Result Y Fault
 and_then (Ok x) next = next x
 and_then (Err fault) next = Err fault
-
--- the places after a step
-abbrev pub stepped : List NodeRef → Step → List NodeRef
-stepped trail Up = upward trail
-stepped trail (To place) = trail ++ place ∷ []
 
 module _ (forest : List Server) where
   -- a member is alive while its node exists

@@ -7,11 +7,13 @@
 mod rights;
 mod row;
 mod table;
+#[cfg(test)]
+mod tests;
 mod trail;
 mod walk;
 
 pub use rights::{TO_EXECUTE, TO_READ, TO_WRITE, may, rules};
 pub use row::{Member, Members, Order};
 pub use table::{MountTable, UnmountError};
-pub use trail::{PLACES_MAX, Trail};
-pub use walk::{Step, find_step, resolve};
+pub use trail::{PLACES_MAX, Step, Trail};
+pub use walk::{find_step, resolve};

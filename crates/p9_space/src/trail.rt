@@ -1,7 +1,7 @@
 //! Trails: how a fid or a current directory was reached.
 
-ghost use Rattle.std.specs.Prelude.{◌≡◌, ◌++◌, ◌∷◌, ◌<◌, [], length, slice_get, IfOk, OnOk, OnErr};
-ghost use Rattle.p9_space.specs.Trail.{IsTrail, here, upward};
+ghost use Rattle.std.specs.Prelude.{◌≡◌, ◌++◌, ◌∷◌, ◌<◌, ◌≤◌, [], length, slice_get, IfOk, OnOk, OnErr};
+ghost use Rattle.p9_space.specs.Trail.{IsTrail, here, stepped, upward};
 
 use p9_base::{NoMemory, NodeRef};
 use std::alloc::Allocator;
@@ -9,6 +9,15 @@ use std::marker::Model;
 
 /// The most places of a trail.
 pub const PLACES_MAX: usize = 64;
+
+/// Where one step of a walk leads.
+#[derive(Clone, Copy, Debug, PartialEq, Eq)]
+pub enum Step {
+    /// Back by one place, or nowhere at the place of attachment: the step of `..`.
+    Up,
+    /// On to a place.
+    To(NodeRef),
+}
 
 /// The places that a walk came by, from the place of attachment on: at least one, and at most
 /// [`PLACES_MAX`]. A place is a key of the mount table; its file is its first member.
@@ -83,8 +92,8 @@ impl<A: Allocator + Copy> Trail<A> {
         self.places[self.places.len() - 1]
     }
 
-    /// The place before the last, or the last where there is no other.
-    pub(crate) fn above(&self) -> NodeRef
+    // The place before the last, or the last where there is no other.
+    fn above(&self) -> NodeRef
         ensures { result ≡ here (upward self.now) }
     {
         if self.places.len() > 1 {
@@ -101,6 +110,31 @@ impl<A: Allocator + Copy> Trail<A> {
     {
         if self.places.len() > 1 {
             let _ = self.places.pop();
+        }
+    }
+
+    /// Takes a step. A refusal leaves the trail.
+    pub fn take(&mut self, step: Step) -> Result<(), NoMemory>
+        requires { length (stepped self.old step) ≤ PLACES_MAX }
+        ensures ok { OnOk result (self.new ≡ stepped self.old step) }
+        ensures err { OnErr result (self.new ≡ self.old) }
+    {
+        match step {
+            Step::Up => {
+                self.step_up();
+                Ok(())
+            }
+            Step::To(place) => self.push(place),
+        }
+    }
+
+    /// The last place after a step.
+    pub(crate) fn place_after(&self, step: Step) -> NodeRef
+        ensures { result ≡ here (stepped self.now step) }
+    {
+        match step {
+            Step::To(place) => place,
+            Step::Up => self.above(),
         }
     }
 }

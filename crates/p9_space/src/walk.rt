@@ -4,42 +4,16 @@ ghost use Rattle.std.specs.Prelude.{◌≡◌, ◌≤◌, ◌⊎◌, Ok, Err, On
 ghost use Rattle.std.specs.List.{list_any};
 ghost use Rattle.std.specs.Option.{option_copied};
 ghost use Rattle.p9_base.specs.declared.fault.Fault.TheVariants.{OutOfMemory};
-ghost use Rattle.p9_space.specs.Trail.{here};
-ghost use Rattle.p9_space.specs.Walk.{child_among, child_ref, is_alive, is_alive_dir, is_searched, may_search, step_among, step_down, step_of, stepped, walk};
+ghost use Rattle.p9_space.specs.Trail.{here, stepped};
+ghost use Rattle.p9_space.specs.Walk.{child_among, child_ref, is_alive, is_alive_dir, is_searched, may_search, step_among, step_down, step_of, walk};
 
 use crate::rights::{TO_EXECUTE, may};
 use crate::row::Member;
 use crate::table::MountTable;
-use crate::trail::{PLACES_MAX, Trail};
-use p9_base::{Fault, Name, NoMemory, NodeRef, User};
+use crate::trail::{PLACES_MAX, Step, Trail};
+use p9_base::{Fault, Name, NodeRef, User};
 use p9_tree::{Forest, Node, Tree};
 use std::alloc::Allocator;
-
-/// Where one step of a walk leads.
-#[derive(Clone, Copy, Debug, PartialEq, Eq)]
-pub enum Step {
-    /// Back by one place, or nowhere at the place of attachment: the step of `..`.
-    Up,
-    /// On to a place.
-    To(NodeRef),
-}
-
-impl<A: Allocator + Copy> Trail<A> {
-    /// Takes a step. A refusal leaves the trail.
-    pub fn take(&mut self, step: Step) -> Result<(), NoMemory>
-        requires { length (stepped self.old step) ≤ PLACES_MAX }
-        ensures ok { OnOk result (self.new ≡ stepped self.old step) }
-        ensures err { OnErr result (self.new ≡ self.old) }
-    {
-        match step {
-            Step::Up => {
-                self.step_up();
-                Ok(())
-            }
-            Step::To(place) => self.push(place),
-        }
-    }
-}
 
 fn may_search<A: Allocator>(node: &Node<A>, user: Option<&User>) -> bool
     ensures { result ≡ may_search (option_copied user.entry) node.now }
@@ -194,16 +168,6 @@ fn find_among<T: Tree, A: Allocator + Copy>(
     find_down(forest, trail, members, name, user)
 }
 
-// The last place after a step.
-fn place_after<A: Allocator + Copy>(trail: &Trail<A>, step: Step) -> NodeRef
-    ensures { result ≡ here (stepped trail.now step) }
-{
-    match step {
-        Step::To(place) => place,
-        Step::Up => trail.above(),
-    }
-}
-
 /// One step of a walk from the last place of a trail, by any text as a name. Without a user it
 /// isn't tested whether a directory may be searched.
 ///
@@ -229,8 +193,7 @@ pub fn find_step<T: Tree, A: Allocator + Copy, B: Allocator + Copy>(
         name,
         user,
     )?;
-    let place = place_after(trail, step);
-    if forest.node(table.file(place)).is_none() {
+    if forest.node(table.file(trail.place_after(step))).is_none() {
         return Err(Fault::PhaseError);
     }
     Ok(step)
