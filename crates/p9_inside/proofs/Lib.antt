@@ -1,2 +1,4 @@
+pub mod Chain
+pub mod Forests
 pub mod Outer
 pub mod Pass

@@ -2,7 +2,7 @@
 use Rattle.std.proofs.Common.{◌≡◌, ◌≢◌, ℕ, suc, ◌+◌, ◌<◌, ◌≤◌, Bool, true, false, not, cond, eqb, ◌&&◌, ◌||◌, List, [], ◌∷◌, length, Option, Some, None, IsTrue, IsFalse, refl, sym, ap, ◌∙◌, subst, arith, All, AllPairs}
 use Rattle.std.specs.Option.{option_map_or}
 use Rattle.std.proofs.lemmas.Bool.Decides.{nat_tests}
-use Rattle.std.proofs.lemmas.List.Elements.{All-head, All-tail}
+use Rattle.std.proofs.lemmas.List.Elements.{All-cons, All-head, All-tail, All-weaker}
 use Rattle.p9_tree.specs.Node.{Node, has_number}
 use Rattle.p9_tree.specs.Server.{node_at}
 use Rattle.p9_tree.specs.Inside.{is_among, is_inner, grown_by, barred_from, is_inside_at}
@@ -45,6 +45,12 @@ module _ (x : Node) (xs : List Node) (o : IsOrdered (x ∷ xs)) where
 
   pub no_later : (j : ℕ) → j ≤ x.number → node_at j xs ≡ None
   no_later j le = node_at-below j x.number xs le above
+
+-- each node is the one of its number
+pub each_found : (xs : List Node) → IsOrdered xs → All (λ n. node_at n.number xs ≡ Some n) xs
+each_found [] o = λ k d in_range. absurd (omega arith)
+each_found (x ∷ xs) o = All-cons (λ n. node_at n.number (x ∷ xs) ≡ Some n) x xs (grind (arith, nat_tests))
+    (All-weaker (λ n. node_at n.number xs ≡ Some n) (λ n. node_at n.number (x ∷ xs) ≡ Some n) (λ n e. later x xs o n.number n e) xs (each_found xs (tail_ordered x xs o)))
 
 -- the pass gathers no number but those of nodes
 pub barred-absent : (ks : List ℕ) (xs : List Node) (k : ℕ) → node_at k xs ≡ None → is_among (barred_from ks xs) k ≡ is_among ks k

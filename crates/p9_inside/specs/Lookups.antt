@@ -2,8 +2,8 @@
 use Rattle.std.specs.Prelude.{◌≡◌, ℕ, List, Option, IsFalse, filter}
 use Rattle.p9_base.specs.declared.node_ref.NodeRef.{NodeRef}
 use Rattle.p9_tree.specs.Node.{Node, is_in}
-use Rattle.p9_tree.specs.Server.{Server, node_at, is_dir_at, child_of, child_after, has_children}
-use Rattle.p9_tree.specs.Forest.{server_at, node_of, child_in, child_in_after, next_of}
+use Rattle.p9_tree.specs.Server.{Server, node_at, is_dir_at, bytes_at, child_of, child_after, has_children}
+use Rattle.p9_tree.specs.Forest.{server_at, node_of, child_in, child_in_after, next_of, is_dir_of, bytes_of}
 use Rattle.p9_tree.specs.Inside.{is_among, barred_from, is_inside_at, outer_server, is_barred, is_inside, outer}
 
 -- Of a number whose node isn't inside.
@@ -18,7 +18,13 @@ abbrev pub ServerKeepsDirTest : Type 0
 ServerKeepsDirTest = (hidden : List ℕ) (s : Server) (k : ℕ) → IsFalse (is_inside_at k hidden s.nodes) → is_dir_at k (outer_server hidden s).nodes ≡ is_dir_at k s.nodes
 
 abbrev pub KeepsDirTest : Type 0
-KeepsDirTest = (hidden : List NodeRef) (forest : List Server) (r : NodeRef) → IsFalse (is_inside r hidden forest) → is_dir_at r.number (server_at r.server (outer hidden forest)).nodes ≡ is_dir_at r.number (server_at r.server forest).nodes
+KeepsDirTest = (hidden : List NodeRef) (forest : List Server) (r : NodeRef) → IsFalse (is_inside r hidden forest) → is_dir_of r (outer hidden forest) ≡ is_dir_of r forest
+
+abbrev pub ServerKeepsBytes : Type 0
+ServerKeepsBytes = (hidden : List ℕ) (s : Server) (k : ℕ) → IsFalse (is_inside_at k hidden s.nodes) → bytes_at k (outer_server hidden s).nodes ≡ bytes_at k s.nodes
+
+abbrev pub KeepsBytes : Type 0
+KeepsBytes = (hidden : List NodeRef) (forest : List Server) (r : NodeRef) → IsFalse (is_inside r hidden forest) → bytes_of r (outer hidden forest) ≡ bytes_of r forest
 
 -- Of a directory that is neither hidden nor inside.
 

@@ -1,6 +1,6 @@
 //! Look-ups outside do not see what is inside.
 
-ghost use Rattle.p9_inside.specs.Lookups.{ServerKeepsNode, KeepsNode, ServerKeepsDirTest, KeepsDirTest, ServerKeepsChild, KeepsChild, ServerKeepsChildAfter, KeepsChildAfter, ServerKeepsChildren, KeepsChildren, ServerKeepsNext, KeepsNext};
+ghost use Rattle.p9_inside.specs.Lookups.{ServerKeepsNode, KeepsNode, ServerKeepsDirTest, KeepsDirTest, ServerKeepsBytes, KeepsBytes, ServerKeepsChild, KeepsChild, ServerKeepsChildAfter, KeepsChildAfter, ServerKeepsChildren, KeepsChildren, ServerKeepsNext, KeepsNext};
 
 /// A number whose node is not inside has the same node, or none, when the insides are left out.
 pub fn outer_keeps_node()
@@ -12,6 +12,12 @@ pub fn outer_keeps_node()
 pub fn outer_keeps_dir_test()
     ensures server { ServerKeepsDirTest }
     ensures forest { KeepsDirTest }
+{}
+
+/// So do its bytes.
+pub fn outer_keeps_bytes()
+    ensures server { ServerKeepsBytes }
+    ensures forest { KeepsBytes }
 {}
 
 /// A directory that is neither hidden nor inside has the same child of each name.

@@ -1,0 +1,109 @@
+-- A node is inside exactly where a hidden number stands in its chain of parents.
+use Rattle.std.proofs.Common.{◌≡◌, ◌≢◌, ℕ, zero, suc, ◌+◌, ◌<◌, ◌≤◌, Bool, true, false, not, ◌&&◌, ◌||◌, List, [], ◌∷◌, Option, Some, None, IsTrue, IsFalse, refl, sym, ap, ◌∙◌, subst, arith, inl, inr, ◌⊎◌, ◌↔◌, All}
+use Rattle.std.specs.Prelude.{filter}
+use Rattle.std.proofs.lemmas.List.Elements.{All-head, All-tail, All-weaker}
+use Rattle.std.specs.Option.{option_map_or}
+use Rattle.p9_tree.specs.Node.{Node}
+use Rattle.p9_tree.specs.Server.{Server, WellFormed, node_at}
+use Rattle.p9_tree.specs.Inside.{IsInside, Child, Deeper, is_among, is_inner, barred_from, is_inside_at}
+use Rattle.p9_inside.specs.Meaning.{ServerPassIsChain, ServerBarredIsHiddenOrInside, ServerOnlyNodesHide}
+use Rattle.p9_inside.proofs.Pass.{IsOrdered, barred-is_among, each_found}
+
+pub ordered : (s : Server) → WellFormed s → IsOrdered s.nodes
+ordered s w = record { rising = w.rising; parents = w.parent_below }
+
+or_cases : (a b : Bool) → (a || b) ≡ true → (a ≡ true) ⊎ (b ≡ true)
+or_cases a b h = grind arith
+
+module _ (hidden : List ℕ) (nodes : List Node) (o : IsOrdered nodes) where
+  -- a hidden directory stands in the chain
+  abbrev pub InChain : ℕ → Type 0
+  InChain k = (h : ℕ) × IsTrue (is_among hidden h) × IsInside nodes h k
+
+  barred : ℕ → Bool
+  barred k = is_among (barred_from hidden nodes) k
+
+  inside-node : (k : ℕ) (n : Node) → node_at k nodes ≡ Some n → is_inside_at k hidden nodes ≡ is_inner (barred_from hidden nodes) n
+  inside-node k n e = rw e refl
+
+  inside-child : (k p : ℕ) (n : Node) → node_at k nodes ≡ Some n → n.parent ≡ Some p → is_inside_at k hidden nodes ≡ is_among (barred_from hidden nodes) p
+  inside-child k p n e in_p = rw e (rw in_p refl)
+
+  -- a node inside has a parent that is barred
+  inside_parent : (k : ℕ) → is_inside_at k hidden nodes ≡ true → (n : Node) × (p : ℕ) × (node_at k nodes ≡ Some n) × (n.parent ≡ Some p) × (is_among (barred_from hidden nodes) p ≡ true)
+  inside_parent k i = go (node_at k nodes) refl i
+    where
+      go : (q : Option Node) → node_at k nodes ≡ q → option_map_or (is_inner (barred_from hidden nodes)) q false ≡ true → (n : Node) × (p : ℕ) × (node_at k nodes ≡ Some n) × (n.parent ≡ Some p) × (is_among (barred_from hidden nodes) p ≡ true)
+      go None e t = absurd (cc)
+      go (Some n) e t = up n.parent refl t
+        where
+          up : (q : Option ℕ) → n.parent ≡ q → option_map_or (λ p. is_among (barred_from hidden nodes) p) q false ≡ true → (m : Node) × (p : ℕ) × (node_at k nodes ≡ Some m) × (m.parent ≡ Some p) × (is_among (barred_from hidden nodes) p ≡ true)
+          up None w t = absurd (cc)
+          up (Some p) w t = (n, p, e, w, t)
+
+  chain_from : (bound k : ℕ) → k < bound → is_inside_at k hidden nodes ≡ true → InChain k
+  chain_from zero k low i = absurd (omega arith)
+  chain_from (suc bound) k low i = go (inside_parent k i) (λ q m j. chain_from bound q m j)
+    where
+      go : (n : Node) × (p : ℕ) × (node_at k nodes ≡ Some n) × (n.parent ≡ Some p) × (is_among (barred_from hidden nodes) p ≡ true) → ((q : ℕ) → q < bound → is_inside_at q hidden nodes ≡ true → InChain q) → InChain k
+      go w ih = split (or_cases (is_among hidden w.1) (is_inside_at w.1 hidden nodes) (sym (barred-is_among hidden nodes w.1 o) ∙ w.4))
+        where
+          below : w.1 < k
+          below = o.parents k w.1 w.0 w.2 w.3
+          further : InChain w.1 → InChain k
+          further c = (c.0, c.1, Deeper k w.1 w.0 w.2 w.3 c.2)
+          split : (is_among hidden w.1 ≡ true) ⊎ (is_inside_at w.1 hidden nodes ≡ true) → InChain k
+          split (inl a) = (w.1, a, Child k w.0 w.2 w.3)
+          split (inr b) = further (ih w.1 (omega (arith, below)) b)
+
+  inside_from_chain : (h k : ℕ) → IsTrue (is_among hidden h) → IsInside nodes h k → is_inside_at k hidden nodes ≡ true
+  inside_from_chain h _ hid (Child k n e in_h) = inside-child k h n e in_h ∙ barred-is_among hidden nodes h o ∙ grind arith
+  inside_from_chain h _ hid (Deeper k p n e in_p up) = 
+      let i : is_inside_at p hidden nodes ≡ true = inside_from_chain h p hid up in
+      inside-child k p n e in_p ∙ barred-is_among hidden nodes p o ∙ grind arith
+
+  pub inside_chain : (k : ℕ) → IsTrue (is_inside_at k hidden nodes) ↔ InChain k
+  inside_chain k = (chain_from (suc k) k (omega arith), λ c. inside_from_chain c.0 k c.1 c.2)
+
+-- tests that pass together are equal
+same_tests : (a b : Bool) → (a ≡ true → b ≡ true) → (b ≡ true → a ≡ true) → a ≡ b
+same_tests true b f g = sym (f refl)
+same_tests false true f g = g refl
+same_tests false false f g = refl
+
+filter_agree_each : (p q : Node → Bool) (xs : List Node) → All (λ x. p x ≡ q x) xs → filter p xs ≡ filter q xs
+filter_agree_each p q [] h = refl
+filter_agree_each p q (x ∷ xs) h =
+    let here : p x ≡ q x = All-head (λ x. p x ≡ q x) x xs h in
+    grind (arith, filter_agree_each p q xs (All-tail (λ x. p x ≡ q x) x xs h))
+
+module _ (hidden other : List ℕ) (s : Server) (w : WellFormed s) (agree : (k : ℕ) → node_at k s.nodes ≢ None → is_among other k ≡ is_among hidden k) where
+  parent_exists : (k p : ℕ) (n : Node) → node_at k s.nodes ≡ Some n → n.parent ≡ Some p → node_at p s.nodes ≢ None
+  parent_exists k p n e in_p none = let dir = w.parent_dir k p n e in_p in let gone = rw none at dir in cc
+
+  -- what stands in a chain of parents exists
+  chain_exists : (h k : ℕ) → IsInside s.nodes h k → node_at h s.nodes ≢ None
+  chain_exists h _ (Child k n e in_h) = parent_exists k h n e in_h
+  chain_exists h _ (Deeper k p n e in_p up) = chain_exists h p up
+
+  inside-other : (k : ℕ) → is_inside_at k other s.nodes ≡ is_inside_at k hidden s.nodes
+  inside-other k = same_tests _ _
+      (λ i. let c = (inside_chain other s.nodes (ordered s w) k).0 i in (inside_chain hidden s.nodes (ordered s w) k).1 (c.0, sym (agree c.0 (chain_exists c.0 k c.2)) ∙ c.1, c.2))
+      (λ i. let c = (inside_chain hidden s.nodes (ordered s w) k).0 i in (inside_chain other s.nodes (ordered s w) k).1 (c.0, agree c.0 (chain_exists c.0 k c.2) ∙ c.1, c.2))
+
+  inner-other : (n : Node) → node_at n.number s.nodes ≡ Some n → is_inner (barred_from other s.nodes) n ≡ is_inner (barred_from hidden s.nodes) n
+  inner-other n e = rw e at (inside-other n.number)
+
+  each_inner : All (λ n. is_inner (barred_from other s.nodes) n ≡ is_inner (barred_from hidden s.nodes) n) s.nodes
+  each_inner = All-weaker (λ n. node_at n.number s.nodes ≡ Some n) (λ n. is_inner (barred_from other s.nodes) n ≡ is_inner (barred_from hidden s.nodes) n) inner-other s.nodes (each_found s.nodes (ordered s w))
+
+pub server_only_nodes_hide : ServerOnlyNodesHide
+server_only_nodes_hide hidden other s w agree = (
+    filter_agree_each _ _ s.nodes (each_inner hidden other s w agree),
+    filter_agree_each _ _ s.nodes (All-weaker (λ n. is_inner (barred_from other s.nodes) n ≡ is_inner (barred_from hidden s.nodes) n) (λ n. not (is_inner (barred_from other s.nodes) n) ≡ not (is_inner (barred_from hidden s.nodes) n)) (λ n e. ap not e) s.nodes (each_inner hidden other s w agree)))
+
+pub server_pass_is_chain : ServerPassIsChain
+server_pass_is_chain hidden s k w = inside_chain hidden s.nodes (ordered s w) k
+
+pub server_barred_is_hidden_or_inside : ServerBarredIsHiddenOrInside
+server_barred_is_hidden_or_inside hidden s k w = barred-is_among hidden s.nodes k (ordered s w)
