@@ -50,15 +50,17 @@ module _ (hidden : List ℕ) (nodes : List Node) (o : IsOrdered nodes) where
         where
           below : w.1 < k
           below = o.parents k w.1 w.0 w.2 w.3
+
           further : InChain w.1 → InChain k
           further c = (c.0, c.1, Deeper k w.1 w.0 w.2 w.3 c.2)
+
           split : (is_among hidden w.1 ≡ true) ⊎ (is_inside_at w.1 hidden nodes ≡ true) → InChain k
           split (inl a) = (w.1, a, Child k w.0 w.2 w.3)
           split (inr b) = further (ih w.1 (omega (arith, below)) b)
 
   inside_from_chain : (h k : ℕ) → IsTrue (is_among hidden h) → IsInside nodes h k → is_inside_at k hidden nodes ≡ true
   inside_from_chain h _ hid (Child k n e in_h) = inside-child k h n e in_h ∙ barred-is_among hidden nodes h o ∙ grind arith
-  inside_from_chain h _ hid (Deeper k p n e in_p up) = 
+  inside_from_chain h _ hid (Deeper k p n e in_p up) =
       let i : is_inside_at p hidden nodes ≡ true = inside_from_chain h p hid up in
       inside-child k p n e in_p ∙ barred-is_among hidden nodes p o ∙ grind arith
 
@@ -99,8 +101,9 @@ module _ (hidden other : List ℕ) (s : Server) (w : WellFormed s) (agree : (k :
 
 pub server_only_nodes_hide : ServerOnlyNodesHide
 server_only_nodes_hide hidden other s w agree = (
-    filter_agree_each _ _ s.nodes (each_inner hidden other s w agree),
-    filter_agree_each _ _ s.nodes (All-weaker (λ n. is_inner (barred_from other s.nodes) n ≡ is_inner (barred_from hidden s.nodes) n) (λ n. not (is_inner (barred_from other s.nodes) n) ≡ not (is_inner (barred_from hidden s.nodes) n)) (λ n e. ap not e) s.nodes (each_inner hidden other s w agree)))
+  filter_agree_each _ _ s.nodes (each_inner hidden other s w agree),
+  filter_agree_each _ _ s.nodes (All-weaker (λ n. is_inner (barred_from other s.nodes) n ≡ is_inner (barred_from hidden s.nodes) n) (λ n. not (is_inner (barred_from other s.nodes) n) ≡ not (is_inner (barred_from hidden s.nodes) n)) (λ n e. ap not e) s.nodes (each_inner hidden other s w agree)),
+)
 
 pub server_pass_is_chain : ServerPassIsChain
 server_pass_is_chain hidden s k w = inside_chain hidden s.nodes (ordered s w) k

@@ -1,5 +1,5 @@
 -- Forests without what is inside, server by server.
-use Rattle.std.proofs.Common.{◌≡◌, ◌≢◌, ◌↔◌, ℕ, zero, suc, ◌+◌, Bool, true, false, List, [], ◌∷◌, Option, Some, None, slice_get, IsTrue, IsFalse, refl, sym, ap, ◌∙◌, arith}
+use Rattle.std.proofs.Common.{◌≡◌, ◌≢◌, ◌↔◌, ℕ, zero, suc, ◌+◌, Bool, true, false, List, [], ◌∷◌, Option, Some, None, slice_get, IsTrue, IsFalse, refl, sym, ap, ◌∙◌, arith, All, ◌<◌}
 use Rattle.std.specs.Prelude.{filter, find, ◌==◌, unwrap_or}
 use Rattle.p9_base.specs.declared.node_ref.NodeRef.{NodeRef}
 use Rattle.p9_tree.specs.Node.{Node, is_in}
@@ -56,6 +56,14 @@ server_ordered forest w server = go (slice_get forest server) refl
     go : (o : Option Server) → slice_get forest server ≡ o → IsOrdered (unwrap_or o no_server).nodes
     go None e = record { rising = λ i j d lt in_range. absurd (omega arith); parents = λ k p n e. absurd (cc) }
     go (Some s) e = ordered s (w.servers server s e)
+
+-- its numbers lie below the next
+pub server_below : (forest : List Server) → IsForest forest → (server : ℕ) → All (λ n. n.number < (server_at server forest).next) (server_at server forest).nodes
+server_below forest w server = go (slice_get forest server) refl
+  where
+    go : (o : Option Server) → slice_get forest server ≡ o → All (λ n. n.number < (unwrap_or o no_server).next) (unwrap_or o no_server).nodes
+    go None e = λ k d in_range. absurd (omega arith)
+    go (Some s) e = (w.servers server s e).below
 
 pub pass_is_chain : PassIsChain
 unfolding is_inside is_hidden

@@ -52,7 +52,7 @@ module _ (hidden : List ℕ) (s : Server) (dir : ℕ) (out : IsFalse (is_among (
   keeps_all : SameChildren dir s.nodes (outer_nodes hidden s.nodes)
   keeps_all = record {
     all = filter-filter_all (is_in dir) _ s.nodes (λ n t. child_outer _ dir n out t);
-    some = list_any-filter_all (is_in dir) _ s.nodes (λ n t. child_outer _ dir n out t)
+    some = list_any-filter_all (is_in dir) _ s.nodes (λ n t. child_outer _ dir n out t);
   }
 
 and_left : (a b : Bool) → (a && b) ≡ true → a ≡ true

@@ -36,7 +36,7 @@ module _ (x : Node) (xs : List Node) (o : IsOrdered (x ∷ xs)) where
   pub tail_ordered : IsOrdered xs
   tail_ordered = record {
     rising = λ i j d lt in_range. o.rising (suc i) (suc j) d (omega arith) (omega arith);
-    parents = λ k p n e in_p. o.parents k p n (later k n e) in_p
+    parents = λ k p n e in_p. o.parents k p n (later k n e) in_p;
   }
 
   -- its own parent is below

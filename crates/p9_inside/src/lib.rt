@@ -6,9 +6,14 @@
 //! contract states it, and its body is empty.
 #![tactic(auto)]
 
+mod changes;
 mod lookups;
 mod meaning;
 
+pub use changes::{
+    add_spares_insides, change_spares_insides, changes_in_turn_spare_insides, drop_spares_insides,
+    named_changes_spare_insides, next_is_free, parent_decides,
+};
 pub use lookups::{
     outer_keeps_bytes, outer_keeps_child, outer_keeps_child_after, outer_keeps_children,
     outer_keeps_dir_test, outer_keeps_next, outer_keeps_node,
