@@ -6,7 +6,7 @@ use Rattle.std.specs.Option.{option_map_or}
 use Rattle.p9_tree.specs.Node.{Node}
 use Rattle.p9_tree.specs.Server.{Server, WellFormed, node_at}
 use Rattle.p9_tree.specs.Inside.{IsInside, Child, Deeper, is_among, is_inner, barred_from, is_inside_at}
-use Rattle.p9_inside.specs.Meaning.{ServerPassIsChain, ServerBarredIsHiddenOrInside, ServerOnlyNodesHide}
+use Rattle.p9_inside.specs.Meaning.{NothingInsideItself, ServerPassIsChain, ServerBarredIsHiddenOrInside, ServerOnlyNodesHide}
 use Rattle.p9_inside.proofs.Pass.{IsOrdered, barred-is_among, each_found}
 
 pub ordered : (s : Server) → WellFormed s → IsOrdered s.nodes
@@ -104,6 +104,13 @@ server_only_nodes_hide hidden other s w agree = (
   filter_agree_each _ _ s.nodes (each_inner hidden other s w agree),
   filter_agree_each _ _ s.nodes (All-weaker (λ n. is_inner (barred_from other s.nodes) n ≡ is_inner (barred_from hidden s.nodes) n) (λ n. not (is_inner (barred_from other s.nodes) n) ≡ not (is_inner (barred_from hidden s.nodes) n)) (λ n e. ap not e) s.nodes (each_inner hidden other s w agree)),
 )
+
+pub nothing_inside_itself : NothingInsideItself
+nothing_inside_itself s h _ w (Child k n e in_h) = w.parent_below k h n e in_h
+nothing_inside_itself s h _ w (Deeper k p n e in_p up) =
+    let higher : h < p = nothing_inside_itself s h p w up in
+    let high : p < k = w.parent_below k p n e in_p in
+    omega arith
 
 pub server_pass_is_chain : ServerPassIsChain
 server_pass_is_chain hidden s k w = inside_chain hidden s.nodes (ordered s w) k

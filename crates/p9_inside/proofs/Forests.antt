@@ -7,10 +7,10 @@ use Rattle.p9_tree.specs.Server.{Server, WellFormed, node_at}
 use Rattle.p9_tree.specs.Forest.{server_at, node_of, IsForest, no_server}
 use Rattle.p9_tree.specs.Inside.{IsInside, is_among, barred_from, is_inside_at, hidden_on, is_hidden, barred_on, is_barred, is_inside, outer_server, outer_from, outer, inner_nodes, outer_nodes, inner_from, inner}
 use Rattle.p9_inside.specs.Lookups.{KeepsNode, KeepsDirTest, KeepsBytes, KeepsChild, KeepsChildAfter, KeepsChildren, KeepsNext, SameChildren}
-use Rattle.p9_inside.specs.Meaning.{PassIsChain, BarredIsHiddenOrInside, OnlyNodesHide}
+use Rattle.p9_inside.specs.Meaning.{InsideByParent, InsidesAreSplit, PassIsChain, BarredIsHiddenOrInside, OnlyNodesHide}
 use Rattle.p9_inside.proofs.Pass.{IsOrdered, barred-is_among}
 use Rattle.p9_inside.proofs.Chain.{ordered, inside_chain, server_only_nodes_hide}
-use Rattle.p9_inside.proofs.Outer.{server_keeps_node, server_keeps_dir_test, server_keeps_bytes, server_keeps_child, server_keeps_child_after, server_keeps_children}
+use Rattle.p9_inside.proofs.Outer.{split_ordered, server_keeps_node, server_keeps_dir_test, server_keeps_bytes, server_keeps_child, server_keeps_child_after, server_keeps_children}
 
 server_at-outer_from : (from server at : ℕ) (hidden : List NodeRef) (forest : List Server) → at ≡ from + server → server_at server (outer_from from hidden forest) ≡ outer_server (hidden_on at hidden) (server_at server forest)
 server_at-outer_from from server at hidden [] e = refl
@@ -72,6 +72,24 @@ pass_is_chain hidden forest r w = inside_chain (hidden_on r.server hidden) (serv
 pub barred_is_hidden_or_inside : BarredIsHiddenOrInside
 unfolding is_inside is_hidden is_barred barred_on
 barred_is_hidden_or_inside hidden forest r w = barred-is_among (hidden_on r.server hidden) (server_at r.server forest).nodes r.number (server_ordered forest w r.server)
+
+pub inside_by_parent : InsideByParent
+unfolding is_inside is_barred barred_on
+inside_by_parent hidden forest r = refl
+
+nodes_of-inner_from : (from server at : ℕ) (hidden : List NodeRef) (forest : List Server) → at ≡ from + server → unwrap_or (slice_get (inner_from from hidden forest) server) [] ≡ inner_nodes (hidden_on at hidden) (server_at server forest).nodes
+nodes_of-inner_from from server at hidden [] e = refl
+nodes_of-inner_from from zero at hidden (s ∷ ss) e = let same : at ≡ from = omega arith in rw same refl
+nodes_of-inner_from from (suc server) at hidden (s ∷ ss) e = nodes_of-inner_from (suc from) server at hidden ss (omega arith)
+
+-- the insides of one server
+nodes_of-inner : (server : ℕ) (hidden : List NodeRef) (forest : List Server) → unwrap_or (slice_get (inner hidden forest) server) [] ≡ inner_nodes (hidden_on server hidden) (server_at server forest).nodes
+unfolding inner
+nodes_of-inner server hidden forest = nodes_of-inner_from 0 server server hidden forest (omega arith)
+
+pub insides_are_split : InsidesAreSplit
+unfolding is_inside
+insides_are_split hidden forest r w = rw (server_at-outer, nodes_of-inner) (split_ordered (hidden_on r.server hidden) (server_at r.server forest).nodes r.number (server_ordered forest w r.server))
 
 inner_from-agree : (from : ℕ) (hidden other : List NodeRef) (ss : List Server) → ((k at : ℕ) (s : Server) → at ≡ from + k → slice_get ss k ≡ Some s → inner_nodes (hidden_on at other) s.nodes ≡ inner_nodes (hidden_on at hidden) s.nodes) → inner_from from other ss ≡ inner_from from hidden ss
 inner_from-agree from hidden other [] h = refl

@@ -1,12 +1,14 @@
 -- Look-ups in a server without its insides.
-use Rattle.std.proofs.Common.{◌≡◌, ℕ, Bool, true, false, not, ◌&&◌, ◌||◌, List, [], ◌∷◌, Option, Some, None, IsTrue, IsFalse, refl, sym, ap, ◌∙◌, arith}
+use Rattle.std.proofs.Common.{◌≡◌, ℕ, Bool, true, false, eqb, not, ◌&&◌, ◌||◌, List, [], ◌∷◌, Option, Some, None, IsTrue, IsFalse, refl, sym, ap, subst, ◌∙◌, arith}
 use Rattle.std.specs.Prelude.{filter, find, ◌==◌}
 use Rattle.std.specs.Option.{option_map_or}
 use Rattle.std.specs.List.{list_any}
 use Rattle.std.proofs.lemmas.Bool.Decides.{nat_tests}
 use Rattle.p9_tree.specs.Node.{Node, has_number, is_in, is_child, is_above, is_dir}
 use Rattle.p9_tree.specs.Server.{Server, node_at, is_dir_at, bytes_at, child_of, child_after, has_children}
-use Rattle.p9_tree.specs.Inside.{is_among, is_inner, barred_from, is_inside_at, outer_nodes, outer_server}
+use Rattle.p9_tree.specs.Inside.{is_among, is_inner, barred_from, is_inside_at, inner_nodes, outer_nodes, outer_server}
+use Rattle.p9_inside.specs.Meaning.{IsSplit, ServerInsidesAreSplit}
+use Rattle.p9_inside.proofs.Pass.{IsOrdered, no_later, tail_ordered}
 use Rattle.p9_inside.specs.Lookups.{ServerKeepsNode, ServerKeepsDirTest, ServerKeepsBytes, ServerKeepsChild, ServerKeepsChildAfter, ServerKeepsChildren, SameChildren}
 
 -- a filter that keeps what is found changes nothing in the finding
@@ -66,3 +68,45 @@ server_keeps_child_after hidden s dir floor out = keeps_children hidden s dir ou
 
 pub server_keeps_children : ServerKeepsChildren
 server_keeps_children = keeps_all
+
+find-filter_none : {X : Type 0} (p q : X → Bool) (xs : List X) → find p xs ≡ None → find p (filter q xs) ≡ None
+find-filter_none p q [] none = refl
+find-filter_none p q (x ∷ xs) none = grind (arith, find-filter_none p q xs)
+
+-- a filter that leaves out the only node of a number
+node_at-filter_out : (q : Node → Bool) (k : ℕ) (xs : List Node) (n : Node) → IsOrdered xs → node_at k xs ≡ Some n → q n ≡ false → node_at k (filter q xs) ≡ None
+node_at-filter_out q k [] n o e out = refl
+node_at-filter_out q k (x ∷ xs) n o e out = go (eqb x.number k) refl (node_at-filter_out q k xs n (tail_ordered x xs o))
+  where
+    go : (b : Bool) → eqb x.number k ≡ b → (node_at k xs ≡ Some n → q n ≡ false → node_at k (filter q xs) ≡ None) → node_at k (filter q (x ∷ xs)) ≡ None
+    go true t ih =
+        let same : x ≡ n = (let found : Some x ≡ Some n = rw t at e in cc) in
+        let here : q x ≡ false = rw same out in
+        rw here (find-filter_none (has_number k) q xs (no_later x xs o k (grind (arith, nat_tests))))
+    go false t ih =
+        let rest : node_at k (filter q xs) ≡ None = ih (rw t at e) out in
+        grind arith
+
+split_found : (hidden : List ℕ) (nodes : List Node) (k : ℕ) (n : Node) → IsOrdered nodes → node_at k nodes ≡ Some n → (b : Bool) → is_inner (barred_from hidden nodes) n ≡ b → IsSplit k b nodes (inner_nodes hidden nodes) (outer_nodes hidden nodes)
+split_found hidden nodes k n o e true t = record {
+  insides = find-filter (has_number k) (is_inner (barred_from hidden nodes)) nodes (λ m found. let same : n ≡ m = cc in rw (← same) t);
+  others = node_at-filter_out (λ m. not (is_inner (barred_from hidden nodes) m)) k nodes n o e (ap not t)
+}
+split_found hidden nodes k n o e false t = record {
+  insides = node_at-filter_out (is_inner (barred_from hidden nodes)) k nodes n o e t;
+  others = find-filter (has_number k) (λ m. not (is_inner (barred_from hidden nodes) m)) nodes (λ m found. let same : n ≡ m = cc in rw (← same) (ap not t))
+}
+
+pub split_ordered : (hidden : List ℕ) (nodes : List Node) (k : ℕ) → IsOrdered nodes → IsSplit k (is_inside_at k hidden nodes) nodes (inner_nodes hidden nodes) (outer_nodes hidden nodes)
+split_ordered hidden nodes k o = go (node_at k nodes) refl
+  where
+    inside_is : (found : Option Node) → node_at k nodes ≡ found → is_inside_at k hidden nodes ≡ option_map_or (is_inner (barred_from hidden nodes)) found false
+    inside_is found e = ap (λ q. option_map_or (is_inner (barred_from hidden nodes)) q false) e
+    go : (found : Option Node) → node_at k nodes ≡ found → IsSplit k (is_inside_at k hidden nodes) nodes (inner_nodes hidden nodes) (outer_nodes hidden nodes)
+    go None e = subst (λ b. IsSplit k b nodes (inner_nodes hidden nodes) (outer_nodes hidden nodes)) (sym (inside_is None e))
+        (record { insides = find-filter_none (has_number k) _ nodes e; others = find-filter_none (has_number k) _ nodes e ∙ sym e })
+    go (Some n) e = subst (λ b. IsSplit k b nodes (inner_nodes hidden nodes) (outer_nodes hidden nodes)) (sym (inside_is (Some n) e))
+        (split_found hidden nodes k n o e (is_inner (barred_from hidden nodes) n) refl)
+
+pub server_insides_are_split : ServerInsidesAreSplit
+server_insides_are_split hidden s k w = split_ordered hidden s.nodes k (record { rising = w.rising; parents = w.parent_below })

@@ -18,4 +18,7 @@ pub use lookups::{
     outer_keeps_bytes, outer_keeps_child, outer_keeps_child_after, outer_keeps_children,
     outer_keeps_dir_test, outer_keeps_next, outer_keeps_node,
 };
-pub use meaning::{barred_is_hidden_or_inside, only_nodes_hide, pass_is_chain};
+pub use meaning::{
+    barred_is_hidden_or_inside, inside_by_parent, insides_are_split, nothing_inside_itself,
+    only_nodes_hide, pass_is_chain,
+};
