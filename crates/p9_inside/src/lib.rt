@@ -9,6 +9,7 @@
 mod changes;
 mod lookups;
 mod meaning;
+mod worlds;
 
 pub use changes::{
     add_spares_insides, change_spares_insides, changes_in_turn_spare_insides, drop_spares_insides,
@@ -22,3 +23,4 @@ pub use meaning::{
     barred_is_hidden_or_inside, inside_by_parent, insides_are_split, nothing_inside_itself,
     only_nodes_hide, pass_is_chain,
 };
+pub use worlds::small_worlds;
