@@ -5,7 +5,7 @@ use Rattle.std.proofs.lemmas.List.Elements.{All-head, All-tail, All-weaker}
 use Rattle.std.specs.Option.{option_map_or}
 use Rattle.p9_tree.specs.Node.{Node}
 use Rattle.p9_tree.specs.Server.{Server, WellFormed, node_at}
-use Rattle.p9_tree.specs.Inside.{IsInside, Child, Deeper, is_among, is_inner, barred_from, is_inside_at}
+use Rattle.p9_tree.specs.Inside.{IsInside, Child, Deeper, IsInsideAny, is_among, is_inner, barred_from, is_inside_at}
 use Rattle.p9_inside.specs.Meaning.{NothingInsideItself, ServerPassIsChain, ServerBarredIsHiddenOrInside, ServerOnlyNodesHide}
 use Rattle.p9_inside.proofs.Pass.{IsOrdered, barred-is_among, each_found}
 
@@ -16,13 +16,6 @@ or_cases : (a b : Bool) → (a || b) ≡ true → (a ≡ true) ⊎ (b ≡ true)
 or_cases a b h = grind arith
 
 module _ (hidden : List ℕ) (nodes : List Node) (o : IsOrdered nodes) where
-  -- a hidden directory stands in the chain
-  abbrev pub InChain : ℕ → Type 0
-  InChain k = (h : ℕ) × IsTrue (is_among hidden h) × IsInside nodes h k
-
-  barred : ℕ → Bool
-  barred k = is_among (barred_from hidden nodes) k
-
   inside-node : (k : ℕ) (n : Node) → node_at k nodes ≡ Some n → is_inside_at k hidden nodes ≡ is_inner (barred_from hidden nodes) n
   inside-node k n e = rw e refl
 
@@ -41,20 +34,20 @@ module _ (hidden : List ℕ) (nodes : List Node) (o : IsOrdered nodes) where
           up None w t = absurd (cc)
           up (Some p) w t = (n, p, e, w, t)
 
-  chain_from : (bound k : ℕ) → k < bound → is_inside_at k hidden nodes ≡ true → InChain k
+  chain_from : (bound k : ℕ) → k < bound → is_inside_at k hidden nodes ≡ true → IsInsideAny hidden nodes k
   chain_from zero k low i = absurd (omega arith)
   chain_from (suc bound) k low i = go (inside_parent k i) (λ q m j. chain_from bound q m j)
     where
-      go : (n : Node) × (p : ℕ) × (node_at k nodes ≡ Some n) × (n.parent ≡ Some p) × (is_among (barred_from hidden nodes) p ≡ true) → ((q : ℕ) → q < bound → is_inside_at q hidden nodes ≡ true → InChain q) → InChain k
+      go : (n : Node) × (p : ℕ) × (node_at k nodes ≡ Some n) × (n.parent ≡ Some p) × (is_among (barred_from hidden nodes) p ≡ true) → ((q : ℕ) → q < bound → is_inside_at q hidden nodes ≡ true → IsInsideAny hidden nodes q) → IsInsideAny hidden nodes k
       go w ih = split (or_cases (is_among hidden w.1) (is_inside_at w.1 hidden nodes) (sym (barred-is_among hidden nodes w.1 o) ∙ w.4))
         where
           below : w.1 < k
           below = o.parents k w.1 w.0 w.2 w.3
 
-          further : InChain w.1 → InChain k
+          further : IsInsideAny hidden nodes w.1 → IsInsideAny hidden nodes k
           further c = (c.0, c.1, Deeper k w.1 w.0 w.2 w.3 c.2)
 
-          split : (is_among hidden w.1 ≡ true) ⊎ (is_inside_at w.1 hidden nodes ≡ true) → InChain k
+          split : (is_among hidden w.1 ≡ true) ⊎ (is_inside_at w.1 hidden nodes ≡ true) → IsInsideAny hidden nodes k
           split (inl a) = (w.1, a, Child k w.0 w.2 w.3)
           split (inr b) = further (ih w.1 (omega (arith, below)) b)
 
@@ -64,7 +57,7 @@ module _ (hidden : List ℕ) (nodes : List Node) (o : IsOrdered nodes) where
       let i : is_inside_at p hidden nodes ≡ true = inside_from_chain h p hid up in
       inside-child k p n e in_p ∙ barred-is_among hidden nodes p o ∙ grind arith
 
-  pub inside_chain : (k : ℕ) → IsTrue (is_inside_at k hidden nodes) ↔ InChain k
+  pub inside_chain : (k : ℕ) → IsTrue (is_inside_at k hidden nodes) ↔ IsInsideAny hidden nodes k
   inside_chain k = (chain_from (suc k) k (omega arith), λ c. inside_from_chain c.0 k c.1 c.2)
 
 -- tests that pass together are equal
@@ -100,10 +93,12 @@ module _ (hidden other : List ℕ) (s : Server) (w : WellFormed s) (agree : (k :
   each_inner = All-weaker (λ n. node_at n.number s.nodes ≡ Some n) (λ n. is_inner (barred_from other s.nodes) n ≡ is_inner (barred_from hidden s.nodes) n) inner-other s.nodes (each_found s.nodes (ordered s w))
 
 pub server_only_nodes_hide : ServerOnlyNodesHide
-server_only_nodes_hide hidden other s w agree = (
-  filter_agree_each _ _ s.nodes (each_inner hidden other s w agree),
-  filter_agree_each _ _ s.nodes (All-weaker (λ n. is_inner (barred_from other s.nodes) n ≡ is_inner (barred_from hidden s.nodes) n) (λ n. not (is_inner (barred_from other s.nodes) n) ≡ not (is_inner (barred_from hidden s.nodes) n)) (λ n e. ap not e) s.nodes (each_inner hidden other s w agree)),
-)
+server_only_nodes_hide hidden other s w agree =
+    let same : All (λ n. is_inner (barred_from other s.nodes) n ≡ is_inner (barred_from hidden s.nodes) n) s.nodes = each_inner hidden other s w agree in
+    record {
+      insides = filter_agree_each _ _ s.nodes same;
+      others = filter_agree_each _ _ s.nodes (All-weaker _ (λ n. not (is_inner (barred_from other s.nodes) n) ≡ not (is_inner (barred_from hidden s.nodes) n)) (λ n e. ap not e) s.nodes same);
+    }
 
 pub nothing_inside_itself : NothingInsideItself
 nothing_inside_itself s h _ w (Child k n e in_h) = w.parent_below k h n e in_h

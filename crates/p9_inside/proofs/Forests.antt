@@ -5,9 +5,9 @@ use Rattle.p9_base.specs.declared.node_ref.NodeRef.{NodeRef}
 use Rattle.p9_tree.specs.Node.{Node, is_in}
 use Rattle.p9_tree.specs.Server.{Server, WellFormed, node_at}
 use Rattle.p9_tree.specs.Forest.{server_at, node_of, IsForest, no_server}
-use Rattle.p9_tree.specs.Inside.{IsInside, is_among, barred_from, is_inside_at, hidden_on, is_hidden, barred_on, is_barred, is_inside, outer_server, outer_from, outer, inner_nodes, outer_nodes, inner_from, inner}
+use Rattle.p9_tree.specs.Inside.{IsInside, is_among, barred_from, is_inside_at, hidden_on, is_hidden, is_barred, is_inside, outer_server, outer_from, outer, inner_nodes, outer_nodes, inner_from, inner}
 use Rattle.p9_inside.specs.Lookups.{KeepsNode, KeepsDirTest, KeepsBytes, KeepsChild, KeepsChildAfter, KeepsChildren, KeepsNext, SameChildren}
-use Rattle.p9_inside.specs.Meaning.{InsideByParent, InsidesAreSplit, PassIsChain, BarredIsHiddenOrInside, OnlyNodesHide}
+use Rattle.p9_inside.specs.Meaning.{InsideByParent, InsidesAreSplit, PassIsChain, BarredIsHiddenOrInside, OnlyNodesHide, SameAtServer}
 use Rattle.p9_inside.proofs.Pass.{IsOrdered, barred-is_among}
 use Rattle.p9_inside.proofs.Chain.{ordered, inside_chain, server_only_nodes_hide}
 use Rattle.p9_inside.proofs.Outer.{split_ordered, server_keeps_node, server_keeps_dir_test, server_keeps_bytes, server_keeps_child, server_keeps_child_after, server_keeps_children}
@@ -35,15 +35,15 @@ unfolding is_inside
 keeps_bytes hidden forest r out = rw server_at-outer (server_keeps_bytes (hidden_on r.server hidden) (server_at r.server forest) r.number out)
 
 pub keeps_child : KeepsChild
-unfolding is_barred barred_on
+unfolding is_barred
 keeps_child hidden forest dir name out = rw server_at-outer (server_keeps_child (hidden_on dir.server hidden) (server_at dir.server forest) dir.number name out)
 
 pub keeps_child_after : KeepsChildAfter
-unfolding is_barred barred_on
+unfolding is_barred
 keeps_child_after hidden forest dir floor out = rw server_at-outer (server_keeps_child_after (hidden_on dir.server hidden) (server_at dir.server forest) dir.number floor out)
 
 pub keeps_children : KeepsChildren
-unfolding is_barred barred_on
+unfolding is_barred
 keeps_children hidden forest dir out = rw server_at-outer (server_keeps_children (hidden_on dir.server hidden) (server_at dir.server forest) dir.number out)
 
 pub keeps_next : KeepsNext
@@ -70,11 +70,11 @@ unfolding is_inside is_hidden
 pass_is_chain hidden forest r w = inside_chain (hidden_on r.server hidden) (server_at r.server forest).nodes (server_ordered forest w r.server) r.number
 
 pub barred_is_hidden_or_inside : BarredIsHiddenOrInside
-unfolding is_inside is_hidden is_barred barred_on
+unfolding is_inside is_hidden is_barred
 barred_is_hidden_or_inside hidden forest r w = barred-is_among (hidden_on r.server hidden) (server_at r.server forest).nodes r.number (server_ordered forest w r.server)
 
 pub inside_by_parent : InsideByParent
-unfolding is_inside is_barred barred_on
+unfolding is_inside is_barred
 inside_by_parent hidden forest r = refl
 
 nodes_of-inner_from : (from server at : ℕ) (hidden : List NodeRef) (forest : List Server) → at ≡ from + server → unwrap_or (slice_get (inner_from from hidden forest) server) [] ≡ inner_nodes (hidden_on at hidden) (server_at server forest).nodes
@@ -101,9 +101,12 @@ outer_from-agree from hidden other (s ∷ ss) h = rw (h 0 from s (omega arith) r
 
 pub only_nodes_hide : OnlyNodesHide
 unfolding inner outer is_hidden
-only_nodes_hide hidden other forest w agree = (inner_from-agree 0 hidden other forest (λ k at s e found. (one k at s e found).0), outer_from-agree 0 hidden other forest (λ k at s e found. (one k at s e found).1))
+only_nodes_hide hidden other forest w agree = record {
+  insides = inner_from-agree 0 hidden other forest (λ k at s e found. (one k at s e found).insides);
+  others = outer_from-agree 0 hidden other forest (λ k at s e found. (one k at s e found).others);
+}
   where
-    one : (k at : ℕ) (s : Server) → at ≡ 0 + k → slice_get forest k ≡ Some s → (inner_nodes (hidden_on at other) s.nodes ≡ inner_nodes (hidden_on at hidden) s.nodes) × (outer_nodes (hidden_on at other) s.nodes ≡ outer_nodes (hidden_on at hidden) s.nodes)
+    one : (k at : ℕ) (s : Server) → at ≡ 0 + k → slice_get forest k ≡ Some s → SameAtServer (hidden_on at hidden) (hidden_on at other) s
     one k at s e found =
         let same : at ≡ k = omega arith in
         rw same (server_only_nodes_hide (hidden_on k hidden) (hidden_on k other) s (w.servers k s found) (λ j there. agree (record { server = k; number = j }) (λ none. there (rw found at none))))

@@ -8,8 +8,8 @@ use Rattle.p9_tree.specs.New.{new_node}
 use Rattle.p9_tree.specs.Node.{Node, marked, touched, with_owner, with_bytes}
 use Rattle.p9_tree.specs.Server.{Server, WellFormed, is_dir_at, added, with_changed, with_dropped}
 use Rattle.p9_tree.specs.Forest.{no_server, server_at, tree_changed_at, forest_changed_at, next_of, is_dir_of, IsForest}
-use Rattle.p9_tree.specs.Inside.{is_among, barred_from, is_inside_at, hidden_on, is_hidden, barred_on, is_barred, is_inside, outer_server, outer_from, outer, inner_nodes, inner_from, inner}
-use Rattle.p9_inside.specs.Changes.{KeepsParent, ServerSpares, Spares, ChangeSpares, MarkSpares, TouchSpares, OwnerSpares, WriteSpares, CutSpares, DropSpares, AddSpares, NewSpares, InTurnSpares, ParentDecides, NextIsFree}
+use Rattle.p9_tree.specs.Inside.{is_among, barred_from, is_inside_at, hidden_on, is_hidden, is_barred, is_inside, outer_server, outer_from, outer, inner_nodes, inner_from, inner}
+use Rattle.p9_inside.specs.Changes.{KeepsParent, with_new, ServerSpares, Spares, ChangeSpares, MarkSpares, TouchSpares, OwnerSpares, WriteSpares, CutSpares, DropSpares, AddSpares, NewSpares, InTurnSpares, ParentDecides, NextIsFree}
 use Rattle.p9_inside.proofs.Forests.{server_at-outer, server_below, server_ordered}
 use Rattle.p9_inside.proofs.Spared.{server_change_spares, drop_spares_ordered, server_add_spares, server_parent_decides, next_is_free_ordered}
 
@@ -52,7 +52,7 @@ told-set P server t forest new same = go (server_at-set server t forest new)
 
 -- a change of a server that spares its insides spares those of the forest
 pub spares-server : (hidden : List NodeRef) (forest : List Server) (server : ℕ) (change : Server → Server) → ServerSpares (hidden_on server hidden) change (server_at server forest) → Spares hidden (tree_changed_at server change) forest
-unfolding outer inner is_barred barred_on is_inside
+unfolding outer inner is_barred is_inside
 spares-server hidden forest server change spared = record {
   commutes = outer_from-set 0 server server hidden forest (change (server_at server forest)) (omega arith)
       ∙ ap (λ s. set (outer_from 0 hidden forest) server s) (spared.commutes ∙ ap change (sym (server_at-outer server hidden forest)));
@@ -84,8 +84,8 @@ pub cut_spares : CutSpares
 cut_spares hidden forest r size out = change_spares hidden forest r (with_bytes (cut_to size)) (keeps-with_bytes (cut_to size)) out
 
 pub add_spares : AddSpares
-unfolding is_barred barred_on
-add_spares hidden forest dir make in_dir out = spares-server hidden forest dir.server (λ t. added t (make t.next)) (server_add_spares (hidden_on dir.server hidden) (server_at dir.server forest) dir.number make in_dir out)
+unfolding is_barred
+add_spares hidden forest dir make in_dir out = spares-server hidden forest dir.server (with_new make) (server_add_spares (hidden_on dir.server hidden) (server_at dir.server forest) dir.number make in_dir out)
 
 pub new_spares : NewSpares
 new_spares hidden forest dir new out = add_spares hidden forest dir (λ k. new_node k dir.number new) (λ k. refl) out
@@ -111,17 +111,17 @@ there forest dir is_directory = go (slice_get forest dir.server) refl is_directo
     go (Some s) e h = (s, e)
 
 pub parent_decides : ParentDecides
-unfolding is_inside is_barred barred_on
+unfolding is_inside is_barred
 parent_decides hidden forest dir make w is_directory at in_dir =
     let t = there forest dir is_directory in
     let here : server_at dir.server forest ≡ t.0 = ap (λ o. unwrap_or o no_server) t.1 in
-    let after : server_at dir.server (tree_changed_at dir.server (λ s. added s (make s.next)) forest) ≡ added t.0 (make t.0.next)
-    = server_at-set_there dir.server forest t.0 _ t.1 ∙ ap (λ s. added s (make s.next)) here in
+    let after : server_at dir.server (tree_changed_at dir.server (with_new make) forest) ≡ added t.0 (make t.0.next)
+    = server_at-set_there dir.server forest t.0 _ t.1 ∙ ap (with_new make) here in
     ap (λ s. is_inside_at (next_of dir.server forest) (hidden_on dir.server hidden) s.nodes) after
     ∙ ap (λ s. is_inside_at s.next (hidden_on dir.server hidden) (added t.0 (make t.0.next)).nodes) here
     ∙ server_parent_decides (hidden_on dir.server hidden) t.0 dir.number (make t.0.next) (w.servers dir.server t.0 t.1) (at t.0.next) (in_dir t.0.next)
     ∙ ap (λ s. is_among (barred_from (hidden_on dir.server hidden) s.nodes) dir.number) (sym here)
 
 pub next_is_free : NextIsFree
-unfolding is_hidden is_barred barred_on
+unfolding is_hidden is_barred
 next_is_free hidden forest server w given = next_is_free_ordered (hidden_on server hidden) (server_at server forest) (server_ordered forest w server) (server_below forest w server) (λ k hid. given (record { server = server; number = k }) hid)

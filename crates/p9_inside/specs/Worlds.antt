@@ -6,9 +6,10 @@ use Rattle.p9_base.specs.declared.mode.Permissions.{Permissions}
 use Rattle.p9_base.specs.declared.mode.Rights.{Rights}
 use Rattle.p9_base.specs.declared.node_ref.NodeRef.{NodeRef}
 use Rattle.p9_tree.specs.Node.{Node, root_name}
-use Rattle.p9_tree.specs.Server.{Server, added, all_rights, read_and_search, with_dropped}
+use Rattle.p9_tree.specs.Server.{Server, all_rights, read_and_search, with_dropped}
 use Rattle.p9_tree.specs.Forest.{tree_changed_at}
 use Rattle.p9_tree.specs.Inside.{inner, outer}
+use Rattle.p9_inside.specs.Changes.{with_new}
 
 abbrev pub no_rights : Rights
 no_rights = record { read = false; write = false; execute = false }
@@ -86,18 +87,32 @@ abbrev pub covered_vault : Node
 covered_vault = dir 2 0 (codes "vault") (given all_rights all_rights)
 
 abbrev pub covered_key : Node
-covered_key = made 3 (Some 2) (codes "key") plain_file (given read_and_write read_and_write) (1 ∷ [])
+covered_key =
+    made 3 (Some 2) (codes "key") plain_file (given read_and_write read_and_write) (1 ∷ [])
 
 abbrev pub covered_vault_world : List Server
-covered_vault_world = alone (covered_root ∷ covered_empty ∷ covered_vault ∷ covered_key ∷ []) 4
+covered_vault_world =
+    alone (covered_root ∷ covered_empty ∷ covered_vault ∷ covered_key ∷ []) 4
 
 abbrev pub CoveredVaultInsides : Type 0
 CoveredVaultInsides = inner hidden covered_vault_world ≡ (covered_key ∷ []) ∷ []
 
--- The same world after its key and its vault were removed, and a directory was made.
+-- The same world after its key and its vault were removed, and a directory with a file was made.
+-- The node that stands at place 2 of the list is now another.
+
+abbrev pub new_dir : ℕ → Node
+new_dir number = dir number 1 (codes "new") (given all_rights read_and_search)
+
+abbrev pub new_file : ℕ → Node
+new_file number =
+    made number (Some 4) (codes "f") plain_file (given read_and_write read_and_write) []
 
 abbrev pub after_removal : List Server
-after_removal = tree_changed_at 0 (λ s. added s (dir s.next 1 (codes "new") (given all_rights read_and_search))) (tree_changed_at 0 (with_dropped 2) (tree_changed_at 0 (with_dropped 3) covered_vault_world))
+after_removal =
+    tree_changed_at 0 (with_new new_file)
+      (tree_changed_at 0 (with_new new_dir)
+        (tree_changed_at 0 (with_dropped 2)
+          (tree_changed_at 0 (with_dropped 3) covered_vault_world)))
 
 abbrev pub RemovedInsides : Type 0
 RemovedInsides = inner hidden after_removal ≡ [] ∷ []
@@ -107,8 +122,11 @@ RemovedInsides = inner hidden after_removal ≡ [] ∷ []
 abbrev pub bound_in : Node
 bound_in = dir 3 2 (codes "in") (given all_rights read_and_search)
 
+abbrev pub bound_u : Node
+bound_u = dir 1 0 (codes "u") (given all_rights read_and_search)
+
 abbrev pub bound_inside_world : List Server
-bound_inside_world = alone (vault_root ∷ dir 1 0 (codes "u") (given all_rights read_and_search) ∷ vault ∷ bound_in ∷ []) 4
+bound_inside_world = alone (vault_root ∷ bound_u ∷ vault ∷ bound_in ∷ []) 4
 
 abbrev pub BoundInsideInsides : Type 0
 BoundInsideInsides = inner hidden bound_inside_world ≡ (bound_in ∷ []) ∷ []
@@ -118,8 +136,13 @@ BoundInsideInsides = inner hidden bound_inside_world ≡ (bound_in ∷ []) ∷ [
 abbrev pub deep_file : Node
 deep_file = made 4 (Some 3) (codes "f") plain_file (given read_and_write no_rights) []
 
+abbrev pub deep_open : Node
+deep_open = dir 5 0 (codes "open") (given all_rights all_rights)
+
 abbrev pub deep_world : List Server
-deep_world = record { nodes = vault_root ∷ vault ∷ bound_in ∷ deep_file ∷ dir 5 0 (codes "open") (given all_rights all_rights) ∷ []; next = 6 } ∷ vault_world
+deep_world =
+    record { nodes = vault_root ∷ vault ∷ bound_in ∷ deep_file ∷ deep_open ∷ []; next = 6 }
+    ∷ vault_world
 
 abbrev pub DeepInsides : Type 0
 DeepInsides = inner hidden deep_world ≡ (bound_in ∷ deep_file ∷ []) ∷ [] ∷ []

@@ -11,18 +11,23 @@ use Rattle.p9_tree.specs.Node.{Node}
 use Rattle.p9_tree.specs.Server.{Server, node_at, with_nodes}
 use Rattle.p9_tree.specs.Forest.{server_at}
 
+abbrev pub is_among : List ℕ → ℕ → Bool
+is_among numbers k = list_any (λ j. j == k) numbers
+
 -- Inside, as a reader checks it.
 
 -- the directory h stands in the chain of parents of the node
 pub data IsInside (nodes : List Node) (h : ℕ) : ℕ → Type 0 where
   Child : (k : ℕ) (n : Node) → node_at k nodes ≡ Some n → n.parent ≡ Some h → IsInside nodes h k
-  Deeper : (k p : ℕ) (n : Node) → node_at k nodes ≡ Some n → n.parent ≡ Some p → IsInside nodes h p → IsInside nodes h k
+  Deeper : (k p : ℕ) (n : Node) → node_at k nodes ≡ Some n → n.parent ≡ Some p
+      → IsInside nodes h p → IsInside nodes h k
+
+-- a hidden directory does
+abbrev pub IsInsideAny : List ℕ → List Node → ℕ → Type 0
+IsInsideAny hidden nodes k = (h : ℕ) × IsTrue (is_among hidden h) × IsInside nodes h k
 
 -- Inside, by one pass over a server's nodes. They stand by rising number, and parents have smaller
 -- numbers than their children.
-
-abbrev pub is_among : List ℕ → ℕ → Bool
-is_among numbers k = list_any (λ j. j == k) numbers
 
 -- its parent is one of these
 abbrev pub is_inner : List ℕ → Node → Bool
@@ -36,9 +41,13 @@ abbrev pub barred_from : List ℕ → List Node → List ℕ
 barred_from hidden [] = hidden
 barred_from hidden (n ∷ ns) = barred_from (grown_by hidden n) ns
 
+abbrev pub is_barred_at : ℕ → List ℕ → List Node → Bool
+is_barred_at k hidden nodes = is_among (barred_from hidden nodes) k
+
 -- whether the node exists and is inside a hidden directory
 abbrev pub is_inside_at : ℕ → List ℕ → List Node → Bool
-is_inside_at k hidden nodes = option_map_or (is_inner (barred_from hidden nodes)) (node_at k nodes) false
+is_inside_at k hidden nodes =
+    option_map_or (is_inner (barred_from hidden nodes)) (node_at k nodes) false
 
 -- the nodes inside a hidden directory, with all their fields
 abbrev pub inner_nodes : List ℕ → List Node → List Node
@@ -53,6 +62,10 @@ outer_server hidden s = with_nodes s (outer_nodes hidden s.nodes)
 
 -- Forests.
 
+-- the number at the same server
+abbrev pub beside : NodeRef → ℕ → NodeRef
+beside r k = record { server = r.server; number = k }
+
 -- the numbers of the server's hidden directories
 abbrev pub hidden_on : ℕ → List NodeRef → List ℕ
 hidden_on server hidden = map (λ r. r.number) (filter (λ r. r.server == server) hidden)
@@ -60,21 +73,20 @@ hidden_on server hidden = map (λ r. r.number) (filter (λ r. r.server == server
 unfoldable pub is_hidden : NodeRef → List NodeRef → Bool
 is_hidden r hidden = is_among (hidden_on r.server hidden) r.number
 
--- the numbers of the server that are hidden, or inside a hidden directory
-unfoldable pub barred_on : ℕ → List NodeRef → List Server → List ℕ
-barred_on server hidden forest = barred_from (hidden_on server hidden) (server_at server forest).nodes
-
 -- hidden, or inside a hidden directory
 unfoldable pub is_barred : NodeRef → List NodeRef → List Server → Bool
-is_barred r hidden forest = is_among (barred_on r.server hidden forest) r.number
+is_barred r hidden forest =
+    is_barred_at r.number (hidden_on r.server hidden) (server_at r.server forest).nodes
 
 -- whether the node exists and is inside a hidden directory
 unfoldable pub is_inside : NodeRef → List NodeRef → List Server → Bool
-is_inside r hidden forest = is_inside_at r.number (hidden_on r.server hidden) (server_at r.server forest).nodes
+is_inside r hidden forest =
+    is_inside_at r.number (hidden_on r.server hidden) (server_at r.server forest).nodes
 
 abbrev pub outer_from : ℕ → List NodeRef → List Server → List Server
 outer_from server hidden [] = []
-outer_from server hidden (s ∷ ss) = outer_server (hidden_on server hidden) s ∷ outer_from (suc server) hidden ss
+outer_from server hidden (s ∷ ss) =
+    outer_server (hidden_on server hidden) s ∷ outer_from (suc server) hidden ss
 
 -- the forest without what is inside hidden directories
 unfoldable pub outer : List NodeRef → List Server → List Server
@@ -82,7 +94,8 @@ outer hidden forest = outer_from 0 hidden forest
 
 abbrev pub inner_from : ℕ → List NodeRef → List Server → List (List Node)
 inner_from server hidden [] = []
-inner_from server hidden (s ∷ ss) = inner_nodes (hidden_on server hidden) s.nodes ∷ inner_from (suc server) hidden ss
+inner_from server hidden (s ∷ ss) =
+    inner_nodes (hidden_on server hidden) s.nodes ∷ inner_from (suc server) hidden ss
 
 -- what is inside hidden directories, server by server
 unfoldable pub inner : List NodeRef → List Server → List (List Node)
