@@ -1,8 +1,7 @@
 -- Look-ups in a server without its insides.
 use Rattle.std.proofs.Common.{◌≡◌, ℕ, Bool, true, false, eqb, not, ◌&&◌, ◌||◌, List, [], ◌∷◌, Option, Some, None, IsTrue, IsFalse, refl, sym, ap, subst, ◌∙◌, arith}
-use Rattle.std.specs.Prelude.{filter, find, ◌==◌}
+use Rattle.std.specs.Prelude.{filter, find, is_some, ◌==◌}
 use Rattle.std.specs.Option.{option_map_or}
-use Rattle.std.specs.List.{list_any}
 use Rattle.std.proofs.lemmas.Bool.Decides.{nat_tests}
 use Rattle.p9_tree.specs.Node.{Node, has_number, is_in, is_child, is_above, is_dir}
 use Rattle.p9_tree.specs.Server.{Server, node_at, is_dir_at, bytes_at, child_of, child_after, has_children}
@@ -25,10 +24,6 @@ filter-filter_all : {X : Type 0} (p q : X → Bool) (xs : List X) → ((x : X) �
 filter-filter_all p q [] h = refl
 filter-filter_all p q (x ∷ xs) h = grind (arith, filter-filter_all p q xs h, h)
 
-list_any-filter_all : {X : Type 0} (p q : X → Bool) (xs : List X) → ((x : X) → p x ≡ true → q x ≡ true) → list_any p (filter q xs) ≡ list_any p xs
-list_any-filter_all p q [] h = refl
-list_any-filter_all p q (x ∷ xs) h = grind (arith, list_any-filter_all p q xs h, h)
-
 -- a child of a directory that is not barred is not inside
 child_outer : (barred : List ℕ) (dir : ℕ) (n : Node) → IsFalse (is_among barred dir) → is_in dir n ≡ true → not (is_inner barred n) ≡ true
 child_outer barred dir n out here = go n.parent here
@@ -46,6 +41,9 @@ server_keeps_dir_test hidden s k out = ap (λ o. option_map_or is_dir o false) (
 pub server_keeps_bytes : ServerKeepsBytes
 server_keeps_bytes hidden s k out = ap (λ o. option_map_or (λ n. n.bytes) o []) (server_keeps_node hidden s k out)
 
+and_left : (a b : Bool) → (a && b) ≡ true → a ≡ true
+and_left a b h = grind arith
+
 module _ (hidden : List ℕ) (s : Server) (dir : ℕ) (out : IsFalse (is_among (barred_from hidden s.nodes) dir)) where
   -- whatever asks only for children of the directory is answered alike
   keeps_children : (p : Node → Bool) → ((n : Node) → p n ≡ true → is_in dir n ≡ true) → find p (outer_nodes hidden s.nodes) ≡ find p s.nodes
@@ -54,11 +52,8 @@ module _ (hidden : List ℕ) (s : Server) (dir : ℕ) (out : IsFalse (is_among (
   keeps_all : SameChildren dir s.nodes (outer_nodes hidden s.nodes)
   keeps_all = record {
     all = filter-filter_all (is_in dir) _ s.nodes (λ n t. child_outer _ dir n out t);
-    some = list_any-filter_all (is_in dir) _ s.nodes (λ n t. child_outer _ dir n out t);
+    some = ap is_some (keeps_children (λ n. is_in dir n && is_above None n) (λ n t. and_left (is_in dir n) _ t));
   }
-
-and_left : (a b : Bool) → (a && b) ≡ true → a ≡ true
-and_left a b h = grind arith
 
 pub server_keeps_child : ServerKeepsChild
 server_keeps_child hidden s dir name out = keeps_children hidden s dir out (is_child dir name) (λ n t. and_left (is_in dir n) _ t)
@@ -90,11 +85,11 @@ node_at-filter_out q k (x ∷ xs) n o e out = go (eqb x.number k) refl (node_at-
 split_found : (hidden : List ℕ) (nodes : List Node) (k : ℕ) (n : Node) → IsOrdered nodes → node_at k nodes ≡ Some n → (b : Bool) → is_inner (barred_from hidden nodes) n ≡ b → IsSplit k b nodes (inner_nodes hidden nodes) (outer_nodes hidden nodes)
 split_found hidden nodes k n o e true t = record {
   insides = find-filter (has_number k) (is_inner (barred_from hidden nodes)) nodes (λ m found. let same : n ≡ m = cc in rw (← same) t);
-  others = node_at-filter_out (λ m. not (is_inner (barred_from hidden nodes) m)) k nodes n o e (ap not t)
+  others = node_at-filter_out (λ m. not (is_inner (barred_from hidden nodes) m)) k nodes n o e (ap not t);
 }
 split_found hidden nodes k n o e false t = record {
   insides = node_at-filter_out (is_inner (barred_from hidden nodes)) k nodes n o e t;
-  others = find-filter (has_number k) (λ m. not (is_inner (barred_from hidden nodes) m)) nodes (λ m found. let same : n ≡ m = cc in rw (← same) (ap not t))
+  others = find-filter (has_number k) (λ m. not (is_inner (barred_from hidden nodes) m)) nodes (λ m found. let same : n ≡ m = cc in rw (← same) (ap not t));
 }
 
 pub split_ordered : (hidden : List ℕ) (nodes : List Node) (k : ℕ) → IsOrdered nodes → IsSplit k (is_inside_at k hidden nodes) nodes (inner_nodes hidden nodes) (outer_nodes hidden nodes)
@@ -102,6 +97,7 @@ split_ordered hidden nodes k o = go (node_at k nodes) refl
   where
     inside_is : (found : Option Node) → node_at k nodes ≡ found → is_inside_at k hidden nodes ≡ option_map_or (is_inner (barred_from hidden nodes)) found false
     inside_is found e = ap (λ q. option_map_or (is_inner (barred_from hidden nodes)) q false) e
+
     go : (found : Option Node) → node_at k nodes ≡ found → IsSplit k (is_inside_at k hidden nodes) nodes (inner_nodes hidden nodes) (outer_nodes hidden nodes)
     go None e = subst (λ b. IsSplit k b nodes (inner_nodes hidden nodes) (outer_nodes hidden nodes)) (sym (inside_is None e))
         (record { insides = find-filter_none (has_number k) _ nodes e; others = find-filter_none (has_number k) _ nodes e ∙ sym e })

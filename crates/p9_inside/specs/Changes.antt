@@ -131,7 +131,7 @@ ParentDecides = (hidden : List NodeRef) (forest : List Server) (dir : NodeRef) (
     → ((k : ℕ) → (make k).number ≡ k)
     → ((k : ℕ) → (make k).parent ≡ Some dir.number)
     → is_inside (beside dir (next_of dir.server forest)) hidden
-        (tree_changed_at dir.server (with_new make) forest)
+    (tree_changed_at dir.server (with_new make) forest)
     ≡ is_barred dir hidden forest
 
 -- Where all hidden numbers were given out, the next one is not barred.

@@ -74,8 +74,8 @@ abbrev pub KeepsChildren : Type 0
 KeepsChildren = (hidden : List NodeRef) (forest : List Server) (dir : NodeRef)
     → IsFalse (is_barred dir hidden forest)
     → SameChildren dir.number
-        (server_at dir.server forest).nodes
-        (server_at dir.server (outer hidden forest)).nodes
+    (server_at dir.server forest).nodes
+    (server_at dir.server (outer hidden forest)).nodes
 
 -- Of a server.
 

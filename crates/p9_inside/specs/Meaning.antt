@@ -60,14 +60,14 @@ pub record IsSplit (k : ℕ) (is_inside : Bool) (all inner outer : List Node) : 
 abbrev pub ServerInsidesAreSplit : Type 0
 ServerInsidesAreSplit = (hidden : List ℕ) (s : Server) (k : ℕ) → WellFormed s
     → IsSplit k (is_inside_at k hidden s.nodes) s.nodes
-        (inner_nodes hidden s.nodes)
-        (outer_server hidden s).nodes
+    (inner_nodes hidden s.nodes)
+    (outer_server hidden s).nodes
 
 abbrev pub InsidesAreSplit : Type 0
 InsidesAreSplit = (hidden : List NodeRef) (forest : List Server) (r : NodeRef) → IsForest forest
     → IsSplit r.number (is_inside r hidden forest) (server_at r.server forest).nodes
-        (unwrap_or (slice_get (inner hidden forest) r.server) [])
-        (server_at r.server (outer hidden forest)).nodes
+    (unwrap_or (slice_get (inner hidden forest) r.server) [])
+    (server_at r.server (outer hidden forest)).nodes
 
 -- Hidden lists that agree at each node have the same insides.
 

@@ -110,9 +110,9 @@ new_file number =
 abbrev pub after_removal : List Server
 after_removal =
     tree_changed_at 0 (with_new new_file)
-      (tree_changed_at 0 (with_new new_dir)
-        (tree_changed_at 0 (with_dropped 2)
-          (tree_changed_at 0 (with_dropped 3) covered_vault_world)))
+    (tree_changed_at 0 (with_new new_dir)
+    (tree_changed_at 0 (with_dropped 2)
+    (tree_changed_at 0 (with_dropped 3) covered_vault_world)))
 
 abbrev pub RemovedInsides : Type 0
 RemovedInsides = inner hidden after_removal ≡ [] ∷ []
