@@ -1,12 +1,11 @@
 -- Forests without what is inside, server by server.
-use Rattle.std.proofs.Common.{◌≡◌, ◌≢◌, ◌↔◌, ℕ, zero, suc, ◌+◌, Bool, true, false, List, [], ◌∷◌, Option, Some, None, slice_get, IsTrue, IsFalse, refl, sym, ap, ◌∙◌, arith, All, ◌<◌}
-use Rattle.std.specs.Prelude.{filter, find, ◌==◌, unwrap_or}
+use Rattle.std.proofs.Common.{◌≡◌, ℕ, zero, suc, ◌+◌, List, [], ◌∷◌, Option, Some, None, slice_get, refl, ap, arith, All, ◌<◌}
+use Rattle.std.specs.Prelude.{unwrap_or}
 use Rattle.p9_base.specs.declared.node_ref.NodeRef.{NodeRef}
-use Rattle.p9_tree.specs.Node.{Node, is_in}
-use Rattle.p9_tree.specs.Server.{Server, WellFormed, node_at}
-use Rattle.p9_tree.specs.Forest.{server_at, node_of, IsForest, no_server}
-use Rattle.p9_tree.specs.Inside.{IsInside, is_among, barred_from, is_inside_at, hidden_on, is_hidden, is_barred, is_inside, outer_server, outer_from, outer, inner_nodes, outer_nodes, inner_from, inner}
-use Rattle.p9_inside.specs.Lookups.{KeepsNode, KeepsDirTest, KeepsBytes, KeepsChild, KeepsChildAfter, KeepsChildren, KeepsNext, SameChildren}
+use Rattle.p9_tree.specs.Server.{Server}
+use Rattle.p9_tree.specs.Forest.{server_at, IsForest, no_server}
+use Rattle.p9_tree.specs.Inside.{hidden_on, is_hidden, is_barred, is_inside, outer_server, outer_from, outer, inner_nodes, outer_nodes, inner_from, inner}
+use Rattle.p9_inside.specs.Lookups.{KeepsNode, KeepsDirTest, KeepsBytes, KeepsChild, KeepsChildAfter, KeepsChildren, KeepsNext}
 use Rattle.p9_inside.specs.Meaning.{InsideByParent, InsidesAreSplit, PassIsChain, BarredIsHiddenOrInside, OnlyNodesHide, SameAtServer}
 use Rattle.p9_inside.proofs.Pass.{IsOrdered, barred-is_among}
 use Rattle.p9_inside.proofs.Chain.{ordered, inside_chain, server_only_nodes_hide}

@@ -1,11 +1,11 @@
 -- Look-ups in a server without its insides.
-use Rattle.std.proofs.Common.{◌≡◌, ℕ, Bool, true, false, eqb, not, ◌&&◌, ◌||◌, List, [], ◌∷◌, Option, Some, None, IsTrue, IsFalse, refl, sym, ap, subst, ◌∙◌, arith}
+use Rattle.std.proofs.Common.{◌≡◌, ℕ, Bool, true, false, eqb, not, ◌&&◌, List, [], ◌∷◌, Option, Some, None, IsFalse, refl, sym, ap, subst, ◌∙◌, arith}
 use Rattle.std.specs.Prelude.{filter, find, is_some, ◌==◌}
 use Rattle.std.specs.Option.{option_map_or}
 use Rattle.std.proofs.lemmas.Bool.Decides.{nat_tests}
 use Rattle.p9_tree.specs.Node.{Node, has_number, is_in, is_child, is_above, is_dir}
-use Rattle.p9_tree.specs.Server.{Server, node_at, is_dir_at, bytes_at, child_of, child_after, has_children}
-use Rattle.p9_tree.specs.Inside.{is_among, is_inner, barred_from, is_inside_at, inner_nodes, outer_nodes, outer_server}
+use Rattle.p9_tree.specs.Server.{Server, node_at}
+use Rattle.p9_tree.specs.Inside.{is_among, is_inner, barred_from, is_inside_at, inner_nodes, outer_nodes}
 use Rattle.p9_inside.specs.Meaning.{IsSplit, ServerInsidesAreSplit}
 use Rattle.p9_inside.proofs.Pass.{IsOrdered, no_later, tail_ordered}
 use Rattle.p9_inside.specs.Lookups.{ServerKeepsNode, ServerKeepsDirTest, ServerKeepsBytes, ServerKeepsChild, ServerKeepsChildAfter, ServerKeepsChildren, SameChildren}

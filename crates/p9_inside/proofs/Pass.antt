@@ -1,9 +1,9 @@
 -- What one pass over a server's nodes gathers.
-use Rattle.std.proofs.Common.{◌≡◌, ◌≢◌, ℕ, suc, ◌+◌, ◌<◌, ◌≤◌, Bool, true, false, not, cond, eqb, ◌&&◌, ◌||◌, List, [], ◌∷◌, length, Option, Some, None, IsTrue, IsFalse, refl, sym, ap, ◌∙◌, subst, arith, All, AllPairs}
+use Rattle.std.proofs.Common.{◌≡◌, ℕ, suc, ◌<◌, ◌≤◌, Bool, true, false, eqb, ◌&&◌, ◌||◌, List, [], ◌∷◌, Option, Some, None, refl, arith, All, AllPairs}
 use Rattle.std.specs.Option.{option_map_or}
 use Rattle.std.proofs.lemmas.Bool.Decides.{nat_tests}
 use Rattle.std.proofs.lemmas.List.Elements.{All-cons, All-head, All-tail, All-weaker}
-use Rattle.p9_tree.specs.Node.{Node, has_number}
+use Rattle.p9_tree.specs.Node.{Node}
 use Rattle.p9_tree.specs.Server.{node_at}
 use Rattle.p9_tree.specs.Inside.{is_among, is_inner, grown_by, barred_from, is_inside_at}
 

@@ -1,12 +1,12 @@
 -- Changes of a server outside its insides.
-use Rattle.std.proofs.Common.{◌≡◌, ◌≢◌, ℕ, suc, ◌+◌, ◌<◌, ◌≤◌, Bool, true, false, not, cond, eqb, ◌&&◌, ◌||◌, List, [], ◌∷◌, ◌++◌, length, Option, Some, None, IsTrue, IsFalse, refl, sym, ap, ◌∙◌, subst, append-nil, arith, All, AllPairs}
-use Rattle.std.specs.Prelude.{filter, find}
+use Rattle.std.proofs.Common.{◌≡◌, ℕ, ◌+◌, ◌<◌, Bool, true, false, not, cond, eqb, List, [], ◌∷◌, ◌++◌, Option, Some, None, IsTrue, IsFalse, refl, sym, ap, ◌∙◌, append-nil, arith, All}
+use Rattle.std.specs.Prelude.{filter}
 use Rattle.std.specs.Option.{option_map_or}
 use Rattle.std.proofs.lemmas.Bool.Decides.{nat_tests}
 use Rattle.std.proofs.lemmas.List.Elements.{All-head, All-tail, filter-append}
-use Rattle.p9_tree.specs.Node.{Node, has_number}
-use Rattle.p9_tree.specs.Server.{Server, WellFormed, node_at, changed_at, dropped_at, added, with_changed, with_dropped, with_nodes}
-use Rattle.p9_tree.specs.Inside.{is_among, is_inner, grown_by, barred_from, is_inside_at, inner_nodes, outer_nodes, outer_server}
+use Rattle.p9_tree.specs.Node.{Node}
+use Rattle.p9_tree.specs.Server.{Server, node_at, changed_at, dropped_at, with_dropped, with_nodes}
+use Rattle.p9_tree.specs.Inside.{is_among, is_inner, grown_by, barred_from, is_inside_at}
 use Rattle.p9_inside.specs.Changes.{KeepsParent, ServerSpares, ServerChangeSpares, ServerDropSpares, ServerAddSpares, ServerParentDecides, ServerNextIsFree}
 use Rattle.p9_inside.proofs.Pass.{IsOrdered, tail_ordered, no_later, barred-is_among}
 use Rattle.p9_inside.proofs.Chain.{ordered}

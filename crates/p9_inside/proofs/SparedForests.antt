@@ -1,13 +1,12 @@
 -- Changes of a forest outside its insides.
-use Rattle.std.proofs.Common.{◌≡◌, ◌≢◌, ℕ, zero, suc, ◌+◌, ◌<◌, Bool, true, false, List, [], ◌∷◌, Option, Some, None, slice_get, set, IsTrue, IsFalse, refl, sym, ap, ◌∙◌, subst, inl, inr, ◌⊎◌, arith}
+use Rattle.std.proofs.Common.{◌≡◌, ℕ, zero, suc, ◌+◌, Bool, List, [], ◌∷◌, Option, Some, None, slice_get, set, IsTrue, refl, sym, ap, ◌∙◌, subst, inl, inr, ◌⊎◌, arith}
 use Rattle.std.specs.Prelude.{unwrap_or}
-use Rattle.p9_base.specs.declared.mode.Permissions.{Permissions}
 use Rattle.p9_base.specs.declared.node_ref.NodeRef.{NodeRef}
 use Rattle.p9_tree.specs.Bytes.{cut_to, overwritten}
 use Rattle.p9_tree.specs.New.{new_node}
-use Rattle.p9_tree.specs.Node.{Node, marked, touched, with_owner, with_bytes}
-use Rattle.p9_tree.specs.Server.{Server, WellFormed, is_dir_at, added, with_changed, with_dropped}
-use Rattle.p9_tree.specs.Forest.{no_server, server_at, tree_changed_at, forest_changed_at, next_of, is_dir_of, IsForest}
+use Rattle.p9_tree.specs.Node.{marked, touched, with_owner, with_bytes}
+use Rattle.p9_tree.specs.Server.{Server, is_dir_at, added, with_changed, with_dropped}
+use Rattle.p9_tree.specs.Forest.{no_server, server_at, tree_changed_at, next_of, is_dir_of}
 use Rattle.p9_tree.specs.Inside.{is_among, barred_from, is_inside_at, hidden_on, is_hidden, is_barred, is_inside, outer_server, outer_from, outer, inner_nodes, inner_from, inner}
 use Rattle.p9_inside.specs.Changes.{KeepsParent, with_new, ServerSpares, Spares, ChangeSpares, MarkSpares, TouchSpares, OwnerSpares, WriteSpares, CutSpares, DropSpares, AddSpares, NewSpares, InTurnSpares, ParentDecides, NextIsFree}
 use Rattle.p9_inside.proofs.Forests.{server_at-outer, server_below, server_ordered}
