@@ -12,12 +12,19 @@ use Rattle.p9_inside.specs.Changes.{KeepsParent, with_new, ServerSpares, Spares,
 use Rattle.p9_inside.proofs.Forests.{server_at-outer, server_below, server_ordered}
 use Rattle.p9_inside.proofs.Spared.{server_change_spares, drop_spares_ordered, server_add_spares, server_parent_decides, next_is_free_ordered}
 
-outer_from-set : (from server at : ℕ) (hidden : List NodeRef) (forest : List Server) (new : Server) → at ≡ from + server → outer_from from hidden (set forest server new) ≡ set (outer_from from hidden forest) server (outer_server (hidden_on at hidden) new)
+-- a server put in place of another, without insides
+outer_from-set : (from server at : ℕ) (hidden : List NodeRef) (forest : List Server) (new : Server)
+    → at ≡ from + server
+    → outer_from from hidden (set forest server new) ≡ set (outer_from from hidden forest) server (outer_server (hidden_on at hidden) new)
 outer_from-set from server at hidden [] new e = refl
 outer_from-set from zero at hidden (s ∷ ss) new e = let same : at ≡ from = omega arith in rw same refl
 outer_from-set from (suc server) at hidden (s ∷ ss) new e = ap (λ rest. outer_server (hidden_on from hidden) s ∷ rest) (outer_from-set (suc from) server at hidden ss new (omega arith))
 
-inner_from-set : (from server at : ℕ) (hidden : List NodeRef) (forest : List Server) (new : Server) → at ≡ from + server → inner_nodes (hidden_on at hidden) new.nodes ≡ inner_nodes (hidden_on at hidden) (server_at server forest).nodes → inner_from from hidden (set forest server new) ≡ inner_from from hidden forest
+-- a server with the same insides put in place of another
+inner_from-set : (from server at : ℕ) (hidden : List NodeRef) (forest : List Server) (new : Server)
+    → at ≡ from + server
+    → inner_nodes (hidden_on at hidden) new.nodes ≡ inner_nodes (hidden_on at hidden) (server_at server forest).nodes
+    → inner_from from hidden (set forest server new) ≡ inner_from from hidden forest
 inner_from-set from server at hidden [] new e kept = refl
 inner_from-set from zero at hidden (s ∷ ss) new e kept =
     let same : at ≡ from = omega arith in
@@ -25,32 +32,41 @@ inner_from-set from zero at hidden (s ∷ ss) new e kept =
 inner_from-set from (suc server) at hidden (s ∷ ss) new e kept = ap (λ rest. inner_nodes (hidden_on from hidden) s.nodes ∷ rest) (inner_from-set (suc from) server at hidden ss new (omega arith) kept)
 
 -- a server after a change of one
-server_at-set : (server t : ℕ) (forest : List Server) (new : Server) → (server_at t (set forest server new) ≡ server_at t forest) ⊎ ((t ≡ server) × (server_at t (set forest server new) ≡ new))
+server_at-set : (server t : ℕ) (forest : List Server) (new : Server)
+    → (server_at t (set forest server new) ≡ server_at t forest) ⊎ ((t ≡ server) × (server_at t (set forest server new) ≡ new))
 server_at-set server t [] new = inl refl
 server_at-set zero zero (s ∷ ss) new = inr (refl, refl)
 server_at-set zero (suc t) (s ∷ ss) new = inl refl
 server_at-set (suc server) zero (s ∷ ss) new = inl refl
 server_at-set (suc server) (suc t) (s ∷ ss) new = go (server_at-set server t ss new)
   where
-    go : (server_at t (set ss server new) ≡ server_at t ss) ⊎ ((t ≡ server) × (server_at t (set ss server new) ≡ new)) → (server_at t (set ss server new) ≡ server_at t ss) ⊎ ((suc t ≡ suc server) × (server_at t (set ss server new) ≡ new))
+    go : (server_at t (set ss server new) ≡ server_at t ss) ⊎ ((t ≡ server) × (server_at t (set ss server new) ≡ new))
+        → (server_at t (set ss server new) ≡ server_at t ss) ⊎ ((suc t ≡ suc server) × (server_at t (set ss server new) ≡ new))
     go (inl e) = inl e
     go (inr e) = inr (ap suc e.0, e.1)
 
-server_at-set_there : (server : ℕ) (forest : List Server) (s new : Server) → slice_get forest server ≡ Some s → server_at server (set forest server new) ≡ new
+-- a server that is there can be replaced
+server_at-set_there : (server : ℕ) (forest : List Server) (s new : Server)
+    → slice_get forest server ≡ Some s → server_at server (set forest server new) ≡ new
 server_at-set_there server [] s new e = absurd (cc)
 server_at-set_there zero (t ∷ ts) s new e = refl
 server_at-set_there (suc server) (t ∷ ts) s new e = server_at-set_there server ts s new e
 
 -- what holds of a server's nodes after a change of one server, if it is the same before and after
-told-set : (P : ℕ → Server → Bool) (server t : ℕ) (forest : List Server) (new : Server) → P server new ≡ P server (server_at server forest) → P t (server_at t (set forest server new)) ≡ P t (server_at t forest)
+told-set : (P : ℕ → Server → Bool) (server t : ℕ) (forest : List Server) (new : Server)
+    → P server new ≡ P server (server_at server forest)
+    → P t (server_at t (set forest server new)) ≡ P t (server_at t forest)
 told-set P server t forest new same = go (server_at-set server t forest new)
   where
-    go : (server_at t (set forest server new) ≡ server_at t forest) ⊎ ((t ≡ server) × (server_at t (set forest server new) ≡ new)) → P t (server_at t (set forest server new)) ≡ P t (server_at t forest)
+    go : (server_at t (set forest server new) ≡ server_at t forest) ⊎ ((t ≡ server) × (server_at t (set forest server new) ≡ new))
+        → P t (server_at t (set forest server new)) ≡ P t (server_at t forest)
     go (inl e) = ap (P t) e
     go (inr e) = ap (P t) e.1 ∙ subst (λ q. P q new ≡ P q (server_at q forest)) (sym e.0) same
 
 -- a change of a server that spares its insides spares those of the forest
-pub spares-server : (hidden : List NodeRef) (forest : List Server) (server : ℕ) (change : Server → Server) → ServerSpares (hidden_on server hidden) change (server_at server forest) → Spares hidden (tree_changed_at server change) forest
+pub spares-server : (hidden : List NodeRef) (forest : List Server) (server : ℕ) (change : Server → Server)
+    → ServerSpares (hidden_on server hidden) change (server_at server forest)
+    → Spares hidden (tree_changed_at server change) forest
 unfolding outer inner is_barred is_inside
 spares-server hidden forest server change spared = record {
   commutes = outer_from-set 0 server server hidden forest (change (server_at server forest)) (omega arith)
@@ -73,6 +89,7 @@ touch_spares hidden forest r now out = change_spares hidden forest r (touched no
 pub owner_spares : OwnerSpares
 owner_spares hidden forest r permissions uid gid out = change_spares hidden forest r (with_owner permissions uid gid) (record { number = λ n. refl; parent = λ n. refl }) out
 
+-- a change of its bytes leaves a node where it stands
 keeps-with_bytes : (f : List ℕ → List ℕ) → KeepsParent (with_bytes f)
 keeps-with_bytes f = record { number = λ n. refl; parent = λ n. refl }
 
@@ -102,10 +119,13 @@ unfolding is_inside
 drop_spares hidden forest r w out = spares-server hidden forest r.server (with_dropped r.number) (drop_spares_ordered (hidden_on r.server hidden) (server_at r.server forest) r.number (server_ordered forest w r.server) out)
 
 -- a server that has a directory is there
-there : (forest : List Server) (dir : NodeRef) → IsTrue (is_dir_of dir forest) → (s : Server) × (slice_get forest dir.server ≡ Some s)
+there : (forest : List Server) (dir : NodeRef) → IsTrue (is_dir_of dir forest)
+    → (s : Server) × (slice_get forest dir.server ≡ Some s)
 there forest dir is_directory = go (slice_get forest dir.server) refl is_directory
   where
-    go : (o : Option Server) → slice_get forest dir.server ≡ o → IsTrue (is_dir_at dir.number (unwrap_or o no_server).nodes) → (s : Server) × (slice_get forest dir.server ≡ Some s)
+    go : (o : Option Server) → slice_get forest dir.server ≡ o
+        → IsTrue (is_dir_at dir.number (unwrap_or o no_server).nodes)
+        → (s : Server) × (slice_get forest dir.server ≡ Some s)
     go None e h = absurd (cc)
     go (Some s) e h = (s, e)
 
