@@ -73,7 +73,8 @@ module _ (hidden : List ℕ) (nodes : List Node) (o : IsOrdered nodes) where
   -- a node below a hidden directory is inside
   inside_from_chain : (h k : ℕ) → IsTrue (is_among hidden h) → IsInside nodes h k
       → is_inside_at k hidden nodes ≡ true
-  inside_from_chain h _ hid (Child k n e in_h) = inside-child k h n e in_h ∙ barred-is_among hidden nodes h o ∙ grind arith
+  inside_from_chain h _ hid (Child k n e in_h) =
+      inside-child k h n e in_h ∙ barred-is_among hidden nodes h o ∙ grind arith
   inside_from_chain h _ hid (Deeper k p n e in_p up) =
       let i : is_inside_at p hidden nodes ≡ true = inside_from_chain h p hid up in
       inside-child k p n e in_p ∙ barred-is_among hidden nodes p o ∙ grind arith
@@ -100,7 +101,8 @@ module _ (hidden other : List ℕ) (s : Server) (w : WellFormed s) (agree : (k :
   -- a node's parent exists
   parent_exists : (k p : ℕ) (n : Node) → node_at k s.nodes ≡ Some n → n.parent ≡ Some p
       → node_at p s.nodes ≢ None
-  parent_exists k p n e in_p none = let dir = w.parent_dir k p n e in_p in let gone = rw none at dir in cc
+  parent_exists k p n e in_p none =
+      let dir = w.parent_dir k p n e in_p in let gone = rw none at dir in cc
 
   -- what stands in a chain of parents exists
   chain_exists : (h k : ℕ) → IsInside s.nodes h k → node_at h s.nodes ≢ None
@@ -120,14 +122,17 @@ module _ (hidden other : List ℕ) (s : Server) (w : WellFormed s) (agree : (k :
 
   -- at each node
   each_inner : All (λ n. is_inner (barred_from other s.nodes) n ≡ is_inner (barred_from hidden s.nodes) n) s.nodes
-  each_inner = All-weaker (λ n. node_at n.number s.nodes ≡ Some n) (λ n. is_inner (barred_from other s.nodes) n ≡ is_inner (barred_from hidden s.nodes) n) inner-other s.nodes (each_found s.nodes (ordered s w))
+  each_inner =
+      All-weaker (λ n. node_at n.number s.nodes ≡ Some n) (λ n. is_inner (barred_from other s.nodes) n ≡ is_inner (barred_from hidden s.nodes) n) inner-other s.nodes (each_found s.nodes (ordered s w))
 
 pub server_only_nodes_hide : ServerOnlyNodesHide
 server_only_nodes_hide hidden other s w agree =
-    let same : All (λ n. is_inner (barred_from other s.nodes) n ≡ is_inner (barred_from hidden s.nodes) n) s.nodes = each_inner hidden other s w agree in
+    let same : All (λ n. is_inner (barred_from other s.nodes) n ≡ is_inner (barred_from hidden s.nodes) n) s.nodes
+    = each_inner hidden other s w agree in
     record {
       insides = filter_agree_each _ _ s.nodes same;
-      others = filter_agree_each _ _ s.nodes (All-weaker _ (λ n. not (is_inner (barred_from other s.nodes) n) ≡ not (is_inner (barred_from hidden s.nodes) n)) (λ n e. ap not e) s.nodes same);
+      others =
+          filter_agree_each _ _ s.nodes (All-weaker _ (λ n. not (is_inner (barred_from other s.nodes) n) ≡ not (is_inner (barred_from hidden s.nodes) n)) (λ n e. ap not e) s.nodes same);
     }
 
 pub nothing_inside_itself : NothingInsideItself

@@ -16,38 +16,47 @@ server_at-outer_from : (from server at : ℕ) (hidden : List NodeRef) (forest : 
     → at ≡ from + server
     → server_at server (outer_from from hidden forest) ≡ outer_server (hidden_on at hidden) (server_at server forest)
 server_at-outer_from from server at hidden [] e = refl
-server_at-outer_from from zero at hidden (s ∷ ss) e = let same : at ≡ from = omega arith in rw same refl
-server_at-outer_from from (suc server) at hidden (s ∷ ss) e = server_at-outer_from (suc from) server at hidden ss (omega arith)
+server_at-outer_from from zero at hidden (s ∷ ss) e =
+    let same : at ≡ from = omega arith in rw same refl
+server_at-outer_from from (suc server) at hidden (s ∷ ss) e =
+    server_at-outer_from (suc from) server at hidden ss (omega arith)
 
 -- a server of the forest without what is inside
 pub server_at-outer : (server : ℕ) (hidden : List NodeRef) (forest : List Server)
     → server_at server (outer hidden forest) ≡ outer_server (hidden_on server hidden) (server_at server forest)
 unfolding outer
-server_at-outer server hidden forest = server_at-outer_from 0 server server hidden forest (omega arith)
+server_at-outer server hidden forest =
+    server_at-outer_from 0 server server hidden forest (omega arith)
 
 pub keeps_node : KeepsNode
 unfolding is_inside
-keeps_node hidden forest r out = rw server_at-outer (server_keeps_node (hidden_on r.server hidden) (server_at r.server forest) r.number out)
+keeps_node hidden forest r out =
+    rw server_at-outer (server_keeps_node (hidden_on r.server hidden) (server_at r.server forest) r.number out)
 
 pub keeps_dir_test : KeepsDirTest
 unfolding is_inside
-keeps_dir_test hidden forest r out = rw server_at-outer (server_keeps_dir_test (hidden_on r.server hidden) (server_at r.server forest) r.number out)
+keeps_dir_test hidden forest r out =
+    rw server_at-outer (server_keeps_dir_test (hidden_on r.server hidden) (server_at r.server forest) r.number out)
 
 pub keeps_bytes : KeepsBytes
 unfolding is_inside
-keeps_bytes hidden forest r out = rw server_at-outer (server_keeps_bytes (hidden_on r.server hidden) (server_at r.server forest) r.number out)
+keeps_bytes hidden forest r out =
+    rw server_at-outer (server_keeps_bytes (hidden_on r.server hidden) (server_at r.server forest) r.number out)
 
 pub keeps_child : KeepsChild
 unfolding is_barred
-keeps_child hidden forest dir name out = rw server_at-outer (server_keeps_child (hidden_on dir.server hidden) (server_at dir.server forest) dir.number name out)
+keeps_child hidden forest dir name out =
+    rw server_at-outer (server_keeps_child (hidden_on dir.server hidden) (server_at dir.server forest) dir.number name out)
 
 pub keeps_child_after : KeepsChildAfter
 unfolding is_barred
-keeps_child_after hidden forest dir floor out = rw server_at-outer (server_keeps_child_after (hidden_on dir.server hidden) (server_at dir.server forest) dir.number floor out)
+keeps_child_after hidden forest dir floor out =
+    rw server_at-outer (server_keeps_child_after (hidden_on dir.server hidden) (server_at dir.server forest) dir.number floor out)
 
 pub keeps_children : KeepsChildren
 unfolding is_barred
-keeps_children hidden forest dir out = rw server_at-outer (server_keeps_children (hidden_on dir.server hidden) (server_at dir.server forest) dir.number out)
+keeps_children hidden forest dir out =
+    rw server_at-outer (server_keeps_children (hidden_on dir.server hidden) (server_at dir.server forest) dir.number out)
 
 pub keeps_next : KeepsNext
 keeps_next hidden forest server = ap (λ s. s.next) (server_at-outer server hidden forest)
@@ -58,7 +67,8 @@ pub server_ordered : (forest : List Server) → IsForest forest → (server : �
 server_ordered forest w server = go (slice_get forest server) refl
   where
     go : (o : Option Server) → slice_get forest server ≡ o → IsOrdered (unwrap_or o no_server).nodes
-    go None e = record { rising = λ i j d lt in_range. absurd (omega arith); parents = λ k p n e. absurd (cc) }
+    go None e =
+        record { rising = λ i j d lt in_range. absurd (omega arith); parents = λ k p n e. absurd (cc) }
     go (Some s) e = ordered s (w.servers server s e)
 
 -- its numbers lie below the next
@@ -73,11 +83,13 @@ server_below forest w server = go (slice_get forest server) refl
 
 pub pass_is_chain : PassIsChain
 unfolding is_inside is_hidden
-pass_is_chain hidden forest r w = inside_chain (hidden_on r.server hidden) (server_at r.server forest).nodes (server_ordered forest w r.server) r.number
+pass_is_chain hidden forest r w =
+    inside_chain (hidden_on r.server hidden) (server_at r.server forest).nodes (server_ordered forest w r.server) r.number
 
 pub barred_is_hidden_or_inside : BarredIsHiddenOrInside
 unfolding is_inside is_hidden is_barred
-barred_is_hidden_or_inside hidden forest r w = barred-is_among (hidden_on r.server hidden) (server_at r.server forest).nodes r.number (server_ordered forest w r.server)
+barred_is_hidden_or_inside hidden forest r w =
+    barred-is_among (hidden_on r.server hidden) (server_at r.server forest).nodes r.number (server_ordered forest w r.server)
 
 pub inside_by_parent : InsideByParent
 unfolding is_inside is_barred
@@ -88,32 +100,38 @@ nodes_of-inner_from : (from server at : ℕ) (hidden : List NodeRef) (forest : L
     → at ≡ from + server
     → unwrap_or (slice_get (inner_from from hidden forest) server) [] ≡ inner_nodes (hidden_on at hidden) (server_at server forest).nodes
 nodes_of-inner_from from server at hidden [] e = refl
-nodes_of-inner_from from zero at hidden (s ∷ ss) e = let same : at ≡ from = omega arith in rw same refl
-nodes_of-inner_from from (suc server) at hidden (s ∷ ss) e = nodes_of-inner_from (suc from) server at hidden ss (omega arith)
+nodes_of-inner_from from zero at hidden (s ∷ ss) e =
+    let same : at ≡ from = omega arith in rw same refl
+nodes_of-inner_from from (suc server) at hidden (s ∷ ss) e =
+    nodes_of-inner_from (suc from) server at hidden ss (omega arith)
 
 -- the insides of one server
 nodes_of-inner : (server : ℕ) (hidden : List NodeRef) (forest : List Server)
     → unwrap_or (slice_get (inner hidden forest) server) [] ≡ inner_nodes (hidden_on server hidden) (server_at server forest).nodes
 unfolding inner
-nodes_of-inner server hidden forest = nodes_of-inner_from 0 server server hidden forest (omega arith)
+nodes_of-inner server hidden forest =
+    nodes_of-inner_from 0 server server hidden forest (omega arith)
 
 pub insides_are_split : InsidesAreSplit
 unfolding is_inside
-insides_are_split hidden forest r w = rw (server_at-outer, nodes_of-inner) (split_ordered (hidden_on r.server hidden) (server_at r.server forest).nodes r.number (server_ordered forest w r.server))
+insides_are_split hidden forest r w =
+    rw (server_at-outer, nodes_of-inner) (split_ordered (hidden_on r.server hidden) (server_at r.server forest).nodes r.number (server_ordered forest w r.server))
 
 -- hidden lists that agree at each server have the same insides
 inner_from-agree : (from : ℕ) (hidden other : List NodeRef) (ss : List Server)
     → ((k at : ℕ) (s : Server) → at ≡ from + k → slice_get ss k ≡ Some s → inner_nodes (hidden_on at other) s.nodes ≡ inner_nodes (hidden_on at hidden) s.nodes)
     → inner_from from other ss ≡ inner_from from hidden ss
 inner_from-agree from hidden other [] h = refl
-inner_from-agree from hidden other (s ∷ ss) h = rw (h 0 from s (omega arith) refl, inner_from-agree (suc from) hidden other ss (λ k at t e found. h (suc k) at t (omega arith) found)) refl
+inner_from-agree from hidden other (s ∷ ss) h =
+    rw (h 0 from s (omega arith) refl, inner_from-agree (suc from) hidden other ss (λ k at t e found. h (suc k) at t (omega arith) found)) refl
 
 -- and the same others
 outer_from-agree : (from : ℕ) (hidden other : List NodeRef) (ss : List Server)
     → ((k at : ℕ) (s : Server) → at ≡ from + k → slice_get ss k ≡ Some s → outer_nodes (hidden_on at other) s.nodes ≡ outer_nodes (hidden_on at hidden) s.nodes)
     → outer_from from other ss ≡ outer_from from hidden ss
 outer_from-agree from hidden other [] h = refl
-outer_from-agree from hidden other (s ∷ ss) h = rw (h 0 from s (omega arith) refl, outer_from-agree (suc from) hidden other ss (λ k at t e found. h (suc k) at t (omega arith) found)) refl
+outer_from-agree from hidden other (s ∷ ss) h =
+    rw (h 0 from s (omega arith) refl, outer_from-agree (suc from) hidden other ss (λ k at t e found. h (suc k) at t (omega arith) found)) refl
 
 pub only_nodes_hide : OnlyNodesHide
 unfolding inner outer is_hidden

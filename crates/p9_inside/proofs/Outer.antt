@@ -39,13 +39,16 @@ child_outer barred dir n out here = go n.parent here
     go (Some p) h = let same : p ≡ dir = grind (arith, nat_tests) in rw same (ap not out)
 
 pub server_keeps_node : ServerKeepsNode
-server_keeps_node hidden s k out = find-filter (has_number k) (λ n. not (is_inner (barred_from hidden s.nodes) n)) s.nodes (λ n e. let kept = rw e at out in ap not kept)
+server_keeps_node hidden s k out =
+    find-filter (has_number k) (λ n. not (is_inner (barred_from hidden s.nodes) n)) s.nodes (λ n e. let kept = rw e at out in ap not kept)
 
 pub server_keeps_dir_test : ServerKeepsDirTest
-server_keeps_dir_test hidden s k out = ap (λ o. option_map_or is_dir o false) (server_keeps_node hidden s k out)
+server_keeps_dir_test hidden s k out =
+    ap (λ o. option_map_or is_dir o false) (server_keeps_node hidden s k out)
 
 pub server_keeps_bytes : ServerKeepsBytes
-server_keeps_bytes hidden s k out = ap (λ o. option_map_or (λ n. n.bytes) o []) (server_keeps_node hidden s k out)
+server_keeps_bytes hidden s k out =
+    ap (λ o. option_map_or (λ n. n.bytes) o []) (server_keeps_node hidden s k out)
 
 -- the first of two that hold
 and_left : (a b : Bool) → (a && b) ≡ true → a ≡ true
@@ -55,20 +58,24 @@ module _ (hidden : List ℕ) (s : Server) (dir : ℕ) (out : IsFalse (is_among (
   -- whatever asks only for children of the directory is answered alike
   keeps_children : (p : Node → Bool) → ((n : Node) → p n ≡ true → is_in dir n ≡ true)
       → find p (outer_nodes hidden s.nodes) ≡ find p s.nodes
-  keeps_children p in_dir = find-filter_all p _ s.nodes (λ n t. child_outer _ dir n out (in_dir n t))
+  keeps_children p in_dir =
+      find-filter_all p _ s.nodes (λ n t. child_outer _ dir n out (in_dir n t))
 
   -- all children, and whether there are any
   keeps_all : SameChildren dir s.nodes (outer_nodes hidden s.nodes)
   keeps_all = record {
     all = filter-filter_all (is_in dir) _ s.nodes (λ n t. child_outer _ dir n out t);
-    some = ap is_some (keeps_children (λ n. is_in dir n && is_above None n) (λ n t. and_left (is_in dir n) _ t));
+    some =
+        ap is_some (keeps_children (λ n. is_in dir n && is_above None n) (λ n t. and_left (is_in dir n) _ t));
   }
 
 pub server_keeps_child : ServerKeepsChild
-server_keeps_child hidden s dir name out = keeps_children hidden s dir out (is_child dir name) (λ n t. and_left (is_in dir n) _ t)
+server_keeps_child hidden s dir name out =
+    keeps_children hidden s dir out (is_child dir name) (λ n t. and_left (is_in dir n) _ t)
 
 pub server_keeps_child_after : ServerKeepsChildAfter
-server_keeps_child_after hidden s dir floor out = keeps_children hidden s dir out (λ n. is_in dir n && is_above floor n) (λ n t. and_left (is_in dir n) _ t)
+server_keeps_child_after hidden s dir floor out =
+    keeps_children hidden s dir out (λ n. is_in dir n && is_above floor n) (λ n t. and_left (is_in dir n) _ t)
 
 pub server_keeps_children : ServerKeepsChildren
 server_keeps_children = keeps_all
@@ -83,7 +90,8 @@ find-filter_none p q (x ∷ xs) none = grind (arith, find-filter_none p q xs)
 node_at-filter_out : (q : Node → Bool) (k : ℕ) (xs : List Node) (n : Node) → IsOrdered xs
     → node_at k xs ≡ Some n → q n ≡ false → node_at k (filter q xs) ≡ None
 node_at-filter_out q k [] n o e out = refl
-node_at-filter_out q k (x ∷ xs) n o e out = go (eqb x.number k) refl (node_at-filter_out q k xs n (tail_ordered x xs o))
+node_at-filter_out q k (x ∷ xs) n o e out =
+    go (eqb x.number k) refl (node_at-filter_out q k xs n (tail_ordered x xs o))
   where
     go : (b : Bool) → eqb x.number k ≡ b
         → (node_at k xs ≡ Some n → q n ≡ false → node_at k (filter q xs) ≡ None)
@@ -101,12 +109,15 @@ split_found : (hidden : List ℕ) (nodes : List Node) (k : ℕ) (n : Node) → I
     → node_at k nodes ≡ Some n → (b : Bool) → is_inner (barred_from hidden nodes) n ≡ b
     → IsSplit k b nodes (inner_nodes hidden nodes) (outer_nodes hidden nodes)
 split_found hidden nodes k n o e true t = record {
-  insides = find-filter (has_number k) (is_inner (barred_from hidden nodes)) nodes (λ m found. let same : n ≡ m = cc in rw (← same) t);
-  others = node_at-filter_out (λ m. not (is_inner (barred_from hidden nodes) m)) k nodes n o e (ap not t);
+  insides =
+      find-filter (has_number k) (is_inner (barred_from hidden nodes)) nodes (λ m found. let same : n ≡ m = cc in rw (← same) t);
+  others =
+      node_at-filter_out (λ m. not (is_inner (barred_from hidden nodes) m)) k nodes n o e (ap not t);
 }
 split_found hidden nodes k n o e false t = record {
   insides = node_at-filter_out (is_inner (barred_from hidden nodes)) k nodes n o e t;
-  others = find-filter (has_number k) (λ m. not (is_inner (barred_from hidden nodes) m)) nodes (λ m found. let same : n ≡ m = cc in rw (← same) (ap not t));
+  others =
+      find-filter (has_number k) (λ m. not (is_inner (barred_from hidden nodes) m)) nodes (λ m found. let same : n ≡ m = cc in rw (← same) (ap not t));
 }
 
 -- the insides and the others, where numbers rise
@@ -120,10 +131,13 @@ split_ordered hidden nodes k o = go (node_at k nodes) refl
 
     go : (found : Option Node) → node_at k nodes ≡ found
         → IsSplit k (is_inside_at k hidden nodes) nodes (inner_nodes hidden nodes) (outer_nodes hidden nodes)
-    go None e = subst (λ b. IsSplit k b nodes (inner_nodes hidden nodes) (outer_nodes hidden nodes)) (sym (inside_is None e))
+    go None e =
+        subst (λ b. IsSplit k b nodes (inner_nodes hidden nodes) (outer_nodes hidden nodes)) (sym (inside_is None e))
         (record { insides = find-filter_none (has_number k) _ nodes e; others = find-filter_none (has_number k) _ nodes e ∙ sym e })
-    go (Some n) e = subst (λ b. IsSplit k b nodes (inner_nodes hidden nodes) (outer_nodes hidden nodes)) (sym (inside_is (Some n) e))
+    go (Some n) e =
+        subst (λ b. IsSplit k b nodes (inner_nodes hidden nodes) (outer_nodes hidden nodes)) (sym (inside_is (Some n) e))
         (split_found hidden nodes k n o e (is_inner (barred_from hidden nodes) n) refl)
 
 pub server_insides_are_split : ServerInsidesAreSplit
-server_insides_are_split hidden s k w = split_ordered hidden s.nodes k (record { rising = w.rising; parents = w.parent_below })
+server_insides_are_split hidden s k w =
+    split_ordered hidden s.nodes k (record { rising = w.rising; parents = w.parent_below })

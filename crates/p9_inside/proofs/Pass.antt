@@ -36,12 +36,14 @@ module _ (x : Node) (xs : List Node) (o : IsOrdered (x ∷ xs)) where
 
   -- no other node has a number up to the first
   pub no_later : (j : ℕ) → j ≤ x.number → node_at j xs ≡ None
-  no_later j le = node_at-before j xs (All-weaker (λ n. x.number < n.number) (λ n. j < n.number) (λ n lt. omega arith) xs above)
+  no_later j le =
+      node_at-before j xs (All-weaker (λ n. x.number < n.number) (λ n. j < n.number) (λ n lt. omega arith) xs above)
 
 -- each node is the one of its number
 pub each_found : (xs : List Node) → IsOrdered xs → All (λ n. node_at n.number xs ≡ Some n) xs
 each_found [] o = λ k d in_range. absurd (omega arith)
-each_found (x ∷ xs) o = All-cons (λ n. node_at n.number (x ∷ xs) ≡ Some n) x xs (grind (arith, nat_tests))
+each_found (x ∷ xs) o =
+    All-cons (λ n. node_at n.number (x ∷ xs) ≡ Some n) x xs (grind (arith, nat_tests))
     (All-weaker (λ n. node_at n.number xs ≡ Some n) (λ n. node_at n.number (x ∷ xs) ≡ Some n) (λ n e. later x xs o n.number n e) xs (each_found xs (tail_ordered x xs o)))
 
 -- the pass gathers no number but those of nodes
@@ -72,7 +74,8 @@ grown-is_among ks x k = grind (arith, nat_tests)
 pub barred-is_among : (ks : List ℕ) (xs : List Node) (k : ℕ) → IsOrdered xs
     → is_among (barred_from ks xs) k ≡ (is_among ks k || is_inside_at k ks xs)
 barred-is_among ks [] k o = grind arith
-barred-is_among ks (x ∷ xs) k o = go (eqb x.number k) refl (barred-is_among (grown_by ks x) xs k (tail_ordered x xs o))
+barred-is_among ks (x ∷ xs) k o =
+    go (eqb x.number k) refl (barred-is_among (grown_by ks x) xs k (tail_ordered x xs o))
   where
     go : (b : Bool) → eqb x.number k ≡ b
         → is_among (barred_from ks (x ∷ xs)) k ≡ (is_among (grown_by ks x) k || is_inside_at k (grown_by ks x) xs)

@@ -32,7 +32,8 @@ module _ (k : ℕ) (f : Node → Node) (keeps : KeepsParent f) where
   barred-changed_at : (ks : List ℕ) (xs : List Node)
       → barred_from ks (changed_at k f xs) ≡ barred_from ks xs
   barred-changed_at ks [] = refl
-  barred-changed_at ks (x ∷ xs) = grind (arith, grown-changed ks x, barred-changed_at (grown_by ks x) xs)
+  barred-changed_at ks (x ∷ xs) =
+      grind (arith, grown-changed ks x, barred-changed_at (grown_by ks x) xs)
 
   -- a filter that keeps the node that is changed
   filter-changed_at : (p : Node → Bool) → ((n : Node) → p (f n) ≡ p n) → (xs : List Node)
@@ -49,7 +50,8 @@ module _ (k : ℕ) (f : Node → Node) (keeps : KeepsParent f) where
           let there : p (f x) ≡ true = same x ∙ here in
           rw (e, here) (rw (e, there) refl)
       go false e ih =
-          let rest : filter p (changed_at k f xs) ≡ changed_at k f (filter p xs) = ih (λ n found. kept n (rw e found)) in
+          let rest : filter p (changed_at k f xs) ≡ changed_at k f (filter p xs)
+          = ih (λ n found. kept n (rw e found)) in
           grind arith
 
   -- a filter that leaves it out
@@ -67,14 +69,16 @@ module _ (k : ℕ) (f : Node → Node) (keeps : KeepsParent f) where
           let there : p (f x) ≡ false = same x ∙ here in
           rw (e, here) (rw there refl)
       go false e ih =
-          let rest : filter p (changed_at k f xs) ≡ filter p xs = ih (λ n found. out n (rw e found)) in
+          let rest : filter p (changed_at k f xs) ≡ filter p xs
+          = ih (λ n found. out n (rw e found)) in
           grind arith
 
   -- what is asked of the node of a number, if the change doesn't touch it
   asked-changed_at : (p : Node → Bool) → ((n : Node) → p (f n) ≡ p n) → (j : ℕ) (xs : List Node)
       → option_map_or p (node_at j (changed_at k f xs)) false ≡ option_map_or p (node_at j xs) false
   asked-changed_at p same j [] = refl
-  asked-changed_at p same j (x ∷ xs) = grind (arith, same x, keeps.number x, asked-changed_at p same j xs)
+  asked-changed_at p same j (x ∷ xs) =
+      grind (arith, same x, keeps.number x, asked-changed_at p same j xs)
 
 -- the node of a number that is not inside
 not_inside : (k : ℕ) (hidden : List ℕ) (xs : List Node) → IsFalse (is_inside_at k hidden xs)
@@ -83,15 +87,19 @@ not_inside k hidden xs out n e = rw e at out
 
 pub server_change_spares : ServerChangeSpares
 server_change_spares hidden s k f keeps out =
-    let barred : barred_from hidden (changed_at k f s.nodes) ≡ barred_from hidden s.nodes = barred-changed_at k f keeps hidden s.nodes in
-    let same : (n : Node) → is_inner (barred_from hidden s.nodes) (f n) ≡ is_inner (barred_from hidden s.nodes) n = inner-changed k f keeps (barred_from hidden s.nodes) in
+    let barred : barred_from hidden (changed_at k f s.nodes) ≡ barred_from hidden s.nodes
+    = barred-changed_at k f keeps hidden s.nodes in
+    let same : (n : Node) → is_inner (barred_from hidden s.nodes) (f n) ≡ is_inner (barred_from hidden s.nodes) n
+    = inner-changed k f keeps (barred_from hidden s.nodes) in
     record {
-      commutes = ap (λ ns. with_nodes s ns) (ap (λ b. filter (λ n. not (is_inner b n)) (changed_at k f s.nodes)) barred
+      commutes =
+          ap (λ ns. with_nodes s ns) (ap (λ b. filter (λ n. not (is_inner b n)) (changed_at k f s.nodes)) barred
           ∙ filter-changed_at k f keeps (λ n. not (is_inner (barred_from hidden s.nodes) n)) (λ n. ap not (same n)) s.nodes (λ n found. ap not (not_inside k hidden s.nodes out n found)));
       insides = ap (λ b. filter (is_inner b) (changed_at k f s.nodes)) barred
           ∙ filter-changed_out k f keeps (is_inner (barred_from hidden s.nodes)) same s.nodes (not_inside k hidden s.nodes out);
       barred = λ j. ap (λ b. is_among b j) barred;
-      inside = λ j. ap (λ b. option_map_or (is_inner b) (node_at j (changed_at k f s.nodes)) false) barred
+      inside =
+          λ j. ap (λ b. option_map_or (is_inner b) (node_at j (changed_at k f s.nodes)) false) barred
           ∙ asked-changed_at k f keeps (is_inner (barred_from hidden s.nodes)) same j s.nodes;
     }
 
@@ -119,7 +127,8 @@ grown-outer : (ks : List ℕ) (x : Node) (xs : List Node)
 grown-outer ks x xs out = go (is_inner ks x) refl
   where
     go : (b : Bool) → is_inner ks x ≡ b → grown_by ks x ≡ ks
-    go true e = absurd (let t : is_inner (barred_from ks (x ∷ xs)) x ≡ true = inner-barred ks (x ∷ xs) x e in cc)
+    go true e =
+        absurd (let t : is_inner (barred_from ks (x ∷ xs)) x ≡ true = inner-barred ks (x ∷ xs) x e in cc)
     go false e = rw e refl
 
 module _ (k : ℕ) where
@@ -128,7 +137,8 @@ module _ (k : ℕ) where
       → ((n : Node) → node_at k xs ≡ Some n → is_inner (barred_from ks xs) n ≡ false)
       → barred_from ks (dropped_at k xs) ≡ barred_from ks xs
   barred-dropped_at ks [] out = refl
-  barred-dropped_at ks (x ∷ xs) out = go (eqb x.number k) refl (barred-dropped_at (grown_by ks x) xs)
+  barred-dropped_at ks (x ∷ xs) out =
+      go (eqb x.number k) refl (barred-dropped_at (grown_by ks x) xs)
     where
       go : (b : Bool) → eqb x.number k ≡ b
           → (((n : Node) → node_at k xs ≡ Some n → is_inner (barred_from (grown_by ks x) xs) n ≡ false) → barred_from (grown_by ks x) (dropped_at k xs) ≡ barred_from (grown_by ks x) xs)
@@ -150,7 +160,8 @@ module _ (k : ℕ) where
           → filter p (dropped_at k (x ∷ xs)) ≡ dropped_at k (filter p (x ∷ xs))
       go true e ih = let here : p x ≡ true = kept x (rw e refl) in rw (e, here) (rw e refl)
       go false e ih =
-          let rest : filter p (dropped_at k xs) ≡ dropped_at k (filter p xs) = ih (λ n found. kept n (rw e found)) in
+          let rest : filter p (dropped_at k xs) ≡ dropped_at k (filter p xs)
+          = ih (λ n found. kept n (rw e found)) in
           grind arith
 
   -- a filter that leaves it out
@@ -165,7 +176,8 @@ module _ (k : ℕ) where
           → filter p (dropped_at k (x ∷ xs)) ≡ filter p (x ∷ xs)
       go true e ih = let here : p x ≡ false = out x (rw e refl) in rw (e, here) refl
       go false e ih =
-          let rest : filter p (dropped_at k xs) ≡ filter p xs = ih (λ n found. out n (rw e found)) in
+          let rest : filter p (dropped_at k xs) ≡ filter p xs
+          = ih (λ n found. out n (rw e found)) in
           grind arith
 
   -- what is asked of the node of a number, where the node that goes did not pass
@@ -173,7 +185,8 @@ module _ (k : ℕ) where
       → ((n : Node) → node_at k xs ≡ Some n → p n ≡ false)
       → option_map_or p (node_at j (dropped_at k xs)) false ≡ option_map_or p (node_at j xs) false
   asked-dropped_at p j [] o out = refl
-  asked-dropped_at p j (x ∷ xs) o out = go (eqb x.number k) refl (asked-dropped_at p j xs (tail_ordered x xs o))
+  asked-dropped_at p j (x ∷ xs) o out =
+      go (eqb x.number k) refl (asked-dropped_at p j xs (tail_ordered x xs o))
     where
       go : (b : Bool) → eqb x.number k ≡ b
           → (((n : Node) → node_at k xs ≡ Some n → p n ≡ false) → option_map_or p (node_at j (dropped_at k xs)) false ≡ option_map_or p (node_at j xs) false)
@@ -189,7 +202,8 @@ module _ (k : ℕ) where
           gone true t here none = rw (t, none (grind (arith, nat_tests))) (sym here)
           gone false t here none = rw t refl
       go false e ih =
-          let rest : option_map_or p (node_at j (dropped_at k xs)) false ≡ option_map_or p (node_at j xs) false = ih (λ n found. out n (rw e found)) in
+          let rest : option_map_or p (node_at j (dropped_at k xs)) false ≡ option_map_or p (node_at j xs) false
+          = ih (λ n found. out n (rw e found)) in
           rw e (past (eqb x.number j) rest)
         where
           past : (b : Bool)
@@ -202,15 +216,19 @@ module _ (k : ℕ) where
 pub drop_spares_ordered : (hidden : List ℕ) (s : Server) (k : ℕ) → IsOrdered s.nodes
     → IsFalse (is_inside_at k hidden s.nodes) → ServerSpares hidden (with_dropped k) s
 drop_spares_ordered hidden s k o out =
-    let not_inner : (n : Node) → node_at k s.nodes ≡ Some n → is_inner (barred_from hidden s.nodes) n ≡ false = not_inside k hidden s.nodes out in
-    let barred : barred_from hidden (dropped_at k s.nodes) ≡ barred_from hidden s.nodes = barred-dropped_at k hidden s.nodes not_inner in
+    let not_inner : (n : Node) → node_at k s.nodes ≡ Some n → is_inner (barred_from hidden s.nodes) n ≡ false
+    = not_inside k hidden s.nodes out in
+    let barred : barred_from hidden (dropped_at k s.nodes) ≡ barred_from hidden s.nodes
+    = barred-dropped_at k hidden s.nodes not_inner in
     record {
-      commutes = ap (λ ns. with_nodes s ns) (ap (λ b. filter (λ n. not (is_inner b n)) (dropped_at k s.nodes)) barred
+      commutes =
+          ap (λ ns. with_nodes s ns) (ap (λ b. filter (λ n. not (is_inner b n)) (dropped_at k s.nodes)) barred
           ∙ filter-dropped_at k (λ n. not (is_inner (barred_from hidden s.nodes) n)) s.nodes (λ n found. ap not (not_inner n found)));
       insides = ap (λ b. filter (is_inner b) (dropped_at k s.nodes)) barred
           ∙ filter-dropped_out k (is_inner (barred_from hidden s.nodes)) s.nodes not_inner;
       barred = λ j. ap (λ b. is_among b j) barred;
-      inside = λ j. ap (λ b. option_map_or (is_inner b) (node_at j (dropped_at k s.nodes)) false) barred
+      inside =
+          λ j. ap (λ b. option_map_or (is_inner b) (node_at j (dropped_at k s.nodes)) false) barred
           ∙ asked-dropped_at k (is_inner (barred_from hidden s.nodes)) j s.nodes o not_inner;
     }
 
@@ -235,14 +253,17 @@ pub server_add_spares : ServerAddSpares
 server_add_spares hidden s dir make in_dir out =
     let n : Node = make s.next in
     let not_inner : is_inner (barred_from hidden s.nodes) n ≡ false = rw (in_dir s.next) out in
-    let barred : barred_from hidden (s.nodes ++ n ∷ []) ≡ barred_from hidden s.nodes = barred-push hidden s.nodes n ∙ rw not_inner refl in
+    let barred : barred_from hidden (s.nodes ++ n ∷ []) ≡ barred_from hidden s.nodes
+    = barred-push hidden s.nodes n ∙ rw not_inner refl in
     record {
-      commutes = ap (λ ns. record { nodes = ns; next = s.next + 1 }) (ap (λ b. filter (λ m. not (is_inner b m)) (s.nodes ++ n ∷ [])) barred
+      commutes =
+          ap (λ ns. record { nodes = ns; next = s.next + 1 }) (ap (λ b. filter (λ m. not (is_inner b m)) (s.nodes ++ n ∷ [])) barred
           ∙ filter-append (λ m. not (is_inner (barred_from hidden s.nodes) m)) s.nodes (n ∷ []) ∙ rw not_inner refl);
       insides = ap (λ b. filter (is_inner b) (s.nodes ++ n ∷ [])) barred
           ∙ filter-append (is_inner (barred_from hidden s.nodes)) s.nodes (n ∷ []) ∙ rw not_inner (append-nil _);
       barred = λ j. ap (λ b. is_among b j) barred;
-      inside = λ j. ap (λ b. option_map_or (is_inner b) (node_at j (s.nodes ++ n ∷ [])) false) barred
+      inside =
+          λ j. ap (λ b. option_map_or (is_inner b) (node_at j (s.nodes ++ n ∷ [])) false) barred
           ∙ asked-push (is_inner (barred_from hidden s.nodes)) j s.nodes n not_inner;
     }
 
@@ -269,7 +290,8 @@ inner-grown ks n = go (is_inner ks n) refl
 
 pub server_parent_decides : ServerParentDecides
 server_parent_decides hidden s dir n w at in_dir =
-    let found : node_at s.next (s.nodes ++ n ∷ []) ≡ Some n = rw (← at) (node_at-push s.nodes n (rw (← at) at w.below)) in
+    let found : node_at s.next (s.nodes ++ n ∷ []) ≡ Some n
+    = rw (← at) (node_at-push s.nodes n (rw (← at) at w.below)) in
     rw found (ap (λ b. is_inner b n) (barred-push hidden s.nodes n) ∙ inner-grown (barred_from hidden s.nodes) n ∙ rw in_dir refl)
 
 -- the next number is not barred, where all hidden and all present ones lie below it
@@ -278,7 +300,8 @@ pub next_is_free_ordered : (hidden : List ℕ) (s : Server) → IsOrdered s.node
     → IsFalse (is_among (barred_from hidden s.nodes) s.next)
 next_is_free_ordered hidden s o below given =
     let none : node_at s.next s.nodes ≡ None = node_at-past s.next s.nodes below in
-    let shown : is_among hidden s.next ≡ false = not_true (is_among hidden s.next) (λ t. let low = given s.next t in omega arith) in
+    let shown : is_among hidden s.next ≡ false
+    = not_true (is_among hidden s.next) (λ t. let low = given s.next t in omega arith) in
     barred-is_among hidden s.nodes s.next o ∙ rw (shown, none) refl
 
 pub server_next_is_free : ServerNextIsFree

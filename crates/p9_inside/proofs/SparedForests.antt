@@ -17,8 +17,10 @@ outer_from-set : (from server at : ℕ) (hidden : List NodeRef) (forest : List S
     → at ≡ from + server
     → outer_from from hidden (set forest server new) ≡ set (outer_from from hidden forest) server (outer_server (hidden_on at hidden) new)
 outer_from-set from server at hidden [] new e = refl
-outer_from-set from zero at hidden (s ∷ ss) new e = let same : at ≡ from = omega arith in rw same refl
-outer_from-set from (suc server) at hidden (s ∷ ss) new e = ap (λ rest. outer_server (hidden_on from hidden) s ∷ rest) (outer_from-set (suc from) server at hidden ss new (omega arith))
+outer_from-set from zero at hidden (s ∷ ss) new e =
+    let same : at ≡ from = omega arith in rw same refl
+outer_from-set from (suc server) at hidden (s ∷ ss) new e =
+    ap (λ rest. outer_server (hidden_on from hidden) s ∷ rest) (outer_from-set (suc from) server at hidden ss new (omega arith))
 
 -- a server with the same insides put in place of another
 inner_from-set : (from server at : ℕ) (hidden : List NodeRef) (forest : List Server) (new : Server)
@@ -29,7 +31,8 @@ inner_from-set from server at hidden [] new e kept = refl
 inner_from-set from zero at hidden (s ∷ ss) new e kept =
     let same : at ≡ from = omega arith in
     ap (λ first. first ∷ inner_from (suc from) hidden ss) (rw same at kept)
-inner_from-set from (suc server) at hidden (s ∷ ss) new e kept = ap (λ rest. inner_nodes (hidden_on from hidden) s.nodes ∷ rest) (inner_from-set (suc from) server at hidden ss new (omega arith) kept)
+inner_from-set from (suc server) at hidden (s ∷ ss) new e kept =
+    ap (λ rest. inner_nodes (hidden_on from hidden) s.nodes ∷ rest) (inner_from-set (suc from) server at hidden ss new (omega arith) kept)
 
 -- a server after a change of one
 server_at-set : (server t : ℕ) (forest : List Server) (new : Server)
@@ -69,42 +72,54 @@ pub spares-server : (hidden : List NodeRef) (forest : List Server) (server : ℕ
     → Spares hidden (tree_changed_at server change) forest
 unfolding outer inner is_barred is_inside
 spares-server hidden forest server change spared = record {
-  commutes = outer_from-set 0 server server hidden forest (change (server_at server forest)) (omega arith)
+  commutes =
+      outer_from-set 0 server server hidden forest (change (server_at server forest)) (omega arith)
       ∙ ap (λ s. set (outer_from 0 hidden forest) server s) (spared.commutes ∙ ap change (sym (server_at-outer server hidden forest)));
-  insides = inner_from-set 0 server server hidden forest (change (server_at server forest)) (omega arith) spared.insides;
-  barred = λ r. told-set (λ t s. is_among (barred_from (hidden_on t hidden) s.nodes) r.number) server r.server forest (change (server_at server forest)) (spared.barred r.number);
-  inside = λ r. told-set (λ t s. is_inside_at r.number (hidden_on t hidden) s.nodes) server r.server forest (change (server_at server forest)) (spared.inside r.number);
+  insides =
+      inner_from-set 0 server server hidden forest (change (server_at server forest)) (omega arith) spared.insides;
+  barred =
+      λ r. told-set (λ t s. is_among (barred_from (hidden_on t hidden) s.nodes) r.number) server r.server forest (change (server_at server forest)) (spared.barred r.number);
+  inside =
+      λ r. told-set (λ t s. is_inside_at r.number (hidden_on t hidden) s.nodes) server r.server forest (change (server_at server forest)) (spared.inside r.number);
 }
 
 pub change_spares : ChangeSpares
 unfolding is_inside
-change_spares hidden forest r f keeps out = spares-server hidden forest r.server (with_changed r.number f) (server_change_spares (hidden_on r.server hidden) (server_at r.server forest) r.number f keeps out)
+change_spares hidden forest r f keeps out =
+    spares-server hidden forest r.server (with_changed r.number f) (server_change_spares (hidden_on r.server hidden) (server_at r.server forest) r.number f keeps out)
 
 pub mark_spares : MarkSpares
-mark_spares hidden forest r user now out = change_spares hidden forest r (marked user now) (record { number = λ n. refl; parent = λ n. refl }) out
+mark_spares hidden forest r user now out =
+    change_spares hidden forest r (marked user now) (record { number = λ n. refl; parent = λ n. refl }) out
 
 pub touch_spares : TouchSpares
-touch_spares hidden forest r now out = change_spares hidden forest r (touched now) (record { number = λ n. refl; parent = λ n. refl }) out
+touch_spares hidden forest r now out =
+    change_spares hidden forest r (touched now) (record { number = λ n. refl; parent = λ n. refl }) out
 
 pub owner_spares : OwnerSpares
-owner_spares hidden forest r permissions uid gid out = change_spares hidden forest r (with_owner permissions uid gid) (record { number = λ n. refl; parent = λ n. refl }) out
+owner_spares hidden forest r permissions uid gid out =
+    change_spares hidden forest r (with_owner permissions uid gid) (record { number = λ n. refl; parent = λ n. refl }) out
 
 -- a change of its bytes leaves a node where it stands
 keeps-with_bytes : (f : List ℕ → List ℕ) → KeepsParent (with_bytes f)
 keeps-with_bytes f = record { number = λ n. refl; parent = λ n. refl }
 
 pub write_spares : WriteSpares
-write_spares hidden forest r offset bytes out = change_spares hidden forest r (with_bytes (overwritten offset bytes)) (keeps-with_bytes (overwritten offset bytes)) out
+write_spares hidden forest r offset bytes out =
+    change_spares hidden forest r (with_bytes (overwritten offset bytes)) (keeps-with_bytes (overwritten offset bytes)) out
 
 pub cut_spares : CutSpares
-cut_spares hidden forest r size out = change_spares hidden forest r (with_bytes (cut_to size)) (keeps-with_bytes (cut_to size)) out
+cut_spares hidden forest r size out =
+    change_spares hidden forest r (with_bytes (cut_to size)) (keeps-with_bytes (cut_to size)) out
 
 pub add_spares : AddSpares
 unfolding is_barred
-add_spares hidden forest dir make in_dir out = spares-server hidden forest dir.server (with_new make) (server_add_spares (hidden_on dir.server hidden) (server_at dir.server forest) dir.number make in_dir out)
+add_spares hidden forest dir make in_dir out =
+    spares-server hidden forest dir.server (with_new make) (server_add_spares (hidden_on dir.server hidden) (server_at dir.server forest) dir.number make in_dir out)
 
 pub new_spares : NewSpares
-new_spares hidden forest dir new out = add_spares hidden forest dir (λ k. new_node k dir.number new) (λ k. refl) out
+new_spares hidden forest dir new out =
+    add_spares hidden forest dir (λ k. new_node k dir.number new) (λ k. refl) out
 
 pub in_turn_spares : InTurnSpares
 in_turn_spares hidden forest first second a b = record {
@@ -116,7 +131,8 @@ in_turn_spares hidden forest first second a b = record {
 
 pub drop_spares : DropSpares
 unfolding is_inside
-drop_spares hidden forest r w out = spares-server hidden forest r.server (with_dropped r.number) (drop_spares_ordered (hidden_on r.server hidden) (server_at r.server forest) r.number (server_ordered forest w r.server) out)
+drop_spares hidden forest r w out =
+    spares-server hidden forest r.server (with_dropped r.number) (drop_spares_ordered (hidden_on r.server hidden) (server_at r.server forest) r.number (server_ordered forest w r.server) out)
 
 -- a server that has a directory is there
 there : (forest : List Server) (dir : NodeRef) → IsTrue (is_dir_of dir forest)
@@ -143,4 +159,5 @@ parent_decides hidden forest dir make w is_directory at in_dir =
 
 pub next_is_free : NextIsFree
 unfolding is_hidden is_barred
-next_is_free hidden forest server w given = next_is_free_ordered (hidden_on server hidden) (server_at server forest) (server_ordered forest w server) (server_below forest w server) (λ k hid. given (record { server = server; number = k }) hid)
+next_is_free hidden forest server w given =
+    next_is_free_ordered (hidden_on server hidden) (server_at server forest) (server_ordered forest w server) (server_below forest w server) (λ k hid. given (record { server = server; number = k }) hid)
