@@ -3,3 +3,4 @@ pub mod Node
 pub mod New
 pub mod Server
 pub mod Forest
+pub mod Inside

@@ -1,0 +1,6 @@
+pub mod Chain
+pub mod Forests
+pub mod Outer
+pub mod Pass
+pub mod Spared
+pub mod SparedForests

@@ -1,0 +1,4 @@
+pub mod Meaning
+pub mod Lookups
+pub mod Changes
+pub mod Worlds
