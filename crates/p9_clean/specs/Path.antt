@@ -1,0 +1,62 @@
+-- Paths, their elements, and what cleaning leaves of them, as cleanname(2).
+use Rattle.std.specs.Prelude.{ℕ, ◌==◌, ◌&&◌, Bool, true, false, not, nat_lt, List, [], ◌∷◌, length, filter, codes, if◌then◌else◌}
+use Rattle.std.specs.List.{slice_split, join_with_byte}
+use Rattle.std.specs.Str.{bytes_eq}
+
+-- the bytes of what stands between two slashes
+abbrev pub Word : Type 0
+Word = List ℕ
+
+-- a path is rooted where it begins with a slash
+abbrev pub is_rooted : List ℕ → Bool
+is_rooted [] = false
+is_rooted (b ∷ bs) = b == 47
+
+-- what stands between the slashes of a path
+abbrev pub words_of : List ℕ → List Word
+words_of path = slice_split (λ b. b == 47) path
+
+abbrev pub is_dot : Word → Bool
+is_dot word = bytes_eq word (codes ".")
+
+abbrev pub is_dot_dot : Word → Bool
+is_dot_dot word = bytes_eq word (codes "..")
+
+-- an element is a name or '..': the empty word and '.' lead nowhere
+abbrev pub is_element : Word → Bool
+is_element word = nat_lt 0 (length word) && not (is_dot word)
+
+abbrev pub elements_of : List ℕ → List Word
+elements_of path = filter is_element (words_of path)
+
+-- an element in front of others: a name followed by '..' goes with it
+abbrev pub in_front : Word → List Word → List Word
+in_front e [] = e ∷ []
+in_front e (next ∷ es) = if not (is_dot_dot e) && is_dot_dot next then es else e ∷ next ∷ es
+
+-- the elements without each name that a '..' takes back, and that '..'
+abbrev pub reduced : List Word → List Word
+reduced [] = []
+reduced (e ∷ es) = in_front e (reduced es)
+
+-- the elements without the '..' at their start
+abbrev pub below_root : List Word → List Word
+below_root [] = []
+below_root (e ∷ es) = if is_dot_dot e then below_root es else e ∷ es
+
+-- what cleaning leaves of the elements of a path that is rooted, and of one that is not
+abbrev pub shortened : Bool → List Word → List Word
+shortened true es = below_root (reduced es)
+shortened false es = reduced es
+
+-- the path of these elements: a slash between each two, and in front if it is rooted
+abbrev pub path_of : Bool → List Word → List ℕ
+path_of true es = 47 ∷ join_with_byte 47 es
+path_of false [] = codes "."
+path_of false (e ∷ es) = join_with_byte 47 (e ∷ es)
+
+abbrev pub cleaned_elements : List ℕ → List Word
+cleaned_elements path = shortened (is_rooted path) (elements_of path)
+
+abbrev pub cleaned : List ℕ → List ℕ
+cleaned path = path_of (is_rooted path) (cleaned_elements path)
