@@ -22,6 +22,7 @@ pushed [] w = w ∷ []
 pushed (e ∷ []) w = in_front e (w ∷ [])
 pushed (e ∷ next ∷ es) w = e ∷ pushed (next ∷ es) w
 
+-- two elements in front of a third are the first two with the third at their end
 in_front-in_front : (x y w : List ℕ) → in_front x (in_front y (w ∷ [])) ≡ pushed (in_front x (y ∷ [])) w
 unfolding pushed
 in_front-in_front x y w = go (is_dot_dot x) (is_dot_dot y) (is_dot_dot w) refl refl refl where
@@ -53,18 +54,22 @@ left_with true [] w = below_root (w ∷ [])
 left_with false [] w = w ∷ []
 left_with rooted (e ∷ es) w = pushed (e ∷ es) w
 
+-- a name at the start stays below the root
 below_root-name : (e : List ℕ) (es : List (List ℕ)) → is_dot_dot e ≡ false → below_root (e ∷ es) ≡ e ∷ es
 below_root-name e es name = rw name refl
 
+-- '..' at the start goes below the root
 below_root-dot_dot : (e : List ℕ) (es : List (List ℕ)) → is_dot_dot e ≡ true → below_root (e ∷ es) ≡ below_root es
 below_root-dot_dot e es up = rw up refl
 
+-- a name at the start, and what it leaves of the element behind it, stay below the root
 below_root-in_front : (e w : List ℕ) → is_dot_dot e ≡ false → below_root (in_front e (w ∷ [])) ≡ in_front e (w ∷ [])
 below_root-in_front e w name = go (is_dot_dot w) refl where
   go : (b : Bool) → is_dot_dot w ≡ b → below_root (in_front e (w ∷ [])) ≡ in_front e (w ∷ [])
   go true up = rw (in_front-gone e w [] name up) refl
   go false other = rw (in_front-name e w [] other) (below_root-name e (w ∷ []) name)
 
+-- one more element at the end may come after the start is cleared
 below_root-pushed : (es : List (List ℕ)) (w : List ℕ) → below_root (pushed es w) ≡ left_with true (below_root es) w
 unfolding pushed left_with
 below_root-pushed [] w = refl
@@ -77,6 +82,7 @@ below_root-pushed (e ∷ n ∷ es) w =
     as (λ t. cond t (below_root (pushed (n ∷ es) w)) (e ∷ pushed (n ∷ es) w) ≡ left_with true (cond t (below_root (n ∷ es)) (e ∷ n ∷ es)) w)
     [ true ↦ below_root-pushed (n ∷ es) w | false ↦ refl ]
 
+-- in a path that is not rooted, an element behind what is left is one at its end
 pushed-left_with : (es : List (List ℕ)) (w : List ℕ) → pushed es w ≡ left_with false es w
 unfolding pushed left_with
 pushed-left_with [] w = refl
@@ -87,6 +93,7 @@ pub shortened-append : (rooted : Bool) (es : List (List ℕ)) (w : List ℕ) →
 shortened-append true es w = ap below_root (reduced-append es w) ∙ below_root-pushed (reduced es) w
 shortened-append false es w = reduced-append es w ∙ pushed-left_with (reduced es) w
 
+-- a name stays at the end
 pushed-name : (es : List (List ℕ)) (w : List ℕ) → is_dot_dot w ≡ false → pushed es w ≡ es ++ w ∷ []
 unfolding pushed
 pushed-name [] w name = refl
@@ -101,12 +108,14 @@ left_with-name false [] w name = refl
 left_with-name true (e ∷ es) w name = pushed-name (e ∷ es) w name
 left_with-name false (e ∷ es) w name = pushed-name (e ∷ es) w name
 
+-- an element at the end meets the last one alone
 pushed-append : (es : List (List ℕ)) (e w : List ℕ) → pushed (es ++ e ∷ []) w ≡ es ++ in_front e (w ∷ [])
 unfolding pushed
 pushed-append [] e w = refl
 pushed-append (x ∷ []) e w = refl
 pushed-append (x ∷ y ∷ es) e w = ap (λ (t : List (List ℕ)). x ∷ t) (pushed-append (y ∷ es) e w)
 
+-- an element behind what is left meets the last one alone
 left_with-append : (rooted : Bool) (es : List (List ℕ)) (e w : List ℕ) → left_with rooted (es ++ e ∷ []) w ≡ es ++ in_front e (w ∷ [])
 unfolding left_with
 left_with-append true [] e w = pushed-append [] e w

@@ -4,7 +4,7 @@ use Rattle.std.specs.List.{slice_get, join_with_byte}
 use Rattle.std.proofs.lemmas.List.{take_more, map-append}
 use Rattle.std.proofs.lemmas.Bool.{not-true, not-false}
 use Rattle.std.proofs.lemmas.Option.{slice_get-get_or}
-use Rattle.p9_clean.specs.Path.{is_dot_dot, shortened}
+use Rattle.p9_clean.specs.Path.{slash, is_dot_dot, shortened}
 use Rattle.p9_clean.proofs.Joined.{join_with_byte-append}
 use Rattle.p9_clean.proofs.Reduction.{left_with, shortened-append, left_with-name, left_with-taken_back, left_with-behind, left_with-at_root, left_with-at_start}
 
@@ -16,6 +16,7 @@ texts xs = map (λ e. e.now) xs
 pub texts-take : (xs : List (Bor (List ℕ))) (i : ℕ) (d : Bor (List ℕ)) → i < length xs → texts (take (i + 1) xs) ≡ texts (take i xs) ++ (get_or xs i d).now ∷ []
 texts-take xs i d within = ap texts (take_more xs i d within) ∙ map-append (λ e. e.now) (take i xs) (get_or xs i d ∷ [])
 
+-- a list whose element at n is its last ends in it
 split_last : {X : Type 0} (xs : List X) (x : X) (n : ℕ) → length xs ≡ suc n → slice_get xs n ≡ Some x → xs ≡ take n xs ++ x ∷ []
 split_last [] x n long there = absurd (omega arith)
 split_last (y ∷ []) x zero long there = cc
@@ -37,6 +38,7 @@ empty_without_last (y ∷ ys) none =
 
 -- the elements read so far and what is kept of them, and then one more element
 module _ (rooted : Bool) (elements kept : List (Bor (List ℕ))) (i : ℕ) (d : Bor (List ℕ)) (within : i < length elements) {named : Bool} (tested : named ≡ not (is_dot_dot (get_or elements i d).now)) (so_far : texts kept ≡ shortened rooted (texts (take i elements))) where
+  -- the element that is read
   next : Bor (List ℕ)
   next = get_or elements i d
 
@@ -55,9 +57,11 @@ module _ (rooted : Bool) (elements kept : List (Bor (List ℕ))) (i : ℕ) (d : 
       left (texts after) (left_with-name rooted (texts kept) next.now (not-true (is_dot_dot next.now) (sym tested ∙ name)) ∙ sym (ap texts e ∙ map-append (λ x. x.now) kept (next ∷ [])))
 
   module _ (seen : List (Bor (List ℕ))) (same : seen ≡ kept) (last : Bor (List ℕ)) (there : Some last ≡ slice_get seen (length seen - 1)) where
+    -- what is kept before the last element
     front : List (List ℕ)
     front = texts (take (length kept - 1) kept)
 
+    -- what is kept ends in the last element
     texts-kept : texts kept ≡ front ++ last.now ∷ []
     unfolding front
     texts-kept =
@@ -84,6 +88,7 @@ module _ (rooted : Bool) (elements kept : List (Bor (List ℕ))) (i : ℕ) (d : 
         ∙ sym (ap texts e ∙ map-append (λ x. x.now) kept (next ∷ [])))
 
   module _ (seen : List (Bor (List ℕ))) (same : seen ≡ kept) (none : None ≡ slice_get seen (length seen - 1)) where
+    -- nothing is kept
     empty : kept ≡ []
     empty = empty_without_last kept (sym (none ∙ ap (λ t. slice_get t (length t - 1)) same))
 
@@ -106,16 +111,16 @@ module _ (rooted : Bool) (elements kept : List (Bor (List ℕ))) (i : ℕ) (d : 
         ∙ sym (ap texts (e ∙ ap (λ t. t ++ next ∷ []) empty)))
 
 -- a path so far, with a slash and the next element behind it
-pub path_more : (front : List ℕ) (first : Bor (List ℕ)) (elements others : List (Bor (List ℕ))) (i : ℕ) (d : Bor (List ℕ)) (text slashed after : List ℕ) →
+pub path_more : (root : List ℕ) (first : Bor (List ℕ)) (elements others : List (Bor (List ℕ))) (i : ℕ) (d : Bor (List ℕ)) (text slashed after : List ℕ) →
     elements ≡ first ∷ others → i < length others →
-    text ≡ front ++ join_with_byte 47 (texts (take (i + 1) elements)) → slashed ≡ text ++ 47 ∷ [] → after ≡ slashed ++ (get_or others i d).now →
-    after ≡ front ++ join_with_byte 47 (texts (take (i + 1 + 1) elements))
-path_more front first elements others i d text slashed after parts within so_far slash next =
-    let so_far' : text ≡ front ++ join_with_byte 47 (first.now ∷ texts (take i others)) = so_far ∙ ap (λ t. front ++ join_with_byte 47 (texts (take (i + 1) t))) parts ∙ rw add-one refl in
+    text ≡ root ++ join_with_byte slash (texts (take (i + 1) elements)) → slashed ≡ text ++ slash ∷ [] → after ≡ slashed ++ (get_or others i d).now →
+    after ≡ root ++ join_with_byte slash (texts (take (i + 1 + 1) elements))
+path_more root first elements others i d text slashed after parts within so_far slashed_is after_is =
+    let so_far' : text ≡ root ++ join_with_byte slash (first.now ∷ texts (take i others)) = so_far ∙ ap (λ t. root ++ join_with_byte slash (texts (take (i + 1) t))) parts ∙ rw add-one refl in
     let longer : texts (take (i + 1 + 1) elements) ≡ (first.now ∷ texts (take i others)) ++ (get_or others i d).now ∷ [] =
     ap (λ t. texts (take (i + 1 + 1) t)) parts ∙ rw (add-one (i + 1)) (ap (λ t. first.now ∷ t) (texts-take others i d within)) in
-    next ∙ ap (λ t. t ++ (get_or others i d).now) (slash ∙ ap (λ t. t ++ 47 ∷ []) so_far')
-    ∙ append_assoc (front ++ join_with_byte 47 (first.now ∷ texts (take i others))) (47 ∷ []) (get_or others i d).now
-    ∙ append_assoc front (join_with_byte 47 (first.now ∷ texts (take i others))) (47 ∷ (get_or others i d).now)
-    ∙ ap (λ t. front ++ t) (sym (join_with_byte-append 47 first.now (texts (take i others)) (get_or others i d).now))
-    ∙ ap (λ t. front ++ join_with_byte 47 t) (sym longer)
+    after_is ∙ ap (λ t. t ++ (get_or others i d).now) (slashed_is ∙ ap (λ t. t ++ slash ∷ []) so_far')
+    ∙ append_assoc (root ++ join_with_byte slash (first.now ∷ texts (take i others))) (slash ∷ []) (get_or others i d).now
+    ∙ append_assoc root (join_with_byte slash (first.now ∷ texts (take i others))) (slash ∷ (get_or others i d).now)
+    ∙ ap (λ t. root ++ t) (sym (join_with_byte-append slash first.now (texts (take i others)) (get_or others i d).now))
+    ∙ ap (λ t. root ++ join_with_byte slash t) (sym longer)

@@ -7,14 +7,18 @@ use Rattle.std.specs.Str.{bytes_eq}
 abbrev pub Word : Type 0
 Word = List ℕ
 
+-- the byte '/'
+abbrev pub slash : ℕ
+slash = 47
+
 -- a path is rooted where it begins with a slash
 abbrev pub is_rooted : List ℕ → Bool
 is_rooted [] = false
-is_rooted (b ∷ bs) = b == 47
+is_rooted (b ∷ bs) = b == slash
 
 -- what stands between the slashes of a path
 abbrev pub words_of : List ℕ → List Word
-words_of path = slice_split (λ b. b == 47) path
+words_of path = slice_split (λ b. b == slash) path
 
 abbrev pub is_dot : Word → Bool
 is_dot word = bytes_eq word (codes ".")
@@ -51,9 +55,9 @@ shortened false es = reduced es
 
 -- the path of these elements: a slash between each two, and in front if it is rooted
 abbrev pub path_of : Bool → List Word → List ℕ
-path_of true es = 47 ∷ join_with_byte 47 es
+path_of true es = slash ∷ join_with_byte slash es
 path_of false [] = codes "."
-path_of false (e ∷ es) = join_with_byte 47 (e ∷ es)
+path_of false (e ∷ es) = join_with_byte slash (e ∷ es)
 
 abbrev pub cleaned_elements : List ℕ → List Word
 cleaned_elements path = shortened (is_rooted path) (elements_of path)
