@@ -1,0 +1,35 @@
+-- What comes of a request: an outcome, or the fault that refuses it.
+use Rattle.std.specs.Prelude.{ℕ, Bool, List, [], Option, Some, None, Result, Ok, Err, if◌then◌else◌}
+use Rattle.p9_base.specs.declared.fault.Fault.{Fault}
+use Rattle.p9_base.specs.Fault.{text_of}
+use Rattle.p9_wire.specs.Message.{RMessage, Rerror}
+use Rattle.p9_export.specs.State.{Session}
+use Rattle.p9_export.specs.Change.{Change}
+
+-- the changes of the forest, one after another, the session after the request, and the reply
+pub record Outcome : Type 0 where
+  pub changes : List Change
+  pub session : Session
+  pub reply : RMessage
+
+abbrev pub Answer : Type 0
+Answer = Result Outcome Fault
+
+-- goes on where the test passes
+abbrev pub need : Bool → Fault → Answer → Answer
+need test fault rest = if test then rest else Err fault
+
+-- goes on with the value, where there is one
+abbrev pub given : {X : Type 0} → Option X → Fault → (X → Answer) → Answer
+given None fault rest = Err fault
+given (Some x) fault rest = rest x
+
+-- goes on where there is no fault
+abbrev pub unless : Option Fault → Answer → Answer
+unless None rest = rest
+unless (Some fault) rest = Err fault
+
+-- a refusal changes nothing
+abbrev pub outcome_of : Session → Answer → Outcome
+outcome_of session (Ok outcome) = outcome
+outcome_of session (Err fault) = record { changes = []; session = session; reply = Rerror (text_of fault) }

@@ -1,0 +1,47 @@
+-- An attach, which makes a fid for the root of the name space: attach(5).
+use Rattle.std.specs.Prelude.{ℕ, ◌+◌, ◌*◌, ◌^◌, ◌==◌, ◌||◌, Bool, List, [], ◌∷◌, Option, None, Ok, codes, find}
+use Rattle.std.specs.Str.{bytes_eq}
+use Rattle.p9_base.specs.declared.node_ref.NodeRef.{NodeRef}
+use Rattle.p9_base.specs.declared.qid.Qid.{Qid}
+use Rattle.p9_base.specs.Mode.{qid_kind}
+use Rattle.p9_base.specs.declared.fault.Fault.TheVariants.{NoAuthentication, UnknownUser, UnknownAttachName, PhaseError}
+use Rattle.p9_tree.specs.Node.{Node}
+use Rattle.p9_tree.specs.Server.{Server}
+use Rattle.p9_space.specs.Place.{file_of, file_ref}
+use Rattle.p9_wire.specs.Message.{Rattach}
+use Rattle.p9_fids.specs.declared.table.TheConstants.{NOFID}
+use Rattle.p9_fids.specs.Fid.{put_fault, with_fid}
+use Rattle.p9_export.specs.State.{Setting, Session}
+use Rattle.p9_export.specs.Answer.{Answer, need, given, unless}
+
+-- the root of server 0
+abbrev pub root_place : NodeRef
+root_place = record { server = 0; number = 0 }
+
+-- a file's identity among those of all servers, and its version
+abbrev pub qid_of : NodeRef → Node → Qid
+qid_of at n = record { kind = qid_kind n.mode; version = n.version; path = at.server * 2 ^ 48 + at.number }
+
+-- the listed user of the name
+abbrev pub listed_user : List ℕ → List (List ℕ) → Option (List ℕ)
+listed_user uname users = find (λ user. bytes_eq user uname) users
+
+-- the one tree that can be attached to
+abbrev pub is_root_name : List ℕ → Bool
+is_root_name aname = bytes_eq aname [] || bytes_eq aname (codes "/")
+
+abbrev pub attached : ℕ → List ℕ → Session → Session
+attached fid user session = record session { fids = with_fid fid (record { user = user; trail = root_place ∷ []; opened = None }) session.fids }
+
+abbrev pub attach_answer : Setting → List Server → Session → ℕ → ℕ → List ℕ → List ℕ → Answer
+attach_answer setting forest session fid afid uname aname =
+    unless (put_fault fid session.fids) (
+    need (afid == NOFID) NoAuthentication (
+    given (listed_user uname setting.users) UnknownUser (λ user.
+    need (is_root_name aname) UnknownAttachName (
+    given (file_of root_place setting.table forest) PhaseError (λ file.
+    Ok (record {
+      changes = [];
+      session = attached fid user session;
+      reply = Rattach (qid_of (file_ref root_place setting.table) file);
+    }))))))

@@ -1,0 +1,35 @@
+-- The changes that requests make in the forest, each under a name.
+use Rattle.std.specs.Prelude.{ℕ, List, [], ◌∷◌}
+use Rattle.p9_base.specs.declared.node_ref.NodeRef.{NodeRef}
+use Rattle.p9_tree.specs.Bytes.{cut_to, overwritten}
+use Rattle.p9_tree.specs.Node.{Node, marked, touched, with_bytes}
+use Rattle.p9_tree.specs.Server.{Server, added, with_dropped}
+use Rattle.p9_tree.specs.Forest.{forest_changed_at, tree_changed_at}
+
+-- what is changed in one node
+pub data Edit : Type 0 where
+  Mark : (user : List ℕ) (now : ℕ) → Edit
+  Touch : (now : ℕ) → Edit
+  Overwrite : (offset : ℕ) (bytes : List ℕ) → Edit
+  Cut : (size : ℕ) → Edit
+
+unfoldable pub edited : Edit → Node → Node
+edited (Mark user now) = marked user now
+edited (Touch now) = touched now
+edited (Overwrite offset bytes) = with_bytes (overwritten offset bytes)
+edited (Cut size) = with_bytes (cut_to size)
+
+pub data Change : Type 0 where
+  EditNode : (at : NodeRef) (edit : Edit) → Change
+  AddNode : (server : ℕ) (node : Node) → Change
+  DropNode : (at : NodeRef) → Change
+
+unfoldable pub applied : Change → List Server → List Server
+applied (EditNode at edit) forest = forest_changed_at at (edited edit) forest
+applied (AddNode server node) forest = tree_changed_at server (λ s. added s node) forest
+applied (DropNode at) forest = tree_changed_at at.server (with_dropped at.number) forest
+
+-- one change after another
+abbrev pub all_applied : List Change → List Server → List Server
+all_applied [] forest = forest
+all_applied (change ∷ changes) forest = all_applied changes (applied change forest)

@@ -1,0 +1,34 @@
+-- A version, which begins the session anew: version(5).
+use Rattle.std.specs.Prelude.{ℕ, ◌||◌, Bool, min, nat_eq, nat_le, List, [], Some, Ok, codes, if◌then◌else◌}
+use Rattle.std.specs.List.{starts_with}
+use Rattle.std.specs.Str.{bytes_eq}
+use Rattle.p9_base.specs.declared.fault.Fault.TheVariants.{SmallMsize}
+use Rattle.p9_wire.specs.Frame.{msize_max}
+use Rattle.p9_wire.specs.Message.{Rversion}
+use Rattle.p9_export.specs.State.{Session}
+use Rattle.p9_export.specs.Answer.{Answer, need}
+
+-- the least msize
+abbrev pub msize_min : ℕ
+msize_min = 512
+
+-- 9P2000, or a dialect of it, which is answered with it
+abbrev pub is_known : List ℕ → Bool
+is_known version = bytes_eq version (codes "9P2000") || starts_with nat_eq version (codes "9P2000.")
+
+-- all fids end, and frames have at most so many bytes from now on
+abbrev pub begun : ℕ → Answer
+begun msize = Ok (record {
+  changes = [];
+  session = record { msize = Some msize; fids = [] };
+  reply = Rversion msize (codes "9P2000");
+})
+
+-- a version that isn't spoken here changes nothing
+abbrev pub not_spoken : Session → ℕ → Answer
+not_spoken session msize = Ok (record { changes = []; session = session; reply = Rversion msize (codes "unknown") })
+
+abbrev pub version_answer : Session → ℕ → List ℕ → Answer
+version_answer session msize version =
+    need (nat_le msize_min msize) SmallMsize (
+    if is_known version then begun (min msize msize_max) else not_spoken session (min msize msize_max))

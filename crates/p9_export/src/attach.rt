@@ -1,0 +1,91 @@
+//! The answer to an attach, as attach(5).
+
+ghost use Rattle.std.specs.Prelude.{◌≡◌, ◌<◌, ◌^◌, map, true};
+ghost use Rattle.std.specs.Option.{option_copied};
+ghost use Rattle.std.specs.Str.{bytes_eq};
+ghost use Rattle.p9_export.specs.Attach.{attach_answer, listed_user, qid_of};
+ghost use Rattle.p9_export.specs.Answers.{Answers, IsReply};
+
+use crate::session::Session;
+use p9_base::{Fault, NodeRef, Qid, User};
+use p9_fids::{Fid, NOFID};
+use p9_space::{MountTable, Trail};
+use p9_tree::{Forest, Node, Tree};
+use p9_wire::RMsg;
+use std::alloc::Allocator;
+
+/// Where a fid is attached: the root of server 0.
+const ROOT_PLACE: NodeRef = NodeRef {
+    server: 0,
+    number: 0,
+};
+
+/// Makes a fid for the root of the name space.
+pub fn attach<T: Tree>(
+    alloc: T::Alloc,
+    forest: &Forest<T>,
+    table: &MountTable<T::Alloc>,
+    users: &[User],
+    session: &mut Session<T::Alloc>,
+    fid: u32,
+    afid: u32,
+    uname: &str,
+    aname: &str,
+) -> Result<RMsg<'static>, Fault>
+    ensures answer { Answers (attach_answer (record { users = users.now; table = table.now }) (map T.state forest.now.trees.items) session.old fid afid uname.now aname.now) true session.old session.new result }
+    ensures reply { IsReply result }
+{
+    if let Some(fault) = session.fids.put_fault(fid) {
+        return Err(fault);
+    }
+    if afid != NOFID {
+        return Err(Fault::NoAuthentication);
+    }
+    let Some(user) = listed(uname, users) else {
+        return Err(Fault::UnknownUser);
+    };
+    if !aname.is_empty() && aname != "/" {
+        return Err(Fault::UnknownAttachName);
+    }
+    let at = table.file(ROOT_PLACE);
+    let Some(file) = forest.node(at) else {
+        return Err(Fault::PhaseError);
+    };
+    forest.well_formed();
+    let qid = qid_of(at, file);
+    let trail = Trail::at(alloc, ROOT_PLACE)?;
+    session.fids.put(
+        fid,
+        Fid {
+            user: *user,
+            trail,
+            opened: None,
+        },
+    )?;
+    Ok(RMsg::Attach { qid })
+}
+
+// The listed user of this name.
+fn listed<'a>(uname: &str, users: &'a [User]) -> Option<&'a User>
+    ensures { option_copied result ≡ listed_user uname.now users.now }
+{
+    users.iter().find(|user| is_named(user, uname))
+}
+
+fn is_named(user: &User, uname: &str) -> bool
+    ensures { result ≡ bytes_eq user.now uname.now }
+{
+    user.as_str() == uname
+}
+
+/// The identity of a file among those of all servers, as intro(5).
+pub fn qid_of<A: Allocator>(at: NodeRef, file: &Node<A>) -> Qid
+    requires { at.number < 2 ^ 48 }
+    ensures { result ≡ qid_of at file.now }
+{
+    Qid {
+        kind: file.mode().qid_kind(),
+        version: file.version(),
+        path: (u64::from(at.server) << 48) + at.number,
+    }
+}

@@ -1,0 +1,121 @@
+//! The exporter: the state, and what each event makes of it.
+
+ghost use Rattle.std.specs.Prelude.{◌≡◌, ◌≤◌, ◌↔◌, [], Err, None, false, IsSome, IsTrue, OnErr, OnOk, length, map, take};
+ghost use Rattle.p9_export.specs.Event.{Closing, Opening, Request, is_frame};
+ghost use Rattle.p9_export.specs.State.{session_at};
+ghost use Rattle.p9_export.specs.Step.{is_no_memory_reply, step};
+ghost use Rattle.p9_wire.specs.Frame.{msize_max};
+ghost use Rattle.p9_export.specs.declared.export.OpenError.TheVariants.{Live};
+
+use crate::frame::{answer, tag_of, write_answer};
+use crate::session::Session;
+use p9_base::User;
+use p9_space::MountTable;
+use p9_tree::{Forest, Tree};
+use std::collections::BTreeMap;
+use std::marker::Model;
+use thiserror::Error;
+
+/// Why no session is opened.
+#[derive(Clone, Copy, Debug, PartialEq, Eq, Error)]
+pub enum OpenError {
+    /// A session of this name is open.
+    #[error("session is open")]
+    Live,
+    /// Memory was refused.
+    #[error("out of memory")]
+    NoMemory,
+}
+
+/// The exporter: the trees, the mount table and the users, and the open sessions by name.
+#[derive(Drop)]
+pub struct Export<T: Tree> {
+    alloc: T::Alloc,
+    forest: Forest<T>,
+    users: Vec<User, T::Alloc>,
+    table: MountTable<T::Alloc>,
+    sessions: BTreeMap<u32, Session<T::Alloc>, T::Alloc>,
+}
+
+impl<T: Tree> Model for Export<T> {
+    ghost use Rattle.std.specs.Prelude.{map};
+    ghost use Rattle.p9_export.specs.State.{State};
+
+    ghost Value = { State };
+
+    ghost view = { λ e. record { setting = record { users = e.users.items; table = e.table }; forest = map T.state e.forest.trees.items; sessions = e.sessions.entries } };
+}
+
+impl<T: Tree> Export<T> {
+    /// An exporter of these trees by this mount table, to these users, without sessions. This takes
+    /// no memory.
+    pub fn new(
+        forest: Forest<T>,
+        users: Vec<User, T::Alloc>,
+        table: MountTable<T::Alloc>,
+    ) -> Export<T>
+        ensures { result ≡ record { setting = record { users = users.items; table = table }; forest = map T.state forest.trees.items; sessions = [] } }
+    {
+        let alloc = *users.allocator();
+        Export {
+            alloc,
+            forest,
+            users,
+            table,
+            sessions: BTreeMap::new(alloc),
+        }
+    }
+
+    /// Whether a session of this name is open.
+    pub fn live(&self, s: u32) -> bool
+        ensures { IsTrue result ↔ IsSome (session_at s self.now.sessions) }
+    {
+        self.sessions.contains_key(&s)
+    }
+
+    /// Opens a session.
+    ///
+    /// A session of this name that is open is [`OpenError::Live`]; want of memory is
+    /// [`OpenError::NoMemory`]. Both leave the exporter.
+    pub fn open(&mut self, s: u32) -> Result<(), OpenError>
+        ensures ok { OnOk result ((session_at s self.old.sessions ≡ None) × (self.new ≡ (step self.old (Opening s) false).state)) }
+        ensures live { (result ≡ Err Live) ↔ IsSome (session_at s self.old.sessions) }
+        ensures unchanged { OnErr result (self.new ≡ self.old) }
+    {
+        if self.sessions.contains_key(&s) {
+            return Err(OpenError::Live);
+        }
+        match self.sessions.insert(s, Session::new(self.alloc)) {
+            Ok(_) => Ok(()),
+            Err(_) => Err(OpenError::NoMemory),
+        }
+    }
+
+    /// Closes a session, and ends its fids.
+    pub fn close(&mut self, s: u32, now: u32)
+        requires { IsSome (session_at s self.old.sessions) }
+        ensures { self.new ≡ (step self.old (Closing s now) false).state }
+    {
+        let _ = self.sessions.remove(&s);
+    }
+
+    /// Answers one frame of an open session: the reply stands at the front of the buffer, and its
+    /// length is answered.
+    ///
+    /// Every frame gets exactly one reply. Where that is [`p9_base::Fault::OutOfMemory`], memory
+    /// was refused, and all is as before.
+    pub fn message(&mut self, s: u32, frame: &[u8], now: u32, reply: &mut [u8]) -> usize
+        requires live { IsSome (session_at s self.old.sessions) }
+        requires whole { IsTrue (is_frame frame.now) }
+        requires room { msize_max ≤ length reply.old }
+        ensures within { result ≤ length reply.old }
+        ensures state { self.new ≡ (step self.old (Request s frame.now now) (is_no_memory_reply frame.now (take result reply.new))).state }
+        ensures bytes { take result reply.new ≡ (step self.old (Request s frame.now now) (is_no_memory_reply frame.now (take result reply.new))).reply }
+    {
+        let tag = tag_of(frame);
+        let session = self.sessions.get_mut(&s).unwrap();
+        let users = self.users.as_slice();
+        let answered = answer(self.alloc, &self.forest, &self.table, users, session, frame);
+        write_answer(&answered, tag, reply)
+    }
+}

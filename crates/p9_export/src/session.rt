@@ -1,0 +1,36 @@
+//! A session: what one client and the exporter have agreed on, and the client's fids.
+
+ghost use Rattle.std.specs.Prelude.{◌≡◌};
+ghost use Rattle.p9_export.specs.State.{fresh};
+
+use p9_fids::FidTable;
+use std::alloc::Allocator;
+use std::marker::Model;
+
+/// A session, as version(5).
+#[derive(Drop)]
+pub struct Session<A: Allocator + Copy> {
+    /// The greatest frame, once the version is set.
+    pub msize: Option<u32>,
+    pub fids: FidTable<A>,
+}
+
+impl<A: Allocator + Copy> Model for Session<A> {
+    ghost use Rattle.p9_export.specs.State.{Session as SessionOf};
+
+    ghost Value = { SessionOf };
+
+    ghost view = { λ s. record { msize = s.msize; fids = s.fids } };
+}
+
+impl<A: Allocator + Copy> Session<A> {
+    /// A session whose version isn't set. This takes no memory.
+    pub fn new(alloc: A) -> Session<A>
+        ensures { result ≡ fresh }
+    {
+        Session {
+            msize: None,
+            fids: FidTable::new(alloc),
+        }
+    }
+}

@@ -1,0 +1,223 @@
+//! Versions and attaches, as bytes from outside.
+
+use crate::{Export, OpenError, is_frame};
+use p9_base::User;
+use p9_refusing::{Refusing, refuse_each};
+use p9_space::MountTable;
+use p9_tree::{Forest, PlainTree, Tree};
+use std::alloc::{Allocator, Global};
+use std::process::Abort;
+
+// A client asks for an msize of 8,192.
+const VERSION: &str = "1300000064ffff002000000600395032303030";
+
+const VERSION_REPLY: &str = "1300000065ffff002000000600395032303030";
+
+// Glenda attaches fid 0.
+const ATTACH: &str = "1900000068010000000000ffffffff0600676c656e64610000";
+
+const ATTACH_REPLY: &str = "1400000069010080000000000000000000000000";
+
+// A request and its reply.
+type Exchange = (&'static str, &'static str);
+
+// An exporter of one server, whose root is all, to glenda.
+fn exporter<A: Allocator + Copy>(rt: &impl Abort, alloc: A) -> Export<PlainTree<A>> {
+    let mut trees = Vec::new(alloc);
+    let tree = PlainTree::with_root(alloc).expect(rt, "a tree");
+    assert!(rt; trees.push(tree).is_ok());
+    let mut users = Vec::new(alloc);
+    let glenda = User::new("glenda").expect(rt, "a user");
+    assert!(rt; users.push(glenda).is_ok());
+    Export::new(Forest { trees }, users, MountTable::new(alloc))
+}
+
+// Sends a frame in a session, and compares the reply.
+fn exchange<T: Tree>(
+    rt: &impl Abort,
+    alloc: Global,
+    export: &mut Export<T>,
+    session: u32,
+    exchange: Exchange,
+) {
+    let (request, reply) = exchange;
+    let frame = hex::decode(alloc, request).expect(rt, "hexadecimal digits");
+    let mut buffer = vec![in alloc; 0u8; 65_536].expect(rt, "a buffer");
+    assert!(rt; is_frame(frame.as_slice()));
+    assert!(rt; export.live(session));
+    let size = export.message(session, frame.as_slice(), 0, buffer.as_mut_slice());
+    let text = hex::encode(alloc, &buffer[..size]).expect(rt, "a text");
+    assert_eq!(rt; text.as_str(), reply);
+}
+
+#[test]
+fn first_attach(rt: HostRuntime) {
+    let mut export = exporter(&rt, rt.alloc());
+    assert_eq!(rt; export.open(1), Ok(()));
+    exchange(&rt, rt.alloc(), &mut export, 1, (VERSION, VERSION_REPLY));
+    exchange(&rt, rt.alloc(), &mut export, 1, (ATTACH, ATTACH_REPLY));
+    assert!(rt; export.live(1));
+    export.close(1, 0);
+    assert!(rt; !export.live(1));
+}
+
+#[test]
+fn unknown_version(rt: HostRuntime) {
+    let mut export = exporter(&rt, rt.alloc());
+    assert_eq!(rt; export.open(1), Ok(()));
+    let rows = [
+        // 9P3000
+        (
+            "1300000064ffff002000000600395033303030",
+            "1400000065ffff002000000700756e6b6e6f776e",
+        ),
+        (ATTACH, "180000006b01000f0076657273696f6e206e6f7420736574"),
+        // 9P2000.u
+        ("1500000064ffff0020000008003950323030302e75", VERSION_REPLY),
+    ];
+    for row in rows {
+        exchange(&rt, rt.alloc(), &mut export, 1, row);
+    }
+}
+
+// An msize of 511 and of 512, and the greatest number.
+#[test]
+fn msize_bounds(rt: HostRuntime) {
+    let mut export = exporter(&rt, rt.alloc());
+    assert_eq!(rt; export.open(1), Ok(()));
+    let rows = [
+        (
+            "1300000064ffffff0100000600395032303030",
+            "180000006bffff0f006d73697a6520746f6f20736d616c6c",
+        ),
+        (
+            "1300000064ffff000200000600395032303030",
+            "1300000065ffff000200000600395032303030",
+        ),
+        (
+            "1300000064ffffffffffff0600395032303030",
+            "1300000065ffff000001000600395032303030",
+        ),
+    ];
+    for row in rows {
+        exchange(&rt, rt.alloc(), &mut export, 1, row);
+    }
+}
+
+// A frame of 513 bytes in a session of msize 512.
+#[test]
+fn frame_longer_than_msize(rt: HostRuntime) {
+    let mut export = exporter(&rt, rt.alloc());
+    assert_eq!(rt; export.open(1), Ok(()));
+    let version = (
+        "1300000064ffff000200000600395032303030",
+        "1300000065ffff000200000600395032303030",
+    );
+    exchange(&rt, rt.alloc(), &mut export, 1, version);
+    let mut frame = vec![in rt.alloc(); 0u8; 513].expect(&rt, "a frame");
+    let mut reply = vec![in rt.alloc(); 0u8; 65_536].expect(&rt, "a buffer");
+    frame[..7].copy_from_slice(&[0x01, 0x02, 0, 0, 100, 0xff, 0xff]);
+    assert!(rt; is_frame(frame.as_slice()));
+    assert!(rt; export.live(1));
+    let size = export.message(1, frame.as_slice(), 0, reply.as_mut_slice());
+    let text = hex::encode(rt.alloc(), &reply[..size]).expect(&rt, "a text");
+    assert_eq!(rt;
+        text.as_str(),
+        "1a0000006bffff11006d616c666f726d6564206d657373616765"
+    );
+}
+
+#[test]
+fn two_sessions(rt: HostRuntime) {
+    let mut export = exporter(&rt, rt.alloc());
+    assert_eq!(rt; export.open(1), Ok(()));
+    assert_eq!(rt; export.open(1), Err(OpenError::Live));
+    assert_eq!(rt; export.open(2), Ok(()));
+    let rows = [
+        (1, (VERSION, VERSION_REPLY)),
+        (1, (ATTACH, ATTACH_REPLY)),
+        (
+            2,
+            (ATTACH, "180000006b01000f0076657273696f6e206e6f7420736574"),
+        ),
+        (2, (VERSION, VERSION_REPLY)),
+        (2, (ATTACH, ATTACH_REPLY)),
+        (1, (ATTACH, "130000006b01000a0066696420696e20757365")),
+        // A version ends the fids of its session.
+        (1, (VERSION, VERSION_REPLY)),
+        (1, (ATTACH, ATTACH_REPLY)),
+    ];
+    for (session, row) in rows {
+        exchange(&rt, rt.alloc(), &mut export, session, row);
+    }
+}
+
+#[test]
+fn attach_is_refused_for_the_first_reason(rt: HostRuntime) {
+    let mut export = exporter(&rt, rt.alloc());
+    assert_eq!(rt; export.open(1), Ok(()));
+    let rows = [
+        (VERSION, VERSION_REPLY),
+        // No fid, and an afid.
+        (
+            "19000000680100ffffffff030000000600676c656e64610000",
+            "140000006b01000b00756e6b6e6f776e20666964",
+        ),
+        // An afid, and a stranger.
+        (
+            "1600000068010000000000030000000300726f620000",
+            "240000006b01001b0061757468656e7469636174696f6e206e6f74207265717569726564",
+        ),
+        // A stranger, and another tree.
+        (
+            "1700000068010000000000ffffffff0300726f62010078",
+            "150000006b01000c00756e6b6e6f776e2075736572",
+        ),
+        // Another tree.
+        (
+            "1a00000068010000000000ffffffff0600676c656e6461010078",
+            "1c0000006b01001300756e6b6e6f776e20617474616368206e616d65",
+        ),
+        // The root, by its name.
+        (
+            "1a00000068010000000000ffffffff0600676c656e646101002f",
+            ATTACH_REPLY,
+        ),
+    ];
+    for row in rows {
+        exchange(&rt, rt.alloc(), &mut export, 1, row);
+    }
+}
+
+// Opens a session, sets its version and attaches, each again where memory was refused.
+fn attach_again(rt: &impl Abort, alloc: Global, mut export: Export<PlainTree<&Refusing<Global>>>) {
+    if export.open(1) == Err(OpenError::NoMemory) {
+        assert!(rt; !export.live(1));
+        assert_eq!(rt; export.open(1), Ok(()));
+    }
+    exchange(rt, alloc, &mut export, 1, (VERSION, VERSION_REPLY));
+    let frame = hex::decode(alloc, ATTACH).expect(rt, "hexadecimal digits");
+    let mut reply = vec![in alloc; 0u8; 65_536].expect(rt, "a buffer");
+    assert!(rt; is_frame(frame.as_slice()));
+    assert!(rt; export.live(1));
+    let size = export.message(1, frame.as_slice(), 0, reply.as_mut_slice());
+    let text = hex::encode(alloc, &reply[..size]).expect(rt, "a text");
+    if text.as_str() != ATTACH_REPLY {
+        assert_eq!(rt;
+            text.as_str(),
+            "160000006b01000d006f7574206f66206d656d6f7279"
+        );
+        exchange(rt, alloc, &mut export, 1, (ATTACH, ATTACH_REPLY));
+    }
+}
+
+#[test]
+fn the_exporter_is_as_before_at_each_refusal(rt: HostRuntime) {
+    let memory = Refusing::new(rt.alloc());
+    let refusals = refuse_each(
+        &memory,
+        || exporter(&rt, &memory),
+        |export| attach_again(&rt, rt.alloc(), export),
+    );
+    assert!(rt; refusals > 1);
+}
