@@ -20,7 +20,13 @@ const ROOT_PLACE: NodeRef = NodeRef {
     number: 0,
 };
 
-/// Makes a fid for the root of the name space.
+/// Makes a fid for the root of the name space, held by a listed user.
+///
+/// The first that applies refuses, and leaves the session: the fid can't be added
+/// ([`p9_fids::FidTable::put_fault`]); an afid is given, [`Fault::NoAuthentication`]; the user isn't
+/// listed, [`Fault::UnknownUser`]; the tree is neither unnamed nor `/`,
+/// [`Fault::UnknownAttachName`]; the root place has no file, [`Fault::PhaseError`]. Else memory may
+/// be refused, [`Fault::OutOfMemory`].
 pub fn attach<T: Tree>(
     alloc: T::Alloc,
     forest: &Forest<T>,

@@ -127,9 +127,9 @@ fn put_all(rt: &impl Abort, memory: &Refusing<std::alloc::Global>) {
     let mut fids = FidTable::new(memory);
     for number in 0..40u32 {
         let fid = make_again(rt, memory);
-        assert_eq!(rt; fids.len() as u32, number);
+        assert_eq!(rt; fids.len() as u64, u64::from(number));
         if fids.put(number, fid) == Err(Fault::OutOfMemory) {
-            assert_eq!(rt; fids.len() as u32, number);
+            assert_eq!(rt; fids.len() as u64, u64::from(number));
             assert!(rt; fids.get(number).is_none());
             assert!(rt; fids.put(number, make_again(rt, memory)).is_ok());
         }
