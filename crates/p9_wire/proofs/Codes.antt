@@ -1,5 +1,5 @@
 -- What is read was spelled so, and what is spelled is read: for each field, and for one field behind another.
-use Rattle.std.proofs.Common.{◌≡◌, ℕ, zero, suc, ◌^◌, ◌<◌, ◌≤◌, Bool, true, false, cond, ◌&&◌, eqb, ltb, List, [], ◌∷◌, ◌++◌, length, take, drop, Option, Some, None, refl, sym, ap, subst, ◌∙◌, append_assoc, arith}
+use Rattle.std.proofs.Common.{◌≡◌, ℕ, zero, suc, ◌^◌, ◌<◌, ◌≤◌, Bool, true, false, cond, eqb, ltb, List, [], ◌∷◌, ◌++◌, length, take, drop, Option, Some, None, refl, sym, ap, subst, ◌∙◌, append_assoc, arith}
 use Rattle.std.specs.List.{flat_map, AllByRecursion}
 use Rattle.std.proofs.lemmas.Bool.{eqb-true}
 use Rattle.std.proofs.lemmas.List.{append-nil, nil_from_length}
@@ -10,7 +10,7 @@ use Rattle.byteorder.specs.Endian.{little_number}
 use Rattle.byteorder.specs.Numbers.{little_from-lt, little_number-reads_back, length-bytes_low_first}
 use Rattle.p9_base.specs.Text.{is_text}
 use Rattle.p9_wire.specs.Message.{StatFields}
-use Rattle.p9_wire.specs.Fields.{number, text, counted, several, sized, qid_bytes, stat_fields, stat_bytes, stat_len, FitsText, FitsNames, FitsStat, QidNumbersFit, StatNumbersFit}
+use Rattle.p9_wire.specs.Fields.{number, text, counted, several, sized, qid_bytes, stat_fields, stat_bytes, FitsText, FitsStat, QidNumbersFit, StatNumbersFit}
 use Rattle.p9_wire.specs.FieldReading.{◌and_then◌, Reader, number_at, bytes_at, ◌then◌, made, text_at, nothing_at, qid_at, counted_at, times, several_at, sized_at, stat_fields_at, stat_at}
 use Rattle.p9_wire.proofs.Bytes.{IsBytes, IsBytes-back, IsBytes-front, number-back}
 use Rattle.p9_wire.proofs.Lengths.{length-stat_bytes, length-stat_fields}

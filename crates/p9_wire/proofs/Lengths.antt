@@ -7,7 +7,7 @@ use Rattle.std.proofs.lemmas.List.Sums.{sum_by-cons}
 use Rattle.std.proofs.lemmas.List.Concat.{flat_map-cons}
 use Rattle.p9_base.specs.declared.qid.Qid.{Qid}
 use Rattle.p9_wire.specs.Message.{StatFields, TMessage, Tversion, Tauth, Tattach, Tflush, Twalk, Topen, Tcreate, Tread, Twrite, Tclunk, Tremove, Tstat, Twstat, RMessage, Rversion, Rattach, Rerror, Rflush, Rwalk, Ropen, Rcreate, Rread, Rwrite, Rclunk, Rremove, Rstat, Rwstat}
-use Rattle.p9_wire.specs.Fields.{number, text, qid_bytes, stat_fields, stat_bytes, stat_len, FitsText, FitsStat}
+use Rattle.p9_wire.specs.Fields.{number, text, qid_bytes, stat_fields, stat_bytes, stat_len, FitsText}
 use Rattle.p9_wire.specs.Spelling.{frame, t_body, t_len, TFits, r_body, r_len, RFits}
 use Rattle.p9_wire.proofs.Bytes.{length_number}
 

@@ -4,12 +4,10 @@ use Rattle.std.proofs.lemmas.List.{length-append, append-nil, drop-drop, drop-ta
 use Rattle.std.proofs.lemmas.Slice.{take-put_mid, drop-put_mid}
 use borrow.Rule.Slice.PartMut.{put_mid}
 use Rattle.std.proofs.lemmas.List.{take-append-drop, drop_at}
-use Rattle.p9_wire.specs.Message.{StatFields}
-use Rattle.p9_wire.specs.Fields.{number, counted, stat_fields, stat_bytes, stat_len}
+use Rattle.p9_wire.specs.Fields.{number, counted}
 use Rattle.p9_wire.specs.Spelling.{frame}
 use Rattle.p9_wire.specs.Writing.{Puts, Writes}
 use Rattle.p9_wire.proofs.Bytes.{length_number}
-use Rattle.p9_wire.proofs.Lengths.{length-stat_fields}
 
 -- a text copied to its place
 pub puts_here : (text now old : List ℕ) (at len : ℕ) → now ≡ text → len ≡ length text → at + length text ≤ length old → Puts text at (at + length text) old (put_mid at len old now)

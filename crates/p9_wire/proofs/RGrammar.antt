@@ -6,7 +6,7 @@ use Rattle.p9_wire.specs.Spelling.{r_type, r_body, r_len, RNumbersFit, RFits, r_
 use Rattle.p9_wire.specs.Reading.{r_version_at, r_attach_at, r_error_at, r_flush_at, r_walk_at, r_open_at, r_create_at, r_read_at, r_write_at, r_clunk_at, r_remove_at, r_stat_at, r_wstat_at, r_body_at, r_message_of}
 use Rattle.p9_wire.proofs.Bytes.{IsBytes}
 use Rattle.p9_wire.proofs.Lengths.{length-r_body, r_len-fits}
-use Rattle.p9_wire.proofs.Codes.{Codes, number-codes, text-codes, counted-codes, several-codes, qid-codes, stat-codes, then-codes, FitsSeveral, nothing-codes, made_again}
+use Rattle.p9_wire.proofs.Codes.{number-codes, text-codes, counted-codes, several-codes, qid-codes, stat-codes, then-codes, FitsSeveral, nothing-codes, made_again}
 use Rattle.p9_wire.proofs.Framing.{Taken, Reads, Framed, Decides, taken, chosen, message_takes, message_again}
 
 -- each field fits, in the order of the fields

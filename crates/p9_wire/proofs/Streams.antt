@@ -1,12 +1,12 @@
 -- The frames of a byte string, case by case.
-use Rattle.std.proofs.Common.{◌≡◌, ℕ, zero, suc, ◌+◌, ◌≤◌, ◌<◌, Bool, true, false, cond, ◌||◌, ltb, List, ◌++◌, length, take, drop, inl, inr, refl, ap, subst, ◌∙◌, arith}
+use Rattle.std.proofs.Common.{◌≡◌, ℕ, zero, suc, ◌≤◌, ◌<◌, Bool, true, false, cond, ◌||◌, ltb, List, ◌++◌, length, take, drop, inl, inr, refl, ap, subst, ◌∙◌, arith}
 use Rattle.std.proofs.lemmas.Bool.{cases_lt, ltb-false, lt-ltb, le-ltb}
 use Rattle.std.proofs.lemmas.List.{length-append, length-drop}
 use Rattle.byteorder.specs.Endian.{little_number}
 use Rattle.byteorder.specs.Numbers.{little_from-append}
 use Rattle.p9_wire.specs.declared.frame.Frame.{Frame}
 use Rattle.p9_wire.specs.declared.frame.Frame.TheVariants.{Need, Whole, Broken}
-use Rattle.p9_wire.specs.Frame.{msize_max, first_frame, Frames, Next, Rest, BrokenSize, frames_by, frames_within, frames, BeginsFrames}
+use Rattle.p9_wire.specs.Frame.{msize_max, first_frame, Frames, Next, frames_by, frames_within, frames, BeginsFrames}
 
 -- the choice that ends at a whole frame
 chosen : (a b c d : Bool) (m n : ℕ) → cond a Need (cond (b || c) Broken (cond d Need (Whole m))) ≡ Whole n → (b ≡ false) × (m ≡ n)

@@ -6,7 +6,7 @@ use Rattle.p9_wire.specs.Spelling.{t_type, t_body, t_len, TNumbersFit, TFits, t_
 use Rattle.p9_wire.specs.Reading.{t_version_at, t_auth_at, t_attach_at, t_flush_at, t_walk_at, t_open_at, t_create_at, t_read_at, t_write_at, t_clunk_at, t_remove_at, t_stat_at, t_wstat_at, t_body_at, t_message_of}
 use Rattle.p9_wire.proofs.Bytes.{IsBytes}
 use Rattle.p9_wire.proofs.Lengths.{length-t_body, t_len-fits}
-use Rattle.p9_wire.proofs.Codes.{Codes, number-codes, text-codes, counted-codes, several-codes, qid-codes, stat-codes, then-codes, FitsSeveral, nothing-codes, made_again}
+use Rattle.p9_wire.proofs.Codes.{number-codes, text-codes, counted-codes, several-codes, stat-codes, then-codes, FitsSeveral, made_again}
 use Rattle.p9_wire.proofs.Framing.{Taken, Reads, Framed, Decides, taken, chosen, message_takes, message_again}
 
 -- each field fits, in the order of the fields
