@@ -64,7 +64,7 @@ begins_frames bytes = begun (first_frame bytes) refl
 pub begins_frames_as : (f : Frame) (bytes : List ℕ) → first_frame bytes ≡ f → BeginsFrames f bytes
 begins_frames_as f bytes e = subst (λ (g : Frame). BeginsFrames g bytes) e (begins_frames bytes)
 
--- the choice at the front, where more bytes cannot be too few again
+-- the choice at the front, where more bytes cannot be too few complete
 still : (b p q : Bool) (size : ℕ) → (p ≡ false → q ≡ false) → (cond b Broken (cond p Need (Whole size)) ≡ Need → ⊥)
     → cond b Broken (cond q Need (Whole size)) ≡ cond b Broken (cond p Need (Whole size))
 still true p q size more known = refl
