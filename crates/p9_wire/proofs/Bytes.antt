@@ -19,32 +19,39 @@ each_fits bytes fits i = elim (cases_lt i (length bytes)) [
   | inr le ↦ rw (get_or_past bytes i 0 le) (omega arith)
 ]
 
+-- what stands behind bytes is bytes
 pub IsBytes-back : (front back : List ℕ) → IsBytes (front ++ back) → IsBytes back
 IsBytes-back front back h i = rw (← get_or-append-add front back i 0) (h (length front + i))
 
+-- and what stands in front
 pub IsBytes-front : (front back : List ℕ) → IsBytes (front ++ back) → IsBytes front
 IsBytes-front front back h i = elim (cases_lt i (length front)) [
   | inl lt ↦ rw (← get_or_append_left front back 0 i lt) (h i)
   | inr le ↦ rw (get_or_past front i 0 le) (omega arith)
 ]
 
+-- all but the first of bytes are bytes
 IsBytes-rest : (b : ℕ) (bytes : List ℕ) → IsBytes (b ∷ bytes) → IsBytes bytes
 IsBytes-rest b bytes h i = h (suc i)
 
+-- a byte of a number, by its place
 byte_at-pow : (k x : ℕ) → byte_at k x ≡ x / 256 ^ k % 256
 byte_at-pow zero x = ap (λ (y : ℕ). y % 256) (sym (div-one x))
 byte_at-pow (suc k) x = refl
 
+-- a byte of a number is one of its upper part
 byte_at-suc : (i x : ℕ) → byte_at (suc i) x ≡ byte_at i (x / 256)
 byte_at-suc i x =
     ap (λ (p : ℕ). x / p % 256) (pow-succ' 256 i)
     ∙ ap (λ (q : ℕ). q % 256) (sym (div-div-eq-div-mul x 256 (256 ^ i)))
     ∙ sym (byte_at-pow i (x / 256))
 
+-- the upper bytes of a number are those of its upper part
 low_first-suc : (i n x : ℕ) → bytes_low_first (suc i) n x ≡ bytes_low_first i n (x / 256)
 low_first-suc i zero x = refl
 low_first-suc i (suc n) x = rw (byte_at-suc i x, low_first-suc (suc i) n x) refl
 
+-- the bytes of the number that was read are those it was read from
 pub number-back : (n : ℕ) (bytes : List ℕ) → IsBytes bytes → n ≤ length bytes → little_bytes n (little_number n bytes) ≡ take n bytes
 number-back zero bytes fits long = refl
 number-back (suc n) [] fits long = absurd (omega arith)
@@ -57,6 +64,7 @@ number-back (suc n) (a ∷ bytes) fits long =
     let ih = number-back n bytes (IsBytes-rest a bytes fits) (omega arith) in
     rw (value, first, low_first-suc 0 n (a + 256 * rest), others, ih) refl
 
+-- a number takes as many bytes as it is said to
 pub length_number : (n x : ℕ) → length (number n x) ≡ n
 unfolding number
 length_number n x = length-bytes_low_first 0 n x

@@ -9,8 +9,9 @@ use Rattle.p9_wire.specs.FieldReading.{◌and_then◌, Gives, Reader, number_at,
 use Rattle.p9_wire.specs.Reading.{header_at, message_at}
 use Rattle.p9_wire.proofs.Bytes.{IsBytes, IsBytes-back}
 use Rattle.p9_wire.proofs.Lengths.{length-parts, length-frame}
-use Rattle.p9_wire.proofs.Codes.{bind_some, if_passed, some_is, Codes, number-codes, then-codes, made_takes}
+use Rattle.p9_wire.proofs.Codes.{bind_some, if_passed, some_is, Codes, number-codes, then-codes, made-sound}
 
+-- type and tag are read as they are spelled
 kind_tag : Codes (λ (x : ℕ × ℕ). number 1 x.0 ++ number 2 x.1) (λ (x : ℕ × ℕ). (x.0 < 256 ^ 1) × (x.1 < 256 ^ 2)) (number_at 1 then number_at 2)
 kind_tag = then-codes (number-codes 1) (number-codes 2)
 
@@ -20,15 +21,16 @@ record Opened (bytes : List ℕ) (kind tag : ℕ) (body : List ℕ) : Type 0 whe
   size_fits : length bytes < 2 ^ 32
   tag_fits : tag < 2 ^ 16
 
-header_takes : (bytes : List ℕ) (x : ℕ × ℕ × List ℕ) → IsBytes bytes → header_at bytes ≡ Some x → Opened bytes x.0 x.1 x.2
+-- the parts that were read are those of the frame
+header-sound : (bytes : List ℕ) (x : ℕ × ℕ × List ℕ) → IsBytes bytes → header_at bytes ≡ Some x → Opened bytes x.0 x.1 x.2
 unfolding header_at
-header_takes bytes x fits e =
+header-sound bytes x fits e =
     let a = bind_some (number_at 4 bytes) (λ size. cond (eqb size.0 (length bytes)) ((number_at 1 then number_at 2) size.1 and_then λ x. Some (x.0.0, x.0.1, x.1)) None) x e in
     let g = when_passed (eqb a.0.0 (length bytes)) ((number_at 1 then number_at 2) a.0.1 and_then λ x. Some (x.0.0, x.0.1, x.1)) x a.2 in
     let b = bind_some ((number_at 1 then number_at 2) a.0.1) (λ x. Some (x.0.0, x.0.1, x.1)) x g.1 in
     let size-is : a.0.0 ≡ length bytes = eqb-true _ _ g.0 in
-    let t0 = (number-codes 4).takes bytes a.0 fits a.1 in
-    let t1 = kind_tag.takes a.0.1 b.0 (IsBytes-back (number 4 a.0.0) a.0.1 (subst IsBytes t0.0 fits)) b.1 in
+    let t0 = (number-codes 4).sound bytes a.0 fits a.1 in
+    let t1 = kind_tag.sound a.0.1 b.0 (IsBytes-back (number 4 a.0.0) a.0.1 (subst IsBytes t0.0 fits)) b.1 in
     let parts : bytes ≡ number 4 (length bytes) ++ (number 1 b.0.0.0 ++ number 2 b.0.0.1 ++ b.0.1) =
     t0.0 ∙ ap (λ (back : List ℕ). number 4 a.0.0 ++ back) t1.0 ∙ ap (λ (n : ℕ). number 4 n ++ (number 1 b.0.0.0 ++ number 2 b.0.0.1 ++ b.0.1)) size-is in
     subst (λ (y : ℕ × ℕ × List ℕ). Opened bytes y.0 y.1 y.2) (some_is _ x b.2) (record { whole = parts; size_fits = omega (arith, size-is, t0.1); tag_fits = t1.1.1 })
@@ -37,11 +39,12 @@ header_takes bytes x fits e =
     when_passed true r y e = (refl, e)
     when_passed false r y e = absurd cc
 
-header_again : (kind tag : ℕ) (body : List ℕ) → kind < 256 → tag < 2 ^ 16 → 7 + length body < 2 ^ 32 → header_at (frame kind tag body) ≡ Some (kind, tag, body)
+-- and the parts of a frame are read
+header-complete : (kind tag : ℕ) (body : List ℕ) → kind < 256 → tag < 2 ^ 16 → 7 + length body < 2 ^ 32 → header_at (frame kind tag body) ≡ Some (kind, tag, body)
 unfolding header_at
-header_again kind tag body kind_fits tag_fits size_fits =
+header-complete kind tag body kind_fits tag_fits size_fits =
     let size : eqb (7 + length body) (length (frame kind tag body)) ≡ true = eq-eqb _ _ (sym (length-frame kind tag body)) in
-    rw ((number-codes 4).again (7 + length body) (number 1 kind ++ number 2 tag ++ body) size_fits, size, kind_tag.again (kind, tag) body (kind_fits, tag_fits)) refl
+    rw ((number-codes 4).complete (7 + length body) (number 1 kind ++ number 2 tag ++ body) size_fits, size, kind_tag.complete (kind, tag) body (kind_fits, tag_fits)) refl
 
 module _ {M : Type 0} (kind : M → ℕ) (body : M → List ℕ) (Fits : M → Type 0) (body_at : ℕ → Reader M) where
   -- these bytes are the frame of the message, whose fields and size fit
@@ -58,15 +61,15 @@ module _ {M : Type 0} (kind : M → ℕ) (body : M → List ℕ) (Fits : M → T
   -- what reading a body has to meet
   pub record Reads : Type 0 where
     pub small : (m : M) → kind m < 256
-    pub takes : (k : ℕ) (bytes : List ℕ) (x : M × List ℕ) → IsBytes bytes → body_at k bytes ≡ Some x → Taken k bytes x
-    pub again : (m : M) (rest : List ℕ) → Fits m → body_at (kind m) (body m ++ rest) ≡ Some (m, rest)
+    pub sound : (k : ℕ) (bytes : List ℕ) (x : M × List ℕ) → IsBytes bytes → body_at k bytes ≡ Some x → Taken k bytes x
+    pub complete : (m : M) (rest : List ℕ) → Fits m → body_at (kind m) (body m ++ rest) ≡ Some (m, rest)
 
   -- a message that is made of its fields
   pub taken : {A : Type 0} {f : A → List ℕ} {F : A → Type 0} {r : Reader A} (c : Codes f F r) (make : A → M) (k : ℕ)
       → ((a : A) → kind (make a) ≡ k) → ((a : A) → body (make a) ≡ f a) → ((a : A) → F a → Fits (make a))
       → (bytes : List ℕ) (x : M × List ℕ) → IsBytes bytes → made make r bytes ≡ Some x → Taken k bytes x
   taken {A} {f} {F} {r} c make k kind_of body_of fits_of bytes x fits e =
-      let t = made_takes c make bytes x fits e in
+      let t = made-sound c make bytes x fits e in
       subst (λ (m : M). (kind m ≡ k) × (bytes ≡ body m ++ x.1) × Fits m) t.1 (kind_of t.0, t.2 ∙ ap (λ (s : List ℕ). s ++ x.1) (sym (body_of t.0)), fits_of t.0 t.3)
 
   -- an if-chain of readers
@@ -78,6 +81,7 @@ module _ {M : Type 0} (kind : M → ℕ) (body : M → List ℕ) (Fits : M → T
       cases true is e = subst (λ (i : ℕ). Taken i bytes x) (sym (eqb-true k n is)) (first e)
       cases false is e = others e
 
+  -- a body that takes up the frame makes it the frame of its message
   closed : (bytes : List ℕ) (k tag : ℕ) (rest after : List ℕ) (m : M) → Opened bytes k tag rest → kind m ≡ k → rest ≡ body m ++ after → eqb (length after) 0 ≡ true → Fits m → Framed bytes tag m
   closed bytes k tag rest after m opened kind-is rest-is ended fits =
       let nothing : after ≡ [] = nil_from_length after (eqb-true _ _ ended) in
@@ -89,20 +93,22 @@ module _ {M : Type 0} (kind : M → ℕ) (body : M → List ℕ) (Fits : M → T
       ∙ ap (λ (j : ℕ). number 4 (7 + length (body m)) ++ (number 1 j ++ number 2 tag ++ body m)) (sym kind-is) in
       record { whole = whole; fits = fits; tag_fits = opened.tag_fits; size_fits = omega (arith, size, opened.size_fits) }
 
-  pub message_takes : Reads → (bytes : List ℕ) (x : ℕ × M) → IsBytes bytes → message_at body_at bytes ≡ Some x → Framed bytes x.0 x.1
-  message_takes reads bytes x fits e =
+  -- what was read is framed so
+  pub message-sound : Reads → (bytes : List ℕ) (x : ℕ × M) → IsBytes bytes → message_at body_at bytes ≡ Some x → Framed bytes x.0 x.1
+  message-sound reads bytes x fits e =
       let a = bind_some (header_at bytes) (λ f. body_at f.0 f.2 and_then λ m. cond (eqb (length m.1) 0) (Some (f.1, m.0)) None) x e in
       let b = bind_some (body_at a.0.0 a.0.2) (λ m. cond (eqb (length m.1) 0) (Some (a.0.1, m.0)) None) x a.2 in
       let g = if_passed (eqb (length b.0.1) 0) (a.0.1, b.0.0) x b.2 in
-      let opened = header_takes bytes a.0 fits a.1 in
+      let opened = header-sound bytes a.0 fits a.1 in
       let in_body : IsBytes a.0.2 = IsBytes-back (number 1 a.0.0 ++ number 2 a.0.1) a.0.2 (IsBytes-back (number 4 (length bytes)) (number 1 a.0.0 ++ number 2 a.0.1 ++ a.0.2) (subst IsBytes opened.whole fits)) in
-      let t = reads.takes a.0.0 a.0.2 b.0 in_body b.1 in
+      let t = reads.sound a.0.0 a.0.2 b.0 in_body b.1 in
       subst (λ (y : ℕ × M). Framed bytes y.0 y.1) g.1 (closed bytes a.0.0 a.0.1 a.0.2 b.0.1 b.0.0 opened t.0 t.1 g.0 t.2)
 
-  pub message_again : Reads → (bytes : List ℕ) (tag : ℕ) (m : M) → Framed bytes tag m → message_at body_at bytes ≡ Some (tag, m)
-  message_again reads bytes tag m spelled =
-      let first = header_again (kind m) tag (body m) (reads.small m) spelled.tag_fits spelled.size_fits in
-      let second : body_at (kind m) (body m) ≡ Some (m, []) = ap (body_at (kind m)) (sym (append-nil (body m))) ∙ reads.again m [] spelled.fits in
+  -- and what is framed so is read
+  pub message-complete : Reads → (bytes : List ℕ) (tag : ℕ) (m : M) → Framed bytes tag m → message_at body_at bytes ≡ Some (tag, m)
+  message-complete reads bytes tag m spelled =
+      let first = header-complete (kind m) tag (body m) (reads.small m) spelled.tag_fits spelled.size_fits in
+      let second : body_at (kind m) (body m) ≡ Some (m, []) = ap (body_at (kind m)) (sym (append-nil (body m))) ∙ reads.complete m [] spelled.fits in
       ap (message_at body_at) spelled.whole ∙ rw (first, second) refl
 
 -- a function that answers a message exactly where the relation holds of it
@@ -127,6 +133,7 @@ module _ {M : Type 0} {message_of : List ℕ → Option (ℕ × M)} {Spells : Li
       let same : (s, m) ≡ (t, n) = some_is (s, m) (t, n) (sym (decides.complete bytes s m p) ∙ decides.complete bytes t n q) in
       ap (λ (x : ℕ × M). x.0) same
 
+  -- and one message
   pub one_message : (bytes : List ℕ) (s t : ℕ) (m n : M) → Spells bytes s m → Spells bytes t n → m ≡ n
   one_message bytes s t m n p q =
       let same : (s, m) ≡ (t, n) = some_is (s, m) (t, n) (sym (decides.complete bytes s m p) ∙ decides.complete bytes t n q) in

@@ -4,12 +4,10 @@ use Rattle.std.proofs.lemmas.List.{length-append, append-nil, drop-drop, drop-ta
 use Rattle.std.proofs.lemmas.Slice.{take-put_mid, drop-put_mid}
 use borrow.Rule.Slice.PartMut.{put_mid}
 use Rattle.std.proofs.lemmas.List.{take-append-drop, drop_at}
-use Rattle.p9_wire.specs.Message.{StatFields}
-use Rattle.p9_wire.specs.Fields.{number, counted, stat_fields, stat_bytes, stat_len}
+use Rattle.p9_wire.specs.Fields.{number, counted}
 use Rattle.p9_wire.specs.Spelling.{frame}
 use Rattle.p9_wire.specs.Writing.{Puts, Writes}
 use Rattle.p9_wire.proofs.Bytes.{length_number}
-use Rattle.p9_wire.proofs.Lengths.{length-stat_fields}
 
 -- a text copied to its place
 pub puts_here : (text now old : List ℕ) (at len : ℕ) → now ≡ text → len ≡ length text → at + length text ≤ length old → Puts text at (at + length text) old (put_mid at len old now)
@@ -21,6 +19,7 @@ puts_here text now old at len same size room =
       back = drop-put_mid at len old now (at + length text) (omega arith) (omega arith) (omega arith);
     }
 
+-- what is put behind another stands there as one
 pub puts_then : {x y : List ℕ} {a n m : ℕ} {old mid new : List ℕ} → Puts x a n old mid → Puts y n m mid new → Puts (x ++ y) a m old new
 puts_then {x} {y} {a} {n} {m} {old} {mid} {new} p q =
     let on : n + (m - n) ≡ m = let e = q.ends in omega arith in
@@ -52,6 +51,7 @@ pub puts_sized : {A : Type 0} (f : A → List ℕ) (x : A) (size : ℕ) {a b c :
     → Puts (number 2 size) a b old mid → Puts (f x) b c mid new → Puts (number 2 (length (f x)) ++ f x) a c old new
 puts_sized f x size {a} {b} {c} {old} {mid} {new} e p q = puts_then (subst (λ (n : ℕ). Puts (number 2 n) a b old mid) e p) q
 
+-- nothing put
 pub puts_nothing : {a : ℕ} {old : List ℕ} → Puts [] a a old old
 puts_nothing {a} {old} = record { ends = omega arith; front = sym (append-nil (take a old)); back = refl }
 
@@ -68,6 +68,7 @@ puts_kept x a n k old new room size p =
       back = behind;
     }
 
+-- so may data behind its count
 pub puts_counted : (a k : ℕ) (old new : List ℕ) → a + 4 + k ≤ length old → length new ≡ length old → Puts (number 4 k) a (a + 4) old new → Puts (counted (take k (drop (a + 4) old))) a (a + 4 + k) old new
 puts_counted a k old new room size p =
     let len : length (take k (drop (a + 4) old)) ≡ k = length-take-le k (drop (a + 4) old) (omega (arith, length-drop (a + 4) old)) in

@@ -1,12 +1,12 @@
 -- The frames of a byte string, case by case.
-use Rattle.std.proofs.Common.{◌≡◌, ℕ, zero, suc, ◌+◌, ◌≤◌, ◌<◌, Bool, true, false, cond, ◌||◌, ltb, List, ◌++◌, length, take, drop, inl, inr, refl, ap, subst, ◌∙◌, arith}
+use Rattle.std.proofs.Common.{◌≡◌, ℕ, zero, suc, ◌≤◌, ◌<◌, Bool, true, false, cond, ◌||◌, ltb, List, ◌++◌, length, take, drop, inl, inr, refl, ap, subst, ◌∙◌, arith}
 use Rattle.std.proofs.lemmas.Bool.{cases_lt, ltb-false, lt-ltb, le-ltb}
 use Rattle.std.proofs.lemmas.List.{length-append, length-drop}
 use Rattle.byteorder.specs.Endian.{little_number}
 use Rattle.byteorder.specs.Numbers.{little_from-append}
 use Rattle.p9_wire.specs.declared.frame.Frame.{Frame}
 use Rattle.p9_wire.specs.declared.frame.Frame.TheVariants.{Need, Whole, Broken}
-use Rattle.p9_wire.specs.Frame.{msize_max, first_frame, Frames, Next, Rest, BrokenSize, frames_by, frames_within, frames, BeginsFrames}
+use Rattle.p9_wire.specs.Frame.{msize_max, first_frame, Frames, Next, frames_by, frames_within, frames, BeginsFrames}
 
 -- the choice that ends at a whole frame
 chosen : (a b c d : Bool) (m n : ℕ) → cond a Need (cond (b || c) Broken (cond d Need (Whole m))) ≡ Whole n → (b ≡ false) × (m ≡ n)
@@ -64,7 +64,7 @@ begins_frames bytes = begun (first_frame bytes) refl
 pub begins_frames_as : (f : Frame) (bytes : List ℕ) → first_frame bytes ≡ f → BeginsFrames f bytes
 begins_frames_as f bytes e = subst (λ (g : Frame). BeginsFrames g bytes) e (begins_frames bytes)
 
--- the choice at the front, where more bytes cannot be too few again
+-- the choice at the front, where more bytes cannot be too few complete
 still : (b p q : Bool) (size : ℕ) → (p ≡ false → q ≡ false) → (cond b Broken (cond p Need (Whole size)) ≡ Need → ⊥)
     → cond b Broken (cond q Need (Whole size)) ≡ cond b Broken (cond p Need (Whole size))
 still true p q size more known = refl

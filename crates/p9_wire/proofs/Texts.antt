@@ -1,5 +1,5 @@
 -- The test of a text, by its parts.
-use Rattle.std.proofs.Common.{◌≡◌, ℕ, Bool, true, false, eqb, List, refl, ap}
+use Rattle.std.proofs.Common.{◌≡◌, ℕ, true, false, eqb, List, refl, ap}
 use Rattle.std.specs.Prelude.{not}
 use Rattle.std.specs.List.{list_any}
 use Rattle.std.specs.Str.{IsUtf8}

@@ -8,6 +8,7 @@ module _ {A : Type 0} (r : Reader A) where
   abbrev pub with_front : List A → Option (List A × List ℕ) → Option (List A × List ℕ)
   with_front front read = read and_then λ x. Some (front ++ x.0, x.1)
 
+  -- one more in front
   regroup : (front : List A) (n : A) (read : Option (List A × List ℕ)) → with_front front (read and_then λ x. Some (n ∷ x.0, x.1)) ≡ with_front (front ++ n ∷ []) read
   regroup front n (Some x) = ap (λ (ns : List A). Some (ns, x.1)) (simp append_assoc)
   regroup front n None = refl
@@ -28,6 +29,7 @@ module _ {A : Type 0} (r : Reader A) where
       let one : with_front front (times r (count - i) bytes) ≡ None = rw (k, h) refl in
       sym so_far ∙ one
 
+  -- at the end all are read
   pub is_done : (front : List A) (count i : ℕ) (bytes : List ℕ) (total : Option (List A × List ℕ)) → count ≤ i → with_front front (times r (count - i) bytes) ≡ total → total ≡ Some (front, bytes)
   unfolding times
   is_done front count i bytes total le so_far =

@@ -26,9 +26,11 @@ several f xs = number 2 (length xs) ++ flat_map f xs
 abbrev pub sized : {A : Type 0} → (A → List ℕ) → A → List ℕ
 sized f x = number 2 (length (f x)) ++ f x
 
+-- type, version and path
 abbrev pub qid_bytes : Qid → List ℕ
 qid_bytes q = number 1 q.kind ++ number 4 q.version ++ number 8 q.path
 
+-- what is told of a file, in the order of its bytes
 abbrev pub stat_fields : StatFields → List ℕ
 stat_fields s =
     number 2 s.kind ++ number 4 s.dev ++ qid_bytes s.qid ++ number 4 s.mode

@@ -33,6 +33,7 @@ unfoldable pub frames_within : ℕ → List ℕ → Frames
 frames_within zero bytes = Rest bytes
 frames_within (suc n) bytes = frames_by (first_frame bytes) bytes (frames_within n)
 
+-- all frames of a byte string
 unfoldable pub frames : List ℕ → Frames
 frames bytes = frames_within (length bytes) bytes
 

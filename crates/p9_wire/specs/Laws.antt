@@ -1,6 +1,7 @@
 -- The words of the laws: how a function that reads and a relation that says what is spelled agree.
 use Rattle.std.specs.Prelude.{◌≡◌, ℕ, ◌<◌, ◌^◌, List, Option, Some, All}
 
+-- each item is a byte
 abbrev pub IsBytes : List ℕ → Type 0
 IsBytes bytes = All (λ b. b < 2 ^ 8) bytes
 

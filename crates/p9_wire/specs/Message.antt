@@ -55,6 +55,7 @@ pub data RMessage : Type 0 where
 
 -- the same of the code's types, whose texts and data are slices
 
+-- a stat
 abbrev pub stat_view : Stat → StatFields
 stat_view s = record {
   kind = s.kind;
@@ -70,6 +71,7 @@ stat_view s = record {
   muid = s.muid.now;
 }
 
+-- a request
 abbrev pub t_view : TMsg → TMessage
 t_view (t.Version msize version) = Tversion msize version.now
 t_view (t.Auth afid uname aname) = Tauth afid uname.now aname.now
@@ -85,6 +87,7 @@ t_view (t.Remove fid) = Tremove fid
 t_view (t.Stat fid) = Tstat fid
 t_view (t.Wstat fid stat) = Twstat fid (stat_view stat)
 
+-- a reply
 abbrev pub r_view : RMsg → RMessage
 r_view (r.Version msize version) = Rversion msize version.now
 r_view (r.Attach qid) = Rattach qid

@@ -61,6 +61,7 @@ t_stat_at = made Tstat (number_at 4)
 unfoldable pub t_wstat_at : Reader TMessage
 t_wstat_at = made (λ x. Twstat x.0 x.1) (number_at 4 then stat_at)
 
+-- the body of a request of this type
 unfoldable pub t_body_at : ℕ → Reader TMessage
 t_body_at kind =
     if kind == 100 then t_version_at
@@ -123,6 +124,7 @@ r_stat_at = made Rstat stat_at
 abbrev pub r_wstat_at : Reader RMessage
 r_wstat_at = made (λ x. Rwstat) nothing_at
 
+-- the body of a reply of this type
 unfoldable pub r_body_at : ℕ → Reader RMessage
 r_body_at kind =
     if kind == 101 then r_version_at

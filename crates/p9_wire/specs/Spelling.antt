@@ -10,6 +10,7 @@ frame kind tag body = number 4 (7 + length body) ++ (number 1 kind ++ number 2 t
 
 -- requests. Terror is none of them, so 106 spells nothing
 
+-- the number of its type
 abbrev pub t_type : TMessage → ℕ
 t_type (Tversion msize version) = 100
 t_type (Tauth afid uname aname) = 102
@@ -25,6 +26,7 @@ t_type (Tremove fid) = 122
 t_type (Tstat fid) = 124
 t_type (Twstat fid stat) = 126
 
+-- its fields in order
 abbrev pub t_body : TMessage → List ℕ
 t_body (Tversion msize version) = number 4 msize ++ text version
 t_body (Tauth afid uname aname) = number 4 afid ++ text uname ++ text aname
@@ -101,6 +103,7 @@ pub record TSpells (bytes : List ℕ) (tag : ℕ) (m : TMessage) : Type 0 where
 
 -- replies. Rauth is never sent and none of them, so 103 spells nothing
 
+-- the number of its type
 abbrev pub r_type : RMessage → ℕ
 r_type (Rversion msize version) = 101
 r_type (Rattach qid) = 105
@@ -116,6 +119,7 @@ r_type Rremove = 123
 r_type (Rstat stat) = 125
 r_type Rwstat = 127
 
+-- its fields in order
 abbrev pub r_body : RMessage → List ℕ
 r_body (Rversion msize version) = number 4 msize ++ text version
 r_body (Rattach qid) = qid_bytes qid

@@ -73,3 +73,13 @@ impl<'a> Names<'a> {
         self.len += 1;
     }
 }
+
+impl Default for Names<'_> {
+    ghost use Rattle.std.specs.Prelude.{◌≡◌, []};
+
+    ghost is_default = { λ names. names ≡ [] };
+
+    fn default() -> Self {
+        Names::new()
+    }
+}

@@ -70,3 +70,13 @@ impl Qids {
         self.len += 1;
     }
 }
+
+impl Default for Qids {
+    ghost use Rattle.std.specs.Prelude.{◌≡◌, []};
+
+    ghost is_default = { λ qids. qids ≡ [] };
+
+    fn default() -> Self {
+        Qids::new()
+    }
+}

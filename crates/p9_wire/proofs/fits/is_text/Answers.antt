@@ -1,5 +1,3 @@
-use Rattle.std.proofs.Common.{ap, ◌∙◌}
-use Rattle.std.specs.Prelude.{not}
 use Rattle.p9_wire.proofs.Texts.{is_text-utf8}
 use Rattle.p9_wire.proofs.fits.is_text.Goals as goal
 
