@@ -279,6 +279,13 @@ fn rows_keep_their_order(rt: HostRuntime) -> Result<(), Fail> {
     Ok(())
 }
 
+// Takes a file out of its server.
+fn remove<T: Tree>(rt: &impl Abort, forest: &mut Forest<T>, file: NodeRef) {
+    assert!(rt; file.number != 0);
+    assert!(rt; forest.after(file, None).is_none());
+    forest.drop_leaf(file);
+}
+
 #[test]
 fn each_step_may_be_refused(rt: HostRuntime) -> Result<(), Fail> {
     let glenda = user(&rt, "glenda");
@@ -304,8 +311,7 @@ fn each_step_may_be_refused(rt: HostRuntime) -> Result<(), Fail> {
         find_step(&forest, &table, &root, "a", None),
         Ok(Step::To(node(1)))
     );
-    assert!(rt; forest.after(node(3), None).is_none());
-    forest.drop_leaf(node(3));
+    remove(&rt, &mut forest, node(3));
     let step = find_step(&forest, &table, &file, "..", Some(&glenda));
     assert_eq!(rt; step, Err(Fault::PhaseError));
     table.bind(node(2), &[node(3), node(2)], Order::Replace, false)?;
