@@ -7,14 +7,10 @@ use Rattle.p9_base.specs.declared.mode.FileFlags.{FileFlags}
 use Rattle.p9_base.specs.declared.mode.Kind.{Kind}
 use Rattle.p9_base.specs.declared.mode.Kind.TheVariants.{Directory, File}
 use Rattle.p9_base.specs.declared.mode.Mode.{Mode}
-use Rattle.p9_base.specs.Mode.{rights_bits, permissions_bits, flags_bits, flags_among, kind_bits, mode_bits}
-
-rights_of : ℕ → Rights
-rights_of n = record { read = n / 4 == 1; write = n / 2 % 2 == 1; execute = n % 2 == 1 }
+use Rattle.p9_base.specs.Mode.{rights_bits, permissions_bits, flags_bits, flags_among, kind_bits, mode_bits, rights_of}
 
 -- three bits give the rights back
 rights_of-rights_bits : (r : Rights) → rights_of (rights_bits r) ≡ r
-unfolding rights_of
 rights_of-rights_bits r = go r.read r.write r.execute where
   go : (a b c : Bool) → rights_of (rights_bits (record { read = a; write = b; execute = c })) ≡ record { read = a; write = b; execute = c }
   go true true true = refl

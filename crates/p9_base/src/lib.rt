@@ -6,6 +6,7 @@
 
 mod decimal;
 mod fault;
+mod fid;
 mod line;
 mod memory;
 mod mode;
@@ -21,6 +22,7 @@ mod user;
 
 pub use decimal::number;
 pub use fault::Fault;
+pub use fid::NOFID;
 pub use line::{is_skipped, lines, words};
 pub use memory::NoMemory;
 pub use mode::{DMAPPEND, DMDIR, DMEXCL, DMTMP, FileFlags, Kind, Mode, Permissions, Rights};

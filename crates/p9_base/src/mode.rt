@@ -1,7 +1,7 @@
 //! A node's mode: its kind and its permissions, as intro(5) and stat(5).
 
 ghost use Rattle.std.specs.Prelude.{◌≡◌, ◌≢◌, ◌<◌, ◌^◌, IfSome, IfNone};
-ghost use Rattle.p9_base.specs.Mode.{flags_among, flags_bits, is_dir, kind_bits, mode_bits, permissions_bits, qid_kind, rights_bits};
+ghost use Rattle.p9_base.specs.Mode.{flags_among, flags_bits, is_dir, kind_among, kind_bits, kind_of, mode_bits, mode_of, permissions_bits, permissions_of, qid_kind, rights_bits, rights_of};
 ghost use Rattle.p9_base.specs.Rights.{rights_cover, rights_or};
 ghost use Rattle.p9_base.specs.declared.mode.Kind.{Kind};
 ghost use Rattle.p9_base.specs.declared.mode.Mode.{Mode};
@@ -89,7 +89,8 @@ impl Rights {
     // The rights of these bits, of which there are three.
     fn from_bits(bits: u32) -> Rights
         requires { bits < 8 }
-        ensures { rights_bits result ≡ bits }
+        ensures bits { rights_bits result ≡ bits }
+        ensures value { result ≡ rights_of bits }
     {
         Rights {
             read: bits / 4 == 1,
@@ -111,7 +112,8 @@ impl Permissions {
     /// The permissions of these bits, of which there are nine.
     pub fn from_bits(bits: u32) -> Permissions
         requires { bits < 512 }
-        ensures { permissions_bits result ≡ bits }
+        ensures bits { permissions_bits result ≡ bits }
+        ensures value { result ≡ permissions_of bits }
     {
         Permissions {
             owner: Rights::from_bits(bits / 0o100),
@@ -136,6 +138,7 @@ impl Kind {
     fn from_bits(bits: u32) -> Option<Kind>
         ensures some { IfSome result (λ kind. kind_bits kind ≡ bits) }
         ensures none { IfNone result ((kind : Kind) → kind_bits kind ≢ bits) }
+        ensures value { result ≡ kind_of bits }
     {
         let kind = Kind::among(bits);
         if kind.bits() == bits {
@@ -147,7 +150,8 @@ impl Kind {
 
     // The one kind of which these may be the bits.
     fn among(bits: u32) -> Kind
-        ensures { (kind : Kind) → kind_bits kind ≡ bits → kind ≡ result }
+        ensures only { (kind : Kind) → kind_bits kind ≡ bits → kind ≡ result }
+        ensures value { result ≡ kind_among bits }
     {
         if bits >= DMDIR {
             Kind::Directory
@@ -185,6 +189,7 @@ impl Mode {
     pub fn from_bits(bits: u32) -> Option<Mode>
         ensures some { IfSome result (λ mode. mode_bits mode ≡ bits) }
         ensures none { IfNone result ((mode : Mode) → mode_bits mode ≢ bits) }
+        ensures value { result ≡ mode_of bits }
     {
         let permissions = bits % 0o1000;
         match Kind::from_bits(bits - permissions) {

@@ -9,7 +9,7 @@ use Rattle.p9_tree.specs.Node.{Node}
 use Rattle.p9_tree.specs.Server.{Server}
 use Rattle.p9_space.specs.Place.{file_of, file_ref}
 use Rattle.p9_wire.specs.Message.{Rattach}
-use Rattle.p9_fids.specs.declared.table.TheConstants.{NOFID}
+use Rattle.p9_base.specs.declared.fid.TheConstants.{NOFID}
 use Rattle.p9_fids.specs.Fid.{put_fault, with_fid}
 use Rattle.p9_export.specs.State.{Setting, Session}
 use Rattle.p9_export.specs.Answer.{Answer, need, given, unless}

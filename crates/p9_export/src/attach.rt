@@ -7,8 +7,8 @@ ghost use Rattle.p9_export.specs.Attach.{attach_answer, listed_user, qid_of};
 ghost use Rattle.p9_export.specs.Answers.{Answers, IsReply};
 
 use crate::session::Session;
-use p9_base::{Fault, NodeRef, Qid, User};
-use p9_fids::{Fid, NOFID};
+use p9_base::{Fault, NOFID, NodeRef, Qid, User};
+use p9_fids::Fid;
 use p9_space::{MountTable, Trail};
 use p9_tree::{Forest, Node, Tree};
 use p9_wire::RMsg;

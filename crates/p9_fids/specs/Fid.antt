@@ -6,13 +6,14 @@ use Rattle.std.specs.Map.{lookup, remove_entry, set_value, values_of}
 use Rattle.std.specs.BTreeMap.{insert_entry, is_at}
 use Rattle.p9_base.specs.declared.fault.Fault.{Fault}
 use Rattle.p9_base.specs.declared.fault.Fault.TheVariants.{FidInUse, TooManyFids, UnknownFid}
+use Rattle.p9_base.specs.declared.fid.TheConstants.{NOFID}
 use Rattle.p9_base.specs.declared.node_ref.NodeRef.{NodeRef}
 use Rattle.p9_space.specs.Place.{file_ref}
 use Rattle.p9_space.specs.Row.{same_node}
 use Rattle.p9_space.specs.Table.{MountRow}
 use Rattle.p9_space.specs.Trail.{here}
 use Rattle.p9_fids.specs.declared.opened.Opened.{Opened}
-use Rattle.p9_fids.specs.declared.table.TheConstants.{FIDS_MAX, NOFID}
+use Rattle.p9_fids.specs.declared.table.TheConstants.{FIDS_MAX}
 
 pub record Fid : Type 0 where
   pub user : List ℕ

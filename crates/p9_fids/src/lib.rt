@@ -9,4 +9,4 @@ mod tests;
 
 pub use fid::Fid;
 pub use opened::{Cursor, OpenMode, Opened};
-pub use table::{FIDS_MAX, FidTable, NOFID};
+pub use table::{FIDS_MAX, FidTable};

@@ -7,14 +7,11 @@ ghost use Rattle.p9_fids.specs.Fid.{changed_fid, fid_at, open_count, opened_as, 
 
 use crate::fid::Fid;
 use crate::opened::Opened;
-use p9_base::{Fault, NodeRef};
+use p9_base::{Fault, NOFID, NodeRef};
 use p9_space::{MountTable, Trail};
 use std::alloc::Allocator;
 use std::collections::BTreeMap;
 use std::marker::Model;
-
-/// The number that is no fid, as intro(5).
-pub const NOFID: u32 = 0xFFFF_FFFF;
 
 /// The most fids of a session.
 pub const FIDS_MAX: usize = 1024;

@@ -1,7 +1,7 @@
 //! A session's fids, at their limits and where memory is refused.
 
-use crate::{Cursor, FIDS_MAX, Fid, FidTable, NOFID, OpenMode, Opened};
-use p9_base::{Fault, NodeRef, User};
+use crate::{Cursor, FIDS_MAX, Fid, FidTable, OpenMode, Opened};
+use p9_base::{Fault, NOFID, NodeRef, User};
 use p9_refusing::{Refusing, refuse_each};
 use p9_space::{MountTable, Order, Trail};
 use std::alloc::Allocator;

@@ -6,9 +6,6 @@ pub const MSIZE_MAX: u32 = 65_536;
 /// The tag of a Tversion, which belongs to no other message.
 pub const NOTAG: u16 = 0xFFFF;
 
-/// The fid that names no file, as the afid of an attach without authentication.
-pub const NOFID: u32 = 0xFFFF_FFFF;
-
 /// The greatest number of names in a Twalk, and of qids in an Rwalk.
 pub const MAXWELEM: usize = 16;
 

@@ -1,8 +1,8 @@
 //! Requests as the vectors spell them.
 
 use super::{bytes_of, request};
-use crate::{NOFID, NOTAG, Names, Stat, TMsg};
-use p9_base::Qid;
+use crate::{NOTAG, Names, Stat, TMsg};
+use p9_base::{NOFID, Qid};
 use std::test::Fail;
 
 #[test]
