@@ -7,8 +7,11 @@ ghost use Rattle.p9_export.specs.Step.{is_no_memory_reply, step};
 ghost use Rattle.p9_wire.specs.Frame.{msize_max};
 ghost use Rattle.p9_export.specs.declared.export.OpenError.TheVariants.{Live};
 
-use crate::frame::{answer, tag_of, write_answer};
+use crate::answer::answer;
+use crate::end::end_fids;
+use crate::frame::{request_of, tag_of, write_answer};
 use crate::session::Session;
+use crate::setting::Setting;
 use p9_base::User;
 use p9_space::MountTable;
 use p9_tree::{Forest, Tree};
@@ -30,10 +33,8 @@ pub enum OpenError {
 /// The exporter: the trees, the mount table and the users, and the open sessions by name.
 #[derive(Drop)]
 pub struct Export<T: Tree> {
-    alloc: T::Alloc,
+    setting: Setting<T::Alloc>,
     forest: Forest<T>,
-    users: Vec<User, T::Alloc>,
-    table: MountTable<T::Alloc>,
     sessions: BTreeMap<u32, Session<T::Alloc>, T::Alloc>,
 }
 
@@ -43,7 +44,7 @@ impl<T: Tree> Model for Export<T> {
 
     ghost Value = { State };
 
-    ghost view = { λ e. record { setting = record { users = e.users.items; table = e.table }; forest = map T.state e.forest.trees.items; sessions = e.sessions.entries } };
+    ghost view = { λ e. record { setting = e.setting; forest = map T.state e.forest.trees.items; sessions = e.sessions.entries } };
 }
 
 impl<T: Tree> Export<T> {
@@ -58,10 +59,12 @@ impl<T: Tree> Export<T> {
     {
         let alloc = *users.allocator();
         Export {
-            alloc,
+            setting: Setting {
+                alloc,
+                users,
+                table,
+            },
             forest,
-            users,
-            table,
             sessions: BTreeMap::new(alloc),
         }
     }
@@ -85,7 +88,7 @@ impl<T: Tree> Export<T> {
         if self.sessions.contains_key(&s) {
             return Err(OpenError::Live);
         }
-        match self.sessions.insert(s, Session::new(self.alloc)) {
+        match self.sessions.insert(s, Session::new(self.setting.alloc)) {
             Ok(_) => Ok(()),
             Err(_) => Err(OpenError::NoMemory),
         }
@@ -96,7 +99,9 @@ impl<T: Tree> Export<T> {
         requires { IsSome (session_at s self.old.sessions) }
         ensures { self.new ≡ (step self.old (Closing s now) false).state }
     {
-        let _ = self.sessions.remove(&s);
+        if let Some(mut session) = self.sessions.remove(&s) {
+            end_fids(&self.setting, &mut self.forest, &mut session.fids, now);
+        }
     }
 
     /// Answers one frame of an open session: the reply stands at the front of the buffer, and its
@@ -113,9 +118,19 @@ impl<T: Tree> Export<T> {
         ensures bytes { take result reply.new ≡ (step self.old (Request s frame.now now) (is_no_memory_reply frame.now (take result reply.new))).reply }
     {
         let tag = tag_of(frame);
-        let session = self.sessions.get_mut(&s).unwrap();
-        let users = self.users.as_slice();
-        let answered = answer(self.alloc, &self.forest, &self.table, users, session, frame);
-        write_answer(&answered, tag, reply)
+        let session = self.sessions.get(&s).unwrap();
+        let answered = match request_of(session, frame) {
+            Ok(request) => answer(
+                &self.setting,
+                &mut self.forest,
+                &mut self.sessions,
+                s,
+                now,
+                &request,
+                reply,
+            ),
+            Err(fault) => Err(fault),
+        };
+        write_answer(&self.forest, &answered, tag, reply)
     }
 }

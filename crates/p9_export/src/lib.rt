@@ -2,11 +2,20 @@
 //! event after another.
 #![tactic(auto)]
 
+mod answer;
 mod attach;
+mod end;
 mod event;
 mod export;
 mod frame;
+mod message;
+mod open;
+mod opening;
+mod qid;
+mod reply;
+mod rights;
 mod session;
+mod setting;
 #[cfg(test)]
 mod tests;
 mod version;

@@ -1,0 +1,54 @@
+//! The answer to a request, message by message.
+
+ghost use Rattle.std.specs.Prelude.{◌≡◌, ◌≤◌, ◌+◌, length, map};
+ghost use Rattle.p9_wire.specs.Frame.{msize_max};
+ghost use Rattle.p9_wire.specs.Message.{t_view};
+ghost use Rattle.p9_export.specs.Answers.{Answers, replied, reply_view};
+ghost use Rattle.p9_export.specs.End.{FidsFit};
+ghost use Rattle.p9_export.specs.Step.{may_run_out, session_answer};
+
+use crate::attach::attach;
+use crate::reply::Reply;
+use crate::session::Session;
+use crate::setting::Setting;
+use crate::version::version;
+use p9_base::Fault;
+use p9_tree::{Forest, Tree};
+use p9_wire::{RMsg, TMsg};
+
+/// Answers a request of a session. `taken` says that an open finds its file in use. What a read gives
+/// is put at the front of `buffer`.
+pub fn message<T: Tree>(
+    setting: &Setting<T::Alloc>,
+    forest: &mut Forest<T>,
+    session: &mut Session<T::Alloc>,
+    taken: bool,
+    now: u32,
+    request: &TMsg<'_>,
+    buffer: &mut [u8],
+) -> Result<Reply, Fault>
+    requires fids { FidsFit setting.now.table (map T.state forest.old.trees.items) session.old.fids }
+    requires room { msize_max ≤ 11 + length buffer.old }
+    ensures { let old = map T.state forest.old.trees.items in let new = map T.state forest.new.trees.items in let answer = session_answer setting.now old taken session.old now (t_view request.now) in Answers answer (may_run_out (t_view request.now) answer) old new session.old session.new (replied (reply_view new buffer.new) result) }
+{
+    match request {
+        TMsg::Version {
+            msize,
+            version: dialect,
+        } => Ok(Reply::Message(version(
+            setting, forest, session, now, *msize, dialect,
+        )?)),
+        TMsg::Auth { .. } => Err(Fault::NoAuthentication),
+        TMsg::Attach {
+            fid,
+            afid,
+            uname,
+            aname,
+        } => {
+            let qid = attach(setting, forest, session, *fid, *afid, uname, aname)?;
+            Ok(Reply::Message(RMsg::Attach { qid }))
+        }
+        TMsg::Flush { .. } => Ok(Reply::Message(RMsg::Flush)),
+        _ => Err(Fault::Malformed),
+    }
+}
