@@ -1,3 +1,11 @@
 mod Places
-mod Replies
-mod Steps
+pub mod Members
+pub mod Evolves
+pub mod Changes
+pub mod Fids
+pub mod OpenFids
+pub mod Ends
+pub mod Replies
+pub mod Done
+pub mod Plain
+pub mod Steps
