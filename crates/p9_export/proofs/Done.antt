@@ -21,16 +21,16 @@ done-is P (Ok other) outcome holds is = let same : other ≡ outcome = cc in sub
 done-is P (Err fault) outcome holds is = let no : Err fault ≡ Ok outcome = is in absurd (cc)
 
 pub done-need : (P : Outcome → Type 0) (test : Bool) (fault : Fault) (rest : Answer) → (test ≡ true → OnDone P rest) → OnDone P (need test fault rest)
-unfolding OnDone
+unfolding OnDone need
 done-need P true fault rest holds = holds refl
 done-need P false fault rest holds = tt
 
 pub done-given : {X : Type 0} (P : Outcome → Type 0) (value : Option X) (fault : Fault) (rest : X → Answer) → ((x : X) → value ≡ Some x → OnDone P (rest x)) → OnDone P (given value fault rest)
-unfolding OnDone
+unfolding OnDone given
 done-given P (Some x) fault rest holds = holds x refl
 done-given P None fault rest holds = tt
 
 pub done-unless : (P : Outcome → Type 0) (test : Option Fault) (rest : Answer) → (test ≡ None → OnDone P rest) → OnDone P (unless test rest)
-unfolding OnDone
+unfolding OnDone unless
 done-unless P None rest holds = holds refl
 done-unless P (Some fault) rest holds = tt

@@ -1,6 +1,6 @@
 //! The machine that answers 9P2000 over the trees and the mount table: one state, and one whole
 //! event after another.
-#![tactic(auto)]
+#![tactic(auto, unfolding(crate::specs::Answer::need, crate::specs::Answer::given, crate::specs::Answer::unless))]
 
 mod answer;
 mod attach;
