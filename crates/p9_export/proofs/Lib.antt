@@ -1,3 +1,4 @@
+mod Fids
 mod Places
 mod Replies
 mod Steps

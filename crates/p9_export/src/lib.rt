@@ -4,6 +4,7 @@
 
 mod answer;
 mod attach;
+mod clunk;
 mod end;
 mod event;
 mod export;
@@ -16,6 +17,7 @@ mod reply;
 mod rights;
 mod session;
 mod setting;
+mod stat;
 #[cfg(test)]
 mod tests;
 mod version;
