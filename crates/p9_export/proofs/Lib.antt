@@ -2,3 +2,4 @@ mod Fids
 mod Places
 mod Replies
 mod Steps
+mod Walks

@@ -21,6 +21,7 @@ mod stat;
 #[cfg(test)]
 mod tests;
 mod version;
+mod walk;
 
 pub use event::{Event, is_frame};
 pub use export::{Export, OpenError};
