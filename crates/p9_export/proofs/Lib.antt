@@ -1,5 +1,6 @@
 mod Fids
 mod Places
+mod Removals
 mod Replies
 mod Steps
 mod Walks

@@ -1,5 +1,5 @@
 -- Walks, step by step.
-use Rattle.std.proofs.Common.{◌≡◌, ℕ, List, [], ◌∷◌, ◌++◌, Bool, true, false, Option, Some, None, Result, Ok, Err, IsSome, is_some, length, map, drop, get_or, suc, ◌+◌, ◌<◌, ◌≤◌, Bor, refl, append_assoc, add-one, drop-cons}
+use Rattle.std.proofs.Common.{◌≡◌, ℕ, List, [], ◌∷◌, ◌++◌, Bool, true, false, Option, Some, None, Result, Ok, Err, IsSome, is_none, is_some, length, map, drop, get_or, suc, ◌+◌, ◌<◌, ◌≤◌, Bor, refl, append_assoc, add-one, drop-cons}
 use Rattle.std.proofs.lemmas.List.{append-nil, drop_all}
 use Rattle.p9_base.specs.declared.fault.Fault.{Fault}
 use Rattle.p9_base.specs.declared.fault.Fault.TheVariants.{PhaseError}
@@ -12,9 +12,12 @@ use Rattle.p9_space.specs.Place.{file_of}
 use Rattle.p9_space.specs.Table.{MountRow, members_of}
 use Rattle.p9_space.specs.Trail.{here, stepped}
 use Rattle.p9_space.specs.Walk.{and_then, arrived, step_among, step_of}
-use Rattle.p9_export.specs.State.{Setting}
+use Rattle.p9_fids.specs.declared.opened.Opened.{Opened}
+use Rattle.p9_fids.specs.Fid.{Fid, fid_at}
+use Rattle.p9_export.specs.State.{Setting, Session}
 use Rattle.p9_export.specs.Qid.{qid_at}
-use Rattle.p9_export.specs.Walk.{Walked, walked}
+use Rattle.p9_export.specs.Answer.{Answer}
+use Rattle.p9_export.specs.Walk.{Walked, ended_walk, newfid_fault, walk_answer, walk_outcome, walked}
 
 -- a walk that gave these qids before
 abbrev pub so_far : List Qid → Walked → Walked
@@ -60,3 +63,21 @@ module _ (setting : Setting) (forest : List Server) (user : List ℕ) where
   pub walked-all : (qids : List Qid) (trail : List NodeRef) (names : List (Bor (List ℕ))) (i : ℕ) → length names ≤ i →
       so_far qids (walked setting forest user trail (map (λ n. n.now) (drop i names))) ≡ record { qids = qids; trail = trail; stopped = None }
   walked-all qids trail names i past = rw (drop_all i names past) (rw append-nil)
+
+-- of the fid, only its user goes on
+ended_walk-user : (fid newfid : ℕ) (v w : Fid) (session : Session) (trail : List NodeRef) (stopped : Option Fault) (qids : List Qid) → v.user ≡ w.user → ended_walk fid newfid v session trail stopped qids ≡ ended_walk fid newfid w session trail stopped qids
+ended_walk-user fid newfid v w session trail None qids same = rw same
+ended_walk-user fid newfid v w session trail (Some fault) [] same = refl
+ended_walk-user fid newfid v w session trail (Some fault) (qid ∷ qids) same = refl
+
+closed-is_none : (o : Option Opened) → is_some o ≡ false → is_none o ≡ true
+closed-is_none None closed = refl
+closed-is_none (Some x) closed = cc
+
+-- a walk that no test refuses
+pub walk_answer-goes : (setting : Setting) (forest : List Server) (session : Session) (fid newfid : ℕ) (names : List (List ℕ)) (v w : Fid) → fid_at fid session.fids ≡ Some v → is_some v.opened ≡ false → newfid_fault fid newfid session.fids ≡ None → v.user ≡ w.user →
+    walk_answer setting forest session fid newfid names ≡ walk_outcome fid newfid w session (walked setting forest v.user v.trail names)
+walk_answer-goes setting forest session fid newfid names v w found closed free same =
+    let none = closed-is_none v.opened closed in
+    let walk = walked setting forest v.user v.trail names in
+    rw (found, none, free) (ended_walk-user fid newfid v w session walk.trail walk.stopped walk.qids same)

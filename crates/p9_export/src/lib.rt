@@ -13,6 +13,7 @@ mod message;
 mod open;
 mod opening;
 mod qid;
+mod remove;
 mod reply;
 mod rights;
 mod session;

@@ -1,10 +1,11 @@
 //! The answer to a walk, as walk(5).
 
-ghost use Rattle.std.specs.Prelude.{◌≡◌, ◌≤◌, [], None, Some, IfOk, IfErr, IsSome, OnErr, OnOk, length, map, true};
+ghost use Rattle.std.specs.Prelude.{◌≡◌, ◌≤◌, List, None, Some, IfOk, IfErr, IsSome, OnErr, OnOk, length, map, true};
 ghost use Rattle.p9_base.specs.declared.fault.Fault.TheVariants.{OutOfMemory};
 ghost use Rattle.p9_fids.specs.Fid.{fid_at};
 ghost use Rattle.p9_space.specs.Place.{file_of};
 ghost use Rattle.p9_space.specs.Trail.{here, stepped};
+ghost use Rattle.p9_tree.specs.Server.{Server};
 ghost use Rattle.p9_wire.specs.Message.{Rwalk};
 ghost use Rattle.p9_export.specs.Answers.{Answers, replied};
 ghost use Rattle.p9_export.specs.Qid.{qid_at};
@@ -145,7 +146,7 @@ fn end_walk<A: Allocator + Copy>(
 ) -> Result<Qids, Fault>
     requires there { IsSome (fid_at fid session.old.fids) }
     requires free { newfid_fault fid newfid session.old.fids ≡ None }
-    ensures { Answers (walk_outcome fid newfid (record { user = user; trail = walked.trail; opened = None }) session.old walked) true [] [] session.old session.new (replied Rwalk result) }
+    ensures { (forest : List Server) → Answers (walk_outcome fid newfid (record { user = user; trail = walked.trail; opened = None }) session.old walked) true forest forest session.old session.new (replied Rwalk result) }
 {
     match walked.stopped {
         None => {
