@@ -1,5 +1,5 @@
 -- Removing files.
-use Rattle.std.proofs.Common.{◌≡◌, ◌≢◌, ℕ, ◌<◌, Bool, true, false, List, Option, Some, None, Ok, is_none, is_some, refl, arith}
+use Rattle.std.proofs.Common.{◌≡◌, ◌≢◌, ℕ, ◌<◌, Bool, true, false, List, Option, Some, None, Ok, is_some, refl, arith}
 use Rattle.std.specs.Prelude.{slice_get}
 use Rattle.p9_base.specs.declared.node_ref.NodeRef.{NodeRef}
 use Rattle.p9_tree.specs.Node.{Node}
@@ -16,7 +16,7 @@ use Rattle.p9_export.specs.Remove.{removal}
 use Rattle.p9_export.specs.Rights.{may_write_parent}
 
 -- a node that stands in a directory is no root
-pub node_of-inner : (forest : List Server) (at : NodeRef) (n : Node) → IsForest forest → node_of at forest ≡ Some n → is_none n.parent ≡ false → at.number ≢ 0
+pub node_of-inner : (forest : List Server) (at : NodeRef) (n : Node) → IsForest forest → node_of at forest ≡ Some n → is_some n.parent ≡ true → at.number ≢ 0
 node_of-inner forest at n sound found inner = by n.parent refl
   where
     go : (o : Option Server) → slice_get forest at.server ≡ o → (parent : ℕ) → n.parent ≡ Some parent → at.number ≡ 0 → ⊥
@@ -26,16 +26,13 @@ node_of-inner forest at n sound found inner = by n.parent refl
         let below : parent < at.number = (sound.servers at.server s e).parent_below at.number parent n here in_dir in
         omega arith
     by : (o : Option ℕ) → n.parent ≡ o → at.number ≡ 0 → ⊥
-    by None e root = let no : true ≡ false = rw e at inner in cc
+    by None e root = let no : false ≡ true = rw e at inner in cc
     by (Some parent) e root = go (slice_get forest at.server) refl parent e root
 
+-- a test that finds nothing
 pub absent : {X : Type 0} (o : Option X) → is_some o ≡ false → o ≡ None
 absent None none = refl
 absent (Some x) none = cc
-
-inner-is_some : (o : Option ℕ) → is_none o ≡ false → is_some o ≡ true
-inner-is_some None inner = cc
-inner-is_some (Some x) inner = refl
 
 -- a node is taken out, and its directory marked
 all_applied-taken_out : (user : List ℕ) (now : ℕ) (at : NodeRef) (n : Node) (old dropped new : List Server) → dropped ≡ tree_changed_at at.server (with_dropped at.number) old → new ≡ all_applied (parent_marked user now at n.parent) dropped → new ≡ all_applied (taken_out user now at n) old
@@ -44,9 +41,8 @@ all_applied-taken_out user now at n old dropped new drop mark = rw (mark, drop) 
 
 -- a removal that no test refuses
 pub removal-made : (setting : Setting) (old dropped new : List Server) (left : Session) (now : ℕ) (v : Fid) (at : NodeRef) (n : Node) →
-    at ≡ fid_ref setting.table v → node_of at old ≡ Some n → is_none n.parent ≡ false → may_write_parent v.user old at n ≡ true → has_children_of at old ≡ false →
+    at ≡ fid_ref setting.table v → node_of at old ≡ Some n → is_some n.parent ≡ true → may_write_parent v.user old at n ≡ true → has_children_of at old ≡ false →
     dropped ≡ tree_changed_at at.server (with_dropped at.number) old → new ≡ all_applied (parent_marked v.user now at n.parent) dropped →
     Answers (removal setting old left now v) false old new left left (Ok Rremove)
 removal-made setting old dropped new left now v at n at_is found inner permitted empty drop mark =
-    let some = inner-is_some n.parent inner in
-    rw (← at_is, found, some, permitted, empty) (refl, all_applied-taken_out v.user now at n old dropped new drop mark)
+    rw (← at_is, found, inner, permitted, empty) (refl, all_applied-taken_out v.user now at n old dropped new drop mark)
