@@ -25,6 +25,7 @@ node_of-inner forest at n sound found inner = by n.parent refl
         let here : node_at at.number s.nodes ≡ Some n = rw e at found in
         let below : parent < at.number = (sound.servers at.server s e).parent_below at.number parent n here in_dir in
         omega arith
+
     by : (o : Option ℕ) → n.parent ≡ o → at.number ≡ 0 → ⊥
     by None e root = let no : false ≡ true = rw e at inner in cc
     by (Some parent) e root = go (slice_get forest at.server) refl parent e root

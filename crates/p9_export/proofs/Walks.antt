@@ -30,6 +30,7 @@ file-step_of forest table user trail name step found = go (step_among forest use
     by : (s : Step) (file : Option Node) → file_of (here (stepped trail s)) table forest ≡ file → arrived forest table trail s ≡ Ok step → IsSome (file_of (here (stepped trail step)) table forest)
     by s None e is = let none : Err PhaseError ≡ Ok step = rw e at is in cc
     by s (Some n) e is = let same : s ≡ step = (let ok : Ok s ≡ Ok step = rw e at is in cc) in rw (← same, e) refl
+
     go : (r : Result Step Fault) → and_then r (arrived forest table trail) ≡ Ok step → IsSome (file_of (here (stepped trail step)) table forest)
     go (Err fault) is = cc
     go (Ok s) is = by s (file_of (here (stepped trail s)) table forest) refl is
