@@ -1,4 +1,6 @@
 mod Places
+mod Removals
+mod Walks
 pub mod Members
 pub mod Evolves
 pub mod Changes

@@ -4,6 +4,7 @@
 
 mod answer;
 mod attach;
+mod clunk;
 mod end;
 mod event;
 mod export;
@@ -12,13 +13,16 @@ mod message;
 mod open;
 mod opening;
 mod qid;
+mod remove;
 mod reply;
 mod rights;
 mod session;
 mod setting;
+mod stat;
 #[cfg(test)]
 mod tests;
 mod version;
+mod walk;
 
 pub use event::{Event, is_frame};
 pub use export::{Export, OpenError};

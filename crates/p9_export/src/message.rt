@@ -8,10 +8,14 @@ ghost use Rattle.p9_export.specs.End.{FidsFit};
 ghost use Rattle.p9_export.specs.Step.{may_run_out, session_answer};
 
 use crate::attach::attach;
+use crate::clunk::clunk;
+use crate::remove::remove;
 use crate::reply::Reply;
 use crate::session::Session;
 use crate::setting::Setting;
+use crate::stat::stat;
 use crate::version::version;
+use crate::walk::walk;
 use p9_base::Fault;
 use p9_tree::{Forest, Tree};
 use p9_wire::{RMsg, TMsg};
@@ -36,9 +40,7 @@ pub fn message<T: Tree>(
         TMsg::Version {
             msize,
             version: dialect,
-        } => Ok(Reply::Message(version(
-            setting, forest, session, now, *msize, dialect,
-        )?)),
+        } => Ok(Reply::Message(version(setting, forest, session, now, *msize, dialect)?)),
         TMsg::Auth { .. } => Err(Fault::NoAuthentication),
         TMsg::Attach {
             fid,
@@ -50,6 +52,16 @@ pub fn message<T: Tree>(
             Ok(Reply::Message(RMsg::Attach { qid }))
         }
         TMsg::Flush { .. } => Ok(Reply::Message(RMsg::Flush)),
+        TMsg::Walk { fid, newfid, names } => {
+            let qids = walk(setting, forest, session, *fid, *newfid, names)?;
+            Ok(Reply::Message(RMsg::Walk { qids }))
+        }
+        TMsg::Clunk { fid } => {
+            clunk(setting, forest, session, now, *fid)?;
+            Ok(Reply::Message(RMsg::Clunk))
+        }
+        TMsg::Remove { fid } => Ok(Reply::Message(remove(setting, forest, session, now, *fid)?)),
+        TMsg::Stat { fid } => Ok(Reply::StatOf(stat(setting, forest, session, *fid)?)),
         _ => Err(Fault::Malformed),
     }
 }
