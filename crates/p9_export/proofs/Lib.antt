@@ -11,3 +11,5 @@ pub mod Replies
 pub mod Done
 pub mod Plain
 pub mod Steps
+pub mod Rows
+pub mod Kept

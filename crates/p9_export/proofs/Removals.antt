@@ -8,7 +8,7 @@ use Rattle.p9_tree.specs.Forest.{IsForest, has_children_of, node_of, tree_change
 use Rattle.p9_fids.specs.Fid.{Fid}
 use Rattle.p9_wire.specs.Message.{Rremove}
 use Rattle.p9_export.specs.State.{Setting, Session}
-use Rattle.p9_export.specs.Answer.{Answer}
+use Rattle.p9_export.specs.Answer.{Answer, given, need}
 use Rattle.p9_export.specs.Answers.{Answers}
 use Rattle.p9_export.specs.Change.{all_applied, applied}
 use Rattle.p9_export.specs.End.{fid_ref, parent_marked, taken_out}
@@ -45,5 +45,6 @@ pub removal-made : (setting : Setting) (old dropped new : List Server) (left : S
     at ≡ fid_ref setting.table v → node_of at old ≡ Some n → is_some n.parent ≡ true → may_write_parent v.user old at n ≡ true → has_children_of at old ≡ false →
     dropped ≡ tree_changed_at at.server (with_dropped at.number) old → new ≡ all_applied (parent_marked v.user now at n.parent) dropped →
     Answers (removal setting old left now v) false old new left left (Ok Rremove)
+unfolding given need
 removal-made setting old dropped new left now v at n at_is found inner permitted empty drop mark =
     rw (← at_is, found, inner, permitted, empty) (refl, all_applied-taken_out v.user now at n old dropped new drop mark)

@@ -103,26 +103,27 @@ module _ (state : State) (name now : ℕ) (forest : List Server) (rows : List Se
   answer = frame_answer state.setting state.forest state.sessions session now frame
 
   -- a frame with a request is spelled by it
-  request-spelled : (m : TMessage) → request_of session frame ≡ Ok m → option_map_or (λ (r : ℕ × TMessage). r.1 ≡ m) (t_message_of frame) ⊥
+  Spelled : TMessage → Type 0
+  Spelled m = (r : ℕ × TMessage) × (t_message_of frame ≡ Some r) × (r.1 ≡ m)
+
+  request-spelled : (m : TMessage) → request_of session frame ≡ Ok m → Spelled m
+  unfolding Spelled
   request-spelled m is = by_msize (fits_msize session frame) refl
     where
       by_test : (r : ℕ × TMessage) → t_message_of frame ≡ Some r → fits_msize session frame ≡ true → (b : Bool) → (is_version r.1 || is_some session.msize) ≡ b → r.1 ≡ m
       by_test r found fits true e = let same : Ok r.1 ≡ Ok m = rw (fits, found, e) at is in cc
       by_test r found fits false e = let no : Err VersionNotSet ≡ Ok m = rw (fits, found, e) at is in absurd (cc)
-      by_message : fits_msize session frame ≡ true → (o : Option (ℕ × TMessage)) → t_message_of frame ≡ o → option_map_or (λ (r : ℕ × TMessage). r.1 ≡ m) (t_message_of frame) ⊥
+      by_message : fits_msize session frame ≡ true → (o : Option (ℕ × TMessage)) → t_message_of frame ≡ o → (r : ℕ × TMessage) × (t_message_of frame ≡ Some r) × (r.1 ≡ m)
       by_message fits None e = let no : Err Malformed ≡ Ok m = rw (fits, e) at is in absurd (cc)
-      by_message fits (Some r) e = rw e (by_test r e fits (is_version r.1 || is_some session.msize) refl)
-      by_msize : (b : Bool) → fits_msize session frame ≡ b → option_map_or (λ (r : ℕ × TMessage). r.1 ≡ m) (t_message_of frame) ⊥
+      by_message fits (Some r) e = (r, e, by_test r e fits (is_version r.1 || is_some session.msize) refl)
+      by_msize : (b : Bool) → fits_msize session frame ≡ b → (r : ℕ × TMessage) × (t_message_of frame ≡ Some r) × (r.1 ≡ m)
       by_msize true e = by_message e (t_message_of frame) refl
       by_msize false e = let no : Err Malformed ≡ Ok m = rw e at is in absurd (cc)
 
   -- so whether its answer may be want of memory is the request's
   ran_out-request : (m : TMessage) (a : Answer) → request_of session frame ≡ Ok m → ran_out frame a ≡ may_run_out m a
-  ran_out-request m a is = go (t_message_of frame) refl (request-spelled m is)
-    where
-      go : (o : Option (ℕ × TMessage)) → t_message_of frame ≡ o → option_map_or (λ (r : ℕ × TMessage). r.1 ≡ m) (t_message_of frame) ⊥ → ran_out frame a ≡ may_run_out m a
-      go None e spelled = let no : ⊥ = rw e at spelled in absurd no
-      go (Some r) e spelled = let same : r.1 ≡ m = rw e at spelled in rw e (ap (λ x. may_run_out x a) same)
+  unfolding Spelled
+  ran_out-request m a is = let spelled = request-spelled m is in rw spelled.1 (ap (λ x. may_run_out x a) spelled.2)
 
   plain-among : (m : TMessage) (result : Result RMessage Fault) → AnswersAmong name (message_answer state.setting state.forest state.sessions session now m) (may_run_out m (message_answer state.setting state.forest state.sessions session now m)) state.forest forest state.sessions rows result → Plain (may_run_out m (message_answer state.setting state.forest state.sessions session now m)) result
   plain-among m (Ok reply) did =

@@ -16,7 +16,7 @@ use Rattle.p9_fids.specs.declared.opened.Opened.{Opened}
 use Rattle.p9_fids.specs.Fid.{Fid, fid_at}
 use Rattle.p9_export.specs.State.{Setting, Session}
 use Rattle.p9_export.specs.Qid.{qid_at}
-use Rattle.p9_export.specs.Answer.{Answer}
+use Rattle.p9_export.specs.Answer.{Answer, given, need, unless}
 use Rattle.p9_export.specs.Walk.{Walked, ended_walk, newfid_fault, walk_answer, walk_outcome, walked}
 
 -- a walk that gave these qids before
@@ -78,6 +78,7 @@ closed-is_none (Some x) closed = cc
 -- a walk that no test refuses
 pub walk_answer-goes : (setting : Setting) (forest : List Server) (session : Session) (fid newfid : ℕ) (names : List (List ℕ)) (v w : Fid) → fid_at fid session.fids ≡ Some v → is_some v.opened ≡ false → newfid_fault fid newfid session.fids ≡ None → v.user ≡ w.user →
     walk_answer setting forest session fid newfid names ≡ walk_outcome fid newfid w session (walked setting forest v.user v.trail names)
+unfolding given need unless
 walk_answer-goes setting forest session fid newfid names v w found closed free same =
     let none = closed-is_none v.opened closed in
     let walk = walked setting forest v.user v.trail names in

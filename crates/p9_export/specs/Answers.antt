@@ -86,9 +86,10 @@ abbrev pub answer_among : Setting → List Server → List SessionRow → ℕ �
 answer_among setting forest sessions name now m =
     option_map_or (λ session. message_answer setting forest sessions session now m) (session_at name sessions) (Err PhaseError)
 
--- the data of a reply are there
-abbrev pub HasData : ℕ → Result Reply Fault → Type 0
-HasData len (Ok (Message m)) = Unit {0}
-HasData len (Ok (Data count)) = count ≤ len
-HasData len (Ok (StatOf at)) = Unit {0}
-HasData len (Err fault) = Unit {0}
+-- a reply that can be written: its message has a spelling that is no longer than a frame, its data are no more
+-- than a frame holds
+abbrev pub CanWrite : Result Reply Fault → Type 0
+CanWrite (Ok (Message m)) = ReplyFits (r_view m)
+CanWrite (Ok (Data count)) = 11 + count ≤ msize_max
+CanWrite (Ok (StatOf at)) = Unit {0}
+CanWrite (Err fault) = Unit {0}

@@ -3,7 +3,7 @@
 ghost use Rattle.std.specs.Prelude.{◌≡◌, ◌≤◌, ◌+◌, length, map};
 ghost use Rattle.p9_wire.specs.Frame.{msize_max};
 ghost use Rattle.p9_wire.specs.Message.{t_view};
-ghost use Rattle.p9_export.specs.Answers.{Answers, HasData, replied, reply_view};
+ghost use Rattle.p9_export.specs.Answers.{Answers, CanWrite, replied, reply_view};
 ghost use Rattle.p9_export.specs.End.{FidsFit};
 ghost use Rattle.p9_export.specs.Step.{may_run_out, session_answer};
 
@@ -33,7 +33,7 @@ pub fn message<T: Tree>(
 ) -> Result<Reply, Fault>
     requires fids { FidsFit setting.now.table (map T.state forest.old.trees.items) session.old.fids }
     requires room { msize_max ≤ 11 + length buffer.old }
-    ensures data { HasData (length buffer.old) result }
+    ensures reply { CanWrite result }
     ensures answer { let old = map T.state forest.old.trees.items in let new = map T.state forest.new.trees.items in let answer = session_answer setting.now old taken session.old now (t_view request.now) in Answers answer (may_run_out (t_view request.now) answer) old new session.old session.new (replied (reply_view new buffer.new) result) }
 {
     match request {

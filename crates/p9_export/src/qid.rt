@@ -1,7 +1,8 @@
 //! The qids of files, and what is told of them, as intro(5) and stat(5).
 
-ghost use Rattle.std.specs.Prelude.{◌≡◌, ◌<◌, ◌^◌};
+ghost use Rattle.std.specs.Prelude.{◌≡◌, ◌<◌, ◌≤◌, ◌^◌};
 ghost use Rattle.p9_export.specs.Qid.{qid_of, stat_of};
+ghost use Rattle.p9_wire.specs.Fields.{FitsStat, stat_len};
 ghost use Rattle.p9_wire.specs.Message.{stat_view};
 
 use p9_base::{NodeRef, Qid};
@@ -24,7 +25,9 @@ pub fn qid_of<A: Allocator>(at: NodeRef, file: &Node<A>) -> Qid
 /// What is told of a file, as stat(5). A directory has no bytes.
 pub fn stat_of<A: Allocator>(at: NodeRef, file: &Node<A>) -> Stat<'_>
     requires { at.number < 2 ^ 48 }
-    ensures { stat_view result ≡ stat_of at file.now }
+    ensures fits { FitsStat (stat_view result) }
+    ensures short { stat_len (stat_view result) ≤ 493 }
+    ensures value { stat_view result ≡ stat_of at file.now }
 {
     Stat {
         kind: 0,

@@ -1,10 +1,10 @@
 //! The answer to a version, as version(5).
 
-ghost use Rattle.std.specs.Prelude.{◌≡◌, false, map};
+ghost use Rattle.std.specs.Prelude.{◌≡◌, IfOk, false, map};
 ghost use Rattle.p9_wire.specs.Message.{r_view};
 ghost use Rattle.p9_export.specs.End.{FidsFit};
 ghost use Rattle.p9_export.specs.Version.{is_known, version_answer};
-ghost use Rattle.p9_export.specs.Answers.{Answers, replied};
+ghost use Rattle.p9_export.specs.Answers.{Answers, ReplyFits, replied};
 
 use crate::end::end_fids;
 use crate::session::Session;
@@ -30,7 +30,8 @@ pub fn version<T: Tree>(
     version: &str,
 ) -> Result<RMsg<'static>, Fault>
     requires { FidsFit setting.now.table (map T.state forest.old.trees.items) session.old.fids }
-    ensures { Answers (version_answer setting.now (map T.state forest.old.trees.items) session.old now msize version.now) false (map T.state forest.old.trees.items) (map T.state forest.new.trees.items) session.old session.new (replied r_view result) }
+    ensures reply { IfOk result (λ reply. ReplyFits (r_view reply)) }
+    ensures answer { Answers (version_answer setting.now (map T.state forest.old.trees.items) session.old now msize version.now) false (map T.state forest.old.trees.items) (map T.state forest.new.trees.items) session.old session.new (replied r_view result) }
 {
     if msize < MSIZE_MIN {
         return Err(Fault::SmallMsize);

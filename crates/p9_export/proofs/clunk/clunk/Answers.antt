@@ -1,9 +1,11 @@
 use Rattle.std.proofs.Common.{◌≡◌, None, Some, Ok, inl, refl, sym, ap, ◌∙◌, map}
 use Rattle.p9_export.proofs.Fids.{FidsFit-fid_at, without_fid-none}
+use Rattle.p9_export.specs.Answer.{given}
 use Rattle.p9_fids.specs.Fid.{fid_at}
 use Rattle.p9_export.proofs.clunk.clunk.Goals as goal
 
 pub returns-in_default : goal.returns-in_default
+unfolding given
 returns-in_default g c =
     let none : fid_at c.args.fid c.session.inside.fids ≡ None = sym c.take.ensures.value ∙ c.in_default.is in
     let same = c.take.ensures.after ∙ without_fid-none c.args.fid c.session.inside.fids none in
