@@ -6,11 +6,12 @@ use Rattle.p9_base.specs.declared.fault.Fault.TheVariants.{BadOpenMode, Exclusiv
 use Rattle.p9_base.specs.declared.mode.Kind.{Kind}
 use Rattle.p9_base.specs.declared.mode.Kind.TheVariants.{Directory, File}
 use Rattle.p9_base.specs.declared.node_ref.NodeRef.{NodeRef}
+use Rattle.p9_base.specs.declared.qid.Qid.{Qid}
 use Rattle.p9_tree.specs.Node.{Node, is_dir}
 use Rattle.p9_tree.specs.Server.{Server}
 use Rattle.p9_space.specs.Rights.{may}
 use Rattle.p9_space.specs.Table.{MountRow}
-use Rattle.p9_wire.specs.Message.{Ropen}
+use Rattle.p9_wire.specs.Message.{RMessage, Ropen}
 use Rattle.p9_wire.specs.declared.constants.TheConstants.{IOHDRSZ}
 use Rattle.p9_fids.specs.Fid.{Fid, changed_fid, fid_at, open_count, opened_as}
 use Rattle.p9_export.specs.declared.opening.Opening.{Opening}
@@ -83,3 +84,7 @@ open_answer setting forest taken session now fid bits =
       session = opened_session fid o session;
       reply = Ropen (qid_of (fid_ref setting.table v) (truncated v.user now n o)) (room_of session);
     }))))))))
+
+-- what is told of a file that was opened
+abbrev pub open_reply : Qid × ℕ → RMessage
+open_reply r = Ropen r.0 r.1

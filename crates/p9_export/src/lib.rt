@@ -4,10 +4,12 @@
 
 mod answer;
 mod attach;
+mod create;
 mod end;
 mod event;
 mod export;
 mod frame;
+mod inherit;
 mod message;
 mod open;
 mod opening;
@@ -19,6 +21,7 @@ mod setting;
 #[cfg(test)]
 mod tests;
 mod version;
+mod write;
 
 pub use event::{Event, is_frame};
 pub use export::{Export, OpenError};

@@ -8,10 +8,13 @@ ghost use Rattle.p9_export.specs.End.{FidsFit};
 ghost use Rattle.p9_export.specs.Step.{may_run_out, session_answer};
 
 use crate::attach::attach;
+use crate::create::create;
+use crate::open::open;
 use crate::reply::Reply;
 use crate::session::Session;
 use crate::setting::Setting;
 use crate::version::version;
+use crate::write::write;
 use p9_base::Fault;
 use p9_tree::{Forest, Tree};
 use p9_wire::{RMsg, TMsg};
@@ -49,6 +52,23 @@ pub fn message<T: Tree>(
             Ok(Reply::Message(RMsg::Attach { qid }))
         }
         TMsg::Flush { .. } => Ok(Reply::Message(RMsg::Flush)),
+        TMsg::Open { fid, mode } => {
+            let (qid, iounit) = open(setting, forest, session, taken, now, *fid, *mode)?;
+            Ok(Reply::Message(RMsg::Open { qid, iounit }))
+        }
+        TMsg::Create {
+            fid,
+            name,
+            perm,
+            mode,
+        } => {
+            let (qid, iounit) = create(setting, forest, session, now, *fid, name, *perm, *mode)?;
+            Ok(Reply::Message(RMsg::Create { qid, iounit }))
+        }
+        TMsg::Write { fid, offset, bytes } => {
+            let count = write(setting, forest, session, now, *fid, *offset, bytes)?;
+            Ok(Reply::Message(RMsg::Write { count }))
+        }
         _ => Err(Fault::Malformed),
     }
 }
