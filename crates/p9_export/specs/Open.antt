@@ -1,6 +1,7 @@
 -- The opening of a fid: open(5).
 use Rattle.std.specs.Prelude.{ℕ, ◌-◌, ◌&&◌, ◌||◌, Bool, false, not, nat_lt, List, [], ◌∷◌, Option, Ok, is_none, if◌then◌else◌}
 use Rattle.std.specs.List.{list_any}
+use Rattle.std.specs.Map.{values_of}
 use Rattle.std.specs.Option.{option_map_or}
 use Rattle.p9_base.specs.declared.fault.Fault.TheVariants.{BadOpenMode, ExclusiveUse, FidOpen, IsDirectory, PermissionDenied, PhaseError, UnknownFid}
 use Rattle.p9_base.specs.declared.mode.Kind.{Kind}
@@ -45,7 +46,7 @@ is_exclusive n = is_exclusive_kind n.mode.kind
 
 -- a fid of some session has it open
 abbrev pub is_in_use : List MountRow → NodeRef → List SessionRow → Bool
-is_in_use table at sessions = list_any (λ row. nat_lt 0 (open_count table at row.1.fids)) sessions
+is_in_use table at sessions = list_any (λ session. nat_lt 0 (open_count table at session.fids)) (values_of sessions)
 
 -- each right that the mode asks for, and to remove on close, to change the file's directory
 abbrev pub may_open : List ℕ → List Server → NodeRef → Node → Opening → Bool

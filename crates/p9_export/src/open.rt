@@ -4,7 +4,7 @@ ghost use Rattle.std.specs.Prelude.{◌≡◌, map, false, IfSome, IsSome};
 ghost use Rattle.p9_tree.specs.Forest.{node_of};
 ghost use Rattle.p9_export.specs.Answers.{Answers, replied};
 ghost use Rattle.p9_export.specs.Change.{all_applied};
-ghost use Rattle.p9_export.specs.Open.{is_append_only, is_exclusive, is_in_use, is_taken, may_open, open_answer, open_reply, truncated, truncation};
+ghost use Rattle.p9_export.specs.Open.{is_append_only, is_cut, is_exclusive, is_in_use, is_taken, may_open, open_answer, open_reply, truncated, truncation};
 ghost use Rattle.p9_export.specs.Qid.{qid_of};
 
 use crate::opening::Opening;
@@ -113,7 +113,7 @@ pub fn open<T: Tree>(
     if taken {
         return Err(Fault::ExclusiveUse);
     }
-    let qid = truncate(forest, at, user, now, opening);
+    let qid = truncated_qid(forest, at, user, now, opening);
     session.fids.set_opened(fid, opening.opened());
     Ok((qid, session.room()))
 }
@@ -133,8 +133,15 @@ fn may_open<T: Tree>(
         && (!opening.remove_on_close || may_write_parent(user, forest, at, file))
 }
 
+// Whether the opening truncates the file.
+fn is_cut<A: Allocator>(file: &Node<A>, opening: Opening) -> bool
+    ensures { result ≡ is_cut file.now opening }
+{
+    opening.truncates && !is_append_only(file)
+}
+
 // Cuts the file where the opening truncates it, and answers its qid after that.
-fn truncate<T: Tree>(
+fn truncated_qid<T: Tree>(
     forest: &mut Forest<T>,
     at: NodeRef,
     user: User,
@@ -145,11 +152,24 @@ fn truncate<T: Tree>(
     ensures forest { let old = map T.state forest.old.trees.items in IfSome (node_of at old) (λ n. map T.state forest.new.trees.items ≡ all_applied (truncation user now at n opening) old) }
     ensures qid { IfSome (node_of at (map T.state forest.old.trees.items)) (λ n. result ≡ qid_of at (truncated user now n opening)) }
 {
-    let file = forest.node(at).unwrap();
-    if opening.truncates && !is_append_only(file) {
+    truncate(forest, at, user, now, opening);
+    forest.well_formed();
+    qid_of(at, forest.node(at).unwrap())
+}
+
+// Cuts the file where the opening truncates it.
+fn truncate<T: Tree>(
+    forest: &mut Forest<T>,
+    at: NodeRef,
+    user: User,
+    now: u32,
+    opening: Opening,
+)
+    requires { IsSome (node_of at (map T.state forest.old.trees.items)) }
+    ensures { let old = map T.state forest.old.trees.items in IfSome (node_of at old) (λ n. map T.state forest.new.trees.items ≡ all_applied (truncation user now at n opening) old) }
+{
+    if is_cut(forest.node(at).unwrap(), opening) {
         forest.cut(at, 0);
         forest.bump(at, user, now);
     }
-    forest.well_formed();
-    qid_of(at, forest.node(at).unwrap())
 }
