@@ -1,6 +1,6 @@
-mod Changes
 mod Creates
 mod Fids
+mod Found
 mod Places
 mod Replies
 mod Steps

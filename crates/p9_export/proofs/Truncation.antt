@@ -12,7 +12,7 @@ use Rattle.p9_export.specs.declared.opening.Opening.{Opening}
 use Rattle.p9_export.specs.Change.{all_applied, applied, edited}
 use Rattle.p9_export.specs.Open.{is_cut, truncated, truncation}
 use Rattle.p9_export.specs.Qid.{qid_of}
-use Rattle.p9_export.proofs.Changes.{node_of-changed}
+use Rattle.p9_export.proofs.Found.{node_of-changed}
 
 module _ (user : List ℕ) (now : ℕ) (at : NodeRef) (forest : List Server) (n : Node) (o : Opening) where
   -- where the file is cut, these are the changes

@@ -6,7 +6,7 @@ use Rattle.p9_tree.specs.New.{new_node}
 use Rattle.p9_tree.specs.Node.{Node}
 use Rattle.p9_tree.specs.Server.{added}
 use Rattle.p9_export.specs.Qid.{qid_of}
-use Rattle.p9_export.proofs.Changes.{node_of-added}
+use Rattle.p9_export.proofs.Found.{node_of-added}
 use Rattle.p9_export.proofs.Truncation.{copied-some}
 use Rattle.p9_export.proofs.create.add_to.Goals as goal
 
