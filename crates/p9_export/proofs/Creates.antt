@@ -21,7 +21,7 @@ use Rattle.p9_space.specs.Rights.{may}
 use Rattle.p9_fids.specs.Fid.{Fid}
 use Rattle.p9_export.specs.declared.opening.Opening.{Opening}
 use Rattle.p9_export.specs.State.{Session}
-use Rattle.p9_export.specs.Answer.{Answer}
+use Rattle.p9_export.specs.Answer.{Answer, given, unless}
 use Rattle.p9_export.specs.Answers.{Answers}
 use Rattle.p9_export.specs.Change.{applied, edited}
 use Rattle.p9_export.specs.Create.{create_reply, created, created_in, creation, entered, fault_in}
@@ -88,6 +88,11 @@ module _ (forest : List Server) (v : Fid) (name : List ℕ) (target : NodeRef) (
           empty_dir = λ h. empty;
         }
 
+    -- nothing refuses the creation
+    created_in-done : (session : Session) (fid : ℕ) (o : Opening) → fault_in forest v name target dir ≡ None → created_in forest session now fid v name asked o target ≡ creation forest session now fid v target dir name asked o
+    unfolding given unless
+    created_in-done session fid o none = rw (found, none) refl
+
     -- the fid's trail goes on to it, and is open
     pub creation-did : (answer : Answer) (forest' : List Server) (session session' : Session) (fid : ℕ) (o : Opening) (qid : Qid) (room : ℕ)
         → fault_in forest v name target dir ≡ None
@@ -100,7 +105,7 @@ module _ (forest : List Server) (v : Fid) (name : List ℕ) (target : NodeRef) (
     unfolding applied edited
     creation-did answer forest' session session' fid o qid room none is changed went qid_is room_is =
         let next = next_of target.server forest in
-        let done : created_in forest session now fid v name asked o target ≡ creation forest session now fid v target dir name asked o = rw (found, none) refl in
+        let done = created_in-done session fid o none in
         let did : answer ≡ creation forest session now fid v target dir name asked o = is ∙ done in
         let q : qid ≡ qid_of (beside target next) (created v.user now next dir name asked) = qid_is ∙ ap (qid_of (beside target next)) (node_is next) in
         let r : room ≡ room_of session = room_is ∙ ap room_of went in

@@ -1,8 +1,17 @@
+pub mod Changes
 mod Creates
-mod Fids
+pub mod Done
+pub mod Ends
+pub mod Evolves
+pub mod Fids
 mod Found
+pub mod Members
+pub mod OpenFids
 mod Places
-mod Replies
-mod Steps
+pub mod Plain
+mod Removals
+pub mod Replies
+pub mod Steps
 mod Truncation
+mod Walks
 mod Writes

@@ -16,7 +16,7 @@ use Rattle.p9_fids.specs.declared.opened.OpenMode.TheVariants.{Read}
 use Rattle.p9_fids.specs.Opened.{writes}
 use Rattle.p9_fids.specs.Fid.{Fid, fid_at}
 use Rattle.p9_export.specs.State.{Setting, Session}
-use Rattle.p9_export.specs.Answer.{Answer, Outcome}
+use Rattle.p9_export.specs.Answer.{Answer, Outcome, given, need}
 use Rattle.p9_export.specs.Change.{applied, edited}
 use Rattle.p9_export.specs.Answers.{Answers, replied}
 use Rattle.p9_export.specs.Step.{is_done}
@@ -45,6 +45,7 @@ pub write_answer-done : (setting : Setting) (forest : List Server) (session : Se
     → fid_at fid session.fids ≡ Some v → is_writable v ≡ true → node_of at forest ≡ Some n
     → (length bytes == 0) ≡ false → nat_le (place + length bytes) FILE_MAX ≡ true
     → write_answer setting forest session now fid offset bytes ≡ written session now v at place bytes
+unfolding need given
 write_answer-done setting forest session now fid offset [] v n at place at_is place_is found opens there some fits = let no : true ≡ false = some in cc
 write_answer-done setting forest session now fid offset (b ∷ bs) v n at place at_is place_is found opens there some fits =
     let there' : node_of (fid_ref setting.table v) forest ≡ Some n = rw (← at_is) there in
