@@ -1,15 +1,19 @@
-mod Places
-mod Removals
-mod Walks
-pub mod Members
-pub mod Evolves
 pub mod Changes
-pub mod Fids
-pub mod OpenFids
-pub mod Ends
-pub mod Replies
+mod Creates
 pub mod Done
-pub mod Plain
-pub mod Steps
-pub mod Rows
+pub mod Ends
+pub mod Evolves
+pub mod Fids
+mod Found
 pub mod Kept
+pub mod Members
+pub mod OpenFids
+mod Places
+pub mod Plain
+mod Removals
+pub mod Replies
+pub mod Rows
+pub mod Steps
+mod Truncation
+mod Walks
+mod Writes

@@ -1,16 +1,18 @@
 -- The opening of a fid: open(5).
 use Rattle.std.specs.Prelude.{ℕ, ◌-◌, ◌&&◌, ◌||◌, Bool, false, not, nat_lt, List, [], ◌∷◌, Option, Ok, is_none, if◌then◌else◌}
 use Rattle.std.specs.List.{list_any}
+use Rattle.std.specs.Map.{values_of}
 use Rattle.std.specs.Option.{option_map_or}
 use Rattle.p9_base.specs.declared.fault.Fault.TheVariants.{BadOpenMode, ExclusiveUse, FidOpen, IsDirectory, PermissionDenied, PhaseError, UnknownFid}
 use Rattle.p9_base.specs.declared.mode.Kind.{Kind}
 use Rattle.p9_base.specs.declared.mode.Kind.TheVariants.{Directory, File}
 use Rattle.p9_base.specs.declared.node_ref.NodeRef.{NodeRef}
+use Rattle.p9_base.specs.declared.qid.Qid.{Qid}
 use Rattle.p9_tree.specs.Node.{Node, is_dir}
 use Rattle.p9_tree.specs.Server.{Server}
 use Rattle.p9_space.specs.Rights.{may}
 use Rattle.p9_space.specs.Table.{MountRow}
-use Rattle.p9_wire.specs.Message.{Ropen}
+use Rattle.p9_wire.specs.Message.{RMessage, Ropen}
 use Rattle.p9_wire.specs.declared.constants.TheConstants.{IOHDRSZ}
 use Rattle.p9_fids.specs.Fid.{Fid, changed_fid, fid_at, open_count, opened_as}
 use Rattle.p9_export.specs.declared.opening.Opening.{Opening}
@@ -44,7 +46,7 @@ is_exclusive n = is_exclusive_kind n.mode.kind
 
 -- a fid of some session has it open
 abbrev pub is_in_use : List MountRow → NodeRef → List SessionRow → Bool
-is_in_use table at sessions = list_any (λ row. nat_lt 0 (open_count table at row.1.fids)) sessions
+is_in_use table at sessions = list_any (λ session. nat_lt 0 (open_count table at session.fids)) (values_of sessions)
 
 -- each right that the mode asks for, and to remove on close, to change the file's directory
 abbrev pub may_open : List ℕ → List Server → NodeRef → Node → Opening → Bool
@@ -83,3 +85,7 @@ open_answer setting forest taken session now fid bits =
       session = opened_session fid o session;
       reply = Ropen (qid_of (fid_ref setting.table v) (truncated v.user now n o)) (room_of session);
     }))))))))
+
+-- what is told of a file that was opened
+abbrev pub open_reply : Qid × ℕ → RMessage
+open_reply r = Ropen r.0 r.1

@@ -1,12 +1,12 @@
 -- Writing: write in read(5).
-use Rattle.std.specs.Prelude.{ℕ, ◌+◌, ◌≤◌, Bool, nat_le, List, [], ◌∷◌, Option, Some, None, Ok, length, if◌then◌else◌}
+use Rattle.std.specs.Prelude.{ℕ, ◌+◌, ◌≤◌, Bool, false, nat_le, List, [], ◌∷◌, Ok, length, if◌then◌else◌}
 use Rattle.p9_base.specs.declared.fault.Fault.TheVariants.{FidNotOpen, FileTooLarge, PhaseError, UnknownFid}
 use Rattle.p9_base.specs.declared.node_ref.NodeRef.{NodeRef}
 use Rattle.p9_tree.specs.declared.bytes.TheConstants.{FILE_MAX}
 use Rattle.p9_tree.specs.Node.{Node}
 use Rattle.p9_tree.specs.Server.{Server}
 use Rattle.p9_wire.specs.Message.{Rwrite}
-use Rattle.p9_fids.specs.declared.opened.Opened.{Opened}
+use Rattle.std.specs.Option.{option_map_or}
 use Rattle.p9_fids.specs.Fid.{Fid, fid_at}
 use Rattle.p9_fids.specs.Opened.{writes}
 use Rattle.p9_export.specs.State.{Setting, Session}
@@ -15,10 +15,9 @@ use Rattle.p9_export.specs.Change.{EditNode, Mark, Overwrite}
 use Rattle.p9_export.specs.End.{fid_file, fid_ref}
 use Rattle.p9_export.specs.Open.{is_append_only}
 
--- open for writing, or not
-abbrev pub writable : Option Opened → Option Opened
-writable None = None
-writable (Some o) = if writes o.mode then Some o else None
+-- open for writing
+abbrev pub is_writable : Fid → Bool
+is_writable v = option_map_or (λ o. writes o.mode) v.opened false
 
 -- the offset; the end of an append-only file
 abbrev pub write_place : ℕ → Node → ℕ
@@ -40,6 +39,6 @@ write_file session now v at n offset (b ∷ bs) =
 abbrev pub write_answer : Setting → List Server → Session → ℕ → ℕ → ℕ → List ℕ → Answer
 write_answer setting forest session now fid offset bytes =
     given (fid_at fid session.fids) UnknownFid (λ v.
-    given (writable v.opened) FidNotOpen (λ o.
+    need (is_writable v) FidNotOpen (
     given (fid_file setting.table forest v) PhaseError (λ n.
     write_file session now v (fid_ref setting.table v) n offset bytes)))

@@ -5,10 +5,12 @@
 mod answer;
 mod attach;
 mod clunk;
+mod create;
 mod end;
 mod event;
 mod export;
 mod frame;
+mod inherit;
 mod message;
 mod open;
 mod opening;
@@ -23,6 +25,7 @@ mod stat;
 mod tests;
 mod version;
 mod walk;
+mod write;
 
 pub use event::{Event, is_frame};
 pub use export::{Export, OpenError};

@@ -9,6 +9,8 @@ ghost use Rattle.p9_export.specs.Step.{may_run_out, session_answer};
 
 use crate::attach::attach;
 use crate::clunk::clunk;
+use crate::create::create;
+use crate::open::open;
 use crate::remove::remove;
 use crate::reply::Reply;
 use crate::session::Session;
@@ -16,6 +18,7 @@ use crate::setting::Setting;
 use crate::stat::stat;
 use crate::version::version;
 use crate::walk::walk;
+use crate::write::write;
 use p9_base::Fault;
 use p9_tree::{Forest, Tree};
 use p9_wire::{RMsg, TMsg};
@@ -55,6 +58,23 @@ pub fn message<T: Tree>(
         TMsg::Walk { fid, newfid, names } => {
             let qids = walk(setting, forest, session, *fid, *newfid, names)?;
             Ok(Reply::Message(RMsg::Walk { qids }))
+        }
+        TMsg::Open { fid, mode } => {
+            let (qid, iounit) = open(setting, forest, session, taken, now, *fid, *mode)?;
+            Ok(Reply::Message(RMsg::Open { qid, iounit }))
+        }
+        TMsg::Create {
+            fid,
+            name,
+            perm,
+            mode,
+        } => {
+            let (qid, iounit) = create(setting, forest, session, now, *fid, name, *perm, *mode)?;
+            Ok(Reply::Message(RMsg::Create { qid, iounit }))
+        }
+        TMsg::Write { fid, offset, bytes } => {
+            let count = write(setting, forest, session, now, *fid, *offset, bytes)?;
+            Ok(Reply::Message(RMsg::Write { count }))
         }
         TMsg::Clunk { fid } => {
             clunk(setting, forest, session, now, *fid)?;

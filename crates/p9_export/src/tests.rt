@@ -1,8 +1,11 @@
 //! Versions and attaches, as bytes from outside.
 
+mod create;
+mod open;
 mod remove;
 mod walk;
 mod worlds;
+mod write;
 
 use crate::{Export, OpenError, is_frame};
 use p9_base::User;

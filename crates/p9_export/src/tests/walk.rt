@@ -10,7 +10,7 @@ use std::alloc::Global;
 use std::process::Abort;
 
 // Nodes 1 to 3: /a, /a/b and /a/f.
-fn small() -> [Made; 3] {
+pub fn small() -> [Made; 3] {
     [
         dir(0, "a", "glenda"),
         dir(1, "b", "glenda"),
@@ -19,7 +19,7 @@ fn small() -> [Made; 3] {
 }
 
 // Nodes 1 to 4: /u, /u/n, /x and /x/n.
-fn two_unions() -> [Made; 4] {
+pub fn two_unions() -> [Made; 4] {
     [
         dir(0, "u", "glenda"),
         file(1, "n", b"u"),
@@ -357,7 +357,7 @@ fn walk_again(rt: &impl Abort, alloc: Global, mut export: Export<PlainTree<&Refu
 }
 
 // Sends a frame in session 1, and again where memory was refused, and compares the reply.
-fn exchange_again<T: Tree>(
+pub fn exchange_again<T: Tree>(
     rt: &impl Abort,
     alloc: Global,
     export: &mut Export<T>,

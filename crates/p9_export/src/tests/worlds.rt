@@ -73,6 +73,24 @@ pub fn world<A: Allocator + Copy>(
     nodes: &[Made],
     binds: &[(u64, u64, Order)],
 ) -> Export<PlainTree<A>> {
+    let mut table = MountTable::new(alloc);
+    for (place, bound, order) in binds {
+        assert!(rt;
+            table
+                .bind(node(*place), &[node(*bound)], *order, false)
+                .is_ok()
+        );
+    }
+    serve(rt, alloc, nodes, table)
+}
+
+/// The same by a mount table.
+pub fn serve<A: Allocator + Copy>(
+    rt: &impl Abort,
+    alloc: A,
+    nodes: &[Made],
+    table: MountTable<A>,
+) -> Export<PlainTree<A>> {
     let mut tree = PlainTree::with_root(alloc).expect(rt, "a tree");
     for made in nodes {
         add(rt, &mut tree, made);
@@ -82,14 +100,6 @@ pub fn world<A: Allocator + Copy>(
     let mut users = Vec::new(alloc);
     let glenda = User::new("glenda").expect(rt, "a user");
     assert!(rt; users.push(glenda).is_ok());
-    let mut table = MountTable::new(alloc);
-    for (place, bound, order) in binds {
-        assert!(rt;
-            table
-                .bind(node(*place), &[node(*bound)], *order, false)
-                .is_ok()
-        );
-    }
     Export::new(Forest { trees }, users, table)
 }
 
