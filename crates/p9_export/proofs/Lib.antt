@@ -1,3 +1,4 @@
+mod Listings
 mod Places
 mod Replies
 mod Steps
