@@ -1,4 +1,5 @@
 mod Listings
 mod Places
+mod DirectoryReads
 mod Replies
 mod Steps

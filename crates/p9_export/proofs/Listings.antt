@@ -366,7 +366,7 @@ not_none : {A : Type 0} (x : A) → Some x ≡ None → ⊥
 not_none x e = cc
 
 pair_is : {A B : Type 0} (a a' : A) (b b' : B) → ◌≡◌ {A = Option (A × B)} (Some (a, b)) (Some (a', b')) → (a' ≡ a) × (b' ≡ b)
-pair_is a a' b b' e = (cc, cc)
+pair_is {A} {B} a a' b b' e = let same : ◌≡◌ {A = A × B} (a, b) (a', b') = cc in (ap (λ x. x.0) (sym same), ap (λ x. x.1) (sym same))
 
 -- no entry is empty
 some_bytes : (e : Entry) → 0 < length (entry_bytes e)

@@ -1,6 +1,6 @@
 //! The answer to a read, as read(5).
 
-ghost use Rattle.std.specs.Prelude.{◌≡◌, ◌==◌, ◌||◌, ◌≤◌, ◌<◌, ◌^◌, false, IsSome, length, map, take};
+ghost use Rattle.std.specs.Prelude.{◌≡◌, ◌==◌, ◌||◌, ◌≤◌, ◌<◌, ◌^◌, false, IfOk, IsSome, length, map, take};
 ghost use Rattle.p9_base.specs.declared.fault.Fault.TheVariants.{UnknownFid};
 ghost use Rattle.p9_fids.specs.Fid.{fid_at};
 ghost use Rattle.p9_tree.specs.Bytes.{read_from};
@@ -113,7 +113,8 @@ fn read_dir<T: Tree>(
 ) -> Result<u32, Fault>
     requires there { IsSome (fid_at fid session.old.fids) }
     requires short { length buffer.old < 2 ^ 32 }
-    ensures { let forest = map T.state forest.now.trees.items in Answers (given (fid_at fid session.old.fids) UnknownFid (λ v. read_dir setting.now forest session.old fid v opened offset (length buffer.old))) false forest forest session.old session.new (replied (data_reply buffer.new) result) }
+    ensures size { IfOk result (λ count. count ≤ length buffer.old) }
+    ensures answers { let forest = map T.state forest.now.trees.items in Answers (given (fid_at fid session.old.fids) UnknownFid (λ v. read_dir setting.now forest session.old fid v opened offset (length buffer.old))) false forest forest session.old session.new (replied (data_reply buffer.new) result) }
 {
     if !may_begin(offset, &opened) {
         return Err(Fault::BadDirectoryOffset);
