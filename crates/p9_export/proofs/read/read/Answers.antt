@@ -27,8 +27,8 @@ returns-then-is_dir g c =
     let long : length (take c.min-room.result c.args.buffer.now) ≡ c.min-room.result = length-take-le c.min-room.result c.args.buffer.now fits in
     let same = reads_dir c.args.setting.now forest c.args.session.now c.args.now c.args.fid c.args.offset c.args.count c.in-Some.value.now c.in-Some-readable.opened c.in-Some-node.node.now r (length (take c.min-room.result c.args.buffer.now)) (sym c.is_dir.ensures ∙ c.if-is_dir.true) (long ∙ room_is) in
     let kept = c.read_dir.auto.buffer in
-    let data = data_kept c.read_dir.new.buffer (drop c.min-room.result c.args.buffer.now) c.read_dir.result (subst (λ n. IfOk c.read_dir.result (λ count. count ≤ n)) (sym kept) c.read_dir.ensures.size) in
-    subst (λ reply. Answers _ false forest forest c.args.session.now c.read_dir.new.session reply) (sym data)
+    let front = data_kept c.read_dir.new.buffer (drop c.min-room.result c.args.buffer.now) c.read_dir.result (subst (λ n. IfOk c.read_dir.result (λ count. count ≤ n)) (sym kept) c.read_dir.ensures.size) in
+    subst (λ reply. Answers _ false forest forest c.args.session.now c.read_dir.new.session reply) (sym front)
       (subst (λ (answer : Answer). Answers answer false forest forest c.args.session.now c.read_dir.new.session (replied (data_reply c.read_dir.new.buffer) c.read_dir.result)) (sym same) c.read_dir.ensures.answers)
 
 pub returns-else-is_dir : goal.returns-else-is_dir
