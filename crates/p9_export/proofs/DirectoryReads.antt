@@ -18,7 +18,7 @@ use Rattle.p9_fids.specs.declared.opened.Cursor.{Cursor}
 use Rattle.p9_fids.specs.declared.opened.Opened.{Opened}
 use Rattle.p9_fids.specs.Fid.{Fid, FidRow, changed_fid, fid_at, opened_as}
 use Rattle.p9_export.specs.State.{Setting, Session}
-use Rattle.p9_export.specs.Answer.{Answer, given}
+use Rattle.p9_export.specs.Answer.{Answer, given, need}
 use Rattle.p9_export.specs.Answers.{Answers, changes_of, data_reply, replied}
 use Rattle.p9_export.specs.Change.{EditNode, Touch, applied, edited}
 use Rattle.p9_export.specs.End.{fid_file, fid_ref}
@@ -45,6 +45,7 @@ module _ (setting : Setting) (forest : List Server) (old : Session) (fid : ℕ) 
       → (some_of ≡ [] → left_of forest v.user from members ≡ []) → take size buffer ≡ flat_map entry_bytes some_of → cursor ≡ cursor_after from some_of → size ≤ length buffer
       → fids ≡ changed_fid fid (opened_as (record o { next_offset = offset + size; cursor = cursor })) old.fids
       → Answers (given (fid_at fid old.fids) UnknownFid (λ v. read_dir setting forest old fid v o offset room)) false forest forest old (record { msize = old.msize; fids = fids }) (Ok (Rread (take size buffer)))
+  unfolding given need
   dir_listed there begins members_are from_is room_for bytes last within fids_are =
       without_changes _ forest old (record { msize = old.msize; fids = fids }) (Rread (take size buffer))
         (ap (λ w. given w UnknownFid (λ v. read_dir setting forest old fid v o offset room)) there
@@ -73,6 +74,7 @@ module _ (setting : Setting) (forest : List Server) (session : Session) (now fid
   by_kind dir = if dir then read_dir setting forest session fid v o offset (min count (room_of session)) else read_file session now (fid_ref setting.table v) n offset (min count (room_of session))
 
   reads_by_kind : read_answer setting forest session now fid offset count ≡ by_kind (is_dir n)
+  unfolding given need
   reads_by_kind =
       ap (λ w. given w UnknownFid (λ v. given (readable v.opened) FidNotOpen (λ o. given (fid_file setting.table forest v) PhaseError (λ n. if is_dir n then read_dir setting forest session fid v o offset (min count (room_of session)) else read_file session now (fid_ref setting.table v) n offset (min count (room_of session)))))) r.there
       ∙ ap (λ w. given w FidNotOpen (λ o. given (fid_file setting.table forest v) PhaseError (λ n. if is_dir n then read_dir setting forest session fid v o offset (min count (room_of session)) else read_file session now (fid_ref setting.table v) n offset (min count (room_of session))))) r.open_as
@@ -80,6 +82,7 @@ module _ (setting : Setting) (forest : List Server) (session : Session) (now fid
 
   -- a directory
   pub reads_dir : (room : ℕ) → is_dir n ≡ true → room ≡ min count (room_of session) → read_answer setting forest session now fid offset count ≡ given (fid_at fid session.fids) UnknownFid (λ v. read_dir setting forest session fid v o offset room)
+  unfolding given
   reads_dir room dir room_is =
       reads_by_kind ∙ ap by_kind dir ∙ ap (λ k. read_dir setting forest session fid v o offset k) (sym room_is)
       ∙ sym (ap (λ w. given w UnknownFid (λ v. read_dir setting forest session fid v o offset room)) r.there)

@@ -1,5 +1,5 @@
 -- What a function that answers a request has to do.
-use Rattle.std.specs.Prelude.{◌≡◌, ℕ, ◌+◌, ◌≤◌, ◌⊎◌, Bool, true, List, [], Result, Ok, Err, take, drop}
+use Rattle.std.specs.Prelude.{◌≡◌, ℕ, ◌+◌, ◌≤◌, ◌⊎◌, Bool, true, false, List, [], Result, Ok, Err, take, drop}
 use Rattle.std.specs.Option.{option_map_or}
 use Rattle.p9_base.specs.declared.fault.Fault.{Fault}
 use Rattle.p9_base.specs.declared.fault.Fault.TheVariants.{OutOfMemory, PhaseError}
@@ -72,6 +72,10 @@ abbrev pub request_view : Result TMsg Fault → Result TMessage Fault
 request_view (Ok request) = Ok (t_view request)
 request_view (Err fault) = Err fault
 
+abbrev pub is_error : RMessage → Bool
+is_error (Rerror ename) = true
+is_error other = false
+
 -- a reply that has a spelling, which is no longer than a frame
 pub record ReplyFits (reply : RMessage) : Type 0 where
   pub fits : RFits reply
@@ -81,3 +85,10 @@ pub record ReplyFits (reply : RMessage) : Type 0 where
 abbrev pub answer_among : Setting → List Server → List SessionRow → ℕ → ℕ → TMessage → Answer
 answer_among setting forest sessions name now m =
     option_map_or (λ session. message_answer setting forest sessions session now m) (session_at name sessions) (Err PhaseError)
+
+-- the data of a reply are there
+abbrev pub HasData : ℕ → Result Reply Fault → Type 0
+HasData len (Ok (Message m)) = Unit {0}
+HasData len (Ok (Data count)) = count ≤ len
+HasData len (Ok (StatOf at)) = Unit {0}
+HasData len (Err fault) = Unit {0}

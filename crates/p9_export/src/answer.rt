@@ -3,7 +3,7 @@
 ghost use Rattle.std.specs.Prelude.{◌≡◌, ◌≤◌, IsSome, IfSome, drop, length, map};
 ghost use Rattle.p9_wire.specs.Frame.{msize_max};
 ghost use Rattle.p9_wire.specs.Message.{t_view};
-ghost use Rattle.p9_export.specs.Answers.{AnswersAmong, answer_among, replied, reply_view};
+ghost use Rattle.p9_export.specs.Answers.{AnswersAmong, HasData, answer_among, replied, reply_view};
 ghost use Rattle.p9_export.specs.End.{FidsFit};
 ghost use Rattle.p9_export.specs.State.{session_at};
 ghost use Rattle.p9_export.specs.Step.{finds_taken, may_run_out};
@@ -32,7 +32,9 @@ pub fn answer<T: Tree>(
     requires live { IsSome (session_at name sessions.old.entries) }
     requires fids { IfSome (session_at name sessions.old.entries) (λ session. FidsFit setting.now.table (map T.state forest.old.trees.items) session.fids) }
     requires room { msize_max ≤ length reply.old }
-    ensures { let old = map T.state forest.old.trees.items in let new = map T.state forest.new.trees.items in let answer = answer_among setting.now old sessions.old.entries name now (t_view request.now) in AnswersAmong name answer (may_run_out (t_view request.now) answer) old new sessions.old.entries sessions.new.entries (replied (reply_view new (drop 11 reply.new)) result) }
+    ensures data { HasData (length (drop 11 reply.old)) result }
+    ensures len { length reply.new ≡ length reply.old }
+    ensures answer { let old = map T.state forest.old.trees.items in let new = map T.state forest.new.trees.items in let answer = answer_among setting.now old sessions.old.entries name now (t_view request.now) in AnswersAmong name answer (may_run_out (t_view request.now) answer) old new sessions.old.entries sessions.new.entries (replied (reply_view new (drop 11 reply.new)) result) }
 {
     let session = sessions.get(&name).unwrap();
     let taken = finds_taken(setting, forest, sessions, session, request);

@@ -12,6 +12,7 @@ use std::alloc::Allocator;
 
 /// What the end of a fid does: a file that it holds open with remove-on-close goes, and its
 /// directory is marked. Nothing is tested any more, and it takes no memory.
+#[tactic(auto, unfolding(crate::specs::Change::applied, crate::specs::Change::edited))]
 pub fn end_fid<T: Tree>(
     setting: &Setting<T::Alloc>,
     forest: &mut Forest<T>,
@@ -28,6 +29,7 @@ pub fn end_fid<T: Tree>(
     let Some(file) = forest.node(at) else {
         return;
     };
+    forest.well_formed();
     let parent = file.parent();
     forest.drop_leaf(at);
     mark_parent(forest, at, parent, fid.user, now);
@@ -44,6 +46,7 @@ fn removes_on_close<A: Allocator + Copy>(fid: &Fid<A>) -> bool
 
 /// Marks the directory that a node stands in, by its number at the same server, if it stands in
 /// one.
+#[tactic(auto, unfolding(crate::specs::Change::applied, crate::specs::Change::edited))]
 pub fn mark_parent<T: Tree>(
     forest: &mut Forest<T>,
     at: NodeRef,
@@ -77,6 +80,7 @@ pub fn end_fids<T: Tree>(
     ensures fids { fids.new ≡ [] }
 {
     while let Some(number) = fids.first() {
+        forest.well_formed();
         if let Some(fid) = fids.take(number) {
             end_fid(setting, forest, &fid, now);
         }

@@ -6,7 +6,7 @@ ghost use Rattle.p9_base.specs.Fault.{text_of};
 ghost use Rattle.p9_wire.specs.Message.{Rerror};
 ghost use Rattle.p9_wire.specs.Spelling.{r_spelling};
 ghost use Rattle.p9_export.specs.Step.{request_of, tag_of};
-ghost use Rattle.p9_export.specs.Answers.{ReplyFits, message_of, replied, reply_view, request_view, stat_reply};
+ghost use Rattle.p9_export.specs.Answers.{HasData, ReplyFits, message_of, replied, reply_view, request_view, stat_reply};
 
 use crate::qid::stat_of;
 use crate::reply::Reply;
@@ -59,6 +59,7 @@ pub fn write_answer<T: Tree>(
     out: &mut [u8],
 ) -> usize
     requires reply { ReplyFits (message_of (replied (reply_view (map T.state forest.now.trees.items) (drop 11 out.old)) answered.now)) }
+    requires data { HasData (length (drop 11 out.old)) answered.now }
     requires room { msize_max ≤ length out.old }
     ensures bytes { take result out.new ≡ r_spelling tag (message_of (replied (reply_view (map T.state forest.now.trees.items) (drop 11 out.old)) answered.now)) }
     ensures within { result ≤ length out.old }

@@ -1,9 +1,10 @@
 //! The machine that answers 9P2000 over the trees and the mount table: one state, and one whole
 //! event after another.
-#![tactic(auto)]
+#![tactic(auto, unfolding(crate::specs::Answer::need, crate::specs::Answer::given, crate::specs::Answer::unless))]
 
 mod answer;
 mod attach;
+mod clunk;
 mod end;
 mod event;
 mod export;
@@ -14,13 +15,16 @@ mod open;
 mod opening;
 mod qid;
 mod read;
+mod remove;
 mod reply;
 mod rights;
 mod session;
 mod setting;
+mod stat;
 #[cfg(test)]
 mod tests;
 mod version;
+mod walk;
 
 pub use event::{Event, is_frame};
 pub use export::{Export, OpenError};

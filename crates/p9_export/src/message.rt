@@ -3,15 +3,19 @@
 ghost use Rattle.std.specs.Prelude.{◌≡◌, ◌≤◌, ◌+◌, length, map};
 ghost use Rattle.p9_wire.specs.Frame.{msize_max};
 ghost use Rattle.p9_wire.specs.Message.{t_view};
-ghost use Rattle.p9_export.specs.Answers.{Answers, replied, reply_view};
+ghost use Rattle.p9_export.specs.Answers.{Answers, HasData, replied, reply_view};
 ghost use Rattle.p9_export.specs.End.{FidsFit};
 ghost use Rattle.p9_export.specs.Step.{may_run_out, session_answer};
 
 use crate::attach::attach;
+use crate::clunk::clunk;
+use crate::remove::remove;
 use crate::reply::Reply;
 use crate::session::Session;
 use crate::setting::Setting;
+use crate::stat::stat;
 use crate::version::version;
+use crate::walk::walk;
 use p9_base::Fault;
 use p9_tree::{Forest, Tree};
 use p9_wire::{RMsg, TMsg};
@@ -29,15 +33,14 @@ pub fn message<T: Tree>(
 ) -> Result<Reply, Fault>
     requires fids { FidsFit setting.now.table (map T.state forest.old.trees.items) session.old.fids }
     requires room { msize_max ≤ 11 + length buffer.old }
-    ensures { let old = map T.state forest.old.trees.items in let new = map T.state forest.new.trees.items in let answer = session_answer setting.now old taken session.old now (t_view request.now) in Answers answer (may_run_out (t_view request.now) answer) old new session.old session.new (replied (reply_view new buffer.new) result) }
+    ensures data { HasData (length buffer.old) result }
+    ensures answer { let old = map T.state forest.old.trees.items in let new = map T.state forest.new.trees.items in let answer = session_answer setting.now old taken session.old now (t_view request.now) in Answers answer (may_run_out (t_view request.now) answer) old new session.old session.new (replied (reply_view new buffer.new) result) }
 {
     match request {
         TMsg::Version {
             msize,
             version: dialect,
-        } => Ok(Reply::Message(version(
-            setting, forest, session, now, *msize, dialect,
-        )?)),
+        } => Ok(Reply::Message(version(setting, forest, session, now, *msize, dialect)?)),
         TMsg::Auth { .. } => Err(Fault::NoAuthentication),
         TMsg::Attach {
             fid,
@@ -49,6 +52,16 @@ pub fn message<T: Tree>(
             Ok(Reply::Message(RMsg::Attach { qid }))
         }
         TMsg::Flush { .. } => Ok(Reply::Message(RMsg::Flush)),
+        TMsg::Walk { fid, newfid, names } => {
+            let qids = walk(setting, forest, session, *fid, *newfid, names)?;
+            Ok(Reply::Message(RMsg::Walk { qids }))
+        }
+        TMsg::Clunk { fid } => {
+            clunk(setting, forest, session, now, *fid)?;
+            Ok(Reply::Message(RMsg::Clunk))
+        }
+        TMsg::Remove { fid } => Ok(Reply::Message(remove(setting, forest, session, now, *fid)?)),
+        TMsg::Stat { fid } => Ok(Reply::StatOf(stat(setting, forest, session, *fid)?)),
         _ => Err(Fault::Malformed),
     }
 }

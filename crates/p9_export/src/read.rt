@@ -40,7 +40,8 @@ pub fn read<T: Tree>(
     buffer: &mut [u8],
 ) -> Result<u32, Fault>
     requires { room_of session.old ≤ length buffer.old }
-    ensures { let old = map T.state forest.old.trees.items in let new = map T.state forest.new.trees.items in Answers (read_answer setting.now old session.old now fid offset count) false old new session.old session.new (replied (data_reply buffer.new) result) }
+    ensures size { IfOk result (λ count. count ≤ length buffer.old) }
+    ensures answer { let old = map T.state forest.old.trees.items in let new = map T.state forest.new.trees.items in Answers (read_answer setting.now old session.old now fid offset count) false old new session.old session.new (replied (data_reply buffer.new) result) }
 {
     let Some(value) = session.fids.get(fid) else {
         return Err(Fault::UnknownFid);
@@ -114,7 +115,7 @@ fn read_dir<T: Tree>(
     requires there { IsSome (fid_at fid session.old.fids) }
     requires short { length buffer.old < 2 ^ 32 }
     ensures size { IfOk result (λ count. count ≤ length buffer.old) }
-    ensures answers { let forest = map T.state forest.now.trees.items in Answers (given (fid_at fid session.old.fids) UnknownFid (λ v. read_dir setting.now forest session.old fid v opened offset (length buffer.old))) false forest forest session.old session.new (replied (data_reply buffer.new) result) }
+    ensures answer { let forest = map T.state forest.now.trees.items in Answers (given (fid_at fid session.old.fids) UnknownFid (λ v. read_dir setting.now forest session.old fid v opened offset (length buffer.old))) false forest forest session.old session.new (replied (data_reply buffer.new) result) }
 {
     if !may_begin(offset, &opened) {
         return Err(Fault::BadDirectoryOffset);

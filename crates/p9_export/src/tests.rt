@@ -1,5 +1,9 @@
 //! Versions and attaches, as bytes from outside.
 
+mod remove;
+mod walk;
+mod worlds;
+
 use crate::{Export, OpenError, is_frame};
 use p9_base::User;
 use p9_refusing::{Refusing, refuse_each};

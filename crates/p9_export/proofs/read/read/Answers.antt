@@ -13,8 +13,8 @@ use Rattle.p9_export.specs.Read.{readable}
 use Rattle.p9_export.proofs.DirectoryReads.{IsReadable, data_kept, reads_dir, reads_file}
 use Rattle.p9_export.proofs.read.read.Goals as goal
 
-pub returns-then-is_dir : goal.returns-then-is_dir
-returns-then-is_dir g c =
+pub returns-then-is_dir-clause-answer : goal.returns-then-is_dir-clause-answer
+returns-then-is_dir-clause-answer g c =
     let forest = map g.T.Tree.state c.args.forest.now.trees.items in
     let r : IsReadable c.args.setting.now forest c.args.session.now c.args.fid c.in-Some.value.now c.in-Some-readable.opened c.in-Some-node.node.now = record {
       there = sym (ap (λ s. fid_at c.args.fid s.fids) c.session.view_is) ∙ sym c.in-Some.ensures;
@@ -29,10 +29,10 @@ returns-then-is_dir g c =
     let kept = c.read_dir.auto.buffer in
     let front = data_kept c.read_dir.new.buffer (drop c.min-room.result c.args.buffer.now) c.read_dir.result (subst (λ n. IfOk c.read_dir.result (λ count. count ≤ n)) (sym kept) c.read_dir.ensures.size) in
     subst (λ reply. Answers _ false forest forest c.args.session.now c.read_dir.new.session reply) (sym front)
-      (subst (λ (answer : Answer). Answers answer false forest forest c.args.session.now c.read_dir.new.session (replied (data_reply c.read_dir.new.buffer) c.read_dir.result)) (sym same) c.read_dir.ensures.answers)
+      (subst (λ (answer : Answer). Answers answer false forest forest c.args.session.now c.read_dir.new.session (replied (data_reply c.read_dir.new.buffer) c.read_dir.result)) (sym same) c.read_dir.ensures.answer)
 
-pub returns-else-is_dir : goal.returns-else-is_dir
-returns-else-is_dir g c =
+pub returns-else-is_dir-clause-answer : goal.returns-else-is_dir-clause-answer
+returns-else-is_dir-clause-answer g c =
     let forest = map g.T.Tree.state c.args.forest.now.trees.items in
     let r : IsReadable c.args.setting.now forest c.args.session.now c.args.fid c.in-Some.value.now c.in-Some-readable.opened c.in-Some-node.node.now = record {
       there = sym (ap (λ s. fid_at c.args.fid s.fids) c.session.view_is) ∙ sym c.in-Some.ensures;

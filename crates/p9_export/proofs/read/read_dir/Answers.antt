@@ -7,8 +7,8 @@ use Rattle.p9_export.specs.State.{Session}
 use Rattle.p9_export.proofs.DirectoryReads.{dir_listed}
 use Rattle.p9_export.proofs.read.read_dir.Goals as goal
 
-pub returns-clause-answers : goal.returns-clause-answers
-returns-clause-answers g c =
+pub returns-clause-answer : goal.returns-clause-answer
+returns-clause-answer g c =
     let v : Fid = record { user = c.value.inside.user; trail = c.value.inside.trail; opened = c.value.inside.opened } in
     let there : fid_at c.args.fid c.session.inside.fids ≡ Some v = sym c.get.ensures ∙ ap option_copied c.unwrap-value.ensures ∙ ap Some (sym c.value.view_is) in
     let within = c.in_ok-given.ensures.size in
