@@ -1,11 +1,13 @@
 pub mod Changes
 mod Creates
+mod DirectoryReads
 pub mod Done
 pub mod Ends
 pub mod Evolves
 pub mod Fids
 mod Found
 pub mod Kept
+mod Listings
 pub mod Members
 pub mod OpenFids
 mod Places

@@ -17,6 +17,9 @@ pub record Entry : Type 0 where
   pub member : NodeRef
   pub node : Node
 
+abbrev pub entry_at : ℕ → NodeRef → Node → Entry
+entry_at position member n = record { position = position; member = member; node = n }
+
 -- the nodes of a directory, by rising number
 abbrev pub children_of : NodeRef → List Server → List Node
 children_of dir forest = filter (is_in dir.number) (server_at dir.server forest).nodes
@@ -28,7 +31,7 @@ module _ (forest : List Server) (user : List ℕ) where
 
   abbrev pub entries_of : ℕ → Member → List Entry
   entries_of position m =
-      if is_listed position m then map (λ n. record { position = position; member = m.node; node = n }) (children_of m.node forest)
+      if is_listed position m then map (entry_at position m.node) (children_of m.node forest)
       else []
 
   -- the entries of the members from a position on, in order of member, then number
@@ -47,3 +50,11 @@ is_behind cursor e = option_map_or (λ c. nat_lt c.member e.position || (c.membe
 -- the entries that are still to be given
 abbrev pub listing_behind : Option Cursor → List MountRow → List Server → List ℕ → NodeRef → List Entry
 listing_behind cursor table forest user place = filter (is_behind cursor) (listing table forest user place)
+
+-- the same of these members
+abbrev pub left_of : List Server → List ℕ → Option Cursor → List Member → List Entry
+left_of forest user cursor members = filter (is_behind cursor) (entries_from forest user 0 members)
+
+-- where the entry stands
+abbrev pub cursor_of : Entry → Cursor
+cursor_of e = record { member = e.position; number = e.node.number }

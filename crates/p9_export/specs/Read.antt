@@ -19,7 +19,7 @@ use Rattle.p9_export.specs.State.{Setting, Session}
 use Rattle.p9_export.specs.Answer.{Answer, given, need}
 use Rattle.p9_export.specs.Change.{EditNode, Touch}
 use Rattle.p9_export.specs.End.{fid_file, fid_ref}
-use Rattle.p9_export.specs.Listing.{Entry, listing_behind}
+use Rattle.p9_export.specs.Listing.{Entry, cursor_of, listing_behind}
 use Rattle.p9_export.specs.Open.{room_of}
 use Rattle.p9_export.specs.Qid.{stat_of}
 
@@ -33,7 +33,7 @@ read_file session now at n offset room =
 -- A directory.
 
 -- an entry is the node's own stat, not that of what is mounted on it
-abbrev pub entry_bytes : Entry → List ℕ
+unfoldable pub entry_bytes : Entry → List ℕ
 entry_bytes e = stat_bytes (stat_of (beside e.member e.node.number) e.node)
 
 -- as many whole entries from the front as have room
@@ -46,7 +46,11 @@ fitting room (e ∷ es) =
 -- the last entry that was given
 abbrev pub cursor_after : Option Cursor → List Entry → Option Cursor
 cursor_after cursor [] = cursor
-cursor_after cursor (e ∷ es) = cursor_after (Some (record { member = e.position; number = e.node.number })) es
+cursor_after cursor (e ∷ es) = cursor_after (Some (cursor_of e)) es
+
+-- where the next read goes on behind an entry, and how many bytes that is
+abbrev pub end_of : Entry → Cursor × ℕ
+end_of e = (cursor_of e, length (entry_bytes e))
 
 -- offset 0 begins anew
 abbrev pub cursor_at : ℕ → Opened → Option Cursor

@@ -65,6 +65,21 @@ fn add<T: Tree>(rt: &impl Abort, tree: &mut T, made: &Made) {
     assert!(rt; tree.add(made.parent, &new).is_ok());
 }
 
+/// One server, of a root and these nodes, which have the numbers from 1 on.
+pub fn forest_of<A: Allocator + Copy>(
+    rt: &impl Abort,
+    alloc: A,
+    nodes: &[Made],
+) -> Forest<PlainTree<A>> {
+    let mut tree = PlainTree::with_root(alloc).expect(rt, "a tree");
+    for made in nodes {
+        add(rt, &mut tree, made);
+    }
+    let mut trees = Vec::new(alloc);
+    assert!(rt; trees.push(tree).is_ok());
+    Forest { trees }
+}
+
 /// An exporter to glenda of one server, of a root and these nodes, which have the numbers from 1 on,
 /// where the binds stand: each a place, and the node that is bound there.
 pub fn world<A: Allocator + Copy>(
@@ -91,16 +106,12 @@ pub fn serve<A: Allocator + Copy>(
     nodes: &[Made],
     table: MountTable<A>,
 ) -> Export<PlainTree<A>> {
-    let mut tree = PlainTree::with_root(alloc).expect(rt, "a tree");
-    for made in nodes {
-        add(rt, &mut tree, made);
-    }
-    let mut trees = Vec::new(alloc);
-    assert!(rt; trees.push(tree).is_ok());
+    let forest = forest_of(rt, alloc, nodes);
     let mut users = Vec::new(alloc);
     let glenda = User::new("glenda").expect(rt, "a user");
     assert!(rt; users.push(glenda).is_ok());
-    Export::new(Forest { trees }, users, table)
+    assert!(rt; is_below(&forest, &table));
+    Export::new(forest, users, table)
 }
 
 /// Session 1, with its version, and glenda's fid 0 at the root.
