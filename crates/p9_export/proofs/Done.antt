@@ -1,6 +1,7 @@
 -- What holds of each outcome of a chain of tests.
 use Rattle.std.proofs.Common.{◌≡◌, Bool, true, false, Option, Some, None, Result, Ok, Err, refl, subst}
 use Rattle.p9_base.specs.declared.fault.Fault.{Fault}
+use Rattle.p9_space.specs.Walk.{and_then}
 use Rattle.p9_export.specs.Answer.{Answer, Outcome, given, need, unless}
 
 unfoldable pub OnDone : (Outcome → Type 0) → Answer → Type 0
@@ -34,3 +35,8 @@ pub done-unless : (P : Outcome → Type 0) (test : Option Fault) (rest : Answer)
 unfolding OnDone unless
 done-unless P None rest holds = holds refl
 done-unless P (Some fault) rest holds = tt
+
+pub done-then : {X : Type 0} (P : Outcome → Type 0) (first : Result X Fault) (next : X → Answer) → ((x : X) → first ≡ Ok x → OnDone P (next x)) → OnDone P (and_then first next)
+unfolding OnDone
+done-then P (Ok x) next holds = holds x refl
+done-then P (Err fault) next holds = tt

@@ -54,7 +54,7 @@ evolves-tree forest server change evolved = record {
 
 -- Look-ups in a forest that evolved.
 
-server_well : (forest : List Server) (k : ℕ) (n : Node) → IsForest forest → IsMember n (server_at k forest).nodes → WellFormed (server_at k forest)
+pub server_well : (forest : List Server) (k : ℕ) (n : Node) → IsForest forest → IsMember n (server_at k forest).nodes → WellFormed (server_at k forest)
 server_well forest k n sound there = go (slice_get forest k) refl
   where
     go : (o : Option Server) → slice_get forest k ≡ o → WellFormed (server_at k forest)

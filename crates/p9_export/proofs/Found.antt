@@ -31,7 +31,7 @@ server_there at forest n found = go (slice_get forest at.server) refl
     go (Some s) e = (s, e)
 
 -- the server of a node after a change of it
-server_at-tree_changed_at : (at : NodeRef) (change : Server → Server) (forest : List Server) (n : Node) → node_of at forest ≡ Some n → server_at at.server (tree_changed_at at.server change forest) ≡ change (server_at at.server forest)
+pub server_at-tree_changed_at : (at : NodeRef) (change : Server → Server) (forest : List Server) (n : Node) → node_of at forest ≡ Some n → server_at at.server (tree_changed_at at.server change forest) ≡ change (server_at at.server forest)
 server_at-tree_changed_at at change forest n found =
     let there = server_there at forest n found in
     server_at-set at.server forest there.0 (change (server_at at.server forest)) there.1

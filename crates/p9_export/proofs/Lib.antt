@@ -7,6 +7,7 @@ pub mod Evolves
 pub mod Fids
 mod Found
 pub mod Kept
+pub mod KeptFiles
 mod Listings
 pub mod Members
 pub mod OpenFids

@@ -6,16 +6,18 @@ use Rattle.p9_base.specs.declared.qid.Qid.{Qid}
 use Rattle.p9_tree.specs.Node.{Node}
 use Rattle.p9_tree.specs.Server.{Server}
 use Rattle.p9_wire.specs.Message.{TMessage, Tversion, Tauth, Tattach, Tflush, Twalk, Topen, Tcreate, Tread, Twrite, Tclunk, Tremove, Tstat, Twstat}
+use Rattle.p9_space.specs.Table.{members_of}
+use Rattle.p9_space.specs.Trail.{here}
 use Rattle.p9_fids.specs.Fid.{Fid}
 use Rattle.p9_export.specs.State.{Setting, Session}
 use Rattle.p9_export.specs.Answer.{Answer, Outcome}
 use Rattle.p9_export.specs.Answers.{is_error}
 use Rattle.p9_export.specs.Attach.{attach_answer}
 use Rattle.p9_export.specs.Walk.{ended_walk, walk_answer}
-use Rattle.p9_export.specs.Create.{create_answer}
+use Rattle.p9_export.specs.Create.{create_answer, created_in, target_among}
 use Rattle.p9_export.specs.Write.{write_answer, write_file}
 use Rattle.p9_export.specs.Step.{may_run_out, session_answer}
-use Rattle.p9_export.proofs.Done.{OnDone, done-err, done-given, done-is, done-need, done-ok, done-unless}
+use Rattle.p9_export.proofs.Done.{OnDone, done-err, done-given, done-is, done-need, done-ok, done-then, done-unless}
 
 abbrev pub IsPlain : Outcome → Type 0
 IsPlain outcome = is_error outcome.reply ≡ false
@@ -36,8 +38,8 @@ plain-walk setting forest session fid newfid names =
 plain-create : (setting : Setting) (forest : List Server) (session : Session) (now fid : ℕ) (name : List ℕ) (perm bits : ℕ) → OnDone IsPlain (create_answer setting forest session now fid name perm bits)
 plain-create setting forest session now fid name perm bits =
     done-given IsPlain _ _ _ (λ v e1. done-need IsPlain _ _ _ (λ e2. done-need IsPlain _ _ _ (λ e3. done-given IsPlain _ _ _ (λ o e4. done-given IsPlain _ _ _ (λ asked e5.
-    done-need IsPlain _ _ _ (λ e6. done-need IsPlain _ _ _ (λ e7. done-need IsPlain _ _ _ (λ e8. done-given IsPlain _ _ _ (λ target e9.
-    done-given IsPlain _ _ _ (λ dir e10. done-need IsPlain _ _ _ (λ e11. done-need IsPlain _ _ _ (λ e12. done-need IsPlain _ _ _ (λ e13. done-need IsPlain _ _ _ (λ e14. done-need IsPlain _ _ _ (λ e15. done-ok IsPlain _ refl)))))))))))))))
+    done-need IsPlain _ _ _ (λ e6. done-then IsPlain (target_among forest (members_of (here v.trail) setting.table)) (created_in forest session now fid v name asked o) (λ target e7.
+    done-given IsPlain _ _ _ (λ dir e8. done-unless IsPlain _ _ (λ e9. done-ok IsPlain _ refl)))))))))
 
 plain-write_file : (session : Session) (now : ℕ) (v : Fid) (at : NodeRef) (n : Node) (offset : ℕ) (bytes : List ℕ) → OnDone IsPlain (write_file session now v at n offset bytes)
 plain-write_file session now v at n offset [] = done-ok IsPlain _ refl
@@ -45,7 +47,7 @@ plain-write_file session now v at n offset (b ∷ bs) = done-need IsPlain _ _ _ 
 
 plain-write : (setting : Setting) (forest : List Server) (session : Session) (now fid offset : ℕ) (bytes : List ℕ) → OnDone IsPlain (write_answer setting forest session now fid offset bytes)
 plain-write setting forest session now fid offset bytes =
-    done-given IsPlain _ _ _ (λ v e1. done-given IsPlain _ _ _ (λ o e2. done-given IsPlain _ _ _ (λ n e3. plain-write_file session now v _ n offset bytes)))
+    done-given IsPlain _ _ _ (λ v e1. done-need IsPlain _ _ _ (λ e2. done-given IsPlain _ _ _ (λ n e3. plain-write_file session now v _ n offset bytes)))
 
 -- where memory may be refused
 abbrev pub IsPlainIf : Bool → Outcome → Type 0
