@@ -110,5 +110,5 @@ module _ (forest : List Server) (v : Fid) (name : List ℕ) (target : NodeRef) (
         let q : qid ≡ qid_of (beside target next) (created v.user now next dir name asked) = qid_is ∙ ap (qid_of (beside target next)) (node_is next) in
         let r : room ≡ room_of session = room_is ∙ ap room_of went in
         let f : forest' ≡ forest_changed_at target (marked v.user now) (tree_changed_at target.server (λ s. added s (created v.user now next dir name asked)) forest) =
-            changed ∙ ap (λ (n : Node). forest_changed_at target (marked n.muid n.mtime) (tree_changed_at target.server (λ s. added s n) forest)) (node_is next) in
+        changed ∙ ap (λ (n : Node). forest_changed_at target (marked n.muid n.mtime) (tree_changed_at target.server (λ s. added s n) forest)) (node_is next) in
         rw did (rw (q, r, went) refl, f)

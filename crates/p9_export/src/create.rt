@@ -222,11 +222,7 @@ fn trail_to<A: Allocator + Copy>(trail: &Trail<A>, place: NodeRef) -> Result<Tra
 }
 
 // Makes the node in the directory and marks that, and answers the node's qid.
-fn add_to<T: Tree>(
-    forest: &mut Forest<T>,
-    target: NodeRef,
-    new: &New<'_>,
-) -> Result<Qid, NoMemory>
+fn add_to<T: Tree>(forest: &mut Forest<T>, target: NodeRef, new: &New<'_>) -> Result<Qid, NoMemory>
     requires { let server = server_at target.server (map T.state forest.old.trees.items) in CanAdd server target.number (new_node server.next target.number new.now) }
     ensures ok { OnOk result (map T.state forest.new.trees.items ≡ forest_changed_at target (marked new.now.muid new.now.mtime) (tree_changed_at target.server (λ s. added s (new_node s.next target.number new.now)) (map T.state forest.old.trees.items))) }
     ensures qid { let next = next_of target.server (map T.state forest.old.trees.items) in IfOk result (λ qid. qid ≡ qid_of (beside target next) (new_node next target.number new.now)) }
@@ -240,12 +236,7 @@ fn add_to<T: Tree>(
 }
 
 // Takes the fid to the end of the trail, where it is open.
-fn enter<A: Allocator + Copy>(
-    session: &mut Session<A>,
-    fid: u32,
-    trail: Trail<A>,
-    opening: Opening,
-)
+fn enter<A: Allocator + Copy>(session: &mut Session<A>, fid: u32, trail: Trail<A>, opening: Opening)
     requires { IsSome (fid_at fid session.old.fids) }
     ensures { session.new ≡ entered fid trail opening session.old }
 {

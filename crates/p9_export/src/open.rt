@@ -158,13 +158,7 @@ fn truncated_qid<T: Tree>(
 }
 
 // Cuts the file where the opening truncates it.
-fn truncate<T: Tree>(
-    forest: &mut Forest<T>,
-    at: NodeRef,
-    user: User,
-    now: u32,
-    opening: Opening,
-)
+fn truncate<T: Tree>(forest: &mut Forest<T>, at: NodeRef, user: User, now: u32, opening: Opening)
     requires { IsSome (node_of at (map T.state forest.old.trees.items)) }
     ensures { let old = map T.state forest.old.trees.items in IfSome (node_of at old) (λ n. map T.state forest.new.trees.items ≡ all_applied (truncation user now at n opening) old) }
 {

@@ -39,4 +39,4 @@ returns g c =
     let entering : c.enter.new.session ≡ entered c.args.fid c.in_ok-trail.trail c.args.opening c.args.session.now = c.enter.ensures in
     let went : c.enter.new.session ≡ entered c.args.fid (v.trail ++ beside c.args.target next ∷ []) c.args.opening c.args.session.now = entering ∙ ap (λ t. entered c.args.fid t c.args.opening c.args.session.now) trail in
     if_some _ v _ found
-        (creation-did forest v c.args.name c.args.target dir c.args.now c.args.asked c.new_in-new.result made (sym c.in-Some.ensures) _ (map g.T.Tree.state c.add_to.new.forest.trees.items) c.args.session.now c.enter.new.session c.args.fid c.args.opening c.in_ok-qid.qid c.room.result none refl c.in_ok-qid.ensures.ok went c.in_ok-qid.ensures.qid c.room.ensures)
+    (creation-did forest v c.args.name c.args.target dir c.args.now c.args.asked c.new_in-new.result made (sym c.in-Some.ensures) _ (map g.T.Tree.state c.add_to.new.forest.trees.items) c.args.session.now c.enter.new.session c.args.fid c.args.opening c.in_ok-qid.qid c.room.result none refl c.in_ok-qid.ensures.ok went c.in_ok-qid.ensures.qid c.room.ensures)

@@ -32,7 +32,7 @@ returns-clause-last g c =
     let left = left_of (map g.T.Tree.state c.args.forest.now.trees.items) c.args.user.now c.args.cursor c.args.members.now in
     let e : Entry = record { position = c.entry.inside.position; member = c.entry.inside.member; node = c.entry.inside.node.now } in
     let first : slice_get left 0 ≡ Some e = sym c.in_ok-entry.ensures.first ∙ ap Some (sym c.entry.view_is) in
-    let size = c.write_stat-size.ensures.len ∙ ap stat_len c.stat_of.ensures in
+    let size = c.write_stat-size.ensures.len ∙ ap stat_len c.stat_of.ensures.value in
     let same : c.stat_size.result ≡ c.write_stat-size.result = c.stat_size.ensures.size ∙ sym size in
     gives_end (length c.args.buffer.now) left e c.number.result c.write_stat-size.result first c.number.ensures size (omega (arith, same, c.if-stat_size-buffer.false))
 
@@ -41,7 +41,7 @@ returns-clause-bytes g c =
     let left = left_of (map g.T.Tree.state c.args.forest.now.trees.items) c.args.user.now c.args.cursor c.args.members.now in
     let e : Entry = record { position = c.entry.inside.position; member = c.entry.inside.member; node = c.entry.inside.node.now } in
     let first : slice_get left 0 ≡ Some e = sym c.in_ok-entry.ensures.first ∙ ap Some (sym c.entry.view_is) in
-    let size = c.write_stat-size.ensures.len ∙ ap stat_len c.stat_of.ensures in
+    let size = c.write_stat-size.ensures.len ∙ ap stat_len c.stat_of.ensures.value in
     let same : c.stat_size.result ≡ c.write_stat-size.result = c.stat_size.ensures.size ∙ sym size in
     gives_bytes (length c.args.buffer.now) left e c.number.result c.write_stat-size.result first c.number.ensures size c.args.buffer.now c.write_stat-size.new.out (omega (arith, same, c.if-stat_size-buffer.false))
-      (c.write_stat-size.ensures.bytes.bytes ∙ ap (λ s. stat_bytes s ++ drop c.write_stat-size.result c.args.buffer.now) c.stat_of.ensures)
+      (c.write_stat-size.ensures.bytes.bytes ∙ ap (λ s. stat_bytes s ++ drop c.write_stat-size.result c.args.buffer.now) c.stat_of.ensures.value)
