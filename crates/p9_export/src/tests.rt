@@ -1,5 +1,6 @@
 //! Versions and attaches, as bytes from outside.
 
+mod read;
 mod remove;
 mod walk;
 mod worlds;

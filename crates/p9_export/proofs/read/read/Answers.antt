@@ -9,7 +9,7 @@ use Rattle.p9_fids.specs.Fid.{Fid, fid_at}
 use Rattle.p9_export.specs.Answer.{Answer}
 use Rattle.p9_export.specs.Answers.{Answers, data_reply, replied}
 use Rattle.p9_export.specs.Open.{room_of}
-use Rattle.p9_export.specs.Read.{readable}
+use Rattle.p9_export.specs.Read.{read_answer, readable}
 use Rattle.p9_export.proofs.DirectoryReads.{IsReadable, data_kept, reads_dir, reads_file}
 use Rattle.p9_export.proofs.read.read.Goals as goal
 
@@ -28,7 +28,7 @@ returns-then-is_dir-clause-answer g c =
     let same = reads_dir c.args.setting.now forest c.args.session.now c.args.now c.args.fid c.args.offset c.args.count c.in-Some.value.now c.in-Some-readable.opened c.in-Some-node.node.now r (length (take c.min-room.result c.args.buffer.now)) (sym c.is_dir.ensures ∙ c.if-is_dir.true) (long ∙ room_is) in
     let kept = c.read_dir.auto.buffer in
     let front = data_kept c.read_dir.new.buffer (drop c.min-room.result c.args.buffer.now) c.read_dir.result (subst (λ n. IfOk c.read_dir.result (λ count. count ≤ n)) (sym kept) c.read_dir.ensures.size) in
-    subst (λ reply. Answers _ false forest forest c.args.session.now c.read_dir.new.session reply) (sym front)
+    subst (λ reply. Answers (read_answer c.args.setting.now forest c.args.session.now c.args.now c.args.fid c.args.offset c.args.count) false forest forest c.args.session.now c.read_dir.new.session reply) (sym front)
       (subst (λ (answer : Answer). Answers answer false forest forest c.args.session.now c.read_dir.new.session (replied (data_reply c.read_dir.new.buffer) c.read_dir.result)) (sym same) c.read_dir.ensures.answer)
 
 pub returns-else-is_dir-clause-answer : goal.returns-else-is_dir-clause-answer
