@@ -48,15 +48,15 @@ module _ (setting : Setting) (forest : List Server) (old : Session) (fid : ℕ) 
   unfolding given need
   dir_listed there begins members_are from_is room_for bytes last within fids_are =
       without_changes _ forest old (record { msize = old.msize; fids = fids }) (Rread (take size buffer))
-        (ap (λ w. given w UnknownFid (λ v. read_dir setting forest old fid v o offset room)) there
-        ∙ ap (λ b. cond b (given_of old fid o offset (cursor_at offset o) (left_of forest v.user (cursor_at offset o) (members_of (here v.trail) setting.table)) (fitting room (left_of forest v.user (cursor_at offset o) (members_of (here v.trail) setting.table)))) (Err BadDirectoryOffset)) begins
-        ∙ ap (λ ms. given_of old fid o offset (cursor_at offset o) (left_of forest v.user (cursor_at offset o) ms) (fitting room (left_of forest v.user (cursor_at offset o) ms))) (sym members_are)
-        ∙ ap (λ c. given_of old fid o offset c (left_of forest v.user c members) (fitting room (left_of forest v.user c members))) (sym from_is)
-        ∙ given_of-listed old fid o offset from (left_of forest v.user from members) some_of room_for
-        ∙ ap (λ n. Ok (record { changes = []; session = record { msize = old.msize; fids = changed_fid fid (opened_as (record o { next_offset = offset + n; cursor = cursor_after from some_of })) old.fids }; reply = Rread (flat_map entry_bytes some_of) })) (sym (sym (length-take-le size buffer within) ∙ ap length bytes))
-        ∙ ap (λ c. Ok (record { changes = []; session = record { msize = old.msize; fids = changed_fid fid (opened_as (record o { next_offset = offset + size; cursor = c })) old.fids }; reply = Rread (flat_map entry_bytes some_of) })) (sym last)
-        ∙ ap (λ fs. Ok (record { changes = []; session = record { msize = old.msize; fids = fs }; reply = Rread (flat_map entry_bytes some_of) })) (sym fids_are)
-        ∙ ap (λ bs. Ok (record { changes = []; session = record { msize = old.msize; fids = fids }; reply = Rread bs })) (sym bytes))
+      (ap (λ w. given w UnknownFid (λ v. read_dir setting forest old fid v o offset room)) there
+      ∙ ap (λ b. cond b (given_of old fid o offset (cursor_at offset o) (left_of forest v.user (cursor_at offset o) (members_of (here v.trail) setting.table)) (fitting room (left_of forest v.user (cursor_at offset o) (members_of (here v.trail) setting.table)))) (Err BadDirectoryOffset)) begins
+      ∙ ap (λ ms. given_of old fid o offset (cursor_at offset o) (left_of forest v.user (cursor_at offset o) ms) (fitting room (left_of forest v.user (cursor_at offset o) ms))) (sym members_are)
+      ∙ ap (λ c. given_of old fid o offset c (left_of forest v.user c members) (fitting room (left_of forest v.user c members))) (sym from_is)
+      ∙ given_of-listed old fid o offset from (left_of forest v.user from members) some_of room_for
+      ∙ ap (λ n. Ok (record { changes = []; session = record { msize = old.msize; fids = changed_fid fid (opened_as (record o { next_offset = offset + n; cursor = cursor_after from some_of })) old.fids }; reply = Rread (flat_map entry_bytes some_of) })) (sym (sym (length-take-le size buffer within) ∙ ap length bytes))
+      ∙ ap (λ c. Ok (record { changes = []; session = record { msize = old.msize; fids = changed_fid fid (opened_as (record o { next_offset = offset + size; cursor = c })) old.fids }; reply = Rread (flat_map entry_bytes some_of) })) (sym last)
+      ∙ ap (λ fs. Ok (record { changes = []; session = record { msize = old.msize; fids = fs }; reply = Rread (flat_map entry_bytes some_of) })) (sym fids_are)
+      ∙ ap (λ bs. Ok (record { changes = []; session = record { msize = old.msize; fids = fids }; reply = Rread bs })) (sym bytes))
 
 -- The data of a read stand at the front of the buffer.
 pub data_kept : (sub rest : List ℕ) (result : Result ℕ Fault) → IfOk result (λ count. count ≤ length sub) → replied (data_reply (sub ++ rest)) result ≡ replied (data_reply sub) result
@@ -95,7 +95,7 @@ module _ (setting : Setting) (forest : List Server) (session : Session) (now fid
   reads_file room size buffer forest' plain room_is bytes changed =
       let bytes_are : bytes_of (fid_ref setting.table v) forest ≡ n.bytes = ap (λ w. option_map_or (λ m. m.bytes) w []) r.alive in
       let is : read_answer setting forest session now fid offset count ≡ Ok (record { changes = EditNode (fid_ref setting.table v) (Touch now) ∷ []; session = session; reply = Rread (take size buffer) }) =
-          reads_by_kind ∙ ap by_kind plain
-          ∙ ap (λ k. read_file session now (fid_ref setting.table v) n offset k) (sym room_is)
-          ∙ ap (λ bs. Ok (record { changes = EditNode (fid_ref setting.table v) (Touch now) ∷ []; session = session; reply = Rread bs })) (sym (bytes ∙ ap (read_from offset room) bytes_are)) in
+      reads_by_kind ∙ ap by_kind plain
+      ∙ ap (λ k. read_file session now (fid_ref setting.table v) n offset k) (sym room_is)
+      ∙ ap (λ bs. Ok (record { changes = EditNode (fid_ref setting.table v) (Touch now) ∷ []; session = session; reply = Rread bs })) (sym (bytes ∙ ap (read_from offset room) bytes_are)) in
       rw is (refl, changed)

@@ -12,14 +12,18 @@ use std::alloc::{Allocator, Global};
 use std::process::Abort;
 
 // The entries of n of file 4, n of file 2 and m of file 5.
-const N4: &str = "420000000000000000000000000400000000000000a40100000000000000000000010000000000000001006e0600676c656e64610600676c656e64610600676c656e6461";
+const N4: &str =
+    "420000000000000000000000000400000000000000a40100000000000000000000010000000000000001006e0600676c656e64610600676c656e64610600676c656e6461";
 
-const N2: &str = "420000000000000000000000000200000000000000a40100000000000000000000010000000000000001006e0600676c656e64610600676c656e64610600676c656e6461";
+const N2: &str =
+    "420000000000000000000000000200000000000000a40100000000000000000000010000000000000001006e0600676c656e64610600676c656e64610600676c656e6461";
 
-const M5: &str = "420000000000000000000000000500000000000000a40100000000000000000000000000000000000001006d0600676c656e64610600676c656e64610600676c656e6461";
+const M5: &str =
+    "420000000000000000000000000500000000000000a40100000000000000000000000000000000000001006d0600676c656e64610600676c656e64610600676c656e6461";
 
 // The first two of them.
-const N4_N2: &str = "420000000000000000000000000400000000000000a40100000000000000000000010000000000000001006e0600676c656e64610600676c656e64610600676c656e6461420000000000000000000000000200000000000000a40100000000000000000000010000000000000001006e0600676c656e64610600676c656e64610600676c656e6461";
+const N4_N2: &str =
+    "420000000000000000000000000400000000000000a40100000000000000000000010000000000000001006e0600676c656e64610600676c656e64610600676c656e6461420000000000000000000000000200000000000000a40100000000000000000000010000000000000001006e0600676c656e64610600676c656e64610600676c656e6461";
 
 // Nodes 1 to 4: /u, /u/n, /x and /x/n.
 fn two_unions() -> [Made; 4] {
@@ -99,7 +103,16 @@ fn reads<T: Tree>(
     let (offset, count) = range;
     let mut buffer = vec![in alloc; 0u8; 8_192].expect(rt, "a buffer");
     assert!(rt; session.room() as usize <= buffer.len());
-    let size = read(setting, forest, session, 7, 2, offset, count, buffer.as_mut_slice());
+    let size = read(
+        setting,
+        forest,
+        session,
+        7,
+        2,
+        offset,
+        count,
+        buffer.as_mut_slice(),
+    );
     match (size, answer) {
         (Ok(size), Ok(wanted)) => {
             let text = hex::encode(alloc, &buffer[..size as usize]).expect(rt, "a text");
@@ -116,8 +129,24 @@ fn a_union_is_listed_with_repeated_names(rt: HostRuntime) {
     let mut forest = forest_of(&rt, alloc, &two_unions());
     let setting = union_setting(&rt, alloc, 3, 1);
     let mut session = session_at(&rt, alloc, 3, OpenMode::Read);
-    reads(&rt, alloc, &setting, &mut forest, &mut session, (0, 1_024), Ok(N4_N2));
-    reads(&rt, alloc, &setting, &mut forest, &mut session, (136, 1_024), Ok(""));
+    reads(
+        &rt,
+        alloc,
+        &setting,
+        &mut forest,
+        &mut session,
+        (0, 1_024),
+        Ok(N4_N2),
+    );
+    reads(
+        &rt,
+        alloc,
+        &setting,
+        &mut forest,
+        &mut session,
+        (136, 1_024),
+        Ok(""),
+    );
     // A read of a directory doesn't move its times.
     assert!(rt; forest.node(node(3)).is_some_and(|x| x.atime() == 0));
 }
@@ -144,7 +173,15 @@ fn only_whole_entries_are_given(rt: HostRuntime) {
         ((68, 8_168), Ok(N2)),
     ];
     for (range, answer) in rows {
-        reads(&rt, alloc, &setting, &mut forest, &mut session, range, answer);
+        reads(
+            &rt,
+            alloc,
+            &setting,
+            &mut forest,
+            &mut session,
+            range,
+            answer,
+        );
     }
 }
 
@@ -181,15 +218,27 @@ fn others_create_and_remove_between_reads(rt: HostRuntime) {
     let mut forest = forest_of(&rt, alloc, &two_unions());
     let setting = union_setting(&rt, alloc, 3, 1);
     let mut session = session_at(&rt, alloc, 3, OpenMode::Read);
-    reads(&rt, alloc, &setting, &mut forest, &mut session, (0, 68), Ok(N4));
+    reads(
+        &rt,
+        alloc,
+        &setting,
+        &mut forest,
+        &mut session,
+        (0, 68),
+        Ok(N4),
+    );
     remove(&rt, &mut forest, node(4));
     add(&rt, &mut forest, 1, "m");
-    for (range, answer) in [
-        ((68, 68), Ok(N2)),
-        ((136, 68), Ok(M5)),
-        ((204, 68), Ok("")),
-    ] {
-        reads(&rt, alloc, &setting, &mut forest, &mut session, range, answer);
+    for (range, answer) in [((68, 68), Ok(N2)), ((136, 68), Ok(M5)), ((204, 68), Ok(""))] {
+        reads(
+            &rt,
+            alloc,
+            &setting,
+            &mut forest,
+            &mut session,
+            range,
+            answer,
+        );
     }
 }
 
@@ -206,7 +255,15 @@ fn a_later_member_is_listed_to_its_readers(rt: HostRuntime) {
     let mut forest = forest_of(&rt, alloc, &nodes);
     let setting = union_setting(&rt, alloc, 3, 1);
     let mut session = session_at(&rt, alloc, 3, OpenMode::Read);
-    reads(&rt, alloc, &setting, &mut forest, &mut session, (0, 8_168), Ok(N4));
+    reads(
+        &rt,
+        alloc,
+        &setting,
+        &mut forest,
+        &mut session,
+        (0, 8_168),
+        Ok(N4),
+    );
 }
 
 #[test]
@@ -225,7 +282,15 @@ fn a_file_is_read_by_offset(rt: HostRuntime) {
             ((u64::MAX, 100), ""),
         ] {
             let mut forest = forest_of(&rt, alloc, &nodes);
-            reads(&rt, alloc, &setting, &mut forest, &mut session, range, Ok(answer));
+            reads(
+                &rt,
+                alloc,
+                &setting,
+                &mut forest,
+                &mut session,
+                range,
+                Ok(answer),
+            );
             // Each answered read moves the time of the last read, and nothing else.
             assert!(rt;
                 forest
@@ -244,11 +309,43 @@ fn a_read_is_refused_for_the_first_reason(rt: HostRuntime) {
     let setting = union_setting(&rt, alloc, 0, 1);
     let range = (0, 100);
     let mut none = Session::new(alloc);
-    reads(&rt, alloc, &setting, &mut forest, &mut none, range, Err(Fault::UnknownFid));
+    reads(
+        &rt,
+        alloc,
+        &setting,
+        &mut forest,
+        &mut none,
+        range,
+        Err(Fault::UnknownFid),
+    );
     let mut to_write = session_at(&rt, alloc, 2, OpenMode::Write);
-    reads(&rt, alloc, &setting, &mut forest, &mut to_write, range, Err(Fault::FidNotOpen));
+    reads(
+        &rt,
+        alloc,
+        &setting,
+        &mut forest,
+        &mut to_write,
+        range,
+        Err(Fault::FidNotOpen),
+    );
     remove(&rt, &mut forest, node(2));
-    reads(&rt, alloc, &setting, &mut forest, &mut to_write, range, Err(Fault::FidNotOpen));
+    reads(
+        &rt,
+        alloc,
+        &setting,
+        &mut forest,
+        &mut to_write,
+        range,
+        Err(Fault::FidNotOpen),
+    );
     let mut to_read = session_at(&rt, alloc, 2, OpenMode::Read);
-    reads(&rt, alloc, &setting, &mut forest, &mut to_read, range, Err(Fault::PhaseError));
+    reads(
+        &rt,
+        alloc,
+        &setting,
+        &mut forest,
+        &mut to_read,
+        range,
+        Err(Fault::PhaseError),
+    );
 }
