@@ -1,13 +1,13 @@
 -- The entries of a directory, looked for one by one.
-use Rattle.std.proofs.Common.{◌≡◌, ℕ, suc, ◌+◌, ◌-◌, ◌<◌, ◌≤◌, ◌^◌, Bool, true, false, cond, eqb, ◌&&◌, ◌||◌, if◌then◌else◌, List, [], ◌∷◌, ◌++◌, length, map, get_or, take, drop, drop-cons, Option, Some, None, refl, sym, ap, append_assoc, ◌∙◌, subst, arith, All, AllPairs}
-use Rattle.std.specs.Prelude.{⊤, is_some, slice_get, filter, find, nat_lt, nat_le, unwrap_or, ◌==◌}
-use Rattle.std.specs.Option.{option_map, option_map_or}
+use Rattle.std.proofs.Common.{◌≡◌, ℕ, suc, ◌+◌, ◌-◌, ◌<◌, ◌≤◌, Bool, true, false, cond, ◌&&◌, List, [], ◌∷◌, ◌++◌, length, map, get_or, take, drop, drop-cons, Option, Some, None, refl, sym, ap, append_assoc, ◌∙◌, subst, arith, All, AllPairs}
+use Rattle.std.specs.Prelude.{⊤, is_some, slice_get, filter, find, nat_le, unwrap_or}
+use Rattle.std.specs.Option.{option_map}
 use Rattle.std.specs.List.{flat_map}
 use Rattle.std.proofs.lemmas.List.{append-nil, length-append, length-drop, length-take-le, take_at}
 use Rattle.std.proofs.lemmas.Slice.{take-put_mid_below}
 use borrow.Rule.Slice.PartMut.{post_of, put_mid}
 use Rattle.std.proofs.lemmas.Bool.Decides.{nat_tests}
-use Rattle.std.proofs.lemmas.List.Elements.{All-nil, All-cons, All-head, All-tail, All-append, All-map, All-filter, All-weaker, filter-append}
+use Rattle.std.proofs.lemmas.List.Elements.{All-nil, All-head, All-tail, All-append, All-map, All-filter, All-weaker, filter-append}
 use Rattle.std.proofs.lemmas.List.Kept.{AllPairs-filter}
 use Rattle.p9_base.specs.declared.node_ref.NodeRef.{NodeRef}
 use Rattle.p9_tree.specs.Bytes.{put_front}
@@ -71,10 +71,6 @@ first_in_listed cursor floor forest user position m fits listed =
     ap (λ b. slice_get (filter (is_behind cursor) (cond b (map (entry_at position m.node) (children_of m.node forest)) [])) 0) listed
     ∙ first_mapped (is_behind cursor) (entry_at position m.node) (is_in m.node.number) (server_at m.node.server forest).nodes
     ∙ ap (option_map (entry_at position m.node)) (find_agree (λ n. is_in m.node.number n && is_behind cursor (entry_at position m.node n)) (λ n. is_in m.node.number n && is_above floor n) (server_at m.node.server forest).nodes (λ n. ap (λ b. is_in m.node.number n && b) (fits m.node n)))
-
-pub first_in_unlisted : (cursor : Option Cursor) (forest : List Server) (user : List ℕ) (position : ℕ) (m : Member) → is_listed forest user position m ≡ false → slice_get (filter (is_behind cursor) (entries_of forest user position m)) 0 ≡ None
-first_in_unlisted cursor forest user position m unlisted =
-    ap (λ b. slice_get (filter (is_behind cursor) (cond b (map (entry_at position m.node) (children_of m.node forest)) [])) 0) unlisted
 
 -- each entry of a member has its position
 at_position : (forest : List Server) (user : List ℕ) (position : ℕ) (m : Member) → All (λ e. e.position ≡ position) (entries_of forest user position m)

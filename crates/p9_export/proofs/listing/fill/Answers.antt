@@ -1,4 +1,4 @@
-use Rattle.std.proofs.Common.{arith, map, length}
+use Rattle.std.proofs.Common.{map, length}
 use Rattle.p9_export.specs.Listing.{left_of}
 use Rattle.p9_export.proofs.Listings.{filled-bytes, filled-cursor, filling-next, filling-smaller, filling-start}
 use Rattle.p9_export.proofs.listing.fill.Goals as goal

@@ -1,7 +1,6 @@
 use Rattle.std.proofs.Common.{arith, ap, sym, ◌∙◌, map, ◌≡◌, ◌++◌, drop, length, slice_get, Some}
 use Rattle.p9_wire.specs.Fields.{stat_bytes, stat_len}
 use Rattle.p9_export.specs.Listing.{Entry, left_of}
-use Rattle.p9_export.specs.Read.{fitting}
 use Rattle.p9_export.proofs.Listings.{fitting-none, gives_bytes, gives_end, no_end, no_room, nothing_put}
 use Rattle.p9_export.proofs.listing.give.Goals as goal
 

@@ -1,11 +1,11 @@
-use Rattle.std.proofs.Common.{◌≡◌, ◌≤◌, ◌++◌, ℕ, List, arith, false, map, length, take, drop, min, sym, ap, subst, ◌∙◌}
+use Rattle.std.proofs.Common.{◌≡◌, ◌≤◌, ◌++◌, arith, false, map, length, take, drop, min, sym, ap, subst, ◌∙◌}
 use Rattle.std.specs.Prelude.{IfOk}
 use Rattle.std.proofs.lemmas.List.{length-take-le, take-append-le}
 use Rattle.p9_base.specs.declared.node_ref.NodeRef.{NodeRef}
 use Rattle.p9_tree.specs.Bytes.{read_from}
 use Rattle.p9_tree.specs.Forest.{bytes_of, forest_changed_at, node_of}
 use Rattle.p9_tree.specs.Node.{touched}
-use Rattle.p9_fids.specs.Fid.{Fid, fid_at}
+use Rattle.p9_fids.specs.Fid.{fid_at}
 use Rattle.p9_export.specs.Answer.{Answer}
 use Rattle.p9_export.specs.Answers.{Answers, data_reply, replied}
 use Rattle.p9_export.specs.Open.{room_of}
