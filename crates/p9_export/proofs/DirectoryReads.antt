@@ -1,5 +1,5 @@
 -- What a read answers.
-use Rattle.std.proofs.Common.{◌≡◌, ℕ, ◌+◌, ◌≤◌, Bool, true, false, cond, ◌||◌, List, [], ◌∷◌, length, take, Option, Some, None, Result, Ok, Err, inl, refl, sym, ap, ◌∙◌, subst}
+use Rattle.std.proofs.Common.{◌≡◌, ℕ, ◌+◌, ◌≤◌, Bool, true, false, cond, ◌||◌, List, [], ◌∷◌, length, take, Option, Some, Result, Ok, Err, refl, sym, ap, ◌∙◌}
 use Rattle.std.specs.Prelude.{◌==◌, ◌++◌, IfOk, min, if◌then◌else◌}
 use Rattle.std.specs.Option.{option_map_or}
 use Rattle.std.specs.List.{flat_map}
@@ -19,7 +19,7 @@ use Rattle.p9_fids.specs.declared.opened.Opened.{Opened}
 use Rattle.p9_fids.specs.Fid.{Fid, FidRow, changed_fid, fid_at, opened_as}
 use Rattle.p9_export.specs.State.{Setting, Session}
 use Rattle.p9_export.specs.Answer.{Answer, given, need}
-use Rattle.p9_export.specs.Answers.{Answers, changes_of, data_reply, replied}
+use Rattle.p9_export.specs.Answers.{Answers, data_reply, replied}
 use Rattle.p9_export.specs.Change.{EditNode, Touch, applied, edited}
 use Rattle.p9_export.specs.End.{fid_file, fid_ref}
 use Rattle.p9_export.specs.Open.{room_of}
@@ -48,15 +48,15 @@ module _ (setting : Setting) (forest : List Server) (old : Session) (fid : ℕ) 
   unfolding given need
   dir_listed there begins members_are from_is room_for bytes last within fids_are =
       without_changes _ forest old (record { msize = old.msize; fids = fids }) (Rread (take size buffer))
-        (ap (λ w. given w UnknownFid (λ v. read_dir setting forest old fid v o offset room)) there
-        ∙ ap (λ b. cond b (given_of old fid o offset (cursor_at offset o) (left_of forest v.user (cursor_at offset o) (members_of (here v.trail) setting.table)) (fitting room (left_of forest v.user (cursor_at offset o) (members_of (here v.trail) setting.table)))) (Err BadDirectoryOffset)) begins
-        ∙ ap (λ ms. given_of old fid o offset (cursor_at offset o) (left_of forest v.user (cursor_at offset o) ms) (fitting room (left_of forest v.user (cursor_at offset o) ms))) (sym members_are)
-        ∙ ap (λ c. given_of old fid o offset c (left_of forest v.user c members) (fitting room (left_of forest v.user c members))) (sym from_is)
-        ∙ given_of-listed old fid o offset from (left_of forest v.user from members) some_of room_for
-        ∙ ap (λ n. Ok (record { changes = []; session = record { msize = old.msize; fids = changed_fid fid (opened_as (record o { next_offset = offset + n; cursor = cursor_after from some_of })) old.fids }; reply = Rread (flat_map entry_bytes some_of) })) (sym (sym (length-take-le size buffer within) ∙ ap length bytes))
-        ∙ ap (λ c. Ok (record { changes = []; session = record { msize = old.msize; fids = changed_fid fid (opened_as (record o { next_offset = offset + size; cursor = c })) old.fids }; reply = Rread (flat_map entry_bytes some_of) })) (sym last)
-        ∙ ap (λ fs. Ok (record { changes = []; session = record { msize = old.msize; fids = fs }; reply = Rread (flat_map entry_bytes some_of) })) (sym fids_are)
-        ∙ ap (λ bs. Ok (record { changes = []; session = record { msize = old.msize; fids = fids }; reply = Rread bs })) (sym bytes))
+      (ap (λ w. given w UnknownFid (λ v. read_dir setting forest old fid v o offset room)) there
+      ∙ ap (λ b. cond b (given_of old fid o offset (cursor_at offset o) (left_of forest v.user (cursor_at offset o) (members_of (here v.trail) setting.table)) (fitting room (left_of forest v.user (cursor_at offset o) (members_of (here v.trail) setting.table)))) (Err BadDirectoryOffset)) begins
+      ∙ ap (λ ms. given_of old fid o offset (cursor_at offset o) (left_of forest v.user (cursor_at offset o) ms) (fitting room (left_of forest v.user (cursor_at offset o) ms))) (sym members_are)
+      ∙ ap (λ c. given_of old fid o offset c (left_of forest v.user c members) (fitting room (left_of forest v.user c members))) (sym from_is)
+      ∙ given_of-listed old fid o offset from (left_of forest v.user from members) some_of room_for
+      ∙ ap (λ n. Ok (record { changes = []; session = record { msize = old.msize; fids = changed_fid fid (opened_as (record o { next_offset = offset + n; cursor = cursor_after from some_of })) old.fids }; reply = Rread (flat_map entry_bytes some_of) })) (sym (sym (length-take-le size buffer within) ∙ ap length bytes))
+      ∙ ap (λ c. Ok (record { changes = []; session = record { msize = old.msize; fids = changed_fid fid (opened_as (record o { next_offset = offset + size; cursor = c })) old.fids }; reply = Rread (flat_map entry_bytes some_of) })) (sym last)
+      ∙ ap (λ fs. Ok (record { changes = []; session = record { msize = old.msize; fids = fs }; reply = Rread (flat_map entry_bytes some_of) })) (sym fids_are)
+      ∙ ap (λ bs. Ok (record { changes = []; session = record { msize = old.msize; fids = fids }; reply = Rread bs })) (sym bytes))
 
 -- The data of a read stand at the front of the buffer.
 pub data_kept : (sub rest : List ℕ) (result : Result ℕ Fault) → IfOk result (λ count. count ≤ length sub) → replied (data_reply (sub ++ rest)) result ≡ replied (data_reply sub) result
@@ -95,7 +95,7 @@ module _ (setting : Setting) (forest : List Server) (session : Session) (now fid
   reads_file room size buffer forest' plain room_is bytes changed =
       let bytes_are : bytes_of (fid_ref setting.table v) forest ≡ n.bytes = ap (λ w. option_map_or (λ m. m.bytes) w []) r.alive in
       let is : read_answer setting forest session now fid offset count ≡ Ok (record { changes = EditNode (fid_ref setting.table v) (Touch now) ∷ []; session = session; reply = Rread (take size buffer) }) =
-          reads_by_kind ∙ ap by_kind plain
-          ∙ ap (λ k. read_file session now (fid_ref setting.table v) n offset k) (sym room_is)
-          ∙ ap (λ bs. Ok (record { changes = EditNode (fid_ref setting.table v) (Touch now) ∷ []; session = session; reply = Rread bs })) (sym (bytes ∙ ap (read_from offset room) bytes_are)) in
+      reads_by_kind ∙ ap by_kind plain
+      ∙ ap (λ k. read_file session now (fid_ref setting.table v) n offset k) (sym room_is)
+      ∙ ap (λ bs. Ok (record { changes = EditNode (fid_ref setting.table v) (Touch now) ∷ []; session = session; reply = Rread bs })) (sym (bytes ∙ ap (read_from offset room) bytes_are)) in
       rw is (refl, changed)

@@ -1,13 +1,13 @@
 -- The entries of a directory, looked for one by one.
-use Rattle.std.proofs.Common.{◌≡◌, ℕ, suc, ◌+◌, ◌-◌, ◌<◌, ◌≤◌, ◌^◌, Bool, true, false, cond, eqb, ◌&&◌, ◌||◌, if◌then◌else◌, List, [], ◌∷◌, ◌++◌, length, map, get_or, take, drop, drop-cons, Option, Some, None, refl, sym, ap, append_assoc, ◌∙◌, subst, arith, All, AllPairs}
-use Rattle.std.specs.Prelude.{⊤, is_some, slice_get, filter, find, nat_lt, nat_le, unwrap_or, ◌==◌}
-use Rattle.std.specs.Option.{option_map, option_map_or}
+use Rattle.std.proofs.Common.{◌≡◌, ℕ, suc, ◌+◌, ◌-◌, ◌<◌, ◌≤◌, Bool, true, false, cond, ◌&&◌, List, [], ◌∷◌, ◌++◌, length, map, get_or, take, drop, drop-cons, Option, Some, None, refl, sym, ap, append_assoc, ◌∙◌, subst, arith, All, AllPairs}
+use Rattle.std.specs.Prelude.{⊤, is_some, slice_get, filter, find, nat_le, unwrap_or}
+use Rattle.std.specs.Option.{option_map}
 use Rattle.std.specs.List.{flat_map}
 use Rattle.std.proofs.lemmas.List.{append-nil, length-append, length-drop, length-take-le, take_at}
 use Rattle.std.proofs.lemmas.Slice.{take-put_mid_below}
 use borrow.Rule.Slice.PartMut.{post_of, put_mid}
 use Rattle.std.proofs.lemmas.Bool.Decides.{nat_tests}
-use Rattle.std.proofs.lemmas.List.Elements.{All-nil, All-cons, All-head, All-tail, All-append, All-map, All-filter, All-weaker, filter-append}
+use Rattle.std.proofs.lemmas.List.Elements.{All-nil, All-head, All-tail, All-append, All-map, All-filter, All-weaker, filter-append}
 use Rattle.std.proofs.lemmas.List.Kept.{AllPairs-filter}
 use Rattle.p9_base.specs.declared.node_ref.NodeRef.{NodeRef}
 use Rattle.p9_tree.specs.Bytes.{put_front}
@@ -72,10 +72,6 @@ first_in_listed cursor floor forest user position m fits listed =
     ∙ first_mapped (is_behind cursor) (entry_at position m.node) (is_in m.node.number) (server_at m.node.server forest).nodes
     ∙ ap (option_map (entry_at position m.node)) (find_agree (λ n. is_in m.node.number n && is_behind cursor (entry_at position m.node n)) (λ n. is_in m.node.number n && is_above floor n) (server_at m.node.server forest).nodes (λ n. ap (λ b. is_in m.node.number n && b) (fits m.node n)))
 
-pub first_in_unlisted : (cursor : Option Cursor) (forest : List Server) (user : List ℕ) (position : ℕ) (m : Member) → is_listed forest user position m ≡ false → slice_get (filter (is_behind cursor) (entries_of forest user position m)) 0 ≡ None
-first_in_unlisted cursor forest user position m unlisted =
-    ap (λ b. slice_get (filter (is_behind cursor) (cond b (map (entry_at position m.node) (children_of m.node forest)) [])) 0) unlisted
-
 -- each entry of a member has its position
 at_position : (forest : List Server) (user : List ℕ) (position : ℕ) (m : Member) → All (λ e. e.position ≡ position) (entries_of forest user position m)
 at_position forest user position m =
@@ -134,14 +130,16 @@ Rising (e ∷ es) = All (λ x. is_behind (Some (cursor_of e)) x ≡ true) es × 
 Rising-append : (xs ys : List Entry) → Rising xs → Rising ys → All (λ x. All (λ y. is_behind (Some (cursor_of x)) y ≡ true) ys) xs → Rising (xs ++ ys)
 Rising-append [] ys first second apart = second
 Rising-append (x ∷ xs) ys first second apart = (
-    All-append (λ y. is_behind (Some (cursor_of x)) y ≡ true) xs ys first.0 (All-head (λ z. All (λ y. is_behind (Some (cursor_of z)) y ≡ true) ys) x xs apart),
-    Rising-append xs ys first.1 second (All-tail (λ z. All (λ y. is_behind (Some (cursor_of z)) y ≡ true) ys) x xs apart))
+  All-append (λ y. is_behind (Some (cursor_of x)) y ≡ true) xs ys first.0 (All-head (λ z. All (λ y. is_behind (Some (cursor_of z)) y ≡ true) ys) x xs apart),
+  Rising-append xs ys first.1 second (All-tail (λ z. All (λ y. is_behind (Some (cursor_of z)) y ≡ true) ys) x xs apart),
+)
 
 Rising-map : (position : ℕ) (member : NodeRef) (ns : List Node) → AllPairs (λ m n. m.number < n.number) ns → Rising (map (entry_at position member) ns)
 Rising-map position member [] rising = tt
 Rising-map position member (n ∷ ns) rising = (
-    All-map (λ e. is_behind (Some (cursor_of (entry_at position member n))) e ≡ true) (entry_at position member) ns (λ k d within. let lt = rising 0 (suc k) d (omega arith) (omega arith) in grind (arith, nat_tests)),
-    Rising-map position member ns (λ i j d lt within. rising (suc i) (suc j) d (omega arith) (omega arith)))
+  All-map (λ e. is_behind (Some (cursor_of (entry_at position member n))) e ≡ true) (entry_at position member) ns (λ k d within. let lt = rising 0 (suc k) d (omega arith) (omega arith) in grind (arith, nat_tests)),
+  Rising-map position member ns (λ i j d lt within. rising (suc i) (suc j) d (omega arith) (omega arith)),
+)
 
 -- the numbers of a server rise, also of one that isn't there
 server_rising : (forest : List Server) → IsForest forest → (server : ℕ) → AllPairs (λ m n. m.number < n.number) (server_at server forest).nodes
@@ -162,16 +160,16 @@ from_position : (forest : List Server) (user : List ℕ) (position : ℕ) (ms : 
 from_position forest user position [] = All-nil (λ e. position ≤ e.position)
 from_position forest user position (m ∷ ms) =
     All-append (λ e. position ≤ e.position) (entries_of forest user position m) (entries_from forest user (suc position) ms)
-      (All-weaker (λ e. e.position ≡ position) (λ e. position ≤ e.position) (λ e at. omega arith) (entries_of forest user position m) (at_position forest user position m))
-      (All-weaker (λ e. suc position ≤ e.position) (λ e. position ≤ e.position) (λ e le. omega arith) (entries_from forest user (suc position) ms) (from_position forest user (suc position) ms))
+    (All-weaker (λ e. e.position ≡ position) (λ e. position ≤ e.position) (λ e at. omega arith) (entries_of forest user position m) (at_position forest user position m))
+    (All-weaker (λ e. suc position ≤ e.position) (λ e. position ≤ e.position) (λ e le. omega arith) (entries_from forest user (suc position) ms) (from_position forest user (suc position) ms))
 
 Rising-members : (forest : List Server) (user : List ℕ) (position : ℕ) (ms : List Member) → IsForest forest → Rising (entries_from forest user position ms)
 Rising-members forest user position [] sound = tt
 Rising-members forest user position (m ∷ ms) sound =
     Rising-append (entries_of forest user position m) (entries_from forest user (suc position) ms) (Rising-member forest user position m sound) (Rising-members forest user (suc position) ms sound)
-      (All-weaker (λ e. e.position ≡ position) (λ x. All (λ y. is_behind (Some (cursor_of x)) y ≡ true) (entries_from forest user (suc position) ms))
-        (λ x at. All-weaker (λ e. suc position ≤ e.position) (λ y. is_behind (Some (cursor_of x)) y ≡ true) (λ y le. let lt : x.position < y.position = omega arith in grind (arith, nat_tests)) (entries_from forest user (suc position) ms) (from_position forest user (suc position) ms))
-        (entries_of forest user position m) (at_position forest user position m))
+    (All-weaker (λ e. e.position ≡ position) (λ x. All (λ y. is_behind (Some (cursor_of x)) y ≡ true) (entries_from forest user (suc position) ms))
+    (λ x at. All-weaker (λ e. suc position ≤ e.position) (λ y. is_behind (Some (cursor_of x)) y ≡ true) (λ y le. let lt : x.position < y.position = omega arith in grind (arith, nat_tests)) (entries_from forest user (suc position) ms) (from_position forest user (suc position) ms))
+    (entries_of forest user position m) (at_position forest user position m))
 
 behind_both : (c : Option Cursor) (x y : Entry) → is_behind c x ≡ true → is_behind (Some (cursor_of x)) y ≡ true → is_behind c y ≡ true
 behind_both None x y e f = refl
@@ -229,7 +227,7 @@ first_given room forest user cursor ms e sound first = go (left_of forest user c
             let same : x ≡ e = cc in
             let others : left_of forest user (Some (cursor_of x)) ms ≡ xs = others_left cursor (entries_from forest user 0 ms) x xs (Rising-members forest user 0 ms sound) is in
             subst (λ z. GivesFirst room (left_of forest user cursor ms) z (left_of forest user (Some (cursor_of z)) ms)) same
-              (subst (λ l. GivesFirst room l x (left_of forest user (Some (cursor_of x)) ms)) (sym is) (subst (λ l. GivesFirst room (x ∷ xs) x l) (sym others) (first_fits room x xs fits)))
+            (subst (λ l. GivesFirst room l x (left_of forest user (Some (cursor_of x)) ms)) (sym is) (subst (λ l. GivesFirst room (x ∷ xs) x l) (sym others) (first_fits room x xs fits)))
         by_room false fits =
             let none : None ≡ Some e = ap (λ (b : Bool). slice_get (cond b (x ∷ fitting (room - length (entry_bytes x)) xs) []) 0) (sym fits) ∙ ap (λ l. slice_get (fitting room l) 0) (sym is) ∙ first in
             absurd (cc)
@@ -290,7 +288,7 @@ module _ (room : ℕ) (left : List Entry) (e : Entry) (number size : ℕ) (first
   pub gives_bytes : (old new : List ℕ) → size ≤ room → new ≡ stat_bytes (stat_of (record { server = e.member.server; number = number }) e.node) ++ drop size old → new ≡ put_front (flat_map entry_bytes (take 1 (fitting room left))) old
   gives_bytes old new fits put =
       first_put (fitting room left) e old new (given_first fits)
-        (put ∙ ap (λ bytes. bytes ++ drop size old) (sym (bytes_of_entry e number same)) ∙ ap (λ n. entry_bytes e ++ drop n old) (sym length-entry))
+      (put ∙ ap (λ bytes. bytes ++ drop size old) (sym (bytes_of_entry e number same)) ∙ ap (λ n. entry_bytes e ++ drop n old) (sym length-entry))
 
 -- Filling a buffer.
 
@@ -404,10 +402,10 @@ filling-next forest user ms from room buffer size cursor last n new sound whole 
         let last_is : cursor_of e ≡ last = (pair_is last (cursor_of e) n (length (entry_bytes e)) ends).0 in
         let n_is : length (entry_bytes e) ≡ n = (pair_is last (cursor_of e) n (length (entry_bytes e)) ends).1 in
         let more = filling-more (left_of forest user from ms) from room buffer size cursor (left_of forest user cursor ms) whole filling e (left_of forest user (Some (cursor_of e)) ms) new
-            (first_given (length (take (length buffer - size) (drop size buffer))) forest user cursor ms e sound first)
-            (put ∙ ap (λ bytes. put_front bytes (take (length buffer - size) (drop size buffer))) (only_first (fitting (length (take (length buffer - size) (drop size buffer))) (left_of forest user cursor ms)) e first)) in
+        (first_given (length (take (length buffer - size) (drop size buffer))) forest user cursor ms e sound first)
+        (put ∙ ap (λ bytes. put_front bytes (take (length buffer - size) (drop size buffer))) (only_first (fitting (length (take (length buffer - size) (drop size buffer))) (left_of forest user cursor ms)) e first)) in
         subst (λ k. Filling room (left_of forest user from ms) from (put_mid size (length buffer - size) buffer new) (size + k) (Some last) (left_of forest user (Some last) ms)) n_is
-          (subst (λ l. Filling room (left_of forest user from ms) from (put_mid size (length buffer - size) buffer new) (size + length (entry_bytes e)) (Some l) (left_of forest user (Some l) ms)) last_is more)
+        (subst (λ l. Filling room (left_of forest user from ms) from (put_mid size (length buffer - size) buffer new) (size + length (entry_bytes e)) (Some l) (left_of forest user (Some l) ms)) last_is more)
 
 -- What a read of a directory says of an empty answer.
 

@@ -1,7 +1,7 @@
 //! The entries of a directory, over a union, as read(5). They are looked for one by one, which takes
 //! no memory.
 
-ghost use Rattle.std.specs.Prelude.{◌≡◌, ◌≢◌, ◌≤◌, ◌<◌, ◌+◌, ◌^◌, [], IfErr, IfOk, IfSome, OnErr, OnOk, drop, filter, length, map, slice_get, take};
+ghost use Rattle.std.specs.Prelude.{◌≡◌, ◌≢◌, ◌≤◌, ◌<◌, ◌+◌, ◌^◌, [], IfErr, IfOk, IfSome, OnOk, filter, length, map, slice_get, take};
 ghost use Rattle.std.specs.List.{flat_map};
 ghost use Rattle.std.specs.Option.{option_map};
 ghost use Rattle.p9_base.specs.declared.fault.Fault.TheVariants.{SmallReadCount};

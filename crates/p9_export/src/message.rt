@@ -5,12 +5,14 @@ ghost use Rattle.p9_wire.specs.Frame.{msize_max};
 ghost use Rattle.p9_wire.specs.Message.{t_view};
 ghost use Rattle.p9_export.specs.Answers.{Answers, CanWrite, replied, reply_view};
 ghost use Rattle.p9_export.specs.End.{FidsFit};
+ghost use Rattle.p9_export.specs.Open.{room_of};
 ghost use Rattle.p9_export.specs.Step.{may_run_out, session_answer};
 
 use crate::attach::attach;
 use crate::clunk::clunk;
 use crate::create::create;
 use crate::open::open;
+use crate::read::read;
 use crate::remove::remove;
 use crate::reply::Reply;
 use crate::session::Session;
@@ -37,6 +39,8 @@ pub fn message<T: Tree>(
     requires fids { FidsFit setting.now.table (map T.state forest.old.trees.items) session.old.fids }
     requires room { msize_max ≤ 11 + length buffer.old }
     ensures reply { CanWrite result }
+    requires session_room { room_of session.old ≤ length buffer.old }
+    ensures data { HasData (length buffer.old) result }
     ensures answer { let old = map T.state forest.old.trees.items in let new = map T.state forest.new.trees.items in let answer = session_answer setting.now old taken session.old now (t_view request.now) in Answers answer (may_run_out (t_view request.now) answer) old new session.old session.new (replied (reply_view new buffer.new) result) }
 {
     match request {
@@ -82,6 +86,9 @@ pub fn message<T: Tree>(
         }
         TMsg::Remove { fid } => Ok(Reply::Message(remove(setting, forest, session, now, *fid)?)),
         TMsg::Stat { fid } => Ok(Reply::StatOf(stat(setting, forest, session, *fid)?)),
+        TMsg::Read { fid, offset, count } => Ok(Reply::Data(read(
+            setting, forest, session, now, *fid, *offset, *count, buffer,
+        )?)),
         _ => Err(Fault::Malformed),
     }
 }

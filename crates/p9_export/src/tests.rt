@@ -2,6 +2,7 @@
 
 mod create;
 mod open;
+mod read;
 mod remove;
 mod walk;
 mod worlds;

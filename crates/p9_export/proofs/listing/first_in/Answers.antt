@@ -1,6 +1,6 @@
-use Rattle.std.proofs.Common.{sym, ◌∙◌, ap, ◌≡◌, true, arith, Some, None, map}
+use Rattle.std.proofs.Common.{sym, ◌∙◌, ◌≡◌, true, arith, Some, None, map}
 use Rattle.p9_export.specs.Listing.{is_listed}
-use Rattle.p9_export.proofs.Listings.{first_in_listed, first_in_unlisted, first_in_earlier, floor-none, floor-later, floor-here}
+use Rattle.p9_export.proofs.Listings.{first_in_listed, first_in_earlier, floor-none, floor-later, floor-here}
 use Rattle.p9_export.proofs.listing.first_in.Goals as goal
 
 pub returns-in-None-clause-first : goal.returns-in-None-clause-first

@@ -1,7 +1,6 @@
 use Rattle.std.proofs.Common.{arith, ap, sym, ◌∙◌, map, ◌≡◌, ◌++◌, drop, length, slice_get, Some}
 use Rattle.p9_wire.specs.Fields.{stat_bytes, stat_len}
 use Rattle.p9_export.specs.Listing.{Entry, left_of}
-use Rattle.p9_export.specs.Read.{fitting}
 use Rattle.p9_export.proofs.Listings.{fitting-none, gives_bytes, gives_end, no_end, no_room, nothing_put}
 use Rattle.p9_export.proofs.listing.give.Goals as goal
 
@@ -45,3 +44,4 @@ returns-clause-bytes g c =
     let same : c.stat_size.result ≡ c.write_stat-size.result = c.stat_size.ensures.size ∙ sym size in
     gives_bytes (length c.args.buffer.now) left e c.number.result c.write_stat-size.result first c.number.ensures size c.args.buffer.now c.write_stat-size.new.out (omega (arith, same, c.if-stat_size-buffer.false))
       (c.write_stat-size.ensures.bytes.bytes ∙ ap (λ s. stat_bytes s ++ drop c.write_stat-size.result c.args.buffer.now) c.stat_of.ensures.value)
+    (c.write_stat-size.ensures.bytes.bytes ∙ ap (λ s. stat_bytes s ++ drop c.write_stat-size.result c.args.buffer.now) c.stat_of.ensures)

@@ -1,15 +1,15 @@
-use Rattle.std.proofs.Common.{◌≡◌, ◌≤◌, ◌++◌, ℕ, List, arith, false, map, length, take, drop, min, sym, ap, subst, ◌∙◌}
+use Rattle.std.proofs.Common.{◌≡◌, ◌≤◌, ◌++◌, arith, false, map, length, take, drop, min, sym, ap, subst, ◌∙◌}
 use Rattle.std.specs.Prelude.{IfOk}
 use Rattle.std.proofs.lemmas.List.{length-take-le, take-append-le}
 use Rattle.p9_base.specs.declared.node_ref.NodeRef.{NodeRef}
 use Rattle.p9_tree.specs.Bytes.{read_from}
 use Rattle.p9_tree.specs.Forest.{bytes_of, forest_changed_at, node_of}
 use Rattle.p9_tree.specs.Node.{touched}
-use Rattle.p9_fids.specs.Fid.{Fid, fid_at}
+use Rattle.p9_fids.specs.Fid.{fid_at}
 use Rattle.p9_export.specs.Answer.{Answer}
 use Rattle.p9_export.specs.Answers.{Answers, data_reply, replied}
 use Rattle.p9_export.specs.Open.{room_of}
-use Rattle.p9_export.specs.Read.{readable}
+use Rattle.p9_export.specs.Read.{read_answer, readable}
 use Rattle.p9_export.proofs.DirectoryReads.{IsReadable, data_kept, reads_dir, reads_file}
 use Rattle.p9_export.proofs.read.read.Goals as goal
 
@@ -28,8 +28,8 @@ returns-then-is_dir-clause-answer g c =
     let same = reads_dir c.args.setting.now forest c.args.session.now c.args.now c.args.fid c.args.offset c.args.count c.in-Some.value.now c.in-Some-readable.opened c.in-Some-node.node.now r (length (take c.min-room.result c.args.buffer.now)) (sym c.is_dir.ensures ∙ c.if-is_dir.true) (long ∙ room_is) in
     let kept = c.read_dir.auto.buffer in
     let front = data_kept c.read_dir.new.buffer (drop c.min-room.result c.args.buffer.now) c.read_dir.result (subst (λ n. IfOk c.read_dir.result (λ count. count ≤ n)) (sym kept) c.read_dir.ensures.size) in
-    subst (λ reply. Answers _ false forest forest c.args.session.now c.read_dir.new.session reply) (sym front)
-      (subst (λ (answer : Answer). Answers answer false forest forest c.args.session.now c.read_dir.new.session (replied (data_reply c.read_dir.new.buffer) c.read_dir.result)) (sym same) c.read_dir.ensures.answer)
+    subst (λ reply. Answers (read_answer c.args.setting.now forest c.args.session.now c.args.now c.args.fid c.args.offset c.args.count) false forest forest c.args.session.now c.read_dir.new.session reply) (sym front)
+    (subst (λ (answer : Answer). Answers answer false forest forest c.args.session.now c.read_dir.new.session (replied (data_reply c.read_dir.new.buffer) c.read_dir.result)) (sym same) c.read_dir.ensures.answer)
 
 pub returns-else-is_dir-clause-answer : goal.returns-else-is_dir-clause-answer
 returns-else-is_dir-clause-answer g c =
@@ -47,7 +47,7 @@ returns-else-is_dir-clause-answer g c =
     let kept = c.read_file.auto.buffer in
     let within : c.read_file.result ≤ length c.read_file.new.buffer = omega (arith, size, kept) in
     reads_file c.args.setting.now forest c.args.session.now c.args.now c.args.fid c.args.offset c.args.count c.in-Some.value.now c.in-Some-readable.opened c.in-Some-node.node.now r
-      (length (take c.min-room.result c.args.buffer.now)) c.read_file.result (c.read_file.new.buffer ++ drop c.min-room.result c.args.buffer.now) (map g.T.Tree.state c.read_file.new.forest.trees.items)
-      (sym c.is_dir.ensures ∙ c.if-is_dir.false) (long ∙ room_is)
-      (take-append-le c.read_file.result c.read_file.new.buffer (drop c.min-room.result c.args.buffer.now) within ∙ c.read_file.ensures.bytes ∙ ap (λ (at : NodeRef). read_from c.args.offset (length (take c.min-room.result c.args.buffer.now)) (bytes_of at forest)) c.file-at.ensures)
-      (c.read_file.ensures.forest ∙ ap (λ (at : NodeRef). forest_changed_at at (touched c.args.now) forest) c.file-at.ensures)
+    (length (take c.min-room.result c.args.buffer.now)) c.read_file.result (c.read_file.new.buffer ++ drop c.min-room.result c.args.buffer.now) (map g.T.Tree.state c.read_file.new.forest.trees.items)
+    (sym c.is_dir.ensures ∙ c.if-is_dir.false) (long ∙ room_is)
+    (take-append-le c.read_file.result c.read_file.new.buffer (drop c.min-room.result c.args.buffer.now) within ∙ c.read_file.ensures.bytes ∙ ap (λ (at : NodeRef). read_from c.args.offset (length (take c.min-room.result c.args.buffer.now)) (bytes_of at forest)) c.file-at.ensures)
+    (c.read_file.ensures.forest ∙ ap (λ (at : NodeRef). forest_changed_at at (touched c.args.now) forest) c.file-at.ensures)
