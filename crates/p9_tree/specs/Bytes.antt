@@ -14,6 +14,10 @@ overwritten offset bytes old = take offset (padded offset old) ++ bytes ++ drop 
 abbrev pub cut_to : ℕ → List ℕ → List ℕ
 cut_to size old = take size old
 
+-- this many bytes: the first of them, or all of them and zeros behind
+abbrev pub resized : ℕ → List ℕ → List ℕ
+resized size old = take size (padded size old)
+
 -- the bytes over the front of the buffer, the rest of which stays
 abbrev pub put_front : List ℕ → List ℕ → List ℕ
 put_front bytes buffer = bytes ++ drop (length bytes) buffer
