@@ -2,7 +2,7 @@
 
 ghost use Rattle.std.specs.Prelude.{◌≡◌, ◌+◌, ◌≤◌, [], ◌++◌, IfOk, OnOk, OnErr, drop, length, take};
 ghost use Rattle.p9_base.specs.Text.{padded};
-ghost use Rattle.p9_tree.specs.Bytes.{cut_to, overwritten, put_front, read_from};
+ghost use Rattle.p9_tree.specs.Bytes.{cut_to, overwritten, put_front, read_from, resized};
 
 use p9_base::NoMemory;
 use std::alloc::Allocator;
@@ -88,6 +88,18 @@ impl<A: Allocator> Bytes<A> {
         ensures { self.new ≡ cut_to size self.old }
     {
         self.items.truncate(size as usize);
+    }
+
+    /// Brings them to this number: it cuts them, or adds zeros. Where memory is refused, all stays
+    /// as it was.
+    pub fn resize(&mut self, size: u64) -> Result<(), NoMemory>
+        requires { size ≤ FILE_MAX }
+        ensures ok { OnOk result (self.new ≡ resized size self.old) }
+        ensures err { OnErr result (self.new ≡ self.old) }
+    {
+        self.pad_to(size as usize)?;
+        self.cut(size);
+        Ok(())
     }
 
     /// Copies the bytes from the offset on, as many as are there and have room, over the front of

@@ -3,12 +3,14 @@
 ghost use Rattle.std.specs.Prelude.{◌≡◌, ◌≢◌, ◌+◌, ◌≤◌, IfOk, IsFalse, OnErr, OnOk, length, map};
 ghost use Rattle.std.specs.Option.{option_copied};
 ghost use Rattle.p9_tree.specs.Bytes.{cut_to, overwritten, put_front, read_from};
+ghost use Rattle.p9_tree.specs.Change.{CanChange, changed};
 ghost use Rattle.p9_tree.specs.Forest.{IsForest, bytes_of, child_in, child_in_after, forest_changed_at, has_children_of, is_dir_of, next_of, node_of, server_at, tree_changed_at};
 ghost use Rattle.p9_tree.specs.New.{new_node};
 ghost use Rattle.p9_tree.specs.Node.{marked, touched, with_bytes};
 ghost use Rattle.p9_tree.specs.Server.{CanAdd, added, with_dropped};
 
 use crate::bytes::FILE_MAX;
+use crate::change::Change;
 use crate::new::New;
 use crate::node::Node;
 use crate::tree::Tree;
@@ -89,6 +91,19 @@ impl<T: Tree> Forest<T> {
         if let Some(tree) = self.trees.get_mut(at.server as usize) {
             tree.drop_leaf(at.number);
         }
+    }
+
+    /// Makes all of the change in the node at once, as [`Tree::change`]. Where memory is refused, the
+    /// forest is as before.
+    pub fn change(&mut self, at: NodeRef, change: &Change) -> Result<(), NoMemory>
+        requires { CanChange (server_at at.server (map T.state self.old.trees.items)) at.number change.now }
+        ensures ok { OnOk result (map T.state self.new.trees.items ≡ forest_changed_at at (changed change.entry.now) (map T.state self.old.trees.items)) }
+        ensures err { OnErr result (map T.state self.new.trees.items ≡ map T.state self.old.trees.items) }
+    {
+        if let Some(tree) = self.trees.get_mut(at.server as usize) {
+            tree.change(at.number, change)?;
+        }
+        Ok(())
     }
 
     /// Marks the node: the user changed the file, or an entry of the directory, now.

@@ -5,6 +5,7 @@ ghost use Rattle.p9_tree.specs.Node.{has_number};
 ghost use Rattle.p9_tree.specs.Server.{Server, WellFormed, root_mode};
 
 use crate::bytes::Bytes;
+use crate::change::Change;
 use crate::new::New;
 use crate::node::Node;
 use crate::tree::Tree;
@@ -84,6 +85,13 @@ impl<A: Allocator + Copy> Tree for PlainTree<A> {
         if let Some(at) = self.place(number) {
             let _ = self.nodes.remove(at);
         }
+    }
+
+    fn change(&mut self, number: u64, change: &Change) -> Result<(), NoMemory> {
+        if let Some(at) = self.place(number) {
+            self.nodes[at].change(change)?;
+        }
+        Ok(())
     }
 
     fn bump(&mut self, number: u64, user: User, now: u32) {

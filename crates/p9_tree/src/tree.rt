@@ -3,11 +3,13 @@
 ghost use Rattle.std.specs.Prelude.{◌≡◌, ◌≢◌, ◌+◌, ◌≤◌, IfOk, IsFalse, OnErr, OnOk, length};
 ghost use Rattle.std.specs.Option.{option_copied};
 ghost use Rattle.p9_tree.specs.Bytes.{cut_to, overwritten, put_front, read_from};
+ghost use Rattle.p9_tree.specs.Change.{CanChange, changed};
 ghost use Rattle.p9_tree.specs.New.{new_node};
 ghost use Rattle.p9_tree.specs.Node.{marked, touched, with_bytes, with_owner};
 ghost use Rattle.p9_tree.specs.Server.{CanAdd, Server, WellFormed, added, bytes_at, child_after, child_of, has_children, is_dir_at, node_at, rooted, with_changed, with_dropped};
 
 use crate::bytes::FILE_MAX;
+use crate::change::Change;
 use crate::new::New;
 use crate::node::Node;
 use p9_base::{Name, NoMemory, Permissions, User};
@@ -23,8 +25,8 @@ pub const NEXT_MAX: u64 = 1 << 48;
 /// directory of smaller number for a parent, in which no other has its name; a file has at most
 /// [`FILE_MAX`] bytes, and a directory none.
 ///
-/// A call that names a number at which there is no node changes nothing. Only `add` and `write`
-/// take memory; where it is refused they answer so, and the tree is as before.
+/// A call that names a number at which there is no node changes nothing. Only `add`, `change` and
+/// `write` take memory; where it is refused they answer so, and the tree is as before.
 pub trait Tree: Sized + Drop {
     /// The allocator of all that grows in it.
     type Alloc: Allocator + Copy;
@@ -69,6 +71,14 @@ pub trait Tree: Sized + Drop {
         requires not_root { number ≢ 0 }
         requires empty { IsFalse (has_children number (state self.old).nodes) }
         ensures { state self.new ≡ with_dropped number (state self.old) };
+
+    /// Makes all of the change in the node at once: a new length cuts a file or adds zeros to it,
+    /// and marks it; a new time of change wins over the mark's, and makes the user the last to have
+    /// changed the node. The parent isn't marked.
+    fn change(&mut self, number: u64, change: &Change) -> Result<(), NoMemory>
+        requires { CanChange (state self.old) number change.now }
+        ensures ok { OnOk result (state self.new ≡ with_changed number (changed change.entry.now) (state self.old)) }
+        ensures err { OnErr result (state self.new ≡ state self.old) };
 
     /// Marks the node: the user changed the file, or an entry of the directory, now. Its version
     /// grows by 1 modulo 2^32, and both its times become the clock reading.
