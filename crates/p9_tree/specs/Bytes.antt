@@ -8,7 +8,8 @@ read_from offset count old = take count (drop offset old)
 
 -- the bytes after a write at the offset; a gap before it is filled with zeros
 abbrev pub overwritten : ℕ → List ℕ → List ℕ → List ℕ
-overwritten offset bytes old = take offset (padded offset old) ++ bytes ++ drop (offset + length bytes) old
+overwritten offset bytes old =
+    take offset (padded offset old) ++ bytes ++ drop (offset + length bytes) old
 
 -- at most the first bytes
 abbrev pub cut_to : ℕ → List ℕ → List ℕ

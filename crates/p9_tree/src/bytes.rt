@@ -78,7 +78,8 @@ impl<A: Allocator> Bytes<A> {
     // Copies the bytes over those that stand at the start and behind it.
     fn put(&mut self, start: usize, bytes: &[u8])
         requires { start + length bytes.now ≤ length self.old }
-        ensures { self.new ≡ take start self.old ++ bytes.now ++ drop (start + length bytes.now) self.old }
+        ensures { self.new
+            ≡ take start self.old ++ bytes.now ++ drop (start + length bytes.now) self.old }
     {
         self.items[start..start + bytes.len()].copy_from_slice(bytes);
     }
@@ -106,7 +107,8 @@ impl<A: Allocator> Bytes<A> {
     /// the buffer, and answers how many they are. The rest of the buffer stays.
     pub fn read_into(&self, offset: u64, buffer: &mut [u8]) -> usize
         ensures count { result ≡ length (read_from offset (length buffer.old) self.now) }
-        ensures filled { buffer.new ≡ put_front (read_from offset (length buffer.old) self.now) buffer.old }
+        ensures filled { buffer.new
+            ≡ put_front (read_from offset (length buffer.old) self.now) buffer.old }
     {
         let start = self.items.len().min(offset as usize);
         let rest = &self.items[start..];

@@ -45,7 +45,19 @@ impl<A: Allocator> Model for Node<A> {
 
     ghost Value = { NodeOf };
 
-    ghost view = { λ n. record { number = n.number; parent = option_map (λ e. e.parent) n.entry; name = option_map_or (λ e. e.name) n.entry root_name; mode = n.mode; uid = n.uid; gid = n.gid; muid = n.muid; version = n.version; atime = n.atime; mtime = n.mtime; bytes = n.bytes } };
+    ghost view = { λ n. record {
+      number = n.number;
+      parent = option_map (λ e. e.parent) n.entry;
+      name = option_map_or (λ e. e.name) n.entry root_name;
+      mode = n.mode;
+      uid = n.uid;
+      gid = n.gid;
+      muid = n.muid;
+      version = n.version;
+      atime = n.atime;
+      mtime = n.mtime;
+      bytes = n.bytes;
+    } };
 }
 
 impl<A: Allocator> Node<A> {
@@ -285,7 +297,8 @@ impl<A: Allocator> Node<A> {
     /// Copies of the file's bytes into the buffer, as [`Bytes::read_into`].
     pub(crate) fn read_into(&self, offset: u64, buffer: &mut [u8]) -> usize
         ensures count { result ≡ length (read_from offset (length buffer.old) self.now.bytes) }
-        ensures filled { buffer.new ≡ put_front (read_from offset (length buffer.old) self.now.bytes) buffer.old }
+        ensures filled { buffer.new
+            ≡ put_front (read_from offset (length buffer.old) self.now.bytes) buffer.old }
     {
         self.bytes.read_into(offset, buffer)
     }

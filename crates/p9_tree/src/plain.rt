@@ -18,7 +18,8 @@ pub struct PlainTree<A: Allocator + Copy> {
     alloc: A,
     nodes: Vec<Node<A>, A>,
     next: u64,
-    ghost well_formed: { let server : Server = record { nodes = nodes.items; next = next } in WellFormed server },
+    ghost well_formed: { let server : Server = record { nodes = nodes.items; next = next } in
+        WellFormed server },
 }
 
 impl<A: Allocator + Copy> Tree for PlainTree<A> {

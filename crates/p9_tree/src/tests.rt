@@ -300,7 +300,8 @@ fn has_length<A: Allocator>(node: &Node<A>, length: Option<u64>) -> bool
 
 fn has_free<T: Tree>(tree: &T, node: &Node<T::Alloc>, name: Option<Name>) -> bool
     ensures not_root { IsTrue result → ForSome name (λ name. node.now.number ≢ 0) }
-    ensures free { IsTrue result → ForSome name (λ name. ForSome node.now.parent (λ dir. ForSome (child_of dir name (T.state tree.now).nodes) (λ m. m.number ≡ node.now.number))) }
+    ensures free { IsTrue result → ForSome name (λ name. ForSome node.now.parent (λ dir.
+        ForSome (child_of dir name (T.state tree.now).nodes) (λ m. m.number ≡ node.now.number))) }
 {
     match (name, node.parent()) {
         (Some(name), Some(dir)) => {
