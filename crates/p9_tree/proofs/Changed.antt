@@ -1,18 +1,17 @@
 -- A server of which one node is changed where it stands is well-formed.
-use Rattle.std.proofs.Common.{◌≡◌, ◌≢◌, ℕ, zero, suc, ◌+◌, ◌<◌, ◌≤◌, Bool, true, false, not, cond, eqb, List, [], ◌∷◌, ◌++◌, ◌⊎◌, length, get_or, set, Option, Some, None, Result, Ok, Err, IsTrue, IsFalse, refl, sym, ap, ◌∙◌, subst, inl, inr, arith, All, AllPairs}
+use Rattle.std.proofs.Common.{◌≡◌, ℕ, zero, suc, ◌+◌, ◌<◌, ◌≤◌, false, cond, eqb, List, [], ◌∷◌, ◌⊎◌, length, get_or, set, Some, None, Result, Ok, Err, IsTrue, IsFalse, refl, sym, ap, ◌∙◌, subst, inl, inr, arith}
 use Rattle.std.specs.Option.{option_map, option_map_or}
 use Rattle.std.specs.Result.{OnOk, OnErr}
 use Rattle.std.proofs.Math.Seq.{take-nil}
 use Rattle.std.specs.List.{position}
 use Rattle.std.proofs.lemmas.Bool.Decides.{nat_tests}
-use Rattle.std.proofs.lemmas.List.Elements.{All-head, All-tail, All-cons, All-nil}
 use Rattle.p9_base.specs.declared.mode.Permissions.{Permissions}
 use Rattle.p9_tree.specs.declared.bytes.TheConstants.{FILE_MAX}
 use Rattle.p9_tree.specs.Bytes.{overwritten, cut_to}
 use Rattle.p9_tree.specs.Node.{Node, has_number, is_dir, marked, touched, with_bytes, with_owner}
 use Rattle.p9_tree.specs.Server.{Server, node_at, is_dir_at, IsSound, WellFormed, changed_at, with_nodes, with_changed}
 use Rattle.p9_tree.proofs.BytesLemmas.{length-cut_to, length-overwritten}
-use Rattle.p9_tree.proofs.Lookups.{number-node_at, node_at-position, set-changed_at}
+use Rattle.p9_tree.proofs.Lookups.{node_at-position, set-changed_at}
 
 -- a change that leaves each node in its directory
 pub record KeepsParent (f : Node → Node) : Type 0 where

@@ -1,11 +1,10 @@
 -- A server of which a file or an empty directory is taken out is well-formed.
-use Rattle.std.proofs.Common.{◌≡◌, ◌≢◌, ℕ, suc, ◌+◌, ◌<◌, ◌≤◌, Bool, true, false, cond, eqb, List, [], ◌∷◌, ◌++◌, length, get_or, Option, Some, None, IsTrue, IsFalse, refl, sym, ap, ◌∙◌, subst, inl, inr, arith, All, AllPairs}
-use Rattle.std.specs.Option.{option_map_or}
+use Rattle.std.proofs.Common.{◌≡◌, ◌≢◌, ℕ, ◌<◌, true, false, cond, eqb, List, [], ◌∷◌, Some, None, IsTrue, IsFalse, refl, sym, subst, arith, All, AllPairs}
 use Rattle.std.specs.List.{position, remove}
 use Rattle.std.proofs.lemmas.Bool.Decides.{nat_tests}
 use Rattle.std.proofs.lemmas.List.Elements.{All-head, All-tail, All-cons}
 use Rattle.std.proofs.lemmas.List.Quantifiers.{all_pairs_remove}
-use Rattle.p9_tree.specs.Node.{Node, has_number, is_in}
+use Rattle.p9_tree.specs.Node.{Node, has_number}
 use Rattle.p9_tree.specs.Server.{Server, node_at, is_dir_at, has_children, WellFormed, dropped_at, with_nodes, with_dropped}
 use Rattle.p9_tree.proofs.Lookups.{node_at-before, place_within, remove-dropped_at, rising_head, rising_tail}
 

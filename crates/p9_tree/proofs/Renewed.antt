@@ -1,8 +1,7 @@
 -- A server of which one node is changed as a wstat does is well-formed.
-use Rattle.std.proofs.Common.{◌≡◌, ◌≢◌, ℕ, ◌+◌, ◌-◌, ◌<◌, ◌≤◌, Bool, true, false, List, [], ◌∷◌, ◌++◌, length, get_or, set, Option, Some, None, IsTrue, IsFalse, refl, sym, ap, ◌∙◌, subst, inl, inr, arith}
+use Rattle.std.proofs.Common.{◌≡◌, ℕ, ◌≤◌, true, false, List, [], length, Option, Some, None, IsTrue, IsFalse, refl, sym, ap, ◌∙◌, arith}
 use Rattle.std.specs.Prelude.{◌==◌, IsSome, unwrap_or}
 use Rattle.std.specs.Option.{ForSome, option_map_or}
-use Rattle.std.specs.List.{find, position}
 use Rattle.std.proofs.lemmas.Bool.{and_parts, eqb-true}
 use Rattle.std.proofs.lemmas.Slice.Eq.{bytes_eq-Decides}
 use Rattle.std.proofs.lemmas.List.{length-append, length-take, length-replicate}
@@ -12,9 +11,9 @@ use Rattle.p9_base.specs.Mode.{is_dir as is_dir_mode}
 use Rattle.p9_tree.specs.declared.bytes.TheConstants.{FILE_MAX}
 use Rattle.p9_tree.specs.declared.change.Change.{Change}
 use Rattle.p9_tree.specs.Bytes.{resized}
-use Rattle.p9_tree.specs.Change.{CanChange, CanChangeNode, changed, with_length}
-use Rattle.p9_tree.specs.Node.{Node, has_number, is_child, is_dir, marked, root_name, with_bytes}
-use Rattle.p9_tree.specs.Server.{Server, node_at, child_of, IsSound, WellFormed}
+use Rattle.p9_tree.specs.Change.{CanChange, CanChangeNode, changed}
+use Rattle.p9_tree.specs.Node.{Node, is_child, is_dir, marked, root_name, with_bytes}
+use Rattle.p9_tree.specs.Server.{Server, node_at, child_of, WellFormed}
 use Rattle.p9_tree.proofs.Lookups.{node_at-found, number-node_at, passes-found}
 use Rattle.p9_tree.proofs.Added.{child_of-None}
 use Rattle.p9_tree.proofs.Changed.{KeepsParent, KeepsSound, IsApart}

@@ -1,5 +1,5 @@
 -- The texts of a new server's root are texts.
-use Rattle.std.proofs.Common.{◌≡◌, List, ℕ, IsTrue, true, codes, refl}
+use Rattle.std.proofs.Common.{IsTrue, codes, refl}
 use Rattle.p9_base.specs.Text.{is_text}
 use Rattle.p9_base.specs.User.{is_user}
 use Rattle.p9_base.proofs.Texts.{is_text-ascii}

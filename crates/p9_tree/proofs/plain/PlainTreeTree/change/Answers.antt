@@ -1,4 +1,4 @@
-use Rattle.std.proofs.Common.{ap, ◌∙◌, sym, inl, inr, arith, ◌≡◌, Some}
+use Rattle.std.proofs.Common.{ap, ◌∙◌, sym, inl, inr, ◌≡◌, Some}
 use Rattle.p9_tree.specs.Change.{changed}
 use Rattle.p9_tree.specs.Node.{Node}
 use Rattle.p9_tree.specs.Server.{Server, node_at, with_nodes}
