@@ -1,5 +1,5 @@
 -- Paths from a server's root, and the directories that they lead to.
-use Rattle.std.specs.Prelude.{ℕ, ◌&&◌, Bool, List, [], ◌∷◌, Option, Some, None, if◌then◌else◌}
+use Rattle.std.specs.Prelude.{ℕ, Bool, List, [], ◌∷◌, Option, Some, None, if◌then◌else◌}
 use Rattle.std.specs.List.{list_all}
 use Rattle.std.specs.Option.{option_and_then, option_map_or}
 use Rattle.p9_base.specs.Name.{is_name}
@@ -7,14 +7,13 @@ use Rattle.p9_clean.specs.Path.{Word, cleaned, elements_of, is_rooted}
 use Rattle.p9_tree.specs.Node.{Node}
 use Rattle.p9_tree.specs.Server.{Server, child_of, is_dir_at}
 
--- the elements of a path once it is cleaned
-abbrev pub elements_left : List ℕ → List Word
-elements_left path = elements_of (cleaned path)
+-- the words, if they may all name files
+abbrev pub names_among : List Word → Option (List Word)
+names_among words = if list_all is_name words then Some words else None
 
--- the names along a path, if it begins with a slash and they may all name files
+-- the names along a path once it is cleaned, if it begins with a slash
 abbrev pub names_of : List ℕ → Option (List Word)
-names_of path =
-    if is_rooted path && list_all is_name (elements_left path) then Some (elements_left path) else None
+names_of path = if is_rooted path then names_among (elements_of (cleaned path)) else None
 
 -- the last of some names, and those before it
 abbrev pub last_and_rest : List Word → Option (Word × List Word)

@@ -1,9 +1,7 @@
 //! Paths from a server's root, and the directories that they lead to.
 
 ghost use Rattle.std.specs.Prelude.{◌≡◌, IfOk, map, option_map};
-ghost use Rattle.std.specs.List.{list_all};
-ghost use Rattle.p9_base.specs.Name.{is_name};
-ghost use Rattle.p9_world.specs.Path.{dir_of, names_of};
+ghost use Rattle.p9_world.specs.Path.{dir_of, names_among, names_of};
 
 use p9_base::{Name, NoMemory};
 use p9_clean::{clean, elements};
@@ -31,7 +29,7 @@ fn names_among<A: Allocator + Copy>(
     alloc: A,
     words: &[&str],
 ) -> Result<Option<Vec<Name, A>>, NoMemory>
-    ensures { IfOk result (λ found. option_map (λ names. names.items) found ≡ (if list_all is_name (map (λ w. w.now) words.now) then Some (map (λ w. w.now) words.now) else None)) }
+    ensures { IfOk result (λ found. option_map (λ names. names.items) found ≡ names_among (map (λ w. w.now) words.now)) }
 {
     let mut names = Vec::new(alloc);
     for word in words {
