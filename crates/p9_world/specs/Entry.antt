@@ -1,6 +1,5 @@
 -- Lines 'dir PATH MODE UID GID' and 'file PATH MODE UID GID HEX', which belong to the last server.
 use Rattle.std.specs.Prelude.{ℕ, ◌+◌, ◌-◌, ◌&&◌, Bool, not, nat_le, nat_lt, List, [], ◌∷◌, Option, Some, None, Result, Ok, is_some, length, codes, if◌then◌else◌}
-use Rattle.std.specs.Option.{option_and_then}
 use Rattle.std.specs.Result.{result_ok}
 use Rattle.std.specs.Str.{bytes_eq}
 use Rattle.hex.specs.Hex.{decode_of}
@@ -91,9 +90,10 @@ bytes_in word = if bytes_eq word (codes "-") then Some [] else result_ok (decode
 
 abbrev pub file_line : List ℕ → List ℕ → List ℕ → List ℕ → List ℕ → Server → Result Server LineFault
 file_line path mode uid gid hex server =
-    given (option_and_then last_and_rest (names_of path)) BadPath (λ place.
+    given (names_of path) BadPath (λ names.
+    given (last_and_rest names) BadPath (λ place.
     given (file_mode_in mode) BadMode (λ mode.
     need (is_owned uid gid) BadUser (
     given (bytes_in hex) BadHex (λ bytes.
     need (nat_le (length bytes) FILE_MAX) TooLarge (
-    with_entry place.0 place.1 (record { mode = mode; uid = uid; gid = gid; bytes = bytes }) server)))))
+    with_entry place.0 place.1 (record { mode = mode; uid = uid; gid = gid; bytes = bytes }) server))))))

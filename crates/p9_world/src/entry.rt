@@ -8,7 +8,7 @@ ghost use Rattle.p9_world.specs.Path.{last_and_rest};
 
 use crate::error::{LineError, LineFault};
 use crate::mode::{file_mode_in, permissions_in};
-use crate::path::{dir_of, names_of};
+use crate::path::{dir_of, last_and_rest, names_of};
 use crate::world::World;
 use p9_base::{Kind, Mode, Name, NoMemory, Permissions, User};
 use p9_tree::{FILE_MAX, NEXT_MAX, New, Tree};
@@ -25,10 +25,10 @@ pub fn add_dir<T: Tree>(
 ) -> Result<(), LineError>
     ensures { Makes (in_last_server (dir_line path.now mode.now uid.now gid.now) world.old) world.old world.new result }
 {
-    match world.forest.trees.last_mut() {
-        Some(tree) => add_dir_to(alloc, tree, path, mode, uid, gid),
-        None => Err(LineError::Bad(LineFault::NoServer)),
-    }
+    let Some(tree) = world.forest.trees.last_mut() else {
+        return Err(LineError::Bad(LineFault::NoServer));
+    };
+    add_dir_to(alloc, tree, path, mode, uid, gid)
 }
 
 /// A file joins the last server.
@@ -43,10 +43,10 @@ pub fn add_file<T: Tree>(
 ) -> Result<(), LineError>
     ensures { Makes (in_last_server (file_line path.now mode.now uid.now gid.now hex.now) world.old) world.old world.new result }
 {
-    match world.forest.trees.last_mut() {
-        Some(tree) => add_file_to(alloc, tree, path, mode, uid, gid, hex),
-        None => Err(LineError::Bad(LineFault::NoServer)),
-    }
+    let Some(tree) = world.forest.trees.last_mut() else {
+        return Err(LineError::Bad(LineFault::NoServer));
+    };
+    add_file_to(alloc, tree, path, mode, uid, gid, hex)
 }
 
 // A directory joins the tree, or its root is changed.
@@ -87,7 +87,7 @@ fn make_dir<T: Tree>(
     ensures made { Makes (with_dir (last_and_rest names.now) permissions uid gid (T.state tree.old)) (T.state tree.old) (T.state tree.new) result }
     ensures next { (T.state tree.old).next ≤ (T.state tree.new).next }
 {
-    let Some((name, names)) = names.split_last() else {
+    let Some((name, names)) = last_and_rest(names) else {
         tree.set_root(permissions, uid, gid);
         return Ok(());
     };
@@ -119,7 +119,7 @@ fn add_file_to<T: Tree>(
     let Some(names) = names_of(alloc, path)? else {
         return Err(LineError::Bad(LineFault::BadPath));
     };
-    let Some((name, names)) = names.as_slice().split_last() else {
+    let Some((name, names)) = last_and_rest(names.as_slice()) else {
         return Err(LineError::Bad(LineFault::BadPath));
     };
     let Some(mode) = file_mode_in(mode.as_bytes()) else {

@@ -1,7 +1,7 @@
 //! Paths from a server's root, and the directories that they lead to.
 
 ghost use Rattle.std.specs.Prelude.{◌≡◌, IfOk, map, option_map};
-ghost use Rattle.p9_world.specs.Path.{dir_of, names_among, names_of};
+ghost use Rattle.p9_world.specs.Path.{dir_of, last_and_rest, names_among, names_of};
 
 use p9_base::{Name, NoMemory};
 use p9_clean::{clean, elements};
@@ -39,6 +39,13 @@ fn names_among<A: Allocator + Copy>(
         names.push(name)?;
     }
     Ok(Some(names))
+}
+
+/// The last of some names, and those before it.
+pub fn last_and_rest(names: &[Name]) -> Option<(&Name, &[Name])>
+    ensures { option_map (λ place. (place.0.now, place.1.now)) result ≡ last_and_rest names.now }
+{
+    names.split_last()
 }
 
 /// The number of the directory that the names lead to, from the root on.
