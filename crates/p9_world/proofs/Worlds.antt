@@ -131,9 +131,11 @@ dir_of-below names s k well found = go (number_from 0 names s.nodes) refl
         let below : m.number < s.next = All-node_at (λ m. m.number < s.next) j s.nodes m well.below e in
         let same : m.number ≡ j = number-node_at j s.nodes m e in
         omega arith
+
     test : (j : ℕ) (b : Bool) → is_dir_at j s.nodes ≡ b → dir_number s.nodes j ≡ Some k → k < s.next
     test j true e at = let same : j ≡ k = grind (arith) in subst (λ i. i < s.next) same (node j (node_at j s.nodes) refl e)
     test j false e at = absurd (grind (arith))
+
     go : (o : Option ℕ) → number_from 0 names s.nodes ≡ o → k < s.next
     go None e = absurd (let none : None ≡ Some k = rw e at found in cc)
     go (Some j) e = test j (is_dir_at j s.nodes) refl (rw e at found)

@@ -54,7 +54,5 @@ fn add_hidden<T: Tree>(world: &mut World<T>, node: NodeRef) -> Result<(), LineEr
 fn is_hidden_by(hidden: &[NodeRef], node: NodeRef) -> bool
     ensures { result ≡ is_hidden_by hidden.now node }
 {
-    hidden
-        .iter()
-        .any(|other| other.server == node.server && other.number == node.number)
+    hidden.iter().any(|other| other.server == node.server && other.number == node.number)
 }

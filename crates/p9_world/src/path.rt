@@ -10,10 +10,7 @@ use std::alloc::Allocator;
 
 /// The names along a cleaned path, or `None` where it doesn't begin with a slash or has a name that
 /// no file may have. The root has none. The only error is want of memory.
-pub fn names_of<A: Allocator + Copy>(
-    alloc: A,
-    path: &str,
-) -> Result<Option<Vec<Name, A>>, NoMemory>
+pub fn names_of<A: Allocator + Copy>(alloc: A, path: &str) -> Result<Option<Vec<Name, A>>, NoMemory>
     ensures { IfOk result (λ found. option_map (λ names. names.items) found ≡ names_of path.now) }
 {
     if !path.starts_with('/') {

@@ -130,11 +130,7 @@ fn server_line<T: Tree>(
     }
 }
 
-fn dir_line<T: Tree>(
-    alloc: T::Alloc,
-    world: &mut World<T>,
-    words: &[&str],
-) -> Result<(), LineError>
+fn dir_line<T: Tree>(alloc: T::Alloc, world: &mut World<T>, words: &[&str]) -> Result<(), LineError>
     ensures { Makes (operated Dir (map (λ w. w.now) words.now) world.old) world.old world.new result }
 {
     match words {
@@ -178,11 +174,7 @@ fn hide_line<T: Tree>(
     }
 }
 
-fn set_line<T: Tree>(
-    alloc: T::Alloc,
-    world: &mut World<T>,
-    words: &[&str],
-) -> Result<(), LineError>
+fn set_line<T: Tree>(alloc: T::Alloc, world: &mut World<T>, words: &[&str]) -> Result<(), LineError>
     ensures { Makes (operated Set (map (λ w. w.now) words.now) world.old) world.old world.new result }
 {
     match words {

@@ -52,5 +52,6 @@ fn is_server_name(name: &str) -> bool
 fn has_reserved(name: &str) -> bool
     ensures { result ≡ list_any is_reserved name.now }
 {
-    name.bytes().any(|b| b == b'/' || b == b'#' || b == b'$' || b == 0)
+    name.bytes()
+        .any(|b| b == b'/' || b == b'#' || b == b'$' || b == 0)
 }

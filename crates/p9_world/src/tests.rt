@@ -1,1 +1,5 @@
-// tests follow
+//! Worlds and what is wrong with them, against samples and rows from outside.
+
+mod faults;
+mod refusals;
+mod samples;
