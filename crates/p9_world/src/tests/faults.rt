@@ -1,5 +1,7 @@
 //! What is wrong with a line: each fault once, and which of two it is.
 
+use crate::error::LineError;
+use crate::server::add_server;
 use crate::{LineFault, SERVERS_MAX, WorldError, read_world};
 use p9_tree::{FILE_MAX, PlainTree};
 use std::alloc::{AllocError, Global};
@@ -281,8 +283,8 @@ fn large_files_are_told(rt: HostRuntime) -> Result<(), Fail> {
     Ok(())
 }
 
-// As many servers as a world has, and one line more.
-fn all_servers(alloc: Global, end: &str) -> Result<String, AllocError> {
+// As many servers as a world has, and a directory.
+fn all_servers(alloc: Global) -> Result<String, AllocError> {
     let mut text = String::new(alloc);
     for number in 0..SERVERS_MAX {
         text.push_str("server ")?;
@@ -292,23 +294,25 @@ fn all_servers(alloc: Global, end: &str) -> Result<String, AllocError> {
         let line = format!(in alloc; "{number}\n")?;
         text.push_str(line.as_str())?;
     }
-    text.push_str(end)?;
+    text.push_str("dir /a 755 u u")?;
     Ok(text)
 }
 
 #[test]
 fn one_server_more_is_told(rt: HostRuntime) -> Result<(), Fail> {
     let alloc = rt.alloc();
-    for (end, kind) in [
-        ("server y", LineFault::TooMany),
-        ("server 0", LineFault::Duplicate),
-        ("server $", LineFault::BadName),
-    ] {
-        let text = all_servers(alloc, end)?;
-        is_bad(&rt, alloc, text.as_str(), 65_537, kind);
-    }
-    let text = all_servers(alloc, "dir /a 755 u u")?;
-    let world = read_world::<PlainTree<Global>>(alloc, text.as_str())?;
+    let text = all_servers(alloc)?;
+    let mut world = read_world::<PlainTree<Global>>(alloc, text.as_str())?;
     assert_eq!(rt; world.forest.next_of(65_535), 2);
+    for (name, kind) in [
+        ("y", LineFault::TooMany),
+        ("0", LineFault::Duplicate),
+        ("$", LineFault::BadName),
+    ] {
+        assert_eq!(rt;
+            add_server(alloc, &mut world, name),
+            Err(LineError::Bad(kind))
+        );
+    }
     Ok(())
 }
