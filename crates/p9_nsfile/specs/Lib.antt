@@ -1,0 +1,7 @@
+pub mod Flags
+pub mod Operation
+pub mod Line
+pub mod Variable
+pub mod Space
+pub mod Answer
+pub mod Find

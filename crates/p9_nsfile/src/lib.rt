@@ -1,0 +1,15 @@
+//! Namespace files, as namespace(6): the mounts and binds of a user, run into a mount table.
+#![tactic(auto)]
+
+mod error;
+mod fault;
+mod find;
+mod flags;
+mod line;
+mod operation;
+mod setting;
+mod space;
+mod variable;
+
+pub use error::{BadForm, NsError};
+pub use fault::OpFault;
