@@ -1,9 +1,9 @@
 -- Lists that are read through a view, as the words of a line are.
-use Rattle.std.proofs.Common.{◌≡◌, ℕ, ◌+◌, ◌-◌, ◌<◌, Bool, true, false, cond, List, [], ◌∷◌, ◌++◌, Option, Some, None, Result, Ok, Err, Bor, subst, map, length, take, drop, get_or, refl, sym, ap, ◌∙◌, arith, append_assoc, length-drop, find, string_bytes, ◌||◌}
-use Rattle.std.proofs.lemmas.List.{take-map, drop-map, take_all, drop_more}
+use Rattle.std.proofs.Common.{◌≡◌, ℕ, ◌+◌, ◌-◌, ◌<◌, Bool, true, false, cond, List, [], ◌∷◌, ◌++◌, Option, Some, None, Result, Ok, Err, Bor, subst, map, length, not, position, take, drop, get_or, refl, sym, ap, ◌∙◌, arith, append_assoc, length-drop, find, string_bytes, ◌||◌}
+use Rattle.std.proofs.lemmas.List.{take-map, drop-map, take_all, drop_more, length-map}
 use Rattle.std.specs.Option.{option_map, option_map_or}
 use Rattle.std.specs.Result.{IfErr, IsErrAnd}
-use Rattle.std.specs.List.{flat_map, list_any, prefix_len}
+use Rattle.std.specs.List.{flat_map, list_any, position_or_len, prefix_len}
 use Rattle.std.specs.Str.{bytes_eq}
 use Rattle.std.specs.declared.string.String.{String}
 use Rattle.p9_nsfile.specs.declared.flags.Flags.{Flags}
@@ -61,3 +61,9 @@ written_more f pieces i d written within =
 pub IfErr-same : {T E : Type 0} (r : Result T E) (x : E) (P : E → Type 0) → IsErrAnd r (λ e. e ≡ x) → P x → IfErr r P
 IfErr-same (Ok value) x P is holds = tt
 IfErr-same (Err e) x P is holds = subst P (sym is) holds
+
+-- the first place that passes
+pub position-map : {X Y : Type 0} (view : X → Y) (test : Y → Bool) (xs : List X) → position (λ x. test (view x)) xs ≡ position test (map view xs)
+position-map view test xs =
+    let place : position_or_len (λ x. test (view x)) xs ≡ position_or_len test (map view xs) = prefix_len-map view (λ y. not (test y)) xs in
+    rw (place, length-map xs view) refl

@@ -1,5 +1,8 @@
 -- What a function that may lack memory has to answer.
-use Rattle.std.specs.Prelude.{◌≡◌, Result, Ok, Err}
+use Rattle.std.specs.Prelude.{◌≡◌, Bool, true, false, Result, Ok, Err, if◌then◌else◌}
+use Rattle.p9_base.specs.declared.fault.Fault as fault
+use Rattle.p9_base.specs.declared.fault.Fault.TheVariants as faults
+use Rattle.p9_nsfile.specs.declared.fault.OpFault.TheVariants.{Path}
 use Rattle.p9_nsfile.specs.declared.fault.OpFault.{OpFault}
 use Rattle.p9_nsfile.specs.declared.fault.Stop.{Stop}
 use Rattle.p9_nsfile.specs.declared.fault.Stop.TheVariants.{Fault, NoMemory}
@@ -16,3 +19,11 @@ abbrev pub Acts : {U : Type 0} → Result Space OpFault → Space → Space → 
 Acts answer old new (Ok u) = answer ≡ Ok new
 Acts answer old new (Err (Fault fault)) = (answer ≡ Err fault) × (new ≡ old)
 Acts answer old new (Err NoMemory) = Unit {0}
+
+-- want of memory, among the faults of a walk
+abbrev pub is_memory : fault.Fault → Bool
+is_memory faults.OutOfMemory = true
+is_memory other = false
+
+abbrev pub walk_stop : fault.Fault → Stop
+walk_stop fault = if is_memory fault then NoMemory else Fault (Path fault)

@@ -1,5 +1,5 @@
 -- The file that a word of a namespace file names.
-use Rattle.std.specs.Prelude.{ℕ, ◌==◌, List, [], ◌∷◌, Option, None, Result, Ok, Err, take, drop, position, slice_index, if◌then◌else◌}
+use Rattle.std.specs.Prelude.{ℕ, ◌==◌, List, [], ◌∷◌, Option, Some, None, Result, Ok, Err, take, position, if◌then◌else◌}
 use Rattle.std.specs.Option.{option_map_or}
 use Rattle.std.specs.List.{before_first, after_first}
 use Rattle.std.specs.Str.{bytes_eq}
@@ -10,7 +10,7 @@ use Rattle.p9_clean.specs.Path.{cleaned_elements, is_rooted, slash}
 use Rattle.p9_space.specs.Walk.{walk}
 use Rattle.p9_nsfile.specs.declared.fault.OpFault.{OpFault}
 use Rattle.p9_nsfile.specs.declared.fault.OpFault.TheVariants.{Path, UnknownServer}
-use Rattle.p9_nsfile.specs.declared.find.TheConstants.{SERVERS_MAX}
+use Rattle.p9_nsfile.specs.declared.setting.TheConstants.{SERVERS_MAX}
 use Rattle.p9_nsfile.specs.Flags.{Word}
 use Rattle.p9_nsfile.specs.Space.{Setting, Space, root_place}
 use Rattle.p9_nsfile.specs.Variable.{expanded, is_slash}
@@ -26,6 +26,11 @@ server_root servers name =
     option_map_or (λ number. Ok (record { server = number; number = 0 }))
     (position (λ server. bytes_eq server name) (take SERVERS_MAX servers)) (Err UnknownServer)
 
+-- what stands behind the '#' at the front, which names a server
+abbrev pub behind_hash : Word → Option Word
+behind_hash [] = None
+behind_hash (b ∷ bs) = if b == 35 then Some bs else None
+
 module _ (setting : Setting) (space : Space) where
   -- along the cleaned path; no permission is needed
   abbrev pub walked : List NodeRef → Word → Result (List NodeRef) OpFault
@@ -40,9 +45,8 @@ module _ (setting : Setting) (space : Space) where
   found_on_server path =
       and_then (server_root setting.servers (before_first is_slash path)) (λ root. walked (root ∷ []) (slash ∷ after_first is_slash path))
 
-  -- `#` names a server
   abbrev pub found_at : Word → Result (List NodeRef) OpFault
-  found_at path = if slice_index path 0 == 35 then found_on_server (drop 1 path) else found_from path
+  found_at path = option_map_or found_on_server (behind_hash path) (found_from path)
 
   -- the trail to the file that a word names, with the variables' values put in
   abbrev pub found : Word → Result (List NodeRef) OpFault

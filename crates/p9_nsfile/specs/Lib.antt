@@ -5,3 +5,4 @@ pub mod Variable
 pub mod Space
 pub mod Answer
 pub mod Find
+pub mod Bind

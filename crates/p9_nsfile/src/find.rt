@@ -1,25 +1,21 @@
 //! The files that a namespace file names.
 
-ghost use Rattle.std.specs.Prelude.{◌≡◌, ◌<◌, IfSome, length, position, string_bytes};
+ghost use Rattle.std.specs.Prelude.{◌≡◌, ◌∷◌, [], IfOk, string_bytes};
 ghost use Rattle.std.specs.List.{after_first, before_first};
-ghost use Rattle.std.specs.Str.{bytes_eq};
+ghost use Rattle.std.specs.Option.{option_copied};
+ghost use Rattle.p9_clean.specs.Path.{slash};
 ghost use Rattle.p9_nsfile.specs.Answer.{Gives};
-ghost use Rattle.p9_nsfile.specs.Find.{found, found_at, found_from, found_on_server, server_root, walked};
-ghost use Rattle.p9_nsfile.specs.Space.{names_of};
+ghost use Rattle.p9_nsfile.specs.Find.{behind_hash, found, found_at, found_from, found_on_server, walked};
 ghost use Rattle.p9_nsfile.specs.Variable.{is_slash};
 
-use crate::fault::{OpFault, Stop};
+use crate::fault::Stop;
 use crate::setting::Setting;
 use crate::space::Space;
-use crate::variable::expand;
-use p9_base::{Fault, NodeRef};
+use p9_base::{NoMemory, NodeRef};
 use p9_clean::{clean, elements};
-use p9_space::{Trail, resolve};
+use p9_space::Trail;
 use p9_tree::Tree;
 use std::alloc::Allocator;
-
-/// The greatest number of servers: a server's number has 16 bits.
-pub(crate) const SERVERS_MAX: usize = 1 << 16;
 
 /// Where a path that begins with `/` starts, and the first current directory: the root of server 0.
 pub(crate) const ROOT_PLACE: NodeRef = NodeRef {
@@ -31,7 +27,8 @@ pub(crate) const ROOT_PLACE: NodeRef = NodeRef {
 ///
 /// `/` starts at the root place, `#name` at the root of that server, and any other path at the
 /// current directory. The path is cleaned, and no permission is needed on its way. Faults are
-/// [`OpFault::UnknownServer`], and [`OpFault::Path`] with that of the first step that is refused.
+/// [`crate::OpFault::UnknownServer`], and [`crate::OpFault::Path`] with that of the first step that
+/// is refused.
 pub(crate) fn find<T: Tree>(
     setting: &Setting<'_, T>,
     space: &Space<T::Alloc>,
@@ -39,7 +36,7 @@ pub(crate) fn find<T: Tree>(
 ) -> Result<Trail<T::Alloc>, Stop>
     ensures { Gives (found setting.now space.now word.now) result }
 {
-    let path = expand(setting.alloc, word, setting.vars)?;
+    let path = setting.expand(word)?;
     find_path(setting, space, path.as_str())
 }
 
@@ -51,10 +48,17 @@ fn find_path<T: Tree>(
 ) -> Result<Trail<T::Alloc>, Stop>
     ensures { Gives (found_at setting.now space.now path.now) result }
 {
-    match path.strip_prefix('#') {
+    match behind_hash(path) {
         Some(rest) => find_on_server(setting, space, rest),
         None => find_from(setting, space, path),
     }
+}
+
+// What stands behind the `#` at the front of a path.
+fn behind_hash(path: &str) -> Option<&str>
+    ensures { option_copied result ≡ behind_hash path.now }
+{
+    path.strip_prefix('#')
 }
 
 // The trail to the file of a path that names no server.
@@ -66,10 +70,10 @@ fn find_from<T: Tree>(
     ensures { Gives (found_from setting.now space.now path.now) result }
 {
     if path.starts_with('/') {
-        let root = Trail::at(setting.alloc, ROOT_PLACE)?;
+        let root = setting.trail_at(ROOT_PLACE)?;
         walk(setting, space, &root, path)
     } else {
-        walk(setting, space, &space.current, path)
+        walk(setting, space, space.current(), path)
     }
 }
 
@@ -83,11 +87,10 @@ fn find_on_server<T: Tree>(
     ensures { Gives (found_on_server setting.now space.now path.now) result }
 {
     let (name, rest) = split_name(path);
-    let root = server_root(setting.servers, name)?;
-    let root = Trail::at(setting.alloc, root)?;
-    let mut path = String::from_str(setting.alloc, "/")?;
-    path.push_str(rest)?;
-    walk(setting, space, &root, path.as_str())
+    match setting.server_root(name) {
+        Ok(root) => walk_rooted(setting, space, root, rest),
+        Err(fault) => Err(Stop::Fault(fault)),
+    }
 }
 
 // What stands before the first slash of a path, and what behind it.
@@ -101,37 +104,29 @@ fn split_name(path: &str) -> (&str, &str)
     }
 }
 
-/// The root of the server of this name, or [`OpFault::UnknownServer`].
-pub(crate) fn server_root<A: Allocator>(
-    servers: &[String<A>],
-    name: &str,
-) -> Result<NodeRef, OpFault>
-    ensures { result ≡ server_root (names_of servers.now) name.now }
+// Walks from a root along what stands behind a slash.
+fn walk_rooted<T: Tree>(
+    setting: &Setting<'_, T>,
+    space: &Space<T::Alloc>,
+    root: NodeRef,
+    rest: &str,
+) -> Result<Trail<T::Alloc>, Stop>
+    ensures { Gives (walked setting.now space.now (root ∷ []) (slash ∷ rest.now)) result }
 {
-    let numbered = &servers[..servers.len().min(SERVERS_MAX)];
-    match server_number(numbered, name) {
-        Some(number) => Ok(NodeRef {
-            server: number as u16,
-            number: 0,
-        }),
-        None => Err(OpFault::UnknownServer),
-    }
+    let root = setting.trail_at(root)?;
+    let path = rooted(setting.alloc(), rest)?;
+    walk(setting, space, &root, path.as_str())
 }
 
-fn server_number<A: Allocator>(servers: &[String<A>], name: &str) -> Option<usize>
-    ensures number { result ≡ position (λ server. bytes_eq (string_bytes server) name.now) servers.now }
-    ensures within { IfSome result (λ number. number < length servers.now) }
+fn rooted<A: Allocator>(alloc: A, rest: &str) -> Result<String<A>, NoMemory>
+    ensures { IfOk result (λ path. string_bytes path ≡ slash ∷ rest.now) }
 {
-    servers.iter().position(|server| is_named(server, name))
+    let mut path = String::from_str(alloc, "/")?;
+    path.push_str(rest)?;
+    Ok(path)
 }
 
-fn is_named<A: Allocator>(server: &String<A>, name: &str) -> bool
-    ensures { result ≡ bytes_eq (string_bytes server.now) name.now }
-{
-    server.as_str() == name
-}
-
-// Walks along a path, cleaned, without a user.
+// Walks along a path, cleaned.
 fn walk<T: Tree>(
     setting: &Setting<'_, T>,
     space: &Space<T::Alloc>,
@@ -140,11 +135,7 @@ fn walk<T: Tree>(
 ) -> Result<Trail<T::Alloc>, Stop>
     ensures { Gives (walked setting.now space.now start.now path.now) result }
 {
-    let path = clean(setting.alloc, path)?;
-    let names = elements(setting.alloc, path.as_str())?;
-    match resolve(setting.forest, &space.table, start, &names, None) {
-        Ok(trail) => Ok(trail),
-        Err(Fault::OutOfMemory) => Err(Stop::NoMemory),
-        Err(fault) => Err(Stop::Fault(OpFault::Path(fault))),
-    }
+    let path = clean(setting.alloc(), path)?;
+    let names = elements(setting.alloc(), path.as_str())?;
+    setting.walk(space.table(), start, &names)
 }

@@ -1,6 +1,7 @@
 //! Namespace files, as namespace(6): the mounts and binds of a user, run into a mount table.
 #![tactic(auto)]
 
+mod bind;
 mod error;
 mod fault;
 mod find;
