@@ -1,5 +1,7 @@
 -- What a function that may lack memory has to answer.
-use Rattle.std.specs.Prelude.{◌≡◌, Bool, true, false, Result, Ok, Err, if◌then◌else◌}
+use Rattle.std.specs.Prelude.{◌≡◌, Bool, true, false, List, Result, Ok, Err, Vec, map, if◌then◌else◌}
+use Rattle.p9_nsfile.specs.declared.line.Line.{Line}
+use Rattle.p9_nsfile.specs.Line.{NumberedLine, line_value}
 use Rattle.p9_base.specs.declared.fault.Fault as fault
 use Rattle.p9_base.specs.declared.fault.Fault.TheVariants as faults
 use Rattle.p9_nsfile.specs.declared.fault.OpFault.TheVariants.{Path}
@@ -27,3 +29,9 @@ is_memory other = false
 
 abbrev pub walk_stop : fault.Fault → Stop
 walk_stop fault = if is_memory fault then NoMemory else Fault (Path fault)
+
+-- the lines, or the fault
+abbrev pub GivesLines : {A : Type 0} → Result (List NumberedLine) OpFault → Result (Vec Line A) Stop → Type 0
+GivesLines answer (Ok lines) = answer ≡ Ok (map line_value lines.items)
+GivesLines answer (Err (Fault fault)) = answer ≡ Err fault
+GivesLines answer (Err NoMemory) = Unit {0}

@@ -9,13 +9,12 @@ use Rattle.p9_space.specs.declared.row.Order.{Order}
 use Rattle.p9_space.specs.declared.row.Order.TheVariants.{Replace, Before, After}
 use Rattle.p9_space.specs.declared.table.UnmountError.{UnmountError}
 use Rattle.p9_space.specs.declared.table.UnmountError.TheVariants as u
-use Rattle.p9_space.specs.Place.{file_ref}
 use Rattle.p9_space.specs.Table.{MountRow, bound, members_of, unmounted}
 use Rattle.p9_space.specs.Trail.{here}
 use Rattle.p9_nsfile.specs.declared.fault.OpFault.{OpFault}
 use Rattle.p9_nsfile.specs.declared.fault.OpFault.TheVariants.{KindMismatch, NotMounted, NotMember, SpecGiven}
 use Rattle.p9_nsfile.specs.declared.flags.Flags.{Flags}
-use Rattle.p9_nsfile.specs.Find.{found, server_root}
+use Rattle.p9_nsfile.specs.Find.{found, found_file, server_root}
 use Rattle.p9_nsfile.specs.Flags.{Word}
 use Rattle.p9_nsfile.specs.Space.{Setting, Space}
 use Rattle.p9_nsfile.specs.Variable.{expanded}
@@ -45,12 +44,16 @@ put_at setting space key nodes flags =
 abbrev pub has_spec : Setting → Option Word → Bool
 has_spec setting spec = option_map_or (λ word. nat_lt 0 (length (expanded setting.vars word))) spec false
 
+-- the root on the old file
+abbrev pub root_mounted : Setting → Space → Flags → NodeRef → Word → Result Space OpFault
+root_mounted setting space flags root old =
+    and_then (found setting space old) (λ to. put_at setting space (here to) (root ∷ []) flags)
+
 -- `mount`: the server, the spec, then the old file; the server's root itself
 abbrev pub mounted_by : Setting → Space → Flags → Word → Word → Option Word → Result Space OpFault
 mounted_by setting space flags server old spec =
     and_then (server_root setting.servers (expanded setting.vars server)) (λ root.
-    if has_spec setting spec then Err SpecGiven
-    else and_then (found setting space old) (λ trail. put_at setting space (here trail) (root ∷ []) flags))
+    if has_spec setting spec then Err SpecGiven else root_mounted setting space flags root old)
 
 -- the nodes that stand for a place
 abbrev pub member_nodes : List MountRow → NodeRef → List NodeRef
@@ -80,6 +83,5 @@ abbrev pub unmounted_by : Setting → Space → Option Word → Word → Result 
 unmounted_by setting space None old =
     and_then (found setting space old) (λ to. taken_away space (here to) None)
 unmounted_by setting space (Some new) old =
-    and_then (found setting space new) (λ from.
-    and_then (found setting space old) (λ to.
-    taken_away space (here to) (Some (file_ref (here from) space.table))))
+    and_then (found_file setting space new) (λ file.
+    and_then (found setting space old) (λ to. taken_away space (here to) (Some file)))

@@ -7,6 +7,8 @@ use Rattle.p9_base.specs.declared.node_ref.NodeRef.{NodeRef}
 use Rattle.p9_base.specs.declared.fault.Fault.{Fault}
 use Rattle.p9_base.specs.TryFold.{and_then}
 use Rattle.p9_clean.specs.Path.{cleaned_elements, is_rooted, slash}
+use Rattle.p9_space.specs.Place.{file_ref}
+use Rattle.p9_space.specs.Trail.{here}
 use Rattle.p9_space.specs.Walk.{walk}
 use Rattle.p9_nsfile.specs.declared.fault.OpFault.{OpFault}
 use Rattle.p9_nsfile.specs.declared.fault.OpFault.TheVariants.{Path, UnknownServer}
@@ -51,3 +53,7 @@ module _ (setting : Setting) (space : Space) where
   -- the trail to the file that a word names, with the variables' values put in
   abbrev pub found : Word → Result (List NodeRef) OpFault
   found word = found_at (expanded setting.vars word)
+
+  -- the file that a word names: the first that stands for its place
+  abbrev pub found_file : Word → Result NodeRef OpFault
+  found_file word = and_then (found word) (λ trail. Ok (file_ref (here trail) space.table))

@@ -6,3 +6,4 @@ pub mod Space
 pub mod Answer
 pub mod Find
 pub mod Bind
+pub mod Run

@@ -1,12 +1,12 @@
 //! Mounts, binds, and what takes them away, as bind(1).
 
-ghost use Rattle.std.specs.Prelude.{◌≡◌, IfOk};
+ghost use Rattle.std.specs.Prelude.{◌≡◌, IfOk, None, Some};
 ghost use Rattle.std.specs.Option.{option_copied};
 ghost use Rattle.p9_nsfile.specs.Answer.{Acts};
-ghost use Rattle.p9_nsfile.specs.Bind.{bound_by, has_spec, is_replace, may_hold, mounted_by, put_at, unmounted_by};
+ghost use Rattle.p9_nsfile.specs.Bind.{bound_by, has_spec, is_replace, may_hold, mounted_by, put_at, root_mounted, unmounted_by};
 
 use crate::fault::{OpFault, Stop};
-use crate::find::find;
+use crate::find::{find, find_file};
 use crate::flags::Flags;
 use crate::setting::Setting;
 use crate::space::Space;
@@ -34,8 +34,21 @@ pub(crate) fn mount<T: Tree>(
     if has_spec(setting, spec)? {
         return Err(Stop::Fault(OpFault::SpecGiven));
     }
-    let key = find(setting, space, old)?.here();
-    put(setting, space, key, &[root], flags)
+    mount_root(setting, space, flags, root, old)
+}
+
+// Mounts the root, itself.
+fn mount_root<T: Tree>(
+    setting: &Setting<'_, T>,
+    space: &mut Space<T::Alloc>,
+    flags: Flags,
+    root: NodeRef,
+    old: &str,
+) -> Result<(), Stop>
+    ensures { Acts (root_mounted setting.now space.old flags root old.now) space.old space.new result }
+{
+    let to = find(setting, space, old)?.here();
+    put(setting, space, to, &[root], flags)
 }
 
 // Whether a spec is given: with its variables put in it isn't empty.
@@ -117,14 +130,31 @@ pub(crate) fn unmount<T: Tree>(
     ensures { Acts (unmounted_by setting.now space.old (option_copied new.entry) old.now) space.old space.new result }
 {
     match new {
-        Some(new) => {
-            let from = find(setting, space, new)?.here();
-            let to = find(setting, space, old)?.here();
-            space.take_away(to, Some(space.file(from)))
-        }
-        None => {
-            let to = find(setting, space, old)?.here();
-            space.take_away(to, None)
-        }
+        Some(new) => unmount_file(setting, space, new, old),
+        None => unmount_all(setting, space, old),
     }
+}
+
+fn unmount_all<T: Tree>(
+    setting: &Setting<'_, T>,
+    space: &mut Space<T::Alloc>,
+    old: &str,
+) -> Result<(), Stop>
+    ensures { Acts (unmounted_by setting.now space.old None old.now) space.old space.new result }
+{
+    let to = find(setting, space, old)?.here();
+    space.take_away(to, None)
+}
+
+fn unmount_file<T: Tree>(
+    setting: &Setting<'_, T>,
+    space: &mut Space<T::Alloc>,
+    new: &str,
+    old: &str,
+) -> Result<(), Stop>
+    ensures { Acts (unmounted_by setting.now space.old (Some new.now) old.now) space.old space.new result }
+{
+    let file = find_file(setting, space, new)?;
+    let to = find(setting, space, old)?.here();
+    space.take_away(to, Some(file))
 }

@@ -5,7 +5,7 @@ ghost use Rattle.std.specs.List.{after_first, before_first};
 ghost use Rattle.std.specs.Option.{option_copied};
 ghost use Rattle.p9_clean.specs.Path.{slash};
 ghost use Rattle.p9_nsfile.specs.Answer.{Gives};
-ghost use Rattle.p9_nsfile.specs.Find.{behind_hash, found, found_at, found_from, found_on_server, walked};
+ghost use Rattle.p9_nsfile.specs.Find.{behind_hash, found, found_at, found_file, found_from, found_on_server, walked};
 ghost use Rattle.p9_nsfile.specs.Variable.{is_slash};
 
 use crate::fault::Stop;
@@ -38,6 +38,18 @@ pub(crate) fn find<T: Tree>(
 {
     let path = setting.expand(word)?;
     find_path(setting, space, path.as_str())
+}
+
+/// The file that a word names: the first that stands for its place.
+pub(crate) fn find_file<T: Tree>(
+    setting: &Setting<'_, T>,
+    space: &Space<T::Alloc>,
+    word: &str,
+) -> Result<NodeRef, Stop>
+    ensures { Gives (found_file setting.now space.now word.now) result }
+{
+    let place = find(setting, space, word)?.here();
+    Ok(space.file(place))
 }
 
 // The trail to the file that a path names.

@@ -8,9 +8,11 @@ mod find;
 mod flags;
 mod line;
 mod operation;
+mod run;
 mod setting;
 mod space;
 mod variable;
 
 pub use error::{BadForm, NsError};
 pub use fault::OpFault;
+pub use run::{NESTED_MAX, run_file};

@@ -7,7 +7,7 @@ ghost use Rattle.p9_tree.specs.Forest.{is_dir_of, node_of};
 ghost use Rattle.p9_space.specs.Walk.{walk};
 ghost use Rattle.p9_nsfile.specs.Answer.{Gives, walk_stop};
 ghost use Rattle.p9_nsfile.specs.Find.{path_fault, server_root};
-ghost use Rattle.p9_nsfile.specs.Space.{names_of};
+ghost use Rattle.p9_nsfile.specs.Space.{names_of, variables_of};
 ghost use Rattle.p9_nsfile.specs.Variable.{expanded};
 
 use crate::fault::{OpFault, Stop};
@@ -24,10 +24,10 @@ pub(crate) const SERVERS_MAX: usize = 1 << 16;
 /// What no operation changes: the trees of the servers, the variables and the servers' names.
 #[derive(Drop)]
 pub(crate) struct Setting<'a, T: Tree> {
-    pub alloc: T::Alloc,
-    pub forest: &'a Forest<T>,
-    pub vars: &'a [(String<T::Alloc>, String<T::Alloc>)],
-    pub servers: &'a [String<T::Alloc>],
+    alloc: T::Alloc,
+    forest: &'a Forest<T>,
+    vars: &'a [(String<T::Alloc>, String<T::Alloc>)],
+    servers: &'a [String<T::Alloc>],
 }
 
 impl<'a, T: Tree> Model for Setting<'a, T> {
@@ -40,6 +40,23 @@ impl<'a, T: Tree> Model for Setting<'a, T> {
 }
 
 impl<'a, T: Tree> Setting<'a, T> {
+    /// The setting of these trees, variables and servers' names. This takes no memory.
+    pub fn new(
+        alloc: T::Alloc,
+        forest: &'a Forest<T>,
+        vars: &'a [(String<T::Alloc>, String<T::Alloc>)],
+        servers: &'a [String<T::Alloc>],
+    ) -> Setting<'a, T>
+        ensures { result ≡ record { forest = map T.state forest.now.trees.items; vars = variables_of vars.now; servers = names_of servers.now } }
+    {
+        Setting {
+            alloc,
+            forest,
+            vars,
+            servers,
+        }
+    }
+
     /// The allocator of all that grows.
     pub fn alloc(&self) -> T::Alloc {
         self.alloc

@@ -4,9 +4,11 @@ ghost use Rattle.std.specs.Prelude.{◌≡◌, ◌∷◌, ◌++◌, ◌<◌, [],
 ghost use Rattle.p9_space.specs.Place.{file_ref};
 ghost use Rattle.p9_space.specs.Table.{bound};
 ghost use Rattle.p9_nsfile.specs.Answer.{Acts};
+ghost use Rattle.p9_nsfile.specs.Space.{beginning};
 ghost use Rattle.p9_nsfile.specs.Bind.{member_nodes, taken_away, unmount_fault, with_table};
 
 use crate::fault::{OpFault, Stop};
+use crate::find::ROOT_PLACE;
 use crate::flags::Flags;
 use p9_base::{NoMemory, NodeRef};
 use p9_space::{Member, MountTable, Trail, UnmountError};
@@ -17,9 +19,9 @@ use std::marker::Model;
 /// the fault.
 #[derive(Drop)]
 pub(crate) struct Space<A: Allocator + Copy> {
-    pub table: MountTable<A>,
-    pub current: Trail<A>,
-    pub reports: Vec<(u64, OpFault), A>,
+    table: MountTable<A>,
+    current: Trail<A>,
+    reports: Vec<(u64, OpFault), A>,
 }
 
 impl<A: Allocator + Copy> Model for Space<A> {
@@ -31,6 +33,30 @@ impl<A: Allocator + Copy> Model for Space<A> {
 }
 
 impl<A: Allocator + Copy> Space<A> {
+    /// A copy of the table, where the current directory is the root place, without reports.
+    pub fn begin(alloc: A, table: &MountTable<A>) -> Result<Space<A>, NoMemory>
+        ensures { IfOk result (λ space. space ≡ beginning table.now) }
+    {
+        Ok(Space {
+            table: table.copy()?,
+            current: Trail::at(alloc, ROOT_PLACE)?,
+            reports: Vec::new(alloc),
+        })
+    }
+
+    /// The mount table and the reports.
+    pub fn into_parts(self) -> (MountTable<A>, Vec<(u64, OpFault), A>)
+        ensures table { result.0 ≡ self.table }
+        ensures reports { result.1.items ≡ self.reports }
+    {
+        let Space {
+            table,
+            current: _,
+            reports,
+        } = self;
+        (table, reports)
+    }
+
     /// The mount table.
     pub fn table(&self) -> &MountTable<A>
         ensures { result.now ≡ self.now.table }

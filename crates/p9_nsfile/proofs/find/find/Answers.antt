@@ -1,4 +1,4 @@
-use Rattle.std.proofs.Common.{◌∙◌, sym, subst}
+use Rattle.std.proofs.Common.{◌∙◌, subst}
 use Rattle.p9_nsfile.specs.Answer.{Gives}
 use Rattle.p9_nsfile.specs.Find.{found_at}
 use Rattle.p9_nsfile.proofs.find.find.Goals as goal
