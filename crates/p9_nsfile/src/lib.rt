@@ -11,6 +11,8 @@ mod operation;
 mod run;
 mod setting;
 mod space;
+#[cfg(test)]
+mod tests;
 mod variable;
 
 pub use error::{BadForm, NsError};
