@@ -41,9 +41,9 @@ Gives-walk_stop answer fault reason = ⊎_elim
     (λ memory. subst (λ f. Gives {X = List NodeRef} (path_fault answer) (Err (walk_stop f))) (sym memory) tt)
     (λ walks. by_test (is_memory fault) (ap path_fault walks))
     reason where
-  by_test : (b : Bool) → path_fault answer ≡ Err (Path fault) → Gives {X = List NodeRef} (path_fault answer) (Err (if b then stops.NoMemory else stops.Fault (Path fault)))
-  by_test true walks = tt
-  by_test false walks = walks
+      by_test : (b : Bool) → path_fault answer ≡ Err (Path fault) → Gives {X = List NodeRef} (path_fault answer) (Err (if b then stops.NoMemory else stops.Fault (Path fault)))
+      by_test true walks = tt
+      by_test false walks = walks
 
 -- what `strip_prefix` says of a '#'
 pub behind_hash-is : (path : List ℕ) (rest : Option (Bor (List ℕ))) → MatchOption rest ((r : List ℕ) → path ≢ 35 ∷ r) (λ r. path ≡ 35 ∷ r.now) → option_copied rest ≡ behind_hash path

@@ -47,7 +47,7 @@ pub flagged_form : (form : Option Flags → List Word → Form) (words : List (B
 flagged_form form words n said result count flags is =
     let front : texts (take n words) ≡ leading_flags (texts words) = sym (take-map (λ w. w.now) n words) ∙ ap (λ k. take k (texts words)) count in
     let behind : texts (take (length words - n) (drop n words)) ≡ behind_flags (texts words) =
-      ap texts (take_all (length words - n) (drop n words) (omega (arith, length-drop n words))) ∙ sym (drop-map (λ w. w.now) n words) ∙ ap (λ k. drop k (texts words)) count in
+    ap texts (take_all (length words - n) (drop n words) (omega (arith, length-drop n words))) ∙ sym (drop-map (λ w. w.now) n words) ∙ ap (λ k. drop k (texts words)) count in
     is ∙ ap (λ s. form s (texts (take (length words - n) (drop n words)))) (flags ∙ ap flags_of front) ∙ ap (form (flags_of (leading_flags (texts words)))) behind
 
 -- one piece more is written, and the rest is left

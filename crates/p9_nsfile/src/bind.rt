@@ -97,7 +97,12 @@ fn put<T: Tree>(
 
 // Whether the nodes may stand for the key: directories for a directory, and in the place of a file a
 // file. The first node is asked.
-fn may_hold<T: Tree>(setting: &Setting<'_, T>, order: Order, key: NodeRef, nodes: &[NodeRef]) -> bool
+fn may_hold<T: Tree>(
+    setting: &Setting<'_, T>,
+    order: Order,
+    key: NodeRef,
+    nodes: &[NodeRef],
+) -> bool
     ensures { result ≡ may_hold setting.now.forest order key nodes.now }
 {
     let [first, ..] = nodes else {

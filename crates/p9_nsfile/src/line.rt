@@ -20,7 +20,10 @@ pub(crate) struct Line<'a> {
 
 /// The lines of a text, in order, blank lines and comments left out. The errors are the first line of
 /// bad form, [`NsError::BadLine`], and want of memory.
-pub(crate) fn read_lines<A: Allocator + Copy>(alloc: A, text: &str) -> Result<Vec<Line<'_>, A>, NsError>
+pub(crate) fn read_lines<A: Allocator + Copy>(
+    alloc: A,
+    text: &str,
+) -> Result<Vec<Line<'_>, A>, NsError>
     ensures ok { IfOk result (λ found. lines_in text.now ≡ Ok (map line_value found.items)) }
     ensures err { IfErr result (λ e. (e ≡ OutOfMemory) ⊎ (lines_in text.now ≡ Err e)) }
 {

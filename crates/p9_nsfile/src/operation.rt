@@ -18,15 +18,26 @@ pub(crate) enum Operation<W> {
         spec: Option<W>,
     },
     /// Binds a file or directory.
-    Bind { flags: Flags, new: W, old: W },
+    Bind {
+        flags: Flags,
+        new: W,
+        old: W,
+    },
     /// Changes the current directory.
-    Cd { dir: W },
+    Cd {
+        dir: W,
+    },
     /// Takes away what is mounted, or one member of it.
-    Unmount { new: Option<W>, old: W },
+    Unmount {
+        new: Option<W>,
+        old: W,
+    },
     /// Takes away all mounts and binds.
     Clear,
     /// Runs the lines of a file: `. path`.
-    Include { path: W },
+    Include {
+        path: W,
+    },
     /// Mounts a tree of another machine. It isn't offered.
     Import,
 }
@@ -103,10 +114,7 @@ fn mount<'a>(words: &[&'a str]) -> Result<Operation<&'a str>, BadForm>
 }
 
 // A mount of these words behind the flags, which are counted before the flags are looked at.
-fn mount_form<'a>(
-    flags: Option<Flags>,
-    words: &[&'a str],
-) -> Result<Operation<&'a str>, BadForm>
+fn mount_form<'a>(flags: Option<Flags>, words: &[&'a str]) -> Result<Operation<&'a str>, BadForm>
     ensures { form_value result ≡ mount_form flags (map (λ w. w.now) words.now) }
 {
     match words {
@@ -143,10 +151,7 @@ fn bind<'a>(words: &[&'a str]) -> Result<Operation<&'a str>, BadForm>
 }
 
 // A bind of these words behind the flags, which are counted before the flags are looked at.
-fn bind_form<'a>(
-    flags: Option<Flags>,
-    words: &[&'a str],
-) -> Result<Operation<&'a str>, BadForm>
+fn bind_form<'a>(flags: Option<Flags>, words: &[&'a str]) -> Result<Operation<&'a str>, BadForm>
     ensures { form_value result ≡ bind_form flags (map (λ w. w.now) words.now) }
 {
     match words {

@@ -123,11 +123,7 @@ fn act<T: Tree>(
 }
 
 // Makes a directory the current one.
-fn cd<T: Tree>(
-    setting: &Setting<'_, T>,
-    space: &mut Space<T::Alloc>,
-    dir: &str,
-) -> Result<(), Stop>
+fn cd<T: Tree>(setting: &Setting<'_, T>, space: &mut Space<T::Alloc>, dir: &str) -> Result<(), Stop>
     ensures { Acts (entered setting.now space.old dir.now) space.old space.new result }
 {
     let trail = find(setting, space, dir)?;

@@ -40,7 +40,11 @@ fn node(number: u64) -> NodeRef {
 // Adds the node where the tree's look-ups say that it may be added.
 fn add<T: Tree>(rt: &impl Abort, tree: &mut T, made: &Made) -> Result<(), NoMemory> {
     let owner = User::new("glenda").expect(rt, "a user");
-    let mode = if made.file.is_some() { 0x1a4 } else { 0x8000_01ed };
+    let mode = if made.file.is_some() {
+        0x1a4
+    } else {
+        0x8000_01ed
+    };
     let new = New {
         name: Name::new(made.name).expect(rt, "a name"),
         mode: Mode::from_bits(mode).expect(rt, "a mode"),
@@ -118,10 +122,10 @@ fn makes<A: Allocator + Copy>(
 // Nodes 1 to 4: /usr, /usr/glenda, /usr/glenda/tmp and /tmp.
 fn home_nodes() -> [Made; 4] {
     [
-    dir(0, "usr"),
-    dir(1, "glenda"),
-    dir(2, "tmp"),
-    dir(0, "tmp"),
+        dir(0, "usr"),
+        dir(1, "glenda"),
+        dir(2, "tmp"),
+        dir(0, "tmp"),
     ]
 }
 
@@ -133,10 +137,10 @@ fn small_nodes() -> [Made; 3] {
 // Nodes 1 to 4: /u, /u/n, /x and /x/n.
 fn union_nodes() -> [Made; 4] {
     [
-    dir(0, "u"),
-    file(1, "n", "u"),
-    dir(0, "x"),
-    file(3, "n", "x"),
+        dir(0, "u"),
+        file(1, "n", "u"),
+        dir(0, "x"),
+        file(3, "n", "x"),
     ]
 }
 
@@ -151,7 +155,14 @@ fn row_namespace_file(rt: HostRuntime) -> Result<(), Fail> {
     assert_eq!(rt; refused, Err(error));
     let text = "# temporary\nbind -c $home/tmp /tmp\nbind /none /tmp\n";
     let reports = [(3, OpFault::Path(Fault::NotFound))];
-    makes(&rt, rt.alloc(), &home_nodes(), text, &reports, &[(4, &[(3, true)])])?;
+    makes(
+        &rt,
+        rt.alloc(),
+        &home_nodes(),
+        text,
+        &reports,
+        &[(4, &[(3, true)])],
+    )?;
     Ok(())
 }
 
@@ -167,7 +178,14 @@ fn a_union_takes_the_old_directory(rt: HostRuntime) -> Result<(), Fail> {
 #[test]
 fn a_current_directory_and_an_unmount(rt: HostRuntime) -> Result<(), Fail> {
     let text = "cd /usr\nbind glenda/tmp /tmp\nunmount /tmp\nunmount /tmp\n";
-    makes(&rt, rt.alloc(), &home_nodes(), text, &[(4, OpFault::NotMounted)], &[])?;
+    makes(
+        &rt,
+        rt.alloc(),
+        &home_nodes(),
+        text,
+        &[(4, OpFault::NotMounted)],
+        &[],
+    )?;
     let text = "bind -a $home/tmp /tmp\nbind -a /usr /tmp\nunmount $home/tmp /tmp";
     let rows: Rows<'_> = &[(4, &[(4, false), (1, false)])];
     makes(&rt, rt.alloc(), &home_nodes(), text, &[], rows)?;
@@ -178,12 +196,12 @@ fn a_current_directory_and_an_unmount(rt: HostRuntime) -> Result<(), Fail> {
 // of bad form behind one that would act.
 fn include_nodes() -> [Made; 6] {
     [
-    dir(0, "a"),
-    dir(1, "b"),
-    file(1, "f", "hi"),
-    file(0, "ns", ". /ns"),
-    file(0, "acts", "cd /a\n\nbind b /a/b\ncd /none\n"),
-    file(0, "bad", "bind /a /a/b\nbind\n"),
+        dir(0, "a"),
+        dir(1, "b"),
+        file(1, "f", "hi"),
+        file(0, "ns", ". /ns"),
+        file(0, "acts", "cd /a\n\nbind b /a/b\ncd /none\n"),
+        file(0, "bad", "bind /a /a/b\nbind\n"),
     ]
 }
 
@@ -213,7 +231,14 @@ fn a_mount_takes_the_root_itself(rt: HostRuntime) -> Result<(), Fail> {
         (1, &[(1, false), (0, false)]),
     ];
     makes(&rt, rt.alloc(), &union_nodes(), text, &[], rows)?;
-    makes(&rt, rt.alloc(), &union_nodes(), "bind /u /x\nclear", &[], &[])?;
+    makes(
+        &rt,
+        rt.alloc(),
+        &union_nodes(),
+        "bind /u /x\nclear",
+        &[],
+        &[],
+    )?;
     Ok(())
 }
 
@@ -242,7 +267,14 @@ fn operations_fail(rt: HostRuntime) -> Result<(), Fail> {
     }
     let text = "bind -a /a/b /a\nunmount /a/f /a";
     let rows: Rows<'_> = &[(1, &[(1, false), (2, false)])];
-    makes(&rt, rt.alloc(), &small_nodes(), text, &[(2, OpFault::NotMember)], rows)?;
+    makes(
+        &rt,
+        rt.alloc(),
+        &small_nodes(),
+        text,
+        &[(2, OpFault::NotMember)],
+        rows,
+    )?;
     Ok(())
 }
 
@@ -269,7 +301,11 @@ fn lines_of_bad_form_refuse_the_text(rt: HostRuntime) -> Result<(), Fail> {
         text.push_str(line)?;
         text.push_str("\nworse\n")?;
         let refused = makes(&rt, rt.alloc(), &small_nodes(), text.as_str(), &[], &[]);
-        assert_eq!(rt; refused, Err(NsError::BadLine { line: 2, kind }), "at {line:?}");
+        assert_eq!(rt;
+            refused,
+            Err(NsError::BadLine { line: 2, kind }),
+            "at {line:?}"
+        );
     }
     Ok(())
 }

@@ -20,7 +20,7 @@ returns-in_err-read_line-clause-err g c =
     IfErr-same c.from_residual-in_err-read_line.result c.in_err-read_line.field-0.0 _ c.from_residual-in_err-read_line.ensures.1
     (inr (sym c.loop-statement.invariant
     ∙ try_fold-err with_line statement_value items ys same lines c.loop-statement.statement-index c.in_err-read_line.field-0.0 c.statement-item.result c.statement-item.result c.loop-statement-test.true c.statement-item.is
-      (ap (λ r. and_then r (λ l. Ok (lines ++ l ∷ []))) c.in_err-read_line.ensures.err)))
+    (ap (λ r. and_then r (λ l. Ok (lines ++ l ∷ []))) c.in_err-read_line.ensures.err)))
 
 pub loop-statement-preserved : goal.loop-statement-preserved
 loop-statement-preserved g c =
@@ -32,5 +32,5 @@ loop-statement-preserved g c =
     let i = c.loop-statement.statement-index in
     ap (λ ls. try_fold with_line ls (drop (i + 1) ys)) (ap (map line_value) c.in_ok-push.ensures.items ∙ map_push line_value c.loop-statement.lines.items _)
     ∙ try_fold-ok with_line statement_value items ys same lines i (lines ++ line ∷ []) c.statement-item.result c.statement-item.result c.loop-statement-test.true c.statement-item.is
-      (ap (λ r. and_then r (λ l. Ok (lines ++ l ∷ []))) c.in_ok-read_line.ensures.ok)
+    (ap (λ r. and_then r (λ l. Ok (lines ++ l ∷ []))) c.in_ok-read_line.ensures.ok)
     ∙ c.loop-statement.invariant

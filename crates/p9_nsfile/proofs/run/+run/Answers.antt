@@ -15,10 +15,11 @@ act-returns-in-Mount g t c =
     (sym c.in-Mount.is) c.mount.ensures
 
 pub include-returns-then-left-eq0 : goal.include-returns-then-left-eq0
-include-returns-then-left-eq0 g t c =
-    (ap (λ left. included c.args.setting.now left c.args.line c.args.space.now c.args.path.now) c.if-left-eq0.true
+include-returns-then-left-eq0 g t c = (
+  ap (λ left. included c.args.setting.now left c.args.line c.args.space.now c.args.path.now) c.if-left-eq0.true
       ∙ included-none c.args.setting.now c.args.line c.args.space.now c.args.path.now,
-    refl)
+  refl,
+)
 
 pub include-returns-in_err-lines : goal.include-returns-in_err-lines
 include-returns-in_err-lines g t c =
@@ -27,7 +28,7 @@ include-returns-in_err-lines g t c =
     let some : 0 < c.args.left = omega arith in
     subst (λ answer. Acts answer space space c.from_residual.result) (sym (included-more setting c.args.left c.args.line space c.args.path.now some))
     (Acts-no_lines g.row.T-Alloc.Denot (included_lines setting space c.args.path.now) (λ lines. Ok (lines_done setting (c.args.left - 1) (Some c.args.line) space lines)) space
-      c.in_err-lines.field-0.0 c.from_residual.result c.from_residual.ensures.1 c.in_err-lines.ensures)
+    c.in_err-lines.field-0.0 c.from_residual.result c.from_residual.ensures.1 c.in_err-lines.ensures)
 
 pub include-returns : goal.include-returns
 include-returns g t c =
