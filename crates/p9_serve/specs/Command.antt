@@ -63,4 +63,5 @@ pub record Printed : Type 0 where
 abbrev pub Ends : Result (List Event) Refusal → Printed → Type 0
 Ends (Ok events) p = (p.status ≡ 0) × (p.err ≡ p.err_before) × PlaysAll events small_state p.out_before p.out
 Ends (Err refusal) p =
-    (p.status ≡ status_of refusal) × (p.err ≡ p.err_before ++ (refusal_text refusal ++ 10 ∷ [])) × (p.out ≡ p.out_before)
+    (p.status ≡ status_of refusal) × (p.err ≡ p.err_before ++ (refusal_text refusal ++ 10 ∷ []))
+    × (p.out ≡ p.out_before)

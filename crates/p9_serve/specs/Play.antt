@@ -25,12 +25,15 @@ told after = record { state = after.state; text = encode_lower after.reply ++ 10
 -- an event is played; refused says that memory was refused to a request, and counts for no other event
 abbrev pub played : State → Event → Bool → Played
 played state (Opening name) refused =
-    if is_some (session_at name state.sessions) then skipped state else silent (step state (Opening name) false)
+    if is_some (session_at name state.sessions) then skipped state
+    else silent (step state (Opening name) false)
 played state (Request name frame now) refused =
-    if is_frame frame && is_some (session_at name state.sessions) then told (step state (Request name frame now) refused)
+    if is_frame frame && is_some (session_at name state.sessions)
+    then told (step state (Request name frame now) refused)
     else skipped state
 played state (Closing name now) refused =
-    if is_some (session_at name state.sessions) then silent (step state (Closing name now) false) else skipped state
+    if is_some (session_at name state.sessions) then silent (step state (Closing name now) false)
+    else skipped state
 
 -- one event after another, with their marks; the texts are joined
 abbrev pub play_text : State → List Event → List Bool → List ℕ

@@ -1,11 +1,13 @@
 //! Bundles: the program's input, in sections.
 
-ghost use Rattle.std.specs.Prelude.{◌≡◌, ◌<◌, ◌^◌, Err, IfErr, IfOk, Ok, OnOk, if◌then◌else◌};
+ghost use Rattle.std.specs.Prelude.{◌≡◌, IfErr, IfOk, Ok, OnOk};
 ghost use Rattle.std.specs.List.{list_all};
 ghost use Rattle.std.specs.Option.{option_map};
 ghost use Rattle.std.specs.String.{string_bytes};
 ghost use Rattle.p9_base.specs.Line.{is_blank};
-ghost use Rattle.p9_serve.specs.Bundle.{IsBundleFault, begun, bundle_of, bundle_value, continued, may_follow, place_of, reader_value, section_of, unread, with_line, with_line_in, with_numbered_line, with_section};
+ghost use Rattle.p9_serve.specs.Bundle.{IsBundleFault, begun, bundle_of, bundle_value, continued};
+ghost use Rattle.p9_serve.specs.Bundle.{may_follow, place_of, reader_value, section_of, unread};
+ghost use Rattle.p9_serve.specs.Bundle.{with_line, with_line_in, with_numbered_line, with_section};
 
 use p9_base::{NoMemory, lines};
 use std::alloc::{AllocError, Allocator};
@@ -81,8 +83,10 @@ impl<A: Allocator + Copy> Reader<A> {
 
     // Reads the line of this number.
     fn read_line(&mut self, alloc: A, number: u64, line: &str) -> Result<(), BundleError>
-        ensures ok { OnOk result (with_numbered_line (reader_value self.old) (number, line.now) ≡ Ok (reader_value self.new)) }
-        ensures bad { IfErr result (IsBundleFault (with_numbered_line (reader_value self.old) (number, line.now))) }
+        ensures ok { OnOk result
+            (with_numbered_line (reader_value self.old) (number, line.now) ≡ Ok (reader_value self.new)) }
+        ensures bad { IfErr result
+            (IsBundleFault (with_numbered_line (reader_value self.old) (number, line.now))) }
     {
         if line.starts_with("%%") {
             return self.begin(alloc, number, Section::begun_by(line));
@@ -92,7 +96,8 @@ impl<A: Allocator + Copy> Reader<A> {
 
     // Begins a section, if the line of this number names one that may stand there.
     fn begin(&mut self, alloc: A, number: u64, section: Option<Section>) -> Result<(), BundleError>
-        ensures ok { OnOk result (begun (reader_value self.old) number section ≡ Ok (reader_value self.new)) }
+        ensures ok { OnOk result
+            (begun (reader_value self.old) number section ≡ Ok (reader_value self.new)) }
         ensures bad { IfErr result (IsBundleFault (begun (reader_value self.old) number section)) }
     {
         let Some(section) = section else {
@@ -108,8 +113,10 @@ impl<A: Allocator + Copy> Reader<A> {
 
     // Adds a line to the section that was begun last.
     fn go_on(&mut self, number: u64, line: &str) -> Result<(), BundleError>
-        ensures ok { OnOk result (continued (reader_value self.old) number line.now (reader_value self.old).last ≡ Ok (reader_value self.new)) }
-        ensures bad { IfErr result (IsBundleFault (continued (reader_value self.old) number line.now (reader_value self.old).last)) }
+        ensures ok { OnOk result
+            (continued (reader_value self.old) number line.now self.old.last ≡ Ok (reader_value self.new)) }
+        ensures bad { IfErr result
+            (IsBundleFault (continued (reader_value self.old) number line.now self.old.last)) }
     {
         if let Some(section) = self.last {
             self.bundle.push_line(section, line)?;
@@ -134,7 +141,8 @@ impl<A: Allocator + Copy> Bundle<A> {
 
     // Adds a line to the section's text.
     fn push_line(&mut self, section: Section, line: &str) -> Result<(), NoMemory>
-        ensures { OnOk result (bundle_value self.new ≡ with_line_in section line.now (bundle_value self.old)) }
+        ensures { OnOk result
+            (bundle_value self.new ≡ with_line_in section line.now (bundle_value self.old)) }
     {
         match section {
             Section::Script => push_line(&mut self.script, line),
@@ -144,7 +152,8 @@ impl<A: Allocator + Copy> Bundle<A> {
 
 // Adds a line to a section's text, if the section is there.
 fn push_line<A: Allocator + Copy>(text: &mut Option<String<A>>, line: &str) -> Result<(), NoMemory>
-    ensures { OnOk result (option_map string_bytes text.new ≡ option_map (with_line line.now) (option_map string_bytes text.old)) }
+    ensures { OnOk result
+        (option_map string_bytes text.new ≡ option_map (with_line line.now) (option_map string_bytes text.old)) }
 {
     if let Some(text) = text {
         text.push_str(line)?;

@@ -3,7 +3,8 @@
 ghost use Rattle.std.specs.Prelude.{◌≡◌, IfErr, IfNone, IfOk, IfSome, Ok, OnOk, false, map, true};
 ghost use Rattle.std.specs.Str.{is_utf8};
 ghost use Rattle.std.specs.String.{string_bytes};
-ghost use Rattle.p9_serve.specs.Command.{Ends, IsStop, asked_of, events_in, or_refused, refusal_text, script_in, status_of};
+ghost use Rattle.p9_serve.specs.Command.{Ends, IsStop, asked_of, events_in, or_refused};
+ghost use Rattle.p9_serve.specs.Command.{refusal_text, script_in, status_of};
 ghost use Rattle.p9_serve.specs.Bundle.{bundle_of, bundle_value};
 ghost use Rattle.p9_serve.specs.Play.{PlaysAll};
 ghost use Rattle.p9_serve.specs.Script.{event_value};
@@ -76,7 +77,13 @@ pub fn run_command<A: Allocator + Copy>(
     out: &mut Vec<u8, A>,
     err: &mut Vec<u8, A>,
 ) -> Result<u8, NoMemory>
-    ensures { IfOk result (λ status. Ends (asked_of cmd.now input.now) (record { status = status; out_before = out.old.items; out = out.new.items; err_before = err.old.items; err = err.new.items })) }
+    ensures { IfOk result (λ status. Ends (asked_of cmd.now input.now) (record {
+      status = status;
+      out_before = out.old.items;
+      out = out.new.items;
+      err_before = err.old.items;
+      err = err.new.items;
+    })) }
 {
     let alloc = *out.allocator();
     match asked(alloc, cmd, input) {
@@ -154,7 +161,8 @@ fn sections<A: Allocator + Copy>(alloc: A, text: &str) -> Result<Bundle<A>, Stop
 
 // The events of a bundle's script.
 fn script<A: Allocator + Copy>(alloc: A, bundle: &Bundle<A>) -> Result<Vec<Event<A>, A>, Stop>
-    ensures ok { IfOk result (λ events. script_in (bundle_value bundle.now) ≡ Ok (map event_value events.items)) }
+    ensures ok { IfOk result (λ events.
+        script_in (bundle_value bundle.now) ≡ Ok (map event_value events.items)) }
     ensures stop { IfErr result (IsStop (script_in (bundle_value bundle.now))) }
 {
     let text = match &bundle.script {

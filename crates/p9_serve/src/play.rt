@@ -22,7 +22,8 @@ pub fn play_events<T: Tree, A: Allocator + Copy>(
     events: &[Event<A>],
     out: &mut Vec<u8, A>,
 ) -> Result<(), NoMemory>
-    ensures { OnOk result (PlaysAll (map event_value events.now) export.old out.old.items out.new.items) }
+    ensures { OnOk result
+        (PlaysAll (map event_value events.now) export.old out.old.items out.new.items) }
 {
     let mut buffer = zeros(*out.allocator(), MSIZE_MAX as usize)?;
     let reply = buffer.as_mut_slice();
@@ -45,7 +46,8 @@ fn play_event<T: Tree, A: Allocator + Copy>(
     out: &mut Vec<u8, A>,
 ) -> Result<(), NoMemory>
     requires { msize_max ≤ length reply.old }
-    ensures { OnOk result (Plays (event_value event.now) export.old export.new out.old.items out.new.items) }
+    ensures { OnOk result
+        (Plays (event_value event.now) export.old export.new out.old.items out.new.items) }
 {
     match event {
         Event::Open(name) => open(export, *name, out),
@@ -66,7 +68,8 @@ fn open<T: Tree, A: Allocator + Copy>(
     name: u32,
     out: &mut Vec<u8, A>,
 ) -> Result<(), NoMemory>
-    ensures { OnOk result (Plays (Opening name) export.old export.new out.old.items out.new.items) }
+    ensures { OnOk result
+        (Plays (Opening name) export.old export.new out.old.items out.new.items) }
 {
     match export.open(name) {
         Ok(()) => Ok(()),
@@ -84,7 +87,8 @@ fn message<T: Tree, A: Allocator + Copy>(
     out: &mut Vec<u8, A>,
 ) -> Result<(), NoMemory>
     requires { msize_max ≤ length reply.old }
-    ensures { OnOk result (Plays (Request name frame.now now) export.old export.new out.old.items out.new.items) }
+    ensures { OnOk result
+        (Plays (Request name frame.now now) export.old export.new out.old.items out.new.items) }
 {
     if !is_frame(frame) || !export.live(name) {
         return skip(out);
@@ -99,7 +103,8 @@ fn close<T: Tree, A: Allocator + Copy>(
     now: u32,
     out: &mut Vec<u8, A>,
 ) -> Result<(), NoMemory>
-    ensures { OnOk result (Plays (Closing name now) export.old export.new out.old.items out.new.items) }
+    ensures { OnOk result
+        (Plays (Closing name now) export.old export.new out.old.items out.new.items) }
 {
     if !export.live(name) {
         return skip(out);

@@ -1,10 +1,9 @@
 //! Scripts: what happens to the exporter, line by line.
 
-ghost use Rattle.std.specs.Prelude.{◌≡◌, [], IfErr, IfOk, None, Ok, Some, codes, if◌then◌else◌, map};
+ghost use Rattle.std.specs.Prelude.{◌≡◌, [], IfErr, IfOk, Ok, Some, map};
 ghost use Rattle.std.specs.Option.{option_map};
-ghost use Rattle.std.specs.Str.{bytes_eq};
-ghost use Rattle.p9_export.specs.Event.{Opening};
-ghost use Rattle.p9_serve.specs.Script.{IsScriptFault, bytes_in, closing_at, event_of, event_value, joined, request_at, script_of, short_number, with_statement};
+ghost use Rattle.p9_serve.specs.Script.{IsScriptFault, bytes_in, closing_of, event_of, event_value};
+ghost use Rattle.p9_serve.specs.Script.{joined, opening_of, request_of, script_of, short_number};
 ghost use Rattle.p9_base.specs.Statement.{statement_value};
 
 use hex::FromHexError;
@@ -50,8 +49,10 @@ fn stated<A: Allocator + Copy>(
     alloc: A,
     statement: &Statement<'_, A>,
 ) -> Result<Event<A>, ScriptError>
-    ensures ok { IfOk result (λ event. event_of (statement_value statement.now).1 ≡ Some (event_value event)) }
-    ensures bad { IfErr result (IsScriptFault (joined [] statement.now.line (event_of (statement_value statement.now).1))) }
+    ensures ok { IfOk result (λ event.
+        event_of (statement_value statement.now).1 ≡ Some (event_value event)) }
+    ensures bad { IfErr result
+        (IsScriptFault (joined [] statement.now.line (event_of (statement_value statement.now).1))) }
 {
     match event(alloc, statement.words.as_slice())? {
         Some(event) => Ok(event),
@@ -63,7 +64,8 @@ fn stated<A: Allocator + Copy>(
 
 // The event that the words of a line say, if they say one.
 fn event<A: Allocator + Copy>(alloc: A, words: &[&str]) -> Result<Option<Event<A>>, NoMemory>
-    ensures { IfOk result (λ event. option_map event_value event ≡ event_of (map (λ word. word.now) words.now)) }
+    ensures { IfOk result (λ event.
+        option_map event_value event ≡ event_of (map (λ word. word.now) words.now)) }
 {
     let [verb, rest @ ..] = words else {
         return Ok(None);
@@ -77,7 +79,7 @@ fn event<A: Allocator + Copy>(alloc: A, words: &[&str]) -> Result<Option<Event<A
 }
 
 fn opening<A: Allocator + Copy>(verb: &str, name: &str) -> Option<Event<A>>
-    ensures { option_map event_value result ≡ (if bytes_eq verb.now (codes "open") then option_map Opening (short_number name.now) else None) }
+    ensures { option_map event_value result ≡ opening_of verb.now name.now }
 {
     if verb != "open" {
         return None;
@@ -86,7 +88,7 @@ fn opening<A: Allocator + Copy>(verb: &str, name: &str) -> Option<Event<A>>
 }
 
 fn closing<A: Allocator + Copy>(verb: &str, name: &str, now: &str) -> Option<Event<A>>
-    ensures { option_map event_value result ≡ (if bytes_eq verb.now (codes "close") then closing_at (short_number name.now) (short_number now.now) else None) }
+    ensures { option_map event_value result ≡ closing_of verb.now name.now now.now }
 {
     if verb != "close" {
         return None;
@@ -103,7 +105,8 @@ fn request<A: Allocator + Copy>(
     now: &str,
     hex: &str,
 ) -> Result<Option<Event<A>>, NoMemory>
-    ensures { IfOk result (λ event. option_map event_value event ≡ (if bytes_eq verb.now (codes "msg") then request_at (short_number name.now) (bytes_in hex.now) (short_number now.now) else None)) }
+    ensures { IfOk result (λ event.
+        option_map event_value event ≡ request_of verb.now name.now now.now hex.now) }
 {
     if verb != "msg" {
         return Ok(None);

@@ -41,8 +41,10 @@ fn add<T: Tree>(
     bytes: &[u8],
 ) -> Result<(), NoMemory>
     requires name { IsTrue (is_name name.now) }
-    requires can_add { CanAdd (T.state tree.old) dir (glendas (T.state tree.old).next dir name.now mode bytes.now) }
-    ensures { OnOk result (T.state tree.new ≡ added (T.state tree.old) (glendas (T.state tree.old).next dir name.now mode bytes.now)) }
+    requires can_add { let old = T.state tree.old in CanAdd old dir (glendas old.next dir name.now mode bytes.now) }
+    ensures { OnOk result (
+        let old = T.state tree.old in
+        T.state tree.new ≡ added old (glendas old.next dir name.now mode bytes.now)) }
 {
     let glenda = glenda();
     let new = New {

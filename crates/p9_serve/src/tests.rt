@@ -138,7 +138,10 @@ fn bad_script_lines(rt: HostRuntime) {
         ("%% script\nopen +1\n", "script:1: bad line\n"),
         ("%% script\nopen 4294967296\n", "script:1: bad line\n"),
         ("%% script\nopen 1\r\n", "script:1: bad line\n"),
-        ("\n\n%% script\n# a comment\nopen 1\nclose 1\n", "script:3: bad line\n"),
+        (
+            "\n\n%% script\n# a comment\nopen 1\nclose 1\n",
+            "script:3: bad line\n",
+        ),
         ("%% script\nclose 1 x\n", "script:1: bad line\n"),
         ("%% script\nclose 1 4294967296\n", "script:1: bad line\n"),
         ("%% script\nmsg 1 0\n", "script:1: bad line\n"),
@@ -177,7 +180,12 @@ fn bad_sections(rt: HostRuntime) {
         is_refused(&rt, rt.alloc(), input, err);
     }
     // Behind a blank it begins no section.
-    is_refused(&rt, rt.alloc(), "%% script\n %% script\n", "script:1: bad line\n");
+    is_refused(
+        &rt,
+        rt.alloc(),
+        "%% script\n %% script\n",
+        "script:1: bad line\n",
+    );
 }
 
 // The command line first, then the bytes, then the sections, then the script.
@@ -212,7 +220,10 @@ fn output_is_appended(rt: HostRuntime) -> Result<(), Fail> {
     let status = run_command("play", b"%%", &mut out, &mut err)?;
     assert_eq!(rt; status, 1);
     assert_eq!(rt; str::from_utf8(out.as_slice()), Ok("out skip\n"));
-    assert_eq!(rt; str::from_utf8(err.as_slice()), Ok("err bundle:1: bad section\n"));
+    assert_eq!(rt;
+        str::from_utf8(err.as_slice()),
+        Ok("err bundle:1: bad section\n")
+    );
     Ok(())
 }
 
@@ -234,7 +245,10 @@ fn sections_and_events(rt: HostRuntime) -> Result<(), Fail> {
     assert_eq!(rt; frame.as_slice(), [0xab, 0x0c].as_slice());
     assert!(rt; matches!(&events[2], Event::Close(4_294_967_295, 5)));
     let fourth = ScriptError::BadScript { line: 4 };
-    assert_eq!(rt; read_script(rt.alloc(), "open 1\n\n#\nopen").err(), Some(fourth));
+    assert_eq!(rt;
+        read_script(rt.alloc(), "open 1\n\n#\nopen").err(),
+        Some(fourth)
+    );
     Ok(())
 }
 
