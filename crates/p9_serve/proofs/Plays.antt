@@ -1,9 +1,13 @@
 -- Events that are played one after another.
-use Rattle.std.proofs.Common.{◌≡◌, ℕ, ◌+◌, ◌<◌, ◌≤◌, Bool, List, [], ◌∷◌, ◌++◌, length, get_or, drop, map, refl, sym, ap, ◌∙◌, arith, append_assoc, append-nil}
+use Rattle.std.proofs.Common.{◌≡◌, ℕ, ◌+◌, ◌<◌, ◌≤◌, Bool, true, List, [], ◌∷◌, ◌++◌, length, get_or, drop, map, refl, sym, ap, ◌∙◌, arith, append_assoc, append-nil}
+use Rattle.std.specs.Prelude.{◌&&◌, OnOk, Result, Ok, Err, is_some, if◌then◌else◌}
+use Rattle.std.proofs.lemmas.Bool.{and_from}
 use Rattle.std.proofs.lemmas.List.{get_or-map, length-map, drop_more, drop_all}
-use Rattle.p9_export.specs.State.{State}
-use Rattle.p9_export.specs.Event.{Event}
-use Rattle.p9_serve.specs.Play.{Plays, PlaysAll, play_text, played}
+use Rattle.hex.specs.Hex.{encode_lower}
+use Rattle.p9_export.specs.State.{State, session_at}
+use Rattle.p9_export.specs.Event.{Event, Request, is_frame}
+use Rattle.p9_export.specs.Step.{Stepped, step}
+use Rattle.p9_serve.specs.Play.{Played, Plays, PlaysAll, play_text, played, skipped, told}
 
 -- some events were played, with some marks: what is printed for the others, whatever their marks, is the rest of the play text
 pub record PlaysSoFar (all : List Event) (start : State) (before : List ℕ) (rest : List Event) (here : State) (out : List ℕ) : Type 0 where
@@ -47,3 +51,27 @@ module _ (all : List Event) (start : State) (before : List ℕ) (here : State) (
         marks = so_far.front ++ [];
         text_is = sym (append-nil out) ∙ ap (λ rest. out ++ play_text here rest []) (sym none) ∙ so_far.goes_on [];
       }
+
+-- what follows from what holds of an `Ok`
+pub on_ok : {X E P Q : Type 0} (result : Result X E) → (P → Q) → OnOk result P → OnOk result Q
+on_ok (Ok x) follows holds = follows holds
+on_ok (Err e) follows holds = holds
+
+-- Each event, as the exporter's calls tell of it. What a step does is not looked into.
+
+told-if : (fits : Bool) (after : Stepped) (otherwise : Played) → fits ≡ true → (if fits then told after else otherwise) ≡ told after
+told-if fits after otherwise is = ap (λ test. if test then told after else otherwise) is
+
+-- a frame that fits, and its reply
+pub plays-request : (name now : ℕ) (frame : List ℕ) (old new : State) (before after reply : List ℕ) (refused : Bool) →
+    is_frame frame ≡ true → is_some (session_at name old.sessions) ≡ true → new ≡ (step old (Request name frame now) refused).state →
+    reply ≡ (step old (Request name frame now) refused).reply → after ≡ before ++ (encode_lower reply ++ 10 ∷ []) →
+    Plays (Request name frame now) old new before after
+plays-request name now frame old new before after reply refused whole live state_is reply_is text_is =
+    let fits : played old (Request name frame now) refused ≡ told (step old (Request name frame now) refused) =
+    told-if (is_frame frame && is_some (session_at name old.sessions)) (step old (Request name frame now) refused) (skipped old) (and_from (is_frame frame) (is_some (session_at name old.sessions)) whole live) in
+    record {
+      refused = refused;
+      state_is = state_is ∙ ap (λ p. p.state) (sym fits);
+      text_is = text_is ∙ ap (λ reply. before ++ (encode_lower reply ++ 10 ∷ [])) reply_is ∙ ap (λ p. before ++ p.text) (sym fits);
+    }
