@@ -1,8 +1,7 @@
 -- What an input asks for, test by test.
-use Rattle.std.proofs.Common.{◌≡◌, ℕ, Bool, true, false, List, Result, Ok, Err, codes, ap, ◌∙◌}
+use Rattle.std.proofs.Common.{◌≡◌, ℕ, true, false, List, Result, Ok, Err, codes, ap, ◌∙◌}
 use Rattle.std.specs.Str.{bytes_eq, is_utf8}
 use Rattle.p9_base.specs.TryFold.{and_then}
-use Rattle.p9_export.specs.Event.{Event}
 use Rattle.p9_serve.specs.Bundle.{Texts, bundle_of}
 use Rattle.p9_serve.specs.Command.{IsStop, asked_of, events_in, need, or_refused, script_in}
 use Rattle.p9_serve.specs.declared.command.Refusal.{Refusal}

@@ -1,5 +1,5 @@
 -- One statement of a script more.
-use Rattle.std.proofs.Common.{◌≡◌, ℕ, ◌+◌, ◌<◌, List, [], ◌∷◌, ◌++◌, length, get_or, drop, map, Option, None, Some, Result, Ok, Err, sym, ap, ◌∙◌}
+use Rattle.std.proofs.Common.{◌≡◌, ℕ, ◌+◌, ◌<◌, List, [], ◌∷◌, ◌++◌, length, get_or, drop, map, Option, None, Some, Result, Err, sym, ap, ◌∙◌}
 use Rattle.p9_base.specs.TryFold.{try_fold}
 use Rattle.p9_base.proofs.TryFold.{try_fold-ok, try_fold-err}
 use Rattle.p9_export.specs.Event.{Event}

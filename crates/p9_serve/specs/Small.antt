@@ -1,6 +1,5 @@
 -- The sample world `small`: one server with /a, /a/b and /a/f, which are glenda's.
 use Rattle.std.specs.Prelude.{ℕ, false, List, [], ◌∷◌, Some, codes}
-use Rattle.p9_base.specs.declared.mode.Kind.{Kind}
 use Rattle.p9_base.specs.declared.mode.Kind.TheVariants.{Directory, File}
 use Rattle.p9_base.specs.declared.mode.Mode.{Mode}
 use Rattle.p9_base.specs.Mode.{permissions_of}
