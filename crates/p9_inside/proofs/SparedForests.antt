@@ -3,12 +3,13 @@ use Rattle.std.proofs.Common.{◌≡◌, ℕ, zero, suc, ◌+◌, Bool, List, []
 use Rattle.std.specs.Prelude.{unwrap_or}
 use Rattle.p9_base.specs.declared.node_ref.NodeRef.{NodeRef}
 use Rattle.p9_tree.specs.Bytes.{cut_to, overwritten}
+use Rattle.p9_tree.specs.Change.{changed}
 use Rattle.p9_tree.specs.New.{new_node}
 use Rattle.p9_tree.specs.Node.{marked, touched, with_owner, with_bytes}
 use Rattle.p9_tree.specs.Server.{Server, is_dir_at, added, with_changed, with_dropped}
 use Rattle.p9_tree.specs.Forest.{no_server, server_at, tree_changed_at, next_of, is_dir_of}
 use Rattle.p9_tree.specs.Inside.{is_among, barred_from, is_inside_at, hidden_on, is_hidden, is_barred, is_inside, outer_server, outer_from, outer, inner_nodes, inner_from, inner}
-use Rattle.p9_inside.specs.Changes.{KeepsParent, with_new, ServerSpares, Spares, ChangeSpares, MarkSpares, TouchSpares, OwnerSpares, WriteSpares, CutSpares, DropSpares, AddSpares, NewSpares, InTurnSpares, ParentDecides, NextIsFree}
+use Rattle.p9_inside.specs.Changes.{KeepsParent, with_new, ServerSpares, Spares, ChangeSpares, MarkSpares, TouchSpares, OwnerSpares, WriteSpares, CutSpares, WstatSpares, DropSpares, AddSpares, NewSpares, InTurnSpares, ParentDecides, NextIsFree}
 use Rattle.p9_inside.proofs.Forests.{server_at-outer, server_below, server_ordered}
 use Rattle.p9_inside.proofs.Spared.{server_change_spares, drop_spares_ordered, server_add_spares, server_parent_decides, next_is_free_ordered}
 
@@ -111,6 +112,10 @@ write_spares hidden forest r offset bytes out =
 pub cut_spares : CutSpares
 cut_spares hidden forest r size out =
     change_spares hidden forest r (with_bytes (cut_to size)) (keeps-with_bytes (cut_to size)) out
+
+pub wstat_spares : WstatSpares
+wstat_spares hidden forest r change out =
+    change_spares hidden forest r (changed change) (record { number = λ n. refl; parent = λ n. refl }) out
 
 pub add_spares : AddSpares
 unfolding is_barred

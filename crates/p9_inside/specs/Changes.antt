@@ -3,6 +3,8 @@ use Rattle.std.specs.Prelude.{◌≡◌, ◌<◌, ℕ, List, Some, IsTrue, IsFal
 use Rattle.p9_base.specs.declared.mode.Permissions.{Permissions}
 use Rattle.p9_base.specs.declared.node_ref.NodeRef.{NodeRef}
 use Rattle.p9_tree.specs.Bytes.{cut_to, overwritten}
+use Rattle.p9_tree.specs.Change.{changed}
+use Rattle.p9_tree.specs.declared.change.Change.{Change}
 use Rattle.p9_tree.specs.declared.new.New.{New}
 use Rattle.p9_tree.specs.New.{new_node}
 use Rattle.p9_tree.specs.Node.{Node, marked, touched, with_owner, with_bytes}
@@ -72,6 +74,11 @@ abbrev pub CutSpares : Type 0
 CutSpares = (hidden : List NodeRef) (forest : List Server) (r : NodeRef) (size : ℕ)
     → IsFalse (is_inside r hidden forest)
     → Spares hidden (forest_changed_at r (with_bytes (cut_to size))) forest
+
+abbrev pub WstatSpares : Type 0
+WstatSpares = (hidden : List NodeRef) (forest : List Server) (r : NodeRef) (change : Change)
+    → IsFalse (is_inside r hidden forest)
+    → Spares hidden (forest_changed_at r (changed change)) forest
 
 -- A node that isn't inside is taken out. It may be a hidden directory.
 

@@ -1,6 +1,6 @@
 //! Changes outside do not touch what is inside.
 
-ghost use Rattle.p9_inside.specs.Changes.{ServerChangeSpares, ChangeSpares, MarkSpares, TouchSpares, OwnerSpares, WriteSpares, CutSpares, ServerDropSpares, DropSpares, ServerAddSpares, AddSpares, NewSpares, InTurnSpares, ServerParentDecides, ParentDecides, ServerNextIsFree, NextIsFree};
+ghost use Rattle.p9_inside.specs.Changes.{ServerChangeSpares, ChangeSpares, MarkSpares, TouchSpares, OwnerSpares, WriteSpares, CutSpares, WstatSpares, ServerDropSpares, DropSpares, ServerAddSpares, AddSpares, NewSpares, InTurnSpares, ServerParentDecides, ParentDecides, ServerNextIsFree, NextIsFree};
 
 /// A change of a node that is not inside, which leaves it where it stands, spares the insides.
 pub fn change_spares_insides()
@@ -9,13 +9,14 @@ pub fn change_spares_insides()
 {}
 
 /// So do the changes that have names: the mark of who changed the node and when, the time of a
-/// reading, a directory's owner, a write and a cut.
+/// reading, a directory's owner, a write, a cut, and all that a wstat changes.
 pub fn named_changes_spare_insides()
     ensures mark { MarkSpares }
     ensures touch { TouchSpares }
     ensures owner { OwnerSpares }
     ensures write { WriteSpares }
     ensures cut { CutSpares }
+    ensures wstat { WstatSpares }
 {}
 
 /// Taking out a node that is not inside spares the insides. If it was hidden, its number stays

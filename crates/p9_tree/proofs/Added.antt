@@ -1,7 +1,6 @@
 -- A server with a new node is well-formed.
-use Rattle.std.proofs.Common.{◌≡◌, ℕ, ◌+◌, ◌<◌, ◌≤◌, Bool, true, false, cond, List, [], ◌∷◌, ◌++◌, ◌⊎◌, length, get_or, Option, Some, None, IsTrue, refl, sym, ap, ◌∙◌, subst, inl, inr, arith, All, AllPairs}
-use Rattle.std.specs.Option.{option_or, option_map_or}
-use Rattle.std.specs.List.{find}
+use Rattle.std.proofs.Common.{◌≡◌, ℕ, ◌+◌, ◌<◌, true, List, [], ◌∷◌, ◌++◌, ◌⊎◌, Some, None, IsTrue, refl, sym, ap, ◌∙◌, subst, inl, inr, arith}
+use Rattle.std.specs.Option.{option_or}
 use Rattle.std.specs.Str.{bytes_eq}
 use Rattle.std.proofs.lemmas.List.Folds.{find-append}
 use Rattle.std.proofs.lemmas.Bool.Decides.{nat_tests}
@@ -9,12 +8,12 @@ use Rattle.std.proofs.lemmas.Slice.Eq.{bytes_eq-Decides}
 use Rattle.std.proofs.lemmas.List.Elements.{All-push, All-weaker, All-get_or}
 use Rattle.std.proofs.lemmas.List.Quantifiers.{all_pairs_push}
 use Rattle.p9_base.specs.Name.{is_name}
-use Rattle.p9_tree.specs.Node.{Node, has_number, is_child, is_in}
+use Rattle.p9_tree.specs.Node.{Node, has_number}
 use Rattle.p9_tree.specs.Server.{Server, node_at, child_of, is_dir_at, IsSound, WellFormed, CanAdd, added}
 use Rattle.p9_tree.proofs.Lookups.{number-node_at, All-node_at, node_at-past}
 
 -- where a directory has no child of a name, no node of that name stands in it
-child_of-None : (dir k : ℕ) (xs : List Node) (n : Node) → child_of dir n.name xs ≡ None → node_at k xs ≡ Some n → n.parent ≡ Some dir → ⊥
+pub child_of-None : (dir k : ℕ) (xs : List Node) (n : Node) → child_of dir n.name xs ≡ None → node_at k xs ≡ Some n → n.parent ≡ Some dir → ⊥
 child_of-None dir k [] n free e in_dir = cc
 child_of-None dir k (x ∷ xs) n free e in_dir =
     let same_name : bytes_eq n.name n.name ≡ true = (bytes_eq-Decides n.name n.name).1 refl in

@@ -1,5 +1,5 @@
 -- A write into a file's bytes, and what it leaves of their number.
-use Rattle.std.proofs.Common.{◌≡◌, ℕ, ◌+◌, ◌-◌, ◌<◌, ◌≤◌, List, [], ◌++◌, ◌⊎◌, length, take, drop, replicate, refl, ap, sym, ◌∙◌, inl, inr, arith}
+use Rattle.std.proofs.Common.{◌≡◌, ℕ, ◌+◌, ◌-◌, ◌≤◌, List, ◌++◌, length, take, drop, replicate, ap, sym, ◌∙◌, inl, inr, arith}
 use Rattle.std.proofs.Math.Seq.{take-append-add}
 use Rattle.std.proofs.lemmas.Bool.{cases_lt}
 use Rattle.std.proofs.lemmas.List.{append-nil, drop_all, length-append, length-take, length-drop, length-replicate, take-append-le, take-replicate, take_all}
@@ -20,9 +20,9 @@ take-padded n m xs le = elim (cases_lt n (length xs)) [
   | inl lt ↦ (let within : n ≤ length xs = omega arith in take-append-le n xs _ within ∙ sym (take-append-le n xs _ within))
   | inr ge ↦ (
       let past : n ≡ length xs + (n - length xs) = omega arith in
+      let whole : length (padded n xs) ≤ n = simp (length-append, length-replicate) (omega arith) in
       let front : take (length xs + (n - length xs)) (padded m xs) ≡ xs ++ take (n - length xs) (replicate (m - length xs) 0) = take-append-add xs (replicate (m - length xs) 0) (n - length xs) in
       let zeros : take (n - length xs) (replicate (m - length xs) 0) ≡ replicate (n - length xs) 0 = take-replicate (n - length xs) (m - length xs) 0 (omega arith) in
-      let whole : length (padded n xs) ≤ n = simp (length-append, length-replicate) (omega arith) in
       ap (λ k. take k (padded m xs)) past ∙ front ∙ ap (λ zs. xs ++ zs) zeros ∙ sym (take_all n (padded n xs) whole))
 ]
 

@@ -1,13 +1,12 @@
 -- A server of which a file or an empty directory is taken out is well-formed.
-use Rattle.std.proofs.Common.{◌≡◌, ◌≢◌, ℕ, suc, ◌+◌, ◌<◌, ◌≤◌, Bool, true, false, cond, eqb, List, [], ◌∷◌, ◌++◌, length, get_or, Option, Some, None, IsTrue, IsFalse, refl, sym, ap, ◌∙◌, subst, inl, inr, arith, All, AllPairs}
-use Rattle.std.specs.Option.{option_map_or}
+use Rattle.std.proofs.Common.{◌≡◌, ◌≢◌, ℕ, ◌<◌, true, false, cond, eqb, List, [], ◌∷◌, Some, None, IsTrue, IsFalse, refl, sym, subst, arith, All, AllPairs}
 use Rattle.std.specs.List.{position, remove}
 use Rattle.std.proofs.lemmas.Bool.Decides.{nat_tests}
 use Rattle.std.proofs.lemmas.List.Elements.{All-head, All-tail, All-cons}
 use Rattle.std.proofs.lemmas.List.Quantifiers.{all_pairs_remove}
-use Rattle.p9_tree.specs.Node.{Node, has_number, is_in}
+use Rattle.p9_tree.specs.Node.{Node, has_number}
 use Rattle.p9_tree.specs.Server.{Server, node_at, is_dir_at, has_children, WellFormed, dropped_at, with_nodes, with_dropped}
-use Rattle.p9_tree.proofs.Lookups.{node_at-before, place_within, remove-dropped_at}
+use Rattle.p9_tree.proofs.Lookups.{node_at-before, place_within, remove-dropped_at, rising_head, rising_tail}
 
 All-dropped_at : (P : Node → Type 0) (k : ℕ) (xs : List Node) → All P xs → All P (dropped_at k xs)
 All-dropped_at P k [] all = all
@@ -15,12 +14,6 @@ All-dropped_at P k (x ∷ xs) all =
     let here : P x = All-head P x xs all in
     let later : All P xs = All-tail P x xs all in
     elim (eqb x.number k) as (λ b. All P (cond b xs (x ∷ dropped_at k xs))) [ true ↦ later | false ↦ All-cons P x (dropped_at k xs) here (All-dropped_at P k xs later) ]
-
-rising_tail : (x : Node) (xs : List Node) → AllPairs (λ m n. m.number < n.number) (x ∷ xs) → AllPairs (λ m n. m.number < n.number) xs
-rising_tail x xs rising i j d lt in_range = rising (suc i) (suc j) d (omega arith) (omega arith)
-
-rising_head : (x : Node) (xs : List Node) → AllPairs (λ m n. m.number < n.number) (x ∷ xs) → All (λ n. x.number < n.number) xs
-rising_head x xs rising j d in_range = rising 0 (suc j) d (omega arith) (omega arith)
 
 -- a look-up after the node is taken out
 pub node_at-dropped_at : (k j : ℕ) (xs : List Node) → AllPairs (λ m n. m.number < n.number) xs → node_at j (dropped_at k xs) ≡ cond (eqb j k) None (node_at j xs)

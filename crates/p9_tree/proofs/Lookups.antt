@@ -1,5 +1,5 @@
 -- What a look-up in a server's list of nodes finds.
-use Rattle.std.proofs.Common.{◌≡◌, ℕ, ◌+◌, ◌<◌, ◌≤◌, Bool, true, false, cond, eqb, List, [], ◌∷◌, ◌++◌, length, get_or, set, Option, Some, None, refl, sym, ap, ◌∙◌, subst, inl, inr, one-add, arith, All}
+use Rattle.std.proofs.Common.{◌≡◌, ℕ, suc, ◌+◌, ◌<◌, ◌≤◌, Bool, true, false, cond, eqb, List, [], ◌∷◌, length, get_or, set, Some, None, refl, sym, ap, ◌∙◌, subst, inl, inr, one-add, arith, All, AllPairs}
 use Rattle.std.specs.List.{find, slice_get, position, position_or_len, remove}
 use Rattle.std.proofs.lemmas.Bool.{lt-ltb, le-ltb, cases_lt}
 use Rattle.std.proofs.lemmas.List.Folds.{find_at}
@@ -37,6 +37,33 @@ node_at-before k [] above = refl
 node_at-before k (x ∷ xs) above =
     let here : k < x.number = All-head (λ n. k < n.number) x xs above in
     grind (arith, nat_tests, node_at-before k xs (All-tail (λ n. k < n.number) x xs above))
+
+-- of nodes by rising number, the first is below all others
+pub rising_head : (x : Node) (xs : List Node) → AllPairs (λ m n. m.number < n.number) (x ∷ xs) → All (λ n. x.number < n.number) xs
+rising_head x xs rising j d in_range = rising 0 (suc j) d (omega arith) (omega arith)
+
+-- and the others rise
+pub rising_tail : (x : Node) (xs : List Node) → AllPairs (λ m n. m.number < n.number) (x ∷ xs) → AllPairs (λ m n. m.number < n.number) xs
+rising_tail x xs rising i j d lt in_range = rising (suc i) (suc j) d (omega arith) (omega arith)
+
+-- a node that a look-up finds is one that it looks for
+pub passes-found : (p : Node → Bool) (xs : List Node) (n : Node) → find p xs ≡ Some n → p n ≡ true
+passes-found p [] n e = absurd (cc)
+passes-found p (x ∷ xs) n e = elim (p x) as (λ b. p x ≡ b → cond b (Some x) (find p xs) ≡ Some n → p n ≡ true) [
+  | true ↦ λ here same. let one : x ≡ n = cc in ap p (sym one) ∙ here
+  | false ↦ λ here rest. passes-found p xs n rest
+] refl e
+
+-- a node that any look-up finds is found by its number
+pub node_at-found : (p : Node → Bool) (xs : List Node) (n : Node) → AllPairs (λ m n. m.number < n.number) xs → find p xs ≡ Some n → node_at n.number xs ≡ Some n
+node_at-found p [] n rising e = absurd (cc)
+node_at-found p (x ∷ xs) n rising e =
+    let later : find p xs ≡ Some n → node_at n.number xs ≡ Some n = node_at-found p xs n (rising_tail x xs rising) in
+    let above : node_at n.number xs ≡ Some n → x.number < n.number = All-node_at (λ m. x.number < m.number) n.number xs n (rising_head x xs rising) in
+    elim (p x) as (λ b. cond b (Some x) (find p xs) ≡ Some n → node_at n.number (x ∷ xs) ≡ Some n) [
+      | true ↦ λ same. let here : x ≡ n = cc in grind (arith, nat_tests)
+      | false ↦ λ rest. let found : node_at n.number xs ≡ Some n = later rest in let lt : x.number < n.number = above found in grind (arith, nat_tests)
+    ] e
 
 module _ (k : ℕ) (xs : List Node) where
   -- the place of the number is within the list

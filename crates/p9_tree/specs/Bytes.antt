@@ -8,11 +8,16 @@ read_from offset count old = take count (drop offset old)
 
 -- the bytes after a write at the offset; a gap before it is filled with zeros
 abbrev pub overwritten : ℕ → List ℕ → List ℕ → List ℕ
-overwritten offset bytes old = take offset (padded offset old) ++ bytes ++ drop (offset + length bytes) old
+overwritten offset bytes old =
+    take offset (padded offset old) ++ bytes ++ drop (offset + length bytes) old
 
 -- at most the first bytes
 abbrev pub cut_to : ℕ → List ℕ → List ℕ
 cut_to size old = take size old
+
+-- this many bytes: the first of them, or all of them and zeros behind
+abbrev pub resized : ℕ → List ℕ → List ℕ
+resized size old = take size (padded size old)
 
 -- the bytes over the front of the buffer, the rest of which stays
 abbrev pub put_front : List ℕ → List ℕ → List ℕ

@@ -47,7 +47,12 @@ is_above floor n = option_map_or (λ k. nat_lt k n.number) floor true
 
 -- after a change of the file, or of the directory's entries, by the user
 abbrev pub marked : List ℕ → ℕ → Node → Node
-marked user now n = record n { muid = user; version = (n.version + 1) % 2 ^ 32; atime = now; mtime = now }
+marked user now n = record n {
+  muid = user;
+  version = (n.version + 1) % 2 ^ 32;
+  atime = now;
+  mtime = now;
+}
 
 -- after the file was read
 abbrev pub touched : ℕ → Node → Node
@@ -55,7 +60,12 @@ touched now n = record n { atime = now }
 
 -- a directory with these permissions, owner and group, changed last by the owner
 abbrev pub with_owner : Permissions → List ℕ → List ℕ → Node → Node
-with_owner permissions uid gid n = record n { mode = record { kind = Directory; permissions = permissions }; uid = uid; gid = gid; muid = uid }
+with_owner permissions uid gid n = record n {
+  mode = record { kind = Directory; permissions = permissions };
+  uid = uid;
+  gid = gid;
+  muid = uid;
+}
 
 abbrev pub with_bytes : (List ℕ → List ℕ) → Node → Node
 with_bytes f n = record n { bytes = f n.bytes }

@@ -1,5 +1,5 @@
 -- A server: its nodes by rising number, and the number that its next new node gets.
-use Rattle.std.specs.Prelude.{◌≡◌, ℕ, ◌+◌, ◌<◌, ◌≤◌, ◌^◌, ◌&&◌, Bool, true, false, List, [], ◌∷◌, ◌++◌, Option, Some, None, IsTrue, is_some, codes, length, find, All, AllPairs, if◌then◌else◌}
+use Rattle.std.specs.Prelude.{◌≡◌, ℕ, ◌+◌, ◌<◌, ◌≤◌, ◌&&◌, Bool, true, false, List, [], ◌∷◌, ◌++◌, Option, Some, None, IsTrue, is_some, codes, length, find, All, AllPairs, if◌then◌else◌}
 use Rattle.std.specs.Option.{option_map_or}
 use Rattle.p9_base.specs.declared.mode.Kind.TheVariants.{Directory}
 use Rattle.p9_base.specs.declared.mode.Rights.{Rights}
@@ -43,7 +43,7 @@ has_children dir nodes = is_some (child_after dir None nodes)
 
 -- Well-formed servers.
 
--- what holds of a node by itself; that its mode has no bit without a meaning is in the type of modes
+-- what holds of a node by itself; that its mode has no bit without a meaning is in modes' type
 pub record IsSound (n : Node) : Type 0 where
   pub small : length n.bytes ≤ FILE_MAX
   pub empty_dir : IsTrue (is_dir n) → n.bytes ≡ []
@@ -58,8 +58,11 @@ pub record WellFormed (s : Server) : Type 0 where
   pub root : IsTrue (is_dir_at 0 s.nodes)
   pub only_root : (k : ℕ) (n : Node) → node_at k s.nodes ≡ Some n → n.parent ≡ None → k ≡ 0
   pub parent_below : (k p : ℕ) (n : Node) → node_at k s.nodes ≡ Some n → n.parent ≡ Some p → p < k
-  pub parent_dir : (k p : ℕ) (n : Node) → node_at k s.nodes ≡ Some n → n.parent ≡ Some p → IsTrue (is_dir_at p s.nodes)
-  pub siblings : (j k p : ℕ) (m n : Node) → node_at j s.nodes ≡ Some m → node_at k s.nodes ≡ Some n → m.parent ≡ Some p → n.parent ≡ Some p → m.name ≡ n.name → j ≡ k
+  pub parent_dir : (k p : ℕ) (n : Node) → node_at k s.nodes ≡ Some n → n.parent ≡ Some p
+      → IsTrue (is_dir_at p s.nodes)
+  pub siblings : (j k p : ℕ) (m n : Node)
+      → node_at j s.nodes ≡ Some m → node_at k s.nodes ≡ Some n
+      → m.parent ≡ Some p → n.parent ≡ Some p → m.name ≡ n.name → j ≡ k
 
 -- the node may join the server, in the directory
 pub record CanAdd (s : Server) (dir : ℕ) (n : Node) : Type 0 where

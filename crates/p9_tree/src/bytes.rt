@@ -2,7 +2,7 @@
 
 ghost use Rattle.std.specs.Prelude.{◌≡◌, ◌+◌, ◌≤◌, [], ◌++◌, IfOk, OnOk, OnErr, drop, length, take};
 ghost use Rattle.p9_base.specs.Text.{padded};
-ghost use Rattle.p9_tree.specs.Bytes.{cut_to, overwritten, put_front, read_from};
+ghost use Rattle.p9_tree.specs.Bytes.{cut_to, overwritten, put_front, read_from, resized};
 
 use p9_base::NoMemory;
 use std::alloc::Allocator;
@@ -78,7 +78,8 @@ impl<A: Allocator> Bytes<A> {
     // Copies the bytes over those that stand at the start and behind it.
     fn put(&mut self, start: usize, bytes: &[u8])
         requires { start + length bytes.now ≤ length self.old }
-        ensures { self.new ≡ take start self.old ++ bytes.now ++ drop (start + length bytes.now) self.old }
+        ensures { self.new
+            ≡ take start self.old ++ bytes.now ++ drop (start + length bytes.now) self.old }
     {
         self.items[start..start + bytes.len()].copy_from_slice(bytes);
     }
@@ -90,11 +91,24 @@ impl<A: Allocator> Bytes<A> {
         self.items.truncate(size as usize);
     }
 
+    /// Brings them to this number: it cuts them, or adds zeros. Where memory is refused, all stays
+    /// as it was.
+    pub fn resize(&mut self, size: u64) -> Result<(), NoMemory>
+        requires { size ≤ FILE_MAX }
+        ensures ok { OnOk result (self.new ≡ resized size self.old) }
+        ensures err { OnErr result (self.new ≡ self.old) }
+    {
+        self.pad_to(size as usize)?;
+        self.cut(size);
+        Ok(())
+    }
+
     /// Copies the bytes from the offset on, as many as are there and have room, over the front of
     /// the buffer, and answers how many they are. The rest of the buffer stays.
     pub fn read_into(&self, offset: u64, buffer: &mut [u8]) -> usize
         ensures count { result ≡ length (read_from offset (length buffer.old) self.now) }
-        ensures filled { buffer.new ≡ put_front (read_from offset (length buffer.old) self.now) buffer.old }
+        ensures filled { buffer.new
+            ≡ put_front (read_from offset (length buffer.old) self.now) buffer.old }
     {
         let start = self.items.len().min(offset as usize);
         let rest = &self.items[start..];

@@ -3,12 +3,14 @@
 ghost use Rattle.std.specs.Prelude.{◌≡◌, ◌≢◌, ◌+◌, ◌≤◌, IfOk, IsFalse, OnErr, OnOk, length, map};
 ghost use Rattle.std.specs.Option.{option_copied};
 ghost use Rattle.p9_tree.specs.Bytes.{cut_to, overwritten, put_front, read_from};
+ghost use Rattle.p9_tree.specs.Change.{CanChange, changed};
 ghost use Rattle.p9_tree.specs.Forest.{IsForest, bytes_of, child_in, child_in_after, forest_changed_at, has_children_of, is_dir_of, next_of, node_of, server_at, tree_changed_at};
-ghost use Rattle.p9_tree.specs.New.{new_node};
+ghost use Rattle.p9_tree.specs.New.{CanAddNew, added_new};
 ghost use Rattle.p9_tree.specs.Node.{marked, touched, with_bytes};
-ghost use Rattle.p9_tree.specs.Server.{CanAdd, added, with_dropped};
+ghost use Rattle.p9_tree.specs.Server.{with_dropped};
 
 use crate::bytes::FILE_MAX;
+use crate::change::Change;
 use crate::new::New;
 use crate::node::Node;
 use crate::tree::Tree;
@@ -37,7 +39,8 @@ impl<T: Tree> Forest<T> {
 
     /// The node of least number in the directory, above the floor if there is one.
     pub fn after(&self, dir: NodeRef, floor: Option<u64>) -> Option<&Node<T::Alloc>>
-        ensures { option_copied result ≡ child_in_after dir floor (map T.state self.now.trees.items) }
+        ensures { option_copied result
+            ≡ child_in_after dir floor (map T.state self.now.trees.items) }
     {
         self.trees
             .get(dir.server as usize)?
@@ -56,8 +59,10 @@ impl<T: Tree> Forest<T> {
     /// Copies the file's bytes from the offset on, as many as are there and have room, over the
     /// front of the buffer, and answers how many they are. The rest of the buffer stays.
     pub fn read_into(&self, at: NodeRef, offset: u64, buffer: &mut [u8]) -> usize
-        ensures count { result ≡ length (read_from offset (length buffer.old) (bytes_of at (map T.state self.now.trees.items))) }
-        ensures filled { buffer.new ≡ put_front (read_from offset (length buffer.old) (bytes_of at (map T.state self.now.trees.items))) buffer.old }
+        ensures count { let bytes = bytes_of at (map T.state self.now.trees.items) in
+            result ≡ length (read_from offset (length buffer.old) bytes) }
+        ensures filled { let bytes = bytes_of at (map T.state self.now.trees.items) in
+            buffer.new ≡ put_front (read_from offset (length buffer.old) bytes) buffer.old }
     {
         match self.node(at) {
             Some(node) => node.read_into(offset, buffer),
@@ -68,10 +73,15 @@ impl<T: Tree> Forest<T> {
     /// Makes a node of the server's next number in the directory. Where memory is refused, the
     /// forest is as before.
     pub fn add(&mut self, dir: NodeRef, new: &New<'_>) -> Result<NodeRef, NoMemory>
-        requires { let server = server_at dir.server (map T.state self.old.trees.items) in CanAdd server dir.number (new_node server.next dir.number new.now) }
-        ensures made { IfOk result (λ made. made ≡ record { server = dir.server; number = next_of dir.server (map T.state self.old.trees.items) }) }
-        ensures ok { OnOk result (map T.state self.new.trees.items ≡ tree_changed_at dir.server (λ s. added s (new_node s.next dir.number new.now)) (map T.state self.old.trees.items)) }
-        ensures err { OnErr result (map T.state self.new.trees.items ≡ map T.state self.old.trees.items) }
+        requires { let server = server_at dir.server (map T.state self.old.trees.items) in
+            CanAddNew server dir.number new.now }
+        ensures made { let number = next_of dir.server (map T.state self.old.trees.items) in
+            IfOk result (λ made. made ≡ record { server = dir.server; number = number }) }
+        ensures ok { OnOk result (map T.state self.new.trees.items
+            ≡ tree_changed_at dir.server (added_new dir.number new.now)
+            (map T.state self.old.trees.items)) }
+        ensures err { OnErr result (map T.state self.new.trees.items
+            ≡ map T.state self.old.trees.items) }
     {
         let number = self.trees[dir.server as usize].add(dir.number, new)?;
         Ok(NodeRef {
@@ -84,16 +94,35 @@ impl<T: Tree> Forest<T> {
     pub fn drop_leaf(&mut self, at: NodeRef)
         requires not_root { at.number ≢ 0 }
         requires empty { IsFalse (has_children_of at (map T.state self.old.trees.items)) }
-        ensures { map T.state self.new.trees.items ≡ tree_changed_at at.server (with_dropped at.number) (map T.state self.old.trees.items) }
+        ensures { map T.state self.new.trees.items
+            ≡ tree_changed_at at.server (with_dropped at.number)
+            (map T.state self.old.trees.items) }
     {
         if let Some(tree) = self.trees.get_mut(at.server as usize) {
             tree.drop_leaf(at.number);
         }
     }
 
+    /// Makes all of the change in the node at once, as [`Tree::change`]. Where memory is refused,
+    /// the forest is as before.
+    pub fn change(&mut self, at: NodeRef, change: &Change) -> Result<(), NoMemory>
+        requires { let server = server_at at.server (map T.state self.old.trees.items) in
+            CanChange server at.number change.now }
+        ensures ok { OnOk result (map T.state self.new.trees.items
+            ≡ forest_changed_at at (changed change.entry.now) (map T.state self.old.trees.items)) }
+        ensures err { OnErr result (map T.state self.new.trees.items
+            ≡ map T.state self.old.trees.items) }
+    {
+        if let Some(tree) = self.trees.get_mut(at.server as usize) {
+            tree.change(at.number, change)?;
+        }
+        Ok(())
+    }
+
     /// Marks the node: the user changed the file, or an entry of the directory, now.
     pub fn bump(&mut self, at: NodeRef, user: User, now: u32)
-        ensures { map T.state self.new.trees.items ≡ forest_changed_at at (marked user now) (map T.state self.old.trees.items) }
+        ensures { map T.state self.new.trees.items
+            ≡ forest_changed_at at (marked user now) (map T.state self.old.trees.items) }
     {
         if let Some(tree) = self.trees.get_mut(at.server as usize) {
             tree.bump(at.number, user, now);
@@ -102,7 +131,8 @@ impl<T: Tree> Forest<T> {
 
     /// Makes the clock reading the time when the file was last read.
     pub fn touch(&mut self, at: NodeRef, now: u32)
-        ensures { map T.state self.new.trees.items ≡ forest_changed_at at (touched now) (map T.state self.old.trees.items) }
+        ensures { map T.state self.new.trees.items
+            ≡ forest_changed_at at (touched now) (map T.state self.old.trees.items) }
     {
         if let Some(tree) = self.trees.get_mut(at.server as usize) {
             tree.touch(at.number, now);
@@ -114,8 +144,11 @@ impl<T: Tree> Forest<T> {
     pub fn write(&mut self, at: NodeRef, offset: u64, bytes: &[u8]) -> Result<(), NoMemory>
         requires file { IsFalse (is_dir_of at (map T.state self.old.trees.items)) }
         requires fits { offset + length bytes.now ≤ FILE_MAX }
-        ensures ok { OnOk result (map T.state self.new.trees.items ≡ forest_changed_at at (with_bytes (overwritten offset bytes.now)) (map T.state self.old.trees.items)) }
-        ensures err { OnErr result (map T.state self.new.trees.items ≡ map T.state self.old.trees.items) }
+        ensures ok { OnOk result (map T.state self.new.trees.items
+            ≡ forest_changed_at at (with_bytes (overwritten offset bytes.now))
+            (map T.state self.old.trees.items)) }
+        ensures err { OnErr result (map T.state self.new.trees.items
+            ≡ map T.state self.old.trees.items) }
     {
         if let Some(tree) = self.trees.get_mut(at.server as usize) {
             tree.write(at.number, offset, bytes)?;
@@ -125,7 +158,8 @@ impl<T: Tree> Forest<T> {
 
     /// Keeps at most the first bytes of a file. It isn't marked.
     pub fn cut(&mut self, at: NodeRef, size: u64)
-        ensures { map T.state self.new.trees.items ≡ forest_changed_at at (with_bytes (cut_to size)) (map T.state self.old.trees.items) }
+        ensures { map T.state self.new.trees.items
+            ≡ forest_changed_at at (with_bytes (cut_to size)) (map T.state self.old.trees.items) }
     {
         if let Some(tree) = self.trees.get_mut(at.server as usize) {
             tree.cut(at.number, size);

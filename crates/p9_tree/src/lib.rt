@@ -6,6 +6,7 @@
 #![tactic(auto)]
 
 mod bytes;
+mod change;
 mod forest;
 mod new;
 mod node;
@@ -13,6 +14,7 @@ mod plain;
 mod tree;
 
 pub use bytes::FILE_MAX;
+pub use change::Change;
 pub use forest::Forest;
 pub use new::New;
 pub use node::Node;

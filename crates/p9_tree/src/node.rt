@@ -1,13 +1,16 @@
 //! A file or directory of a server.
 
-ghost use Rattle.std.specs.Prelude.{◌≡◌, ◌+◌, ◌≤◌, ◌&&◌, IsTrue, IfOk, OnOk, OnErr, length};
+ghost use Rattle.std.specs.Prelude.{◌≡◌, ◌≢◌, ◌+◌, ◌≤◌, ◌&&◌, IsTrue, IfOk, IsSome, OnOk, OnErr, length, unwrap_or};
+ghost use Rattle.std.specs.Option.{ForSome};
 ghost use Rattle.p9_base.specs.Name.{is_name};
 ghost use Rattle.p9_base.specs.Text.{is_text};
 ghost use Rattle.p9_tree.specs.Bytes.{cut_to, overwritten, put_front, read_from};
+ghost use Rattle.p9_tree.specs.Change.{changed, with_length, with_mtime};
 ghost use Rattle.p9_tree.specs.New.{new_node};
 ghost use Rattle.p9_tree.specs.Node.{is_above, is_child, is_dir, is_in, marked, touched, with_bytes, with_owner};
 
 use crate::bytes::{Bytes, FILE_MAX};
+use crate::change::Change;
 use crate::new::New;
 use p9_base::{Kind, Mode, Name, NoMemory, Permissions, User, valid_name};
 use std::alloc::Allocator;
@@ -42,7 +45,19 @@ impl<A: Allocator> Model for Node<A> {
 
     ghost Value = { NodeOf };
 
-    ghost view = { λ n. record { number = n.number; parent = option_map (λ e. e.parent) n.entry; name = option_map_or (λ e. e.name) n.entry root_name; mode = n.mode; uid = n.uid; gid = n.gid; muid = n.muid; version = n.version; atime = n.atime; mtime = n.mtime; bytes = n.bytes } };
+    ghost view = { λ n. record {
+      number = n.number;
+      parent = option_map (λ e. e.parent) n.entry;
+      name = option_map_or (λ e. e.name) n.entry root_name;
+      mode = n.mode;
+      uid = n.uid;
+      gid = n.gid;
+      muid = n.muid;
+      version = n.version;
+      atime = n.atime;
+      mtime = n.mtime;
+      bytes = n.bytes;
+    } };
 }
 
 impl<A: Allocator> Node<A> {
@@ -228,10 +243,62 @@ impl<A: Allocator> Node<A> {
         self.bytes.cut(size);
     }
 
+    /// Makes all of the change. Where memory is refused, the node is as before.
+    pub(crate) fn change(&mut self, change: &Change) -> Result<(), NoMemory>
+        requires named { ForSome change.now.name (λ name. IsSome self.old.parent) }
+        requires small { ForSome change.now.length (λ size. size ≤ FILE_MAX) }
+        ensures ok { OnOk result (self.new ≡ changed change.entry.now self.old) }
+        ensures name { OnOk result (ForSome change.entry.now.name (λ name. IsTrue (is_name name))) }
+        ensures err { OnErr result (self.new ≡ self.old) }
+    {
+        self.set_length(change)?;
+        self.set_mtime(change);
+        self.mode = change.mode.unwrap_or(self.mode);
+        self.gid = change.gid.unwrap_or(self.gid);
+        self.rename(change.name);
+        Ok(())
+    }
+
+    // Cuts the file to the new length, if there is one, or adds zeros, and marks it.
+    fn set_length(&mut self, change: &Change) -> Result<(), NoMemory>
+        requires { ForSome change.now.length (λ size. size ≤ FILE_MAX) }
+        ensures ok { OnOk result (self.new ≡ with_length change.entry.now self.old) }
+        ensures err { OnErr result (self.new ≡ self.old) }
+    {
+        if let Some(size) = change.length {
+            self.bytes.resize(size)?;
+            self.mark(change.user, change.now);
+        }
+        Ok(())
+    }
+
+    // Makes the new time of change, if there is one, the user's.
+    fn set_mtime(&mut self, change: &Change)
+        ensures { self.new ≡ with_mtime change.entry.now self.old }
+    {
+        if let Some(mtime) = change.mtime {
+            self.mtime = mtime;
+            self.muid = change.user;
+        }
+    }
+
+    // Gives it the new name, if there is one.
+    fn rename(&mut self, name: Option<Name>)
+        requires { ForSome name (λ name. IsSome self.old.parent) }
+        ensures name { self.new ≡ record self.old { name = unwrap_or name self.old.name } }
+        ensures valid { ForSome name (λ name. IsTrue (is_name name)) }
+    {
+        if let (Some(entry), Some(name)) = (&mut self.entry, name) {
+            prove!(valid_name(name.as_str()));
+            entry.name = name;
+        }
+    }
+
     /// Copies of the file's bytes into the buffer, as [`Bytes::read_into`].
     pub(crate) fn read_into(&self, offset: u64, buffer: &mut [u8]) -> usize
         ensures count { result ≡ length (read_from offset (length buffer.old) self.now.bytes) }
-        ensures filled { buffer.new ≡ put_front (read_from offset (length buffer.old) self.now.bytes) buffer.old }
+        ensures filled { buffer.new
+            ≡ put_front (read_from offset (length buffer.old) self.now.bytes) buffer.old }
     {
         self.bytes.read_into(offset, buffer)
     }

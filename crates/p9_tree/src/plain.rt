@@ -5,6 +5,7 @@ ghost use Rattle.p9_tree.specs.Node.{has_number};
 ghost use Rattle.p9_tree.specs.Server.{Server, WellFormed, root_mode};
 
 use crate::bytes::Bytes;
+use crate::change::Change;
 use crate::new::New;
 use crate::node::Node;
 use crate::tree::Tree;
@@ -17,7 +18,8 @@ pub struct PlainTree<A: Allocator + Copy> {
     alloc: A,
     nodes: Vec<Node<A>, A>,
     next: u64,
-    ghost well_formed: { let server : Server = record { nodes = nodes.items; next = next } in WellFormed server },
+    ghost well_formed: { let server : Server = record { nodes = nodes.items; next = next } in
+        WellFormed server },
 }
 
 impl<A: Allocator + Copy> Tree for PlainTree<A> {
@@ -84,6 +86,13 @@ impl<A: Allocator + Copy> Tree for PlainTree<A> {
         if let Some(at) = self.place(number) {
             let _ = self.nodes.remove(at);
         }
+    }
+
+    fn change(&mut self, number: u64, change: &Change) -> Result<(), NoMemory> {
+        if let Some(at) = self.place(number) {
+            self.nodes[at].change(change)?;
+        }
+        Ok(())
     }
 
     fn bump(&mut self, number: u64, user: User, now: u32) {

@@ -1,6 +1,13 @@
 //! What the calls of a tree do, once for every kind of tree.
 
-use crate::{FILE_MAX, Forest, NEXT_MAX, New, Node, PlainTree, Tree};
+ghost use Rattle.std.specs.Prelude.{◌≡◌, ◌≢◌, ◌≤◌, IsFalse, IsTrue, None};
+ghost use Rattle.std.specs.Option.{ForSome, option_copied};
+ghost use Rattle.p9_base.specs.Mode.{is_dir as is_dir_mode};
+ghost use Rattle.p9_tree.specs.Change.{CanChange};
+ghost use Rattle.p9_tree.specs.Node.{is_dir};
+ghost use Rattle.p9_tree.specs.Server.{child_of};
+
+use crate::{Change, FILE_MAX, Forest, NEXT_MAX, New, Node, PlainTree, Tree};
 use p9_base::{Mode, Name, NoMemory, NodeRef, Permissions, User};
 use p9_refusing::{Refusing, refuse_each};
 use std::alloc::{Allocator, Global};
@@ -200,6 +207,268 @@ fn fields_change<T: Tree>(rt: &impl Abort, alloc: T::Alloc) -> Result<(), NoMemo
     Ok(())
 }
 
+// What a test expects of the file of the sample world after a wstat.
+#[derive(Clone, Copy)]
+struct Standing {
+    name: &'static str,
+    mode: u32,
+    gid: &'static str,
+    muid: &'static str,
+    version: u32,
+    atime: u32,
+    mtime: u32,
+    bytes: &'static [u8],
+}
+
+const BEFORE: Standing = Standing {
+    name: "f",
+    mode: 0x1a4,
+    gid: "glenda",
+    muid: "glenda",
+    version: 0,
+    atime: 0,
+    mtime: 0,
+    bytes: b"hi",
+};
+
+const MARKED: Standing = Standing {
+    muid: "rob",
+    version: 1,
+    atime: 7,
+    mtime: 7,
+    ..BEFORE
+};
+
+// A wstat of rob's at the time 7 that leaves all as it is.
+fn untouched(rt: &impl Abort) -> Change
+    ensures name { result.name ≡ None }
+    ensures mode { result.mode ≡ None }
+{
+    Change {
+        name: None,
+        mode: None,
+        gid: None,
+        length: None,
+        mtime: None,
+        user: user(rt, "rob"),
+        now: 7,
+    }
+}
+
+// Changes the node where the tree's look-ups say that it may be changed so.
+fn change<T: Tree>(
+    rt: &impl Abort,
+    tree: &mut T,
+    number: u64,
+    change: &Change,
+) -> Result<(), NoMemory> {
+    assert!(rt; may_change(tree, number, change));
+    tree.change(number, change)
+}
+
+fn may_change<T: Tree>(tree: &T, number: u64, change: &Change) -> bool
+    ensures { IsTrue result → CanChange (T.state tree.now) number change.entry.now }
+{
+    match tree.node(number) {
+        Some(node) => {
+            keeps_kind(node, change.mode)
+                && has_length(node, change.length)
+                && has_free(tree, node, change.name)
+        }
+        None => true,
+    }
+}
+
+fn keeps_kind<A: Allocator>(node: &Node<A>, mode: Option<Mode>) -> bool
+    ensures { IsTrue result → ForSome mode (λ mode. is_dir_mode mode ≡ is_dir node.now) }
+{
+    match mode {
+        Some(mode) => mode.is_dir() == node.is_dir(),
+        None => true,
+    }
+}
+
+fn has_length<A: Allocator>(node: &Node<A>, length: Option<u64>) -> bool
+    ensures file { IsTrue result → ForSome length (λ size. IsFalse (is_dir node.now)) }
+    ensures small { IsTrue result → ForSome length (λ size. size ≤ FILE_MAX) }
+{
+    match length {
+        Some(size) => !node.is_dir() && size <= FILE_MAX as u64,
+        None => true,
+    }
+}
+
+fn has_free<T: Tree>(tree: &T, node: &Node<T::Alloc>, name: Option<Name>) -> bool
+    ensures not_root { IsTrue result → ForSome name (λ name. node.now.number ≢ 0) }
+    ensures free { IsTrue result → ForSome name (λ name. ForSome node.now.parent (λ dir.
+        ForSome (child_of dir name (T.state tree.now).nodes) (λ m. m.number ≡ node.now.number))) }
+{
+    match (name, node.parent()) {
+        (Some(name), Some(dir)) => {
+            node.number() != 0 && is_none_or_this(tree.child(dir, &name), node.number())
+        }
+        (Some(_), None) => node.number() != 0,
+        (None, _) => true,
+    }
+}
+
+fn is_none_or_this<A: Allocator>(node: Option<&Node<A>>, number: u64) -> bool
+    ensures { IsTrue result → ForSome (option_copied node.entry) (λ m. m.number ≡ number) }
+{
+    match node {
+        Some(node) => node.number() == number,
+        None => true,
+    }
+}
+
+fn stands<A: Allocator>(rt: &impl Abort, found: Option<&Node<A>>, after: &Standing) {
+    let found = found.expect(rt, "the node");
+    assert_eq!(rt; (found.number(), found.parent()), (3, Some(1)));
+    assert_eq!(rt; found.name(), after.name);
+    assert_eq!(rt; found.mode().bits(), after.mode);
+    assert_eq!(rt; found.uid().as_str(), "glenda");
+    assert_eq!(rt; found.gid().as_str(), after.gid);
+    assert_eq!(rt; found.muid().as_str(), after.muid);
+    assert_eq!(rt; found.version(), after.version);
+    assert_eq!(rt; found.atime(), after.atime);
+    assert_eq!(rt; found.mtime(), after.mtime);
+    assert_eq!(rt; found.bytes(), after.bytes);
+}
+
+// The sample world's file after the change; the rest of it stays.
+fn becomes<T: Tree>(
+    rt: &impl Abort,
+    alloc: T::Alloc,
+    wanted: &Change,
+    after: &Standing,
+) -> Result<(), NoMemory> {
+    let mut tree = small::<T>(rt, alloc)?;
+    change(rt, &mut tree, 3, wanted)?;
+    stands(rt, tree.node(3), after);
+    stands(rt, tree.child(1, &name(rt, after.name)), after);
+    assert_eq!(rt; tree.next(), 4);
+    is_as_made(rt, tree.node(0), &ROOT);
+    is_as_made(rt, tree.node(1), &SMALL[0]);
+    is_as_made(rt, tree.node(2), &SMALL[1]);
+    Ok(())
+}
+
+fn each_field_changes_alone<T: Tree>(rt: &impl Abort, alloc: T::Alloc) -> Result<(), NoMemory> {
+    let same = untouched(rt);
+    becomes::<T>(rt, alloc, &same, &BEFORE)?;
+    let renamed = Change {
+        name: Some(name(rt, "g")),
+        ..same
+    };
+    becomes::<T>(
+        rt,
+        alloc,
+        &renamed,
+        &Standing {
+            name: "g",
+            ..BEFORE
+        },
+    )?;
+    let with_mode = Change {
+        mode: Mode::from_bits(0x4000_0180),
+        ..same
+    };
+    let mode = 0x4000_0180;
+    becomes::<T>(rt, alloc, &with_mode, &Standing { mode, ..BEFORE })?;
+    let with_group = Change {
+        gid: Some(user(rt, "staff")),
+        ..same
+    };
+    let gid = "staff";
+    becomes::<T>(rt, alloc, &with_group, &Standing { gid, ..BEFORE })?;
+    let with_mtime = Change {
+        mtime: Some(5),
+        ..same
+    };
+    let by_rob = Standing {
+        muid: "rob",
+        mtime: 5,
+        ..BEFORE
+    };
+    becomes::<T>(rt, alloc, &with_mtime, &by_rob)
+}
+
+// A new length marks the file, and a new mtime wins over the mark's.
+fn length_changes<T: Tree>(rt: &impl Abort, alloc: T::Alloc) -> Result<(), NoMemory> {
+    let lengths: [(u64, &'static [u8]); 4] = [(0, b""), (1, b"h"), (2, b"hi"), (5, b"hi\0\0\0")];
+    for (length, bytes) in lengths {
+        let length = Some(length);
+        let alone = Change {
+            length,
+            ..untouched(rt)
+        };
+        becomes::<T>(rt, alloc, &alone, &Standing { bytes, ..MARKED })?;
+        let timed = Change {
+            mtime: Some(5),
+            ..alone
+        };
+        let mtime = 5;
+        becomes::<T>(
+            rt,
+            alloc,
+            &timed,
+            &Standing {
+                bytes,
+                mtime,
+                ..MARKED
+            },
+        )?;
+    }
+    Ok(())
+}
+
+fn all_changes_at_once<T: Tree>(rt: &impl Abort, alloc: T::Alloc) -> Result<(), NoMemory> {
+    let wanted = Change {
+        name: Some(name(rt, "g")),
+        mode: Mode::from_bits(0x180),
+        gid: Some(user(rt, "staff")),
+        length: Some(3),
+        mtime: Some(5),
+        ..untouched(rt)
+    };
+    let after = Standing {
+        name: "g",
+        mode: 0x180,
+        gid: "staff",
+        mtime: 5,
+        bytes: b"hi\0",
+        ..MARKED
+    };
+    becomes::<T>(rt, alloc, &wanted, &after)
+}
+
+// A name of its own, a directory's mode, and the root's group and time.
+fn directories_change<T: Tree>(rt: &impl Abort, alloc: T::Alloc) -> Result<(), NoMemory> {
+    let mut tree = small::<T>(rt, alloc)?;
+    let wanted = Change {
+        name: Some(name(rt, "b")),
+        mode: Mode::from_bits(0x8000_01c0),
+        ..untouched(rt)
+    };
+    change(rt, &mut tree, 2, &wanted)?;
+    let dir = tree.child(1, &name(rt, "b")).expect(rt, "the directory");
+    assert_eq!(rt; (dir.number(), dir.mode().bits()), (2, 0x8000_01c0));
+    assert_eq!(rt; (dir.muid().as_str(), dir.mtime()), ("glenda", 0));
+    let wanted = Change {
+        gid: Some(user(rt, "staff")),
+        mtime: Some(5),
+        ..untouched(rt)
+    };
+    change(rt, &mut tree, 0, &wanted)?;
+    let root = tree.node(0).expect(rt, "the root");
+    assert_eq!(rt; (root.name(), root.gid().as_str()), ("/", "staff"));
+    assert_eq!(rt;
+        (root.muid().as_str(), root.mtime(), root.version()),
+        ("rob", 5, 0)
+    );
+    Ok(())
+}
+
 fn numbers_are_given_once<T: Tree>(rt: &impl Abort, alloc: T::Alloc) -> Result<(), NoMemory> {
     let mut tree = small::<T>(rt, alloc)?;
     assert!(rt; tree.after(3, None).is_none());
@@ -286,6 +555,27 @@ fn forest_grows_and_shrinks<T: Tree>(rt: &impl Abort, alloc: T::Alloc) -> Result
     Ok(())
 }
 
+fn forest_changes_a_standing<T: Tree>(rt: &impl Abort, alloc: T::Alloc) -> Result<(), NoMemory> {
+    let mut forest = two_servers::<T>(rt, alloc)?;
+    let wanted = Change {
+        gid: Some(user(rt, "staff")),
+        length: Some(3),
+        ..untouched(rt)
+    };
+    assert!(rt; !forest.node(FILE).expect(rt, "the file").is_dir());
+    forest.change(FILE, &wanted)?;
+    let after = Standing {
+        gid: "staff",
+        bytes: b"hi\0",
+        ..MARKED
+    };
+    stands(rt, forest.node(FILE), &after);
+    assert!(rt; forest.node(ABSENT).is_none());
+    forest.change(ABSENT, &wanted)?;
+    assert!(rt; forest.node(ABSENT).is_none());
+    Ok(())
+}
+
 // The tree is the sample world.
 fn is_small<T: Tree>(rt: &impl Abort, tree: &T) {
     assert_eq!(rt; tree.next(), 4);
@@ -295,7 +585,8 @@ fn is_small<T: Tree>(rt: &impl Abort, tree: &T) {
     }
 }
 
-// Writes past a file's end, and adds a file to the sample world, each again where it was refused.
+// Writes past a file's end, gives it a greater length, and adds a file to the sample world, each
+// again where it was refused.
 fn grow<T: Tree>(rt: &impl Abort, mut tree: T) {
     if write(rt, &mut tree, 3, 2, b" there").is_err() {
         is_small(rt, &tree);
@@ -306,6 +597,19 @@ fn grow<T: Tree>(rt: &impl Abort, mut tree: T) {
         ..SMALL[2]
     };
     is_as_made(rt, tree.node(3), &written);
+    let longer = Change {
+        length: Some(20),
+        ..untouched(rt)
+    };
+    if change(rt, &mut tree, 3, &longer).is_err() {
+        is_as_made(rt, tree.node(3), &written);
+        assert!(rt; change(rt, &mut tree, 3, &longer).is_ok());
+    }
+    let changed = Standing {
+        bytes: b"hi there\0\0\0\0\0\0\0\0\0\0\0\0",
+        ..MARKED
+    };
+    stands(rt, tree.node(3), &changed);
     let file = Expected {
         number: 4,
         name: "g",
@@ -314,7 +618,7 @@ fn grow<T: Tree>(rt: &impl Abort, mut tree: T) {
     if add(rt, &mut tree, 1, &new_of(rt, &file)).is_err() {
         assert_eq!(rt; tree.next(), 4);
         assert!(rt; tree.node(4).is_none());
-        is_as_made(rt, tree.node(3), &written);
+        stands(rt, tree.node(3), &changed);
         assert!(rt; add(rt, &mut tree, 1, &new_of(rt, &file)).is_ok());
     }
     is_as_made(rt, tree.node(4), &file);
@@ -336,9 +640,19 @@ fn plain_tree_changes_nodes(rt: HostRuntime) -> Result<(), Fail> {
 }
 
 #[test]
+fn plain_tree_makes_a_wstat(rt: HostRuntime) -> Result<(), Fail> {
+    each_field_changes_alone::<PlainTree<Global>>(&rt, rt.alloc())?;
+    length_changes::<PlainTree<Global>>(&rt, rt.alloc())?;
+    all_changes_at_once::<PlainTree<Global>>(&rt, rt.alloc())?;
+    directories_change::<PlainTree<Global>>(&rt, rt.alloc())?;
+    Ok(())
+}
+
+#[test]
 fn forest_of_plain_trees(rt: HostRuntime) -> Result<(), Fail> {
     forest_finds_each_node::<PlainTree<Global>>(&rt, rt.alloc())?;
     forest_changes_nodes::<PlainTree<Global>>(&rt, rt.alloc())?;
+    forest_changes_a_standing::<PlainTree<Global>>(&rt, rt.alloc())?;
     forest_grows_and_shrinks::<PlainTree<Global>>(&rt, rt.alloc())?;
     Ok(())
 }
@@ -352,7 +666,7 @@ fn plain_tree_is_as_before_at_each_refusal(rt: HostRuntime) {
         || small::<PlainTree<&Refusing<Global>>>(&rt, &memory).expect(&rt, "ample memory"),
         |tree| grow(&rt, tree),
     );
-    assert!(rt; refusals >= 2);
+    assert!(rt; refusals >= 3);
 }
 
 #[test]

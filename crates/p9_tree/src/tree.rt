@@ -3,11 +3,13 @@
 ghost use Rattle.std.specs.Prelude.{◌≡◌, ◌≢◌, ◌+◌, ◌≤◌, IfOk, IsFalse, OnErr, OnOk, length};
 ghost use Rattle.std.specs.Option.{option_copied};
 ghost use Rattle.p9_tree.specs.Bytes.{cut_to, overwritten, put_front, read_from};
-ghost use Rattle.p9_tree.specs.New.{new_node};
+ghost use Rattle.p9_tree.specs.Change.{CanChange, changed};
+ghost use Rattle.p9_tree.specs.New.{CanAddNew, added_new};
 ghost use Rattle.p9_tree.specs.Node.{marked, touched, with_bytes, with_owner};
-ghost use Rattle.p9_tree.specs.Server.{CanAdd, Server, WellFormed, added, bytes_at, child_after, child_of, has_children, is_dir_at, node_at, rooted, with_changed, with_dropped};
+ghost use Rattle.p9_tree.specs.Server.{Server, WellFormed, bytes_at, child_after, child_of, has_children, is_dir_at, node_at, rooted, with_changed, with_dropped};
 
 use crate::bytes::FILE_MAX;
+use crate::change::Change;
 use crate::new::New;
 use crate::node::Node;
 use p9_base::{Name, NoMemory, Permissions, User};
@@ -18,13 +20,13 @@ pub const NEXT_MAX: u64 = 1 << 48;
 
 /// The tree of a server: its nodes by rising number, and the number that the next new node gets.
 ///
-/// Each tree is well-formed: its numbers are below the next, which is at most [`NEXT_MAX`]; node 0 is a
-/// directory named `/` and the one without a parent; each other node has a valid name, and a
+/// Each tree is well-formed: its numbers are below the next, which is at most [`NEXT_MAX`]; node 0
+/// is a directory named `/` and the one without a parent; each other node has a valid name, and a
 /// directory of smaller number for a parent, in which no other has its name; a file has at most
 /// [`FILE_MAX`] bytes, and a directory none.
 ///
-/// A call that names a number at which there is no node changes nothing. Only `add` and `write`
-/// take memory; where it is refused they answer so, and the tree is as before.
+/// A call that names a number at which there is no node changes nothing. Only `add`, `change` and
+/// `write` take memory; where it is refused they answer so, and the tree is as before.
 pub trait Tree: Sized + Drop {
     /// The allocator of all that grows in it.
     type Alloc: Allocator + Copy;
@@ -55,13 +57,14 @@ pub trait Tree: Sized + Drop {
     /// Makes the permissions, owner and group of the root these, and the owner the user who
     /// changed it last.
     fn set_root(&mut self, permissions: Permissions, uid: User, gid: User)
-        ensures { state self.new ≡ with_changed 0 (with_owner permissions uid gid) (state self.old) };
+        ensures { state self.new
+            ≡ with_changed 0 (with_owner permissions uid gid) (state self.old) };
 
     /// Makes a node of the next number in the directory, and answers its number.
     fn add(&mut self, dir: u64, new: &New<'_>) -> Result<u64, NoMemory>
-        requires { CanAdd (state self.old) dir (new_node (state self.old).next dir new.now) }
+        requires { CanAddNew (state self.old) dir new.now }
         ensures number { IfOk result (λ number. number ≡ (state self.old).next) }
-        ensures ok { OnOk result (state self.new ≡ added (state self.old) (new_node (state self.old).next dir new.now)) }
+        ensures ok { OnOk result (state self.new ≡ added_new dir new.now (state self.old)) }
         ensures err { OnErr result (state self.new ≡ state self.old) };
 
     /// Takes out a file or an empty directory. Its parent isn't marked.
@@ -69,6 +72,15 @@ pub trait Tree: Sized + Drop {
         requires not_root { number ≢ 0 }
         requires empty { IsFalse (has_children number (state self.old).nodes) }
         ensures { state self.new ≡ with_dropped number (state self.old) };
+
+    /// Makes all of the change in the node at once: a new length cuts a file or adds zeros to it,
+    /// and marks it; a new time of change wins over the mark's, and makes the user the last to have
+    /// changed the node. The parent isn't marked.
+    fn change(&mut self, number: u64, change: &Change) -> Result<(), NoMemory>
+        requires { CanChange (state self.old) number change.now }
+        ensures ok { OnOk result (state self.new
+            ≡ with_changed number (changed change.entry.now) (state self.old)) }
+        ensures err { OnErr result (state self.new ≡ state self.old) };
 
     /// Marks the node: the user changed the file, or an entry of the directory, now. Its version
     /// grows by 1 modulo 2^32, and both its times become the clock reading.
@@ -83,18 +95,22 @@ pub trait Tree: Sized + Drop {
     fn write(&mut self, number: u64, offset: u64, bytes: &[u8]) -> Result<(), NoMemory>
         requires file { IsFalse (is_dir_at number (state self.old).nodes) }
         requires fits { offset + length bytes.now ≤ FILE_MAX }
-        ensures ok { OnOk result (state self.new ≡ with_changed number (with_bytes (overwritten offset bytes.now)) (state self.old)) }
+        ensures ok { OnOk result (state self.new
+            ≡ with_changed number (with_bytes (overwritten offset bytes.now)) (state self.old)) }
         ensures err { OnErr result (state self.new ≡ state self.old) };
 
     /// Keeps at most the first bytes of a file. It isn't marked.
     fn cut(&mut self, number: u64, size: u64)
-        ensures { state self.new ≡ with_changed number (with_bytes (cut_to size)) (state self.old) };
+        ensures { state self.new
+            ≡ with_changed number (with_bytes (cut_to size)) (state self.old) };
 
     /// Copies the file's bytes from the offset on, as many as are there and have room, over the
     /// front of the buffer, and answers how many they are. The rest of the buffer stays.
     fn read_into(&self, number: u64, offset: u64, buffer: &mut [u8]) -> usize
-        ensures count { result ≡ length (read_from offset (length buffer.old) (bytes_at number (state self.now).nodes)) }
-        ensures filled { buffer.new ≡ put_front (read_from offset (length buffer.old) (bytes_at number (state self.now).nodes)) buffer.old };
+        ensures count { let bytes = bytes_at number (state self.now).nodes in
+            result ≡ length (read_from offset (length buffer.old) bytes) }
+        ensures filled { let bytes = bytes_at number (state self.now).nodes in
+            buffer.new ≡ put_front (read_from offset (length buffer.old) bytes) buffer.old };
 
     ghost well_formed: { (tree : Self) → WellFormed (state tree) };
 }

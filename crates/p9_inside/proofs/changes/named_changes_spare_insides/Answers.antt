@@ -1,4 +1,4 @@
-use Rattle.p9_inside.proofs.SparedForests.{mark_spares, touch_spares, owner_spares, write_spares, cut_spares}
+use Rattle.p9_inside.proofs.SparedForests.{mark_spares, touch_spares, owner_spares, write_spares, cut_spares, wstat_spares}
 use Rattle.p9_inside.proofs.changes.named_changes_spare_insides.Goals as goal
 
 pub returns-clause-mark : goal.returns-clause-mark
@@ -15,3 +15,6 @@ returns-clause-write c = write_spares
 
 pub returns-clause-cut : goal.returns-clause-cut
 returns-clause-cut c = cut_spares
+
+pub returns-clause-wstat : goal.returns-clause-wstat
+returns-clause-wstat c = wstat_spares

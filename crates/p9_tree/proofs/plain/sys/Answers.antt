@@ -1,4 +1,3 @@
-use Rattle.std.proofs.Common.{rules}
 use Rattle.std.proofs.lemmas.Bool.{true_from_ne_false}
 use Rattle.p9_tree.proofs.TextLemmas.{is_user-sys}
 use Rattle.p9_tree.proofs.plain.sys.Goals as goal

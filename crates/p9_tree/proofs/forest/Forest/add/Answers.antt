@@ -1,7 +1,7 @@
-use Rattle.std.proofs.Common.{◌≡◌, ◌<◌, length, refl, sym, ap, ◌∙◌, arith, map}
+use Rattle.std.proofs.Common.{◌≡◌, ◌<◌, length, sym, ap, ◌∙◌, map}
 use Rattle.std.proofs.lemmas.Result.{err_from_is_err_and}
 use Rattle.p9_tree.specs.New.{new_node}
-use Rattle.p9_tree.specs.Server.{Server, added, is_dir_at}
+use Rattle.p9_tree.specs.Server.{Server, added}
 use Rattle.p9_tree.specs.Forest.{server_at}
 use Rattle.p9_tree.proofs.ForestLemmas.{map-set_same, map-tree_changed_at, server_at-map, server_within}
 use Rattle.p9_tree.proofs.forest.Forest.add.Goals as goal

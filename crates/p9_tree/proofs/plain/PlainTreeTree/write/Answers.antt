@@ -1,4 +1,4 @@
-use Rattle.std.proofs.Common.{ap, ◌∙◌, sym, inl, inr, arith}
+use Rattle.std.proofs.Common.{ap, ◌∙◌, sym, inl, inr}
 use Rattle.p9_tree.specs.Bytes.{overwritten}
 use Rattle.p9_tree.specs.Node.{with_bytes}
 use Rattle.p9_tree.specs.Server.{Server, with_nodes}

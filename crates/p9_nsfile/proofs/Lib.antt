@@ -1,0 +1,4 @@
+pub mod Words
+pub mod Finding
+pub mod Binding
+pub mod Running

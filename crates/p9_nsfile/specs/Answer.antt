@@ -1,0 +1,37 @@
+-- What a function that may lack memory has to answer.
+use Rattle.std.specs.Prelude.{◌≡◌, Bool, true, false, List, Result, Ok, Err, Vec, map, if◌then◌else◌}
+use Rattle.p9_nsfile.specs.declared.line.Line.{Line}
+use Rattle.p9_nsfile.specs.Line.{NumberedLine, line_value}
+use Rattle.p9_base.specs.declared.fault.Fault as fault
+use Rattle.p9_base.specs.declared.fault.Fault.TheVariants as faults
+use Rattle.p9_nsfile.specs.declared.fault.OpFault.TheVariants.{Path}
+use Rattle.p9_nsfile.specs.declared.fault.OpFault.{OpFault}
+use Rattle.p9_nsfile.specs.declared.fault.Stop.{Stop}
+use Rattle.p9_nsfile.specs.declared.fault.Stop.TheVariants.{Fault, NoMemory}
+use Rattle.p9_nsfile.specs.Space.{Space}
+
+-- the value, or the fault; want of memory says nothing
+abbrev pub Gives : {X : Type 0} → Result X OpFault → Result X Stop → Type 0
+Gives answer (Ok value) = answer ≡ Ok value
+Gives answer (Err (Fault fault)) = answer ≡ Err fault
+Gives answer (Err NoMemory) = Unit {0}
+
+-- the name space is the answer's; a fault leaves it, and of want of memory nothing is said
+abbrev pub Acts : {U : Type 0} → Result Space OpFault → Space → Space → Result U Stop → Type 0
+Acts answer old new (Ok u) = answer ≡ Ok new
+Acts answer old new (Err (Fault fault)) = (answer ≡ Err fault) × (new ≡ old)
+Acts answer old new (Err NoMemory) = Unit {0}
+
+-- want of memory, among the faults of a walk
+abbrev pub is_memory : fault.Fault → Bool
+is_memory faults.OutOfMemory = true
+is_memory other = false
+
+abbrev pub walk_stop : fault.Fault → Stop
+walk_stop fault = if is_memory fault then NoMemory else Fault (Path fault)
+
+-- the lines, or the fault
+abbrev pub GivesLines : {A : Type 0} → Result (List NumberedLine) OpFault → Result (Vec Line A) Stop → Type 0
+GivesLines answer (Ok lines) = answer ≡ Ok (map line_value lines.items)
+GivesLines answer (Err (Fault fault)) = answer ≡ Err fault
+GivesLines answer (Err NoMemory) = Unit {0}

@@ -1,0 +1,87 @@
+-- Mounts, binds, and what takes them away, as bind(1).
+use Rattle.std.specs.Prelude.{◌&&◌, Bool, true, false, not, nat_lt, List, [], ◌∷◌, length, map, Option, Some, None, Result, Ok, Err, if◌then◌else◌}
+use Rattle.std.specs.Option.{option_map_or}
+use Rattle.p9_base.specs.declared.node_ref.NodeRef.{NodeRef}
+use Rattle.p9_base.specs.TryFold.{and_then}
+use Rattle.p9_tree.specs.Server.{Server}
+use Rattle.p9_tree.specs.Forest.{is_dir_of}
+use Rattle.p9_space.specs.declared.row.Order.{Order}
+use Rattle.p9_space.specs.declared.row.Order.TheVariants.{Replace, Before, After}
+use Rattle.p9_space.specs.declared.table.UnmountError.{UnmountError}
+use Rattle.p9_space.specs.declared.table.UnmountError.TheVariants as u
+use Rattle.p9_space.specs.Table.{MountRow, bound, members_of, unmounted}
+use Rattle.p9_space.specs.Trail.{here}
+use Rattle.p9_nsfile.specs.declared.fault.OpFault.{OpFault}
+use Rattle.p9_nsfile.specs.declared.fault.OpFault.TheVariants.{KindMismatch, NotMounted, NotMember, SpecGiven}
+use Rattle.p9_nsfile.specs.declared.flags.Flags.{Flags}
+use Rattle.p9_nsfile.specs.Find.{found, found_file, server_root}
+use Rattle.p9_nsfile.specs.Flags.{Word}
+use Rattle.p9_nsfile.specs.Space.{Setting, Space}
+use Rattle.p9_nsfile.specs.Variable.{expanded}
+
+abbrev pub is_replace : Order → Bool
+is_replace Replace = true
+is_replace Before = false
+is_replace After = false
+
+-- directories go on a directory, and a file in the place of a file: the first node is asked
+abbrev pub may_hold : List Server → Order → NodeRef → List NodeRef → Bool
+may_hold forest order key [] = false
+may_hold forest order key (node ∷ nodes) =
+    if is_dir_of key forest then is_dir_of node forest else not (is_dir_of node forest) && is_replace order
+
+-- with another table
+abbrev pub with_table : Space → List MountRow → Space
+with_table space table = record space { table = table }
+
+-- the nodes in the place of the key, or before or after what stands there
+abbrev pub put_at : Setting → Space → NodeRef → List NodeRef → Flags → Result Space OpFault
+put_at setting space key nodes flags =
+    if may_hold setting.forest flags.order key nodes then Ok (with_table space (bound key nodes flags.order flags.create space.table))
+    else Err KindMismatch
+
+-- a spec is given where it isn't empty, with the variables' values put in
+abbrev pub has_spec : Setting → Option Word → Bool
+has_spec setting spec = option_map_or (λ word. nat_lt 0 (length (expanded setting.vars word))) spec false
+
+-- the root on the old file
+abbrev pub root_mounted : Setting → Space → Flags → NodeRef → Word → Result Space OpFault
+root_mounted setting space flags root old =
+    and_then (found setting space old) (λ to. put_at setting space (here to) (root ∷ []) flags)
+
+-- `mount`: the server, the spec, then the old file; the server's root itself
+abbrev pub mounted_by : Setting → Space → Flags → Word → Word → Option Word → Result Space OpFault
+mounted_by setting space flags server old spec =
+    and_then (server_root setting.servers (expanded setting.vars server)) (λ root.
+    if has_spec setting spec then Err SpecGiven else root_mounted setting space flags root old)
+
+-- the nodes that stand for a place
+abbrev pub member_nodes : List MountRow → NodeRef → List NodeRef
+member_nodes table place = map (λ m. m.node) (members_of place table)
+
+-- `bind`: the new file, which is translated, then the old one, which isn't
+abbrev pub bound_by : Setting → Space → Flags → Word → Word → Result Space OpFault
+bound_by setting space flags new old =
+    and_then (found setting space new) (λ from.
+    and_then (found setting space old) (λ to.
+    put_at setting space (here to) (member_nodes space.table (here from)) flags))
+
+abbrev pub unmount_fault : UnmountError → OpFault
+unmount_fault u.NotMounted = NotMounted
+unmount_fault u.NotMember = NotMember
+
+abbrev pub after_unmount : Space → Result (List MountRow) UnmountError → Result Space OpFault
+after_unmount space (Ok table) = Ok (with_table space table)
+after_unmount space (Err error) = Err (unmount_fault error)
+
+-- without what is mounted on the key, or without one node of it
+abbrev pub taken_away : Space → NodeRef → Option NodeRef → Result Space OpFault
+taken_away space key node = after_unmount space (unmounted key node space.table)
+
+-- `unmount`: the file of the new place, if there is one, then the old file
+abbrev pub unmounted_by : Setting → Space → Option Word → Word → Result Space OpFault
+unmounted_by setting space None old =
+    and_then (found setting space old) (λ to. taken_away space (here to) None)
+unmounted_by setting space (Some new) old =
+    and_then (found_file setting space new) (λ file.
+    and_then (found setting space old) (λ to. taken_away space (here to) (Some file)))

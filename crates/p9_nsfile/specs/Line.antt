@@ -1,0 +1,33 @@
+-- The lines of a namespace file, or the first of bad form.
+use Rattle.std.specs.Prelude.{ℕ, List, [], ◌∷◌, ◌++◌, Result, Ok, Err}
+use Rattle.p9_base.specs.Statement.{statements_of}
+use Rattle.p9_base.specs.TryFold.{and_then, try_fold}
+use Rattle.p9_nsfile.specs.declared.error.NsError.{NsError}
+use Rattle.p9_nsfile.specs.declared.error.NsError.TheVariants.{BadLine}
+use Rattle.p9_nsfile.specs.declared.line.Line.{Line}
+use Rattle.p9_nsfile.specs.declared.operation.Operation.{Operation}
+use Rattle.p9_nsfile.specs.Flags.{Word}
+use Rattle.p9_nsfile.specs.Operation.{Form, operation_of, operation_value}
+
+-- a line's number, from 1 on, and its operation
+abbrev pub NumberedLine : Type 0
+NumberedLine = ℕ × Operation Word
+
+abbrev pub numbered : ℕ → Form → Result NumberedLine NsError
+numbered number (Ok operation) = Ok (number, operation)
+numbered number (Err kind) = Err (BadLine number kind)
+
+-- the line of a number and its words
+abbrev pub line_of : ℕ × List Word → Result NumberedLine NsError
+line_of statement = numbered statement.0 (operation_of statement.1)
+
+-- one line more
+abbrev pub with_line : List NumberedLine → ℕ × List Word → Result (List NumberedLine) NsError
+with_line lines statement = and_then (line_of statement) (λ line. Ok (lines ++ line ∷ []))
+
+-- the lines of a text, up to the first of bad form
+unfoldable pub lines_in : List ℕ → Result (List NumberedLine) NsError
+lines_in text = try_fold with_line [] (statements_of text)
+
+abbrev pub line_value : Line → NumberedLine
+line_value line = (line.number, operation_value line.operation)

@@ -1,0 +1,42 @@
+-- What a namespace file is run in, and the name space that it makes.
+use Rattle.std.specs.Prelude.{ℕ, List, [], ◌∷◌, map, string_bytes}
+use Rattle.std.specs.declared.string.String.{String}
+use Rattle.p9_base.specs.declared.node_ref.NodeRef.{NodeRef}
+use Rattle.p9_tree.specs.Server.{Server}
+use Rattle.p9_space.specs.Table.{MountRow}
+use Rattle.p9_nsfile.specs.declared.fault.OpFault.{OpFault}
+
+-- a name and its value
+abbrev pub Variable : Type 0
+Variable = List ℕ × List ℕ
+
+-- what no operation changes: the trees, the variables, and the servers' names by number
+pub record Setting : Type 0 where
+  pub forest : List Server
+  pub vars : List Variable
+  pub servers : List (List ℕ)
+
+-- a line and the fault of its operation
+abbrev pub Report : Type 0
+Report = ℕ × OpFault
+
+-- the mount table, the trail of the current directory, and the reports so far
+pub record Space : Type 0 where
+  pub table : List MountRow
+  pub current : List NodeRef
+  pub reports : List Report
+
+-- the root of server 0
+abbrev pub root_place : NodeRef
+root_place = record { server = 0; number = 0 }
+
+-- a file begins at the root place, with nothing reported
+abbrev pub beginning : List MountRow → Space
+beginning table = record { table = table; current = root_place ∷ []; reports = [] }
+
+-- the variables and the names, from the code's texts
+abbrev pub variables_of : {A : Type 0} → List (String A × String A) → List Variable
+variables_of vars = map (λ var. (string_bytes var.0, string_bytes var.1)) vars
+
+abbrev pub names_of : {A : Type 0} → List (String A) → List (List ℕ)
+names_of names = map string_bytes names

@@ -1,0 +1,165 @@
+//! Mounts, binds, and what takes them away, as bind(1).
+
+ghost use Rattle.std.specs.Prelude.{◌≡◌, IfOk, None, Some};
+ghost use Rattle.std.specs.Option.{option_copied};
+ghost use Rattle.p9_nsfile.specs.Answer.{Acts};
+ghost use Rattle.p9_nsfile.specs.Bind.{bound_by, has_spec, is_replace, may_hold, mounted_by, put_at, root_mounted, unmounted_by};
+
+use crate::fault::{OpFault, Stop};
+use crate::find::{find, find_file};
+use crate::flags::Flags;
+use crate::setting::Setting;
+use crate::space::Space;
+use p9_base::{NoMemory, NodeRef};
+use p9_space::Order;
+use p9_tree::Tree;
+
+/// Mounts the root of a server, itself and not what is mounted on it. The server is tested first,
+/// then the spec, then the old file.
+pub(crate) fn mount<T: Tree>(
+    setting: &Setting<'_, T>,
+    space: &mut Space<T::Alloc>,
+    flags: Flags,
+    server: &str,
+    old: &str,
+    spec: Option<&str>,
+) -> Result<(), Stop>
+    ensures { Acts (mounted_by setting.now space.old flags server.now old.now (option_copied spec.entry)) space.old space.new result }
+{
+    let server = setting.expand(server)?;
+    let root = match setting.server_root(server.as_str()) {
+        Ok(root) => root,
+        Err(fault) => return Err(Stop::Fault(fault)),
+    };
+    if has_spec(setting, spec)? {
+        return Err(Stop::Fault(OpFault::SpecGiven));
+    }
+    mount_root(setting, space, flags, root, old)
+}
+
+// Mounts the root, itself.
+fn mount_root<T: Tree>(
+    setting: &Setting<'_, T>,
+    space: &mut Space<T::Alloc>,
+    flags: Flags,
+    root: NodeRef,
+    old: &str,
+) -> Result<(), Stop>
+    ensures { Acts (root_mounted setting.now space.old flags root old.now) space.old space.new result }
+{
+    let to = find(setting, space, old)?.here();
+    put(setting, space, to, &[root], flags)
+}
+
+// Whether a spec is given: with its variables put in it isn't empty.
+fn has_spec<T: Tree>(setting: &Setting<'_, T>, spec: Option<&str>) -> Result<bool, NoMemory>
+    ensures { IfOk result (λ given. given ≡ has_spec setting.now (option_copied spec.entry)) }
+{
+    match spec {
+        Some(word) => Ok(setting.expand(word)?.len() > 0),
+        None => Ok(false),
+    }
+}
+
+/// Binds what stands for the new file, its members if it is a union. The new file is found first.
+pub(crate) fn bind<T: Tree>(
+    setting: &Setting<'_, T>,
+    space: &mut Space<T::Alloc>,
+    flags: Flags,
+    new: &str,
+    old: &str,
+) -> Result<(), Stop>
+    ensures { Acts (bound_by setting.now space.old flags new.now old.now) space.old space.new result }
+{
+    let from = find(setting, space, new)?.here();
+    let to = find(setting, space, old)?.here();
+    let nodes = space.member_nodes(setting.alloc(), from)?;
+    put(setting, space, to, &nodes, flags)
+}
+
+// Puts nodes in the place of the key, or before or after what stands there, if the kinds go
+// together.
+fn put<T: Tree>(
+    setting: &Setting<'_, T>,
+    space: &mut Space<T::Alloc>,
+    key: NodeRef,
+    nodes: &[NodeRef],
+    flags: Flags,
+) -> Result<(), Stop>
+    ensures { Acts (put_at setting.now space.old key nodes.now flags) space.old space.new result }
+{
+    if !may_hold(setting, flags.order, key, nodes) {
+        return Err(Stop::Fault(OpFault::KindMismatch));
+    }
+    space.bind(key, nodes, flags)?;
+    Ok(())
+}
+
+// Whether the nodes may stand for the key: directories for a directory, and in the place of a file a
+// file. The first node is asked.
+fn may_hold<T: Tree>(
+    setting: &Setting<'_, T>,
+    order: Order,
+    key: NodeRef,
+    nodes: &[NodeRef],
+) -> bool
+    ensures { result ≡ may_hold setting.now.forest order key nodes.now }
+{
+    let [first, ..] = nodes else {
+        return false;
+    };
+    if setting.is_dir(key) {
+        setting.is_dir(*first)
+    } else {
+        !setting.is_dir(*first) && is_replace(order)
+    }
+}
+
+fn is_replace(order: Order) -> bool
+    ensures { result ≡ is_replace order }
+{
+    match order {
+        Order::Replace => true,
+        Order::Before | Order::After => false,
+    }
+}
+
+/// Takes away what is mounted on a file, or one member: the first that is the new file. That file
+/// is found first.
+pub(crate) fn unmount<T: Tree>(
+    setting: &Setting<'_, T>,
+    space: &mut Space<T::Alloc>,
+    new: Option<&str>,
+    old: &str,
+) -> Result<(), Stop>
+    ensures { Acts (unmounted_by setting.now space.old (option_copied new.entry) old.now) space.old space.new result }
+{
+    match new {
+        Some(new) => unmount_file(setting, space, new, old),
+        None => unmount_all(setting, space, old),
+    }
+}
+
+fn unmount_all<T: Tree>(
+    setting: &Setting<'_, T>,
+    space: &mut Space<T::Alloc>,
+    old: &str,
+) -> Result<(), Stop>
+    ensures { Acts (unmounted_by setting.now space.old None old.now) space.old space.new result }
+{
+    let to = find(setting, space, old)?.here();
+    space.take_away(to, None)
+}
+
+fn unmount_file<T: Tree>(
+    setting: &Setting<'_, T>,
+    space: &mut Space<T::Alloc>,
+    new: &str,
+    old: &str,
+) -> Result<(), Stop>
+    ensures { Acts (unmounted_by setting.now space.old (Some new.now) old.now) space.old space.new result }
+{
+    let file = find_file(setting, space, new)?;
+    let to = find(setting, space, old)?.here();
+    space.take_away(to, Some(file))
+}

@@ -1,0 +1,63 @@
+//! Why a namespace file isn't run.
+
+use p9_base::NoMemory;
+use std::alloc::{AllocError, AllocFailed};
+use thiserror::Error;
+
+/// What is wrong with the form of a line.
+#[derive(Clone, Copy, Debug, PartialEq, Eq, Error)]
+pub enum BadForm {
+    /// The first word names no operation.
+    #[error("unknown word")]
+    UnknownWord,
+    /// The operation takes another number of words, flags not counted.
+    #[error("wrong number of words")]
+    WordCount,
+    /// A flag without a letter, with a letter that is none of `abcC`, or `a` together with `b`.
+    #[error("bad flag")]
+    BadFlag,
+}
+
+/// Why a namespace file isn't run. The mount table is as before.
+#[derive(Clone, Copy, Debug, PartialEq, Eq, Error)]
+pub enum NsError {
+    /// The first line of bad form, counted from 1.
+    #[error("line {line}: {kind}")]
+    BadLine { line: u64, kind: BadForm },
+    /// Memory was refused.
+    #[error("out of memory")]
+    NoMemory,
+}
+
+impl From<NoMemory> for NsError {
+    ghost use Rattle.std.specs.Prelude.{◌≡◌};
+    ghost use Rattle.p9_nsfile.specs.declared.error.NsError.TheVariants.{NoMemory as OutOfMemory};
+
+    ghost from_gives = { λ _ error. error ≡ OutOfMemory };
+
+    fn from(_error: NoMemory) -> NsError {
+        NsError::NoMemory
+    }
+}
+
+impl From<AllocError> for NsError {
+    ghost use Rattle.std.specs.Prelude.{◌≡◌};
+    ghost use Rattle.p9_nsfile.specs.declared.error.NsError.TheVariants.{NoMemory as OutOfMemory};
+
+    ghost from_gives = { λ _ error. error ≡ OutOfMemory };
+
+    fn from(_error: AllocError) -> NsError {
+        NsError::NoMemory
+    }
+}
+
+impl<T: Drop> From<AllocFailed<T>> for NsError {
+    ghost use Rattle.std.specs.Prelude.{◌≡◌};
+    ghost use Rattle.p9_nsfile.specs.declared.error.NsError.TheVariants.{NoMemory as OutOfMemory};
+
+    ghost from_gives = { λ _ error. error ≡ OutOfMemory };
+
+    fn from(_error: AllocFailed<T>) -> NsError {
+        NsError::NoMemory
+    }
+}

@@ -1,0 +1,88 @@
+//! Why an operation of a namespace file does nothing.
+
+use p9_base::{Fault, NoMemory};
+use std::alloc::{AllocError, AllocFailed};
+use thiserror::Error;
+
+/// Why an operation fails. It is reported with its line, and changes nothing.
+#[derive(Clone, Copy, Debug, PartialEq, Eq, Error)]
+pub enum OpFault {
+    /// A path leads nowhere, or to a file where a directory has to stand.
+    #[error("{0}")]
+    Path(Fault),
+    /// No server has this name.
+    #[error("unknown server")]
+    UnknownServer,
+    /// A directory on a file, a file on a directory, or a bind before or after a file.
+    #[error("inconsistent mount")]
+    KindMismatch,
+    /// Nothing is mounted there.
+    #[error("not mounted")]
+    NotMounted,
+    /// The file is no member of the union.
+    #[error("not in the union")]
+    NotMember,
+    /// A mount of one of several trees of a server, which has only one.
+    #[error("spec not offered")]
+    SpecGiven,
+    /// An operation that isn't offered here: `import`.
+    #[error("not offered")]
+    NotOffered,
+    /// An included file is a directory, isn't UTF-8, or has a line of bad form.
+    #[error("bad included file")]
+    BadInclude,
+    /// A file is included by one that is nested as deep as files may be.
+    #[error("nested too deep")]
+    TooDeep,
+}
+
+/// Why a call ends: the operation fails, or memory is refused.
+#[derive(Clone, Copy)]
+pub(crate) enum Stop {
+    Fault(OpFault),
+    NoMemory,
+}
+
+impl From<NoMemory> for Stop {
+    ghost use Rattle.std.specs.Prelude.{◌≡◌};
+    ghost use Rattle.p9_nsfile.specs.declared.fault.Stop.TheVariants.{NoMemory as OutOfMemory};
+
+    ghost from_gives = { λ _ stop. stop ≡ OutOfMemory };
+
+    fn from(_error: NoMemory) -> Stop {
+        Stop::NoMemory
+    }
+}
+
+impl From<AllocError> for Stop {
+    ghost use Rattle.std.specs.Prelude.{◌≡◌};
+    ghost use Rattle.p9_nsfile.specs.declared.fault.Stop.TheVariants.{NoMemory as OutOfMemory};
+
+    ghost from_gives = { λ _ stop. stop ≡ OutOfMemory };
+
+    fn from(_error: AllocError) -> Stop {
+        Stop::NoMemory
+    }
+}
+
+impl<T: Drop> From<AllocFailed<T>> for Stop {
+    ghost use Rattle.std.specs.Prelude.{◌≡◌};
+    ghost use Rattle.p9_nsfile.specs.declared.fault.Stop.TheVariants.{NoMemory as OutOfMemory};
+
+    ghost from_gives = { λ _ stop. stop ≡ OutOfMemory };
+
+    fn from(_error: AllocFailed<T>) -> Stop {
+        Stop::NoMemory
+    }
+}
+
+impl From<OpFault> for Stop {
+    ghost use Rattle.std.specs.Prelude.{◌≡◌};
+    ghost use Rattle.p9_nsfile.specs.declared.fault.Stop.TheVariants as stops;
+
+    ghost from_gives = { λ fault stop. stop ≡ stops.Fault fault };
+
+    fn from(fault: OpFault) -> Stop {
+        Stop::Fault(fault)
+    }
+}

@@ -1,0 +1,153 @@
+//! The files that a namespace file names.
+
+ghost use Rattle.std.specs.Prelude.{◌≡◌, ◌∷◌, [], IfOk, string_bytes};
+ghost use Rattle.std.specs.List.{after_first, before_first};
+ghost use Rattle.std.specs.Option.{option_copied};
+ghost use Rattle.p9_clean.specs.Path.{slash};
+ghost use Rattle.p9_nsfile.specs.Answer.{Gives};
+ghost use Rattle.p9_nsfile.specs.Find.{behind_hash, found, found_at, found_file, found_from, found_on_server, walked};
+ghost use Rattle.p9_nsfile.specs.Variable.{is_slash};
+
+use crate::fault::Stop;
+use crate::setting::Setting;
+use crate::space::Space;
+use p9_base::{NoMemory, NodeRef};
+use p9_clean::{clean, elements};
+use p9_space::Trail;
+use p9_tree::Tree;
+use std::alloc::Allocator;
+
+/// Where a path that begins with `/` starts, and the first current directory: the root of server 0.
+pub(crate) const ROOT_PLACE: NodeRef = NodeRef {
+    server: 0,
+    number: 0,
+};
+
+/// The trail to the file that a word names, with its variables put in.
+///
+/// `/` starts at the root place, `#name` at the root of that server, and any other path at the
+/// current directory. The path is cleaned, and no permission is needed on its way. Faults are
+/// [`crate::OpFault::UnknownServer`], and [`crate::OpFault::Path`] with that of the first step that
+/// is refused.
+pub(crate) fn find<T: Tree>(
+    setting: &Setting<'_, T>,
+    space: &Space<T::Alloc>,
+    word: &str,
+) -> Result<Trail<T::Alloc>, Stop>
+    ensures { Gives (found setting.now space.now word.now) result }
+{
+    let path = setting.expand(word)?;
+    find_path(setting, space, path.as_str())
+}
+
+/// The file that a word names: the first that stands for its place.
+pub(crate) fn find_file<T: Tree>(
+    setting: &Setting<'_, T>,
+    space: &Space<T::Alloc>,
+    word: &str,
+) -> Result<NodeRef, Stop>
+    ensures { Gives (found_file setting.now space.now word.now) result }
+{
+    let place = find(setting, space, word)?.here();
+    Ok(space.file(place))
+}
+
+// The trail to the file that a path names.
+fn find_path<T: Tree>(
+    setting: &Setting<'_, T>,
+    space: &Space<T::Alloc>,
+    path: &str,
+) -> Result<Trail<T::Alloc>, Stop>
+    ensures { Gives (found_at setting.now space.now path.now) result }
+{
+    match behind_hash(path) {
+        Some(rest) => find_on_server(setting, space, rest),
+        None => find_from(setting, space, path),
+    }
+}
+
+// What stands behind the `#` at the front of a path.
+fn behind_hash(path: &str) -> Option<&str>
+    ensures { option_copied result ≡ behind_hash path.now }
+{
+    path.strip_prefix('#')
+}
+
+// The trail to the file of a path that names no server.
+fn find_from<T: Tree>(
+    setting: &Setting<'_, T>,
+    space: &Space<T::Alloc>,
+    path: &str,
+) -> Result<Trail<T::Alloc>, Stop>
+    ensures { Gives (found_from setting.now space.now path.now) result }
+{
+    if path.starts_with('/') {
+        let root = setting.trail_at(ROOT_PLACE)?;
+        walk(setting, space, &root, path)
+    } else {
+        walk(setting, space, space.current(), path)
+    }
+}
+
+// The trail to the file of a path that begins with a server's name, which ends at the first slash.
+// What stands behind that is rooted.
+fn find_on_server<T: Tree>(
+    setting: &Setting<'_, T>,
+    space: &Space<T::Alloc>,
+    path: &str,
+) -> Result<Trail<T::Alloc>, Stop>
+    ensures { Gives (found_on_server setting.now space.now path.now) result }
+{
+    let (name, rest) = split_name(path);
+    match setting.server_root(name) {
+        Ok(root) => walk_rooted(setting, space, root, rest),
+        Err(fault) => Err(Stop::Fault(fault)),
+    }
+}
+
+// What stands before the first slash of a path, and what behind it.
+fn split_name(path: &str) -> (&str, &str)
+    ensures name { result.0.now ≡ before_first is_slash path.now }
+    ensures rest { result.1.now ≡ after_first is_slash path.now }
+{
+    match path.split_once('/') {
+        Some((name, rest)) => (name, rest),
+        None => (path, ""),
+    }
+}
+
+// Walks from a root along what stands behind a slash.
+fn walk_rooted<T: Tree>(
+    setting: &Setting<'_, T>,
+    space: &Space<T::Alloc>,
+    root: NodeRef,
+    rest: &str,
+) -> Result<Trail<T::Alloc>, Stop>
+    ensures { Gives (walked setting.now space.now (root ∷ []) (slash ∷ rest.now)) result }
+{
+    let root = setting.trail_at(root)?;
+    let path = rooted(setting.alloc(), rest)?;
+    walk(setting, space, &root, path.as_str())
+}
+
+fn rooted<A: Allocator>(alloc: A, rest: &str) -> Result<String<A>, NoMemory>
+    ensures { IfOk result (λ path. string_bytes path ≡ slash ∷ rest.now) }
+{
+    let mut path = String::from_str(alloc, "/")?;
+    path.push_str(rest)?;
+    Ok(path)
+}
+
+// Walks along a path, cleaned.
+fn walk<T: Tree>(
+    setting: &Setting<'_, T>,
+    space: &Space<T::Alloc>,
+    start: &Trail<T::Alloc>,
+    path: &str,
+) -> Result<Trail<T::Alloc>, Stop>
+    ensures { Gives (walked setting.now space.now start.now path.now) result }
+{
+    let path = clean(setting.alloc(), path)?;
+    let names = elements(setting.alloc(), path.as_str())?;
+    setting.walk(space.table(), start, &names)
+}

@@ -1,0 +1,51 @@
+//! The lines of a namespace file.
+
+ghost use Rattle.std.specs.Prelude.{◌≡◌, ◌⊎◌, Ok, Err, IfOk, IfErr, map};
+ghost use Rattle.p9_base.specs.Statement.{statement_value};
+ghost use Rattle.p9_nsfile.specs.declared.error.NsError.TheVariants.{NoMemory as OutOfMemory};
+ghost use Rattle.p9_nsfile.specs.Line.{line_of, line_value, lines_in};
+
+use crate::error::NsError;
+use crate::operation::{Operation, read_operation};
+use p9_base::{Statement, statements};
+use std::alloc::Allocator;
+
+/// A line that isn't skipped.
+#[derive(Clone, Copy)]
+pub(crate) struct Line<'a> {
+    /// Its number in its text, from 1 on.
+    pub number: u64,
+    pub operation: Operation<&'a str>,
+}
+
+/// The lines of a text, in order, blank lines and comments left out. The errors are the first line of
+/// bad form, [`NsError::BadLine`], and want of memory.
+pub(crate) fn read_lines<A: Allocator + Copy>(
+    alloc: A,
+    text: &str,
+) -> Result<Vec<Line<'_>, A>, NsError>
+    ensures ok { IfOk result (λ found. lines_in text.now ≡ Ok (map line_value found.items)) }
+    ensures err { IfErr result (λ e. (e ≡ OutOfMemory) ⊎ (lines_in text.now ≡ Err e)) }
+{
+    let mut lines = Vec::new(alloc);
+    for statement in &statements(alloc, text)? {
+        lines.push(read_line(statement)?)?;
+    }
+    Ok(lines)
+}
+
+fn read_line<'a, A: Allocator>(statement: &Statement<'a, A>) -> Result<Line<'a>, NsError>
+    ensures ok { IfOk result (λ line. line_of (statement_value statement.now) ≡ Ok (line_value line)) }
+    ensures err { IfErr result (λ e. line_of (statement_value statement.now) ≡ Err e) }
+{
+    match read_operation(statement.words.as_slice()) {
+        Ok(operation) => Ok(Line {
+            number: statement.line,
+            operation,
+        }),
+        Err(kind) => Err(NsError::BadLine {
+            line: statement.line,
+            kind,
+        }),
+    }
+}

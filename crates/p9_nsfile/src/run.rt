@@ -1,0 +1,192 @@
+//! The running of namespace files, as namespace(6).
+
+ghost use Rattle.std.specs.Prelude.{◌≡◌, ◌⊎◌, IfErr, IfOk, Ok, Err, Some, OnErr, OnOk, map};
+ghost use Rattle.p9_nsfile.specs.Answer.{Acts, GivesLines};
+ghost use Rattle.p9_nsfile.specs.Line.{line_value, lines_in};
+ghost use Rattle.p9_nsfile.specs.Operation.{operation_value};
+ghost use Rattle.p9_nsfile.specs.Run.{acted, entered, file_lines, included, included_lines, line_done, lines_done, or_bad_include, run_of};
+ghost use Rattle.p9_nsfile.specs.Space.{names_of, variables_of};
+ghost use Rattle.p9_nsfile.specs.declared.error.NsError.TheVariants.{NoMemory as OutOfMemory};
+
+use crate::bind::{bind, mount, unmount};
+use crate::error::NsError;
+use crate::fault::{OpFault, Stop};
+use crate::find::{find, find_file};
+use crate::line::{Line, read_lines};
+use crate::operation::Operation;
+use crate::setting::Setting;
+use crate::space::Space;
+use p9_base::{Fault, NoMemory};
+use p9_space::MountTable;
+use p9_tree::{Forest, Node, Tree};
+use std::alloc::Allocator;
+use std::str::from_utf8;
+
+/// How deep included files may be nested. The text itself doesn't count.
+pub const NESTED_MAX: u8 = 8;
+
+/// Runs a namespace file: the mount table is what its lines make of it, one after another. The
+/// answer is what operations failed, in order: the line's number, counted from 1, and the fault.
+/// An operation that fails does nothing, and the next one goes on.
+///
+/// `vars` are the variables, each a name and its value, and `servers` the names of the servers by
+/// their numbers, which are distinct and one for each tree.
+///
+/// Each line is read before the first acts. The first of bad form is [`NsError::BadLine`]; the other
+/// error is want of memory, [`NsError::NoMemory`]. Both leave the table.
+pub fn run_file<T: Tree>(
+    alloc: T::Alloc,
+    text: &str,
+    vars: &[(String<T::Alloc>, String<T::Alloc>)],
+    servers: &[String<T::Alloc>],
+    forest: &Forest<T>,
+    table: &mut MountTable<T::Alloc>,
+) -> Result<Vec<(u64, OpFault), T::Alloc>, NsError>
+    ensures ok { IfOk result (λ reports. run_of (record { forest = map T.state forest.now.trees.items; vars = variables_of vars.now; servers = names_of servers.now }) text.now table.old ≡ Ok (table.new, reports.items)) }
+    ensures err { IfErr result (λ e. (e ≡ OutOfMemory) ⊎ (run_of (record { forest = map T.state forest.now.trees.items; vars = variables_of vars.now; servers = names_of servers.now }) text.now table.old ≡ Err e)) }
+    ensures unchanged { OnErr result (table.new ≡ table.old) }
+{
+    let lines = read_lines(alloc, text)?;
+    let setting = Setting::new(alloc, forest, vars, servers);
+    let mut space = Space::begin(alloc, table)?;
+    run_lines(&setting, NESTED_MAX, None, &lines, &mut space)?;
+    let (made, reports) = space.into_parts();
+    *table = made;
+    Ok(reports)
+}
+
+// Runs lines one after another. `left` is how many files may still be nested, and `outer` the line of
+// the text by which a file is included. Want of memory leaves an unfinished name space.
+#[cycle(run)]
+fn run_lines<T: Tree>(
+    setting: &Setting<'_, T>,
+    left: u8,
+    outer: Option<u64>,
+    lines: &[Line<'_>],
+    space: &mut Space<T::Alloc>,
+) -> Result<(), NoMemory>
+    ensures { OnOk result (space.new ≡ lines_done setting.now left outer space.old (map line_value lines.now)) }
+{
+    for line in lines {
+        run_line(setting, left, outer, line, space)?;
+    }
+    Ok(())
+}
+
+// Runs a line. A fault is reported with it, or with the outermost line.
+#[cycle(run)]
+fn run_line<T: Tree>(
+    setting: &Setting<'_, T>,
+    left: u8,
+    outer: Option<u64>,
+    line: &Line<'_>,
+    space: &mut Space<T::Alloc>,
+) -> Result<(), NoMemory>
+    ensures { OnOk result (space.new ≡ line_done setting.now (included setting.now left) outer space.old (line_value line.now)) }
+{
+    let number = outer.unwrap_or(line.number);
+    match act(setting, left, number, line.operation, space) {
+        Ok(()) => Ok(()),
+        Err(Stop::Fault(fault)) => space.report(number, fault),
+        Err(Stop::NoMemory) => Err(NoMemory),
+    }
+}
+
+// What an operation does.
+#[cycle(run)]
+fn act<T: Tree>(
+    setting: &Setting<'_, T>,
+    left: u8,
+    line: u64,
+    operation: Operation<&str>,
+    space: &mut Space<T::Alloc>,
+) -> Result<(), Stop>
+    ensures { Acts (acted setting.now (included setting.now left line) space.old (operation_value operation.entry)) space.old space.new result }
+{
+    match operation {
+        Operation::Mount {
+            flags,
+            server,
+            old,
+            spec,
+        } => mount(setting, space, flags, server, old, spec),
+        Operation::Bind { flags, new, old } => bind(setting, space, flags, new, old),
+        Operation::Cd { dir } => cd(setting, space, dir),
+        Operation::Unmount { new, old } => unmount(setting, space, new, old),
+        Operation::Clear => {
+            space.clear();
+            Ok(())
+        }
+        Operation::Include { path } => include(setting, left, line, path, space),
+        Operation::Import => Err(Stop::Fault(OpFault::NotOffered)),
+    }
+}
+
+// Makes a directory the current one.
+fn cd<T: Tree>(setting: &Setting<'_, T>, space: &mut Space<T::Alloc>, dir: &str) -> Result<(), Stop>
+    ensures { Acts (entered setting.now space.old dir.now) space.old space.new result }
+{
+    let trail = find(setting, space, dir)?;
+    if !setting.is_dir(space.file(trail.here())) {
+        return Err(Stop::Fault(OpFault::Path(Fault::NotDirectory)));
+    }
+    space.enter(trail);
+    Ok(())
+}
+
+// Runs the lines of a file, for the line that is reported.
+#[cycle(run)]
+fn include<T: Tree>(
+    setting: &Setting<'_, T>,
+    left: u8,
+    line: u64,
+    path: &str,
+    space: &mut Space<T::Alloc>,
+) -> Result<(), Stop>
+    ensures { Acts (included setting.now left line space.old path.now) space.old space.new result }
+{
+    if left == 0 {
+        return Err(Stop::Fault(OpFault::TooDeep));
+    }
+    let lines = find_lines(setting, space, path)?;
+    run_lines(setting, left - 1, Some(line), &lines, space)?;
+    Ok(())
+}
+
+// The lines of the file that a word names.
+fn find_lines<'a, T: Tree>(
+    setting: &Setting<'a, T>,
+    space: &Space<T::Alloc>,
+    path: &str,
+) -> Result<Vec<Line<'a>, T::Alloc>, Stop>
+    ensures { GivesLines (included_lines setting.now space.now path.now) result }
+{
+    let file = find_file(setting, space, path)?;
+    match setting.node(file) {
+        Some(node) => file_lines(setting.alloc(), node),
+        None => Err(Stop::Fault(OpFault::Path(Fault::PhaseError))),
+    }
+}
+
+// The lines of a file, which has to be text of good form.
+fn file_lines<A: Allocator + Copy>(alloc: A, node: &Node<A>) -> Result<Vec<Line<'_>, A>, Stop>
+    ensures { GivesLines (file_lines (Some node.now)) result }
+{
+    if node.is_dir() {
+        return Err(Stop::Fault(OpFault::BadInclude));
+    }
+    match from_utf8(node.bytes()) {
+        Ok(text) => text_lines(alloc, text),
+        Err(_) => Err(Stop::Fault(OpFault::BadInclude)),
+    }
+}
+
+fn text_lines<A: Allocator + Copy>(alloc: A, text: &str) -> Result<Vec<Line<'_>, A>, Stop>
+    ensures { GivesLines (or_bad_include (lines_in text.now)) result }
+{
+    match read_lines(alloc, text) {
+        Ok(lines) => Ok(lines),
+        Err(NsError::BadLine { .. }) => Err(Stop::Fault(OpFault::BadInclude)),
+        Err(NsError::NoMemory) => Err(Stop::NoMemory),
+    }
+}

@@ -1,0 +1,153 @@
+//! What a namespace file is run in.
+
+ghost use Rattle.std.specs.Prelude.{◌≡◌, ◌∷◌, ◌<◌, [], IfOk, IfSome, None, length, map, position, string_bytes};
+ghost use Rattle.std.specs.Option.{option_copied};
+ghost use Rattle.std.specs.Str.{bytes_eq};
+ghost use Rattle.p9_tree.specs.Forest.{is_dir_of, node_of};
+ghost use Rattle.p9_space.specs.Walk.{walk};
+ghost use Rattle.p9_nsfile.specs.Answer.{Gives, walk_stop};
+ghost use Rattle.p9_nsfile.specs.Find.{path_fault, server_root};
+ghost use Rattle.p9_nsfile.specs.Space.{names_of, variables_of};
+ghost use Rattle.p9_nsfile.specs.Variable.{expanded};
+
+use crate::fault::{OpFault, Stop};
+use crate::variable::expand;
+use p9_base::{Fault, NoMemory, NodeRef};
+use p9_space::{MountTable, Trail, resolve};
+use p9_tree::{Forest, Node, Tree};
+use std::alloc::Allocator;
+use std::marker::Model;
+
+/// The greatest number of servers: a server's number has 16 bits.
+pub(crate) const SERVERS_MAX: usize = 1 << 16;
+
+/// What no operation changes: the trees of the servers, the variables and the servers' names.
+#[derive(Drop)]
+pub(crate) struct Setting<'a, T: Tree> {
+    alloc: T::Alloc,
+    forest: &'a Forest<T>,
+    vars: &'a [(String<T::Alloc>, String<T::Alloc>)],
+    servers: &'a [String<T::Alloc>],
+}
+
+impl<'a, T: Tree> Model for Setting<'a, T> {
+    ghost use Rattle.std.specs.Prelude.{map};
+    ghost use Rattle.p9_nsfile.specs.Space.{Setting as SettingOf, names_of, variables_of};
+
+    ghost Value = { SettingOf };
+
+    ghost view = { λ s. record { forest = map T.state s.forest.now.trees.items; vars = variables_of s.vars.now; servers = names_of s.servers.now } };
+}
+
+impl<'a, T: Tree> Setting<'a, T> {
+    /// The setting of these trees, variables and servers' names. This takes no memory.
+    pub fn new(
+        alloc: T::Alloc,
+        forest: &'a Forest<T>,
+        vars: &'a [(String<T::Alloc>, String<T::Alloc>)],
+        servers: &'a [String<T::Alloc>],
+    ) -> Setting<'a, T>
+        ensures { result ≡ record { forest = map T.state forest.now.trees.items; vars = variables_of vars.now; servers = names_of servers.now } }
+    {
+        Setting {
+            alloc,
+            forest,
+            vars,
+            servers,
+        }
+    }
+
+    /// The allocator of all that grows.
+    pub fn alloc(&self) -> T::Alloc {
+        self.alloc
+    }
+
+    /// The word with the variables' values put in.
+    pub fn expand(&self, word: &str) -> Result<String<T::Alloc>, NoMemory>
+        ensures { IfOk result (λ text. string_bytes text ≡ expanded self.now.vars word.now) }
+    {
+        expand(self.alloc, word, self.vars)
+    }
+
+    /// The root of the server of this name, or [`OpFault::UnknownServer`].
+    pub fn server_root(&self, name: &str) -> Result<NodeRef, OpFault>
+        ensures { result ≡ server_root self.now.servers name.now }
+    {
+        server_root(self.servers, name)
+    }
+
+    /// The trail of one place.
+    pub fn trail_at(&self, place: NodeRef) -> Result<Trail<T::Alloc>, NoMemory>
+        ensures { IfOk result (λ trail. trail ≡ place ∷ []) }
+    {
+        Trail::at(self.alloc, place)
+    }
+
+    /// A walk along names from a trail. No permission is needed.
+    pub fn walk(
+        &self,
+        table: &MountTable<T::Alloc>,
+        start: &Trail<T::Alloc>,
+        names: &[&str],
+    ) -> Result<Trail<T::Alloc>, Stop>
+        ensures { Gives (path_fault (walk self.now.forest table.now None start.now (map (λ n. n.now) names.now))) result }
+    {
+        match resolve(self.forest, table, start, names, None) {
+            Ok(trail) => Ok(trail),
+            Err(fault) => Err(walk_stop(fault)),
+        }
+    }
+
+    /// The node, if it exists.
+    pub fn node(&self, at: NodeRef) -> Option<&'a Node<T::Alloc>>
+        ensures { option_copied result ≡ node_of at self.now.forest }
+    {
+        self.forest.node(at)
+    }
+
+    /// Whether it is a directory that exists.
+    pub fn is_dir(&self, at: NodeRef) -> bool
+        ensures { result ≡ is_dir_of at self.now.forest }
+    {
+        match self.forest.node(at) {
+            Some(node) => node.is_dir(),
+            None => false,
+        }
+    }
+}
+
+// Why a walk ends.
+fn walk_stop(fault: Fault) -> Stop
+    ensures { result ≡ walk_stop fault }
+{
+    match fault {
+        Fault::OutOfMemory => Stop::NoMemory,
+        _ => Stop::Fault(OpFault::Path(fault)),
+    }
+}
+
+fn server_root<A: Allocator>(servers: &[String<A>], name: &str) -> Result<NodeRef, OpFault>
+    ensures { result ≡ server_root (names_of servers.now) name.now }
+{
+    let numbered = &servers[..servers.len().min(SERVERS_MAX)];
+    match server_number(numbered, name) {
+        Some(number) => Ok(NodeRef {
+            server: number as u16,
+            number: 0,
+        }),
+        None => Err(OpFault::UnknownServer),
+    }
+}
+
+fn server_number<A: Allocator>(servers: &[String<A>], name: &str) -> Option<usize>
+    ensures number { result ≡ position (λ server. bytes_eq (string_bytes server) name.now) servers.now }
+    ensures within { IfSome result (λ number. number < length servers.now) }
+{
+    servers.iter().position(|server| is_named(server, name))
+}
+
+fn is_named<A: Allocator>(server: &String<A>, name: &str) -> bool
+    ensures { result ≡ bytes_eq (string_bytes server.now) name.now }
+{
+    server.as_str() == name
+}

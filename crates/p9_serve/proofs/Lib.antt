@@ -1,0 +1,5 @@
+mod Scripts
+mod Bundles
+mod Smalls
+mod Plays
+mod Commands

@@ -1,0 +1,5 @@
+pub mod Script
+pub mod Bundle
+pub mod Play
+pub mod Small
+pub mod Command

@@ -1,0 +1,73 @@
+-- Scripts: what happens to the exporter, line by line.
+use Rattle.std.specs.Prelude.{◌≡◌, ℕ, ◌^◌, List, [], ◌∷◌, ◌++◌, Option, Some, None, Result, Ok, Err, codes, if◌then◌else◌}
+use Rattle.std.specs.Option.{option_map}
+use Rattle.std.specs.Result.{result_ok}
+use Rattle.std.specs.Str.{bytes_eq}
+use Rattle.hex.specs.Hex.{decode_of}
+use Rattle.p9_base.specs.Decimal.{number_of}
+use Rattle.p9_base.specs.Statement.{statements_of}
+use Rattle.p9_base.specs.TryFold.{try_fold}
+use Rattle.p9_export.specs.Event.{Event, Opening, Request, Closing}
+use Rattle.p9_export.specs.declared.event.Event.{Event as EventOf}
+use Rattle.p9_export.specs.declared.event.Event.TheVariants.{Open, Message, Close}
+use Rattle.p9_serve.specs.declared.script.ScriptError.{ScriptError}
+use Rattle.p9_serve.specs.declared.script.ScriptError.TheVariants.{BadScript, NoMemory}
+
+-- an event of the code, as it is seen
+abbrev pub event_value : {A : Type 0} → EventOf A → Event
+event_value (Open name) = Opening name
+event_value (Message name frame now) = Request name frame.items now
+event_value (Close name now) = Closing name now
+
+-- a session's name, and a reading of the clock
+abbrev pub short_number : List ℕ → Option ℕ
+short_number word = number_of (2 ^ 32) word
+
+-- hexadecimal digits of one byte or more, in either case
+abbrev pub bytes_in : List ℕ → Option (List ℕ)
+bytes_in [] = None
+bytes_in (digit ∷ digits) = result_ok (decode_of (digit ∷ digits))
+
+abbrev pub opening_of : List ℕ → List ℕ → Option Event
+opening_of verb name = if bytes_eq verb (codes "open") then option_map Opening (short_number name) else None
+
+abbrev pub closing_at : Option ℕ → Option ℕ → Option Event
+closing_at (Some name) (Some now) = Some (Closing name now)
+closing_at name now = None
+
+abbrev pub closing_of : List ℕ → List ℕ → List ℕ → Option Event
+closing_of verb name now =
+    if bytes_eq verb (codes "close") then closing_at (short_number name) (short_number now) else None
+
+abbrev pub request_at : Option ℕ → Option (List ℕ) → Option ℕ → Option Event
+request_at (Some name) (Some frame) (Some now) = Some (Request name frame now)
+request_at name frame now = None
+
+abbrev pub request_of : List ℕ → List ℕ → List ℕ → List ℕ → Option Event
+request_of verb name now hex =
+    if bytes_eq verb (codes "msg") then request_at (short_number name) (bytes_in hex) (short_number now)
+    else None
+
+-- the event that the words of a line say: `open S`, `close S NOW` or `msg S NOW HEX`
+abbrev pub event_of : List (List ℕ) → Option Event
+event_of (verb ∷ name ∷ []) = opening_of verb name
+event_of (verb ∷ name ∷ now ∷ []) = closing_of verb name now
+event_of (verb ∷ name ∷ now ∷ hex ∷ []) = request_of verb name now hex
+event_of words = None
+
+-- the event joins the others; a line that says none is bad
+abbrev pub joined : List Event → ℕ → Option Event → Result (List Event) ℕ
+joined events line (Some event) = Ok (events ++ event ∷ [])
+joined events line None = Err line
+
+abbrev pub with_statement : List Event → ℕ × List (List ℕ) → Result (List Event) ℕ
+with_statement events statement = joined events statement.0 (event_of statement.1)
+
+-- the events of a script, in order, or the number of its first bad line
+abbrev pub script_of : List ℕ → Result (List Event) ℕ
+script_of text = try_fold with_statement [] (statements_of text)
+
+-- an error says that memory was refused, or which line is the first bad one
+abbrev pub IsScriptFault : Result (List Event) ℕ → ScriptError → Type 0
+IsScriptFault script NoMemory = Unit {0}
+IsScriptFault script (BadScript line) = script ≡ Err line

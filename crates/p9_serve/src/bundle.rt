@@ -1,0 +1,210 @@
+//! Bundles: the program's input, in sections.
+
+ghost use Rattle.std.specs.Prelude.{◌≡◌, IfErr, IfOk, Ok, OnOk};
+ghost use Rattle.std.specs.List.{list_all};
+ghost use Rattle.std.specs.Option.{option_map};
+ghost use Rattle.std.specs.String.{string_bytes};
+ghost use Rattle.p9_base.specs.Line.{is_blank};
+ghost use Rattle.p9_serve.specs.Bundle.{IsBundleFault, begun, bundle_of, bundle_value, continued};
+ghost use Rattle.p9_serve.specs.Bundle.{may_follow, place_of, reader_value, section_of, unread};
+ghost use Rattle.p9_serve.specs.Bundle.{with_line, with_line_in, with_numbered_line, with_section};
+
+use p9_base::{NoMemory, lines};
+use std::alloc::{AllocError, Allocator};
+use thiserror::Error;
+
+/// Why a text is no bundle.
+#[derive(Clone, Copy, Debug, PartialEq, Eq, Error)]
+pub enum BundleError {
+    /// This line of the whole text is the first bad one; lines count from 1.
+    #[error("line {line} begins no section")]
+    BadBundle { line: u64 },
+    /// Memory was refused.
+    #[error("out of memory")]
+    NoMemory,
+}
+
+/// The sections of a bundle: of each the text of its lines, or `None` where it isn't there.
+#[derive(Drop)]
+pub struct Bundle<A: Allocator> {
+    pub script: Option<String<A>>,
+}
+
+// The sections, in the order in which they stand.
+#[derive(Clone, Copy)]
+enum Section {
+    Script,
+}
+
+impl Section {
+    // The section that a line begins.
+    fn begun_by(line: &str) -> Option<Section>
+        ensures { result ≡ section_of line.now }
+    {
+        match line {
+            "%% script" => Some(Section::Script),
+            _ => None,
+        }
+    }
+
+    // Its place among all.
+    fn place(self) -> u8
+        ensures { result ≡ place_of self }
+    {
+        match self {
+            Section::Script => 0,
+        }
+    }
+
+    // Whether it may follow the section before, if there is one.
+    fn may_follow(self, last: Option<Section>) -> bool
+        ensures { result ≡ may_follow last self }
+    {
+        last.is_none_or(|last| last.place() < self.place())
+    }
+}
+
+// A bundle as far as it is read, and the section that was begun last.
+#[derive(Drop)]
+struct Reader<A: Allocator> {
+    bundle: Bundle<A>,
+    last: Option<Section>,
+}
+
+impl<A: Allocator + Copy> Reader<A> {
+    fn new() -> Reader<A>
+        ensures { reader_value result ≡ unread }
+    {
+        Reader {
+            bundle: Bundle { script: None },
+            last: None,
+        }
+    }
+
+    // Reads the line of this number.
+    fn read_line(&mut self, alloc: A, number: u64, line: &str) -> Result<(), BundleError>
+        ensures ok { OnOk result
+            (with_numbered_line (reader_value self.old) (number, line.now) ≡ Ok (reader_value self.new)) }
+        ensures bad { IfErr result
+            (IsBundleFault (with_numbered_line (reader_value self.old) (number, line.now))) }
+    {
+        if line.starts_with("%%") {
+            return self.begin(alloc, number, Section::begun_by(line));
+        }
+        self.go_on(number, line)
+    }
+
+    // Begins a section, if the line of this number names one that may stand there.
+    fn begin(&mut self, alloc: A, number: u64, section: Option<Section>) -> Result<(), BundleError>
+        ensures ok { OnOk result
+            (begun (reader_value self.old) number section ≡ Ok (reader_value self.new)) }
+        ensures bad { IfErr result (IsBundleFault (begun (reader_value self.old) number section)) }
+    {
+        let Some(section) = section else {
+            return Err(BundleError::BadBundle { line: number });
+        };
+        if !section.may_follow(self.last) {
+            return Err(BundleError::BadBundle { line: number });
+        }
+        self.bundle.begin(alloc, section);
+        self.last = Some(section);
+        Ok(())
+    }
+
+    // Adds a line to the section that was begun last.
+    fn go_on(&mut self, number: u64, line: &str) -> Result<(), BundleError>
+        ensures ok { OnOk result
+            (continued (reader_value self.old) number line.now self.old.last ≡ Ok (reader_value self.new)) }
+        ensures bad { IfErr result
+            (IsBundleFault (continued (reader_value self.old) number line.now self.old.last)) }
+    {
+        if let Some(section) = self.last {
+            self.bundle.push_line(section, line)?;
+            return Ok(());
+        }
+        if !is_blank(line) {
+            return Err(BundleError::BadBundle { line: number });
+        }
+        Ok(())
+    }
+}
+
+impl<A: Allocator + Copy> Bundle<A> {
+    // Makes the section's text an empty one.
+    fn begin(&mut self, alloc: A, section: Section)
+        ensures { bundle_value self.new ≡ with_section section (bundle_value self.old) }
+    {
+        match section {
+            Section::Script => self.script = Some(String::new(alloc)),
+        }
+    }
+
+    // Adds a line to the section's text.
+    fn push_line(&mut self, section: Section, line: &str) -> Result<(), NoMemory>
+        ensures { OnOk result
+            (bundle_value self.new ≡ with_line_in section line.now (bundle_value self.old)) }
+    {
+        match section {
+            Section::Script => push_line(&mut self.script, line),
+        }
+    }
+}
+
+// Adds a line to a section's text, if the section is there.
+fn push_line<A: Allocator + Copy>(text: &mut Option<String<A>>, line: &str) -> Result<(), NoMemory>
+    ensures { OnOk result
+        (option_map string_bytes text.new ≡ option_map (with_line line.now) (option_map string_bytes text.old)) }
+{
+    if let Some(text) = text {
+        text.push_str(line)?;
+        text.push('\n')?;
+    }
+    Ok(())
+}
+
+// Whether a line has nothing but blanks and tabs.
+fn is_blank(line: &str) -> bool
+    ensures { result ≡ list_all is_blank line.now }
+{
+    line.bytes().all(|byte| byte == b' ' || byte == b'\t')
+}
+
+/// The sections of a bundle.
+///
+/// A section begins with the line `%% script`, and has the lines up to the next section or the end; in
+/// its text each of them ends with a newline. A section stands once at most. Any other line that begins
+/// with `%%`, and a line before the first section that has anything but blanks and tabs, is
+/// [`BundleError::BadBundle`]; want of memory is [`BundleError::NoMemory`].
+pub fn split_bundle<A: Allocator + Copy>(alloc: A, text: &str) -> Result<Bundle<A>, BundleError>
+    ensures ok { IfOk result (λ bundle. bundle_of text.now ≡ Ok (bundle_value bundle)) }
+    ensures bad { IfErr result (IsBundleFault (bundle_of text.now)) }
+{
+    let mut reader = Reader::new();
+    for (i, line) in lines(alloc, text)?.iter().enumerate() {
+        reader.read_line(alloc, i as u64 + 1, line)?;
+    }
+    let Reader { bundle, last: _ } = reader;
+    Ok(bundle)
+}
+
+impl From<NoMemory> for BundleError {
+    ghost use Rattle.std.specs.Prelude.{◌≡◌};
+    ghost use Rattle.p9_serve.specs.declared.bundle.BundleError.TheVariants.{NoMemory};
+
+    ghost from_gives = { λ _ error. error ≡ NoMemory };
+
+    fn from(_error: NoMemory) -> BundleError {
+        BundleError::NoMemory
+    }
+}
+
+impl From<AllocError> for BundleError {
+    ghost use Rattle.std.specs.Prelude.{◌≡◌};
+    ghost use Rattle.p9_serve.specs.declared.bundle.BundleError.TheVariants.{NoMemory};
+
+    ghost from_gives = { λ _ error. error ≡ NoMemory };
+
+    fn from(_error: AllocError) -> BundleError {
+        BundleError::NoMemory
+    }
+}

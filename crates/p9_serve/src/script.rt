@@ -1,0 +1,176 @@
+//! Scripts: what happens to the exporter, line by line.
+
+ghost use Rattle.std.specs.Prelude.{◌≡◌, [], IfErr, IfOk, Ok, Some, map};
+ghost use Rattle.std.specs.Option.{option_map};
+ghost use Rattle.p9_serve.specs.Script.{IsScriptFault, bytes_in, closing_of, event_of, event_value};
+ghost use Rattle.p9_serve.specs.Script.{joined, opening_of, request_of, script_of, short_number};
+ghost use Rattle.p9_base.specs.Statement.{statement_value};
+
+use hex::FromHexError;
+use p9_base::{NoMemory, Statement, number, statements};
+use p9_export::Event;
+use std::alloc::{AllocError, AllocFailed, Allocator};
+use thiserror::Error;
+
+/// Why a text is no script.
+#[derive(Clone, Copy, Debug, PartialEq, Eq, Error)]
+pub enum ScriptError {
+    /// This line says no event. It is the first such line; lines count from 1.
+    #[error("line {line} is bad")]
+    BadScript { line: u64 },
+    /// Memory was refused.
+    #[error("out of memory")]
+    NoMemory,
+}
+
+/// The events of a script, in order.
+///
+/// A line is `open S`, `msg S NOW HEX` or `close S NOW`: a session's name and a reading of the clock are
+/// decimal numbers below 2^32, and `HEX` is one byte or more in hexadecimal digits of either case. Blank
+/// lines and lines that begin with `#` are passed over, and counted. Any other line is
+/// [`ScriptError::BadScript`]; want of memory is [`ScriptError::NoMemory`].
+pub fn read_script<A: Allocator + Copy>(
+    alloc: A,
+    text: &str,
+) -> Result<Vec<Event<A>, A>, ScriptError>
+    ensures ok { IfOk result (λ events. script_of text.now ≡ Ok (map event_value events.items)) }
+    ensures bad { IfErr result (IsScriptFault (script_of text.now)) }
+{
+    let mut events = Vec::new(alloc);
+    for statement in &statements(alloc, text)? {
+        let event = stated(alloc, statement)?;
+        events.push(event)?;
+    }
+    Ok(events)
+}
+
+// The event that a statement says. One that says none is a bad line.
+fn stated<A: Allocator + Copy>(
+    alloc: A,
+    statement: &Statement<'_, A>,
+) -> Result<Event<A>, ScriptError>
+    ensures ok { IfOk result (λ event.
+        event_of (statement_value statement.now).1 ≡ Some (event_value event)) }
+    ensures bad { IfErr result
+        (IsScriptFault (joined [] statement.now.line (event_of (statement_value statement.now).1))) }
+{
+    match event(alloc, statement.words.as_slice())? {
+        Some(event) => Ok(event),
+        None => Err(ScriptError::BadScript {
+            line: statement.line,
+        }),
+    }
+}
+
+// The event that the words of a line say, if they say one.
+fn event<A: Allocator + Copy>(alloc: A, words: &[&str]) -> Result<Option<Event<A>>, NoMemory>
+    ensures { IfOk result (λ event.
+        option_map event_value event ≡ event_of (map (λ word. word.now) words.now)) }
+{
+    let [verb, rest @ ..] = words else {
+        return Ok(None);
+    };
+    match rest {
+        [name] => Ok(opening(verb, name)),
+        [name, now] => Ok(closing(verb, name, now)),
+        [name, now, hex] => request(alloc, verb, name, now, hex),
+        _ => Ok(None),
+    }
+}
+
+fn opening<A: Allocator + Copy>(verb: &str, name: &str) -> Option<Event<A>>
+    ensures { option_map event_value result ≡ opening_of verb.now name.now }
+{
+    if verb != "open" {
+        return None;
+    }
+    Some(Event::Open(short_number(name)?))
+}
+
+fn closing<A: Allocator + Copy>(verb: &str, name: &str, now: &str) -> Option<Event<A>>
+    ensures { option_map event_value result ≡ closing_of verb.now name.now now.now }
+{
+    if verb != "close" {
+        return None;
+    }
+    let name = short_number(name)?;
+    let now = short_number(now)?;
+    Some(Event::Close(name, now))
+}
+
+fn request<A: Allocator + Copy>(
+    alloc: A,
+    verb: &str,
+    name: &str,
+    now: &str,
+    hex: &str,
+) -> Result<Option<Event<A>>, NoMemory>
+    ensures { IfOk result (λ event.
+        option_map event_value event ≡ request_of verb.now name.now now.now hex.now) }
+{
+    if verb != "msg" {
+        return Ok(None);
+    }
+    let (Some(name), Some(now)) = (short_number(name), short_number(now)) else {
+        return Ok(None);
+    };
+    match bytes(alloc, hex)? {
+        Some(frame) => Ok(Some(Event::Message(name, frame, now))),
+        None => Ok(None),
+    }
+}
+
+// A session's name or a reading of the clock: a decimal number below 2^32.
+fn short_number(word: &str) -> Option<u32>
+    ensures { result ≡ short_number word.now }
+{
+    let number = number(word, 1 << 32)?;
+    Some(number as u32)
+}
+
+// The bytes that hexadecimal digits write: one or more.
+fn bytes<A: Allocator + Copy>(alloc: A, digits: &str) -> Result<Option<Vec<u8, A>>, NoMemory>
+    ensures { IfOk result (λ bytes. option_map (λ b. b.items) bytes ≡ bytes_in digits.now) }
+{
+    if digits.is_empty() {
+        return Ok(None);
+    }
+    match hex::decode(alloc, digits) {
+        Ok(bytes) => Ok(Some(bytes)),
+        Err(FromHexError::OutOfMemory) => Err(NoMemory),
+        Err(_) => Ok(None),
+    }
+}
+
+impl From<NoMemory> for ScriptError {
+    ghost use Rattle.std.specs.Prelude.{◌≡◌};
+    ghost use Rattle.p9_serve.specs.declared.script.ScriptError.TheVariants.{NoMemory};
+
+    ghost from_gives = { λ _ error. error ≡ NoMemory };
+
+    fn from(_error: NoMemory) -> ScriptError {
+        ScriptError::NoMemory
+    }
+}
+
+impl From<AllocError> for ScriptError {
+    ghost use Rattle.std.specs.Prelude.{◌≡◌};
+    ghost use Rattle.p9_serve.specs.declared.script.ScriptError.TheVariants.{NoMemory};
+
+    ghost from_gives = { λ _ error. error ≡ NoMemory };
+
+    fn from(_error: AllocError) -> ScriptError {
+        ScriptError::NoMemory
+    }
+}
+
+impl<T: Drop> From<AllocFailed<T>> for ScriptError {
+    ghost use Rattle.std.specs.Prelude.{◌≡◌};
+    ghost use Rattle.p9_serve.specs.declared.script.ScriptError.TheVariants.{NoMemory};
+
+    ghost from_gives = { λ _ error. error ≡ NoMemory };
+
+    fn from(_error: AllocFailed<T>) -> ScriptError {
+        ScriptError::NoMemory
+    }
+}

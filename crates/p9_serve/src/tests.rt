@@ -1,0 +1,281 @@
+//! Inputs and what the program prints for them, with bytes from outside.
+
+use crate::{BundleError, ScriptError, read_script, run_command, split_bundle};
+use p9_base::NoMemory;
+use p9_export::Event;
+use p9_refusing::{Refusing, refuse_each};
+use std::alloc::{Allocator, Global};
+use std::process::Abort;
+use std::test::Fail;
+
+// What a command is to print, and its exit status.
+#[derive(Clone, Copy)]
+struct Expected {
+    status: u8,
+    out: &'static str,
+    err: &'static str,
+}
+
+fn ends(rt: &impl Abort, alloc: Global, cmd: &str, input: &[u8], expected: Expected) {
+    let mut out = Vec::new(alloc);
+    let mut err = Vec::new(alloc);
+    let status = run_command(cmd, input, &mut out, &mut err).expect(rt, "memory");
+    assert_eq!(rt; str::from_utf8(out.as_slice()), Ok(expected.out), "output");
+    assert_eq!(rt; str::from_utf8(err.as_slice()), Ok(expected.err), "errors");
+    assert_eq!(rt; status, expected.status);
+}
+
+fn plays(rt: &impl Abort, alloc: Global, input: &str, out: &'static str) {
+    let expected = Expected {
+        status: 0,
+        out,
+        err: "",
+    };
+    ends(rt, alloc, "play", input.as_bytes(), expected);
+}
+
+fn is_refused(rt: &impl Abort, alloc: Global, input: &str, err: &'static str) {
+    let expected = Expected {
+        status: 1,
+        out: "",
+        err,
+    };
+    ends(rt, alloc, "play", input.as_bytes(), expected);
+}
+
+// A session's version and attach, and their replies.
+const FIRST_ATTACH: &str = "%% script
+open 1
+msg 1 0 1300000064ffff002000000600395032303030
+msg 1 0 1900000068010000000000ffffffff0600676c656e64610000
+";
+
+const FIRST_ATTACH_OUT: &str = "1300000065ffff002000000600395032303030
+1400000069010080000000000000000000000000
+";
+
+#[test]
+fn first_attach(rt: HostRuntime) {
+    plays(&rt, rt.alloc(), FIRST_ATTACH, FIRST_ATTACH_OUT);
+    plays(&rt, rt.alloc(), "", "");
+    plays(&rt, rt.alloc(), "%% script", "");
+}
+
+// 9P3000, then an attach without a version; 9P2000.u in a session of its own.
+#[test]
+fn unknown_version(rt: HostRuntime) {
+    let input = "%% script
+open 1
+msg 1 0 1300000064ffff002000000600395033303030
+msg 1 0 1900000068010000000000ffffffff0600676c656e64610000
+open 2
+msg 2 0 1500000064ffff0020000008003950323030302e75
+";
+    let out = "1400000065ffff002000000700756e6b6e6f776e
+180000006b01000f0076657273696f6e206e6f7420736574
+1300000065ffff002000000600395032303030
+";
+    plays(&rt, rt.alloc(), input, out);
+}
+
+// An msize of 511, of 512, and the greatest number.
+#[test]
+fn msize_bounds(rt: HostRuntime) {
+    let input = "%% script
+open 1
+msg 1 0 1300000064ffffff0100000600395032303030
+msg 1 0 1300000064ffff000200000600395032303030
+msg 1 0 1300000064ffffffffffff0600395032303030
+";
+    let out = "180000006bffff0f006d73697a6520746f6f20736d616c6c
+1300000065ffff000200000600395032303030
+1300000065ffff000001000600395032303030
+";
+    plays(&rt, rt.alloc(), input, out);
+}
+
+// An opening of an open session, a frame and a closing for one that isn't, frames of 6 bytes and of
+// another length than their size; a session's name is used again after its closing.
+#[test]
+fn events_that_do_not_fit(rt: HostRuntime) {
+    let input = "
+%% script
+open 1
+open 1
+msg 2 0 1300000064ffff002000000600395032303030
+close 2 0
+msg 1 0 060000000000
+msg 1 0 1400000064ffff002000000600395032303030
+msg 1 0 00
+# the session is as it was
+msg 1 7 1300000064FFFF002000000600395032303030
+close 1 8
+msg 1 9 1300000064ffff002000000600395032303030
+close 1 10
+open 1
+msg 1 0 1900000068010000000000ffffffff0600676c656e64610000
+";
+    let out = "skip
+skip
+skip
+skip
+skip
+skip
+1300000065ffff002000000600395032303030
+skip
+skip
+180000006b01000f0076657273696f6e206e6f7420736574
+";
+    plays(&rt, rt.alloc(), input, out);
+}
+
+#[test]
+fn bad_script_lines(rt: HostRuntime) {
+    let rows = [
+        ("%% script\nopen\n", "script:1: bad line\n"),
+        ("%% script\nopen 1 2\n", "script:1: bad line\n"),
+        ("%% script\n\nOpen 1\n", "script:2: bad line\n"),
+        ("%% script\nopen +1\n", "script:1: bad line\n"),
+        ("%% script\nopen 4294967296\n", "script:1: bad line\n"),
+        ("%% script\nopen 1\r\n", "script:1: bad line\n"),
+        (
+            "\n\n%% script\n# a comment\nopen 1\nclose 1\n",
+            "script:3: bad line\n",
+        ),
+        ("%% script\nclose 1 x\n", "script:1: bad line\n"),
+        ("%% script\nclose 1 4294967296\n", "script:1: bad line\n"),
+        ("%% script\nmsg 1 0\n", "script:1: bad line\n"),
+        ("%% script\nmsg 1 0 -\n", "script:1: bad line\n"),
+        ("%% script\nmsg 1 0 0\n", "script:1: bad line\n"),
+        ("%% script\nmsg 1 0 0g\n", "script:1: bad line\n"),
+        ("%% script\nmsg 1 0 00 00\n", "script:1: bad line\n"),
+        ("%% script\nmsg x 0 00\n", "script:1: bad line\n"),
+        ("%% script\n\tmsg  1 y  00 \n", "script:1: bad line\n"),
+        ("%% script\nshut 1\n", "script:1: bad line\n"),
+        (" \n%% script\nopen 1\nmsg 1\n", "script:2: bad line\n"),
+    ];
+    for (input, err) in rows {
+        is_refused(&rt, rt.alloc(), input, err);
+    }
+}
+
+#[test]
+fn bad_sections(rt: HostRuntime) {
+    let rows = [
+        ("%%script\n", "bundle:1: bad section\n"),
+        ("%% script \n", "bundle:1: bad section\n"),
+        ("%%  script\n", "bundle:1: bad section\n"),
+        ("%% script\r\n", "bundle:1: bad section\n"),
+        ("%%\n", "bundle:1: bad section\n"),
+        ("%% Script\n", "bundle:1: bad section\n"),
+        ("%% world\n", "bundle:1: bad section\n"),
+        ("%% script\n%% script\n", "bundle:2: bad section\n"),
+        ("%% script\nopen 1\n\n%% ns\n", "bundle:4: bad section\n"),
+        ("\n \t\n# a comment\n%% script\n", "bundle:3: bad section\n"),
+        (" %% script\n", "bundle:1: bad section\n"),
+        ("open 1\n%% script\n", "bundle:1: bad section\n"),
+        ("\r\n%% script\n", "bundle:1: bad section\n"),
+    ];
+    for (input, err) in rows {
+        is_refused(&rt, rt.alloc(), input, err);
+    }
+    // Behind a blank it begins no section.
+    is_refused(
+        &rt,
+        rt.alloc(),
+        "%% script\n %% script\n",
+        "script:1: bad line\n",
+    );
+}
+
+// The command line first, then the bytes, then the sections, then the script.
+#[test]
+fn faults_in_their_order(rt: HostRuntime) {
+    let refused = |status, err| Expected {
+        status,
+        out: "",
+        err,
+    };
+    let bad_command = refused(2, "p9: bad command line\n");
+    for cmd in ["", "Play", "play ", "check", "verify", "ns", "serve"] {
+        ends(&rt, rt.alloc(), cmd, b"\xff", bad_command);
+    }
+    let not_utf8 = refused(1, "input: not UTF-8\n");
+    ends(&rt, rt.alloc(), "play", b"open 1\n\xff", not_utf8);
+    let bad_section = refused(1, "bundle:3: bad section\n");
+    let input = b"%% script\nopen\n%% script\n";
+    ends(&rt, rt.alloc(), "play", input, bad_section);
+    let first_line = refused(1, "script:1: bad line\n");
+    let input = b"%% script\nopen\nclose\n";
+    ends(&rt, rt.alloc(), "play", input, first_line);
+}
+
+// What is printed goes behind what stands there.
+#[test]
+fn output_is_appended(rt: HostRuntime) -> Result<(), Fail> {
+    let mut out = Vec::from_slice(rt.alloc(), b"out ")?;
+    let mut err = Vec::from_slice(rt.alloc(), b"err ")?;
+    let status = run_command("play", b"%% script\nclose 1 1", &mut out, &mut err)?;
+    assert_eq!(rt; status, 0);
+    let status = run_command("play", b"%%", &mut out, &mut err)?;
+    assert_eq!(rt; status, 1);
+    assert_eq!(rt; str::from_utf8(out.as_slice()), Ok("out skip\n"));
+    assert_eq!(rt;
+        str::from_utf8(err.as_slice()),
+        Ok("err bundle:1: bad section\n")
+    );
+    Ok(())
+}
+
+#[test]
+fn sections_and_events(rt: HostRuntime) -> Result<(), Fail> {
+    let bundle = split_bundle(rt.alloc(), "\n%% script\nopen 01\n\n# x\nclose 1 2")?;
+    let script = bundle.script.as_ref().ok_or("no script")?;
+    assert_eq!(rt; script.as_str(), "open 01\n\n# x\nclose 1 2\n");
+    let none = split_bundle(rt.alloc(), " \n\t")?;
+    assert!(rt; none.script.is_none());
+    let second = BundleError::BadBundle { line: 2 };
+    assert_eq!(rt; split_bundle(rt.alloc(), "\n%% cert").err(), Some(second));
+    let events = read_script(rt.alloc(), "open 01\nmsg 2 03 aB0c\nclose 4294967295 5")?;
+    assert_eq!(rt; events.len(), 3);
+    assert!(rt; matches!(&events[0], Event::Open(1)));
+    let Event::Message(2, frame, 3) = &events[1] else {
+        return Err(Fail::from("no message"));
+    };
+    assert_eq!(rt; frame.as_slice(), [0xab, 0x0c].as_slice());
+    assert!(rt; matches!(&events[2], Event::Close(4_294_967_295, 5)));
+    let fourth = ScriptError::BadScript { line: 4 };
+    assert_eq!(rt;
+        read_script(rt.alloc(), "open 1\n\n#\nopen").err(),
+        Some(fourth)
+    );
+    Ok(())
+}
+
+// Plays the first attach. Where memory is refused, the command says so, or the attach's reply does.
+fn play_again<A: Allocator + Copy>(rt: &impl Abort, alloc: A) {
+    let mut out = Vec::new(alloc);
+    let mut err = Vec::new(alloc);
+    let outcome = run_command("play", FIRST_ATTACH.as_bytes(), &mut out, &mut err);
+    assert_eq!(rt; err.len(), 0);
+    if outcome == Err(NoMemory) {
+        out.clear();
+        let again = run_command("play", FIRST_ATTACH.as_bytes(), &mut out, &mut err);
+        assert_eq!(rt; again, Ok(0));
+        assert_eq!(rt; str::from_utf8(out.as_slice()), Ok(FIRST_ATTACH_OUT));
+        return;
+    }
+    assert_eq!(rt; outcome, Ok(0));
+    let refused = "1300000065ffff002000000600395032303030
+160000006b01000d006f7574206f66206d656d6f7279
+";
+    let text = str::from_utf8(out.as_slice());
+    assert!(rt; text == Ok(FIRST_ATTACH_OUT) || text == Ok(refused));
+}
+
+#[test]
+fn each_refused_growth_is_told(rt: HostRuntime) {
+    let memory = Refusing::new(rt.alloc());
+    let refusals = refuse_each(&memory, || (), |()| play_again(&rt, &memory));
+    assert!(rt; refusals > 20);
+}

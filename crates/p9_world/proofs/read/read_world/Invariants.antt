@@ -1,0 +1,10 @@
+use Rattle.std.proofs.Common.{◌≡◌, drop}
+use Rattle.p9_base.specs.Statement.{statements_of}
+use Rattle.p9_base.specs.TryFold.{try_fold}
+use Rattle.p9_world.specs.Reading.{read_statement}
+use Rattle.p9_world.specs.World.{empty_world}
+use Rattle.p9_world.proofs.read.read_world.Given as goal
+
+-- the statements that are left make of the world what all of them make of the empty one
+abbrev pub invariant-loop-statement : goal.invariant-loop-statement
+invariant-loop-statement g l = try_fold read_statement l.world (drop l.statement-index (statements_of l.fn.text)) ≡ try_fold read_statement empty_world (statements_of l.fn.text)

@@ -1,0 +1,99 @@
+-- Lines 'dir PATH MODE UID GID' and 'file PATH MODE UID GID HEX', which belong to the last server.
+use Rattle.std.specs.Prelude.{ℕ, ◌+◌, ◌-◌, ◌&&◌, Bool, not, nat_le, nat_lt, List, [], ◌∷◌, Option, Some, None, Result, Ok, is_some, length, codes, if◌then◌else◌}
+use Rattle.std.specs.Result.{result_ok}
+use Rattle.std.specs.Str.{bytes_eq}
+use Rattle.hex.specs.Hex.{decode_of}
+use Rattle.p9_base.specs.declared.mode.Mode.{Mode}
+use Rattle.p9_base.specs.declared.mode.Permissions.{Permissions}
+use Rattle.p9_base.specs.TryFold.{and_then}
+use Rattle.p9_base.specs.User.{is_user}
+use Rattle.p9_clean.specs.Path.{Word}
+use Rattle.p9_tree.specs.declared.bytes.TheConstants.{FILE_MAX}
+use Rattle.p9_tree.specs.declared.tree.TheConstants.{NEXT_MAX}
+use Rattle.p9_tree.specs.Node.{Node, with_owner}
+use Rattle.p9_tree.specs.Server.{Server, added, child_of, with_changed}
+use Rattle.p9_tree.specs.Forest.{server_at, tree_changed_at}
+use Rattle.p9_world.specs.declared.error.LineFault.{LineFault}
+use Rattle.p9_world.specs.declared.error.LineFault.TheVariants.{NoServer, BadPath, BadMode, BadUser, BadHex, TooLarge, NoParent, Duplicate, TooMany}
+use Rattle.p9_world.specs.Meaning.{given, need}
+use Rattle.p9_world.specs.Mode.{dir_mode, file_mode_in, permissions_in}
+use Rattle.p9_world.specs.Path.{dir_of, last_and_rest, names_of}
+use Rattle.p9_world.specs.World.{World}
+
+-- The last server.
+
+abbrev pub last_number : World → ℕ
+last_number w = length w.forest - 1
+
+-- the change that a line makes of the last server
+abbrev pub in_last_server : (Server → Result Server LineFault) → World → Result World LineFault
+in_last_server change w =
+    need (nat_lt 0 (length w.forest)) NoServer (
+    and_then (change (server_at (last_number w) w.forest)) (λ server.
+    Ok (record w { forest = tree_changed_at (last_number w) (λ old. server) w.forest })))
+
+-- New nodes.
+
+-- what a line says of a node: its owner is its last changer too
+pub record Entry : Type 0 where
+  pub mode : Mode
+  pub uid : List ℕ
+  pub gid : List ℕ
+  pub bytes : List ℕ
+
+-- the node of the server's next number in the directory, never changed since the time 0
+abbrev pub node_of : ℕ → ℕ → Word → Entry → Node
+node_of number dir name entry = record {
+  number = number;
+  parent = Some dir;
+  name = name;
+  mode = entry.mode;
+  uid = entry.uid;
+  gid = entry.gid;
+  muid = entry.uid;
+  version = 0;
+  atime = 0;
+  mtime = 0;
+  bytes = entry.bytes;
+}
+
+-- the server with a new node, of this name in the directory that the other names lead to
+abbrev pub with_entry : Word → List Word → Entry → Server → Result Server LineFault
+with_entry name names entry server =
+    given (dir_of names server) NoParent (λ dir.
+    need (not (is_some (child_of dir name server.nodes))) Duplicate (
+    need (nat_lt server.next NEXT_MAX) TooMany (
+    Ok (added server (node_of server.next dir name entry)))))
+
+-- Lines.
+
+abbrev pub is_owned : List ℕ → List ℕ → Bool
+is_owned uid gid = is_user uid && is_user gid
+
+-- '/' is the root, which is changed; any other path is a new directory's
+abbrev pub with_dir : Option (Word × List Word) → Permissions → List ℕ → List ℕ → Server → Result Server LineFault
+with_dir None permissions uid gid server =
+    Ok (with_changed 0 (with_owner permissions uid gid) server)
+with_dir (Some place) permissions uid gid server =
+    with_entry place.0 place.1 (record { mode = dir_mode permissions; uid = uid; gid = gid; bytes = [] }) server
+
+abbrev pub dir_line : List ℕ → List ℕ → List ℕ → List ℕ → Server → Result Server LineFault
+dir_line path mode uid gid server =
+    given (names_of path) BadPath (λ names.
+    given (permissions_in mode) BadMode (λ permissions.
+    need (is_owned uid gid) BadUser (
+    with_dir (last_and_rest names) permissions uid gid server)))
+
+-- the bytes that a word writes in hexadecimal; '-' writes none
+abbrev pub bytes_in : List ℕ → Option (List ℕ)
+bytes_in word = if bytes_eq word (codes "-") then Some [] else result_ok (decode_of word)
+
+abbrev pub file_line : List ℕ → List ℕ → List ℕ → List ℕ → List ℕ → Server → Result Server LineFault
+file_line path mode uid gid hex server =
+    given (names_of path) BadPath (λ names.
+    given (last_and_rest names) BadPath (λ place.
+    given (file_mode_in mode) BadMode (λ mode.
+    need (is_owned uid gid) BadUser (
+    given (bytes_in hex) BadHex (λ bytes.
+    need (nat_le (length bytes) FILE_MAX) TooLarge (
+    with_entry place.0 place.1 (record { mode = mode; uid = uid; gid = gid; bytes = bytes }) server))))))

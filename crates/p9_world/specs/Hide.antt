@@ -1,0 +1,30 @@
+-- A line 'hide SERVER PATH'.
+use Rattle.std.specs.Prelude.{ℕ, ◌==◌, ◌&&◌, Bool, not, List, [], ◌∷◌, ◌++◌, Result, Ok}
+use Rattle.std.specs.List.{list_any}
+use Rattle.p9_base.specs.declared.node_ref.NodeRef.{NodeRef}
+use Rattle.p9_tree.specs.Forest.{server_at}
+use Rattle.p9_world.specs.declared.error.LineFault.{LineFault}
+use Rattle.p9_world.specs.declared.error.LineFault.TheVariants.{NoServer, BadPath, NoParent, Duplicate}
+use Rattle.p9_world.specs.Meaning.{given, need}
+use Rattle.p9_world.specs.Path.{dir_of, names_of}
+use Rattle.p9_world.specs.Server.{server_number}
+use Rattle.p9_world.specs.World.{World}
+
+abbrev pub same_node : NodeRef → NodeRef → Bool
+same_node a b = a.server == b.server && a.number == b.number
+
+abbrev pub is_hidden_by : List NodeRef → NodeRef → Bool
+is_hidden_by hidden node = list_any (λ other. same_node other node) hidden
+
+-- the directory, which isn't hidden yet, joins those that are
+abbrev pub with_hidden : NodeRef → World → Result World LineFault
+with_hidden node w =
+    need (not (is_hidden_by w.hidden node)) Duplicate (
+    Ok (record w { hidden = w.hidden ++ node ∷ [] }))
+
+abbrev pub hide_line : List ℕ → List ℕ → World → Result World LineFault
+hide_line server path w =
+    given (server_number server w.servers) NoServer (λ number.
+    given (names_of path) BadPath (λ names.
+    given (dir_of names (server_at number w.forest)) NoParent (λ dir.
+    with_hidden (record { server = number; number = dir }) w)))

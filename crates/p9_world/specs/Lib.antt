@@ -1,0 +1,10 @@
+pub mod Meaning
+pub mod World
+pub mod Path
+pub mod Mode
+pub mod Server
+pub mod Entry
+pub mod User
+pub mod Hide
+pub mod Variable
+pub mod Reading

@@ -1,0 +1,33 @@
+-- A line 'server NAME'.
+use Rattle.std.specs.Prelude.{ℕ, ◌^◌, ◌==◌, ◌&&◌, ◌||◌, Bool, not, nat_le, nat_lt, List, [], ◌∷◌, ◌++◌, Option, Result, Ok, is_some, length, position}
+use Rattle.std.specs.List.{list_any}
+use Rattle.std.specs.Str.{bytes_eq}
+use Rattle.p9_tree.specs.Server.{rooted}
+use Rattle.p9_world.specs.declared.error.LineFault.{LineFault}
+use Rattle.p9_world.specs.declared.error.LineFault.TheVariants.{BadName, Duplicate, TooMany}
+use Rattle.p9_world.specs.Meaning.{need}
+use Rattle.p9_world.specs.World.{World}
+
+-- '/', '#', '$' or NUL
+abbrev pub is_reserved : ℕ → Bool
+is_reserved b = b == 47 || b == 35 || b == 36 || b == 0
+
+-- 1 to 63 bytes, none of them reserved
+abbrev pub is_server_name : List ℕ → Bool
+is_server_name name =
+    nat_le 1 (length name) && nat_le (length name) 63 && not (list_any is_reserved name)
+
+-- the number of the server of this name
+abbrev pub server_number : List ℕ → List (List ℕ) → Option ℕ
+server_number name servers = position (λ other. bytes_eq other name) servers
+
+-- a server of this name, with a root alone, joins behind the others
+abbrev pub with_server : List ℕ → World → World
+with_server name w = record w { forest = w.forest ++ rooted ∷ []; servers = w.servers ++ name ∷ [] }
+
+abbrev pub server_line : List ℕ → World → Result World LineFault
+server_line name w =
+    need (is_server_name name) BadName (
+    need (not (is_some (server_number name w.servers))) Duplicate (
+    need (nat_lt (length w.servers) (2 ^ 16)) TooMany (
+    Ok (with_server name w))))

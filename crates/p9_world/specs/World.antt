@@ -1,0 +1,25 @@
+-- A world: what its lines have made so far.
+use Rattle.std.specs.Prelude.{◌≡◌, ◌≢◌, ℕ, ◌<◌, ◌≤◌, ◌^◌, List, [], length, All, AllPairs}
+use Rattle.p9_base.specs.declared.node_ref.NodeRef.{NodeRef}
+use Rattle.p9_tree.specs.Server.{Server}
+use Rattle.p9_tree.specs.Forest.{next_of}
+
+-- the servers' trees and names, both by number, the users, the hidden directories, and the
+-- variables with their values
+pub record World : Type 0 where
+  pub forest : List Server
+  pub users : List (List ℕ)
+  pub hidden : List NodeRef
+  pub vars : List (List ℕ × List ℕ)
+  pub servers : List (List ℕ)
+
+-- each tree has one name, which no other has, and each hidden number was given by its server
+pub record IsWorld (w : World) : Type 0 where
+  pub named : length w.servers ≡ length w.forest
+  pub few : length w.forest ≤ 2 ^ 16
+  pub distinct : AllPairs (λ a b. a ≢ b) w.servers
+  pub below : All (λ r. r.number < next_of r.server w.forest) w.hidden
+
+-- the world of no lines
+abbrev pub empty_world : World
+empty_world = record { forest = []; users = []; hidden = []; vars = []; servers = [] }

@@ -1,0 +1,205 @@
+//! Lines `dir PATH MODE UID GID` and `file PATH MODE UID GID HEX`, which belong to the last server.
+
+ghost use Rattle.std.specs.Prelude.{◌≡◌, ◌≤◌, ◌∷◌, [], IfOk, IfSome, IsTrue, length, option_map};
+ghost use Rattle.p9_base.specs.Mode.{is_dir};
+ghost use Rattle.p9_world.specs.Entry.{bytes_in, dir_line, file_line, in_last_server, with_dir, with_entry};
+ghost use Rattle.p9_world.specs.Meaning.{Makes};
+ghost use Rattle.p9_world.specs.Path.{last_and_rest};
+
+use crate::error::{LineError, LineFault};
+use crate::mode::{file_mode_in, permissions_in};
+use crate::path::{dir_of, last_and_rest, names_of};
+use crate::world::World;
+use p9_base::{Kind, Mode, Name, NoMemory, Permissions, User};
+use p9_tree::{FILE_MAX, NEXT_MAX, New, Tree};
+use std::alloc::Allocator;
+
+/// A directory joins the last server, or the root of that server is changed.
+pub fn add_dir<T: Tree>(
+    alloc: T::Alloc,
+    world: &mut World<T>,
+    path: &str,
+    mode: &str,
+    uid: &str,
+    gid: &str,
+) -> Result<(), LineError>
+    ensures { Makes (in_last_server (dir_line path.now mode.now uid.now gid.now) world.old) world.old world.new result }
+{
+    let Some(tree) = world.forest.trees.last_mut() else {
+        return Err(LineError::Bad(LineFault::NoServer));
+    };
+    add_dir_to(alloc, tree, path, mode, uid, gid)
+}
+
+/// A file joins the last server.
+pub fn add_file<T: Tree>(
+    alloc: T::Alloc,
+    world: &mut World<T>,
+    path: &str,
+    mode: &str,
+    uid: &str,
+    gid: &str,
+    hex: &str,
+) -> Result<(), LineError>
+    ensures { Makes (in_last_server (file_line path.now mode.now uid.now gid.now hex.now) world.old) world.old world.new result }
+{
+    let Some(tree) = world.forest.trees.last_mut() else {
+        return Err(LineError::Bad(LineFault::NoServer));
+    };
+    add_file_to(alloc, tree, path, mode, uid, gid, hex)
+}
+
+// A directory joins the tree, or its root is changed.
+fn add_dir_to<T: Tree>(
+    alloc: T::Alloc,
+    tree: &mut T,
+    path: &str,
+    mode: &str,
+    uid: &str,
+    gid: &str,
+) -> Result<(), LineError>
+    ensures made { Makes (dir_line path.now mode.now uid.now gid.now (T.state tree.old)) (T.state tree.old) (T.state tree.new) result }
+    ensures next { (T.state tree.old).next ≤ (T.state tree.new).next }
+{
+    let Some(names) = names_of(alloc, path)? else {
+        return Err(LineError::Bad(LineFault::BadPath));
+    };
+    let Some(permissions) = permissions_in(mode.as_bytes()) else {
+        return Err(LineError::Bad(LineFault::BadMode));
+    };
+    let Some(uid) = User::new(uid) else {
+        return Err(LineError::Bad(LineFault::BadUser));
+    };
+    let Some(gid) = User::new(gid) else {
+        return Err(LineError::Bad(LineFault::BadUser));
+    };
+    make_dir(tree, names.as_slice(), permissions, uid, gid)
+}
+
+// The directory of these names, or the root where there is none.
+fn make_dir<T: Tree>(
+    tree: &mut T,
+    names: &[Name],
+    permissions: Permissions,
+    uid: User,
+    gid: User,
+) -> Result<(), LineError>
+    ensures made { Makes (with_dir (last_and_rest names.now) permissions uid gid (T.state tree.old)) (T.state tree.old) (T.state tree.new) result }
+    ensures next { (T.state tree.old).next ≤ (T.state tree.new).next }
+{
+    let Some((name, names)) = last_and_rest(names) else {
+        tree.set_root(permissions, uid, gid);
+        return Ok(());
+    };
+    let entry = Entry {
+        mode: Mode {
+            kind: Kind::Directory,
+            permissions,
+        },
+        uid,
+        gid,
+        bytes: &[],
+    };
+    add_entry(tree, *name, names, &entry)
+}
+
+// A file joins the tree.
+fn add_file_to<T: Tree>(
+    alloc: T::Alloc,
+    tree: &mut T,
+    path: &str,
+    mode: &str,
+    uid: &str,
+    gid: &str,
+    hex: &str,
+) -> Result<(), LineError>
+    ensures made { Makes (file_line path.now mode.now uid.now gid.now hex.now (T.state tree.old)) (T.state tree.old) (T.state tree.new) result }
+    ensures next { (T.state tree.old).next ≤ (T.state tree.new).next }
+{
+    let Some(names) = names_of(alloc, path)? else {
+        return Err(LineError::Bad(LineFault::BadPath));
+    };
+    let Some((name, names)) = last_and_rest(names.as_slice()) else {
+        return Err(LineError::Bad(LineFault::BadPath));
+    };
+    let Some(mode) = file_mode_in(mode.as_bytes()) else {
+        return Err(LineError::Bad(LineFault::BadMode));
+    };
+    let Some(uid) = User::new(uid) else {
+        return Err(LineError::Bad(LineFault::BadUser));
+    };
+    let Some(gid) = User::new(gid) else {
+        return Err(LineError::Bad(LineFault::BadUser));
+    };
+    let Some(bytes) = bytes_in(alloc, hex)? else {
+        return Err(LineError::Bad(LineFault::BadHex));
+    };
+    if bytes.len() > FILE_MAX {
+        return Err(LineError::Bad(LineFault::TooLarge));
+    }
+    let entry = Entry {
+        mode,
+        uid,
+        gid,
+        bytes: bytes.as_slice(),
+    };
+    add_entry(tree, *name, names, &entry)
+}
+
+// What a line says of a node.
+#[derive(Clone, Copy)]
+struct Entry<'a> {
+    mode: Mode,
+    uid: User,
+    gid: User,
+    bytes: &'a [u8],
+}
+
+// A new node joins the tree, of this name in the directory that the names lead to.
+fn add_entry<T: Tree>(
+    tree: &mut T,
+    name: Name,
+    names: &[Name],
+    entry: &Entry<'_>,
+) -> Result<(), LineError>
+    requires small { length entry.now.bytes.now ≤ FILE_MAX }
+    requires empty_dir { IsTrue (is_dir entry.now.mode) → entry.now.bytes.now ≡ [] }
+    ensures made { Makes (with_entry name names.now (record { mode = entry.now.mode; uid = entry.now.uid; gid = entry.now.gid; bytes = entry.now.bytes.now }) (T.state tree.old)) (T.state tree.old) (T.state tree.new) result }
+    ensures next { (T.state tree.old).next ≤ (T.state tree.new).next }
+{
+    let Some(dir) = dir_of(tree, names) else {
+        return Err(LineError::Bad(LineFault::NoParent));
+    };
+    if tree.child(dir, &name).is_some() {
+        return Err(LineError::Bad(LineFault::Duplicate));
+    }
+    if tree.next() >= NEXT_MAX {
+        return Err(LineError::Bad(LineFault::TooMany));
+    }
+    let new = New {
+        name,
+        mode: entry.mode,
+        uid: entry.uid,
+        gid: entry.gid,
+        muid: entry.uid,
+        atime: 0,
+        mtime: 0,
+        bytes: entry.bytes,
+    };
+    tree.add(dir, &new)?;
+    Ok(())
+}
+
+// The bytes that a word writes in hexadecimal; `-` writes none.
+fn bytes_in<A: Allocator + Copy>(alloc: A, word: &str) -> Result<Option<Vec<u8, A>>, NoMemory>
+    ensures { IfOk result (λ found. option_map (λ bytes. bytes.items) found ≡ bytes_in word.now) }
+{
+    if word == "-" {
+        return Ok(Some(Vec::new(alloc)));
+    }
+    match hex::decode(alloc, word) {
+        Ok(bytes) => Ok(Some(bytes)),
+        Err(hex::FromHexError::OutOfMemory) => Err(NoMemory),
+        Err(_) => Ok(None),
+    }
+}

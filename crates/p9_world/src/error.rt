@@ -1,0 +1,160 @@
+//! What may be wrong with a world's text.
+
+ghost use Rattle.std.specs.Prelude.{◌≡◌};
+ghost use Rattle.p9_world.specs.Meaning.{text_of};
+
+use p9_base::NoMemory;
+use std::alloc::{AllocError, AllocFailed};
+use thiserror::Error;
+
+/// What is wrong with a line of a world's text. Where several faults apply, the line has the one
+/// that stands first here.
+#[derive(Clone, Copy, Debug, PartialEq, Eq, Error)]
+pub enum LineFault {
+    /// The first word names no operation.
+    #[error("unknown word")]
+    UnknownWord,
+    /// The operation takes another number of words.
+    #[error("wrong number of words")]
+    WordCount,
+    /// A file or directory stands before the first server, a directory of an unknown server is to
+    /// be hidden, or the whole text has no server.
+    #[error("no server")]
+    NoServer,
+    /// A server's name has no byte, more than 63 bytes, or one of `/`, `#`, `$` and NUL; or a
+    /// variable's has no byte, or one of `/` and `$`.
+    #[error("bad name")]
+    BadName,
+    /// A path doesn't begin with `/`, has a name that no file may have, or is a file's and `/`.
+    #[error("bad path")]
+    BadPath,
+    /// A mode isn't three octal digits, behind a file's letters `a`, `l` and `t` in this order.
+    #[error("bad mode")]
+    BadMode,
+    /// A user's or group's name has no byte, more than 63 bytes, or a NUL.
+    #[error("bad user")]
+    BadUser,
+    /// A file's bytes are neither `-` nor hexadecimal, two digits a byte.
+    #[error("bad hex")]
+    BadHex,
+    /// A file has more bytes than [`p9_tree::FILE_MAX`].
+    #[error("file too large")]
+    TooLarge,
+    /// No earlier line makes the directory in which a new file or directory is to stand; or what is
+    /// to be hidden is no directory.
+    #[error("no such directory")]
+    NoParent,
+    /// An earlier line has this server, path, user, hidden directory or variable.
+    #[error("already there")]
+    Duplicate,
+    /// There are [`crate::SERVERS_MAX`] servers, or the server has given all its numbers.
+    #[error("too many")]
+    TooMany,
+}
+
+impl LineFault {
+    /// The text that a report carries.
+    pub fn text(self) -> &'static str
+        ensures { result.now ≡ text_of self }
+    {
+        match self {
+            LineFault::UnknownWord => "unknown word",
+            LineFault::WordCount => "wrong number of words",
+            LineFault::NoServer => "no server",
+            LineFault::BadName => "bad name",
+            LineFault::BadPath => "bad path",
+            LineFault::BadMode => "bad mode",
+            LineFault::BadUser => "bad user",
+            LineFault::BadHex => "bad hex",
+            LineFault::TooLarge => "file too large",
+            LineFault::NoParent => "no such directory",
+            LineFault::Duplicate => "already there",
+            LineFault::TooMany => "too many",
+        }
+    }
+}
+
+/// Why a text gives no world.
+#[derive(Clone, Copy, Debug, PartialEq, Eq, Error)]
+pub enum WorldError {
+    /// The first bad line, and what is wrong there. Lines count from 1, and the line 0 stands for
+    /// the whole text.
+    #[error("line {line}: {kind}")]
+    BadWorld { line: u64, kind: LineFault },
+    /// Memory was refused.
+    #[error("out of memory")]
+    NoMemory,
+}
+
+impl From<NoMemory> for WorldError {
+    ghost use Rattle.std.specs.Prelude.{◌≡◌};
+    ghost use Rattle.p9_world.specs.declared.error.WorldError.TheVariants.{NoMemory as OutOfMemory};
+
+    ghost from_gives = { λ _ error. error ≡ OutOfMemory };
+
+    fn from(_error: NoMemory) -> WorldError {
+        WorldError::NoMemory
+    }
+}
+
+impl From<AllocError> for WorldError {
+    ghost use Rattle.std.specs.Prelude.{◌≡◌};
+    ghost use Rattle.p9_world.specs.declared.error.WorldError.TheVariants.{NoMemory as OutOfMemory};
+
+    ghost from_gives = { λ _ error. error ≡ OutOfMemory };
+
+    fn from(_error: AllocError) -> WorldError {
+        WorldError::NoMemory
+    }
+}
+
+/// Why a line makes no change: what is wrong with it, or want of memory.
+#[derive(Clone, Copy, Debug, PartialEq, Eq)]
+pub(crate) enum LineError {
+    Bad(LineFault),
+    NoMemory,
+}
+
+impl From<LineFault> for LineError {
+    ghost use Rattle.std.specs.Prelude.{◌≡◌};
+    ghost use Rattle.p9_world.specs.declared.error.LineError.TheVariants.{Bad};
+
+    ghost from_gives = { λ fault error. error ≡ Bad fault };
+
+    fn from(fault: LineFault) -> LineError {
+        LineError::Bad(fault)
+    }
+}
+
+impl From<NoMemory> for LineError {
+    ghost use Rattle.std.specs.Prelude.{◌≡◌};
+    ghost use Rattle.p9_world.specs.declared.error.LineError.TheVariants.{NoMemory as OutOfMemory};
+
+    ghost from_gives = { λ _ error. error ≡ OutOfMemory };
+
+    fn from(_error: NoMemory) -> LineError {
+        LineError::NoMemory
+    }
+}
+
+impl From<AllocError> for LineError {
+    ghost use Rattle.std.specs.Prelude.{◌≡◌};
+    ghost use Rattle.p9_world.specs.declared.error.LineError.TheVariants.{NoMemory as OutOfMemory};
+
+    ghost from_gives = { λ _ error. error ≡ OutOfMemory };
+
+    fn from(_error: AllocError) -> LineError {
+        LineError::NoMemory
+    }
+}
+
+impl<T: Drop> From<AllocFailed<T>> for LineError {
+    ghost use Rattle.std.specs.Prelude.{◌≡◌};
+    ghost use Rattle.p9_world.specs.declared.error.LineError.TheVariants.{NoMemory as OutOfMemory};
+
+    ghost from_gives = { λ _ error. error ≡ OutOfMemory };
+
+    fn from(_error: AllocFailed<T>) -> LineError {
+        LineError::NoMemory
+    }
+}

@@ -1,0 +1,58 @@
+//! Lines `hide SERVER PATH`.
+
+ghost use Rattle.std.specs.Prelude.{◌≡◌, ◌<◌, Ok};
+ghost use Rattle.p9_tree.specs.Forest.{next_of};
+ghost use Rattle.p9_world.specs.Hide.{hide_line, is_hidden_by, same_node, with_hidden};
+ghost use Rattle.p9_world.specs.Meaning.{Makes};
+
+use crate::error::{LineError, LineFault};
+use crate::path::{dir_of, names_of};
+use crate::server::server_number;
+use crate::world::World;
+use p9_base::NodeRef;
+use p9_tree::Tree;
+
+/// The directory joins those that are hidden.
+pub fn hide<T: Tree>(
+    alloc: T::Alloc,
+    world: &mut World<T>,
+    server: &str,
+    path: &str,
+) -> Result<(), LineError>
+    ensures { Makes (hide_line server.now path.now world.old) world.old world.new result }
+{
+    let Some(server) = server_number(server, world.servers.as_slice()) else {
+        return Err(LineError::Bad(LineFault::NoServer));
+    };
+    let Some(names) = names_of(alloc, path)? else {
+        return Err(LineError::Bad(LineFault::BadPath));
+    };
+    let Some(number) = dir_of(&world.forest.trees[server], names.as_slice()) else {
+        return Err(LineError::Bad(LineFault::NoParent));
+    };
+    add_hidden(
+        world,
+        NodeRef {
+            server: server as u16,
+            number,
+        },
+    )
+}
+
+// Adds a directory that isn't hidden yet.
+fn add_hidden<T: Tree>(world: &mut World<T>, node: NodeRef) -> Result<(), LineError>
+    requires { node.number < next_of node.server world.old.forest }
+    ensures { Makes (with_hidden node world.old) world.old world.new result }
+{
+    if is_hidden_by(world.hidden.as_slice(), node) {
+        return Err(LineError::Bad(LineFault::Duplicate));
+    }
+    world.hidden.push(node)?;
+    Ok(())
+}
+
+fn is_hidden_by(hidden: &[NodeRef], node: NodeRef) -> bool
+    ensures { result ≡ is_hidden_by hidden.now node }
+{
+    hidden.iter().any(|other| other.server == node.server && other.number == node.number)
+}

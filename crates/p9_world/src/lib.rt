@@ -1,0 +1,24 @@
+//! A user's own world: a text that describes servers, their trees, users, hidden directories and
+//! variables, and the world that its lines make.
+//!
+//! [`read_world`] reads it. Each operation stands in a module of its own, and the definition of
+//! what it means in the file of `specs/` beside it.
+#![tactic(auto)]
+
+mod entry;
+mod error;
+mod hide;
+mod mode;
+mod path;
+mod read;
+mod server;
+mod user;
+mod variable;
+mod world;
+
+pub use error::{LineFault, WorldError};
+pub use read::read_world;
+pub use world::{SERVERS_MAX, World};
+
+#[cfg(test)]
+mod tests;

@@ -1,0 +1,60 @@
+//! Paths from a server's root, and the directories that they lead to.
+
+ghost use Rattle.std.specs.Prelude.{◌≡◌, IfOk, map, option_map};
+ghost use Rattle.p9_world.specs.Path.{dir_of, last_and_rest, names_among, names_of};
+
+use p9_base::{Name, NoMemory};
+use p9_clean::{clean, elements};
+use p9_tree::Tree;
+use std::alloc::Allocator;
+
+/// The names along a cleaned path, or `None` where it doesn't begin with a slash or has a name that
+/// no file may have. The root has none. The only error is want of memory.
+pub fn names_of<A: Allocator + Copy>(alloc: A, path: &str) -> Result<Option<Vec<Name, A>>, NoMemory>
+    ensures { IfOk result (λ found. option_map (λ names. names.items) found ≡ names_of path.now) }
+{
+    if !path.starts_with('/') {
+        return Ok(None);
+    }
+    let cleaned = clean(alloc, path)?;
+    let words = elements(alloc, cleaned.as_str())?;
+    names_among(alloc, words.as_slice())
+}
+
+// The words as names, if each may name a file.
+fn names_among<A: Allocator + Copy>(
+    alloc: A,
+    words: &[&str],
+) -> Result<Option<Vec<Name, A>>, NoMemory>
+    ensures { IfOk result (λ found. option_map (λ names. names.items) found ≡ names_among (map (λ w. w.now) words.now)) }
+{
+    let mut names = Vec::new(alloc);
+    for word in words {
+        let Some(name) = Name::new(word) else {
+            return Ok(None);
+        };
+        names.push(name)?;
+    }
+    Ok(Some(names))
+}
+
+/// The last of some names, and those before it.
+pub fn last_and_rest(names: &[Name]) -> Option<(&Name, &[Name])>
+    ensures { option_map (λ place. (place.0.now, place.1.now)) result ≡ last_and_rest names.now }
+{
+    names.split_last()
+}
+
+/// The number of the directory that the names lead to, from the root on.
+pub fn dir_of<T: Tree>(tree: &T, names: &[Name]) -> Option<u64>
+    ensures { result ≡ dir_of names.now (T.state tree.now) }
+{
+    let mut number = 0;
+    for name in names {
+        number = tree.child(number, name)?.number();
+    }
+    match tree.node(number) {
+        Some(node) if node.is_dir() => Some(number),
+        _ => None,
+    }
+}

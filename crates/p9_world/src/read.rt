@@ -1,0 +1,184 @@
+//! The world of a text.
+
+ghost use Rattle.std.specs.Prelude.{◌≡◌, IfErr, IfOk, Ok, map};
+ghost use Rattle.p9_base.specs.Statement.{statement_value};
+ghost use Rattle.p9_world.specs.Meaning.{Makes};
+ghost use Rattle.p9_world.specs.Reading.{Steps, Tells, line_meaning, operated, operation_of, read_statement, world_of};
+ghost use Rattle.p9_world.specs.declared.read.Operation.TheVariants.{Dir, File, Hide, Server, Set, User};
+
+use crate::entry::{add_dir, add_file};
+use crate::error::{LineError, LineFault, WorldError};
+use crate::hide::hide;
+use crate::server::add_server;
+use crate::user::add_user;
+use crate::variable::set_variable;
+use crate::world::World;
+use p9_base::{Statement, statements};
+use p9_tree::Tree;
+use std::alloc::Allocator;
+
+/// The world that the lines of a text make, one after another.
+///
+/// A line is one of `server NAME`, `dir PATH MODE UID GID`, `file PATH MODE UID GID HEX`,
+/// `user NAME`, `hide SERVER PATH` and `set NAME VALUE`; blank lines and comments are passed over.
+/// `server` makes a tree of a root alone, and `dir` and `file` add to the last server above them;
+/// `dir /` changes its root.
+///
+/// The first bad line, and the first fault of [`LineFault`] that it has, is
+/// [`WorldError::BadWorld`]. A text without bad lines and without a server is that too, with the
+/// line 0 and [`LineFault::NoServer`]. Want of memory is [`WorldError::NoMemory`].
+pub fn read_world<T: Tree>(alloc: T::Alloc, text: &str) -> Result<World<T>, WorldError>
+    ensures ok { IfOk result (λ world. world_of text.now ≡ Ok world) }
+    ensures err { IfErr result (λ error. Tells error (world_of text.now)) }
+{
+    let mut world = World::new(alloc);
+    for statement in &statements(alloc, text)? {
+        read_statement(alloc, &mut world, statement)?;
+    }
+    if world.servers.is_empty() {
+        return Err(WorldError::BadWorld {
+            line: 0,
+            kind: LineFault::NoServer,
+        });
+    }
+    Ok(world)
+}
+
+// Makes the change of one statement.
+fn read_statement<T: Tree, A: Allocator>(
+    alloc: T::Alloc,
+    world: &mut World<T>,
+    statement: &Statement<'_, A>,
+) -> Result<(), WorldError>
+    ensures { Steps (read_statement world.old (statement_value statement.now)) world.new result }
+{
+    match read_line(alloc, world, statement.words.as_slice()) {
+        Ok(()) => Ok(()),
+        Err(LineError::Bad(kind)) => Err(WorldError::BadWorld {
+            line: statement.line,
+            kind,
+        }),
+        Err(LineError::NoMemory) => Err(WorldError::NoMemory),
+    }
+}
+
+/// What the first word of a line asks for.
+#[derive(Clone, Copy)]
+enum Operation {
+    Server,
+    Dir,
+    File,
+    User,
+    Hide,
+    Set,
+}
+
+// Makes the change of a line of these words.
+fn read_line<T: Tree>(
+    alloc: T::Alloc,
+    world: &mut World<T>,
+    words: &[&str],
+) -> Result<(), LineError>
+    ensures { Makes (line_meaning (map (λ w. w.now) words.now) world.old) world.old world.new result }
+{
+    let [word, words @ ..] = words else {
+        return Err(LineError::Bad(LineFault::UnknownWord));
+    };
+    let Some(operation) = operation_of(word) else {
+        return Err(LineError::Bad(LineFault::UnknownWord));
+    };
+    match operation {
+        Operation::Server => server_line(alloc, world, words),
+        Operation::Dir => dir_line(alloc, world, words),
+        Operation::File => file_line(alloc, world, words),
+        Operation::User => user_line(world, words),
+        Operation::Hide => hide_line(alloc, world, words),
+        Operation::Set => set_line(alloc, world, words),
+    }
+}
+
+fn operation_of(word: &str) -> Option<Operation>
+    ensures { result ≡ operation_of word.now }
+{
+    if word == "server" {
+        Some(Operation::Server)
+    } else if word == "dir" {
+        Some(Operation::Dir)
+    } else if word == "file" {
+        Some(Operation::File)
+    } else if word == "user" {
+        Some(Operation::User)
+    } else if word == "hide" {
+        Some(Operation::Hide)
+    } else if word == "set" {
+        Some(Operation::Set)
+    } else {
+        None
+    }
+}
+
+fn server_line<T: Tree>(
+    alloc: T::Alloc,
+    world: &mut World<T>,
+    words: &[&str],
+) -> Result<(), LineError>
+    ensures { Makes (operated Server (map (λ w. w.now) words.now) world.old) world.old world.new result }
+{
+    match words {
+        [name] => add_server(alloc, world, name),
+        _ => Err(LineError::Bad(LineFault::WordCount)),
+    }
+}
+
+fn dir_line<T: Tree>(alloc: T::Alloc, world: &mut World<T>, words: &[&str]) -> Result<(), LineError>
+    ensures { Makes (operated Dir (map (λ w. w.now) words.now) world.old) world.old world.new result }
+{
+    match words {
+        [path, mode, uid, gid] => add_dir(alloc, world, path, mode, uid, gid),
+        _ => Err(LineError::Bad(LineFault::WordCount)),
+    }
+}
+
+fn file_line<T: Tree>(
+    alloc: T::Alloc,
+    world: &mut World<T>,
+    words: &[&str],
+) -> Result<(), LineError>
+    ensures { Makes (operated File (map (λ w. w.now) words.now) world.old) world.old world.new result }
+{
+    match words {
+        [path, mode, uid, gid, hex] => add_file(alloc, world, path, mode, uid, gid, hex),
+        _ => Err(LineError::Bad(LineFault::WordCount)),
+    }
+}
+
+fn user_line<T: Tree>(world: &mut World<T>, words: &[&str]) -> Result<(), LineError>
+    ensures { Makes (operated User (map (λ w. w.now) words.now) world.old) world.old world.new result }
+{
+    match words {
+        [name] => add_user(world, name),
+        _ => Err(LineError::Bad(LineFault::WordCount)),
+    }
+}
+
+fn hide_line<T: Tree>(
+    alloc: T::Alloc,
+    world: &mut World<T>,
+    words: &[&str],
+) -> Result<(), LineError>
+    ensures { Makes (operated Hide (map (λ w. w.now) words.now) world.old) world.old world.new result }
+{
+    match words {
+        [server, path] => hide(alloc, world, server, path),
+        _ => Err(LineError::Bad(LineFault::WordCount)),
+    }
+}
+
+fn set_line<T: Tree>(alloc: T::Alloc, world: &mut World<T>, words: &[&str]) -> Result<(), LineError>
+    ensures { Makes (operated Set (map (λ w. w.now) words.now) world.old) world.old world.new result }
+{
+    match words {
+        [name, value] => set_variable(alloc, world, name, value),
+        _ => Err(LineError::Bad(LineFault::WordCount)),
+    }
+}

@@ -1,0 +1,57 @@
+//! Lines `server NAME`.
+
+ghost use Rattle.std.specs.Prelude.{◌≡◌, map, string_bytes};
+ghost use Rattle.std.specs.List.{list_any};
+ghost use Rattle.p9_world.specs.Meaning.{Makes};
+ghost use Rattle.p9_world.specs.Server.{is_reserved, is_server_name, server_line, server_number};
+
+use crate::error::{LineError, LineFault};
+use crate::world::{SERVERS_MAX, World};
+use p9_tree::Tree;
+use std::alloc::Allocator;
+
+/// A server of this name, with a root of mode 755 that belongs to `sys`, joins behind the others.
+pub fn add_server<T: Tree>(
+    alloc: T::Alloc,
+    world: &mut World<T>,
+    name: &str,
+) -> Result<(), LineError>
+    ensures { Makes (server_line name.now world.old) world.old world.new result }
+{
+    if !is_server_name(name) {
+        return Err(LineError::Bad(LineFault::BadName));
+    }
+    if server_number(name, world.servers.as_slice()).is_some() {
+        return Err(LineError::Bad(LineFault::Duplicate));
+    }
+    if world.servers.len() >= SERVERS_MAX {
+        return Err(LineError::Bad(LineFault::TooMany));
+    }
+    let tree = T::with_root(alloc)?;
+    let name = String::from_str(alloc, name)?;
+    world.forest.trees.reserve(1)?;
+    world.servers.push(name)?;
+    world.forest.trees.push(tree).unwrap();
+    Ok(())
+}
+
+/// The number of the server of this name.
+pub fn server_number<A: Allocator>(name: &str, servers: &[String<A>]) -> Option<usize>
+    ensures { result ≡ server_number name.now (map string_bytes servers.now) }
+{
+    servers.iter().position(|other| other.as_str() == name)
+}
+
+// Whether a server may be called so.
+fn is_server_name(name: &str) -> bool
+    ensures { result ≡ is_server_name name.now }
+{
+    1 <= name.len() && name.len() <= 63 && !has_reserved(name)
+}
+
+fn has_reserved(name: &str) -> bool
+    ensures { result ≡ list_any is_reserved name.now }
+{
+    name.bytes()
+        .any(|b| b == b'/' || b == b'#' || b == b'$' || b == 0)
+}

@@ -1,0 +1,51 @@
+//! Lines `set NAME VALUE`.
+
+ghost use Rattle.std.specs.Prelude.{◌≡◌, ◌==◌, ◌||◌, map, string_bytes};
+ghost use Rattle.std.specs.List.{list_any};
+ghost use Rattle.p9_world.specs.Meaning.{Makes};
+ghost use Rattle.p9_world.specs.Variable.{is_set, is_variable_name, set_line};
+
+use crate::error::{LineError, LineFault};
+use crate::world::World;
+use p9_tree::Tree;
+use std::alloc::Allocator;
+
+/// A variable of this name and value joins the others.
+pub fn set_variable<T: Tree>(
+    alloc: T::Alloc,
+    world: &mut World<T>,
+    name: &str,
+    value: &str,
+) -> Result<(), LineError>
+    ensures { Makes (set_line name.now value.now world.old) world.old world.new result }
+{
+    if !is_variable_name(name) {
+        return Err(LineError::Bad(LineFault::BadName));
+    }
+    if is_set(name, world.vars.as_slice()) {
+        return Err(LineError::Bad(LineFault::Duplicate));
+    }
+    let name = String::from_str(alloc, name)?;
+    let value = String::from_str(alloc, value)?;
+    world.vars.push((name, value))?;
+    Ok(())
+}
+
+fn is_set<A: Allocator>(name: &str, vars: &[(String<A>, String<A>)]) -> bool
+    ensures { result ≡ is_set name.now (map (λ var. (string_bytes var.0, string_bytes var.1)) vars.now) }
+{
+    vars.iter().any(|var| var.0.as_str() == name)
+}
+
+// Whether a variable may be called so.
+fn is_variable_name(name: &str) -> bool
+    ensures { result ≡ is_variable_name name.now }
+{
+    1 <= name.len() && !has_mark(name)
+}
+
+fn has_mark(name: &str) -> bool
+    ensures { result ≡ list_any (λ b. b == 47 || b == 36) name.now }
+{
+    name.bytes().any(|b| b == b'/' || b == b'$')
+}

@@ -1,0 +1,67 @@
+//! A world, as the lines of its text make it.
+
+ghost use Rattle.std.specs.Prelude.{◌≡◌};
+ghost use Rattle.p9_world.specs.World.{IsWorld, empty_world};
+
+use p9_base::{NodeRef, User};
+use p9_tree::{Forest, Tree};
+use std::marker::Model;
+
+/// The most servers that a world has.
+pub const SERVERS_MAX: usize = 65_536;
+
+/// What a user describes: servers with their trees and names, users, hidden directories and
+/// variables.
+///
+/// The forest is well-formed, as every [`Forest`] is. Each tree has one name, which no other has,
+/// and each hidden number lies below its server's next number. Contracts see a world as the plain
+/// lists.
+#[derive(Drop)]
+pub struct World<T: Tree> {
+    /// The servers' trees, by number.
+    pub forest: Forest<T>,
+    /// The users, in the order of their lines.
+    pub users: Vec<User, T::Alloc>,
+    /// The hidden directories, in the order of their lines.
+    pub hidden: Vec<NodeRef, T::Alloc>,
+    /// The variables with their values, in the order of their lines.
+    pub vars: Vec<(String<T::Alloc>, String<T::Alloc>), T::Alloc>,
+    /// The servers' names, by number.
+    pub servers: Vec<String<T::Alloc>, T::Alloc>,
+}
+
+impl<T: Tree> Model for World<T> {
+    ghost use Rattle.std.specs.Prelude.{map, string_bytes};
+    ghost use Rattle.p9_world.specs.World.{IsWorld, World as WorldOf};
+
+    ghost Value = { WorldOf };
+
+    ghost view = { λ w. record { forest = map T.state w.forest.trees.items; users = w.users.items; hidden = w.hidden.items; vars = map (λ var. (string_bytes var.0, string_bytes var.1)) w.vars.items; servers = map string_bytes w.servers.items } };
+
+    ghost invariant = { λ w. IsWorld (record { forest = map T.state w.forest.trees.items; users = w.users.items; hidden = w.hidden.items; vars = map (λ var. (string_bytes var.0, string_bytes var.1)) w.vars.items; servers = map string_bytes w.servers.items }) };
+}
+
+impl<T: Tree> World<T> {
+    // The world of no lines. This takes no memory.
+    pub(crate) fn new(alloc: T::Alloc) -> World<T>
+        ensures { result ≡ empty_world }
+    {
+        World {
+            forest: Forest {
+                trees: Vec::new(alloc),
+            },
+            users: Vec::new(alloc),
+            hidden: Vec::new(alloc),
+            vars: Vec::new(alloc),
+            servers: Vec::new(alloc),
+        }
+    }
+
+    /// Each tree has one name, which no other has, and each hidden number lies below its server's
+    /// next number. This does nothing when it runs; it is for a caller that has to know so.
+    pub fn well_formed(&self)
+        ensures { IsWorld self.now }
+    {
+        let _forest = &self.forest;
+    }
+}
