@@ -1,7 +1,7 @@
 -- What the outcomes of opens, creates, reads and writes leave.
 use Rattle.std.proofs.Common.{◌≡◌, ℕ, suc, ◌+◌, ◌-◌, ◌<◌, ◌≤◌, ◌&&◌, ◌||◌, Bool, true, false, List, [], ◌∷◌, ◌++◌, ◌⊎◌, inl, inr, Option, Some, None, Result, Ok, Err, refl, sym, ap, ◌∙◌, subst, arith, IsTrue, length, length-append, get_or}
 use Rattle.std.specs.Prelude.{◌==◌, is_none, not, slice_get, slice_index_or, min, if◌then◌else◌}
-use Rattle.std.specs.List.{AllByRecursion}
+use Rattle.std.specs.List.{AllByRecursion, list_all}
 use Rattle.std.specs.Map.{lookup}
 use Rattle.std.proofs.Math.Seq.{get_or-append_seam}
 use Rattle.std.proofs.lemmas.Bool.{and_parts}
@@ -36,7 +36,7 @@ use Rattle.p9_export.specs.Listing.{Entry, listing_behind}
 use Rattle.p9_export.specs.Open.{is_cut, open_answer, opened_session, room_of, truncation}
 use Rattle.p9_export.specs.Opening.{is_plain_read, is_read, newly_opened}
 use Rattle.p9_export.specs.Read.{cursor_at, fitting, given_of, listed_session, read_answer, read_dir, read_file, readable}
-use Rattle.p9_export.specs.Sound.{IsBelow, IsRowBelow, IsTableBelow}
+use Rattle.p9_export.specs.Sound.{IsMsize, is_given, is_row_given, is_table_given}
 use Rattle.p9_export.specs.Write.{write_answer, write_file, write_place}
 use Rattle.p9_export.proofs.Changes.{AllLawful, evolves-all, evolves-applied, keeps-cut, keeps-mark, keeps-overwrite, keeps-touch}
 use Rattle.p9_export.proofs.Done.{OnDone, done-err, done-given, done-need, done-ok, done-then, done-unless}
@@ -119,7 +119,7 @@ fit-opened table f g v n o sound evolves found test p is =
         let this : n ≡ was.0 = cc in
         dir-reads o (is_dir n) test (ap is_dir this ∙ was.2 ∙ dir)
 
-module _ (setting : Setting) (forest : List Server) (session : Session) (sound : IsForest forest) (fits : FidsFit setting.table forest session.fids) where
+module _ (setting : Setting) (forest : List Server) (session : Session) (sound : IsForest forest) (fits : FidsFit setting.table forest session.fids) (short : IsMsize session.msize) where
   opened-kept : (now fid : ℕ) (v : Fid) (n : Node) (o : Opening) (reply : RMessage) → fid_at fid session.fids ≡ Some v → fid_file setting.table forest v ≡ Some n → (not (is_dir n) || is_plain_read o) ≡ true → Kept setting.table forest (record { changes = truncation v.user now (fid_ref setting.table v) n o; session = opened_session fid o session; reply = reply })
   opened-kept now fid v n o reply found file test =
       let changes = truncation v.user now (fid_ref setting.table v) n o in
@@ -129,6 +129,7 @@ module _ (setting : Setting) (forest : List Server) (session : Session) (sound :
       record {
         lawful = lawful;
         fids = fits-changed setting.table (all_applied changes forest) fid (opened_as (newly_opened o)) session.fids v found (fit-opened setting.table forest (all_applied changes forest) v n o sound evolves file test) after;
+        msize = short;
       }
 
   pub kept-open : (taken : Bool) (now fid bits : ℕ) → OnDone (Kept setting.table forest) (open_answer setting forest taken session now fid bits)
@@ -152,7 +153,7 @@ module _ (setting : Setting) (forest : List Server) (session : Session) (sound :
   kept-listed : (fid : ℕ) (v : Fid) (o : Opened) (offset : ℕ) (cursor : Option Cursor) (given : List Entry) (reply : RMessage) → fid_at fid session.fids ≡ Some v → v.opened ≡ Some o → Kept setting.table forest (record { changes = []; session = listed_session fid o offset cursor given session; reply = reply })
   kept-listed fid v o offset cursor given reply found is =
       kept-quiet setting.table forest (listed_session fid o offset cursor given session) reply
-      (fits-changed setting.table forest fid _ session.fids v found (fit-read v o _ (FidsFit-fid_at setting.table forest session.fids fid v fits found) is refl refl) fits)
+      (fits-changed setting.table forest fid _ session.fids v found (fit-read v o _ (FidsFit-fid_at setting.table forest session.fids fid v fits found) is refl refl) fits) short
 
   kept-given_of : (fid : ℕ) (v : Fid) (o : Opened) (offset : ℕ) (cursor : Option Cursor) (left given : List Entry) → fid_at fid session.fids ≡ Some v → v.opened ≡ Some o → OnDone (Kept setting.table forest) (given_of session fid o offset cursor left given)
   kept-given_of fid v o offset cursor [] given found is = done-ok (Kept setting.table forest) _ (kept-listed fid v o offset cursor given _ found is)
@@ -172,14 +173,14 @@ module _ (setting : Setting) (forest : List Server) (session : Session) (sound :
       done-given (Kept setting.table forest) _ _ _ (λ v found. done-given (Kept setting.table forest) _ _ _ (λ o open. done-given (Kept setting.table forest) _ _ _ (λ n file.
       done-if (Kept setting.table forest) (is_dir n) (read_dir setting forest session fid v o offset (min count (room_of session))) (read_file session now (fid_ref setting.table v) n offset (min count (room_of session)))
         (done-need (Kept setting.table forest) _ _ _ (λ begins. kept-given_of fid v o offset (cursor_at offset o) _ _ found (readable-is v.opened o open)))
-        (done-ok (Kept setting.table forest) _ (kept-changes setting.table forest (EditNode (fid_ref setting.table v) (Touch now) ∷ []) session _ sound ((λ m there. keeps-touch now m), tt) fits)))))
+        (done-ok (Kept setting.table forest) _ (kept-changes setting.table forest (EditNode (fid_ref setting.table v) (Touch now) ∷ []) session _ sound ((λ m there. keeps-touch now m), tt) fits short)))))
 
   -- Writes.
 
   kept-write_file : (now : ℕ) (v : Fid) (at : NodeRef) (n : Node) (offset : ℕ) (bytes : List ℕ) → OnDone (Kept setting.table forest) (write_file session now v at n offset bytes)
-  kept-write_file now v at n offset [] = done-ok (Kept setting.table forest) _ (kept-quiet setting.table forest session _ fits)
+  kept-write_file now v at n offset [] = done-ok (Kept setting.table forest) _ (kept-quiet setting.table forest session _ fits short)
   kept-write_file now v at n offset (b ∷ bs) =
-      done-need (Kept setting.table forest) _ _ _ (λ e. done-ok (Kept setting.table forest) _ (kept-changes setting.table forest _ session _ sound ((λ m there. keeps-overwrite _ _ m), (λ m there. keeps-mark v.user now m), tt) fits))
+      done-need (Kept setting.table forest) _ _ _ (λ e. done-ok (Kept setting.table forest) _ (kept-changes setting.table forest _ session _ sound ((λ m there. keeps-overwrite _ _ m), (λ m there. keeps-mark v.user now m), tt) fits short))
 
   pub kept-write : (now fid offset : ℕ) (bytes : List ℕ) → OnDone (Kept setting.table forest) (write_answer setting forest session now fid offset bytes)
   kept-write now fid offset bytes =
@@ -195,16 +196,19 @@ same-is a b e =
     let numbers : a.number ≡ b.number = grind (arith, nat_tests) in
     ap (λ s. record { server = s; number = a.number }) servers ∙ ap (λ k. record { server = b.server; number = k }) numbers
 
-no-row : (forest : List Server) (table : List MountRow) (at : NodeRef) → IsTableBelow forest table → at.number ≡ next_of at.server forest → row_of at table ≡ None
+no-row : (forest : List Server) (table : List MountRow) (at : NodeRef) → is_table_given forest table ≡ true → at.number ≡ next_of at.server forest → row_of at table ≡ None
 no-row forest [] at below new = refl
-no-row forest (row ∷ rows) at below new = go (same_node at row.0) refl (no-row forest rows at below.1 new)
+no-row forest (row ∷ rows) at below new =
+    let parts = and_parts (is_row_given forest row) (is_table_given forest rows) below in
+    let here = and_parts (is_given forest row.0) (list_all (λ m. is_given forest m.node) row.1) parts.0 in
+    go (same_node at row.0) refl here.0 (no-row forest rows at parts.1 new)
   where
-    go : (b : Bool) → same_node at row.0 ≡ b → row_of at rows ≡ None → row_of at (row ∷ rows) ≡ None
-    go true e later = let lt : at.number < next_of at.server forest = subst (λ r. IsBelow forest r) (sym (same-is at row.0 e)) below.0.0 in absurd (omega arith)
-    go false e later = rw e later
+    go : (b : Bool) → same_node at row.0 ≡ b → is_given forest row.0 ≡ true → row_of at rows ≡ None → row_of at (row ∷ rows) ≡ None
+    go true e given later = let its : is_given forest at ≡ true = subst (λ r. is_given forest r ≡ true) (sym (same-is at row.0 e)) given in absurd (grind (arith, nat_tests))
+    go false e given later = rw e later
 
 -- so it is its own file
-new-file : (forest : List Server) (table : List MountRow) (at : NodeRef) → IsTableBelow forest table → at.number ≡ next_of at.server forest → file_ref at table ≡ at
+new-file : (forest : List Server) (table : List MountRow) (at : NodeRef) → is_table_given forest table ≡ true → at.number ≡ next_of at.server forest → file_ref at table ≡ at
 new-file forest table at below new = rw (no-row forest table at below new) refl
 
 -- a trail ends at the place that was pushed
@@ -214,7 +218,7 @@ here-pushed trail at =
     let last : length (trail ++ at ∷ []) - 1 ≡ length trail = omega arith in
     rw last (get_or-append_seam trail at [] (record { server = 0; number = 0 }))
 
-module _ (table : List MountRow) (f : List Server) (sound : IsForest f) (below : IsTableBelow f table) (target : NodeRef) (dir n : Node) (user : List ℕ) (now : ℕ) (there : node_of target f ≡ Some dir) (number : n.number ≡ next_of target.server f) where
+module _ (table : List MountRow) (f : List Server) (sound : IsForest f) (below : is_table_given f table ≡ true) (target : NodeRef) (dir n : Node) (user : List ℕ) (now : ℕ) (there : node_of target f ≡ Some dir) (number : n.number ≡ next_of target.server f) where
   h : List Server
   h = applied (AddNode target.server n) f
 
@@ -255,9 +259,9 @@ module _ (table : List MountRow) (f : List Server) (sound : IsForest f) (below :
         | inr new ↦ sym in_h.3 ∙ ap is_dir new
       ]
 
-module _ (setting : Setting) (forest : List Server) (session : Session) (sound : IsForest forest) (below : IsTableBelow forest setting.table) (fits : FidsFit setting.table forest session.fids) where
+module _ (setting : Setting) (forest : List Server) (session : Session) (sound : IsForest forest) (below : is_table_given forest setting.table ≡ true) (fits : FidsFit setting.table forest session.fids) (short : IsMsize session.msize) where
   kept-creation : (now fid : ℕ) (v : Fid) (target : NodeRef) (dir : Node) (name : List ℕ) (asked : Mode) (o : Opening) → fid_at fid session.fids ≡ Some v → node_of target forest ≡ Some dir → (not (is_dir_mode asked) || is_plain_read o) ≡ true → OnDone (Kept setting.table forest) (creation forest session now fid v target dir name asked o)
-  kept-creation now fid v target dir name asked o found there test = done-ok (Kept setting.table forest) _ (record { lawful = lawful; fids = fits-changed setting.table after fid _ session.fids v found fit kept })
+  kept-creation now fid v target dir name asked o found there test = done-ok (Kept setting.table forest) _ (record { lawful = lawful; fids = fits-changed setting.table after fid _ session.fids v found fit kept; msize = short })
     where
       node : Node
       node = created v.user now (next_of target.server forest) dir name asked

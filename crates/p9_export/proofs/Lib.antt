@@ -16,6 +16,7 @@ pub mod Plain
 mod Removals
 pub mod Replies
 pub mod Rows
+pub mod Sounds
 pub mod Steps
 mod Truncation
 mod Walks

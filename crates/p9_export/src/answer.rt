@@ -4,7 +4,7 @@ ghost use Rattle.std.specs.Prelude.{◌≡◌, ◌≤◌, IsSome, IfSome, drop, 
 ghost use Rattle.p9_wire.specs.Frame.{msize_max};
 ghost use Rattle.p9_wire.specs.Message.{t_view};
 ghost use Rattle.p9_export.specs.Answers.{AnswersAmong, CanWrite, answer_among, replied, reply_view};
-ghost use Rattle.p9_export.specs.End.{FidsFit};
+ghost use Rattle.p9_export.specs.Sound.{IsSessionSound};
 ghost use Rattle.p9_export.specs.State.{session_at};
 ghost use Rattle.p9_export.specs.Step.{finds_taken, may_run_out};
 
@@ -15,8 +15,11 @@ use crate::session::Session;
 use crate::setting::Setting;
 use p9_base::Fault;
 use p9_tree::{Forest, Tree};
-use p9_wire::TMsg;
+use p9_wire::{MSIZE_MAX, TMsg};
 use std::collections::BTreeMap;
+
+// The bytes of a reply to a read before its data: the header and their count.
+const BEFORE_DATA: usize = 11;
 
 /// Answers a request of the session of this name. What a read gives is put behind the first 11 bytes
 /// of the reply.
@@ -30,7 +33,7 @@ pub fn answer<T: Tree>(
     reply: &mut [u8],
 ) -> Result<Reply, Fault>
     requires live { IsSome (session_at name sessions.old.entries) }
-    requires fids { IfSome (session_at name sessions.old.entries) (λ session. FidsFit setting.now.table (map T.state forest.old.trees.items) session.fids) }
+    requires sound { IfSome (session_at name sessions.old.entries) (IsSessionSound setting.now.table (map T.state forest.old.trees.items)) }
     requires room { msize_max ≤ length reply.old }
     ensures reply { CanWrite result }
     ensures len { length reply.new ≡ length reply.old }
@@ -39,7 +42,7 @@ pub fn answer<T: Tree>(
     let session = sessions.get(&name).unwrap();
     let taken = finds_taken(setting, forest, sessions, session, request);
     let session = sessions.get_mut(&name).unwrap();
-    let (_, buffer) = reply.split_at_mut(11);
+    let buffer = &mut reply[BEFORE_DATA..MSIZE_MAX as usize];
     message(setting, forest, session, taken, now, request, buffer)
 }
 

@@ -2,6 +2,7 @@
 
 ghost use Rattle.std.specs.Prelude.{◌≡◌, ◌≤◌, ◌↔◌, [], Err, None, false, IsSome, IsTrue, OnErr, OnOk, length, map, take};
 ghost use Rattle.p9_export.specs.Event.{Closing, Opening, Request, is_frame};
+ghost use Rattle.p9_export.specs.Sound.{is_table_given};
 ghost use Rattle.p9_export.specs.State.{session_at};
 ghost use Rattle.p9_export.specs.Step.{is_no_memory_reply, step};
 ghost use Rattle.p9_wire.specs.Frame.{msize_max};
@@ -40,21 +41,26 @@ pub struct Export<T: Tree> {
 
 impl<T: Tree> Model for Export<T> {
     ghost use Rattle.std.specs.Prelude.{map};
+    ghost use Rattle.p9_export.specs.Sound.{IsSound};
     ghost use Rattle.p9_export.specs.State.{State};
 
     ghost Value = { State };
 
     ghost view = { λ e. record { setting = e.setting; forest = map T.state e.forest.trees.items; sessions = e.sessions.entries } };
+
+    ghost invariant = { λ e. IsSound e.setting.table (map T.state e.forest.trees.items) e.sessions.entries };
 }
 
 impl<T: Tree> Export<T> {
     /// An exporter of these trees by this mount table, to these users, without sessions. This takes
-    /// no memory.
+    /// no memory. No key and no member of the table is a node that is still to be made: [`is_table_given`]
+    /// tests that.
     pub fn new(
         forest: Forest<T>,
         users: Vec<User, T::Alloc>,
         table: MountTable<T::Alloc>,
     ) -> Export<T>
+        requires { IsTrue (is_table_given (map T.state forest.trees.items) table) }
         ensures { result ≡ record { setting = record { users = users.items; table = table }; forest = map T.state forest.trees.items; sessions = [] } }
     {
         let alloc = *users.allocator();

@@ -10,6 +10,7 @@ mod end;
 mod event;
 mod export;
 mod frame;
+mod given;
 mod inherit;
 mod listing;
 mod message;
@@ -31,5 +32,6 @@ mod write;
 
 pub use event::{Event, is_frame};
 pub use export::{Export, OpenError};
+pub use given::is_table_given;
 pub use session::Session;
 pub use version::MSIZE_MIN;

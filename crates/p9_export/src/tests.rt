@@ -8,7 +8,7 @@ mod walk;
 mod worlds;
 mod write;
 
-use crate::{Export, OpenError, is_frame};
+use crate::{Export, OpenError, is_frame, is_table_given};
 use p9_base::User;
 use p9_refusing::{Refusing, refuse_each};
 use p9_space::MountTable;
@@ -37,7 +37,10 @@ fn exporter<A: Allocator + Copy>(rt: &impl Abort, alloc: A) -> Export<PlainTree<
     let mut users = Vec::new(alloc);
     let glenda = User::new("glenda").expect(rt, "a user");
     assert!(rt; users.push(glenda).is_ok());
-    Export::new(Forest { trees }, users, MountTable::new(alloc))
+    let forest = Forest { trees };
+    let table = MountTable::new(alloc);
+    assert!(rt; is_table_given(&forest, &table));
+    Export::new(forest, users, table)
 }
 
 // Sends a frame in a session, and compares the reply.

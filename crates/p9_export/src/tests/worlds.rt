@@ -1,7 +1,7 @@
 //! The sample worlds, and a session on one of them.
 
 use super::{ATTACH, ATTACH_REPLY, VERSION, VERSION_REPLY, exchange};
-use crate::Export;
+use crate::{Export, is_table_given};
 use p9_base::{Mode, Name, NodeRef, User};
 use p9_space::{MountTable, Order};
 use p9_tree::{FILE_MAX, Forest, NEXT_MAX, New, PlainTree, Tree};
@@ -110,7 +110,7 @@ pub fn serve<A: Allocator + Copy>(
     let mut users = Vec::new(alloc);
     let glenda = User::new("glenda").expect(rt, "a user");
     assert!(rt; users.push(glenda).is_ok());
-    assert!(rt; is_below(&forest, &table));
+    assert!(rt; is_table_given(&forest, &table));
     Export::new(forest, users, table)
 }
 
