@@ -34,10 +34,10 @@ use std::alloc::Allocator;
 /// is open, [`Fault::FidOpen`]; the name isn't valid, [`Fault::BadFileName`]; the mode or `perm`
 /// means nothing, [`Fault::BadOpenMode`]; a directory is asked for anything but to be read,
 /// [`Fault::IsDirectory`]; no member exists, [`Fault::PhaseError`]; none is a directory,
-/// [`Fault::NotDirectory`]; none permits creation, [`Fault::CreationForbidden`]; the first that does
-/// doesn't exist, [`Fault::PhaseError`], or is no directory, [`Fault::NotDirectory`]; the user may not
-/// write it, [`Fault::PermissionDenied`]; it has that name, [`Fault::FileExists`]; the server's numbers
-/// are used up, [`Fault::QidsUsedUp`]; the fid's trail has [`PLACES_MAX`] places,
+/// [`Fault::NotDirectory`]; none permits creation, [`Fault::CreationForbidden`]; the first that
+/// does doesn't exist, [`Fault::PhaseError`], or is no directory, [`Fault::NotDirectory`]; the user
+/// may not write it, [`Fault::PermissionDenied`]; it has that name, [`Fault::FileExists`]; the
+/// server's numbers are used up, [`Fault::QidsUsedUp`]; the fid's trail has [`PLACES_MAX`] places,
 /// [`Fault::PathTooDeep`]. Else memory may be refused, [`Fault::OutOfMemory`].
 pub fn create<T: Tree>(
     setting: &Setting<T::Alloc>,

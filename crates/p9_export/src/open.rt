@@ -70,9 +70,9 @@ pub fn is_taken<T: Tree>(
     }
 }
 
-/// Opens a fid for what the mode's bits ask, and answers the qid of its file and the session's room.
-/// Truncation cuts the file to nothing and marks it, but leaves an append-only file. `taken` says
-/// that the file is in use, as [`is_taken`].
+/// Opens a fid for what the mode's bits ask, and answers the qid of its file and the session's
+/// room. Truncation cuts the file to nothing and marks it, but leaves an append-only file. `taken`
+/// says that the file is in use, as [`is_taken`].
 ///
 /// The first that applies refuses, and leaves all: there is no such fid, [`Fault::UnknownFid`]; it
 /// is open, [`Fault::FidOpen`]; its file doesn't exist, [`Fault::PhaseError`]; the mode means

@@ -22,9 +22,9 @@ use std::alloc::Allocator;
 /// written: all of them. No bytes change nothing.
 ///
 /// The first that applies refuses, and leaves all: there is no such fid, [`Fault::UnknownFid`]; it
-/// isn't open for writing, [`Fault::FidNotOpen`]; its file doesn't exist, [`Fault::PhaseError`]; the
-/// file would have more than [`FILE_MAX`] bytes, [`Fault::FileTooLarge`]. Else memory may be refused,
-/// [`Fault::OutOfMemory`].
+/// isn't open for writing, [`Fault::FidNotOpen`]; its file doesn't exist, [`Fault::PhaseError`];
+/// the file would have more than [`FILE_MAX`] bytes, [`Fault::FileTooLarge`]. Else memory may be
+/// refused, [`Fault::OutOfMemory`].
 pub fn write<T: Tree>(
     setting: &Setting<T::Alloc>,
     forest: &mut Forest<T>,
