@@ -363,18 +363,19 @@ fn exchange_again<T: Tree>(
     export: &mut Export<T>,
     row: (&'static str, &'static str),
 ) {
-    let frame = hex::decode(alloc, row.0).expect(rt, "hexadecimal digits");
+    let (request, wanted) = row;
+    let frame = hex::decode(alloc, request).expect(rt, "hexadecimal digits");
     let mut reply = vec![in alloc; 0u8; 65_536].expect(rt, "a buffer");
     assert!(rt; is_frame(frame.as_slice()));
     assert!(rt; export.live(1));
     let size = export.message(1, frame.as_slice(), 0, reply.as_mut_slice());
     let text = hex::encode(alloc, &reply[..size]).expect(rt, "a text");
-    if text.as_str() != row.1 {
+    if text.as_str() != wanted {
         assert_eq!(rt;
             text.as_str(),
             "160000006b01000d006f7574206f66206d656d6f7279"
         );
-        exchange(rt, alloc, export, 1, row);
+        exchange(rt, alloc, export, 1, (request, wanted));
     }
 }
 
