@@ -17,6 +17,7 @@ FidsFit-fid_at table forest (row ∷ rows) fid v fit found = go (is_at (nat_cmp 
     go true e later = let here : Some row.1 ≡ Some v = rw e at found in let same : row.1 ≡ v = cc in subst (λ (w : Fid). FidFits table forest w) same fit.0
     go false e later = let further : fid_at fid rows ≡ Some v = rw e at found in later further
 
+-- without an entry that isn't there
 remove_entry-none : {X : Type 0} (test : ℕ → Bool) (rows : List (ℕ × X)) → lookup test rows ≡ None → remove_entry test rows ≡ rows
 remove_entry-none test [] none = refl
 remove_entry-none test (row ∷ rows) none = go (test row.0) refl (remove_entry-none test rows)

@@ -71,6 +71,7 @@ ended_walk-user fid newfid v w session trail None qids same = rw same
 ended_walk-user fid newfid v w session trail (Some fault) [] same = refl
 ended_walk-user fid newfid v w session trail (Some fault) (qid ∷ qids) same = refl
 
+-- what is not open is nothing
 closed-is_none : (o : Option Opened) → is_some o ≡ false → is_none o ≡ true
 closed-is_none None closed = refl
 closed-is_none (Some x) closed = cc

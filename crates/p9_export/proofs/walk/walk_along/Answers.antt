@@ -3,6 +3,7 @@ use Rattle.p9_export.proofs.Walks.{file-step_of, walked-all, walked-end, walked-
 use Rattle.p9_export.specs.State.{Setting}
 use Rattle.p9_export.proofs.walk.walk_along.Goals as goal
 
+-- what stands for a name past the last
 nameless : Bor (List ℕ)
 nameless = record { ref_ptr = (0, 0); now = [] }
 
