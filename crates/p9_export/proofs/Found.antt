@@ -38,7 +38,7 @@ server_at-tree_changed_at at change forest n found =
 
 node_at-changed_same : (k : ℕ) (f : Node → Node) (keeps : KeepsPlace f) (s : Server) (n : Node) → node_at k s.nodes ≡ Some n → node_at k (with_changed k f s).nodes ≡ Some (f n)
 node_at-changed_same k f keeps s n found =
-    let e = node_at-changed_at k f keeps k s.nodes in
+    let e = node_at-changed_at k f keeps.in_dir k s.nodes in
     grind (arith, nat_tests, e)
 
 -- a look-up of a node after its change finds the changed node

@@ -1,6 +1,6 @@
 -- What the outcomes of opens, creates, reads and writes leave.
 use Rattle.std.proofs.Common.{◌≡◌, ℕ, suc, ◌+◌, ◌-◌, ◌<◌, ◌≤◌, ◌&&◌, ◌||◌, Bool, true, false, List, [], ◌∷◌, ◌++◌, ◌⊎◌, inl, inr, Option, Some, None, Result, Ok, Err, refl, sym, ap, ◌∙◌, subst, arith, IsTrue, length, length-append, get_or}
-use Rattle.std.specs.Prelude.{◌==◌, is_none, not, slice_get, slice_index_or, min, if◌then◌else◌}
+use Rattle.std.specs.Prelude.{◌==◌, is_none, not, slice_get, slice_index_or, min, unwrap_or, if◌then◌else◌}
 use Rattle.std.specs.List.{AllByRecursion, list_all}
 use Rattle.std.specs.Map.{lookup}
 use Rattle.std.proofs.Math.Seq.{get_or-append_seam}
@@ -12,7 +12,7 @@ use Rattle.p9_base.specs.Mode.{is_dir as is_dir_mode}
 use Rattle.p9_tree.specs.Inside.{beside}
 use Rattle.p9_tree.specs.Node.{Node, has_number, is_dir}
 use Rattle.p9_tree.specs.Server.{Server, WellFormed, added, node_at}
-use Rattle.p9_tree.specs.Forest.{IsForest, next_of, node_of, server_at}
+use Rattle.p9_tree.specs.Forest.{IsForest, next_of, no_server, node_of, server_at}
 use Rattle.p9_tree.proofs.Lookups.{All-node_at, number-node_at}
 use Rattle.p9_space.specs.declared.row.Member.{Member}
 use Rattle.p9_space.specs.Place.{file_ref}
@@ -83,7 +83,7 @@ node_of-given forest at n sound found = go (slice_get forest at.server) refl
         let here : node_at at.number s.nodes ≡ Some n = rw e at found in
         let below : n.number < s.next = All-node_at (λ m. m.number < s.next) at.number s.nodes n (sound.servers at.server s e).below here in
         let same : n.number ≡ at.number = number-node_at at.number s.nodes n here in
-        rw e (subst (λ k. k < s.next) same below)
+        subst (λ p. at.number < (unwrap_or p no_server).next) (sym e) (subst (λ k. k < s.next) same below)
 
 -- so was that of any member
 member-given : (forest : List Server) (k : ℕ) (n : Node) → IsForest forest → IsMember n (server_at k forest).nodes → n.number < next_of k forest
@@ -98,7 +98,7 @@ lawful-truncation : (forest : List Server) (user : List ℕ) (now : ℕ) (at : N
 lawful-truncation forest user now at n o = go (is_cut n o) refl
   where
     go : (b : Bool) → is_cut n o ≡ b → AllLawful forest (truncation user now at n o)
-    go true e = rw e ((λ m found. keeps-cut 0 m), (λ m found. keeps-mark user now m), tt)
+    go true e = rw e ((λ m found. keeps-cut 0 m), ((λ m found. keeps-mark user now m), tt))
     go false e = rw e tt
 
 fit-opened : (table : List MountRow) (f g : List Server) (v : Fid) (n : Node) (o : Opening) → IsForest f → Evolves f g → fid_file table f v ≡ Some n → (not (is_dir n) || is_plain_read o) ≡ true → FidFits table g (opened_as (newly_opened o) v)
@@ -170,9 +170,9 @@ module _ (setting : Setting) (forest : List Server) (session : Session) (sound :
 
   pub kept-read : (now fid offset count : ℕ) → OnDone (Kept setting.table forest) (read_answer setting forest session now fid offset count)
   kept-read now fid offset count =
-      done-given (Kept setting.table forest) _ _ _ (λ v found. done-given (Kept setting.table forest) _ _ _ (λ o open. done-given (Kept setting.table forest) _ _ _ (λ n file.
+      done-given (Kept setting.table forest) _ _ _ (λ v found. done-given (Kept setting.table forest) _ _ _ (λ o held. done-given (Kept setting.table forest) _ _ _ (λ n file.
       done-if (Kept setting.table forest) (is_dir n) (read_dir setting forest session fid v o offset (min count (room_of session))) (read_file session now (fid_ref setting.table v) n offset (min count (room_of session)))
-        (done-need (Kept setting.table forest) _ _ _ (λ begins. kept-given_of fid v o offset (cursor_at offset o) _ _ found (readable-is v.opened o open)))
+        (done-need (Kept setting.table forest) _ _ _ (λ begins. kept-given_of fid v o offset (cursor_at offset o) _ _ found (readable-is v.opened o held)))
         (done-ok (Kept setting.table forest) _ (kept-changes setting.table forest (EditNode (fid_ref setting.table v) (Touch now) ∷ []) session _ sound ((λ m there. keeps-touch now m), tt) fits short)))))
 
   -- Writes.
@@ -180,11 +180,11 @@ module _ (setting : Setting) (forest : List Server) (session : Session) (sound :
   kept-write_file : (now : ℕ) (v : Fid) (at : NodeRef) (n : Node) (offset : ℕ) (bytes : List ℕ) → OnDone (Kept setting.table forest) (write_file session now v at n offset bytes)
   kept-write_file now v at n offset [] = done-ok (Kept setting.table forest) _ (kept-quiet setting.table forest session _ fits short)
   kept-write_file now v at n offset (b ∷ bs) =
-      done-need (Kept setting.table forest) _ _ _ (λ e. done-ok (Kept setting.table forest) _ (kept-changes setting.table forest _ session _ sound ((λ m there. keeps-overwrite _ _ m), (λ m there. keeps-mark v.user now m), tt) fits short))
+      done-need (Kept setting.table forest) _ _ _ (λ e. done-ok (Kept setting.table forest) _ (kept-changes setting.table forest _ session _ sound ((λ m there. keeps-overwrite _ _ m), ((λ m there. keeps-mark v.user now m), tt)) fits short))
 
   pub kept-write : (now fid offset : ℕ) (bytes : List ℕ) → OnDone (Kept setting.table forest) (write_answer setting forest session now fid offset bytes)
   kept-write now fid offset bytes =
-      done-given (Kept setting.table forest) _ _ _ (λ v found. done-need (Kept setting.table forest) _ _ _ (λ open. done-given (Kept setting.table forest) _ _ _ (λ n file. kept-write_file now v _ n offset bytes)))
+      done-given (Kept setting.table forest) _ _ _ (λ v found. done-need (Kept setting.table forest) _ _ _ (λ held. done-given (Kept setting.table forest) _ _ _ (λ n file. kept-write_file now v _ n offset bytes)))
 
 -- Creates.
 
@@ -214,29 +214,27 @@ new-file forest table at below new = rw (no-row forest table at below new) refl
 -- a trail ends at the place that was pushed
 here-pushed : (trail : List NodeRef) (at : NodeRef) → here (trail ++ at ∷ []) ≡ at
 here-pushed trail at =
-    let len : length (trail ++ at ∷ []) ≡ length trail + 1 = length-append trail in
-    let last : length (trail ++ at ∷ []) - 1 ≡ length trail = omega arith in
+    let last : length (trail ++ at ∷ []) - 1 ≡ length trail = omega (arith, length-append trail) in
     rw last (get_or-append_seam trail at [] (record { server = 0; number = 0 }))
 
 module _ (table : List MountRow) (f : List Server) (sound : IsForest f) (below : is_table_given f table ≡ true) (target : NodeRef) (dir n : Node) (user : List ℕ) (now : ℕ) (there : node_of target f ≡ Some dir) (number : n.number ≡ next_of target.server f) where
-  h : List Server
+  abbrev h : List Server
   h = applied (AddNode target.server n) f
 
-  g : List Server
+  abbrev g : List Server
   g = all_applied (AddNode target.server n ∷ EditNode target (Mark user now) ∷ []) f
 
-  at : NodeRef
+  abbrev at : NodeRef
   at = beside target (next_of target.server f)
 
   lawful-create : AllLawful f (AddNode target.server n ∷ EditNode target (Mark user now) ∷ [])
-  lawful-create = (number, (λ m found. keeps-mark user now m), tt)
+  lawful-create = (number, ((λ m found. keeps-mark user now m), tt))
 
   server-added : server_at target.server h ≡ added (server_at target.server f) n
-  unfolding h applied
+  unfolding applied
   server-added = server_at-tree_changed_at target (λ s. added s n) f dir there
 
   marked-evolves : Evolves h g
-  unfolding h g
   marked-evolves = evolves-all h (EditNode target (Mark user now) ∷ []) ((λ m found. keeps-mark user now m), tt)
 
   next-more : next_of target.server f < next_of target.server g
@@ -247,7 +245,6 @@ module _ (table : List MountRow) (f : List Server) (sound : IsForest f) (below :
 
   -- the node under the new number is the one that was made
   new-kind : (m : Node) → node_of at g ≡ Some m → is_dir m ≡ is_dir n
-  unfolding at
   new-kind m found =
       let in_g = (found-member (λ x. has_number at.number x) (server_at target.server g).nodes m found).0 in
       let its : m.number ≡ next_of target.server f = number-node_at at.number (server_at target.server g).nodes m found in
@@ -270,7 +267,7 @@ module _ (setting : Setting) (forest : List Server) (session : Session) (sound :
       after : List Server
       after = all_applied changes forest
       lawful : AllLawful forest changes
-      lawful = (refl, (λ m there'. keeps-mark v.user now m), tt)
+      lawful = (refl, ((λ m there'. keeps-mark v.user now m), tt))
       evolves : Evolves forest after
       evolves = evolves-all forest changes lawful
       kept : FidsFit setting.table after session.fids

@@ -1,3 +1,4 @@
+mod Among
 pub mod Changes
 mod Creates
 mod DirectoryReads
@@ -6,6 +7,7 @@ pub mod Ends
 pub mod Evolves
 pub mod Fids
 mod Found
+mod Givens
 pub mod Kept
 pub mod KeptFiles
 mod Listings

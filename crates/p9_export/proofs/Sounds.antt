@@ -1,11 +1,12 @@
 -- The machine keeps its state sound.
-use Rattle.std.proofs.Common.{◌≡◌, ℕ, ◌+◌, ◌<◌, ◌≤◌, Bool, true, false, List, [], ◌∷◌, Option, Some, None, Result, Ok, Err, refl, sym, ap, ◌∙◌, subst, arith}
+use Rattle.std.proofs.Common.{◌≡◌, ℕ, ◌+◌, ◌<◌, ◌≤◌, Bool, true, false, List, [], ◌∷◌, Option, Some, None, IsSome, Result, Ok, Err, refl, sym, ap, ◌∙◌, subst, arith}
 use Rattle.std.specs.Prelude.{◌&&◌}
 use Rattle.std.specs.List.{AllByRecursion, list_all}
 use Rattle.std.proofs.lemmas.Bool.{and_parts}
 use Rattle.std.proofs.lemmas.Bool.Decides.{nat_tests}
 use Rattle.std.specs.Map.{lookup}
 use Rattle.std.specs.Option.{IfSome, option_map_or}
+use Rattle.std.specs.Result.{OnErr, OnOk}
 use Rattle.std.specs.Ordering.{nat_cmp}
 use Rattle.std.specs.BTreeMap.{is_at}
 use Rattle.p9_base.specs.declared.fault.Fault.{Fault}
@@ -18,12 +19,12 @@ use Rattle.p9_wire.specs.Message.{RMessage, TMessage, Tversion, Tauth, Tattach, 
 use Rattle.p9_export.specs.State.{Setting, Session, SessionRow, changed_session, fresh, session_at, with_session, without_session}
 use Rattle.p9_export.specs.Change.{Change, all_applied}
 use Rattle.p9_export.specs.Answer.{Answer, Outcome}
-use Rattle.p9_export.specs.Answers.{AnswersAmong, answer_among, changes_of, session_of}
+use Rattle.p9_export.specs.Answers.{AnswersAmong, changes_of, frame_among, session_of}
 use Rattle.p9_export.specs.End.{FidsFit, on_ends}
 use Rattle.p9_export.specs.Sound.{IsMsize, IsSessionSound, IsSound, is_given, is_row_given, is_table_given}
-use Rattle.p9_export.specs.Step.{finds_taken, may_run_out, session_answer}
+use Rattle.p9_export.specs.Step.{finds_taken, frame_answer, message_answer, ran_out, request_of, session_answer}
 use Rattle.p9_export.proofs.Changes.{AllLawful, evolves-all}
-use Rattle.p9_export.proofs.Done.{OnDone, done-err, done-is, done-ok}
+use Rattle.p9_export.proofs.Done.{OnDone, done-err, done-is, done-ok, done-then}
 use Rattle.p9_export.proofs.Ends.{lawful-on_ends}
 use Rattle.p9_export.proofs.Evolves.{Evolves}
 use Rattle.p9_export.proofs.Kept.{Kept, kept-attach, kept-clunk, kept-quiet, kept-remove, kept-stat, kept-version, kept-walk}
@@ -100,22 +101,52 @@ module _ (table : List MountRow) (forest : List Server) (rows : List SessionRow)
         sessions = each-remove (λ s. IsSessionSound table (all_applied (on_ends table now forest session.fids) forest) s) (is_at (nat_cmp name)) rows after.sessions;
       }
 
-  -- after an opening
-  pub sound-opened : (name : ℕ) → IsSound table forest (with_session name fresh rows)
-  sound-opened name = record {
-    given = kept.given;
-    sessions = each-insert (λ s. IsSessionSound table forest s) nat_cmp rows name fresh (tt, tt) kept.sessions;
-  }
+-- the answer to a frame
+kept-frame : (setting : Setting) (forest : List Server) (rows : List SessionRow) (session : Session) (now : ℕ) (frame : List ℕ) → IsForest forest → is_table_given forest setting.table ≡ true → IsSessionSound setting.table forest session → OnDone (Kept setting.table forest) (frame_answer setting forest rows session now frame)
+kept-frame setting forest rows session now frame sound given its =
+    done-then (Kept setting.table forest) (request_of session frame) (message_answer setting forest rows session now) (λ m is. kept-answer setting forest (finds_taken setting forest rows session m) session now m sound given its.0 its.1)
 
--- after a request
-pub sound-answered : (setting : Setting) (forest forest' : List Server) (rows rows' : List SessionRow) (name now : ℕ) (session : Session) (m : TMessage) (result : Result RMessage Fault) →
+-- after a frame
+pub sound-answered : (setting : Setting) (forest forest' : List Server) (rows rows' : List SessionRow) (name now : ℕ) (session : Session) (frame : List ℕ) (result : Result RMessage Fault) →
     IsForest forest → IsSound setting.table forest rows → session_at name rows ≡ Some session →
-    AnswersAmong name (answer_among setting forest rows name now m) (may_run_out m (answer_among setting forest rows name now m)) forest forest' rows rows' result →
+    AnswersAmong name (frame_answer setting forest rows session now frame) (ran_out frame (frame_answer setting forest rows session now frame)) forest forest' rows rows' result →
     IsSound setting.table forest' rows'
-sound-answered setting forest forest' rows rows' name now session m (Ok reply) sound kept there did =
-    let a = answer_among setting forest rows name now m in
+sound-answered setting forest forest' rows rows' name now session frame (Ok reply) sound kept there did =
+    let a = frame_answer setting forest rows session now frame in
     let its = session-sound setting.table forest rows sound kept name session there in
-    let all : OnDone (Kept setting.table forest) a = rw there (kept-answer setting forest (finds_taken setting forest rows session m) session now m sound kept.given its.0 its.1) in
-    let done = done-is (Kept setting.table forest) a _ all did.0 in
+    let done = done-is (Kept setting.table forest) a _ (kept-frame setting forest rows session now frame sound kept.given its) did.0 in
     rw (did.1, did.2) (sound-outcome setting.table forest rows sound kept name (record { changes = changes_of a; session = session_of a; reply = reply }) done)
-sound-answered setting forest forest' rows rows' name now session m (Err fault) sound kept there did = rw (did.1, did.2) kept
+sound-answered setting forest forest' rows rows' name now session frame (Err fault) sound kept there did = rw (did.1, did.2) kept
+
+-- without sessions
+pub sound-new : (table : List MountRow) (forest : List Server) → is_table_given forest table ≡ true → IsSound table forest []
+sound-new table forest given = record { given = given; sessions = tt }
+
+-- each session that is open is sound
+pub each-session-sound : (table : List MountRow) (forest : List Server) (rows : List SessionRow) (name : ℕ) → IsSound table forest rows → IfSome (session_at name rows) (IsSessionSound table forest)
+each-session-sound table forest rows name kept = go (session_at name rows) refl
+  where
+    go : (o : Option Session) → session_at name rows ≡ o → IfSome (session_at name rows) (IsSessionSound table forest)
+    go None e = rw e tt
+    go (Some session) e = rw e (each-lookup (λ s. IsSessionSound table forest s) (is_at (nat_cmp name)) rows session kept.sessions e)
+
+-- the same of the session of this name, which is open
+pub sound-among : (setting : Setting) (forest forest' : List Server) (rows rows' : List SessionRow) (name now : ℕ) (frame : List ℕ) (result : Result RMessage Fault) →
+    IsForest forest → IsSound setting.table forest rows → IsSome (session_at name rows) →
+    AnswersAmong name (frame_among setting forest rows name now frame) (ran_out frame (frame_among setting forest rows name now frame)) forest forest' rows rows' result →
+    IsSound setting.table forest' rows'
+sound-among setting forest forest' rows rows' name now frame result sound kept live did = go (session_at name rows) refl
+  where
+    go : (o : Option Session) → session_at name rows ≡ o → IsSound setting.table forest' rows'
+    go None e = let no : false ≡ true = rw e at live in absurd (cc)
+    go (Some session) e = sound-answered setting forest forest' rows rows' name now session frame result sound kept e (rw e at did)
+
+-- after an opening, or one for which there was no memory
+pub sound-put : {T E : Type 0} (table : List MountRow) (forest : List Server) (rows rows' : List SessionRow) (name : ℕ) (new : Session) (result : Result T E) →
+    IsSound table forest rows → new ≡ fresh → OnOk result (rows' ≡ with_session name new rows) → OnErr result (rows' ≡ rows) → IsSound table forest rows'
+sound-put table forest rows rows' name new (Ok x) kept is done left =
+    rw (done, is) (record {
+      given = kept.given;
+      sessions = each-insert (λ s. IsSessionSound table forest s) nat_cmp rows name fresh (tt, tt) kept.sessions;
+    })
+sound-put table forest rows rows' name new (Err x) kept is done left = rw left kept

@@ -1,5 +1,5 @@
 -- A request that was answered made the step.
-use Rattle.std.proofs.Common.{◌≡◌, ℕ, List, [], ◌∷◌, Bool, true, false, Option, Some, None, Result, Ok, Err, ◌⊎◌, inl, inr, refl, ap, sym, ◌∙◌, subst, cond}
+use Rattle.std.proofs.Common.{◌≡◌, ℕ, List, [], ◌∷◌, Bool, true, false, Option, Some, None, IsSome, Result, Ok, Err, ◌⊎◌, inl, inr, refl, ap, sym, ◌∙◌, subst, cond}
 use Rattle.std.specs.Prelude.{◌&&◌, ◌||◌, is_some, not}
 use Rattle.std.specs.Option.{option_map_or}
 use Rattle.std.specs.Str.{bytes_eq}
@@ -18,7 +18,7 @@ use Rattle.p9_wire.specs.Spelling.{r_spelling}
 use Rattle.p9_export.specs.State.{Session, SessionRow, State, changed_session, session_at}
 use Rattle.p9_export.specs.Change.{Change, all_applied}
 use Rattle.p9_export.specs.Answer.{Answer, Outcome, outcome_of}
-use Rattle.p9_export.specs.Answers.{AnswersAmong, answer_among, changes_of, is_error, message_of, session_of}
+use Rattle.p9_export.specs.Answers.{AnswersAmong, changes_of, frame_among, is_error, message_of, session_of}
 use Rattle.p9_export.specs.Step.{answered, finds_taken, fits_msize, frame_answer, is_no_memory_reply, is_version, may_run_out, message_answer, no_memory_reply, ran_out, request_of, step, tag_of, Stepped}
 use Rattle.p9_export.specs.Event.{Request, is_frame}
 use Rattle.p9_export.proofs.Done.{done-is}
@@ -92,16 +92,7 @@ module _ (state : State) (name : ℕ) (forest : List Server) (rows : List Sessio
           let reply : bytes ≡ no_memory_reply frame = written ∙ ap (λ f. r_spelling (tag_of frame) (Rerror (text_of f))) memory.0 in
           without_memory answer (is_no_memory_reply frame bytes) did.1 did.2 ((bytes_decides bytes (no_memory_reply frame)).1 reply) memory.1 reply
 
--- what the request of a frame makes of its answer
-abbrev pub AnswersRequest : State → ℕ → ℕ → List Server → List SessionRow → Result TMessage Fault → Result RMessage Fault → Type 0
-AnswersRequest state name now forest rows (Ok m) result =
-    AnswersAmong name (answer_among state.setting state.forest state.sessions name now m) (may_run_out m (answer_among state.setting state.forest state.sessions name now m)) state.forest forest state.sessions rows result
-AnswersRequest state name now forest rows (Err fault) result = (result ≡ Err fault) × (forest ≡ state.forest) × (rows ≡ state.sessions)
-
-module _ (state : State) (name now : ℕ) (forest : List Server) (rows : List SessionRow) (session : Session) (frame bytes : List ℕ) (there : session_at name state.sessions ≡ Some session) where
-  answer : Answer
-  answer = frame_answer state.setting state.forest state.sessions session now frame
-
+module _ (session : Session) (frame : List ℕ) where
   -- a frame with a request is spelled by it
   Spelled : TMessage → Type 0
   Spelled m = (r : ℕ × TMessage) × (t_message_of frame ≡ Some r) × (r.1 ≡ m)
@@ -121,27 +112,50 @@ module _ (state : State) (name now : ℕ) (forest : List Server) (rows : List Se
       by_msize false e = let no : Err Malformed ≡ Ok m = rw e at is in absurd (cc)
 
   -- so whether its answer may be want of memory is the request's
-  ran_out-request : (m : TMessage) (a : Answer) → request_of session frame ≡ Ok m → ran_out frame a ≡ may_run_out m a
+  pub ran_out-is : (m : TMessage) (a : Answer) → request_of session frame ≡ Ok m → ran_out frame a ≡ may_run_out m a
   unfolding Spelled
-  ran_out-request m a is = let spelled = request-spelled m is in rw spelled.1 (ap (λ x. may_run_out x a) spelled.2)
+  ran_out-is m a is = let spelled = request-spelled m is in rw spelled.1 (ap (λ x. may_run_out x a) spelled.2)
 
-  plain-among : (m : TMessage) (result : Result RMessage Fault) → AnswersAmong name (message_answer state.setting state.forest state.sessions session now m) (may_run_out m (message_answer state.setting state.forest state.sessions session now m)) state.forest forest state.sessions rows result → Plain (may_run_out m (message_answer state.setting state.forest state.sessions session now m)) result
-  plain-among m (Ok reply) did =
-      let a = message_answer state.setting state.forest state.sessions session now m in
-      done-is (IsPlainIf (may_run_out m a)) a _ (plain-session_answer state.setting state.forest (finds_taken state.setting state.forest state.sessions session m) session now m) did.0
-  plain-among m (Err fault) did = tt
+module _ (state : State) (name now : ℕ) (forest : List Server) (rows : List SessionRow) (session : Session) (frame bytes : List ℕ) (there : session_at name state.sessions ≡ Some session) where
+  answer : Answer
+  answer = frame_answer state.setting state.forest state.sessions session now frame
 
-  pub request-makes : (request : Result TMessage Fault) (result : Result RMessage Fault) → is_frame frame ≡ true → request ≡ request_of session frame →
-      AnswersRequest state name now forest rows request result → bytes ≡ r_spelling (tag_of frame) (message_of result) →
+  -- a reply that is answered where memory may be refused is no refusal
+  plain-among : (reply : RMessage) → answer ≡ Ok (record { changes = changes_of answer; session = session_of answer; reply = reply }) → Plain (ran_out frame answer) (Ok reply)
+  unfolding answer
+  plain-among reply is = by_request (request_of session frame) refl
+    where
+      by_request : (request : Result TMessage Fault) → request_of session frame ≡ request → ran_out frame answer ≡ true → is_error reply ≡ false
+      by_request (Err fault) e may =
+          let refused : answer ≡ Err fault = rw e refl in
+          let no : Err fault ≡ Ok (record { changes = changes_of answer; session = session_of answer; reply = reply }) = sym refused ∙ is in
+          absurd (cc)
+      by_request (Ok m) e may =
+          let a = message_answer state.setting state.forest state.sessions session now m in
+          let same : answer ≡ a = rw e refl in
+          let its : may_run_out m a ≡ true = sym (ran_out-is session frame m a e) ∙ ap (ran_out frame) (sym same) ∙ may in
+          done-is (IsPlainIf (may_run_out m a)) a _ (plain-session_answer state.setting state.forest (finds_taken state.setting state.forest state.sessions session m) session now m) (sym same ∙ is) its
+
+  plain-result : (result : Result RMessage Fault) → AnswersAmong name answer (ran_out frame answer) state.forest forest state.sessions rows result → Plain (ran_out frame answer) result
+  plain-result (Ok reply) did = plain-among reply did.0
+  plain-result (Err fault) did = tt
+
+  pub frame-makes : (result : Result RMessage Fault) → is_frame frame ≡ true →
+      AnswersAmong name (frame_answer state.setting state.forest state.sessions session now frame) (ran_out frame (frame_answer state.setting state.forest state.sessions session now frame)) state.forest forest state.sessions rows result →
+      bytes ≡ r_spelling (tag_of frame) (message_of result) →
       MakesStep state forest rows bytes (step state (Request name frame now) (is_no_memory_reply frame bytes))
   unfolding answer
-  request-makes (Ok m) result whole is did written =
-      let a = message_answer state.setting state.forest state.sessions session now m in
-      let among : AnswersAmong name a (may_run_out m a) state.forest forest state.sessions rows result = rw there at did in
-      let may : ran_out frame a ≡ may_run_out m a = ran_out-request m a (sym is) in
-      let plain = plain-among m result among in
-      let makes = answered-makes state name forest rows session frame bytes there a result (rw may among) (rw may plain) written in
-      rw (whole, there, sym is) makes
-  request-makes (Err fault) result whole is did written =
-      let makes = answered-makes state name forest rows session frame bytes there (Err fault) (Err fault) (inl refl, did.1, did.2) tt (written ∙ ap (λ r. r_spelling (tag_of frame) (message_of r)) did.0) in
-      rw (whole, there, sym is) makes
+  frame-makes result whole did written =
+      let makes = answered-makes state name forest rows session frame bytes there (frame_answer state.setting state.forest state.sessions session now frame) result did (plain-result result did) written in
+      rw (whole, there) makes
+
+-- the same of the session of this name, which is open
+pub among-makes : (state : State) (name now : ℕ) (forest : List Server) (rows : List SessionRow) (frame bytes : List ℕ) (result : Result RMessage Fault) → IsSome (session_at name state.sessions) → is_frame frame ≡ true →
+    AnswersAmong name (frame_among state.setting state.forest state.sessions name now frame) (ran_out frame (frame_among state.setting state.forest state.sessions name now frame)) state.forest forest state.sessions rows result →
+    bytes ≡ r_spelling (tag_of frame) (message_of result) →
+    MakesStep state forest rows bytes (step state (Request name frame now) (is_no_memory_reply frame bytes))
+among-makes state name now forest rows frame bytes result live whole did written = go (session_at name state.sessions) refl
+  where
+    go : (o : Option Session) → session_at name state.sessions ≡ o → MakesStep state forest rows bytes (step state (Request name frame now) (is_no_memory_reply frame bytes))
+    go None e = let no : false ≡ true = rw e at live in absurd (cc)
+    go (Some session) e = frame-makes state name now forest rows session frame bytes e result whole (rw e at did) written

@@ -17,7 +17,7 @@ use Rattle.p9_export.specs.State.{Setting, Session, SessionRow, changed_session,
 use Rattle.p9_export.specs.Change.{Change, all_applied}
 use Rattle.p9_export.specs.Answer.{Answer}
 use Rattle.p9_export.specs.Qid.{stat_of}
-use Rattle.p9_export.specs.Step.{message_answer}
+use Rattle.p9_export.specs.Step.{frame_answer}
 
 abbrev pub changes_of : Answer → List Change
 changes_of (Ok outcome) = outcome.changes
@@ -81,10 +81,10 @@ pub record ReplyFits (reply : RMessage) : Type 0 where
   pub fits : RFits reply
   pub short : 7 + r_len reply ≤ msize_max
 
--- the answer to a request of the session of this name
-abbrev pub answer_among : Setting → List Server → List SessionRow → ℕ → ℕ → TMessage → Answer
-answer_among setting forest sessions name now m =
-    option_map_or (λ session. message_answer setting forest sessions session now m) (session_at name sessions) (Err PhaseError)
+-- the answer to a frame of the session of this name
+abbrev pub frame_among : Setting → List Server → List SessionRow → ℕ → ℕ → List ℕ → Answer
+frame_among setting forest sessions name now frame =
+    option_map_or (λ session. frame_answer setting forest sessions session now frame) (session_at name sessions) (Err PhaseError)
 
 -- a reply that can be written: its message has a spelling that is no longer than a frame, its data are no more
 -- than a frame holds

@@ -6,8 +6,8 @@ use Rattle.byteorder.specs.Endian.{little_number}
 use Rattle.p9_base.specs.declared.fault.Fault.TheVariants.{Malformed, NoAuthentication, OutOfMemory, VersionNotSet}
 use Rattle.p9_base.specs.declared.fault.Fault.{Fault}
 use Rattle.p9_base.specs.Fault.{text_of}
-use Rattle.p9_base.specs.TryFold.{and_then}
 use Rattle.p9_tree.specs.Server.{Server}
+use Rattle.p9_space.specs.Walk.{and_then}
 use Rattle.p9_wire.specs.Message.{TMessage, Tversion, Tauth, Tattach, Tflush, Twalk, Topen, Tcreate, Tread, Twrite, Tclunk, Tremove, Tstat, Twstat, Rerror, Rflush}
 use Rattle.p9_wire.specs.Spelling.{r_spelling}
 use Rattle.p9_wire.specs.Reading.{t_message_of}

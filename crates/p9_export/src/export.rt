@@ -10,7 +10,7 @@ ghost use Rattle.p9_export.specs.declared.export.OpenError.TheVariants.{Live};
 
 use crate::answer::answer;
 use crate::end::end_fids;
-use crate::frame::{request_of, tag_of, write_answer};
+use crate::frame::{tag_of, write_answer};
 use crate::session::Session;
 use crate::setting::Setting;
 use p9_base::User;
@@ -94,7 +94,7 @@ impl<T: Tree> Export<T> {
         if self.sessions.contains_key(&s) {
             return Err(OpenError::Live);
         }
-        match self.sessions.insert(s, Session::new(self.setting.alloc)) {
+        match self.sessions.insert(s, self.setting.session()) {
             Ok(_) => Ok(()),
             Err(_) => Err(OpenError::NoMemory),
         }
@@ -105,6 +105,7 @@ impl<T: Tree> Export<T> {
         requires { IsSome (session_at s self.old.sessions) }
         ensures { self.new ≡ (step self.old (Closing s now) false).state }
     {
+        self.forest.well_formed();
         if let Some(mut session) = self.sessions.remove(&s) {
             end_fids(&self.setting, &mut self.forest, &mut session.fids, now);
         }
@@ -123,20 +124,17 @@ impl<T: Tree> Export<T> {
         ensures state { self.new ≡ (step self.old (Request s frame.now now) (is_no_memory_reply frame.now (take result reply.new))).state }
         ensures bytes { take result reply.new ≡ (step self.old (Request s frame.now now) (is_no_memory_reply frame.now (take result reply.new))).reply }
     {
+        self.forest.well_formed();
         let tag = tag_of(frame);
-        let session = self.sessions.get(&s).unwrap();
-        let answered = match request_of(session, frame) {
-            Ok(request) => answer(
-                &self.setting,
-                &mut self.forest,
-                &mut self.sessions,
-                s,
-                now,
-                &request,
-                reply,
-            ),
-            Err(fault) => Err(fault),
-        };
+        let answered = answer(
+            &self.setting,
+            &mut self.forest,
+            &mut self.sessions,
+            s,
+            now,
+            frame,
+            reply,
+        );
         write_answer(&self.forest, &answered, tag, reply)
     }
 }

@@ -37,8 +37,8 @@ pub fn message<T: Tree>(
     buffer: &mut [u8],
 ) -> Result<Reply, Fault>
     requires fids { FidsFit setting.now.table (map T.state forest.old.trees.items) session.old.fids }
-    requires room { 11 + length buffer.old ≡ msize_max }
-    requires session_room { room_of session.old ≤ length buffer.old }
+    requires buffer { msize_max ≤ 11 + length buffer.old }
+    requires room { 24 + room_of session.old ≤ msize_max }
     ensures reply { CanWrite result }
     ensures answer { let old = map T.state forest.old.trees.items in let new = map T.state forest.new.trees.items in let answer = session_answer setting.now old taken session.old now (t_view request.now) in Answers answer (may_run_out (t_view request.now) answer) old new session.old session.new (replied (reply_view new buffer.new) result) }
 {

@@ -40,7 +40,7 @@ pub fn read<T: Tree>(
     buffer: &mut [u8],
 ) -> Result<u32, Fault>
     requires { room_of session.old ≤ length buffer.old }
-    ensures size { IfOk result (λ count. count ≤ length buffer.old) }
+    ensures size { IfOk result (λ count. count ≤ room_of session.old) }
     ensures answer { let old = map T.state forest.old.trees.items in let new = map T.state forest.new.trees.items in Answers (read_answer setting.now old session.old now fid offset count) false old new session.old session.new (replied (data_reply buffer.new) result) }
 {
     let Some(value) = session.fids.get(fid) else {

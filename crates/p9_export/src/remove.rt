@@ -1,8 +1,8 @@
 //! The answer to a remove, as remove(5).
 
-ghost use Rattle.std.specs.Prelude.{◌≡◌, false, map};
+ghost use Rattle.std.specs.Prelude.{◌≡◌, IfOk, false, map};
 ghost use Rattle.p9_wire.specs.Message.{Rremove, r_view};
-ghost use Rattle.p9_export.specs.Answers.{Answers, replied};
+ghost use Rattle.p9_export.specs.Answers.{Answers, ReplyFits, replied};
 ghost use Rattle.p9_export.specs.Remove.{remove_answer, removal};
 ghost use Rattle.p9_export.specs.State.{Session as SessionOf};
 
@@ -29,7 +29,8 @@ pub fn remove<T: Tree>(
     now: u32,
     fid: u32,
 ) -> Result<RMsg<'static>, Fault>
-    ensures { let old = map T.state forest.old.trees.items in let new = map T.state forest.new.trees.items in Answers (remove_answer setting.now old session.old now fid) false old new session.old session.new (replied r_view result) }
+    ensures reply { IfOk result (λ reply. ReplyFits (r_view reply)) }
+    ensures answer { let old = map T.state forest.old.trees.items in let new = map T.state forest.new.trees.items in Answers (remove_answer setting.now old session.old now fid) false old new session.old session.new (replied r_view result) }
 {
     let Some(ended) = session.fids.take(fid) else {
         return Err(Fault::UnknownFid);

@@ -2,7 +2,9 @@
 
 ghost use Rattle.std.specs.Prelude.{◌≡◌};
 ghost use Rattle.p9_export.specs.End.{fid_ref};
+ghost use Rattle.p9_export.specs.State.{fresh};
 
+use crate::session::Session;
 use p9_base::{NodeRef, User};
 use p9_fids::Fid;
 use p9_space::MountTable;
@@ -28,6 +30,13 @@ impl<A: Allocator + Copy> Model for Setting<A> {
 }
 
 impl<A: Allocator + Copy> Setting<A> {
+    /// A session whose version isn't set. This takes no memory.
+    pub fn session(&self) -> Session<A>
+        ensures { result ≡ fresh }
+    {
+        Session::new(self.alloc)
+    }
+
     /// The file of a fid, whether it exists or not: the first member of the place where its trail
     /// ends.
     pub fn file(&self, fid: &Fid<A>) -> NodeRef
