@@ -1,6 +1,9 @@
 //! Versions and attaches, as bytes from outside.
 
+mod close;
 mod create;
+mod list;
+mod many;
 mod open;
 mod read;
 mod remove;

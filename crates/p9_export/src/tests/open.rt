@@ -7,7 +7,7 @@ use crate::is_frame;
 use std::alloc::Global;
 use std::process::Abort;
 
-// Glenda opens a/f to read.
+// Glenda opens a/f to read, and reads it.
 #[test]
 fn row_open_read(rt: HostRuntime) {
     let rows = [
@@ -18,6 +18,10 @@ fn row_open_read(rt: HostRuntime) {
         (
             "0c0000007009000100000000",
             "1800000071090000000000000300000000000000e81f0000",
+        ),
+        (
+            "17000000740a0001000000000000000000000064000000",
+            "0d000000750a00020000006869",
         ),
     ];
     let mut export = world(&rt, rt.alloc(), &small(), &[]);

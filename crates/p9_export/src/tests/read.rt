@@ -7,7 +7,7 @@ use crate::setting::Setting;
 use p9_base::{Fault, Mode, Name, NodeRef, User};
 use p9_fids::{Fid, OpenMode, Opened};
 use p9_space::{MountTable, Order, Trail};
-use p9_tree::{Forest, NEXT_MAX, New, Tree};
+use p9_tree::{FILE_MAX, Forest, NEXT_MAX, New, Tree};
 use std::alloc::{Allocator, Global};
 use std::process::Abort;
 
@@ -198,11 +198,13 @@ fn add<T: Tree>(rt: &impl Abort, forest: &mut Forest<T>, parent: u64, name: &str
         mtime: 0,
         bytes: b"",
     };
-    assert!(rt; forest.next_of(0) < NEXT_MAX);
-    assert!(rt; forest.node(node(parent)).is_some_and(|n| n.is_dir()));
-    assert!(rt; forest.child(node(parent), &new.name).is_none());
-    assert!(rt; new.bytes.is_empty());
-    assert!(rt; forest.add(node(parent), &new).is_ok());
+    let dir = node(parent);
+    assert!(rt; forest.next_of(dir.server) < NEXT_MAX);
+    assert!(rt; forest.node(dir).is_some_and(|n| n.is_dir()));
+    assert!(rt; forest.child(dir, &new.name).is_none());
+    assert!(rt; new.bytes.len() <= FILE_MAX);
+    assert!(rt; !new.mode.is_dir() || new.bytes.is_empty());
+    assert!(rt; forest.add(dir, &new).is_ok());
 }
 
 // Takes a file out.

@@ -385,7 +385,10 @@ fn is_answered<T: Tree>(
     if text.as_str() == reply {
         return true;
     }
-    assert_eq!(rt; text.as_str(), "160000006b01000d006f7574206f66206d656d6f7279");
+    assert_eq!(rt;
+        text.as_str(),
+        "160000006b01000d006f7574206f66206d656d6f7279"
+    );
     false
 }
 

@@ -1,7 +1,7 @@
 //! The sample worlds, and a session on one of them.
 
-use super::{ATTACH, ATTACH_REPLY, VERSION, VERSION_REPLY, exchange};
-use crate::{Export, is_table_given};
+use super::{ATTACH, ATTACH_REPLY, Exchange, VERSION, VERSION_REPLY, exchange};
+use crate::{Export, is_frame, is_table_given};
 use p9_base::{Mode, Name, NodeRef, User};
 use p9_space::{MountTable, Order};
 use p9_tree::{FILE_MAX, Forest, NEXT_MAX, New, PlainTree, Tree};
@@ -65,17 +65,23 @@ fn add<T: Tree>(rt: &impl Abort, tree: &mut T, made: &Made) {
     assert!(rt; tree.add(made.parent, &new).is_ok());
 }
 
-/// One server, of a root and these nodes, which have the numbers from 1 on.
+/// A tree of a root and these nodes, which have the numbers from 1 on.
+pub fn tree_of<A: Allocator + Copy>(rt: &impl Abort, alloc: A, nodes: &[Made]) -> PlainTree<A> {
+    let mut tree = PlainTree::with_root(alloc).expect(rt, "a tree");
+    for made in nodes {
+        add(rt, &mut tree, made);
+    }
+    tree
+}
+
+/// One server of such a tree.
 pub fn forest_of<A: Allocator + Copy>(
     rt: &impl Abort,
     alloc: A,
     nodes: &[Made],
 ) -> Forest<PlainTree<A>> {
-    let mut tree = PlainTree::with_root(alloc).expect(rt, "a tree");
-    for made in nodes {
-        add(rt, &mut tree, made);
-    }
     let mut trees = Vec::new(alloc);
+    let tree = tree_of(rt, alloc, nodes);
     assert!(rt; trees.push(tree).is_ok());
     Forest { trees }
 }
@@ -119,6 +125,55 @@ pub fn begin<T: Tree>(rt: &impl Abort, alloc: Global, export: &mut Export<T>) {
     assert_eq!(rt; export.open(1), Ok(()));
     exchange(rt, alloc, export, 1, (VERSION, VERSION_REPLY));
     exchange(rt, alloc, export, 1, (ATTACH, ATTACH_REPLY));
+}
+
+/// The same, and session 2 in the same way.
+pub fn begin_two<T: Tree>(rt: &impl Abort, alloc: Global, export: &mut Export<T>) {
+    begin(rt, alloc, export);
+    assert_eq!(rt; export.open(2), Ok(()));
+    exchange(rt, alloc, export, 2, (VERSION, VERSION_REPLY));
+    exchange(rt, alloc, export, 2, (ATTACH, ATTACH_REPLY));
+}
+
+/// Sends frames, each in its session, and compares the replies.
+pub fn exchange_in<T: Tree>(
+    rt: &impl Abort,
+    alloc: Global,
+    export: &mut Export<T>,
+    rows: &[(u32, Exchange)],
+) {
+    for row in rows {
+        exchange(rt, alloc, export, row.0, row.1);
+    }
+}
+
+/// Sends a frame, and gives the length of the reply.
+pub fn send<T: Tree>(
+    rt: &impl Abort,
+    export: &mut Export<T>,
+    session: u32,
+    frame: &[u8],
+    reply: &mut [u8; 65_536],
+) -> usize {
+    assert!(rt; is_frame(frame));
+    assert!(rt; export.live(session));
+    export.message(session, frame, 0, reply)
+}
+
+/// Reads a fid of session 1, and gives the length of the reply.
+pub fn read_at<T: Tree>(
+    rt: &impl Abort,
+    export: &mut Export<T>,
+    fid: u8,
+    offset: u32,
+    count: u32,
+    reply: &mut [u8; 65_536],
+) -> usize {
+    let mut frame = [0u8; 23];
+    frame[..8].copy_from_slice(&[23, 0, 0, 0, 116, 1, 0, fid]);
+    frame[11..15].copy_from_slice(&offset.to_le_bytes());
+    frame[19..].copy_from_slice(&count.to_le_bytes());
+    send(rt, export, 1, &frame, reply)
 }
 
 /// Sends frames in session 1, and compares the replies.

@@ -1,11 +1,11 @@
 //! Writes, as bytes from outside.
 
 use super::walk::{exchange_again, small};
-use super::worlds::{begin, exchange_all, world};
+use super::worlds::{begin, exchange_all, read_at, world};
 use super::{ATTACH, ATTACH_REPLY, VERSION, VERSION_REPLY};
 use crate::Export;
 use p9_refusing::{Refusing, refuse_each};
-use p9_tree::PlainTree;
+use p9_tree::{PlainTree, Tree};
 use std::alloc::Global;
 use std::process::Abort;
 
@@ -30,8 +30,12 @@ fn row_append_only_file(rt: HostRuntime) {
             "0b00000077050002000000",
         ),
         (
-            "0b0000007c060001000000",
-            "4f0000007d06004600440000000000000040020000000400000000000000800100400000000000000000040000000000000003006c6f670600676c656e64610600676c656e64610600676c656e6461",
+            "170000007406000100000000000000000000000a000000",
+            "0f0000007506000400000061626364",
+        ),
+        (
+            "0b0000007c070001000000",
+            "4f0000007d07004600440000000000000040020000000400000000000000800100400000000000000000040000000000000003006c6f670600676c656e64610600676c656e64610600676c656e6461",
         ),
     ];
     let mut export = world(&rt, rt.alloc(), &small(), &[]);
@@ -39,7 +43,7 @@ fn row_append_only_file(rt: HostRuntime) {
     exchange_all(&rt, rt.alloc(), &mut export, &rows);
 }
 
-// A write past the greatest length, and one up to it.
+// A write past the greatest length, and one up to it, which fills the gap.
 #[test]
 fn row_largest_file(rt: HostRuntime) {
     let rows = [
@@ -63,10 +67,41 @@ fn row_largest_file(rt: HostRuntime) {
             "0b0000007c0b0001000000",
             "4d0000007d0b004400420000000000000000010000000300000000000000a4010000000000000000000000001000000000000100660600676c656e64610600676c656e64610600676c656e6461",
         ),
+        (
+            "170000006e0c0000000000020000000200010061010066",
+            "230000006f0c0002008000000000010000000000000000010000000300000000000000",
+        ),
+        (
+            "0c000000700d000200000000",
+            "18000000710d0000010000000300000000000000e81f0000",
+        ),
+        // What was there, and the last byte.
+        (
+            "17000000740e0002000000000000000000000002000000",
+            "0d000000750e00020000006869",
+        ),
+        (
+            "17000000740f0002000000ffff0f000000000064000000",
+            "0c000000750f000100000078",
+        ),
     ];
     let mut export = world(&rt, rt.alloc(), &small(), &[]);
     begin(&rt, rt.alloc(), &mut export);
     exchange_all(&rt, rt.alloc(), &mut export, &rows);
+    zeros_between(&rt, &mut export);
+}
+
+// Reads fid 2 of session 1 from offset 2 to 1,048,574: all is 0.
+fn zeros_between<T: Tree>(rt: &impl Abort, export: &mut Export<T>) {
+    let mut reply = [0u8; 65_536];
+    for step in 0..129u32 {
+        let offset = 2 + step * 8_168;
+        let count = 1_048_575u32.saturating_sub(offset).min(8_168);
+        let size = read_at(rt, export, 2, offset, count, &mut reply);
+        assert!(rt; size == 11 + count as usize);
+        let data = reply.get(11..size).expect(rt, "data");
+        assert!(rt; data.iter().all(|byte| *byte == 0));
+    }
 }
 
 #[test]

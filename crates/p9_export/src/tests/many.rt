@@ -1,0 +1,183 @@
+//! A directory of many files, listed whole while another session removes and makes files.
+
+use super::worlds::{begin_two, dir, exchange_all, read_at, send, tree_of};
+use crate::{Export, is_table_given};
+use byteorder::{ByteOrder, LittleEndian};
+use p9_base::{Mode, Name, User};
+use p9_space::MountTable;
+use p9_tree::{FILE_MAX, Forest, NEXT_MAX, New, PlainTree, Tree};
+use std::alloc::Global;
+use std::process::Abort;
+use std::str;
+
+// The last digit of the number.
+fn digit(number: u32) -> u8 {
+    [b'0', b'1', b'2', b'3', b'4', b'5', b'6', b'7', b'8', b'9'][(number % 10) as usize]
+}
+
+// The name of the file of this number, below 10,000.
+fn name_of(number: u32) -> [u8; 4] {
+    [
+        digit(number / 1_000),
+        digit(number / 100),
+        digit(number / 10),
+        digit(number),
+    ]
+}
+
+// Adds the file of this number to /a.
+fn add<T: Tree>(rt: &impl Abort, tree: &mut T, number: u32) {
+    let glenda = User::new("glenda").expect(rt, "a user");
+    let digits = name_of(number);
+    let name = str::from_utf8(&digits).expect(rt, "a text");
+    let new = New {
+        name: Name::new(name).expect(rt, "a name"),
+        mode: Mode::from_bits(0x1a4).expect(rt, "a mode"),
+        uid: glenda,
+        gid: glenda,
+        muid: glenda,
+        atime: 0,
+        mtime: 0,
+        bytes: b"",
+    };
+    assert!(rt; tree.next() < NEXT_MAX);
+    assert!(rt; tree.node(1).is_some_and(|n| n.is_dir()));
+    assert!(rt; tree.child(1, &new.name).is_none());
+    assert!(rt; new.bytes.len() <= FILE_MAX);
+    assert!(rt; !new.mode.is_dir() || new.bytes.is_empty());
+    assert!(rt; tree.add(1, &new).is_ok());
+}
+
+// An exporter to glenda, whose /a is her directory of so many files, with the numbers from 2 on.
+fn many(rt: &impl Abort, alloc: Global, count: u32) -> Export<PlainTree<Global>> {
+    let mut tree = tree_of(rt, alloc, &[dir(0, "a", "glenda")]);
+    for position in 0..count {
+        add(rt, &mut tree, position.saturating_add(2));
+    }
+    let mut trees = Vec::new(alloc);
+    assert!(rt; trees.push(tree).is_ok());
+    let mut users = Vec::new(alloc);
+    let glenda = User::new("glenda").expect(rt, "a user");
+    assert!(rt; users.push(glenda).is_ok());
+    let forest = Forest { trees };
+    let table = MountTable::new(alloc);
+    assert!(rt; is_table_given(&forest, &table));
+    Export::new(forest, users, table)
+}
+
+// Session 2 removes the file of this number.
+fn remove<T: Tree>(rt: &impl Abort, export: &mut Export<T>, number: u32) {
+    let mut reply = [0u8; 65_536];
+    let mut walk = [
+        26, 0, 0, 0, 110, 1, 0, 0, 0, 0, 0, 1, 0, 0, 0, 2, 0, 1, 0, b'a', 4, 0, 0, 0, 0, 0,
+    ];
+    walk[22..].copy_from_slice(&name_of(number));
+    assert_eq!(rt; send(rt, export, 2, &walk, &mut reply), 35);
+    let remove = [11, 0, 0, 0, 122, 1, 0, 1, 0, 0, 0];
+    assert_eq!(rt; send(rt, export, 2, &remove, &mut reply), 7);
+}
+
+// Session 2 makes a file in /a, and its number is to be this one.
+fn make<T: Tree>(rt: &impl Abort, export: &mut Export<T>, number: u32) {
+    let mut reply = [0u8; 65_536];
+    let walk = [
+        20, 0, 0, 0, 110, 1, 0, 0, 0, 0, 0, 1, 0, 0, 0, 1, 0, 1, 0, b'a',
+    ];
+    assert_eq!(rt; send(rt, export, 2, &walk, &mut reply), 22);
+    let mut create = [
+        22, 0, 0, 0, 114, 1, 0, 1, 0, 0, 0, 4, 0, 0, 0, 0, 0, 0xa4, 1, 0, 0, 0,
+    ];
+    create[13..17].copy_from_slice(&name_of(number));
+    assert_eq!(rt; send(rt, export, 2, &create, &mut reply), 24);
+    assert_eq!(rt; &reply[12..16], number.to_le_bytes().as_slice());
+    let clunk = [11, 0, 0, 0, 120, 1, 0, 1, 0, 0, 0];
+    assert_eq!(rt; send(rt, export, 2, &clunk, &mut reply), 7);
+}
+
+// Removes a file that was listed and one that wasn't, and makes two.
+fn disturb<T: Tree>(rt: &impl Abort, export: &mut Export<T>, count: u32, round: u32) {
+    remove(rt, export, round.saturating_add(2));
+    remove(rt, export, count.saturating_add(1).saturating_sub(round));
+    let next = count
+        .saturating_add(2)
+        .saturating_add(round.saturating_mul(2));
+    make(rt, export, next);
+    make(rt, export, next.saturating_add(1));
+}
+
+// Adds the numbers in entries of 71 bytes.
+fn push_numbers(rt: &impl Abort, entries: &[u8], numbers: &mut Vec<u64, Global>) {
+    let mut rest = entries;
+    for _ in 0..entries.len() {
+        if rest.is_empty() {
+            break;
+        }
+        assert!(rt; rest.len() >= 71);
+        let (entry, behind) = rest.split_at(71);
+        let (_, path) = entry.split_at(13);
+        assert!(rt; numbers.push(LittleEndian::read_u64(path)).is_ok());
+        rest = behind;
+    }
+}
+
+// Lists /a by reads of 1,024 bytes, and gives the numbers of its files. After each of the first 25
+// reads session 2 removes and makes files.
+fn listed<T: Tree>(
+    rt: &impl Abort,
+    alloc: Global,
+    export: &mut Export<T>,
+    count: u32,
+) -> Vec<u64, Global> {
+    let mut reply = [0u8; 65_536];
+    let mut numbers = Vec::new(alloc);
+    let mut offset = 0u32;
+    for round in 0..10_000u32 {
+        let size = read_at(rt, export, 2, offset, 1_024, &mut reply);
+        let entries = reply.get(11..size).expect(rt, "entries");
+        if entries.is_empty() {
+            break;
+        }
+        push_numbers(rt, entries, &mut numbers);
+        offset = offset.saturating_add(u32::try_from(entries.len()).expect(rt, "a length"));
+        if round < 25 {
+            disturb(rt, export, count, round);
+        }
+    }
+    numbers
+}
+
+// Adds the numbers of a range.
+fn push_range(rt: &impl Abort, from: u32, to: u32, numbers: &mut Vec<u64, Global>) {
+    for number in from..to {
+        assert!(rt; numbers.push(u64::from(number)).is_ok());
+    }
+}
+
+// A file that was given before it was removed is listed, one that was removed before isn't, and
+// each that was made is.
+fn lists_all(rt: &impl Abort, alloc: Global, count: u32) {
+    let rows = [
+        (
+            "140000006e020000000000020000000100010061",
+            "160000006f0200010080000000000100000000000000",
+        ),
+        (
+            "0c0000007003000200000000",
+            "1800000071030080000000000100000000000000e81f0000",
+        ),
+    ];
+    let mut export = many(rt, alloc, count);
+    begin_two(rt, alloc, &mut export);
+    exchange_all(rt, alloc, &mut export, &rows);
+    let numbers = listed(rt, alloc, &mut export, count);
+    let mut wanted = Vec::new(alloc);
+    push_range(rt, 2, count.saturating_sub(23), &mut wanted);
+    let made = count.saturating_add(2);
+    push_range(rt, made, made.saturating_add(50), &mut wanted);
+    assert!(rt; numbers.as_slice() == wanted.as_slice());
+}
+
+#[test]
+fn a_thousand_files_are_listed(rt: HostRuntime) {
+    lists_all(&rt, rt.alloc(), 1_000);
+}
