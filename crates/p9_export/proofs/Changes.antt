@@ -27,10 +27,10 @@ evolved-edit : (s : Server) (k : ℕ) (f : Node → Node) → ((n : Node) → no
 evolved-edit s k f keeps = record {
   next = omega arith;
   was = λ n there below. let old = member-changed_at n k f s.nodes there in
-    elim old.2 [
-      | inl same ↦ (old.0, old.1, ap (λ (m : Node). m.number) (sym same), ap is_dir (sym same))
-      | inr new ↦ (let kept = keeps old.0 new.1 in (old.0, old.1, sym kept.0 ∙ ap (λ (m : Node). m.number) (sym new.0), sym kept.1 ∙ ap is_dir (sym new.0)))
-    ];
+      elim old.2 [
+        | inl same ↦ (old.0, old.1, ap (λ (m : Node). m.number) (sym same), ap is_dir (sym same))
+        | inr new ↦ (let kept = keeps old.0 new.1 in (old.0, old.1, sym kept.0 ∙ ap (λ (m : Node). m.number) (sym new.0), sym kept.1 ∙ ap is_dir (sym new.0)))
+      ];
 }
 
 evolved-drop : (s : Server) (k : ℕ) → Evolved s (with_dropped k s)

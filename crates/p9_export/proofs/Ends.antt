@@ -75,6 +75,7 @@ removed_file table forest v n fits removes found = go v.opened refl
     dir_or_not : (o : Opened) → v.opened ≡ Some o → o.remove_on_close ≡ true → (b : Bool) → is_dir n ≡ b → is_dir n ≡ false
     dir_or_not o is closes true dir = let stays = (fits o is).stays n found dir in cc
     dir_or_not o is closes false file = file
+
     go : (o : Option Opened) → v.opened ≡ o → is_dir n ≡ false
     go None is = let no : false ≡ true = rw is at removes in cc
     go (Some o) is = dir_or_not o is (rw is at removes) (is_dir n) refl

@@ -26,10 +26,10 @@ evolved-twice : (s t u : Server) → Evolved s t → Evolved t u → Evolved s u
 evolved-twice s t u first second = record {
   next = (let a = first.next in let b = second.next in omega arith);
   was = λ n there below.
-    let a = first.next in
-    let middle = second.was n there (omega arith) in
-    let old = first.was middle.0 middle.1 (subst (λ k. k < s.next) (sym middle.2) below) in
-    (old.0, old.1, old.2 ∙ middle.2, old.3 ∙ middle.3);
+      let a = first.next in
+      let middle = second.was n there (omega arith) in
+      let old = first.was middle.0 middle.1 (subst (λ k. k < s.next) (sym middle.2) below) in
+      (old.0, old.1, old.2 ∙ middle.2, old.3 ∙ middle.3);
 }
 
 pub evolves-twice : (f g h : List Server) → Evolves f g → Evolves g h → Evolves f h
@@ -41,7 +41,7 @@ server_at-set k server [] t = inl refl
 server_at-set zero zero (s ∷ ss) t = inr (refl, refl)
 server_at-set zero (suc server) (s ∷ ss) t = inl refl
 server_at-set (suc k) zero (s ∷ ss) t = inl refl
-server_at-set (suc k) (suc server) (s ∷ ss) t = elim (server_at-set k server ss t) [ | inl same ↦ inl same | inr new ↦ inr (ap suc new.0, new.1) ]
+server_at-set (suc k) (suc server) (s ∷ ss) t = elim (server_at-set k server ss t) [ inl same ↦ inl same | inr new ↦ inr (ap suc new.0, new.1) ]
 
 -- where one server evolves, the forest does
 pub evolves-tree : (forest : List Server) (server : ℕ) (change : Server → Server) → Evolved (server_at server forest) (change (server_at server forest)) → Evolves forest (tree_changed_at server change forest)

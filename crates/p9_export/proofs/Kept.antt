@@ -71,8 +71,8 @@ module _ (setting : Setting) (forest : List Server) (session : Session) (sound :
   pub kept-version : (now msize : ℕ) (version : List ℕ) → OnDone (Kept setting.table forest) (version_answer setting forest session now msize version)
   kept-version now msize version =
       done-need (Kept setting.table forest) _ _ _ (λ e. done-if (Kept setting.table forest) (is_known version) (begun setting forest session now _) (not_spoken session _)
-        (done-ok (Kept setting.table forest) _ (record { lawful = lawful-on_ends setting.table now forest session.fids; fids = tt; msize = msize_kept msize e }))
-        (done-ok (Kept setting.table forest) _ (kept-quiet setting.table forest session _ fits short)))
+      (done-ok (Kept setting.table forest) _ (record { lawful = lawful-on_ends setting.table now forest session.fids; fids = tt; msize = msize_kept msize e }))
+      (done-ok (Kept setting.table forest) _ (kept-quiet setting.table forest session _ fits short)))
 
   pub kept-attach : (fid afid : ℕ) (uname aname : List ℕ) → OnDone (Kept setting.table forest) (attach_answer setting forest session fid afid uname aname)
   kept-attach fid afid uname aname =
@@ -115,5 +115,5 @@ kept-outcome_of table forest left (Err fault) fits short kept = kept-quiet table
 pub kept-remove : (setting : Setting) (forest : List Server) (session : Session) (now fid : ℕ) → IsForest forest → FidsFit setting.table forest session.fids → IsMsize session.msize → OnDone (Kept setting.table forest) (remove_answer setting forest session now fid)
 kept-remove setting forest session now fid sound fits short =
     done-given (Kept setting.table forest) _ _ _ (λ v found.
-      let rest : FidsFit setting.table forest (without fid session).fids = each-remove (λ w. FidFits setting.table forest w) (is_at (nat_cmp fid)) session.fids fits in
-      done-ok (Kept setting.table forest) _ (kept-outcome_of setting.table forest (without fid session) (removal setting forest (without fid session) now v) rest short (kept-removal setting forest (without fid session) now v sound rest short)))
+    let rest : FidsFit setting.table forest (without fid session).fids = each-remove (λ w. FidFits setting.table forest w) (is_at (nat_cmp fid)) session.fids fits in
+    done-ok (Kept setting.table forest) _ (kept-outcome_of setting.table forest (without fid session) (removal setting forest (without fid session) now v) rest short (kept-removal setting forest (without fid session) now v sound rest short)))

@@ -172,8 +172,8 @@ module _ (setting : Setting) (forest : List Server) (session : Session) (sound :
   kept-read now fid offset count =
       done-given (Kept setting.table forest) _ _ _ (λ v found. done-given (Kept setting.table forest) _ _ _ (λ o held. done-given (Kept setting.table forest) _ _ _ (λ n file.
       done-if (Kept setting.table forest) (is_dir n) (read_dir setting forest session fid v o offset (min count (room_of session))) (read_file session now (fid_ref setting.table v) n offset (min count (room_of session)))
-        (done-need (Kept setting.table forest) _ _ _ (λ begins. kept-given_of fid v o offset (cursor_at offset o) _ _ found (readable-is v.opened o held)))
-        (done-ok (Kept setting.table forest) _ (kept-changes setting.table forest (EditNode (fid_ref setting.table v) (Touch now) ∷ []) session _ sound ((λ m there. keeps-touch now m), tt) fits short)))))
+      (done-need (Kept setting.table forest) _ _ _ (λ begins. kept-given_of fid v o offset (cursor_at offset o) _ _ found (readable-is v.opened o held)))
+      (done-ok (Kept setting.table forest) _ (kept-changes setting.table forest (EditNode (fid_ref setting.table v) (Touch now) ∷ []) session _ sound ((λ m there. keeps-touch now m), tt) fits short)))))
 
   -- Writes.
 
@@ -262,20 +262,28 @@ module _ (setting : Setting) (forest : List Server) (session : Session) (sound :
     where
       node : Node
       node = created v.user now (next_of target.server forest) dir name asked
+
       changes : List Change
       changes = AddNode target.server node ∷ EditNode target (Mark v.user now) ∷ []
+
       after : List Server
       after = all_applied changes forest
+
       lawful : AllLawful forest changes
       lawful = (refl, ((λ m there'. keeps-mark v.user now m), tt))
+
       evolves : Evolves forest after
       evolves = evolves-all forest changes lawful
+
       kept : FidsFit setting.table after session.fids
       kept = fits-evolved setting.table forest after sound evolves session.fids fits
+
       place : NodeRef
       place = beside target (next_of target.server forest)
+
       stands : fid_ref setting.table (record v { trail = v.trail ++ place ∷ []; opened = Some (newly_opened o) }) ≡ place
       stands = rw (here-pushed v.trail place) (new-file forest setting.table place below refl)
+
       fit : FidFits setting.table after (record v { trail = v.trail ++ place ∷ []; opened = Some (newly_opened o) })
       fit p is =
           let same : newly_opened o ≡ p = cc in

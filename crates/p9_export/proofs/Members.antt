@@ -61,6 +61,7 @@ member-dropped_at n k (x ∷ xs) there = go (has_number k x) refl (member-droppe
     or_there : (IsMember n (dropped_at k xs) → IsMember n xs) → (n ≡ x) ⊎ IsMember n (dropped_at k xs) → IsMember n (x ∷ xs)
     or_there later (inl same) = inl same
     or_there later (inr rest) = inr (later rest)
+
     go : (b : Bool) → has_number k x ≡ b → (IsMember n (dropped_at k xs) → IsMember n xs) → IsMember n (x ∷ xs)
     go true t later = inr (rw t at there)
     go false t later = or_there later (rw t at there)
@@ -73,12 +74,15 @@ member-changed_at n k f (x ∷ xs) there = go (has_number k x) refl (member-chan
   where
     Was : List Node → Type 0
     Was ys = (m : Node) × IsMember m ys × ((n ≡ m) ⊎ ((n ≡ f m) × (node_at k ys ≡ Some m)))
+
     here : has_number k x ≡ true → (n ≡ f x) ⊎ IsMember n xs → Was (x ∷ xs)
     here t (inl same) = (x, inl refl, inr (same, rw t refl))
     here t (inr rest) = (n, inr rest, inl refl)
+
     further : has_number k x ≡ false → (IsMember n (changed_at k f xs) → Was xs) → (n ≡ x) ⊎ IsMember n (changed_at k f xs) → Was (x ∷ xs)
     further t later (inl same) = (x, inl refl, inl same)
     further t later (inr rest) = let was = later rest in (was.0, inr was.1, rw t was.2)
+
     go : (b : Bool) → has_number k x ≡ b → (IsMember n (changed_at k f xs) → Was xs) → Was (x ∷ xs)
     go true t later = here t (rw t at there)
     go false t later = further t later (rw t at there)
@@ -89,4 +93,4 @@ unfolding IsMember
 member-joined n y [] (inl same) = inr same
 member-joined n y [] (inr none) = absurd none
 member-joined n y (x ∷ xs) (inl same) = inl (inl same)
-member-joined n y (x ∷ xs) (inr rest) = elim (member-joined n y xs rest) [ | inl there ↦ inl (inr there) | inr new ↦ inr new ]
+member-joined n y (x ∷ xs) (inr rest) = elim (member-joined n y xs rest) [ inl there ↦ inl (inr there) | inr new ↦ inr new ]

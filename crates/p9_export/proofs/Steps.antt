@@ -104,9 +104,11 @@ module _ (session : Session) (frame : List ℕ) where
       by_test : (r : ℕ × TMessage) → t_message_of frame ≡ Some r → fits_msize session frame ≡ true → (b : Bool) → (is_version r.1 || is_some session.msize) ≡ b → r.1 ≡ m
       by_test r found fits true e = let same : Ok r.1 ≡ Ok m = rw (fits, found, e) at is in cc
       by_test r found fits false e = let no : Err VersionNotSet ≡ Ok m = rw (fits, found, e) at is in absurd (cc)
+
       by_message : fits_msize session frame ≡ true → (o : Option (ℕ × TMessage)) → t_message_of frame ≡ o → (r : ℕ × TMessage) × (t_message_of frame ≡ Some r) × (r.1 ≡ m)
       by_message fits None e = let no : Err Malformed ≡ Ok m = rw (fits, e) at is in absurd (cc)
       by_message fits (Some r) e = (r, e, by_test r e fits (is_version r.1 || is_some session.msize) refl)
+
       by_msize : (b : Bool) → fits_msize session frame ≡ b → (r : ℕ × TMessage) × (t_message_of frame ≡ Some r) × (r.1 ≡ m)
       by_msize true e = by_message e (t_message_of frame) refl
       by_msize false e = let no : Err Malformed ≡ Ok m = rw e at is in absurd (cc)

@@ -59,7 +59,7 @@ newfid_fault fid newfid fids =
 abbrev pub moved : ℕ → ℕ → Fid → List NodeRef → Session → Session
 moved fid newfid v trail session = record session {
   fids = if newfid == fid then changed_fid fid (trailed trail) session.fids
-         else with_fid newfid (record { user = v.user; trail = trail; opened = None }) session.fids;
+      else with_fid newfid (record { user = v.user; trail = trail; opened = None }) session.fids;
 }
 
 -- a walk that is stopped at its first name is refused; one that is stopped later moves no fid

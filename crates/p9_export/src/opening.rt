@@ -17,6 +17,7 @@ pub struct Opening {
 }
 
 const OTRUNC: u8 = 0x10;
+
 const ORCLOSE: u8 = 0x40;
 // Every bit but those of the four modes, truncation, close on exec (0x20), which means nothing
 // here and is dropped, and remove-on-close.

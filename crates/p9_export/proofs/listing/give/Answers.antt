@@ -43,4 +43,4 @@ returns-clause-bytes g c =
     let size = c.write_stat-size.ensures.len ∙ ap stat_len c.stat_of.ensures.value in
     let same : c.stat_size.result ≡ c.write_stat-size.result = c.stat_size.ensures.size ∙ sym size in
     gives_bytes (length c.args.buffer.now) left e c.number.result c.write_stat-size.result first c.number.ensures size c.args.buffer.now c.write_stat-size.new.out (omega (arith, same, c.if-stat_size-buffer.false))
-      (c.write_stat-size.ensures.bytes.bytes ∙ ap (λ s. stat_bytes s ++ drop c.write_stat-size.result c.args.buffer.now) c.stat_of.ensures.value)
+    (c.write_stat-size.ensures.bytes.bytes ∙ ap (λ s. stat_bytes s ++ drop c.write_stat-size.result c.args.buffer.now) c.stat_of.ensures.value)
