@@ -293,7 +293,8 @@ fn a_session_has_1024_fids(rt: HostRuntime) {
     let mut reply = [0u8; 65_536];
     for newfid in 1..1024 {
         let size = clone_fid(&rt, &mut export, newfid, &mut reply);
-        assert_eq!(rt; &reply[..size], [9, 0, 0, 0, 111, 2, 0, 0, 0].as_slice());
+        let answered = reply.get(..size).expect(&rt, "a reply");
+        assert_eq!(rt; answered, [9, 0, 0, 0, 111, 2, 0, 0, 0].as_slice());
     }
     let rows = [
         (
