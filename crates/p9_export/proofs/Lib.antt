@@ -1,3 +1,25 @@
+mod Among
+pub mod Changes
+mod Creates
+mod DirectoryReads
+pub mod Done
+pub mod Ends
+pub mod Evolves
+pub mod Fids
+mod Found
+mod Givens
+pub mod Kept
+pub mod KeptFiles
+mod Listings
+pub mod Members
+pub mod OpenFids
 mod Places
-mod Replies
-mod Steps
+pub mod Plain
+mod Removals
+pub mod Replies
+pub mod Rows
+pub mod Sounds
+pub mod Steps
+mod Truncation
+mod Walks
+mod Writes

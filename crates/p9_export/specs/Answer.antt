@@ -16,16 +16,16 @@ abbrev pub Answer : Type 0
 Answer = Result Outcome Fault
 
 -- goes on where the test passes
-abbrev pub need : Bool → Fault → Answer → Answer
+unfoldable pub need : Bool → Fault → Answer → Answer
 need test fault rest = if test then rest else Err fault
 
 -- goes on with the value, where there is one
-abbrev pub given : {X : Type 0} → Option X → Fault → (X → Answer) → Answer
+unfoldable pub given : {X : Type 0} → Option X → Fault → (X → Answer) → Answer
 given None fault rest = Err fault
 given (Some x) fault rest = rest x
 
 -- goes on where there is no fault
-abbrev pub unless : Option Fault → Answer → Answer
+unfoldable pub unless : Option Fault → Answer → Answer
 unless None rest = rest
 unless (Some fault) rest = Err fault
 

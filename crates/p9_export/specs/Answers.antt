@@ -1,31 +1,95 @@
 -- What a function that answers a request has to do.
-use Rattle.std.specs.Prelude.{◌≡◌, ℕ, ◌+◌, ◌≤◌, ◌⊎◌, Bool, true, false, [], Result, Ok, Err}
+use Rattle.std.specs.Prelude.{◌≡◌, ℕ, ◌+◌, ◌≤◌, ◌⊎◌, Bool, true, false, List, [], Result, Ok, Err, take, drop}
+use Rattle.std.specs.Option.{option_map_or}
 use Rattle.p9_base.specs.declared.fault.Fault.{Fault}
-use Rattle.p9_base.specs.declared.fault.Fault.TheVariants.{OutOfMemory}
+use Rattle.p9_base.specs.declared.fault.Fault.TheVariants.{OutOfMemory, PhaseError}
+use Rattle.p9_base.specs.declared.node_ref.NodeRef.{NodeRef}
 use Rattle.p9_base.specs.Fault.{text_of}
-use Rattle.p9_wire.specs.Message.{RMessage, Rerror, r_view}
+use Rattle.p9_tree.specs.Server.{Server}
+use Rattle.p9_tree.specs.Forest.{node_of}
+use Rattle.p9_wire.specs.Frame.{msize_max}
+use Rattle.p9_wire.specs.Message.{RMessage, Rerror, Rread, Rstat, TMessage, r_view, t_view}
 use Rattle.p9_wire.specs.Spelling.{RFits, r_len}
-use Rattle.p9_wire.specs.declared.message.RMsg.{RMsg}
-use Rattle.p9_export.specs.State.{Session}
+use Rattle.p9_wire.specs.declared.message.TMsg.{TMsg}
+use Rattle.p9_export.specs.declared.reply.Reply.{Reply}
+use Rattle.p9_export.specs.declared.reply.Reply.TheVariants.{Message, Data, StatOf}
+use Rattle.p9_export.specs.State.{Setting, Session, SessionRow, changed_session, fresh, session_at}
+use Rattle.p9_export.specs.Change.{Change, all_applied}
 use Rattle.p9_export.specs.Answer.{Answer}
+use Rattle.p9_export.specs.Qid.{stat_of}
+use Rattle.p9_export.specs.Step.{frame_answer}
 
--- the session and the reply are the outcome's, which changes no file; a refusal has the answer's
--- fault, or is want of memory where that may be answered, and leaves the session
-abbrev pub Answers : Answer → Bool → Session → Session → Result RMsg Fault → Type 0
-Answers answer may_run_out old new (Ok reply) = answer ≡ Ok (record { changes = []; session = new; reply = r_view reply })
-Answers answer may_run_out old new (Err fault) =
-    ((answer ≡ Err fault) ⊎ ((fault ≡ OutOfMemory) × (may_run_out ≡ true))) × (new ≡ old)
+abbrev pub changes_of : Answer → List Change
+changes_of (Ok outcome) = outcome.changes
+changes_of (Err fault) = []
+
+-- the forest, the session and the reply are the outcome's; a refusal has the answer's fault, or is want of
+-- memory where that may be answered, and leaves both
+abbrev pub Answers : Answer → Bool → List Server → List Server → Session → Session → Result RMessage Fault → Type 0
+Answers answer may_run_out forest forest' old new (Ok reply) =
+    (answer ≡ Ok (record { changes = changes_of answer; session = new; reply = reply })) × (forest' ≡ all_applied (changes_of answer) forest)
+Answers answer may_run_out forest forest' old new (Err fault) =
+    ((answer ≡ Err fault) ⊎ ((fault ≡ OutOfMemory) × (may_run_out ≡ true))) × (forest' ≡ forest) × (new ≡ old)
+
+abbrev pub session_of : Answer → Session
+session_of (Ok outcome) = outcome.session
+session_of (Err fault) = fresh
+
+-- the same of the session of this name among all sessions
+abbrev pub AnswersAmong : ℕ → Answer → Bool → List Server → List Server → List SessionRow → List SessionRow → Result RMessage Fault → Type 0
+AnswersAmong name answer may_run_out forest forest' old new (Ok reply) =
+    (answer ≡ Ok (record { changes = changes_of answer; session = session_of answer; reply = reply }))
+    × (forest' ≡ all_applied (changes_of answer) forest) × (new ≡ changed_session name (session_of answer) old)
+AnswersAmong name answer may_run_out forest forest' old new (Err fault) =
+    ((answer ≡ Err fault) ⊎ ((fault ≡ OutOfMemory) × (may_run_out ≡ true))) × (forest' ≡ forest) × (new ≡ old)
+
+-- a result, with its value as the reply that it makes
+abbrev pub replied : {X : Type 0} → (X → RMessage) → Result X Fault → Result RMessage Fault
+replied f (Ok x) = Ok (f x)
+replied f (Err fault) = Err fault
+
+-- the stat of a node that exists
+abbrev pub stat_reply : List Server → NodeRef → RMessage
+stat_reply forest at = option_map_or (λ n. Rstat (stat_of at n)) (node_of at forest) (Rerror (text_of PhaseError))
+
+-- the data at the front of those bytes
+abbrev pub data_reply : List ℕ → ℕ → RMessage
+data_reply bytes count = Rread (take count bytes)
+
+-- the reply that is made of what stands in the forest, and of the data
+abbrev pub reply_view : List Server → List ℕ → Reply → RMessage
+reply_view forest bytes (Message m) = r_view m
+reply_view forest bytes (Data count) = data_reply bytes count
+reply_view forest bytes (StatOf at) = stat_reply forest at
+
+-- the message of a result
+abbrev pub message_of : Result RMessage Fault → RMessage
+message_of (Ok reply) = reply
+message_of (Err fault) = Rerror (text_of fault)
+
+-- the request of a frame, or why it has none
+abbrev pub request_view : Result TMsg Fault → Result TMessage Fault
+request_view (Ok request) = Ok (t_view request)
+request_view (Err fault) = Err fault
 
 abbrev pub is_error : RMessage → Bool
 is_error (Rerror ename) = true
 is_error other = false
 
--- the reply is no refusal, and has a spelling of at most 43 bytes
-abbrev pub IsReply : Result RMsg Fault → Type 0
-IsReply (Ok reply) = RFits (r_view reply) × (r_len (r_view reply) ≤ 36) × (is_error (r_view reply) ≡ false)
-IsReply (Err fault) = Unit {0}
+-- a reply that has a spelling, which is no longer than a frame
+pub record ReplyFits (reply : RMessage) : Type 0 where
+  pub fits : RFits reply
+  pub short : 7 + r_len reply ≤ msize_max
 
--- the reply that is written
-abbrev pub reply_of : Result RMsg Fault → RMessage
-reply_of (Ok reply) = r_view reply
-reply_of (Err fault) = Rerror (text_of fault)
+-- the answer to a frame of the session of this name
+abbrev pub frame_among : Setting → List Server → List SessionRow → ℕ → ℕ → List ℕ → Answer
+frame_among setting forest sessions name now frame =
+    option_map_or (λ session. frame_answer setting forest sessions session now frame) (session_at name sessions) (Err PhaseError)
+
+-- a reply that can be written: its message has a spelling that is no longer than a frame, its data are no more
+-- than a frame holds
+abbrev pub CanWrite : Result Reply Fault → Type 0
+CanWrite (Ok (Message m)) = ReplyFits (r_view m)
+CanWrite (Ok (Data count)) = 11 + count ≤ msize_max
+CanWrite (Ok (StatOf at)) = Unit {0}
+CanWrite (Err fault) = Unit {0}

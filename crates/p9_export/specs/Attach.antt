@@ -1,11 +1,8 @@
 -- An attach, which makes a fid for the root of the name space: attach(5).
-use Rattle.std.specs.Prelude.{ℕ, ◌+◌, ◌*◌, ◌^◌, ◌==◌, ◌||◌, Bool, List, [], ◌∷◌, Option, None, Ok, codes, find}
+use Rattle.std.specs.Prelude.{ℕ, ◌==◌, ◌||◌, Bool, List, [], ◌∷◌, Option, None, Ok, codes, find}
 use Rattle.std.specs.Str.{bytes_eq}
 use Rattle.p9_base.specs.declared.node_ref.NodeRef.{NodeRef}
-use Rattle.p9_base.specs.declared.qid.Qid.{Qid}
-use Rattle.p9_base.specs.Mode.{qid_kind}
 use Rattle.p9_base.specs.declared.fault.Fault.TheVariants.{NoAuthentication, UnknownUser, UnknownAttachName, PhaseError}
-use Rattle.p9_tree.specs.Node.{Node}
 use Rattle.p9_tree.specs.Server.{Server}
 use Rattle.p9_space.specs.Place.{file_of, file_ref}
 use Rattle.p9_wire.specs.Message.{Rattach}
@@ -13,14 +10,11 @@ use Rattle.p9_base.specs.declared.fid.TheConstants.{NOFID}
 use Rattle.p9_fids.specs.Fid.{put_fault, with_fid}
 use Rattle.p9_export.specs.State.{Setting, Session}
 use Rattle.p9_export.specs.Answer.{Answer, need, given, unless}
+use Rattle.p9_export.specs.Qid.{qid_of}
 
 -- the root of server 0
 abbrev pub root_place : NodeRef
 root_place = record { server = 0; number = 0 }
-
--- a file's identity among those of all servers, and its version
-abbrev pub qid_of : NodeRef → Node → Qid
-qid_of at n = record { kind = qid_kind n.mode; version = n.version; path = at.server * 2 ^ 48 + at.number }
 
 -- the listed user of the name
 abbrev pub listed_user : List ℕ → List (List ℕ) → Option (List ℕ)

@@ -3,10 +3,12 @@ use Rattle.std.specs.Prelude.{ℕ, ◌||◌, Bool, min, nat_eq, nat_le, List, []
 use Rattle.std.specs.List.{starts_with}
 use Rattle.std.specs.Str.{bytes_eq}
 use Rattle.p9_base.specs.declared.fault.Fault.TheVariants.{SmallMsize}
+use Rattle.p9_tree.specs.Server.{Server}
 use Rattle.p9_wire.specs.Frame.{msize_max}
 use Rattle.p9_wire.specs.Message.{Rversion}
-use Rattle.p9_export.specs.State.{Session}
+use Rattle.p9_export.specs.State.{Setting, Session}
 use Rattle.p9_export.specs.Answer.{Answer, need}
+use Rattle.p9_export.specs.End.{on_ends}
 
 -- the least msize
 abbrev pub msize_min : ℕ
@@ -17,9 +19,9 @@ abbrev pub is_known : List ℕ → Bool
 is_known version = bytes_eq version (codes "9P2000") || starts_with nat_eq version (codes "9P2000.")
 
 -- all fids end, and frames have at most so many bytes from now on
-abbrev pub begun : ℕ → Answer
-begun msize = Ok (record {
-  changes = [];
+abbrev pub begun : Setting → List Server → Session → ℕ → ℕ → Answer
+begun setting forest session now msize = Ok (record {
+  changes = on_ends setting.table now forest session.fids;
   session = record { msize = Some msize; fids = [] };
   reply = Rversion msize (codes "9P2000");
 })
@@ -28,7 +30,8 @@ begun msize = Ok (record {
 abbrev pub not_spoken : Session → ℕ → Answer
 not_spoken session msize = Ok (record { changes = []; session = session; reply = Rversion msize (codes "unknown") })
 
-abbrev pub version_answer : Session → ℕ → List ℕ → Answer
-version_answer session msize version =
+abbrev pub version_answer : Setting → List Server → Session → ℕ → ℕ → List ℕ → Answer
+version_answer setting forest session now msize version =
     need (nat_le msize_min msize) SmallMsize (
-    if is_known version then begun (min msize msize_max) else not_spoken session (min msize msize_max))
+    if is_known version then begun setting forest session now (min msize msize_max)
+    else not_spoken session (min msize msize_max))

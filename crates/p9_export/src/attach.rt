@@ -1,18 +1,19 @@
 //! The answer to an attach, as attach(5).
 
-ghost use Rattle.std.specs.Prelude.{◌≡◌, ◌<◌, ◌^◌, map, true};
+ghost use Rattle.std.specs.Prelude.{◌≡◌, map, true};
 ghost use Rattle.std.specs.Option.{option_copied};
 ghost use Rattle.std.specs.Str.{bytes_eq};
-ghost use Rattle.p9_export.specs.Attach.{attach_answer, listed_user, qid_of};
-ghost use Rattle.p9_export.specs.Answers.{Answers, IsReply};
+ghost use Rattle.p9_wire.specs.Message.{Rattach};
+ghost use Rattle.p9_export.specs.Attach.{attach_answer, listed_user};
+ghost use Rattle.p9_export.specs.Answers.{Answers, replied};
 
+use crate::qid::qid_of;
 use crate::session::Session;
+use crate::setting::Setting;
 use p9_base::{Fault, NOFID, NodeRef, Qid, User};
 use p9_fids::Fid;
-use p9_space::{MountTable, Trail};
-use p9_tree::{Forest, Node, Tree};
-use p9_wire::RMsg;
-use std::alloc::Allocator;
+use p9_space::Trail;
+use p9_tree::{Forest, Tree};
 
 /// Where a fid is attached: the root of server 0.
 const ROOT_PLACE: NodeRef = NodeRef {
@@ -28,18 +29,15 @@ const ROOT_PLACE: NodeRef = NodeRef {
 /// [`Fault::UnknownAttachName`]; the root place has no file, [`Fault::PhaseError`]. Else memory may
 /// be refused, [`Fault::OutOfMemory`].
 pub fn attach<T: Tree>(
-    alloc: T::Alloc,
+    setting: &Setting<T::Alloc>,
     forest: &Forest<T>,
-    table: &MountTable<T::Alloc>,
-    users: &[User],
     session: &mut Session<T::Alloc>,
     fid: u32,
     afid: u32,
     uname: &str,
     aname: &str,
-) -> Result<RMsg<'static>, Fault>
-    ensures answer { Answers (attach_answer (record { users = users.now; table = table.now }) (map T.state forest.now.trees.items) session.old fid afid uname.now aname.now) true session.old session.new result }
-    ensures reply { IsReply result }
+) -> Result<Qid, Fault>
+    ensures { let forest = map T.state forest.now.trees.items in Answers (attach_answer setting.now forest session.old fid afid uname.now aname.now) true forest forest session.old session.new (replied Rattach result) }
 {
     if let Some(fault) = session.fids.put_fault(fid) {
         return Err(fault);
@@ -47,19 +45,19 @@ pub fn attach<T: Tree>(
     if afid != NOFID {
         return Err(Fault::NoAuthentication);
     }
-    let Some(user) = listed(uname, users) else {
+    let Some(user) = listed(uname, &setting.users) else {
         return Err(Fault::UnknownUser);
     };
     if !aname.is_empty() && aname != "/" {
         return Err(Fault::UnknownAttachName);
     }
-    let at = table.file(ROOT_PLACE);
+    let at = setting.table.file(ROOT_PLACE);
     let Some(file) = forest.node(at) else {
         return Err(Fault::PhaseError);
     };
     forest.well_formed();
     let qid = qid_of(at, file);
-    let trail = Trail::at(alloc, ROOT_PLACE)?;
+    let trail = Trail::at(setting.alloc, ROOT_PLACE)?;
     session.fids.put(
         fid,
         Fid {
@@ -68,7 +66,7 @@ pub fn attach<T: Tree>(
             opened: None,
         },
     )?;
-    Ok(RMsg::Attach { qid })
+    Ok(qid)
 }
 
 // The listed user of this name.
@@ -82,16 +80,4 @@ fn is_named(user: &User, uname: &str) -> bool
     ensures { result ≡ bytes_eq user.now uname.now }
 {
     user.as_str() == uname
-}
-
-/// The identity of a file among those of all servers, as intro(5).
-pub fn qid_of<A: Allocator>(at: NodeRef, file: &Node<A>) -> Qid
-    requires { at.number < 2 ^ 48 }
-    ensures { result ≡ qid_of at file.now }
-{
-    Qid {
-        kind: file.mode().qid_kind(),
-        version: file.version(),
-        path: (u64::from(at.server) << 48) + at.number,
-    }
 }

@@ -2,13 +2,17 @@
 
 ghost use Rattle.std.specs.Prelude.{◌≡◌, ◌≤◌, ◌↔◌, [], Err, None, false, IsSome, IsTrue, OnErr, OnOk, length, map, take};
 ghost use Rattle.p9_export.specs.Event.{Closing, Opening, Request, is_frame};
+ghost use Rattle.p9_export.specs.Sound.{is_table_given};
 ghost use Rattle.p9_export.specs.State.{session_at};
 ghost use Rattle.p9_export.specs.Step.{is_no_memory_reply, step};
 ghost use Rattle.p9_wire.specs.Frame.{msize_max};
 ghost use Rattle.p9_export.specs.declared.export.OpenError.TheVariants.{Live};
 
-use crate::frame::{answer, tag_of, write_answer};
+use crate::answer::answer;
+use crate::end::end_fids;
+use crate::frame::{tag_of, write_answer};
 use crate::session::Session;
+use crate::setting::Setting;
 use p9_base::User;
 use p9_space::MountTable;
 use p9_tree::{Forest, Tree};
@@ -30,38 +34,43 @@ pub enum OpenError {
 /// The exporter: the trees, the mount table and the users, and the open sessions by name.
 #[derive(Drop)]
 pub struct Export<T: Tree> {
-    alloc: T::Alloc,
+    setting: Setting<T::Alloc>,
     forest: Forest<T>,
-    users: Vec<User, T::Alloc>,
-    table: MountTable<T::Alloc>,
     sessions: BTreeMap<u32, Session<T::Alloc>, T::Alloc>,
 }
 
 impl<T: Tree> Model for Export<T> {
     ghost use Rattle.std.specs.Prelude.{map};
+    ghost use Rattle.p9_export.specs.Sound.{IsSound};
     ghost use Rattle.p9_export.specs.State.{State};
 
     ghost Value = { State };
 
-    ghost view = { λ e. record { setting = record { users = e.users.items; table = e.table }; forest = map T.state e.forest.trees.items; sessions = e.sessions.entries } };
+    ghost view = { λ e. record { setting = e.setting; forest = map T.state e.forest.trees.items; sessions = e.sessions.entries } };
+
+    ghost invariant = { λ e. IsSound e.setting.table (map T.state e.forest.trees.items) e.sessions.entries };
 }
 
 impl<T: Tree> Export<T> {
     /// An exporter of these trees by this mount table, to these users, without sessions. This takes
-    /// no memory.
+    /// no memory. No key and no member of the table is a node that is still to be made: [`is_table_given`]
+    /// tests that.
     pub fn new(
         forest: Forest<T>,
         users: Vec<User, T::Alloc>,
         table: MountTable<T::Alloc>,
     ) -> Export<T>
+        requires { IsTrue (is_table_given (map T.state forest.trees.items) table) }
         ensures { result ≡ record { setting = record { users = users.items; table = table }; forest = map T.state forest.trees.items; sessions = [] } }
     {
         let alloc = *users.allocator();
         Export {
-            alloc,
+            setting: Setting {
+                alloc,
+                users,
+                table,
+            },
             forest,
-            users,
-            table,
             sessions: BTreeMap::new(alloc),
         }
     }
@@ -85,7 +94,7 @@ impl<T: Tree> Export<T> {
         if self.sessions.contains_key(&s) {
             return Err(OpenError::Live);
         }
-        match self.sessions.insert(s, Session::new(self.alloc)) {
+        match self.sessions.insert(s, self.setting.session()) {
             Ok(_) => Ok(()),
             Err(_) => Err(OpenError::NoMemory),
         }
@@ -96,7 +105,10 @@ impl<T: Tree> Export<T> {
         requires { IsSome (session_at s self.old.sessions) }
         ensures { self.new ≡ (step self.old (Closing s now) false).state }
     {
-        let _ = self.sessions.remove(&s);
+        self.forest.well_formed();
+        if let Some(mut session) = self.sessions.remove(&s) {
+            end_fids(&self.setting, &mut self.forest, &mut session.fids, now);
+        }
     }
 
     /// Answers one frame of an open session: the reply stands at the front of the buffer, and its
@@ -112,10 +124,17 @@ impl<T: Tree> Export<T> {
         ensures state { self.new ≡ (step self.old (Request s frame.now now) (is_no_memory_reply frame.now (take result reply.new))).state }
         ensures bytes { take result reply.new ≡ (step self.old (Request s frame.now now) (is_no_memory_reply frame.now (take result reply.new))).reply }
     {
+        self.forest.well_formed();
         let tag = tag_of(frame);
-        let session = self.sessions.get_mut(&s).unwrap();
-        let users = self.users.as_slice();
-        let answered = answer(self.alloc, &self.forest, &self.table, users, session, frame);
-        write_answer(&answered, tag, reply)
+        let answered = answer(
+            &self.setting,
+            &mut self.forest,
+            &mut self.sessions,
+            s,
+            now,
+            frame,
+            reply,
+        );
+        write_answer(&self.forest, &answered, tag, reply)
     }
 }

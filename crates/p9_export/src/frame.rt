@@ -1,32 +1,30 @@
-//! The answer to a frame.
+//! Frames: the request in one, and the reply to it.
 
-ghost use Rattle.std.specs.Prelude.{◌≡◌, ◌≤◌, length, map, take};
+ghost use Rattle.std.specs.Prelude.{◌≡◌, ◌≤◌, ◌+◌, length, map, take, drop};
+ghost use Rattle.p9_wire.specs.Frame.{msize_max};
+ghost use Rattle.p9_base.specs.Fault.{text_of};
+ghost use Rattle.p9_wire.specs.Message.{Rerror};
 ghost use Rattle.p9_wire.specs.Spelling.{r_spelling};
-ghost use Rattle.p9_export.specs.Step.{frame_answer, ran_out, tag_of};
-ghost use Rattle.p9_export.specs.Answers.{Answers, IsReply, reply_of};
+ghost use Rattle.p9_export.specs.Step.{request_of, tag_of};
+ghost use Rattle.p9_export.specs.Answers.{CanWrite, message_of, replied, reply_view, request_view, stat_reply};
 
-use crate::attach::attach;
+use crate::qid::stat_of;
+use crate::reply::Reply;
 use crate::session::Session;
-use crate::version::version;
 use byteorder::{ByteOrder, LittleEndian};
-use p9_base::{Fault, User};
-use p9_space::MountTable;
+use p9_base::{Fault, NodeRef};
 use p9_tree::{Forest, Tree};
-use p9_wire::{RMsg, TMsg, read_t, write_r};
+use p9_wire::{RMsg, TMsg, finish_read, read_t, write_r};
+use std::alloc::Allocator;
 
-/// Answers one frame of a session: a frame that is longer than the session's msize, or no request,
-/// is [`Fault::Malformed`]; any other request than a version before one is
+/// The request of a frame: a frame that is longer than the session's msize, or no request, is
+/// [`Fault::Malformed`]; any other request than a version before one is
 /// [`Fault::VersionNotSet`].
-pub fn answer<T: Tree>(
-    alloc: T::Alloc,
-    forest: &Forest<T>,
-    table: &MountTable<T::Alloc>,
-    users: &[User],
-    session: &mut Session<T::Alloc>,
-    frame: &[u8],
-) -> Result<RMsg<'static>, Fault>
-    ensures answer { let answer = frame_answer (record { users = users.now; table = table.now }) (map T.state forest.now.trees.items) session.old frame.now in Answers answer (ran_out frame.now answer) session.old session.new result }
-    ensures reply { IsReply result }
+pub fn request_of<'a, A: Allocator + Copy>(
+    session: &Session<A>,
+    frame: &'a [u8],
+) -> Result<TMsg<'a>, Fault>
+    ensures { request_view result ≡ request_of session.now frame.now }
 {
     if session
         .msize
@@ -40,21 +38,7 @@ pub fn answer<T: Tree>(
     if session.msize.is_none() && !matches!(request, TMsg::Version { .. }) {
         return Err(Fault::VersionNotSet);
     }
-    match request {
-        TMsg::Version {
-            msize,
-            version: dialect,
-        } => version(alloc, session, msize, dialect),
-        TMsg::Attach {
-            fid,
-            afid,
-            uname,
-            aname,
-        } => attach(
-            alloc, forest, table, users, session, fid, afid, uname, aname,
-        ),
-        _ => Err(Fault::Malformed),
-    }
+    Ok(request)
 }
 
 /// The tag of a frame, also where it is no request.
@@ -68,20 +52,48 @@ pub fn tag_of(frame: &[u8]) -> u16
 
 /// Writes the reply to a frame with this tag at the front of the buffer, or the refusal, and
 /// answers its length.
-pub fn write_answer(answered: &Result<RMsg<'static>, Fault>, tag: u16, out: &mut [u8]) -> usize
-    requires reply { IsReply answered.now }
-    requires room { 43 ≤ length out.old }
-    ensures bytes { take result out.new ≡ r_spelling tag (reply_of answered.now) }
+pub fn write_answer<T: Tree>(
+    forest: &Forest<T>,
+    answered: &Result<Reply, Fault>,
+    tag: u16,
+    out: &mut [u8],
+) -> usize
+    requires reply { CanWrite answered.now }
+    requires room { msize_max ≤ length out.old }
+    ensures bytes { take result out.new ≡ r_spelling tag (message_of (replied (reply_view (map T.state forest.now.trees.items) (drop 11 out.old)) answered.now)) }
     ensures within { result ≤ length out.old }
 {
     match answered {
-        Ok(reply) => write_r(reply, tag, out),
-        Err(fault) => write_r(
-            &RMsg::Error {
-                ename: fault.text(),
-            },
-            tag,
-            out,
-        ),
+        Ok(Reply::Message(reply)) => write_r(reply, tag, out),
+        Ok(Reply::Data(count)) => finish_read(tag, *count, out),
+        Ok(Reply::StatOf(at)) => write_stat_of(forest, *at, tag, out),
+        Err(fault) => write_fault(*fault, tag, out),
     }
+}
+
+fn write_fault(fault: Fault, tag: u16, out: &mut [u8]) -> usize
+    requires { 43 ≤ length out.old }
+    ensures bytes { take result out.new ≡ r_spelling tag (Rerror (text_of fault)) }
+    ensures within { result ≤ length out.old }
+{
+    write_r(
+        &RMsg::Error {
+            ename: fault.text(),
+        },
+        tag,
+        out,
+    )
+}
+
+fn write_stat_of<T: Tree>(forest: &Forest<T>, at: NodeRef, tag: u16, out: &mut [u8]) -> usize
+    requires room { msize_max ≤ length out.old }
+    ensures bytes { take result out.new ≡ r_spelling tag (stat_reply (map T.state forest.now.trees.items) at) }
+    ensures within { result ≤ length out.old }
+{
+    let Some(file) = forest.node(at) else {
+        return write_fault(Fault::PhaseError, tag, out);
+    };
+    forest.well_formed();
+    let stat = stat_of(at, file);
+    write_r(&RMsg::Stat { stat }, tag, out)
 }

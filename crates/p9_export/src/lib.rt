@@ -1,17 +1,37 @@
 //! The machine that answers 9P2000 over the trees and the mount table: one state, and one whole
 //! event after another.
-#![tactic(auto)]
+#![tactic(auto, unfolding(crate::specs::Answer::need, crate::specs::Answer::given, crate::specs::Answer::unless))]
 
+mod answer;
 mod attach;
+mod clunk;
+mod create;
+mod end;
 mod event;
 mod export;
 mod frame;
+mod given;
+mod inherit;
+mod listing;
+mod message;
+mod open;
+mod opening;
+mod qid;
+mod read;
+mod remove;
+mod reply;
+mod rights;
 mod session;
+mod setting;
+mod stat;
 #[cfg(test)]
 mod tests;
 mod version;
+mod walk;
+mod write;
 
 pub use event::{Event, is_frame};
 pub use export::{Export, OpenError};
+pub use given::is_table_given;
 pub use session::Session;
 pub use version::MSIZE_MIN;

@@ -1,9 +1,11 @@
 //! A session: what one client and the exporter have agreed on, and the client's fids.
 
 ghost use Rattle.std.specs.Prelude.{◌≡◌};
+ghost use Rattle.p9_export.specs.Open.{room_of};
 ghost use Rattle.p9_export.specs.State.{fresh};
 
 use p9_fids::FidTable;
+use p9_wire::IOHDRSZ;
 use std::alloc::Allocator;
 use std::marker::Model;
 
@@ -31,6 +33,16 @@ impl<A: Allocator + Copy> Session<A> {
         Session {
             msize: None,
             fids: FidTable::new(alloc),
+        }
+    }
+
+    /// How many bytes a read or a write of the session may carry: its iounit, as open(5).
+    pub fn room(&self) -> u32
+        ensures { result ≡ room_of self.now }
+    {
+        match self.msize {
+            Some(msize) => msize.saturating_sub(IOHDRSZ),
+            None => 0,
         }
     }
 }

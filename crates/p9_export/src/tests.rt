@@ -1,6 +1,14 @@
 //! Versions and attaches, as bytes from outside.
 
-use crate::{Export, OpenError, is_frame};
+mod create;
+mod open;
+mod read;
+mod remove;
+mod walk;
+mod worlds;
+mod write;
+
+use crate::{Export, OpenError, is_frame, is_table_given};
 use p9_base::User;
 use p9_refusing::{Refusing, refuse_each};
 use p9_space::MountTable;
@@ -29,7 +37,10 @@ fn exporter<A: Allocator + Copy>(rt: &impl Abort, alloc: A) -> Export<PlainTree<
     let mut users = Vec::new(alloc);
     let glenda = User::new("glenda").expect(rt, "a user");
     assert!(rt; users.push(glenda).is_ok());
-    Export::new(Forest { trees }, users, MountTable::new(alloc))
+    let forest = Forest { trees };
+    let table = MountTable::new(alloc);
+    assert!(rt; is_table_given(&forest, &table));
+    Export::new(forest, users, table)
 }
 
 // Sends a frame in a session, and compares the reply.

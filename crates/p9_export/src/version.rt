@@ -1,14 +1,17 @@
 //! The answer to a version, as version(5).
 
-ghost use Rattle.std.specs.Prelude.{◌≡◌, false};
+ghost use Rattle.std.specs.Prelude.{◌≡◌, IfOk, false, map};
+ghost use Rattle.p9_wire.specs.Message.{r_view};
+ghost use Rattle.p9_export.specs.End.{FidsFit};
 ghost use Rattle.p9_export.specs.Version.{is_known, version_answer};
-ghost use Rattle.p9_export.specs.Answers.{Answers, IsReply};
+ghost use Rattle.p9_export.specs.Answers.{Answers, ReplyFits, replied};
 
+use crate::end::end_fids;
 use crate::session::Session;
+use crate::setting::Setting;
 use p9_base::Fault;
-use p9_fids::FidTable;
+use p9_tree::{Forest, Tree};
 use p9_wire::{MSIZE_MAX, RMsg};
-use std::alloc::Allocator;
 
 /// The least msize that a client may ask for.
 pub const MSIZE_MIN: u32 = 512;
@@ -18,14 +21,17 @@ pub const MSIZE_MIN: u32 = 512;
 ///
 /// An msize below [`MSIZE_MIN`] is [`Fault::SmallMsize`], and leaves the session. A version that
 /// isn't 9P2000 or a dialect of it is answered `unknown`, and leaves the session too.
-pub fn version<A: Allocator + Copy>(
-    alloc: A,
-    session: &mut Session<A>,
+pub fn version<T: Tree>(
+    setting: &Setting<T::Alloc>,
+    forest: &mut Forest<T>,
+    session: &mut Session<T::Alloc>,
+    now: u32,
     msize: u32,
     version: &str,
 ) -> Result<RMsg<'static>, Fault>
-    ensures answer { Answers (version_answer session.old msize version.now) false session.old session.new result }
-    ensures reply { IsReply result }
+    requires { FidsFit setting.now.table (map T.state forest.old.trees.items) session.old.fids }
+    ensures reply { IfOk result (λ reply. ReplyFits (r_view reply)) }
+    ensures answer { Answers (version_answer setting.now (map T.state forest.old.trees.items) session.old now msize version.now) false (map T.state forest.old.trees.items) (map T.state forest.new.trees.items) session.old session.new (replied r_view result) }
 {
     if msize < MSIZE_MIN {
         return Err(Fault::SmallMsize);
@@ -37,8 +43,8 @@ pub fn version<A: Allocator + Copy>(
             version: "unknown",
         });
     }
+    end_fids(setting, forest, &mut session.fids, now);
     session.msize = Some(msize);
-    session.fids = FidTable::new(alloc);
     Ok(RMsg::Version {
         msize,
         version: "9P2000",

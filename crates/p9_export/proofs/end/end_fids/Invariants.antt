@@ -1,0 +1,14 @@
+use Rattle.std.proofs.Common.{◌≡◌, map, length}
+use Rattle.p9_export.specs.Change.{all_applied}
+use Rattle.p9_export.specs.End.{FidsFit, on_ends}
+use Rattle.p9_export.proofs.end.end_fids.Given as goal
+
+abbrev pub invariant-loop-number : goal.invariant-loop-number
+invariant-loop-number g l =
+    let here = map g.T.Tree.state l.forest.trees.items in
+    let start = map g.T.Tree.state l.fn.forest.trees.items in
+    FidsFit l.setting.table here l.fids
+    × (all_applied (on_ends l.setting.table l.now here l.fids) here ≡ all_applied (on_ends l.fn.setting.table l.fn.now start l.fn.fids) start)
+
+abbrev pub decreases-loop-number : goal.decreases-loop-number
+decreases-loop-number g l = length l.fids

@@ -1,0 +1,9 @@
+use Rattle.std.proofs.Common.{◌≡◌, drop, map}
+use Rattle.p9_export.specs.Sound.{is_table_given}
+use Rattle.p9_export.proofs.given.is_table_given.Given as goal
+
+-- the rows that are left give the answer
+abbrev pub invariant-loop-position : goal.invariant-loop-position
+invariant-loop-position g l =
+    let forest = map g.T.Tree.state l.forest.trees.items in
+    is_table_given forest (drop l.position l.table) ≡ is_table_given forest l.table

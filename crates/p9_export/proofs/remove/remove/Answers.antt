@@ -1,0 +1,12 @@
+use Rattle.std.proofs.Common.{◌≡◌, None, inl, refl, sym, ◌∙◌}
+use Rattle.p9_export.proofs.Fids.{without_fid-none}
+use Rattle.p9_export.specs.Answer.{given}
+use Rattle.p9_fids.specs.Fid.{fid_at}
+use Rattle.p9_export.proofs.remove.remove.Goals as goal
+
+pub returns-in_default-clause-answer : goal.returns-in_default-clause-answer
+unfolding given
+returns-in_default-clause-answer g c =
+    let none : fid_at c.args.fid c.session.inside.fids ≡ None = sym c.take.ensures.value ∙ c.in_default.is in
+    let same = c.take.ensures.after ∙ without_fid-none c.args.fid c.session.inside.fids none in
+    rw (← c.session.view_is) (inl (rw none), refl, rw same)

@@ -1,0 +1,48 @@
+use Rattle.std.proofs.Common.{◌≡◌, ℕ, ◌+◌, ◌<◌, ◌∙◌, List, [], Some, Ok, Err, Bor, map, length, get_or, refl, sym, arith, length-append}
+use Rattle.p9_export.proofs.Walks.{file-step_of, walked-all, walked-end, walked-turn}
+use Rattle.p9_export.specs.State.{Setting}
+use Rattle.p9_export.proofs.walk.walk_along.Goals as goal
+
+-- what stands for a name past the last
+nameless : Bor (List ℕ)
+nameless = record { ref_ptr = (0, 0); now = [] }
+
+pub loop-name-init : goal.loop-name-init
+loop-name-init g c = record {
+  count = rw c.new-qids.ensures refl;
+  walk = rw (c.new-qids.ensures, c.in_ok-trail.ensures, c.as_slice-name-items.ensures.names) refl;
+}
+
+pub arrive-requires : goal.arrive-requires
+unfolding nameless
+arrive-requires g c = record {
+  room = c.in-Ok.ensures.room;
+  file = rw (← c.setting.view_is) (file-step_of _ c.setting.inside.table (Some c.args.user.now) c.loop-name.trail (get_or c.as_slice-name-items.result.now c.loop-name.name-index nameless).now c.in-Ok.step (sym c.in-Ok.ensures.step));
+}
+
+pub push-requires : goal.push-requires
+push-requires g c =
+    let few = c.as_slice-name-items.ensures.few in
+    let within = c.loop-name-test.true in
+    omega arith
+
+pub loop-name-preserved : goal.loop-name-preserved
+unfolding nameless
+loop-name-preserved g c =
+    let setting : Setting = record { users = c.setting.inside.users.items; table = c.setting.inside.table } in
+    let there = rw (← c.setting.view_is) at c.in_ok-arrive-in-Ok.ensures.qid in
+    let turn = walked-turn setting (map g.T.Tree.state c.args.forest.now.trees.items) c.args.user.now c.loop-name.qids c.push.new.self c.loop-name.trail c.arrive.new.trail c.as_slice-name-items.result.now c.loop-name.name-index nameless c.in-Ok.step c.in_ok-arrive-in-Ok.field-0 c.loop-name-test.true (sym c.in-Ok.ensures.step) there c.push.ensures c.in_ok-arrive-in-Ok.ensures.ok in
+    record {
+      count = rw c.push.ensures (omega (arith, length-append c.loop-name.qids));
+      walk = c.loop-name.invariant.walk ∙ rw (← c.setting.view_is) turn;
+    }
+
+pub returns-in-Err : goal.returns-in-Err
+unfolding nameless
+returns-in-Err g c =
+    let setting : Setting = record { users = c.setting.inside.users.items; table = c.setting.inside.table } in
+    let end = walked-end setting (map g.T.Tree.state c.args.forest.now.trees.items) c.args.user.now c.loop-name.qids c.loop-name.trail c.as_slice-name-items.result.now c.loop-name.name-index nameless c.in-Err.fault c.loop-name-test.true (sym c.in-Err.ensures.step) in
+    sym (c.loop-name.invariant.walk ∙ rw (← c.setting.view_is) end)
+
+pub returns : goal.returns
+returns g c = sym (c.loop-name.invariant.walk ∙ walked-all c.args.setting.now (map g.T.Tree.state c.args.forest.now.trees.items) c.args.user.now _ _ c.as_slice-name-items.result.now c.loop-name.name-index c.loop-name-test.false)

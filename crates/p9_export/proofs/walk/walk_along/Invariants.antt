@@ -1,0 +1,14 @@
+use Rattle.std.proofs.Common.{◌≡◌, drop, length, map}
+use Rattle.p9_export.specs.Walk.{walked}
+use Rattle.p9_export.proofs.Walks.{so_far}
+use Rattle.p9_export.proofs.walk.walk_along.Given as goal
+
+-- the qids so far, and the walk along the names that are left, are the whole walk
+abbrev pub invariant-loop-name : goal.invariant-loop-name
+invariant-loop-name g l =
+    let forest = map g.T.Tree.state l.forest.trees.items in
+    let walk = walked l.setting forest l.user in
+    record {
+      count : length l.qids ≡ l.name-index;
+      walk : walk l.start l.names ≡ so_far l.qids (walk l.trail (map (λ n. n.now) (drop l.name-index l.name-items)));
+    }

@@ -1,0 +1,17 @@
+-- Letting a fid go: clunk(5).
+use Rattle.std.specs.Prelude.{ℕ, List, Ok}
+use Rattle.p9_base.specs.declared.fault.Fault.TheVariants.{UnknownFid}
+use Rattle.p9_tree.specs.Server.{Server}
+use Rattle.p9_wire.specs.Message.{Rclunk}
+use Rattle.p9_fids.specs.Fid.{fid_at, without_fid}
+use Rattle.p9_export.specs.State.{Setting, Session}
+use Rattle.p9_export.specs.Answer.{Answer, given}
+use Rattle.p9_export.specs.End.{on_end}
+
+abbrev pub without : ℕ → Session → Session
+without fid session = record session { fids = without_fid fid session.fids }
+
+abbrev pub clunk_answer : Setting → List Server → Session → ℕ → ℕ → Answer
+clunk_answer setting forest session now fid =
+    given (fid_at fid session.fids) UnknownFid (λ v.
+    Ok (record { changes = on_end setting.table now forest v; session = without fid session; reply = Rclunk }))

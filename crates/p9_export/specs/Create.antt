@@ -1,0 +1,124 @@
+-- The making of a file or directory: open(5).
+use Rattle.std.specs.Prelude.{ℕ, ◌-◌, ◌<◌, ◌==◌, ◌&&◌, ◌||◌, Bool, not, nat_le, List, [], ◌∷◌, ◌++◌, Option, Some, None, Result, Ok, Err, find, is_none, is_some, length, if◌then◌else◌}
+use Rattle.std.specs.List.{list_any}
+use Rattle.std.specs.Option.{option_map_or}
+use Rattle.p9_base.specs.declared.fault.Fault.{Fault}
+use Rattle.p9_base.specs.declared.fault.Fault.TheVariants.{BadFileName, BadOpenMode, CreationForbidden, FidOpen, FileExists, IsDirectory, NotDirectory, PathTooDeep, PermissionDenied, PhaseError, QidsUsedUp, UnknownFid}
+use Rattle.p9_base.specs.declared.mode.Mode.{Mode}
+use Rattle.p9_base.specs.declared.mode.Permissions.{Permissions}
+use Rattle.p9_base.specs.declared.mode.Rights.{Rights}
+use Rattle.p9_base.specs.declared.node_ref.NodeRef.{NodeRef}
+use Rattle.p9_base.specs.declared.qid.Qid.{Qid}
+use Rattle.p9_base.specs.Mode.{is_dir as is_dir_mode, mode_of}
+use Rattle.p9_base.specs.Name.{is_name}
+use Rattle.p9_tree.specs.declared.tree.TheConstants.{NEXT_MAX}
+use Rattle.p9_tree.specs.Node.{Node, is_dir}
+use Rattle.p9_tree.specs.Server.{Server}
+use Rattle.p9_tree.specs.Forest.{child_in, next_of, node_of}
+use Rattle.p9_tree.specs.Inside.{beside}
+use Rattle.p9_space.specs.declared.row.Member.{Member}
+use Rattle.p9_space.specs.declared.rights.TheConstants.{TO_WRITE}
+use Rattle.p9_space.specs.declared.trail.TheConstants.{PLACES_MAX}
+use Rattle.p9_space.specs.Rights.{may}
+use Rattle.p9_space.specs.Table.{members_of}
+use Rattle.p9_space.specs.Trail.{here}
+use Rattle.p9_space.specs.Walk.{and_then, is_alive, is_alive_dir}
+use Rattle.p9_wire.specs.Message.{RMessage, Rcreate}
+use Rattle.p9_fids.specs.Fid.{Fid, changed_fid, fid_at}
+use Rattle.p9_export.specs.declared.opening.Opening.{Opening}
+use Rattle.p9_export.specs.State.{Setting, Session}
+use Rattle.p9_export.specs.Answer.{Answer, given, need, unless}
+use Rattle.p9_export.specs.Change.{AddNode, EditNode, Mark}
+use Rattle.p9_export.specs.Open.{room_of}
+use Rattle.p9_export.specs.Opening.{is_plain_read, newly_opened, opening_of}
+use Rattle.p9_export.specs.Qid.{qid_of}
+
+-- a right to read or write is given only where the directory gives it; to execute, in a file, as asked
+abbrev pub file_rights : Rights → Rights → Rights
+file_rights dir asked = record { read = asked.read && dir.read; write = asked.write && dir.write; execute = asked.execute }
+
+-- in a directory each right only where the directory around gives it
+abbrev pub dir_rights : Rights → Rights → Rights
+dir_rights dir asked = record { read = asked.read && dir.read; write = asked.write && dir.write; execute = asked.execute && dir.execute }
+
+abbrev pub in_each : (Rights → Rights → Rights) → Permissions → Permissions → Permissions
+in_each f dir asked = record { owner = f dir.owner asked.owner; group = f dir.group asked.group; others = f dir.others asked.others }
+
+-- the mode that a new node gets in a directory of these permissions
+abbrev pub inherited : Permissions → Mode → Mode
+inherited dir asked = record asked { permissions = in_each (if is_dir_mode asked then dir_rights else file_rights) dir asked.permissions }
+
+-- the node that is made: the user's, of the group of its directory
+abbrev pub created : List ℕ → ℕ → ℕ → Node → List ℕ → Mode → Node
+created user now number dir name asked = record {
+  number = number;
+  parent = Some dir.number;
+  name = name;
+  mode = inherited dir.mode.permissions asked;
+  uid = user;
+  gid = dir.gid;
+  muid = user;
+  version = 0;
+  atime = now;
+  mtime = now;
+  bytes = [];
+}
+
+-- the first member that permits creation
+abbrev pub permitting : List Member → Option Member
+permitting ms = find (λ m. m.create) ms
+
+-- the directory where a node is to be made, among the members that stand there
+abbrev pub target_among : List Server → List Member → Result NodeRef Fault
+target_among forest ms =
+    if not (list_any (is_alive forest) ms) then Err PhaseError
+    else if not (list_any (is_alive_dir forest) ms) then Err NotDirectory
+    else option_map_or (λ m. Ok m.node) (permitting ms) (Err CreationForbidden)
+
+-- the fid goes on to the end of a trail, where it is open
+abbrev pub entered : ℕ → List NodeRef → Opening → Session → Session
+entered fid trail o session = record session {
+  fids = changed_fid fid (λ v. record v { trail = trail; opened = Some (newly_opened o) }) session.fids;
+}
+
+-- the node is made in the directory, which is marked
+abbrev pub creation : List Server → Session → ℕ → ℕ → Fid → NodeRef → Node → List ℕ → Mode → Opening → Answer
+creation forest session now fid v target dir name asked o =
+    let at = beside target (next_of target.server forest) in
+    let n = created v.user now at.number dir name asked in
+    Ok (record {
+      changes = AddNode target.server n ∷ EditNode target (Mark v.user now) ∷ [];
+      session = entered fid (v.trail ++ at ∷ []) o session;
+      reply = Rcreate (qid_of at n) (room_of session);
+    })
+
+-- why the fid's user can't make a node of the name in the directory
+abbrev pub fault_in : List Server → Fid → List ℕ → NodeRef → Node → Option Fault
+fault_in forest v name target dir =
+    if not (is_dir dir) then Some NotDirectory
+    else if not (may v.user dir TO_WRITE) then Some PermissionDenied
+    else if is_some (child_in target name forest) then Some FileExists
+    else if nat_le NEXT_MAX (next_of target.server forest) then Some QidsUsedUp
+    else if nat_le PLACES_MAX (length v.trail) then Some PathTooDeep
+    else None
+
+abbrev pub created_in : List Server → Session → ℕ → ℕ → Fid → List ℕ → Mode → Opening → NodeRef → Answer
+created_in forest session now fid v name asked o target =
+    given (node_of target forest) PhaseError (λ dir.
+    unless (fault_in forest v name target dir) (
+    creation forest session now fid v target dir name asked o))
+
+abbrev pub create_answer : Setting → List Server → Session → ℕ → ℕ → List ℕ → ℕ → ℕ → Answer
+create_answer setting forest session now fid name perm bits =
+    given (fid_at fid session.fids) UnknownFid (λ v.
+    need (is_none v.opened) FidOpen (
+    need (is_name name) BadFileName (
+    given (opening_of bits) BadOpenMode (λ o.
+    given (mode_of perm) BadOpenMode (λ asked.
+    need (not (is_dir_mode asked) || is_plain_read o) IsDirectory (
+    and_then (target_among forest (members_of (here v.trail) setting.table)) (
+    created_in forest session now fid v name asked o)))))))
+
+-- what is told of a file that was made
+abbrev pub create_reply : Qid × ℕ → RMessage
+create_reply r = Rcreate r.0 r.1

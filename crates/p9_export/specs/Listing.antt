@@ -1,0 +1,60 @@
+-- The entries of a directory, over a union: read(5).
+use Rattle.std.specs.Prelude.{ℕ, suc, ◌==◌, ◌&&◌, ◌||◌, Bool, true, false, nat_lt, List, [], ◌∷◌, ◌++◌, Option, filter, map, if◌then◌else◌}
+use Rattle.std.specs.Option.{option_map_or}
+use Rattle.p9_base.specs.declared.node_ref.NodeRef.{NodeRef}
+use Rattle.p9_tree.specs.Node.{Node, is_dir, is_in}
+use Rattle.p9_tree.specs.Server.{Server}
+use Rattle.p9_tree.specs.Forest.{node_of, server_at}
+use Rattle.p9_space.specs.declared.row.Member.{Member}
+use Rattle.p9_space.specs.declared.rights.TheConstants.{TO_READ}
+use Rattle.p9_space.specs.Rights.{may}
+use Rattle.p9_space.specs.Table.{MountRow, members_of}
+use Rattle.p9_fids.specs.declared.opened.Cursor.{Cursor}
+
+-- an entry: the position of the member in the union, the member, and the node that stands in it
+pub record Entry : Type 0 where
+  pub position : ℕ
+  pub member : NodeRef
+  pub node : Node
+
+abbrev pub entry_at : ℕ → NodeRef → Node → Entry
+entry_at position member n = record { position = position; member = member; node = n }
+
+-- the nodes of a directory, by rising number
+abbrev pub children_of : NodeRef → List Server → List Node
+children_of dir forest = filter (is_in dir.number) (server_at dir.server forest).nodes
+
+module _ (forest : List Server) (user : List ℕ) where
+  -- an alive directory that the user may read; the first member without this test
+  abbrev pub is_listed : ℕ → Member → Bool
+  is_listed position m = option_map_or (λ n. is_dir n && (position == 0 || may user n TO_READ)) (node_of m.node forest) false
+
+  abbrev pub entries_of : ℕ → Member → List Entry
+  entries_of position m =
+      if is_listed position m then map (entry_at position m.node) (children_of m.node forest)
+      else []
+
+  -- the entries of the members from a position on, in order of member, then number
+  abbrev pub entries_from : ℕ → List Member → List Entry
+  entries_from position [] = []
+  entries_from position (m ∷ ms) = entries_of position m ++ entries_from (suc position) ms
+
+-- all entries of a place; repeated names stay
+abbrev pub listing : List MountRow → List Server → List ℕ → NodeRef → List Entry
+listing table forest user place = entries_from forest user 0 (members_of place table)
+
+-- the entry stands behind the last one that was given
+abbrev pub is_behind : Option Cursor → Entry → Bool
+is_behind cursor e = option_map_or (λ c. nat_lt c.member e.position || (c.member == e.position && nat_lt c.number e.node.number)) cursor true
+
+-- the entries that are still to be given
+abbrev pub listing_behind : Option Cursor → List MountRow → List Server → List ℕ → NodeRef → List Entry
+listing_behind cursor table forest user place = filter (is_behind cursor) (listing table forest user place)
+
+-- the same of these members
+abbrev pub left_of : List Server → List ℕ → Option Cursor → List Member → List Entry
+left_of forest user cursor members = filter (is_behind cursor) (entries_from forest user 0 members)
+
+-- where the entry stands
+abbrev pub cursor_of : Entry → Cursor
+cursor_of e = record { member = e.position; number = e.node.number }

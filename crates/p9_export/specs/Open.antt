@@ -1,0 +1,91 @@
+-- The opening of a fid: open(5).
+use Rattle.std.specs.Prelude.{ℕ, ◌-◌, ◌&&◌, ◌||◌, Bool, false, not, nat_lt, List, [], ◌∷◌, Option, Ok, is_none, if◌then◌else◌}
+use Rattle.std.specs.List.{list_any}
+use Rattle.std.specs.Map.{values_of}
+use Rattle.std.specs.Option.{option_map_or}
+use Rattle.p9_base.specs.declared.fault.Fault.TheVariants.{BadOpenMode, ExclusiveUse, FidOpen, IsDirectory, PermissionDenied, PhaseError, UnknownFid}
+use Rattle.p9_base.specs.declared.mode.Kind.{Kind}
+use Rattle.p9_base.specs.declared.mode.Kind.TheVariants.{Directory, File}
+use Rattle.p9_base.specs.declared.node_ref.NodeRef.{NodeRef}
+use Rattle.p9_base.specs.declared.qid.Qid.{Qid}
+use Rattle.p9_tree.specs.Node.{Node, is_dir}
+use Rattle.p9_tree.specs.Server.{Server}
+use Rattle.p9_space.specs.Rights.{may}
+use Rattle.p9_space.specs.Table.{MountRow}
+use Rattle.p9_wire.specs.Message.{RMessage, Ropen}
+use Rattle.p9_wire.specs.declared.constants.TheConstants.{IOHDRSZ}
+use Rattle.p9_fids.specs.Fid.{Fid, changed_fid, fid_at, open_count, opened_as}
+use Rattle.p9_export.specs.declared.opening.Opening.{Opening}
+use Rattle.p9_export.specs.State.{Setting, Session, SessionRow}
+use Rattle.p9_export.specs.Answer.{Answer, given, need}
+use Rattle.p9_export.specs.Change.{Change, Cut, EditNode, Mark, edited}
+use Rattle.p9_export.specs.End.{fid_file, fid_ref}
+use Rattle.p9_export.specs.Opening.{is_plain_read, newly_opened, opening_of, wanted_by}
+use Rattle.p9_export.specs.Qid.{qid_of}
+use Rattle.p9_export.specs.Rights.{may_write_parent}
+
+-- what a read or a write of a session may carry
+abbrev pub room_of : Session → ℕ
+room_of session = option_map_or (λ msize. msize - IOHDRSZ) session.msize 0
+
+abbrev pub is_append_only_kind : Kind → Bool
+is_append_only_kind Directory = false
+is_append_only_kind (File flags) = flags.append_only
+
+-- each write goes to its end, and no opening truncates it
+abbrev pub is_append_only : Node → Bool
+is_append_only n = is_append_only_kind n.mode.kind
+
+abbrev pub is_exclusive_kind : Kind → Bool
+is_exclusive_kind Directory = false
+is_exclusive_kind (File flags) = flags.exclusive
+
+-- one fid at a time may have it open
+abbrev pub is_exclusive : Node → Bool
+is_exclusive n = is_exclusive_kind n.mode.kind
+
+-- a fid of some session has it open
+abbrev pub is_in_use : List MountRow → NodeRef → List SessionRow → Bool
+is_in_use table at sessions = list_any (λ session. nat_lt 0 (open_count table at session.fids)) (values_of sessions)
+
+-- each right that the mode asks for, and to remove on close, to change the file's directory
+abbrev pub may_open : List ℕ → List Server → NodeRef → Node → Opening → Bool
+may_open user forest at n o = may user n (wanted_by o) && (not o.remove_on_close || may_write_parent user forest at n)
+
+abbrev pub is_cut : Node → Opening → Bool
+is_cut n o = o.truncates && not (is_append_only n)
+
+-- truncation cuts the file to nothing, and marks it
+abbrev pub truncation : List ℕ → ℕ → NodeRef → Node → Opening → List Change
+truncation user now at n o = if is_cut n o then EditNode at (Cut 0) ∷ EditNode at (Mark user now) ∷ [] else []
+
+-- the file after it
+abbrev pub truncated : List ℕ → ℕ → Node → Opening → Node
+truncated user now n o = if is_cut n o then edited (Mark user now) (edited (Cut 0) n) else n
+
+abbrev pub opened_session : ℕ → Opening → Session → Session
+opened_session fid o session = record session { fids = changed_fid fid (opened_as (newly_opened o)) session.fids }
+
+-- the file of the fid is for one fid at a time, and a fid of some session has it open
+abbrev pub is_taken : Setting → List Server → List SessionRow → Session → ℕ → Bool
+is_taken setting forest sessions session fid =
+    option_map_or (λ v. option_map_or (λ n. is_exclusive n && is_in_use setting.table (fid_ref setting.table v) sessions) (fid_file setting.table forest v) false) (fid_at fid session.fids) false
+
+abbrev pub open_answer : Setting → List Server → Bool → Session → ℕ → ℕ → ℕ → Answer
+open_answer setting forest taken session now fid bits =
+    given (fid_at fid session.fids) UnknownFid (λ v.
+    need (is_none v.opened) FidOpen (
+    given (fid_file setting.table forest v) PhaseError (λ n.
+    given (opening_of bits) BadOpenMode (λ o.
+    need (not (is_dir n) || is_plain_read o) IsDirectory (
+    need (may_open v.user forest (fid_ref setting.table v) n o) PermissionDenied (
+    need (not taken) ExclusiveUse (
+    Ok (record {
+      changes = truncation v.user now (fid_ref setting.table v) n o;
+      session = opened_session fid o session;
+      reply = Ropen (qid_of (fid_ref setting.table v) (truncated v.user now n o)) (room_of session);
+    }))))))))
+
+-- what is told of a file that was opened
+abbrev pub open_reply : Qid × ℕ → RMessage
+open_reply r = Ropen r.0 r.1

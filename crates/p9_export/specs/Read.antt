@@ -1,0 +1,93 @@
+-- Reading: read(5).
+use Rattle.std.specs.Prelude.{ℕ, ◌+◌, ◌-◌, ◌==◌, ◌||◌, Bool, min, nat_le, List, [], ◌∷◌, Option, Some, None, Ok, Err, length, if◌then◌else◌}
+use Rattle.std.specs.List.{flat_map}
+use Rattle.std.specs.Option.{option_map_or}
+use Rattle.p9_base.specs.declared.fault.Fault.TheVariants.{BadDirectoryOffset, FidNotOpen, PhaseError, SmallReadCount, UnknownFid}
+use Rattle.p9_base.specs.declared.node_ref.NodeRef.{NodeRef}
+use Rattle.p9_tree.specs.Bytes.{read_from}
+use Rattle.p9_tree.specs.Node.{Node, is_dir}
+use Rattle.p9_tree.specs.Server.{Server}
+use Rattle.p9_tree.specs.Inside.{beside}
+use Rattle.p9_space.specs.Trail.{here}
+use Rattle.p9_wire.specs.Fields.{stat_bytes}
+use Rattle.p9_wire.specs.Message.{Rread}
+use Rattle.p9_fids.specs.declared.opened.Cursor.{Cursor}
+use Rattle.p9_fids.specs.declared.opened.Opened.{Opened}
+use Rattle.p9_fids.specs.Fid.{Fid, changed_fid, fid_at, opened_as}
+use Rattle.p9_fids.specs.Opened.{reads}
+use Rattle.p9_export.specs.State.{Setting, Session}
+use Rattle.p9_export.specs.Answer.{Answer, given, need}
+use Rattle.p9_export.specs.Change.{EditNode, Touch}
+use Rattle.p9_export.specs.End.{fid_file, fid_ref}
+use Rattle.p9_export.specs.Listing.{Entry, cursor_of, listing_behind}
+use Rattle.p9_export.specs.Open.{room_of}
+use Rattle.p9_export.specs.Qid.{stat_of}
+
+-- A file.
+
+-- the bytes from the offset on that are there and have room; the time of the last read moves
+abbrev pub read_file : Session → ℕ → NodeRef → Node → ℕ → ℕ → Answer
+read_file session now at n offset room =
+    Ok (record { changes = EditNode at (Touch now) ∷ []; session = session; reply = Rread (read_from offset room n.bytes) })
+
+-- A directory.
+
+-- an entry is the node's own stat, not that of what is mounted on it
+unfoldable pub entry_bytes : Entry → List ℕ
+entry_bytes e = stat_bytes (stat_of (beside e.member e.node.number) e.node)
+
+-- as many whole entries from the front as have room
+abbrev pub fitting : ℕ → List Entry → List Entry
+fitting room [] = []
+fitting room (e ∷ es) =
+    let size = length (entry_bytes e) in
+    if nat_le size room then e ∷ fitting (room - size) es else []
+
+-- the last entry that was given
+abbrev pub cursor_after : Option Cursor → List Entry → Option Cursor
+cursor_after cursor [] = cursor
+cursor_after cursor (e ∷ es) = cursor_after (Some (cursor_of e)) es
+
+-- where the next read goes on behind an entry, and how many bytes that is
+abbrev pub end_of : Entry → Cursor × ℕ
+end_of e = (cursor_of e, length (entry_bytes e))
+
+-- offset 0 begins anew
+abbrev pub cursor_at : ℕ → Opened → Option Cursor
+cursor_at offset o = if offset == 0 then None else o.cursor
+
+abbrev pub listed_session : ℕ → Opened → ℕ → Option Cursor → List Entry → Session → Session
+listed_session fid o offset cursor given session = record session {
+  fids = changed_fid fid (opened_as (record o { next_offset = offset + length (flat_map entry_bytes given); cursor = cursor_after cursor given })) session.fids;
+}
+
+-- the entries that are given of those that are left
+abbrev pub listed : Session → ℕ → Opened → ℕ → Option Cursor → List Entry → Answer
+listed session fid o offset cursor given =
+    Ok (record { changes = []; session = listed_session fid o offset cursor given session; reply = Rread (flat_map entry_bytes given) })
+
+-- where entries are left, room for one is needed
+abbrev pub given_of : Session → ℕ → Opened → ℕ → Option Cursor → List Entry → List Entry → Answer
+given_of session fid o offset cursor (e ∷ es) [] = Err SmallReadCount
+given_of session fid o offset cursor left given = listed session fid o offset cursor given
+
+abbrev pub read_dir : Setting → List Server → Session → ℕ → Fid → Opened → ℕ → ℕ → Answer
+read_dir setting forest session fid v o offset room =
+    let cursor = cursor_at offset o in
+    let left = listing_behind cursor setting.table forest v.user (here v.trail) in
+    need (offset == 0 || offset == o.next_offset) BadDirectoryOffset (
+    given_of session fid o offset cursor left (fitting room left))
+
+-- open for reading, or not
+abbrev pub readable : Option Opened → Option Opened
+readable None = None
+readable (Some o) = if reads o.mode then Some o else None
+
+abbrev pub read_answer : Setting → List Server → Session → ℕ → ℕ → ℕ → ℕ → Answer
+read_answer setting forest session now fid offset count =
+    given (fid_at fid session.fids) UnknownFid (λ v.
+    given (readable v.opened) FidNotOpen (λ o.
+    given (fid_file setting.table forest v) PhaseError (λ n.
+    let room = min count (room_of session) in
+    if is_dir n then read_dir setting forest session fid v o offset room
+    else read_file session now (fid_ref setting.table v) n offset room)))

@@ -1,0 +1,32 @@
+-- Removing a file, which ends its fid in every case: remove(5).
+use Rattle.std.specs.Prelude.{ℕ, Bool, not, List, [], Option, Result, Ok, Err, is_some, if◌then◌else◌}
+use Rattle.p9_base.specs.declared.fault.Fault.{Fault}
+use Rattle.p9_base.specs.declared.fault.Fault.TheVariants.{IsRoot, NotEmpty, PermissionDenied, PhaseError, UnknownFid}
+use Rattle.p9_base.specs.Fault.{text_of}
+use Rattle.p9_tree.specs.Node.{Node}
+use Rattle.p9_tree.specs.Server.{Server}
+use Rattle.p9_tree.specs.Forest.{has_children_of}
+use Rattle.p9_wire.specs.Message.{Rerror, Rremove}
+use Rattle.p9_fids.specs.Fid.{Fid, fid_at}
+use Rattle.p9_export.specs.State.{Setting, Session}
+use Rattle.p9_export.specs.Answer.{Answer, Outcome, given, need, outcome_of}
+use Rattle.p9_export.specs.Clunk.{without}
+use Rattle.p9_export.specs.End.{fid_file, fid_ref, taken_out}
+use Rattle.p9_export.specs.Rights.{may_write_parent}
+
+-- the removal, in a session that the fid has left
+abbrev pub removal : Setting → List Server → Session → ℕ → Fid → Answer
+removal setting forest left now v =
+    given (fid_file setting.table forest v) PhaseError (λ n.
+    let at = fid_ref setting.table v in
+    need (is_some n.parent) IsRoot (
+    need (may_write_parent v.user forest at n) PermissionDenied (
+    need (not (has_children_of at forest)) NotEmpty (
+    Ok (record { changes = taken_out v.user now at n; session = left; reply = Rremove })))))
+
+-- a refused removal is answered too, since its fid ends
+abbrev pub remove_answer : Setting → List Server → Session → ℕ → ℕ → Answer
+remove_answer setting forest session now fid =
+    given (fid_at fid session.fids) UnknownFid (λ v.
+    let left = without fid session in
+    Ok (outcome_of left (removal setting forest left now v)))

@@ -1,0 +1,17 @@
+-- What is told of a file: stat(5).
+use Rattle.std.specs.Prelude.{ℕ, List, [], Ok}
+use Rattle.p9_base.specs.declared.fault.Fault.TheVariants.{PhaseError, UnknownFid}
+use Rattle.p9_tree.specs.Server.{Server}
+use Rattle.p9_wire.specs.Message.{Rstat}
+use Rattle.p9_fids.specs.Fid.{fid_at}
+use Rattle.p9_export.specs.State.{Setting, Session}
+use Rattle.p9_export.specs.Answer.{Answer, given}
+use Rattle.p9_export.specs.End.{fid_file, fid_ref}
+use Rattle.p9_export.specs.Qid.{stat_of}
+
+-- no permission is needed
+abbrev pub stat_answer : Setting → List Server → Session → ℕ → Answer
+stat_answer setting forest session fid =
+    given (fid_at fid session.fids) UnknownFid (λ v.
+    given (fid_file setting.table forest v) PhaseError (λ n.
+    Ok (record { changes = []; session = session; reply = Rstat (stat_of (fid_ref setting.table v) n) })))

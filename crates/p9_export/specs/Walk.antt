@@ -1,0 +1,81 @@
+-- A walk, which takes a fid along names: walk(5).
+use Rattle.std.specs.Prelude.{ℕ, ◌==◌, List, [], ◌∷◌, Option, Some, None, Result, Ok, Err, is_none, if◌then◌else◌}
+use Rattle.std.specs.Option.{option_map_or}
+use Rattle.p9_base.specs.declared.fault.Fault.{Fault}
+use Rattle.p9_base.specs.declared.fault.Fault.TheVariants.{FidOpen, PhaseError, UnknownFid}
+use Rattle.p9_base.specs.declared.fid.TheConstants.{NOFID}
+use Rattle.p9_base.specs.declared.node_ref.NodeRef.{NodeRef}
+use Rattle.p9_base.specs.declared.qid.Qid.{Qid}
+use Rattle.p9_tree.specs.Server.{Server}
+use Rattle.p9_space.specs.declared.trail.Step.{Step}
+use Rattle.p9_space.specs.Trail.{here, stepped}
+use Rattle.p9_space.specs.Walk.{and_then, step_of}
+use Rattle.p9_wire.specs.Message.{Rwalk}
+use Rattle.p9_fids.specs.Fid.{Fid, FidRow, changed_fid, fid_at, put_fault, trailed, with_fid}
+use Rattle.p9_export.specs.State.{Setting, Session}
+use Rattle.p9_export.specs.Answer.{Answer, given, need, unless}
+use Rattle.p9_export.specs.Qid.{qid_at}
+
+-- how far names lead: the qid of each file where a step arrives, the trail there, and the fault of the step
+-- that is refused, if one is
+pub record Walked : Type 0 where
+  pub qids : List Qid
+  pub trail : List NodeRef
+  pub stopped : Option Fault
+
+-- where a step arrives, and the qid of the file there
+pub record Arrival : Type 0 where
+  pub trail : List NodeRef
+  pub qid : Qid
+
+module _ (setting : Setting) (forest : List Server) where
+  abbrev pub arrival : List NodeRef → Step → Result Arrival Fault
+  arrival trail step =
+      let next = stepped trail step in
+      option_map_or (λ qid. Ok (record { trail = next; qid = qid })) (qid_at setting.table forest (here next)) (Err PhaseError)
+
+  -- one step by a name
+  abbrev pub arrived_by : List ℕ → List NodeRef → List ℕ → Result Arrival Fault
+  arrived_by user trail name = and_then (step_of forest setting.table (Some user) trail name) (arrival trail)
+
+  -- ends where a step is refused, else goes on
+  abbrev pub going_on : List NodeRef → Result Arrival Fault → (List NodeRef → Walked) → Walked
+  going_on trail (Err fault) later = record { qids = []; trail = trail; stopped = Some fault }
+  going_on trail (Ok a) later = let rest = later a.trail in record { qids = a.qid ∷ rest.qids; trail = rest.trail; stopped = rest.stopped }
+
+  -- one step after another, up to the first that is refused
+  abbrev pub walked : List ℕ → List NodeRef → List (List ℕ) → Walked
+  walked user trail [] = record { qids = []; trail = trail; stopped = None }
+  walked user trail (name ∷ names) = going_on trail (arrived_by user trail name) (λ next. walked user next names)
+
+-- why newfid can't be where the walk leads; the fid itself always can
+abbrev pub newfid_fault : ℕ → ℕ → List FidRow → Option Fault
+newfid_fault fid newfid fids =
+    if newfid == NOFID then Some UnknownFid
+    else if newfid == fid then None
+    else put_fault newfid fids
+
+-- the fid goes there itself, or newfid is added
+abbrev pub moved : ℕ → ℕ → Fid → List NodeRef → Session → Session
+moved fid newfid v trail session = record session {
+  fids = if newfid == fid then changed_fid fid (trailed trail) session.fids
+         else with_fid newfid (record { user = v.user; trail = trail; opened = None }) session.fids;
+}
+
+-- a walk that is stopped at its first name is refused; one that is stopped later moves no fid
+abbrev pub ended_walk : ℕ → ℕ → Fid → Session → List NodeRef → Option Fault → List Qid → Answer
+ended_walk fid newfid v session trail None qids =
+    Ok (record { changes = []; session = moved fid newfid v trail session; reply = Rwalk qids })
+ended_walk fid newfid v session trail (Some fault) [] = Err fault
+ended_walk fid newfid v session trail (Some fault) (qid ∷ qids) =
+    Ok (record { changes = []; session = session; reply = Rwalk (qid ∷ qids) })
+
+abbrev pub walk_outcome : ℕ → ℕ → Fid → Session → Walked → Answer
+walk_outcome fid newfid v session w = ended_walk fid newfid v session w.trail w.stopped w.qids
+
+abbrev pub walk_answer : Setting → List Server → Session → ℕ → ℕ → List (List ℕ) → Answer
+walk_answer setting forest session fid newfid names =
+    given (fid_at fid session.fids) UnknownFid (λ v.
+    need (is_none v.opened) FidOpen (
+    unless (newfid_fault fid newfid session.fids) (
+    walk_outcome fid newfid v session (walked setting forest v.user v.trail names))))

@@ -1,0 +1,44 @@
+-- Writing: write in read(5).
+use Rattle.std.specs.Prelude.{ℕ, ◌+◌, ◌≤◌, Bool, false, nat_le, List, [], ◌∷◌, Ok, length, if◌then◌else◌}
+use Rattle.p9_base.specs.declared.fault.Fault.TheVariants.{FidNotOpen, FileTooLarge, PhaseError, UnknownFid}
+use Rattle.p9_base.specs.declared.node_ref.NodeRef.{NodeRef}
+use Rattle.p9_tree.specs.declared.bytes.TheConstants.{FILE_MAX}
+use Rattle.p9_tree.specs.Node.{Node}
+use Rattle.p9_tree.specs.Server.{Server}
+use Rattle.p9_wire.specs.Message.{Rwrite}
+use Rattle.std.specs.Option.{option_map_or}
+use Rattle.p9_fids.specs.Fid.{Fid, fid_at}
+use Rattle.p9_fids.specs.Opened.{writes}
+use Rattle.p9_export.specs.State.{Setting, Session}
+use Rattle.p9_export.specs.Answer.{Answer, given, need}
+use Rattle.p9_export.specs.Change.{EditNode, Mark, Overwrite}
+use Rattle.p9_export.specs.End.{fid_file, fid_ref}
+use Rattle.p9_export.specs.Open.{is_append_only}
+
+-- open for writing
+abbrev pub is_writable : Fid → Bool
+is_writable v = option_map_or (λ o. writes o.mode) v.opened false
+
+-- the offset; the end of an append-only file
+abbrev pub write_place : ℕ → Node → ℕ
+write_place offset n = if is_append_only n then length n.bytes else offset
+
+abbrev pub written : Session → ℕ → Fid → NodeRef → ℕ → List ℕ → Answer
+written session now v at place bytes =
+    Ok (record { changes = EditNode at (Overwrite place bytes) ∷ EditNode at (Mark v.user now) ∷ []; session = session; reply = Rwrite (length bytes) })
+
+-- no bytes change nothing, at any offset
+abbrev pub write_file : Session → ℕ → Fid → NodeRef → Node → ℕ → List ℕ → Answer
+write_file session now v at n offset [] = Ok (record { changes = []; session = session; reply = Rwrite 0 })
+write_file session now v at n offset (b ∷ bs) =
+    let bytes = b ∷ bs in
+    let place = write_place offset n in
+    need (nat_le (place + length bytes) FILE_MAX) FileTooLarge (
+    written session now v at place bytes)
+
+abbrev pub write_answer : Setting → List Server → Session → ℕ → ℕ → ℕ → List ℕ → Answer
+write_answer setting forest session now fid offset bytes =
+    given (fid_at fid session.fids) UnknownFid (λ v.
+    need (is_writable v) FidNotOpen (
+    given (fid_file setting.table forest v) PhaseError (λ n.
+    write_file session now v (fid_ref setting.table v) n offset bytes)))

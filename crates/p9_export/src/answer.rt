@@ -1,0 +1,65 @@
+//! The answer to a frame of one session among all.
+
+ghost use Rattle.std.specs.Prelude.{◌≡◌, ◌≤◌, IsSome, IfSome, drop, length, map};
+ghost use Rattle.p9_wire.specs.Frame.{msize_max};
+ghost use Rattle.p9_wire.specs.Message.{t_view};
+ghost use Rattle.p9_export.specs.Answers.{AnswersAmong, CanWrite, frame_among, replied, reply_view};
+ghost use Rattle.p9_export.specs.Sound.{IsSessionSound};
+ghost use Rattle.p9_export.specs.State.{session_at};
+ghost use Rattle.p9_export.specs.Step.{finds_taken, ran_out};
+
+use crate::frame::request_of;
+use crate::message::message;
+use crate::open::is_taken;
+use crate::reply::Reply;
+use crate::session::Session;
+use crate::setting::Setting;
+use p9_base::Fault;
+use p9_tree::{Forest, Tree};
+use p9_wire::TMsg;
+use std::collections::BTreeMap;
+
+// The bytes of a reply to a read before its data: the header and their count.
+const BEFORE_DATA: usize = 11;
+
+/// Answers a frame of the session of this name. What a read gives is put behind the first 11 bytes of
+/// the reply.
+pub fn answer<T: Tree>(
+    setting: &Setting<T::Alloc>,
+    forest: &mut Forest<T>,
+    sessions: &mut BTreeMap<u32, Session<T::Alloc>, T::Alloc>,
+    name: u32,
+    now: u32,
+    frame: &[u8],
+    reply: &mut [u8],
+) -> Result<Reply, Fault>
+    requires live { IsSome (session_at name sessions.old.entries) }
+    requires sound { IfSome (session_at name sessions.old.entries) (IsSessionSound setting.now.table (map T.state forest.old.trees.items)) }
+    requires room { msize_max ≤ length reply.old }
+    ensures reply { CanWrite result }
+    ensures len { length reply.new ≡ length reply.old }
+    ensures answer { let old = map T.state forest.old.trees.items in let new = map T.state forest.new.trees.items in let answer = frame_among setting.now old sessions.old.entries name now frame.now in AnswersAmong name answer (ran_out frame.now answer) old new sessions.old.entries sessions.new.entries (replied (reply_view new (drop 11 reply.new)) result) }
+{
+    let session = sessions.get(&name).unwrap();
+    let request = request_of(session, frame)?;
+    let taken = finds_taken(setting, forest, sessions, session, &request);
+    let session = sessions.get_mut(&name).unwrap();
+    let (_, buffer) = reply.split_at_mut(BEFORE_DATA);
+    message(setting, forest, session, taken, now, &request, buffer)
+}
+
+// Whether an open finds its file in use, in any session.
+fn finds_taken<T: Tree>(
+    setting: &Setting<T::Alloc>,
+    forest: &Forest<T>,
+    sessions: &BTreeMap<u32, Session<T::Alloc>, T::Alloc>,
+    session: &Session<T::Alloc>,
+    request: &TMsg<'_>,
+) -> bool
+    ensures { result ≡ finds_taken setting.now (map T.state forest.now.trees.items) sessions.now.entries session.now (t_view request.now) }
+{
+    match request {
+        TMsg::Open { fid, .. } => is_taken(setting, forest, sessions, session, *fid),
+        _ => false,
+    }
+}

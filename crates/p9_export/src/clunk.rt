@@ -1,0 +1,34 @@
+//! The answer to a clunk, as clunk(5).
+
+ghost use Rattle.std.specs.Prelude.{◌≡◌, false, map};
+ghost use Rattle.p9_wire.specs.Message.{Rclunk};
+ghost use Rattle.p9_export.specs.Answers.{Answers, replied};
+ghost use Rattle.p9_export.specs.Clunk.{clunk_answer};
+ghost use Rattle.p9_export.specs.End.{FidsFit};
+
+use crate::end::end_fid;
+use crate::session::Session;
+use crate::setting::Setting;
+use p9_base::Fault;
+use p9_tree::{Forest, Tree};
+
+/// Lets a fid go, with what its end does ([`end_fid`]).
+///
+/// A fid that isn't there is [`Fault::UnknownFid`], and leaves all. Nothing else refuses, and it takes
+/// no memory.
+pub fn clunk<T: Tree>(
+    setting: &Setting<T::Alloc>,
+    forest: &mut Forest<T>,
+    session: &mut Session<T::Alloc>,
+    now: u32,
+    fid: u32,
+) -> Result<(), Fault>
+    requires { FidsFit setting.now.table (map T.state forest.old.trees.items) session.old.fids }
+    ensures { let old = map T.state forest.old.trees.items in let new = map T.state forest.new.trees.items in Answers (clunk_answer setting.now old session.old now fid) false old new session.old session.new (replied (λ _. Rclunk) result) }
+{
+    let Some(ended) = session.fids.take(fid) else {
+        return Err(Fault::UnknownFid);
+    };
+    end_fid(setting, forest, &ended, now);
+    Ok(())
+}

@@ -1,0 +1,88 @@
+//! The end of fids, and removal on close, as clunk(5).
+
+ghost use Rattle.std.specs.Prelude.{◌≡◌, [], map};
+ghost use Rattle.p9_export.specs.Change.{all_applied};
+ghost use Rattle.p9_export.specs.End.{FidFits, FidsFit, on_end, on_ends, parent_marked, removes_on_close, taken_out};
+
+use crate::setting::Setting;
+use p9_base::{NodeRef, User};
+use p9_fids::{Fid, FidTable};
+use p9_tree::{Forest, Tree};
+use std::alloc::Allocator;
+
+/// What the end of a fid does: a file that it holds open with remove-on-close goes, and its
+/// directory is marked. Nothing is tested any more, and it takes no memory.
+#[tactic(auto, unfolding(crate::specs::Change::applied, crate::specs::Change::edited))]
+pub fn end_fid<T: Tree>(
+    setting: &Setting<T::Alloc>,
+    forest: &mut Forest<T>,
+    fid: &Fid<T::Alloc>,
+    now: u32,
+)
+    requires { FidFits setting.now.table (map T.state forest.old.trees.items) fid.now }
+    ensures { let old = map T.state forest.old.trees.items in map T.state forest.new.trees.items ≡ all_applied (on_end setting.now.table now old fid.now) old }
+{
+    if !removes_on_close(fid) {
+        return;
+    }
+    let at = setting.file(fid);
+    let Some(file) = forest.node(at) else {
+        return;
+    };
+    forest.well_formed();
+    let parent = file.parent();
+    forest.drop_leaf(at);
+    mark_parent(forest, at, parent, fid.user, now);
+}
+
+fn removes_on_close<A: Allocator + Copy>(fid: &Fid<A>) -> bool
+    ensures { result ≡ removes_on_close fid.now }
+{
+    match fid.opened {
+        Some(opened) => opened.remove_on_close,
+        None => false,
+    }
+}
+
+/// Marks the directory that a node stands in, by its number at the same server, if it stands in
+/// one.
+#[tactic(auto, unfolding(crate::specs::Change::applied, crate::specs::Change::edited))]
+pub fn mark_parent<T: Tree>(
+    forest: &mut Forest<T>,
+    at: NodeRef,
+    parent: Option<u64>,
+    user: User,
+    now: u32,
+)
+    ensures { let old = map T.state forest.old.trees.items in map T.state forest.new.trees.items ≡ all_applied (parent_marked user now at parent) old }
+{
+    if let Some(number) = parent {
+        forest.bump(
+            NodeRef {
+                server: at.server,
+                number,
+            },
+            user,
+            now,
+        );
+    }
+}
+
+/// Ends all fids, by rising number.
+pub fn end_fids<T: Tree>(
+    setting: &Setting<T::Alloc>,
+    forest: &mut Forest<T>,
+    fids: &mut FidTable<T::Alloc>,
+    now: u32,
+)
+    requires { FidsFit setting.now.table (map T.state forest.old.trees.items) fids.old }
+    ensures forest { let old = map T.state forest.old.trees.items in map T.state forest.new.trees.items ≡ all_applied (on_ends setting.now.table now old fids.old) old }
+    ensures fids { fids.new ≡ [] }
+{
+    while let Some(number) = fids.first() {
+        forest.well_formed();
+        if let Some(fid) = fids.take(number) {
+            end_fid(setting, forest, &fid, now);
+        }
+    }
+}

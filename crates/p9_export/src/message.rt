@@ -1,0 +1,93 @@
+//! The answer to a request, message by message.
+
+ghost use Rattle.std.specs.Prelude.{◌≡◌, ◌≤◌, ◌+◌, length, map};
+ghost use Rattle.p9_wire.specs.Frame.{msize_max};
+ghost use Rattle.p9_wire.specs.Message.{t_view};
+ghost use Rattle.p9_export.specs.Answers.{Answers, CanWrite, replied, reply_view};
+ghost use Rattle.p9_export.specs.End.{FidsFit};
+ghost use Rattle.p9_export.specs.Open.{room_of};
+ghost use Rattle.p9_export.specs.Step.{may_run_out, session_answer};
+
+use crate::attach::attach;
+use crate::clunk::clunk;
+use crate::create::create;
+use crate::open::open;
+use crate::read::read;
+use crate::remove::remove;
+use crate::reply::Reply;
+use crate::session::Session;
+use crate::setting::Setting;
+use crate::stat::stat;
+use crate::version::version;
+use crate::walk::walk;
+use crate::write::write;
+use p9_base::Fault;
+use p9_tree::{Forest, Tree};
+use p9_wire::{RMsg, TMsg};
+
+/// Answers a request of a session. `taken` says that an open finds its file in use. What a read gives
+/// is put at the front of `buffer`.
+pub fn message<T: Tree>(
+    setting: &Setting<T::Alloc>,
+    forest: &mut Forest<T>,
+    session: &mut Session<T::Alloc>,
+    taken: bool,
+    now: u32,
+    request: &TMsg<'_>,
+    buffer: &mut [u8],
+) -> Result<Reply, Fault>
+    requires fids { FidsFit setting.now.table (map T.state forest.old.trees.items) session.old.fids }
+    requires buffer { msize_max ≤ 11 + length buffer.old }
+    requires room { 24 + room_of session.old ≤ msize_max }
+    ensures reply { CanWrite result }
+    ensures answer { let old = map T.state forest.old.trees.items in let new = map T.state forest.new.trees.items in let answer = session_answer setting.now old taken session.old now (t_view request.now) in Answers answer (may_run_out (t_view request.now) answer) old new session.old session.new (replied (reply_view new buffer.new) result) }
+{
+    match request {
+        TMsg::Version {
+            msize,
+            version: dialect,
+        } => Ok(Reply::Message(version(setting, forest, session, now, *msize, dialect)?)),
+        TMsg::Auth { .. } => Err(Fault::NoAuthentication),
+        TMsg::Attach {
+            fid,
+            afid,
+            uname,
+            aname,
+        } => {
+            let qid = attach(setting, forest, session, *fid, *afid, uname, aname)?;
+            Ok(Reply::Message(RMsg::Attach { qid }))
+        }
+        TMsg::Flush { .. } => Ok(Reply::Message(RMsg::Flush)),
+        TMsg::Walk { fid, newfid, names } => {
+            let qids = walk(setting, forest, session, *fid, *newfid, names)?;
+            Ok(Reply::Message(RMsg::Walk { qids }))
+        }
+        TMsg::Open { fid, mode } => {
+            let (qid, iounit) = open(setting, forest, session, taken, now, *fid, *mode)?;
+            Ok(Reply::Message(RMsg::Open { qid, iounit }))
+        }
+        TMsg::Create {
+            fid,
+            name,
+            perm,
+            mode,
+        } => {
+            let (qid, iounit) = create(setting, forest, session, now, *fid, name, *perm, *mode)?;
+            Ok(Reply::Message(RMsg::Create { qid, iounit }))
+        }
+        TMsg::Write { fid, offset, bytes } => {
+            let count = write(setting, forest, session, now, *fid, *offset, bytes)?;
+            Ok(Reply::Message(RMsg::Write { count }))
+        }
+        TMsg::Clunk { fid } => {
+            clunk(setting, forest, session, now, *fid)?;
+            Ok(Reply::Message(RMsg::Clunk))
+        }
+        TMsg::Remove { fid } => Ok(Reply::Message(remove(setting, forest, session, now, *fid)?)),
+        TMsg::Stat { fid } => Ok(Reply::StatOf(stat(setting, forest, session, *fid)?)),
+        TMsg::Read { fid, offset, count } => Ok(Reply::Data(read(
+            setting, forest, session, now, *fid, *offset, *count, buffer,
+        )?)),
+        _ => Err(Fault::Malformed),
+    }
+}

@@ -1,0 +1,169 @@
+//! The answer to an open, as open(5).
+
+ghost use Rattle.std.specs.Prelude.{◌≡◌, map, false, IfSome, IsSome};
+ghost use Rattle.p9_tree.specs.Forest.{node_of};
+ghost use Rattle.p9_export.specs.Answers.{Answers, replied};
+ghost use Rattle.p9_export.specs.Change.{all_applied};
+ghost use Rattle.p9_export.specs.Open.{is_append_only, is_cut, is_exclusive, is_in_use, is_taken, may_open, open_answer, open_reply, truncated, truncation};
+ghost use Rattle.p9_export.specs.Qid.{qid_of};
+
+use crate::opening::Opening;
+use crate::qid::qid_of;
+use crate::rights::may_write_parent;
+use crate::session::Session;
+use crate::setting::Setting;
+use p9_base::{Fault, Kind, NodeRef, Qid, User};
+use p9_space::{MountTable, may};
+use p9_tree::{Forest, Node, Tree};
+use std::alloc::Allocator;
+use std::collections::BTreeMap;
+
+/// Whether each write goes to the file's end, and no opening truncates it.
+pub fn is_append_only<A: Allocator>(file: &Node<A>) -> bool
+    ensures { result ≡ is_append_only file.now }
+{
+    match file.mode().kind {
+        Kind::File(flags) => flags.append_only,
+        Kind::Directory => false,
+    }
+}
+
+fn is_exclusive<A: Allocator>(file: &Node<A>) -> bool
+    ensures { result ≡ is_exclusive file.now }
+{
+    match file.mode().kind {
+        Kind::File(flags) => flags.exclusive,
+        Kind::Directory => false,
+    }
+}
+
+// Whether a fid of some session has the file open.
+fn is_in_use<A: Allocator + Copy>(
+    table: &MountTable<A>,
+    at: NodeRef,
+    sessions: &BTreeMap<u32, Session<A>, A>,
+) -> bool
+    ensures { result ≡ is_in_use table.now at sessions.now.entries }
+{
+    sessions
+        .values()
+        .any(|session| session.fids.open_count(table, at) > 0)
+}
+
+/// Whether the file of the fid is for one fid at a time, and a fid of some session has it open.
+pub fn is_taken<T: Tree>(
+    setting: &Setting<T::Alloc>,
+    forest: &Forest<T>,
+    sessions: &BTreeMap<u32, Session<T::Alloc>, T::Alloc>,
+    session: &Session<T::Alloc>,
+    fid: u32,
+) -> bool
+    ensures { result ≡ is_taken setting.now (map T.state forest.now.trees.items) sessions.now.entries session.now fid }
+{
+    let Some(fid) = session.fids.get(fid) else {
+        return false;
+    };
+    let at = setting.file(fid);
+    match forest.node(at) {
+        Some(file) => is_exclusive(file) && is_in_use(&setting.table, at, sessions),
+        None => false,
+    }
+}
+
+/// Opens a fid for what the mode's bits ask, and answers the qid of its file and the session's
+/// room. Truncation cuts the file to nothing and marks it, but leaves an append-only file. `taken`
+/// says that the file is in use, as [`is_taken`].
+///
+/// The first that applies refuses, and leaves all: there is no such fid, [`Fault::UnknownFid`]; it
+/// is open, [`Fault::FidOpen`]; its file doesn't exist, [`Fault::PhaseError`]; the mode means
+/// nothing, [`Fault::BadOpenMode`]; a directory is asked for anything but to be read,
+/// [`Fault::IsDirectory`]; the user lacks a right, [`Fault::PermissionDenied`]; the file is in use,
+/// [`Fault::ExclusiveUse`]. It takes no memory.
+pub fn open<T: Tree>(
+    setting: &Setting<T::Alloc>,
+    forest: &mut Forest<T>,
+    session: &mut Session<T::Alloc>,
+    taken: bool,
+    now: u32,
+    fid: u32,
+    mode: u8,
+) -> Result<(Qid, u32), Fault>
+    ensures { let old = map T.state forest.old.trees.items in let new = map T.state forest.new.trees.items in Answers (open_answer setting.now old taken session.old now fid mode) false old new session.old session.new (replied open_reply result) }
+{
+    let Some(holder) = session.fids.get(fid) else {
+        return Err(Fault::UnknownFid);
+    };
+    if holder.opened.is_some() {
+        return Err(Fault::FidOpen);
+    }
+    let user = holder.user;
+    let at = setting.file(holder);
+    let Some(file) = forest.node(at) else {
+        return Err(Fault::PhaseError);
+    };
+    let Some(opening) = Opening::of(mode) else {
+        return Err(Fault::BadOpenMode);
+    };
+    if file.is_dir() && !opening.is_plain_read() {
+        return Err(Fault::IsDirectory);
+    }
+    if !may_open(&user, forest, at, file, opening) {
+        return Err(Fault::PermissionDenied);
+    }
+    if taken {
+        return Err(Fault::ExclusiveUse);
+    }
+    let qid = truncated_qid(forest, at, user, now, opening);
+    session.fids.set_opened(fid, opening.opened());
+    Ok((qid, session.room()))
+}
+
+// Whether the user has each right that the mode asks for, and to remove on close, to change the
+// file's directory.
+fn may_open<T: Tree>(
+    user: &User,
+    forest: &Forest<T>,
+    at: NodeRef,
+    file: &Node<T::Alloc>,
+    opening: Opening,
+) -> bool
+    ensures { result ≡ may_open user.now (map T.state forest.now.trees.items) at file.now opening }
+{
+    may(user, file, opening.wanted())
+        && (!opening.remove_on_close || may_write_parent(user, forest, at, file))
+}
+
+// Whether the opening truncates the file.
+fn is_cut<A: Allocator>(file: &Node<A>, opening: Opening) -> bool
+    ensures { result ≡ is_cut file.now opening }
+{
+    opening.truncates && !is_append_only(file)
+}
+
+// Cuts the file where the opening truncates it, and answers its qid after that.
+fn truncated_qid<T: Tree>(
+    forest: &mut Forest<T>,
+    at: NodeRef,
+    user: User,
+    now: u32,
+    opening: Opening,
+) -> Qid
+    requires { IsSome (node_of at (map T.state forest.old.trees.items)) }
+    ensures forest { let old = map T.state forest.old.trees.items in IfSome (node_of at old) (λ n. map T.state forest.new.trees.items ≡ all_applied (truncation user now at n opening) old) }
+    ensures qid { IfSome (node_of at (map T.state forest.old.trees.items)) (λ n. result ≡ qid_of at (truncated user now n opening)) }
+{
+    truncate(forest, at, user, now, opening);
+    forest.well_formed();
+    qid_of(at, forest.node(at).unwrap())
+}
+
+// Cuts the file where the opening truncates it.
+fn truncate<T: Tree>(forest: &mut Forest<T>, at: NodeRef, user: User, now: u32, opening: Opening)
+    requires { IsSome (node_of at (map T.state forest.old.trees.items)) }
+    ensures { let old = map T.state forest.old.trees.items in IfSome (node_of at old) (λ n. map T.state forest.new.trees.items ≡ all_applied (truncation user now at n opening) old) }
+{
+    if is_cut(forest.node(at).unwrap(), opening) {
+        forest.cut(at, 0);
+        forest.bump(at, user, now);
+    }
+}

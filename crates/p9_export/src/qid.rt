@@ -1,0 +1,45 @@
+//! The qids of files, and what is told of them, as intro(5) and stat(5).
+
+ghost use Rattle.std.specs.Prelude.{◌≡◌, ◌<◌, ◌≤◌, ◌^◌};
+ghost use Rattle.p9_export.specs.Qid.{qid_of, stat_of};
+ghost use Rattle.p9_wire.specs.Fields.{FitsStat, stat_len};
+ghost use Rattle.p9_wire.specs.Message.{stat_view};
+
+use p9_base::{NodeRef, Qid};
+use p9_tree::Node;
+use p9_wire::Stat;
+use std::alloc::Allocator;
+
+/// The identity of a file among those of all servers, as intro(5).
+pub fn qid_of<A: Allocator>(at: NodeRef, file: &Node<A>) -> Qid
+    requires { at.number < 2 ^ 48 }
+    ensures { result ≡ qid_of at file.now }
+{
+    Qid {
+        kind: file.mode().qid_kind(),
+        version: file.version(),
+        path: (u64::from(at.server) << 48) + at.number,
+    }
+}
+
+/// What is told of a file, as stat(5). A directory has no bytes.
+pub fn stat_of<A: Allocator>(at: NodeRef, file: &Node<A>) -> Stat<'_>
+    requires { at.number < 2 ^ 48 }
+    ensures fits { FitsStat (stat_view result) }
+    ensures short { stat_len (stat_view result) ≤ 493 }
+    ensures value { stat_view result ≡ stat_of at file.now }
+{
+    Stat {
+        kind: 0,
+        dev: u32::from(at.server),
+        qid: qid_of(at, file),
+        mode: file.mode().bits(),
+        atime: file.atime(),
+        mtime: file.mtime(),
+        length: file.bytes().len() as u64,
+        name: file.name(),
+        uid: file.uid().as_str(),
+        gid: file.gid().as_str(),
+        muid: file.muid().as_str(),
+    }
+}

@@ -1,0 +1,14 @@
+//! What a request is answered, before it is written.
+
+use p9_base::NodeRef;
+use p9_wire::RMsg;
+
+/// The reply to a request, or where it is to be found.
+#[derive(Drop)]
+pub enum Reply {
+    Message(RMsg<'static>),
+    /// So many bytes of data, which stand in the reply's buffer, behind what comes before them.
+    Data(u32),
+    /// The stat of this node.
+    StatOf(NodeRef),
+}

@@ -1,0 +1,47 @@
+//! What no event changes.
+
+ghost use Rattle.std.specs.Prelude.{◌≡◌};
+ghost use Rattle.p9_export.specs.End.{fid_ref};
+ghost use Rattle.p9_export.specs.State.{fresh};
+
+use crate::session::Session;
+use p9_base::{NodeRef, User};
+use p9_fids::Fid;
+use p9_space::MountTable;
+use std::alloc::Allocator;
+use std::marker::Model;
+
+/// What the exporter was made with, and what stays while it serves.
+#[derive(Drop)]
+pub struct Setting<A: Allocator + Copy> {
+    pub alloc: A,
+    /// The users who may attach.
+    pub users: Vec<User, A>,
+    /// The name space that is served.
+    pub table: MountTable<A>,
+}
+
+impl<A: Allocator + Copy> Model for Setting<A> {
+    ghost use Rattle.p9_export.specs.State.{Setting as SettingOf};
+
+    ghost Value = { SettingOf };
+
+    ghost view = { λ s. record { users = s.users.items; table = s.table } };
+}
+
+impl<A: Allocator + Copy> Setting<A> {
+    /// A session whose version isn't set. This takes no memory.
+    pub fn session(&self) -> Session<A>
+        ensures { result ≡ fresh }
+    {
+        Session::new(self.alloc)
+    }
+
+    /// The file of a fid, whether it exists or not: the first member of the place where its trail
+    /// ends.
+    pub fn file(&self, fid: &Fid<A>) -> NodeRef
+        ensures { result ≡ fid_ref self.now.table fid.now }
+    {
+        self.table.file(fid.trail.here())
+    }
+}

@@ -1,0 +1,32 @@
+//! The answer to a stat, as stat(5).
+
+ghost use Rattle.std.specs.Prelude.{◌≡◌, false, map};
+ghost use Rattle.p9_export.specs.Answers.{Answers, replied, stat_reply};
+ghost use Rattle.p9_export.specs.Stat.{stat_answer};
+
+use crate::session::Session;
+use crate::setting::Setting;
+use p9_base::{Fault, NodeRef};
+use p9_tree::{Forest, Tree};
+
+/// The file of a fid, of which is told. No permission is needed.
+///
+/// The first that applies refuses: the fid isn't there, [`Fault::UnknownFid`]; its file doesn't exist,
+/// [`Fault::PhaseError`]. It changes nothing, and takes no memory.
+pub fn stat<T: Tree>(
+    setting: &Setting<T::Alloc>,
+    forest: &Forest<T>,
+    session: &Session<T::Alloc>,
+    fid: u32,
+) -> Result<NodeRef, Fault>
+    ensures { let forest = map T.state forest.now.trees.items in Answers (stat_answer setting.now forest session.now fid) false forest forest session.now session.now (replied (stat_reply forest) result) }
+{
+    let Some(held) = session.fids.get(fid) else {
+        return Err(Fault::UnknownFid);
+    };
+    let at = setting.file(held);
+    if forest.node(at).is_none() {
+        return Err(Fault::PhaseError);
+    }
+    Ok(at)
+}

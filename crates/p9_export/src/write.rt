@@ -1,0 +1,88 @@
+//! The answer to a write, as read(5).
+
+ghost use Rattle.std.specs.Prelude.{◌≡◌, ◌+◌, length, map, nat_le};
+ghost use Rattle.p9_fids.specs.Opened.{writes};
+ghost use Rattle.p9_wire.specs.Message.{Rwrite};
+ghost use Rattle.p9_export.specs.Answers.{Answers, replied};
+ghost use Rattle.p9_export.specs.End.{FidsFit};
+ghost use Rattle.p9_export.specs.Step.{is_done};
+ghost use Rattle.p9_export.specs.Write.{is_writable, write_answer, write_place};
+ghost use Rattle.p9_tree.specs.declared.bytes.TheConstants.{FILE_MAX};
+
+use crate::open::is_append_only;
+use crate::session::Session;
+use crate::setting::Setting;
+use p9_base::Fault;
+use p9_fids::Fid;
+use p9_tree::{FILE_MAX, Forest, Node, Tree};
+use std::alloc::Allocator;
+
+/// Writes into the file of an open fid, at the offset, or at the end of an append-only file. A gap
+/// before the offset is filled with zeros, and the file is marked. It answers how many bytes were
+/// written: all of them. No bytes change nothing.
+///
+/// The first that applies refuses, and leaves all: there is no such fid, [`Fault::UnknownFid`]; it
+/// isn't open for writing, [`Fault::FidNotOpen`]; its file doesn't exist, [`Fault::PhaseError`];
+/// the file would have more than [`FILE_MAX`] bytes, [`Fault::FileTooLarge`]. Else memory may be
+/// refused, [`Fault::OutOfMemory`].
+pub fn write<T: Tree>(
+    setting: &Setting<T::Alloc>,
+    forest: &mut Forest<T>,
+    session: &Session<T::Alloc>,
+    now: u32,
+    fid: u32,
+    offset: u64,
+    bytes: &[u8],
+) -> Result<u32, Fault>
+    requires { FidsFit setting.now.table (map T.state forest.old.trees.items) session.now.fids }
+    ensures { let old = map T.state forest.old.trees.items in let new = map T.state forest.new.trees.items in let answer = write_answer setting.now old session.now now fid offset bytes.now in Answers answer (is_done answer) old new session.now session.now (replied Rwrite result) }
+{
+    let Some(holder) = session.fids.get(fid) else {
+        return Err(Fault::UnknownFid);
+    };
+    if !is_writable(holder) {
+        return Err(Fault::FidNotOpen);
+    }
+    let at = setting.file(holder);
+    let Some(file) = forest.node(at) else {
+        return Err(Fault::PhaseError);
+    };
+    if bytes.is_empty() {
+        return Ok(0);
+    }
+    let place = write_place(file, offset);
+    if !fits(place, bytes.len()) {
+        return Err(Fault::FileTooLarge);
+    }
+    forest.write(at, place, bytes)?;
+    forest.bump(at, holder.user, now);
+    Ok(bytes.len() as u32)
+}
+
+// Whether the fid is open for writing.
+fn is_writable<A: Allocator + Copy>(fid: &Fid<A>) -> bool
+    ensures { result ≡ is_writable fid.now }
+{
+    match fid.opened {
+        Some(opened) => opened.mode.writes(),
+        None => false,
+    }
+}
+
+// The offset; the end of an append-only file.
+fn write_place<A: Allocator>(file: &Node<A>, offset: u64) -> u64
+    ensures { result ≡ write_place offset file.now }
+{
+    if is_append_only(file) {
+        file.bytes().len() as u64
+    } else {
+        offset
+    }
+}
+
+// Whether a file has room for so many bytes at the place.
+fn fits(place: u64, count: usize) -> bool
+    ensures { result ≡ nat_le (place + count) FILE_MAX }
+{
+    place <= FILE_MAX as u64 && count <= FILE_MAX - place as usize
+}
