@@ -7,7 +7,7 @@ use clap::error::ErrorKind;
 use std::alloc::{AllocError, Global};
 
 /// The command that the words ask for, of which the first is the program's name, or `None` where they
-/// are a bad command line. No word but the first asks for `play`.
+/// are a bad command line. No word but the first asks for `play`; `--` is a word.
 pub fn command_asked(alloc: Global, words: &[String]) -> Result<Option<&'static str>, AllocError>
     ensures { IfOk result (λ asked. IfSome asked (λ command. command.now ≡ codes "play")) }
 {
@@ -17,8 +17,9 @@ pub fn command_asked(alloc: Global, words: &[String]) -> Result<Option<&'static 
         Err(_) => return Ok(None),
     };
     match matches.subcommand() {
-        None | Some(("play", _)) => Ok(Some("play")),
-        Some(_) => Ok(None),
+        Some(("play", _)) => Ok(Some("play")),
+        None if words.len() <= 1 => Ok(Some("play")),
+        _ => Ok(None),
     }
 }
 

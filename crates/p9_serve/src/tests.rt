@@ -1,5 +1,7 @@
 //! Inputs and what the program prints for them, with bytes from outside.
 
+mod messages;
+
 use crate::{BundleError, ScriptError, read_script, run_command, split_bundle};
 use p9_base::NoMemory;
 use p9_export::Event;
