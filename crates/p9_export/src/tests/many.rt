@@ -178,6 +178,6 @@ fn lists_all(rt: &impl Abort, alloc: Global, count: u32) {
 }
 
 #[test]
-fn a_thousand_files_are_listed(rt: HostRuntime) {
-    lists_all(&rt, rt.alloc(), 1_000);
+fn many_files_are_listed(rt: HostRuntime) {
+    lists_all(&rt, rt.alloc(), 500);
 }
