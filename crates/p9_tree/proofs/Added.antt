@@ -8,7 +8,7 @@ use Rattle.std.proofs.lemmas.Slice.Eq.{bytes_eq-Decides}
 use Rattle.std.proofs.lemmas.List.Elements.{All-push, All-weaker, All-get_or}
 use Rattle.std.proofs.lemmas.List.Quantifiers.{all_pairs_push}
 use Rattle.p9_base.specs.Name.{is_name}
-use Rattle.p9_tree.specs.Node.{Node, has_number}
+use Rattle.p9_tree.specs.Node.{Node, IsTellable, has_number}
 use Rattle.p9_tree.specs.Server.{Server, node_at, child_of, is_dir_at, IsSound, WellFormed, CanAdd, added}
 use Rattle.p9_tree.proofs.Lookups.{number-node_at, All-node_at, node_at-past}
 
@@ -19,7 +19,7 @@ child_of-None dir k (x ∷ xs) n free e in_dir =
     let same_name : bytes_eq n.name n.name ≡ true = (bytes_eq-Decides n.name n.name).1 refl in
     grind (arith, nat_tests, child_of-None dir k xs n)
 
-module _ (s : Server) (dir : ℕ) (n : Node) (w : WellFormed s) (can : CanAdd s dir n) (number : n.number ≡ s.next) (parent : n.parent ≡ Some dir) (name : IsTrue (is_name n.name)) where
+module _ (s : Server) (dir : ℕ) (n : Node) (w : WellFormed s) (can : CanAdd s dir n) (number : n.number ≡ s.next) (parent : n.parent ≡ Some dir) (name : IsTrue (is_name n.name)) (told : IsTellable n) where
   absent : node_at s.next s.nodes ≡ None
   absent = node_at-past s.next s.nodes w.below
 
@@ -43,7 +43,7 @@ module _ (s : Server) (dir : ℕ) (n : Node) (w : WellFormed s) (can : CanAdd s 
   parent_of_new p m new in_p = let of_m : n.parent ≡ m.parent = ap (λ (x : Node). x.parent) new in cc
 
   sound_new : IsSound n
-  sound_new = record { small = can.small; empty_dir = can.empty_dir; valid_name = λ p e. name; root_name = λ e. absurd (cc) }
+  sound_new = record { small = can.small; empty_dir = can.empty_dir; valid_name = λ p e. name; root_name = λ e. absurd (cc); tellable = told }
 
   pub WellFormed-added : WellFormed (added s n)
   WellFormed-added = record {

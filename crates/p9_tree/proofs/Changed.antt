@@ -8,7 +8,7 @@ use Rattle.std.proofs.lemmas.Bool.Decides.{nat_tests}
 use Rattle.p9_base.specs.declared.mode.Permissions.{Permissions}
 use Rattle.p9_tree.specs.declared.bytes.TheConstants.{FILE_MAX}
 use Rattle.p9_tree.specs.Bytes.{overwritten, cut_to}
-use Rattle.p9_tree.specs.Node.{Node, has_number, is_dir, marked, touched, with_bytes, with_owner}
+use Rattle.p9_tree.specs.Node.{Node, IsTellable, has_number, is_dir, marked, touched, with_bytes, with_owner}
 use Rattle.p9_tree.specs.Server.{Server, node_at, is_dir_at, IsSound, WellFormed, changed_at, with_nodes, with_changed}
 use Rattle.p9_tree.proofs.BytesLemmas.{length-cut_to, length-overwritten}
 use Rattle.p9_tree.proofs.Lookups.{node_at-position, set-changed_at}
@@ -128,26 +128,26 @@ sound-same n = record { sound = λ s. s; dir = λ s. refl }
 pub keeps-marked : (user : List ℕ) (now : ℕ) → KeepsPlace (marked user now)
 keeps-marked user now = record { in_dir = record { number = λ n. refl; parent = λ n. refl }; name = λ n. refl }
 
-pub sound-marked : (user : List ℕ) (now : ℕ) (n : Node) → KeepsSound (marked user now) n
-sound-marked user now n = record { sound = λ s. record { small = s.small; empty_dir = s.empty_dir; valid_name = s.valid_name; root_name = s.root_name }; dir = λ s. refl }
+pub sound-marked : (user : List ℕ) (now : ℕ) (n : Node) → IsTellable (marked user now n) → KeepsSound (marked user now) n
+sound-marked user now n told = record { sound = λ s. record { small = s.small; empty_dir = s.empty_dir; valid_name = s.valid_name; root_name = s.root_name; tellable = told }; dir = λ s. refl }
 
 pub keeps-touched : (now : ℕ) → KeepsPlace (touched now)
 keeps-touched now = record { in_dir = record { number = λ n. refl; parent = λ n. refl }; name = λ n. refl }
 
-pub sound-touched : (now : ℕ) (n : Node) → KeepsSound (touched now) n
-sound-touched now n = record { sound = λ s. record { small = s.small; empty_dir = s.empty_dir; valid_name = s.valid_name; root_name = s.root_name }; dir = λ s. refl }
+pub sound-touched : (now : ℕ) (n : Node) → IsTellable (touched now n) → KeepsSound (touched now) n
+sound-touched now n told = record { sound = λ s. record { small = s.small; empty_dir = s.empty_dir; valid_name = s.valid_name; root_name = s.root_name; tellable = told }; dir = λ s. refl }
 
 pub keeps-with_owner : (permissions : Permissions) (uid gid : List ℕ) → KeepsPlace (with_owner permissions uid gid)
 keeps-with_owner permissions uid gid = record { in_dir = record { number = λ n. refl; parent = λ n. refl }; name = λ n. refl }
 
-pub sound-with_owner : (permissions : Permissions) (uid gid : List ℕ) (n : Node) → IsTrue (is_dir n) → KeepsSound (with_owner permissions uid gid) n
-sound-with_owner permissions uid gid n is_directory = record { sound = λ s. record { small = s.small; empty_dir = λ _. s.empty_dir is_directory; valid_name = s.valid_name; root_name = s.root_name }; dir = λ s. sym is_directory }
+pub sound-with_owner : (permissions : Permissions) (uid gid : List ℕ) (n : Node) → IsTrue (is_dir n) → IsTellable (with_owner permissions uid gid n) → KeepsSound (with_owner permissions uid gid) n
+sound-with_owner permissions uid gid n is_directory told = record { sound = λ s. record { small = s.small; empty_dir = λ _. s.empty_dir is_directory; valid_name = s.valid_name; root_name = s.root_name; tellable = told }; dir = λ s. sym is_directory }
 
 pub keeps-with_bytes : (f : List ℕ → List ℕ) → KeepsPlace (with_bytes f)
 keeps-with_bytes f = record { in_dir = record { number = λ n. refl; parent = λ n. refl }; name = λ n. refl }
 
 pub sound-with_bytes : (f : List ℕ → List ℕ) (n : Node) → (length n.bytes ≤ FILE_MAX → length (f n.bytes) ≤ FILE_MAX) → (IsTrue (is_dir n) → n.bytes ≡ [] → f n.bytes ≡ []) → KeepsSound (with_bytes f) n
-sound-with_bytes f n small empty = record { sound = λ s. record { small = small s.small; empty_dir = λ d. empty d (s.empty_dir d); valid_name = s.valid_name; root_name = s.root_name }; dir = λ s. refl }
+sound-with_bytes f n small empty = record { sound = λ s. record { small = small s.small; empty_dir = λ d. empty d (s.empty_dir d); valid_name = s.valid_name; root_name = s.root_name; tellable = s.tellable }; dir = λ s. refl }
 
 pub sound-cut_to : (size : ℕ) (n : Node) → KeepsSound (with_bytes (cut_to size)) n
 sound-cut_to size n = sound-with_bytes (cut_to size) n (length-cut_to size n.bytes FILE_MAX) (λ d none. ap (cut_to size) none ∙ take-nil size)
@@ -167,6 +167,10 @@ root_is_dir s i n w place read = sym (ap (λ o. option_map_or is_dir o false) (n
 pub done_or_kept : {T E : Type 0} (r : Result T E) {A B : Type 0} → OnOk r A → OnErr r B → A ⊎ B
 done_or_kept (Ok x) done kept = inl done
 done_or_kept (Err e) done kept = inr kept
+
+pub both_done : {T E : Type 0} (r : Result T E) (A B : Type 0) → OnOk r A → OnOk r B → OnOk r (A × B)
+both_done (Ok x) A B one other = (one, other)
+both_done (Err e) A B one other = tt
 
 -- the same of two facts of what was done
 pub both_or_kept : {T E : Type 0} (r : Result T E) {A B C : Type 0} → OnOk r A → OnOk r B → OnErr r C → (A × B) ⊎ C

@@ -12,7 +12,7 @@ use Rattle.p9_tree.specs.declared.bytes.TheConstants.{FILE_MAX}
 use Rattle.p9_tree.specs.declared.change.Change.{Change}
 use Rattle.p9_tree.specs.Bytes.{resized}
 use Rattle.p9_tree.specs.Change.{CanChange, CanChangeNode, changed}
-use Rattle.p9_tree.specs.Node.{Node, is_child, is_dir, marked, root_name, with_bytes}
+use Rattle.p9_tree.specs.Node.{Node, IsTellable, is_child, is_dir, marked, root_name, with_bytes}
 use Rattle.p9_tree.specs.Server.{Server, node_at, child_of, WellFormed}
 use Rattle.p9_tree.proofs.Lookups.{node_at-found, number-node_at, passes-found}
 use Rattle.p9_tree.proofs.Added.{child_of-None}
@@ -42,7 +42,7 @@ same_dir c n kind = go c.mode refl
     go None e = refl
     go (Some mode) e = kind mode e
 
-module _ (s : Server) (n : Node) (c : Change) (can : CanChangeNode s n c) (valid : ForSome c.name (λ name. IsTrue (is_name name))) (in_dir : ForSome c.name (λ name. IsSome n.parent)) where
+module _ (s : Server) (n : Node) (c : Change) (can : CanChangeNode s n c) (valid : ForSome c.name (λ name. IsTrue (is_name name))) (in_dir : ForSome c.name (λ name. IsSome n.parent)) (told : IsTellable (changed c n)) where
   small : length n.bytes ≤ FILE_MAX → length (changed c n).bytes ≤ FILE_MAX
   small old = go c.length refl
     where
@@ -78,6 +78,7 @@ module _ (s : Server) (n : Node) (c : Change) (can : CanChangeNode s n c) (valid
       empty_dir = λ d. let dir : IsTrue (is_dir n) = sym (same_dir c n can.same_kind) ∙ d in empty dir (w.empty_dir dir);
       valid_name = sound_name w.valid_name;
       root_name = same_root w.root_name;
+      tellable = told;
     };
     dir = λ w. same_dir c n can.same_kind;
   }

@@ -1,11 +1,12 @@
 -- A file or directory of a server, as stat(5), and what a request changes in it.
-use Rattle.std.specs.Prelude.{ℕ, ◌+◌, ◌^◌, ◌%◌, ◌==◌, ◌&&◌, Bool, true, false, nat_lt, List, Option, codes}
+use Rattle.std.specs.Prelude.{ℕ, ◌+◌, ◌<◌, ◌^◌, ◌%◌, ◌==◌, ◌&&◌, Bool, true, false, nat_lt, IsTrue, List, Option, codes}
 use Rattle.std.specs.Option.{option_map_or}
 use Rattle.std.specs.Str.{bytes_eq}
 use Rattle.p9_base.specs.declared.mode.Mode.{Mode}
 use Rattle.p9_base.specs.declared.mode.Permissions.{Permissions}
 use Rattle.p9_base.specs.declared.mode.Kind.TheVariants.{Directory}
 use Rattle.p9_base.specs.Mode.{is_dir as is_dir_mode}
+use Rattle.p9_base.specs.User.{is_user}
 
 -- the root has no parent; a directory has no bytes
 pub record Node : Type 0 where
@@ -42,6 +43,17 @@ is_child dir name n = is_in dir n && bytes_eq n.name name
 -- its number is greater than the floor, if there is one
 abbrev pub is_above : Option ℕ → Node → Bool
 is_above floor n = option_map_or (λ k. nat_lt k n.number) floor true
+
+-- What a stat tells of a node has room in it.
+
+abbrev pub HasUsers : Node → Type 0
+HasUsers n = IsTrue (is_user n.uid) × IsTrue (is_user n.gid) × IsTrue (is_user n.muid)
+
+abbrev pub HasNumbers : Node → Type 0
+HasNumbers n = (n.version < 2 ^ 32) × (n.atime < 2 ^ 32) × (n.mtime < 2 ^ 32)
+
+abbrev pub IsTellable : Node → Type 0
+IsTellable n = HasUsers n × HasNumbers n
 
 -- Changes of a node.
 

@@ -7,7 +7,7 @@ use Rattle.p9_base.specs.declared.mode.Mode.{Mode}
 use Rattle.p9_base.specs.Name.{is_name}
 use Rattle.p9_tree.specs.declared.bytes.TheConstants.{FILE_MAX}
 use Rattle.p9_tree.specs.declared.tree.TheConstants.{NEXT_MAX}
-use Rattle.p9_tree.specs.Node.{Node, root_name, has_number, is_in, is_child, is_above, is_dir}
+use Rattle.p9_tree.specs.Node.{Node, IsTellable, root_name, has_number, is_in, is_child, is_above, is_dir}
 
 pub record Server : Type 0 where
   pub nodes : List Node
@@ -43,12 +43,14 @@ has_children dir nodes = is_some (child_after dir None nodes)
 
 -- Well-formed servers.
 
--- what holds of a node by itself; that its mode has no bit without a meaning is in modes' type
+-- what holds of a node by itself: it has users' names and numbers of 32 bits; that its mode has no bit without
+-- a meaning is in modes' type
 pub record IsSound (n : Node) : Type 0 where
   pub small : length n.bytes ≤ FILE_MAX
   pub empty_dir : IsTrue (is_dir n) → n.bytes ≡ []
   pub valid_name : (p : ℕ) → n.parent ≡ Some p → IsTrue (is_name n.name)
   pub root_name : n.parent ≡ None → n.name ≡ root_name
+  pub tellable : IsTellable n
 
 pub record WellFormed (s : Server) : Type 0 where
   pub few : s.next ≤ NEXT_MAX

@@ -7,7 +7,7 @@ ghost use Rattle.p9_base.specs.Text.{is_text};
 ghost use Rattle.p9_tree.specs.Bytes.{cut_to, overwritten, put_front, read_from};
 ghost use Rattle.p9_tree.specs.Change.{changed, with_length, with_mtime};
 ghost use Rattle.p9_tree.specs.New.{new_node};
-ghost use Rattle.p9_tree.specs.Node.{is_above, is_child, is_dir, is_in, marked, touched, with_bytes, with_owner};
+ghost use Rattle.p9_tree.specs.Node.{IsTellable, is_above, is_child, is_dir, is_in, marked, touched, with_bytes, with_owner};
 
 use crate::bytes::{Bytes, FILE_MAX};
 use crate::change::Change;
@@ -178,9 +178,10 @@ impl<A: Allocator> Node<A> {
     pub(crate) fn new(alloc: A, number: u64, dir: u64, new: &New<'_>) -> Result<Node<A>, NoMemory>
         ensures node { IfOk result (λ node. node ≡ new_node number dir new.now) }
         ensures name { IsTrue (is_name new.now.name) }
+        ensures tellable { IfOk result (λ node. IsTellable node) }
     {
         prove!(valid_name(new.name.as_str()));
-        Ok(Node {
+        let node = Node {
             number,
             entry: Some(Entry {
                 parent: dir,
@@ -194,29 +195,36 @@ impl<A: Allocator> Node<A> {
             atime: new.atime,
             mtime: new.mtime,
             bytes: Bytes::copy_of(alloc, new.bytes)?,
-        })
+        };
+        node.told();
+        Ok(node)
     }
 
     /// Notes that the user changed the file, or an entry of the directory, now.
     pub(crate) fn mark(&mut self, user: User, now: u32)
-        ensures { self.new ≡ marked user now self.old }
+        ensures node { self.new ≡ marked user now self.old }
+        ensures tellable { IsTellable self.new }
     {
         self.muid = user;
         self.version = self.version.wrapping_add(1);
         self.atime = now;
         self.mtime = now;
+        self.told();
     }
 
     /// Notes that the file was read now.
     pub(crate) fn touch(&mut self, now: u32)
-        ensures { self.new ≡ touched now self.old }
+        ensures node { self.new ≡ touched now self.old }
+        ensures tellable { IsTellable self.new }
     {
         self.atime = now;
+        self.told();
     }
 
     /// Makes it a directory of these permissions, owner and group, changed last by the owner.
     pub(crate) fn give(&mut self, permissions: Permissions, uid: User, gid: User)
-        ensures { self.new ≡ with_owner permissions uid gid self.old }
+        ensures node { self.new ≡ with_owner permissions uid gid self.old }
+        ensures tellable { IsTellable self.new }
     {
         self.mode = Mode {
             kind: Kind::Directory,
@@ -225,6 +233,7 @@ impl<A: Allocator> Node<A> {
         self.uid = uid;
         self.gid = gid;
         self.muid = uid;
+        self.told();
     }
 
     /// Writes into the file's bytes, as [`Bytes::write`].
@@ -249,6 +258,7 @@ impl<A: Allocator> Node<A> {
         requires small { ForSome change.now.length (λ size. size ≤ FILE_MAX) }
         ensures ok { OnOk result (self.new ≡ changed change.entry.now self.old) }
         ensures name { OnOk result (ForSome change.entry.now.name (λ name. IsTrue (is_name name))) }
+        ensures tellable { OnOk result (IsTellable self.new) }
         ensures err { OnErr result (self.new ≡ self.old) }
     {
         self.set_length(change)?;
@@ -256,7 +266,20 @@ impl<A: Allocator> Node<A> {
         self.mode = change.mode.unwrap_or(self.mode);
         self.gid = change.gid.unwrap_or(self.gid);
         self.rename(change.name);
+        self.told();
         Ok(())
+    }
+
+    // What a stat tells of it has room there, by the types of its fields.
+    fn told(&self)
+        ensures { IsTellable self.now }
+    {
+        let _ = self.uid.as_str();
+        let _ = self.gid.as_str();
+        let _ = self.muid.as_str();
+        let _version = self.version;
+        let _atime = self.atime;
+        let _mtime = self.mtime;
     }
 
     // Cuts the file to the new length, if there is one, or adds zeros, and marks it.

@@ -1,5 +1,5 @@
-use Rattle.std.proofs.Common.{ap, ◌∙◌, sym}
-use Rattle.p9_tree.specs.Node.{marked}
+use Rattle.std.proofs.Common.{ap, ◌∙◌, subst, sym}
+use Rattle.p9_tree.specs.Node.{IsTellable, marked}
 use Rattle.p9_tree.specs.Server.{Server, with_nodes}
 use Rattle.p9_tree.proofs.Lookups.{absent-changed_at, set-changed_at}
 use Rattle.p9_tree.proofs.Changed.{WellFormed-set, keeps-marked, sound-marked}
@@ -8,12 +8,12 @@ use Rattle.p9_tree.proofs.plain.PlainTreeTree.bump.Goals as goal
 pub invariant_of-self : goal.invariant_of-self
 invariant_of-self g c =
     let s : Server = record { nodes = c.args.self.now.nodes.items; next = c.args.self.now.next } in
-    record { well_formed = WellFormed-set c.args.number (marked c.args.user c.args.now) s _ _ _ (sym c.place.ensures ∙ c.in-Some.is) c.index_mut.ensures.value c.mark.ensures (keeps-marked _ _) (sound-marked _ _ _) c.args.self.now.well_formed }
+    record { well_formed = WellFormed-set c.args.number (marked c.args.user c.args.now) s _ _ _ (sym c.place.ensures ∙ c.in-Some.is) c.index_mut.ensures.value c.mark.ensures.node (keeps-marked _ _) (sound-marked _ _ _ (subst IsTellable c.mark.ensures.node c.mark.ensures.tellable)) c.args.self.now.well_formed }
 
 pub returns-in-Some : goal.returns-in-Some
 returns-in-Some g c =
     let s : Server = record { nodes = c.args.self.now.nodes.items; next = c.args.self.now.next } in
-    ap (with_nodes s) (set-changed_at c.args.number (marked c.args.user c.args.now) _ _ _ _ (sym c.place.ensures ∙ c.in-Some.is) c.index_mut.ensures.value c.mark.ensures)
+    ap (with_nodes s) (set-changed_at c.args.number (marked c.args.user c.args.now) _ _ _ _ (sym c.place.ensures ∙ c.in-Some.is) c.index_mut.ensures.value c.mark.ensures.node)
 
 pub returns-in_default : goal.returns-in_default
 returns-in_default g c =
