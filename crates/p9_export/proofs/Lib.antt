@@ -23,3 +23,5 @@ pub mod Steps
 mod Truncation
 mod Walks
 mod Writes
+mod Fitting
+mod Answering

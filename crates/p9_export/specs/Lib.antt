@@ -20,3 +20,4 @@ pub mod Sound
 pub mod Event
 pub mod Step
 pub mod Answers
+pub mod Laws

@@ -12,6 +12,7 @@ mod export;
 mod frame;
 mod given;
 mod inherit;
+pub mod laws;
 mod listing;
 mod message;
 mod open;

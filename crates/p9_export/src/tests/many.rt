@@ -179,5 +179,5 @@ fn lists_all(rt: &impl Abort, alloc: Global, count: u32) {
 
 #[test]
 fn many_files_are_listed(rt: HostRuntime) {
-    lists_all(&rt, rt.alloc(), 500);
+    lists_all(&rt, rt.alloc(), 5_000);
 }
