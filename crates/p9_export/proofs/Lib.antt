@@ -10,6 +10,7 @@ mod Found
 mod Givens
 pub mod Kept
 pub mod KeptFiles
+pub mod KeptWstats
 mod Listings
 pub mod Members
 pub mod OpenFids
@@ -23,3 +24,4 @@ pub mod Steps
 mod Truncation
 mod Walks
 mod Writes
+pub mod Wstats
