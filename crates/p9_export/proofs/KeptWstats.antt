@@ -1,10 +1,10 @@
 -- What the outcome of a wstat leaves.
-use Rattle.std.proofs.Common.{◌≡◌, ℕ, Bool, true, false, List, [], ◌∷◌, Option, Some, None, refl, sym, ap, ◌∙◌, subst, option_and_then}
+use Rattle.std.proofs.Common.{◌≡◌, ℕ, Bool, true, false, List, Option, Some, None, refl, sym, ◌∙◌, subst}
 use Rattle.std.specs.Prelude.{unwrap_or}
 use Rattle.std.specs.Option.{ForSome}
 use Rattle.p9_base.specs.declared.mode.Mode.{Mode}
 use Rattle.p9_base.specs.declared.node_ref.NodeRef.{NodeRef}
-use Rattle.p9_base.specs.Mode.{is_dir as is_dir_mode, mode_of}
+use Rattle.p9_base.specs.Mode.{is_dir as is_dir_mode}
 use Rattle.p9_tree.specs.declared.change.Change.{Change as NodeChange}
 use Rattle.p9_tree.specs.Node.{Node, is_dir}
 use Rattle.p9_tree.specs.Server.{Server}

@@ -1,5 +1,5 @@
 -- The answer to a wstat that no test refuses.
-use Rattle.std.proofs.Common.{◌≡◌, ◌≢◌, ℕ, ◌≤◌, ◌&&◌, ◌||◌, Bool, true, false, List, [], ◌∷◌, Option, Some, None, Ok, is_some, option_and_then, refl, sym, ap, ◌∙◌, subst, arith}
+use Rattle.std.proofs.Common.{◌≡◌, ◌≢◌, ℕ, ◌≤◌, Bool, true, false, List, [], ◌∷◌, Option, Some, None, Ok, is_some, option_and_then, refl, sym, ap, ◌∙◌, subst, arith}
 use Rattle.std.specs.Prelude.{is_none, nat_lt, not, if◌then◌else◌}
 use Rattle.std.specs.Option.{option_map_or}
 use Rattle.std.specs.Str.{bytes_eq}
@@ -16,7 +16,7 @@ use Rattle.p9_tree.specs.declared.bytes.TheConstants.{FILE_MAX}
 use Rattle.p9_tree.specs.Change.{CanChange, CanChangeNode, changed}
 use Rattle.p9_tree.specs.Inside.{beside}
 use Rattle.p9_tree.specs.Node.{Node, is_dir}
-use Rattle.p9_tree.specs.Server.{Server, child_of}
+use Rattle.p9_tree.specs.Server.{Server}
 use Rattle.p9_tree.specs.Forest.{IsForest, child_in, forest_changed_at, node_of, server_at}
 use Rattle.p9_tree.proofs.Lookups.{number-node_at}
 use Rattle.p9_space.specs.declared.rights.TheConstants.{TO_WRITE}
@@ -25,7 +25,7 @@ use Rattle.p9_space.specs.Walk.{or_else}
 use Rattle.p9_wire.specs.Message.{Rwstat, StatFields}
 use Rattle.p9_fids.specs.Fid.{Fid, fid_at}
 use Rattle.p9_export.specs.State.{Setting, Session}
-use Rattle.p9_export.specs.Answer.{Answer, Outcome, given, need, unless}
+use Rattle.p9_export.specs.Answer.{Answer, given, need, unless}
 use Rattle.p9_export.specs.Answers.{Answers}
 use Rattle.p9_export.specs.Change.{Change, EditNode, Rewrite, all_applied, applied, edited}
 use Rattle.p9_export.specs.End.{fid_file, fid_ref, parent_marked}
