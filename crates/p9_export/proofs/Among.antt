@@ -1,20 +1,17 @@
 -- The answer to a frame of one session, among all sessions.
-use Rattle.std.proofs.Common.{◌≡◌, ℕ, ◌+◌, ◌≤◌, Bool, true, List, [], ◌∷◌, ◌++◌, ◌⊎◌, inl, inr, Option, Some, None, Result, Ok, Err, refl, sym, ap, ◌∙◌, subst, arith}
-use Rattle.std.specs.Option.{option_map_or}
+use Rattle.std.proofs.Common.{◌≡◌, ℕ, ◌+◌, ◌≤◌, Bool, List, inl, Option, Some, None, Result, Ok, Err, refl, sym, ap, ◌∙◌, arith}
 use Rattle.std.specs.Ordering.{nat_cmp}
 use Rattle.std.specs.BTreeMap.{is_at}
 use Rattle.p9_base.specs.declared.fault.Fault.{Fault}
-use Rattle.p9_base.specs.declared.fault.Fault.TheVariants.{OutOfMemory, PhaseError}
 use Rattle.p9_tree.specs.Server.{Server}
 use Rattle.p9_wire.specs.Frame.{msize_max}
 use Rattle.p9_wire.specs.Message.{RMessage, TMessage}
 use Rattle.p9_export.specs.State.{Setting, Session, SessionRow, changed_session, session_at}
-use Rattle.p9_export.specs.Change.{Change, all_applied}
 use Rattle.p9_export.specs.Answer.{Answer}
 use Rattle.p9_export.specs.Answers.{Answers, AnswersAmong, changes_of, frame_among, session_of}
 use Rattle.p9_export.specs.Open.{room_of}
 use Rattle.p9_export.specs.Sound.{IsMsize}
-use Rattle.p9_export.specs.Step.{finds_taken, frame_answer, may_run_out, message_answer, ran_out, request_of, session_answer}
+use Rattle.p9_export.specs.Step.{finds_taken, may_run_out, message_answer, ran_out, request_of, session_answer}
 use Rattle.p9_export.proofs.Steps.{ran_out-is, set_value-same}
 
 -- what a read of a session may carry is less than a frame

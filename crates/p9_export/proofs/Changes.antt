@@ -1,11 +1,10 @@
 -- Each change that a request makes lets the forest evolve.
-use Rattle.std.proofs.Common.{◌≡◌, ℕ, ◌+◌, ◌<◌, ◌≤◌, Bool, true, false, List, [], ◌∷◌, ◌++◌, ◌⊎◌, inl, inr, Option, Some, None, refl, sym, ap, ◌∙◌, subst, arith}
-use Rattle.p9_base.specs.declared.node_ref.NodeRef.{NodeRef}
+use Rattle.std.proofs.Common.{◌≡◌, ℕ, List, [], ◌∷◌, inl, inr, Some, refl, sym, ap, ◌∙◌, arith}
 use Rattle.p9_tree.specs.Node.{Node, is_dir}
 use Rattle.p9_tree.specs.Server.{Server, added, node_at, with_changed, with_dropped}
 use Rattle.p9_tree.specs.Forest.{next_of, node_of, server_at}
 use Rattle.p9_export.specs.Change.{Change, EditNode, AddNode, DropNode, Edit, Mark, Touch, Overwrite, Cut, applied, all_applied, edited}
-use Rattle.p9_export.proofs.Members.{IsMember, member-changed_at, member-dropped_at, member-joined}
+use Rattle.p9_export.proofs.Members.{member-changed_at, member-dropped_at, member-joined}
 use Rattle.p9_export.proofs.Evolves.{Evolved, Evolves, evolves-same, evolves-tree, evolves-twice}
 
 -- an edit leaves the node's number, and what it is

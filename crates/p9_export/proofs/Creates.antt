@@ -6,7 +6,6 @@ use Rattle.p9_base.specs.declared.fault.Fault.TheVariants.{FileExists, NotDirect
 use Rattle.p9_base.specs.declared.mode.Mode.{Mode}
 use Rattle.p9_base.specs.declared.node_ref.NodeRef.{NodeRef}
 use Rattle.p9_base.specs.declared.qid.Qid.{Qid}
-use Rattle.p9_tree.specs.declared.bytes.TheConstants.{FILE_MAX}
 use Rattle.p9_tree.specs.declared.new.New.{New}
 use Rattle.p9_tree.specs.declared.tree.TheConstants.{NEXT_MAX}
 use Rattle.p9_tree.specs.Inside.{beside}

@@ -1,24 +1,22 @@
 -- The end of fids.
-use Rattle.std.proofs.Common.{◌≡◌, ◌≢◌, ℕ, ◌+◌, ◌<◌, ◌&&◌, eqb, Bool, true, false, List, [], ◌∷◌, ◌++◌, Option, Some, None, refl, sym, ap, ◌∙◌, subst, arith, IsTrue, length, Equal}
+use Rattle.std.proofs.Common.{◌≡◌, ◌≢◌, ℕ, ◌<◌, ◌&&◌, Bool, true, false, List, [], ◌∷◌, ◌++◌, Option, Some, None, refl, sym, ap, ◌∙◌, subst, arith, length, Equal}
 use Rattle.std.specs.Prelude.{◌==◌, is_some, slice_get}
-use Rattle.std.specs.Option.{option_map, option_map_or}
+use Rattle.std.specs.Option.{option_map}
 use Rattle.std.specs.Cmp.{nat_cmp_is}
 use Rattle.std.proofs.lemmas.Bool.{and_parts}
 use Rattle.std.proofs.lemmas.Bool.Decides.{nat_tests}
-use Rattle.std.specs.Map.{lookup, remove_entry}
 use Rattle.std.specs.Ordering.{nat_cmp}
 use Rattle.std.specs.BTreeMap.{is_at}
 use Rattle.p9_base.specs.declared.node_ref.NodeRef.{NodeRef}
-use Rattle.p9_tree.specs.Node.{Node, has_number, is_above, is_dir, is_in}
+use Rattle.p9_tree.specs.Node.{Node, is_above, is_dir, is_in}
 use Rattle.p9_tree.specs.Server.{Server, WellFormed, child_after, is_dir_at, node_at}
-use Rattle.p9_tree.specs.Forest.{IsForest, has_children_of, no_server, node_of, server_at}
+use Rattle.p9_tree.specs.Forest.{IsForest, has_children_of, node_of}
 use Rattle.p9_space.specs.Table.{MountRow}
 use Rattle.p9_fids.specs.declared.opened.Opened.{Opened}
 use Rattle.p9_fids.specs.Fid.{Fid, FidRow, fid_at, without_fid}
-use Rattle.p9_export.specs.Change.{Change, EditNode, DropNode, Mark, all_applied, applied}
+use Rattle.p9_export.specs.Change.{Change, DropNode, all_applied, applied}
 use Rattle.p9_export.specs.End.{FidFits, FidsFit, fid_file, fid_ref, on_end, on_ends, parent_marked, removes_on_close, taken_out}
 use Rattle.p9_export.proofs.Members.{found-member, member-node_at}
-use Rattle.p9_export.proofs.Evolves.{Evolves, evolves-same}
 use Rattle.p9_export.proofs.Changes.{AllLawful, evolves-all, keeps-mark}
 use Rattle.p9_export.proofs.OpenFids.{fits-evolved}
 

@@ -1,7 +1,6 @@
 -- What each outcome leaves: the forest has evolved, and what is kept of open fids holds.
-use Rattle.std.proofs.Common.{◌≡◌, ℕ, suc, ◌+◌, ◌<◌, ◌≤◌, ◌&&◌, ◌||◌, Bool, true, false, List, [], ◌∷◌, ◌++◌, ◌⊎◌, inl, inr, Option, Some, None, Result, Ok, Err, refl, sym, ap, ◌∙◌, subst, arith, IsTrue, length, cond}
-use Rattle.std.specs.Prelude.{◌==◌, is_none, min, nat_le, not, if◌then◌else◌}
-use Rattle.std.specs.List.{AllByRecursion}
+use Rattle.std.proofs.Common.{◌≡◌, ℕ, ◌≤◌, Bool, true, false, List, [], ◌∷◌, Option, Some, None, Ok, Err, refl, arith}
+use Rattle.std.specs.Prelude.{◌==◌, is_none, min, nat_le, if◌then◌else◌}
 use Rattle.std.specs.Ordering.{nat_cmp}
 use Rattle.std.specs.BTreeMap.{is_at}
 use Rattle.std.proofs.lemmas.Bool.Decides.{nat_tests}
@@ -9,18 +8,15 @@ use Rattle.p9_base.specs.declared.fault.Fault.{Fault}
 use Rattle.p9_base.specs.Fault.{text_of}
 use Rattle.p9_base.specs.declared.node_ref.NodeRef.{NodeRef}
 use Rattle.p9_base.specs.declared.qid.Qid.{Qid}
-use Rattle.p9_tree.specs.Node.{Node, is_dir}
 use Rattle.p9_tree.specs.Server.{Server}
-use Rattle.p9_tree.specs.Forest.{IsForest, next_of, node_of}
+use Rattle.p9_tree.specs.Forest.{IsForest}
 use Rattle.p9_space.specs.Table.{MountRow}
 use Rattle.p9_wire.specs.Message.{RMessage, Rerror}
-use Rattle.p9_fids.specs.declared.opened.Cursor.{Cursor}
-use Rattle.p9_fids.specs.declared.opened.Opened.{Opened}
-use Rattle.p9_fids.specs.Fid.{Fid, FidRow, changed_fid, fid_at, opened_as, trailed}
+use Rattle.p9_fids.specs.Fid.{Fid, FidRow, changed_fid, fid_at, trailed}
 use Rattle.p9_export.specs.State.{Setting, Session}
-use Rattle.p9_export.specs.Change.{Change, AddNode, EditNode, Mark, Touch, all_applied, applied}
+use Rattle.p9_export.specs.Change.{Change, all_applied}
 use Rattle.p9_export.specs.Answer.{Answer, Outcome, outcome_of}
-use Rattle.p9_export.specs.End.{FidFits, FidsFit, IsOpenOn, fid_file, fid_ref, on_end}
+use Rattle.p9_export.specs.End.{FidFits, FidsFit, fid_ref, on_end}
 use Rattle.p9_export.specs.Sound.{IsMsize}
 use Rattle.p9_export.specs.Version.{begun, is_known, msize_min, not_spoken, version_answer}
 use Rattle.p9_wire.specs.Frame.{msize_max}
@@ -30,10 +26,8 @@ use Rattle.p9_export.specs.Clunk.{clunk_answer, without}
 use Rattle.p9_export.specs.Remove.{removal, remove_answer}
 use Rattle.p9_export.specs.Stat.{stat_answer}
 use Rattle.p9_export.proofs.Done.{OnDone, done-err, done-given, done-is, done-need, done-ok, done-unless}
-use Rattle.p9_export.proofs.Changes.{AllLawful, evolves-all, keeps-mark, keeps-touch}
+use Rattle.p9_export.proofs.Changes.{AllLawful, evolves-all}
 use Rattle.p9_export.proofs.Ends.{lawful-on_end, lawful-on_ends, lawful-taken_out}
-use Rattle.p9_export.proofs.Evolves.{Evolves}
-use Rattle.p9_export.proofs.Fids.{FidsFit-fid_at}
 use Rattle.p9_export.proofs.OpenFids.{fits-evolved, fits-shut}
 use Rattle.p9_export.proofs.Rows.{each-insert, each-remove, each-set}
 

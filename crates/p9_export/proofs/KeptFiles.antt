@@ -1,8 +1,7 @@
 -- What the outcomes of opens, creates, reads and writes leave.
-use Rattle.std.proofs.Common.{◌≡◌, ℕ, suc, ◌+◌, ◌-◌, ◌<◌, ◌≤◌, ◌&&◌, ◌||◌, Bool, true, false, List, [], ◌∷◌, ◌++◌, ◌⊎◌, inl, inr, Option, Some, None, Result, Ok, Err, refl, sym, ap, ◌∙◌, subst, arith, IsTrue, length, length-append, get_or}
-use Rattle.std.specs.Prelude.{◌==◌, is_none, not, slice_get, slice_index_or, min, unwrap_or, if◌then◌else◌}
-use Rattle.std.specs.List.{AllByRecursion, list_all}
-use Rattle.std.specs.Map.{lookup}
+use Rattle.std.proofs.Common.{◌≡◌, ℕ, ◌+◌, ◌-◌, ◌<◌, ◌&&◌, ◌||◌, Bool, true, false, List, [], ◌∷◌, ◌++◌, inl, inr, Option, Some, None, refl, sym, ap, ◌∙◌, subst, arith, length, length-append}
+use Rattle.std.specs.Prelude.{◌==◌, not, slice_get, min, unwrap_or}
+use Rattle.std.specs.List.{list_all}
 use Rattle.std.proofs.Math.Seq.{get_or-append_seam}
 use Rattle.std.proofs.lemmas.Bool.{and_parts}
 use Rattle.std.proofs.lemmas.Bool.Decides.{nat_tests}
@@ -11,10 +10,9 @@ use Rattle.p9_base.specs.declared.node_ref.NodeRef.{NodeRef}
 use Rattle.p9_base.specs.Mode.{is_dir as is_dir_mode}
 use Rattle.p9_tree.specs.Inside.{beside}
 use Rattle.p9_tree.specs.Node.{Node, has_number, is_dir}
-use Rattle.p9_tree.specs.Server.{Server, WellFormed, added, node_at}
+use Rattle.p9_tree.specs.Server.{Server, added, node_at}
 use Rattle.p9_tree.specs.Forest.{IsForest, next_of, no_server, node_of, server_at}
 use Rattle.p9_tree.proofs.Lookups.{All-node_at, number-node_at}
-use Rattle.p9_space.specs.declared.row.Member.{Member}
 use Rattle.p9_space.specs.Place.{file_ref}
 use Rattle.p9_space.specs.Row.{same_node}
 use Rattle.p9_space.specs.Table.{MountRow, members_of, row_of}
@@ -24,23 +22,22 @@ use Rattle.p9_fids.specs.declared.opened.Opened.{Opened}
 use Rattle.p9_fids.specs.declared.opened.OpenMode.{OpenMode}
 use Rattle.p9_fids.specs.declared.opened.OpenMode.TheVariants.{Read, Write, ReadWrite, Execute}
 use Rattle.p9_wire.specs.Message.{RMessage}
-use Rattle.p9_fids.specs.Fid.{Fid, FidRow, fid_at, opened_as}
+use Rattle.p9_fids.specs.Fid.{Fid, fid_at, opened_as}
 use Rattle.p9_fids.specs.Opened.{reads}
 use Rattle.p9_export.specs.declared.opening.Opening.{Opening}
 use Rattle.p9_export.specs.State.{Setting, Session}
 use Rattle.p9_export.specs.Change.{Change, AddNode, EditNode, Mark, Touch, all_applied, applied}
-use Rattle.p9_export.specs.Answer.{Answer, Outcome}
-use Rattle.p9_export.specs.Create.{create_answer, created, created_in, creation, entered, target_among}
+use Rattle.p9_export.specs.Create.{create_answer, created, created_in, creation, target_among}
 use Rattle.p9_export.specs.End.{FidFits, FidsFit, IsOpenOn, fid_file, fid_ref}
-use Rattle.p9_export.specs.Listing.{Entry, listing_behind}
+use Rattle.p9_export.specs.Listing.{Entry}
 use Rattle.p9_export.specs.Open.{is_cut, open_answer, opened_session, room_of, truncation}
 use Rattle.p9_export.specs.Opening.{is_plain_read, is_read, newly_opened}
-use Rattle.p9_export.specs.Read.{cursor_at, fitting, given_of, listed_session, read_answer, read_dir, read_file, readable}
+use Rattle.p9_export.specs.Read.{cursor_at, given_of, listed_session, read_answer, read_dir, read_file, readable}
 use Rattle.p9_export.specs.Sound.{IsMsize, is_given, is_row_given, is_table_given}
-use Rattle.p9_export.specs.Write.{write_answer, write_file, write_place}
-use Rattle.p9_export.proofs.Changes.{AllLawful, evolves-all, evolves-applied, keeps-cut, keeps-mark, keeps-overwrite, keeps-touch}
+use Rattle.p9_export.specs.Write.{write_answer, write_file}
+use Rattle.p9_export.proofs.Changes.{AllLawful, evolves-all, keeps-cut, keeps-mark, keeps-overwrite, keeps-touch}
 use Rattle.p9_export.proofs.Done.{OnDone, done-err, done-given, done-need, done-ok, done-then, done-unless}
-use Rattle.p9_export.proofs.Evolves.{Evolved, Evolves, found-evolved, server_well}
+use Rattle.p9_export.proofs.Evolves.{Evolves, found-evolved, server_well}
 use Rattle.p9_export.proofs.Fids.{FidsFit-fid_at}
 use Rattle.p9_export.proofs.Found.{server_at-tree_changed_at}
 use Rattle.p9_export.proofs.Kept.{Kept, done-if, fits-changed, kept-changes, kept-quiet}

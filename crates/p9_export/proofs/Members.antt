@@ -1,9 +1,8 @@
 -- The nodes of a server's list, and those that a look-up finds.
-use Rattle.std.proofs.Common.{◌≡◌, ℕ, zero, suc, ◌+◌, ◌<◌, Bool, true, false, List, [], ◌∷◌, ◌++◌, ◌⊎◌, inl, inr, Option, Some, None, refl, sym, ap, ◌∙◌, subst, arith, AllPairs, find, length, get_or}
+use Rattle.std.proofs.Common.{◌≡◌, ℕ, zero, suc, ◌<◌, Bool, true, false, List, [], ◌∷◌, ◌++◌, ◌⊎◌, inl, inr, Some, refl, sym, ap, ◌∙◌, subst, arith, AllPairs, find, length, get_or}
 use Rattle.std.proofs.lemmas.Bool.Decides.{nat_tests}
-use Rattle.p9_tree.specs.Node.{Node, has_number, is_dir}
+use Rattle.p9_tree.specs.Node.{Node, has_number}
 use Rattle.p9_tree.specs.Server.{changed_at, dropped_at, node_at}
-use Rattle.p9_tree.proofs.Lookups.{number-node_at}
 
 pub IsMember : Node → List Node → Type 0
 IsMember n [] = ⊥

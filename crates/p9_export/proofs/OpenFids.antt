@@ -1,14 +1,10 @@
 -- What open fids keep, while the forest evolves.
-use Rattle.std.proofs.Common.{◌≡◌, ℕ, ◌<◌, ◌≤◌, Bool, true, false, List, [], ◌∷◌, ◌++◌, Option, Some, None, refl, sym, ap, ◌∙◌, subst, arith, IsTrue}
-use Rattle.std.specs.List.{AllByRecursion}
-use Rattle.p9_base.specs.declared.node_ref.NodeRef.{NodeRef}
-use Rattle.p9_tree.specs.Node.{Node, is_dir}
+use Rattle.std.proofs.Common.{◌≡◌, List, [], ◌∷◌, None, ◌∙◌, arith}
 use Rattle.p9_tree.specs.Server.{Server}
-use Rattle.p9_tree.specs.Forest.{IsForest, next_of, node_of}
+use Rattle.p9_tree.specs.Forest.{IsForest}
 use Rattle.p9_space.specs.Table.{MountRow}
-use Rattle.p9_fids.specs.declared.opened.Opened.{Opened}
-use Rattle.p9_fids.specs.Fid.{Fid, FidRow, fid_at}
-use Rattle.p9_export.specs.End.{FidFits, FidsFit, IsOpenOn, fid_file, fid_ref}
+use Rattle.p9_fids.specs.Fid.{Fid, FidRow}
+use Rattle.p9_export.specs.End.{FidFits, FidsFit, fid_ref}
 use Rattle.p9_export.proofs.Evolves.{Evolves, found-evolved}
 
 module _ (table : List MountRow) (f g : List Server) (sound : IsForest f) (evolves : Evolves f g) where

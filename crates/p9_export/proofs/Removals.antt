@@ -1,5 +1,5 @@
 -- Removing files.
-use Rattle.std.proofs.Common.{◌≡◌, ◌≢◌, ℕ, ◌<◌, Bool, true, false, List, Option, Some, None, Ok, is_some, refl, arith}
+use Rattle.std.proofs.Common.{◌≡◌, ◌≢◌, ℕ, ◌<◌, true, false, List, Option, Some, None, Ok, is_some, refl, arith}
 use Rattle.std.specs.Prelude.{slice_get}
 use Rattle.p9_base.specs.declared.node_ref.NodeRef.{NodeRef}
 use Rattle.p9_tree.specs.Node.{Node}
@@ -8,7 +8,7 @@ use Rattle.p9_tree.specs.Forest.{IsForest, has_children_of, node_of, tree_change
 use Rattle.p9_fids.specs.Fid.{Fid}
 use Rattle.p9_wire.specs.Message.{Rremove}
 use Rattle.p9_export.specs.State.{Setting, Session}
-use Rattle.p9_export.specs.Answer.{Answer, given, need}
+use Rattle.p9_export.specs.Answer.{given, need}
 use Rattle.p9_export.specs.Answers.{Answers}
 use Rattle.p9_export.specs.Change.{all_applied, applied}
 use Rattle.p9_export.specs.End.{fid_ref, parent_marked, taken_out}

@@ -1,5 +1,5 @@
 -- Replies can be told apart by their bytes.
-use Rattle.std.proofs.Common.{◌≡◌, ℕ, List, false, true, get_or, refl, ap, sym, ◌∙◌, arith}
+use Rattle.std.proofs.Common.{◌≡◌, ℕ, List, false, get_or, refl, ap, sym, ◌∙◌, arith}
 use Rattle.p9_wire.specs.Fields.{number}
 use Rattle.p9_wire.specs.Message.{RMessage, Rversion, Rattach, Rerror, Rflush, Rwalk, Ropen, Rcreate, Rread, Rwrite, Rclunk, Rremove, Rstat, Rwstat}
 use Rattle.p9_wire.specs.Spelling.{r_spelling, r_type}

@@ -1,24 +1,22 @@
 -- The machine keeps its state sound.
-use Rattle.std.proofs.Common.{◌≡◌, ℕ, ◌+◌, ◌<◌, ◌≤◌, Bool, true, false, List, [], ◌∷◌, Option, Some, None, IsSome, Result, Ok, Err, refl, sym, ap, ◌∙◌, subst, arith}
-use Rattle.std.specs.Prelude.{◌&&◌}
+use Rattle.std.proofs.Common.{◌≡◌, ℕ, Bool, true, false, List, [], ◌∷◌, Option, Some, None, IsSome, Result, Ok, Err, refl, arith}
 use Rattle.std.specs.List.{AllByRecursion, list_all}
 use Rattle.std.proofs.lemmas.Bool.{and_parts}
 use Rattle.std.proofs.lemmas.Bool.Decides.{nat_tests}
-use Rattle.std.specs.Map.{lookup}
-use Rattle.std.specs.Option.{IfSome, option_map_or}
+use Rattle.std.specs.Option.{IfSome}
 use Rattle.std.specs.Result.{OnErr, OnOk}
 use Rattle.std.specs.Ordering.{nat_cmp}
 use Rattle.std.specs.BTreeMap.{is_at}
 use Rattle.p9_base.specs.declared.fault.Fault.{Fault}
 use Rattle.p9_base.specs.declared.node_ref.NodeRef.{NodeRef}
 use Rattle.p9_tree.specs.Server.{Server}
-use Rattle.p9_tree.specs.Forest.{IsForest, next_of}
+use Rattle.p9_tree.specs.Forest.{IsForest}
 use Rattle.p9_space.specs.declared.row.Member.{Member}
 use Rattle.p9_space.specs.Table.{MountRow}
 use Rattle.p9_wire.specs.Message.{RMessage, TMessage, Tversion, Tauth, Tattach, Tflush, Twalk, Topen, Tcreate, Tread, Twrite, Tclunk, Tremove, Tstat, Twstat}
 use Rattle.p9_export.specs.State.{Setting, Session, SessionRow, changed_session, fresh, session_at, with_session, without_session}
 use Rattle.p9_export.specs.Change.{Change, all_applied}
-use Rattle.p9_export.specs.Answer.{Answer, Outcome}
+use Rattle.p9_export.specs.Answer.{Outcome}
 use Rattle.p9_export.specs.Answers.{AnswersAmong, changes_of, frame_among, session_of}
 use Rattle.p9_export.specs.End.{FidsFit, on_ends}
 use Rattle.p9_export.specs.Sound.{IsMsize, IsSessionSound, IsSound, is_given, is_row_given, is_table_given}

@@ -1,8 +1,6 @@
 -- A request that was answered made the step.
-use Rattle.std.proofs.Common.{◌≡◌, ℕ, List, [], ◌∷◌, Bool, true, false, Option, Some, None, IsSome, Result, Ok, Err, ◌⊎◌, inl, inr, refl, ap, sym, ◌∙◌, subst, cond}
-use Rattle.std.specs.Prelude.{◌&&◌, ◌||◌, is_some, not}
-use Rattle.std.specs.Option.{option_map_or}
-use Rattle.std.specs.Str.{bytes_eq}
+use Rattle.std.proofs.Common.{◌≡◌, ℕ, List, [], ◌∷◌, Bool, true, false, Option, Some, None, IsSome, Result, Ok, Err, ◌⊎◌, inl, inr, refl, ap, sym, ◌∙◌}
+use Rattle.std.specs.Prelude.{◌&&◌, ◌||◌, is_some}
 use Rattle.std.specs.Cmp.Lexicographic.{bytes_decides}
 use Rattle.std.proofs.lemmas.Bool.{and_parts}
 use Rattle.std.specs.Map.{lookup, set_value}
@@ -17,7 +15,7 @@ use Rattle.p9_wire.specs.Reading.{t_message_of}
 use Rattle.p9_wire.specs.Spelling.{r_spelling}
 use Rattle.p9_export.specs.State.{Session, SessionRow, State, changed_session, session_at}
 use Rattle.p9_export.specs.Change.{Change, all_applied}
-use Rattle.p9_export.specs.Answer.{Answer, Outcome, outcome_of}
+use Rattle.p9_export.specs.Answer.{Answer}
 use Rattle.p9_export.specs.Answers.{AnswersAmong, changes_of, frame_among, is_error, message_of, session_of}
 use Rattle.p9_export.specs.Step.{answered, finds_taken, fits_msize, frame_answer, is_no_memory_reply, is_version, may_run_out, message_answer, no_memory_reply, ran_out, request_of, step, tag_of, Stepped}
 use Rattle.p9_export.specs.Event.{Request, is_frame}

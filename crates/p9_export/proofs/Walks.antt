@@ -1,5 +1,5 @@
 -- Walks, step by step.
-use Rattle.std.proofs.Common.{◌≡◌, ℕ, List, [], ◌∷◌, ◌++◌, Bool, true, false, Option, Some, None, Result, Ok, Err, IsSome, is_none, is_some, length, map, drop, get_or, suc, ◌+◌, ◌<◌, ◌≤◌, Bor, refl, append_assoc, add-one, drop-cons}
+use Rattle.std.proofs.Common.{◌≡◌, ℕ, List, [], ◌∷◌, ◌++◌, true, false, Option, Some, None, Result, Ok, Err, IsSome, is_none, is_some, length, map, drop, get_or, suc, ◌+◌, ◌<◌, ◌≤◌, Bor, refl, append_assoc, add-one, drop-cons}
 use Rattle.std.proofs.lemmas.List.{append-nil, drop_all}
 use Rattle.p9_base.specs.declared.fault.Fault.{Fault}
 use Rattle.p9_base.specs.declared.fault.Fault.TheVariants.{PhaseError}
@@ -16,7 +16,7 @@ use Rattle.p9_fids.specs.declared.opened.Opened.{Opened}
 use Rattle.p9_fids.specs.Fid.{Fid, fid_at}
 use Rattle.p9_export.specs.State.{Setting, Session}
 use Rattle.p9_export.specs.Qid.{qid_at}
-use Rattle.p9_export.specs.Answer.{Answer, given, need, unless}
+use Rattle.p9_export.specs.Answer.{given, need, unless}
 use Rattle.p9_export.specs.Walk.{Walked, ended_walk, newfid_fault, walk_answer, walk_outcome, walked}
 
 -- a walk that gave these qids before

@@ -1,5 +1,5 @@
 -- The answer to a write to a file that has room for it.
-use Rattle.std.proofs.Common.{◌≡◌, ℕ, ◌+◌, Bool, true, false, List, [], ◌∷◌, Option, Some, None, Result, Ok, Err, IsTrue, IsFalse, length, refl, sym, ap, ◌∙◌, inr}
+use Rattle.std.proofs.Common.{◌≡◌, ℕ, ◌+◌, Bool, true, false, List, [], ◌∷◌, Option, Some, None, Result, Ok, Err, IsFalse, length, refl, ap, inr}
 use Rattle.std.specs.Prelude.{◌==◌, nat_le}
 use Rattle.p9_base.specs.declared.fault.Fault.{Fault}
 use Rattle.p9_base.specs.declared.fault.Fault.TheVariants.{OutOfMemory}
@@ -12,7 +12,6 @@ use Rattle.p9_tree.specs.Forest.{forest_changed_at, is_dir_of, node_of}
 use Rattle.p9_space.specs.Table.{MountRow}
 use Rattle.p9_wire.specs.Message.{RMessage, Rwrite}
 use Rattle.p9_fids.specs.declared.opened.Opened.{Opened}
-use Rattle.p9_fids.specs.declared.opened.OpenMode.TheVariants.{Read}
 use Rattle.p9_fids.specs.Opened.{writes}
 use Rattle.p9_fids.specs.Fid.{Fid, fid_at}
 use Rattle.p9_export.specs.State.{Setting, Session}

@@ -1,5 +1,5 @@
 -- What comes of a request: an outcome, or the fault that refuses it.
-use Rattle.std.specs.Prelude.{ℕ, Bool, List, [], Option, Some, None, Result, Ok, Err, if◌then◌else◌}
+use Rattle.std.specs.Prelude.{Bool, List, [], Option, Some, None, Result, Ok, Err, if◌then◌else◌}
 use Rattle.p9_base.specs.declared.fault.Fault.{Fault}
 use Rattle.p9_base.specs.Fault.{text_of}
 use Rattle.p9_wire.specs.Message.{RMessage, Rerror}

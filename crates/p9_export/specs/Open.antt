@@ -1,5 +1,5 @@
 -- The opening of a fid: open(5).
-use Rattle.std.specs.Prelude.{ℕ, ◌-◌, ◌&&◌, ◌||◌, Bool, false, not, nat_lt, List, [], ◌∷◌, Option, Ok, is_none, if◌then◌else◌}
+use Rattle.std.specs.Prelude.{ℕ, ◌-◌, ◌&&◌, ◌||◌, Bool, false, not, nat_lt, List, [], ◌∷◌, Ok, is_none, if◌then◌else◌}
 use Rattle.std.specs.List.{list_any}
 use Rattle.std.specs.Map.{values_of}
 use Rattle.std.specs.Option.{option_map_or}
@@ -14,7 +14,7 @@ use Rattle.p9_space.specs.Rights.{may}
 use Rattle.p9_space.specs.Table.{MountRow}
 use Rattle.p9_wire.specs.Message.{RMessage, Ropen}
 use Rattle.p9_wire.specs.declared.constants.TheConstants.{IOHDRSZ}
-use Rattle.p9_fids.specs.Fid.{Fid, changed_fid, fid_at, open_count, opened_as}
+use Rattle.p9_fids.specs.Fid.{changed_fid, fid_at, open_count, opened_as}
 use Rattle.p9_export.specs.declared.opening.Opening.{Opening}
 use Rattle.p9_export.specs.State.{Setting, Session, SessionRow}
 use Rattle.p9_export.specs.Answer.{Answer, given, need}

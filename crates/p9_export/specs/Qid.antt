@@ -1,5 +1,5 @@
 -- The qids of files, and what is told of them: intro(5), stat(5).
-use Rattle.std.specs.Prelude.{ℕ, ◌+◌, ◌*◌, ◌^◌, List, Option, length}
+use Rattle.std.specs.Prelude.{◌+◌, ◌*◌, ◌^◌, List, Option, length}
 use Rattle.std.specs.Option.{option_map}
 use Rattle.p9_base.specs.declared.node_ref.NodeRef.{NodeRef}
 use Rattle.p9_base.specs.declared.qid.Qid.{Qid}

@@ -1,15 +1,12 @@
 -- Removing a file, which ends its fid in every case: remove(5).
-use Rattle.std.specs.Prelude.{ℕ, Bool, not, List, [], Option, Result, Ok, Err, is_some, if◌then◌else◌}
-use Rattle.p9_base.specs.declared.fault.Fault.{Fault}
+use Rattle.std.specs.Prelude.{ℕ, not, List, Ok, is_some}
 use Rattle.p9_base.specs.declared.fault.Fault.TheVariants.{IsRoot, NotEmpty, PermissionDenied, PhaseError, UnknownFid}
-use Rattle.p9_base.specs.Fault.{text_of}
-use Rattle.p9_tree.specs.Node.{Node}
 use Rattle.p9_tree.specs.Server.{Server}
 use Rattle.p9_tree.specs.Forest.{has_children_of}
-use Rattle.p9_wire.specs.Message.{Rerror, Rremove}
+use Rattle.p9_wire.specs.Message.{Rremove}
 use Rattle.p9_fids.specs.Fid.{Fid, fid_at}
 use Rattle.p9_export.specs.State.{Setting, Session}
-use Rattle.p9_export.specs.Answer.{Answer, Outcome, given, need, outcome_of}
+use Rattle.p9_export.specs.Answer.{Answer, given, need, outcome_of}
 use Rattle.p9_export.specs.Clunk.{without}
 use Rattle.p9_export.specs.End.{fid_file, fid_ref, taken_out}
 use Rattle.p9_export.specs.Rights.{may_write_parent}

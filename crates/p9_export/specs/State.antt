@@ -1,5 +1,5 @@
 -- The state of the exporter: what stays fixed while it serves, the trees, and the sessions.
-use Rattle.std.specs.Prelude.{ℕ, List, ◌∷◌, [], Option, None}
+use Rattle.std.specs.Prelude.{ℕ, List, [], Option, None}
 use Rattle.std.specs.Map.{lookup, remove_entry, set_value}
 use Rattle.std.specs.Ordering.{nat_cmp}
 use Rattle.std.specs.BTreeMap.{insert_entry, is_at}

@@ -1,5 +1,5 @@
 -- A step: what one event makes of a state, and the bytes that answer it.
-use Rattle.std.specs.Prelude.{ℕ, ◌&&◌, ◌||◌, Bool, true, false, nat_le, List, [], ◌∷◌, ◌++◌, Option, Some, None, Result, Ok, Err, drop, not, is_some, length, if◌then◌else◌}
+use Rattle.std.specs.Prelude.{ℕ, ◌&&◌, ◌||◌, Bool, true, false, nat_le, List, [], ◌∷◌, ◌++◌, Result, Ok, Err, drop, not, is_some, length, if◌then◌else◌}
 use Rattle.std.specs.Option.{option_map_or}
 use Rattle.std.specs.Str.{bytes_eq}
 use Rattle.byteorder.specs.Endian.{little_number}
@@ -13,7 +13,7 @@ use Rattle.p9_wire.specs.Spelling.{r_spelling}
 use Rattle.p9_wire.specs.Reading.{t_message_of}
 use Rattle.p9_export.specs.State.{Setting, Session, SessionRow, State, changed_session, fresh, session_at, with_session, without_session}
 use Rattle.p9_export.specs.Change.{all_applied}
-use Rattle.p9_export.specs.Answer.{Answer, Outcome, given, need, outcome_of}
+use Rattle.p9_export.specs.Answer.{Answer, Outcome, outcome_of}
 use Rattle.p9_export.specs.End.{on_ends}
 use Rattle.p9_export.specs.Version.{version_answer}
 use Rattle.p9_export.specs.Attach.{attach_answer}

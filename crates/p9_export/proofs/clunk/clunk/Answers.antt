@@ -1,4 +1,4 @@
-use Rattle.std.proofs.Common.{◌≡◌, None, Some, Ok, inl, refl, sym, ap, ◌∙◌, map}
+use Rattle.std.proofs.Common.{◌≡◌, None, Some, inl, refl, sym, ◌∙◌, map}
 use Rattle.p9_export.proofs.Fids.{FidsFit-fid_at, without_fid-none}
 use Rattle.p9_export.specs.Answer.{given}
 use Rattle.p9_fids.specs.Fid.{fid_at}

@@ -1,4 +1,4 @@
-use Rattle.std.proofs.Common.{◌≡◌, ◌∙◌, sym, map}
+use Rattle.std.proofs.Common.{◌∙◌, sym}
 use Rattle.p9_export.proofs.Ends.{ended-first, first-there, no-first}
 use Rattle.p9_export.proofs.Fids.{FidsFit-fid_at}
 use Rattle.p9_export.proofs.end.end_fids.Goals as goal

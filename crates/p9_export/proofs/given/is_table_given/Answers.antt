@@ -1,4 +1,4 @@
-use Rattle.std.proofs.Common.{◌≡◌, ◌∙◌, ◌<◌, sym, ap, subst, map, false, true, refl, suc, length, add-one, drop}
+use Rattle.std.proofs.Common.{◌≡◌, ◌∙◌, ◌<◌, sym, subst, map, false, true, refl, add-one, drop}
 use Rattle.p9_export.specs.Sound.{is_row_given, is_table_given}
 use Rattle.p9_export.proofs.Givens.{list_all-rest, none-past}
 use Rattle.p9_export.proofs.given.is_table_given.Goals as goal

@@ -1,4 +1,4 @@
-use Rattle.std.proofs.Common.{arith, map, length, sym, ap, ◌∙◌, ◌≡◌, refl, true, false}
+use Rattle.std.proofs.Common.{arith, map, length, sym, ap, ◌∙◌, ◌≡◌, refl, true}
 use Rattle.std.specs.Prelude.{is_some, slice_get}
 use Rattle.p9_export.specs.Listing.{left_of}
 use Rattle.p9_export.specs.Read.{fitting}

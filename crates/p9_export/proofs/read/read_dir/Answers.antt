@@ -2,7 +2,6 @@ use Rattle.std.proofs.Common.{◌≡◌, ◌+◌, arith, map, length, sym, ap, �
 use Rattle.std.specs.Option.{option_copied}
 use Rattle.p9_fids.specs.Fid.{Fid, changed_fid, fid_at, opened_as}
 use Rattle.p9_space.specs.Table.{members_of}
-use Rattle.p9_space.specs.Trail.{here}
 use Rattle.p9_export.proofs.DirectoryReads.{dir_listed}
 use Rattle.p9_export.proofs.read.read_dir.Goals as goal
 

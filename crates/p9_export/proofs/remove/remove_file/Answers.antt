@@ -1,4 +1,4 @@
-use Rattle.std.proofs.Common.{◌≡◌, Bool, true, false, Option, Some, None, not, is_some, map, sym, ap, refl, ◌∙◌}
+use Rattle.std.proofs.Common.{◌≡◌, true, false, Some, None, not, is_some, map, sym, ap, refl, ◌∙◌}
 use Rattle.std.specs.Option.{option_copied}
 use Rattle.p9_tree.specs.Forest.{has_children_of, node_of}
 use Rattle.p9_export.specs.Rights.{may_write_parent}

@@ -1,4 +1,4 @@
-use Rattle.std.proofs.Common.{◌≡◌, ℕ, ◌+◌, ◌<◌, ◌∙◌, List, [], Some, Ok, Err, Bor, map, length, get_or, refl, sym, arith, length-append}
+use Rattle.std.proofs.Common.{ℕ, ◌∙◌, List, [], Some, Bor, map, get_or, refl, sym, arith, length-append}
 use Rattle.p9_export.proofs.Walks.{file-step_of, walked-all, walked-end, walked-turn}
 use Rattle.p9_export.specs.State.{Setting}
 use Rattle.p9_export.proofs.walk.walk_along.Goals as goal

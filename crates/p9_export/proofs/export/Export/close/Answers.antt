@@ -1,4 +1,4 @@
-use Rattle.std.proofs.Common.{◌≡◌, map, sym, ap, subst, ◌∙◌}
+use Rattle.std.proofs.Common.{map, sym, ap, subst, ◌∙◌}
 use Rattle.p9_export.specs.End.{FidsFit}
 use Rattle.p9_export.specs.State.{Session}
 use Rattle.p9_export.proofs.Sounds.{session-sound, sound-closed}

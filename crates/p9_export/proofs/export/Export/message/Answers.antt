@@ -1,4 +1,4 @@
-use Rattle.std.proofs.Common.{◌≡◌, List, map, take}
+use Rattle.std.proofs.Common.{map, take}
 use Rattle.p9_export.specs.State.{State}
 use Rattle.p9_export.proofs.Sounds.{each-session-sound, sound-among}
 use Rattle.p9_export.proofs.Steps.{among-makes}

@@ -1,4 +1,4 @@
-use Rattle.std.proofs.Common.{◌≡◌, map}
+use Rattle.std.proofs.Common.{map}
 use Rattle.p9_export.proofs.Sounds.{sound-put}
 use Rattle.p9_export.proofs.export.Export.open.Goals as goal
 
