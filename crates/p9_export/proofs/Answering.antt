@@ -30,7 +30,7 @@ use Rattle.p9_export.specs.Remove.{removal, remove_answer}
 use Rattle.p9_export.specs.Sound.{IsMsize}
 use Rattle.p9_export.specs.Step.{Stepped, answered, fits_msize, is_version, message_answer, no_memory_reply, ran_out, request_of, tag_of, with_outcome}
 use Rattle.p9_export.proofs.Done.{OnDone, done-err, done-is, done-ok}
-use Rattle.p9_export.proofs.Fitting.{Replies, fitting-attach, fitting-clunk, fitting-create, fitting-open, fitting-read, fitting-removal, fitting-stat, fitting-version, fitting-walk, fitting-write}
+use Rattle.p9_export.proofs.Fitting.{Replies, fitting-attach, fitting-clunk, fitting-create, fitting-open, fitting-read, fitting-removal, fitting-stat, fitting-version, fitting-walk, fitting-write, fitting-wstat}
 use Rattle.p9_export.proofs.Sounds.{session-sound}
 use Rattle.p9_export.proofs.Steps.{ran_out-is, set_value-same}
 
@@ -256,7 +256,8 @@ module _ (state : State) (name : ℕ) (session : Session) (frame : List ℕ) (no
       let w = wide_for session frame _ short is refl in
       given_by state name session frame there least refused _ (ap (after_refusal state name session) is) (fitting-stat (reply_max session) state.setting state.forest session w.wide ok.forest fid)
   by_message (Twstat fid stat) is =
-      given_by state name session frame there least refused _ (ap (after_refusal state name session) is) (done-err (Replies (reply_max session)) _)
+      let w = wide_for session frame _ short is refl in
+      given_by state name session frame there least refused _ (ap (after_refusal state name session) is) (fitting-wstat (reply_max session) state.setting state.forest session w.wide now fid stat)
 
   by_request : (r : Result TMessage Fault) → request_of session frame ≡ r → Given state name session frame there least (answered state name session frame refused (and_then r (message_answer state.setting state.forest state.sessions session now)))
   by_request (Err fault) is = given_by state name session frame there least refused (Err fault) (ap (after_refusal state name session) is) (done-err (Replies (reply_max session)) fault)

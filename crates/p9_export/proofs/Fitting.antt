@@ -20,7 +20,7 @@ use Rattle.p9_tree.specs.Server.{IsSound, Server, node_at}
 use Rattle.p9_tree.specs.Forest.{IsForest, node_of}
 use Rattle.p9_wire.specs.Fields.{FitsStat, FitsText, stat_len}
 use Rattle.p9_wire.specs.Frame.{msize_max}
-use Rattle.p9_wire.specs.Message.{Rread}
+use Rattle.p9_wire.specs.Message.{Rread, StatFields}
 use Rattle.p9_wire.specs.Spelling.{RFits, r_len}
 use Rattle.p9_space.specs.Table.{members_of}
 use Rattle.p9_space.specs.Trail.{here}
@@ -43,6 +43,7 @@ use Rattle.p9_export.specs.Stat.{stat_answer}
 use Rattle.p9_export.specs.Version.{begun, is_known, not_spoken, version_answer}
 use Rattle.p9_export.specs.Walk.{ended_walk, going_on, walk_answer, walked, arrived_by, Arrival}
 use Rattle.p9_export.specs.Write.{write_answer, write_file}
+use Rattle.p9_export.specs.Wstat.{wstat_answer}
 use Rattle.p9_export.proofs.Done.{OnDone, done-err, done-given, done-need, done-ok, done-then, done-unless}
 use Rattle.p9_export.proofs.Kept.{done-if}
 
@@ -207,3 +208,8 @@ module _ (most : ℕ) (setting : Setting) (forest : List Server) (session : Sess
     fitting-stat sound fid = done-given (Replies most) _ _ _ (λ v e1. done-given (Replies most) _ _ _ (λ n e2.
         let its = stat_fits (fid_ref setting.table v) n (sound_node forest (fid_ref setting.table v) n sound e2) in
         done-ok (Replies most) _ (record { fits = its.0; short = omega (arith, its.1, wide); plain = refl })))
+
+    pub fitting-wstat : (now fid : ℕ) (wanted : StatFields) → OnDone (Replies most) (wstat_answer setting forest session now fid wanted)
+    fitting-wstat now fid wanted =
+        done-given (Replies most) _ _ _ (λ v e1. done-given (Replies most) _ _ _ (λ n e2. done-need (Replies most) _ _ _ (λ e3. done-unless (Replies most) _ _ (λ e4.
+        done-ok (Replies most) _ (record { fits = tt; short = omega (arith, wide); plain = refl })))))

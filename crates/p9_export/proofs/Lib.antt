@@ -1,4 +1,5 @@
 mod Among
+mod Answering
 pub mod Changes
 mod Creates
 mod DirectoryReads
@@ -6,10 +7,12 @@ pub mod Done
 pub mod Ends
 pub mod Evolves
 pub mod Fids
+mod Fitting
 mod Found
 mod Givens
 pub mod Kept
 pub mod KeptFiles
+pub mod KeptWstats
 mod Listings
 pub mod Members
 pub mod OpenFids
@@ -23,5 +26,4 @@ pub mod Steps
 mod Truncation
 mod Walks
 mod Writes
-mod Fitting
-mod Answering
+pub mod Wstats

@@ -5,7 +5,7 @@ use Rattle.p9_base.specs.declared.node_ref.NodeRef.{NodeRef}
 use Rattle.p9_base.specs.declared.qid.Qid.{Qid}
 use Rattle.p9_tree.specs.Node.{Node}
 use Rattle.p9_tree.specs.Server.{Server}
-use Rattle.p9_wire.specs.Message.{TMessage, Tversion, Tauth, Tattach, Tflush, Twalk, Topen, Tcreate, Tread, Twrite, Tclunk, Tremove, Tstat, Twstat}
+use Rattle.p9_wire.specs.Message.{StatFields, TMessage, Tversion, Tauth, Tattach, Tflush, Twalk, Topen, Tcreate, Tread, Twrite, Tclunk, Tremove, Tstat, Twstat}
 use Rattle.p9_space.specs.Table.{members_of}
 use Rattle.p9_space.specs.Trail.{here}
 use Rattle.p9_fids.specs.Fid.{Fid}
@@ -16,6 +16,7 @@ use Rattle.p9_export.specs.Attach.{attach_answer}
 use Rattle.p9_export.specs.Walk.{ended_walk, walk_answer}
 use Rattle.p9_export.specs.Create.{create_answer, created_in, target_among}
 use Rattle.p9_export.specs.Write.{write_answer, write_file}
+use Rattle.p9_export.specs.Wstat.{wstat_answer}
 use Rattle.p9_export.specs.Step.{may_run_out, session_answer}
 use Rattle.p9_export.proofs.Done.{OnDone, done-err, done-given, done-is, done-need, done-ok, done-then, done-unless}
 
@@ -49,6 +50,10 @@ plain-write : (setting : Setting) (forest : List Server) (session : Session) (no
 plain-write setting forest session now fid offset bytes =
     done-given IsPlain _ _ _ (λ v e1. done-need IsPlain _ _ _ (λ e2. done-given IsPlain _ _ _ (λ n e3. plain-write_file session now v _ n offset bytes)))
 
+plain-wstat : (setting : Setting) (forest : List Server) (session : Session) (now fid : ℕ) (wanted : StatFields) → OnDone IsPlain (wstat_answer setting forest session now fid wanted)
+plain-wstat setting forest session now fid wanted =
+    done-given IsPlain _ _ _ (λ v e1. done-given IsPlain _ _ _ (λ n e2. done-need IsPlain _ _ _ (λ e3. done-unless IsPlain _ _ (λ e4. done-ok IsPlain _ refl))))
+
 -- where memory may be refused
 abbrev pub IsPlainIf : Bool → Outcome → Type 0
 IsPlainIf may outcome = may ≡ true → is_error outcome.reply ≡ false
@@ -74,4 +79,4 @@ plain-session_answer setting forest taken session now (Twrite fid offset bytes) 
 plain-session_answer setting forest taken session now (Tclunk fid) = never _
 plain-session_answer setting forest taken session now (Tremove fid) = never _
 plain-session_answer setting forest taken session now (Tstat fid) = never _
-plain-session_answer setting forest taken session now (Twstat fid stat) = never _
+plain-session_answer setting forest taken session now (Twstat fid stat) = plain_if _ _ (plain-wstat setting forest session now fid stat)

@@ -27,6 +27,7 @@ use Rattle.p9_export.proofs.Ends.{lawful-on_ends}
 use Rattle.p9_export.proofs.Evolves.{Evolves}
 use Rattle.p9_export.proofs.Kept.{Kept, kept-attach, kept-clunk, kept-quiet, kept-remove, kept-stat, kept-version, kept-walk}
 use Rattle.p9_export.proofs.KeptFiles.{kept-create, kept-open, kept-read, kept-write}
+use Rattle.p9_export.proofs.KeptWstats.{kept-wstat}
 use Rattle.p9_export.proofs.OpenFids.{fits-evolved}
 use Rattle.p9_export.proofs.Rows.{each-insert, each-lookup, each-remove, each-set}
 
@@ -44,7 +45,7 @@ kept-answer setting forest taken session now (Twrite fid offset bytes) sound bel
 kept-answer setting forest taken session now (Tclunk fid) sound below fits short = kept-clunk setting forest session sound fits short now fid
 kept-answer setting forest taken session now (Tremove fid) sound below fits short = kept-remove setting forest session now fid sound fits short
 kept-answer setting forest taken session now (Tstat fid) sound below fits short = kept-stat setting forest session sound fits short fid
-kept-answer setting forest taken session now (Twstat fid stat) sound below fits short = done-err (Kept setting.table forest) _
+kept-answer setting forest taken session now (Twstat fid stat) sound below fits short = kept-wstat setting forest session sound fits short now fid stat
 
 module _ (f g : List Server) (evolves : Evolves f g) where
   given-evolved : (at : NodeRef) → is_given f at ≡ true → is_given g at ≡ true

@@ -2,6 +2,8 @@
 use Rattle.std.specs.Prelude.{ℕ, List, [], ◌∷◌}
 use Rattle.p9_base.specs.declared.node_ref.NodeRef.{NodeRef}
 use Rattle.p9_tree.specs.Bytes.{cut_to, overwritten}
+use Rattle.p9_tree.specs.Change.{changed}
+use Rattle.p9_tree.specs.declared.change.Change.{Change as NodeChange}
 use Rattle.p9_tree.specs.Node.{Node, marked, touched, with_bytes}
 use Rattle.p9_tree.specs.Server.{Server, added, with_dropped}
 use Rattle.p9_tree.specs.Forest.{forest_changed_at, tree_changed_at}
@@ -12,12 +14,14 @@ pub data Edit : Type 0 where
   Touch : (now : ℕ) → Edit
   Overwrite : (offset : ℕ) (bytes : List ℕ) → Edit
   Cut : (size : ℕ) → Edit
+  Rewrite : (change : NodeChange) → Edit
 
 unfoldable pub edited : Edit → Node → Node
 edited (Mark user now) = marked user now
 edited (Touch now) = touched now
 edited (Overwrite offset bytes) = with_bytes (overwritten offset bytes)
 edited (Cut size) = with_bytes (cut_to size)
+edited (Rewrite change) = changed change
 
 pub data Change : Type 0 where
   EditNode : (at : NodeRef) (edit : Edit) → Change

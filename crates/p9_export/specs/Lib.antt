@@ -16,6 +16,7 @@ pub mod Write
 pub mod Clunk
 pub mod Remove
 pub mod Stat
+pub mod Wstat
 pub mod Sound
 pub mod Event
 pub mod Step

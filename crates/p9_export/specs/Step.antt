@@ -25,6 +25,7 @@ use Rattle.p9_export.specs.Write.{write_answer}
 use Rattle.p9_export.specs.Clunk.{clunk_answer}
 use Rattle.p9_export.specs.Remove.{remove_answer}
 use Rattle.p9_export.specs.Stat.{stat_answer}
+use Rattle.p9_export.specs.Wstat.{wstat_answer}
 use Rattle.p9_export.specs.Event.{Event, Opening, Request, Closing, is_frame}
 
 -- Requests.
@@ -47,7 +48,7 @@ session_answer setting forest taken session now (Twrite fid offset bytes) = writ
 session_answer setting forest taken session now (Tclunk fid) = clunk_answer setting forest session now fid
 session_answer setting forest taken session now (Tremove fid) = remove_answer setting forest session now fid
 session_answer setting forest taken session now (Tstat fid) = stat_answer setting forest session fid
-session_answer setting forest taken session now (Twstat fid stat) = Err Malformed
+session_answer setting forest taken session now (Twstat fid stat) = wstat_answer setting forest session now fid stat
 
 -- whether an open finds its file in use, in any session
 abbrev pub finds_taken : Setting → List Server → List SessionRow → Session → TMessage → Bool

@@ -30,6 +30,7 @@ mod tests;
 mod version;
 mod walk;
 mod write;
+mod wstat;
 
 pub use event::{Event, is_frame};
 pub use export::{Export, OpenError};

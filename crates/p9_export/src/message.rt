@@ -21,6 +21,7 @@ use crate::stat::stat;
 use crate::version::version;
 use crate::walk::walk;
 use crate::write::write;
+use crate::wstat::wstat;
 use p9_base::Fault;
 use p9_tree::{Forest, Tree};
 use p9_wire::{RMsg, TMsg};
@@ -88,6 +89,9 @@ pub fn message<T: Tree>(
         TMsg::Read { fid, offset, count } => Ok(Reply::Data(read(
             setting, forest, session, now, *fid, *offset, *count, buffer,
         )?)),
-        _ => Err(Fault::Malformed),
+        TMsg::Wstat { fid, stat: wanted } => {
+            wstat(setting, forest, session, now, *fid, wanted)?;
+            Ok(Reply::Message(RMsg::Wstat))
+        }
     }
 }

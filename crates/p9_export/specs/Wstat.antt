@@ -1,0 +1,169 @@
+-- Changing what is told of a file: wstat in stat(5).
+use Rattle.std.specs.Prelude.{ℕ, ◌-◌, ◌^◌, ◌==◌, ◌&&◌, ◌||◌, Bool, false, not, nat_lt, List, [], ◌∷◌, Option, Some, None, Ok, is_none, is_some, option_and_then, if◌then◌else◌}
+use Rattle.std.specs.Option.{option_copied, option_map_or}
+use Rattle.std.specs.Str.{bytes_eq}
+use Rattle.p9_base.specs.declared.fault.Fault.{Fault}
+use Rattle.p9_base.specs.declared.fault.Fault.TheVariants.{BadFileName, FileExists, FileTooLarge, FixedField, IsDirectory, IsRoot, PermissionDenied, PhaseError, UnknownFid}
+use Rattle.p9_base.specs.declared.mode.Mode.{Mode}
+use Rattle.p9_base.specs.declared.node_ref.NodeRef.{NodeRef}
+use Rattle.p9_base.specs.declared.qid.Qid.{Qid}
+use Rattle.p9_base.specs.Mode.{is_dir as is_dir_mode, mode_of}
+use Rattle.p9_base.specs.Name.{is_name}
+use Rattle.p9_tree.specs.declared.bytes.TheConstants.{FILE_MAX}
+use Rattle.p9_tree.specs.Node.{Node, is_dir}
+use Rattle.p9_tree.specs.Server.{Server}
+use Rattle.p9_tree.specs.Forest.{child_in}
+use Rattle.p9_tree.specs.Inside.{beside}
+use Rattle.p9_tree.specs.declared.change.Change.{Change as NodeChange}
+use Rattle.p9_space.specs.declared.rights.TheConstants.{TO_WRITE}
+use Rattle.p9_space.specs.Rights.{may, rules}
+use Rattle.p9_space.specs.Walk.{or_else}
+use Rattle.p9_wire.specs.Message.{Rwstat, StatFields}
+use Rattle.p9_fids.specs.Fid.{fid_at}
+use Rattle.p9_export.specs.declared.wstat.Touched.{Touched as TouchedParts}
+use Rattle.p9_export.specs.State.{Setting, Session}
+use Rattle.p9_export.specs.Answer.{Answer, given, need, unless}
+use Rattle.p9_export.specs.Change.{Change, EditNode, Rewrite}
+use Rattle.p9_export.specs.End.{fid_file, fid_ref, parent_marked}
+use Rattle.p9_export.specs.Qid.{stat_of}
+use Rattle.p9_export.specs.Rights.{may_write_parent}
+
+-- What is touched: all but a field that holds its greatest number, or is empty, or holds what stands there.
+
+abbrev pub is_number_touched : ℕ → ℕ → ℕ → Bool
+is_number_touched greatest there wanted = not (wanted == greatest || wanted == there)
+
+abbrev pub is_text_touched : List ℕ → List ℕ → Bool
+is_text_touched there wanted = not (bytes_eq wanted [] || bytes_eq wanted there)
+
+abbrev pub touched_number : ℕ → ℕ → ℕ → Option ℕ
+touched_number greatest there wanted = if is_number_touched greatest there wanted then Some wanted else None
+
+abbrev pub touched_text : List ℕ → List ℕ → Option (List ℕ)
+touched_text there wanted = if is_text_touched there wanted then Some wanted else None
+
+-- a part of the qid, each by itself
+abbrev pub touches_qid : Qid → Qid → Bool
+touches_qid there wanted =
+    is_number_touched (2 ^ 8 - 1) there.kind wanted.kind
+    || is_number_touched (2 ^ 32 - 1) there.version wanted.version
+    || is_number_touched (2 ^ 64 - 1) there.path wanted.path
+
+-- a field that no wstat changes
+abbrev pub touches_fixed : StatFields → StatFields → Bool
+touches_fixed there wanted =
+    is_number_touched (2 ^ 16 - 1) there.kind wanted.kind
+    || is_number_touched (2 ^ 32 - 1) there.dev wanted.dev
+    || touches_qid there.qid wanted.qid
+    || is_number_touched (2 ^ 32 - 1) there.atime wanted.atime
+    || is_text_touched there.uid wanted.uid
+    || is_text_touched there.muid wanted.muid
+
+-- the other fields, where they are touched
+pub record Touched : Type 0 where
+  pub mode : Option ℕ
+  pub name : Option (List ℕ)
+  pub length : Option ℕ
+  pub mtime : Option ℕ
+  pub gid : Option (List ℕ)
+
+abbrev pub touched_of : StatFields → StatFields → Touched
+touched_of there wanted = record {
+  mode = touched_number (2 ^ 32 - 1) there.mode wanted.mode;
+  name = touched_text there.name wanted.name;
+  length = touched_number (2 ^ 64 - 1) there.length wanted.length;
+  mtime = touched_number (2 ^ 32 - 1) there.mtime wanted.mtime;
+  gid = touched_text there.gid wanted.gid;
+}
+
+-- the same of the code's type, whose texts are slices
+abbrev pub touched_view : TouchedParts → Touched
+touched_view t = record {
+  mode = t.mode;
+  name = option_copied t.name;
+  length = t.length;
+  mtime = t.mtime;
+  gid = option_copied t.gid;
+}
+
+abbrev pub is_any : Touched → Bool
+is_any t = is_some t.mode || is_some t.name || is_some t.length || is_some t.mtime || is_some t.gid
+
+-- What forbids it, each test over the file as it is; a field is tested where it is touched.
+
+-- a directory's mode for a directory, a file's for a file
+abbrev pub is_mode_for : Node → Mode → Bool
+is_mode_for n m = if is_dir n then is_dir_mode m else not (is_dir_mode m)
+
+abbrev pub mode_fault : Node → ℕ → Option Fault
+mode_fault n bits = if option_map_or (is_mode_for n) (mode_of bits) false then None else Some FixedField
+
+-- the directory of the file has an entry of the name
+abbrev pub has_sibling : List Server → NodeRef → Node → List ℕ → Bool
+has_sibling forest at n name =
+    option_map_or (λ parent. is_some (child_in (beside at parent) name forest)) n.parent false
+
+abbrev pub name_fault : List ℕ → List Server → NodeRef → Node → List ℕ → Option Fault
+name_fault user forest at n name =
+    if is_none n.parent then Some IsRoot
+    else if not (is_name name) then Some BadFileName
+    else if not (may_write_parent user forest at n) then Some PermissionDenied
+    else if has_sibling forest at n name then Some FileExists
+    else None
+
+abbrev pub length_fault : List ℕ → Node → ℕ → Option Fault
+length_fault user n size =
+    if is_dir n then Some IsDirectory
+    else if not (may user n TO_WRITE) then Some PermissionDenied
+    else if nat_lt FILE_MAX size then Some FileTooLarge
+    else None
+
+-- mode and mtime are for who rules the file
+abbrev pub ruling_fault : {X : Type 0} → List ℕ → Node → X → Option Fault
+ruling_fault user n touched = if rules user n then None else Some PermissionDenied
+
+-- a file is given to a group by its owner, who is a member of it, or by the leader of both groups; each user is
+-- the only member and the leader of the group of the same name
+abbrev pub may_give : List ℕ → Node → List ℕ → Bool
+may_give user n gid = (bytes_eq n.uid user || bytes_eq n.gid user) && bytes_eq gid user
+
+abbrev pub gid_fault : List ℕ → Node → List ℕ → Option Fault
+gid_fault user n gid = if may_give user n gid then None else Some PermissionDenied
+
+abbrev pub wstat_fault : List ℕ → List Server → NodeRef → Node → Touched → Option Fault
+wstat_fault user forest at n t =
+    or_else (option_and_then (mode_fault n) t.mode) (
+    or_else (option_and_then (name_fault user forest at n) t.name) (
+    or_else (option_and_then (length_fault user n) t.length) (
+    or_else (option_and_then (ruling_fault user n) t.mode) (
+    or_else (option_and_then (ruling_fault user n) t.mtime) (
+    option_and_then (gid_fault user n) t.gid)))))
+
+-- What is changed, all at once.
+
+abbrev pub node_change : List ℕ → ℕ → Touched → NodeChange
+node_change user now t = record {
+  name = t.name;
+  mode = option_and_then mode_of t.mode;
+  gid = t.gid;
+  length = t.length;
+  mtime = t.mtime;
+  user = user;
+  now = now;
+}
+
+-- if anything is touched, the directory that the file stands in is marked
+abbrev pub rewriting : List ℕ → ℕ → NodeRef → Node → Touched → List Change
+rewriting user now at n t =
+    if is_any t then EditNode at (Rewrite (node_change user now t)) ∷ parent_marked user now at n.parent else []
+
+abbrev pub wstat_answer : Setting → List Server → Session → ℕ → ℕ → StatFields → Answer
+wstat_answer setting forest session now fid wanted =
+    given (fid_at fid session.fids) UnknownFid (λ v.
+    given (fid_file setting.table forest v) PhaseError (λ n.
+    let at = fid_ref setting.table v in
+    let there = stat_of at n in
+    let t = touched_of there wanted in
+    need (not (touches_fixed there wanted)) FixedField (
+    unless (wstat_fault v.user forest at n t) (
+    Ok (record { changes = rewriting v.user now at n t; session = session; reply = Rwstat })))))
