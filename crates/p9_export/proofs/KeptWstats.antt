@@ -39,6 +39,7 @@ lawful-rewriting forest user now at n t found none = go (is_any t) refl
     keeps m there =
         let same : n ≡ m = let e : Some n ≡ Some m = sym found ∙ there in cc in
         subst (λ k. Keeps (Rewrite (node_change user now t)) k) same (keeps-rewrite (node_change user now t) n (kind_kept n t.mode (nothing_refuses user forest at n t none).mode))
+
     go : (b : Bool) → is_any t ≡ b → AllLawful forest (rewriting user now at n t)
     go true e = rw e (keeps, lawful-parent_marked (applied (EditNode at (Rewrite (node_change user now t))) forest) user now at n.parent)
     go false e = rw e tt

@@ -166,11 +166,11 @@ wstat_answer-done setting forest session now fid wanted v n at t at_is held foun
     let passes : wstat_fault v.user forest place n t ≡ None = subst (λ a. wstat_fault v.user forest a n t ≡ None) at_is free in
     let none : wstat_fault v.user forest place n (touched_of (stat_of place n) wanted) ≡ None = subst (λ s. wstat_fault v.user forest place n s ≡ None) is passes in
     let done : wstat_answer setting forest session now fid wanted ≡ rewritten session v.user now place n (touched_of (stat_of place n) wanted) =
-        steps (fid_at fid session.fids) v (fid_file setting.table forest) n UnknownFid PhaseError FixedField
-            (λ w m. touches_fixed (stat_of (fid_ref setting.table w) m) wanted)
-            (λ w m. wstat_fault w.user forest (fid_ref setting.table w) m (touched_of (stat_of (fid_ref setting.table w) m) wanted))
-            (λ w m. rewritten session w.user now (fid_ref setting.table w) m (touched_of (stat_of (fid_ref setting.table w) m) wanted))
-            held there unfixed none in
+    steps (fid_at fid session.fids) v (fid_file setting.table forest) n UnknownFid PhaseError FixedField
+    (λ w m. touches_fixed (stat_of (fid_ref setting.table w) m) wanted)
+    (λ w m. wstat_fault w.user forest (fid_ref setting.table w) m (touched_of (stat_of (fid_ref setting.table w) m) wanted))
+    (λ w m. rewritten session w.user now (fid_ref setting.table w) m (touched_of (stat_of (fid_ref setting.table w) m) wanted))
+    held there unfixed none in
     let of_fields : wstat_answer setting forest session now fid wanted ≡ rewritten session v.user now place n t = subst (λ s. wstat_answer setting forest session now fid wanted ≡ rewritten session v.user now place n s) (sym is) done in
     subst (λ a. wstat_answer setting forest session now fid wanted ≡ rewritten session v.user now a n t) (sym at_is) of_fields
 

@@ -7,9 +7,13 @@ mod many;
 mod open;
 mod read;
 mod remove;
+mod stats;
 mod walk;
 mod worlds;
 mod write;
+mod wstat;
+mod wstat_fields;
+mod wstat_refused;
 
 use crate::{Export, OpenError, is_frame, is_table_given};
 use p9_base::User;
@@ -46,7 +50,7 @@ fn exporter<A: Allocator + Copy>(rt: &impl Abort, alloc: A) -> Export<PlainTree<
     Export::new(forest, users, table)
 }
 
-// Sends a frame in a session, and compares the reply.
+// Sends a frame in a session at the time 0, and compares the reply.
 fn exchange<T: Tree>(
     rt: &impl Abort,
     alloc: Global,
@@ -54,12 +58,24 @@ fn exchange<T: Tree>(
     session: u32,
     exchange: Exchange,
 ) {
+    exchange_at(rt, alloc, export, session, 0, exchange);
+}
+
+// The same at another time.
+fn exchange_at<T: Tree>(
+    rt: &impl Abort,
+    alloc: Global,
+    export: &mut Export<T>,
+    session: u32,
+    now: u32,
+    exchange: Exchange,
+) {
     let (request, reply) = exchange;
     let frame = hex::decode(alloc, request).expect(rt, "hexadecimal digits");
     let mut buffer = vec![in alloc; 0u8; 65_536].expect(rt, "a buffer");
     assert!(rt; is_frame(frame.as_slice()));
     assert!(rt; export.live(session));
-    let size = export.message(session, frame.as_slice(), 0, buffer.as_mut_slice());
+    let size = export.message(session, frame.as_slice(), now, buffer.as_mut_slice());
     let text = hex::encode(alloc, &buffer[..size]).expect(rt, "a text");
     assert_eq!(rt; text.as_str(), reply);
 }

@@ -232,12 +232,7 @@ fn name_fault<T: Tree>(
 }
 
 // Whether the directory of the file has an entry of the name.
-fn has_sibling<T: Tree>(
-    forest: &Forest<T>,
-    at: NodeRef,
-    file: &Node<T::Alloc>,
-    name: &Name,
-) -> bool
+fn has_sibling<T: Tree>(forest: &Forest<T>, at: NodeRef, file: &Node<T::Alloc>, name: &Name) -> bool
     ensures { result ≡ has_sibling (map T.state forest.now.trees.items) at file.now name.now }
 {
     let Some(number) = file.parent() else {

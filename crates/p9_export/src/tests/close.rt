@@ -150,3 +150,51 @@ fn the_end_of_a_session_removes_what_is_held(rt: HostRuntime) {
     export.close(1, 0);
     exchange_in(&rt, rt.alloc(), &mut export, &GONE);
 }
+
+// Fid 1 has a/f open, to be removed on close. Its directory may then no more be written: nobody opens
+// it so again, yet the file goes with fid 1, and the directory is marked.
+#[test]
+fn a_file_goes_from_a_directory_that_may_not_be_written(rt: HostRuntime) {
+    let rows = [
+        (
+            "170000006e020000000000010000000200010061010066",
+            "230000006f020002008000000000010000000000000000000000000300000000000000",
+        ),
+        (
+            "0c0000007003000100000040",
+            "1800000071030000000000000300000000000000e81f0000",
+        ),
+        (
+            "140000006e040000000000020000000100010061",
+            "160000006f0400010080000000000100000000000000",
+        ),
+        (
+            "170000006e050000000000030000000200010061010066",
+            "230000006f050002008000000000010000000000000000000000000300000000000000",
+        ),
+        (
+            "3e0000007e06000200000031002f00ffffffffffffffffffffffffffffffffffffff6d010080ffffffffffffffffffffffffffffffff0000000000000000",
+            "070000007f0600",
+        ),
+        (
+            "0c0000007007000300000040",
+            "1a0000006b070011007065726d697373696f6e2064656e696564",
+        ),
+        ("0b00000078080001000000", "07000000790800"),
+        (
+            "0b0000007c090002000000",
+            "4d0000007d090044004200000000000000800100000001000000000000006d010080000000000000000000000000000000000100610600676c656e64610600676c656e64610600676c656e6461",
+        ),
+        (
+            "170000006e0a0000000000040000000200010061010066",
+            "160000006f0a00010080010000000100000000000000",
+        ),
+        (
+            "0b0000007c0b0003000000",
+            "140000006b0b000b007068617365206572726f72",
+        ),
+    ];
+    let mut export = world(&rt, rt.alloc(), &small(), &[]);
+    begin(&rt, rt.alloc(), &mut export);
+    exchange_all(&rt, rt.alloc(), &mut export, &rows);
+}

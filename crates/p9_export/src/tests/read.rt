@@ -42,6 +42,8 @@ fn shut_dir(parent: u64, name: &'static str) -> Made {
         name,
         mode: 0x8000_01c0,
         owner: "sys",
+        group: None,
+        changer: None,
         bytes: b"",
     }
 }

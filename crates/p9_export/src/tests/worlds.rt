@@ -15,6 +15,10 @@ pub struct Made {
     pub name: &'static str,
     pub mode: u32,
     pub owner: &'static str,
+    /// The owner's group where there is none.
+    pub group: Option<&'static str>,
+    /// Who changed it last, the owner where there is none.
+    pub changer: Option<&'static str>,
     pub bytes: &'static [u8],
 }
 
@@ -25,6 +29,8 @@ pub fn dir(parent: u64, name: &'static str, owner: &'static str) -> Made {
         name,
         mode: 0x8000_01ed,
         owner,
+        group: None,
+        changer: None,
         bytes: b"",
     }
 }
@@ -36,6 +42,8 @@ pub fn file(parent: u64, name: &'static str, bytes: &'static [u8]) -> Made {
         name,
         mode: 0x1a4,
         owner: "glenda",
+        group: None,
+        changer: None,
         bytes,
     }
 }
@@ -44,19 +52,26 @@ pub fn node(number: u64) -> NodeRef {
     NodeRef { server: 0, number }
 }
 
-// Adds the node where the tree's look-ups say that it may be added.
-fn add<T: Tree>(rt: &impl Abort, tree: &mut T, made: &Made) {
-    let owner = User::new(made.owner).expect(rt, "a user");
-    let new = New {
+fn user(rt: &impl Abort, name: &str) -> User {
+    User::new(name).expect(rt, "a user")
+}
+
+fn new_of(rt: &impl Abort, made: &Made) -> New<'static> {
+    New {
         name: Name::new(made.name).expect(rt, "a name"),
         mode: Mode::from_bits(made.mode).expect(rt, "a mode"),
-        uid: owner,
-        gid: owner,
-        muid: owner,
+        uid: user(rt, made.owner),
+        gid: user(rt, made.group.unwrap_or(made.owner)),
+        muid: user(rt, made.changer.unwrap_or(made.owner)),
         atime: 0,
         mtime: 0,
         bytes: made.bytes,
-    };
+    }
+}
+
+// Adds the node where the tree's look-ups say that it may be added.
+fn add<T: Tree>(rt: &impl Abort, tree: &mut T, made: &Made) {
+    let new = new_of(rt, made);
     assert!(rt; tree.next() < NEXT_MAX);
     assert!(rt; tree.node(made.parent).is_some_and(|n| n.is_dir()));
     assert!(rt; tree.child(made.parent, &new.name).is_none());
@@ -112,7 +127,16 @@ pub fn serve<A: Allocator + Copy>(
     nodes: &[Made],
     table: MountTable<A>,
 ) -> Export<PlainTree<A>> {
-    let forest = forest_of(rt, alloc, nodes);
+    serve_forest(rt, alloc, forest_of(rt, alloc, nodes), table)
+}
+
+/// The same of a forest.
+pub fn serve_forest<A: Allocator + Copy>(
+    rt: &impl Abort,
+    alloc: A,
+    forest: Forest<PlainTree<A>>,
+    table: MountTable<A>,
+) -> Export<PlainTree<A>> {
     let mut users = Vec::new(alloc);
     let glenda = User::new("glenda").expect(rt, "a user");
     assert!(rt; users.push(glenda).is_ok());
@@ -147,7 +171,7 @@ pub fn exchange_in<T: Tree>(
     }
 }
 
-/// Sends a frame, and gives the length of the reply.
+/// Sends a frame at the time 0, and gives the length of the reply.
 pub fn send<T: Tree>(
     rt: &impl Abort,
     export: &mut Export<T>,
@@ -155,9 +179,21 @@ pub fn send<T: Tree>(
     frame: &[u8],
     reply: &mut [u8; 65_536],
 ) -> usize {
+    send_at(rt, export, session, 0, frame, reply)
+}
+
+/// The same at another time.
+pub fn send_at<T: Tree>(
+    rt: &impl Abort,
+    export: &mut Export<T>,
+    session: u32,
+    now: u32,
+    frame: &[u8],
+    reply: &mut [u8; 65_536],
+) -> usize {
     assert!(rt; is_frame(frame));
     assert!(rt; export.live(session));
-    export.message(session, frame, 0, reply)
+    export.message(session, frame, now, reply)
 }
 
 /// Reads a fid of session 1, and gives the length of the reply.
