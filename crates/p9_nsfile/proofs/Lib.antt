@@ -4,3 +4,4 @@ pub mod Binding
 pub mod Running
 pub mod GivenFinds
 pub mod GivenRuns
+pub mod Lines
