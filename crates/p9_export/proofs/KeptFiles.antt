@@ -33,7 +33,8 @@ use Rattle.p9_export.specs.Listing.{Entry}
 use Rattle.p9_export.specs.Open.{is_cut, open_answer, opened_session, room_of, truncation}
 use Rattle.p9_export.specs.Opening.{is_plain_read, is_read, newly_opened}
 use Rattle.p9_export.specs.Read.{cursor_at, given_of, listed_session, read_answer, read_dir, read_file, readable}
-use Rattle.p9_export.specs.Sound.{IsMsize, is_given, is_row_given, is_table_given}
+use Rattle.p9_space.specs.Given.{is_given, is_row_given, is_table_given}
+use Rattle.p9_export.specs.Sound.{IsMsize}
 use Rattle.p9_export.specs.Write.{write_answer, write_file}
 use Rattle.p9_export.proofs.Changes.{AllLawful, evolves-all, keeps-cut, keeps-mark, keeps-overwrite, keeps-touch}
 use Rattle.p9_export.proofs.Done.{OnDone, done-err, done-given, done-need, done-ok, done-then, done-unless}

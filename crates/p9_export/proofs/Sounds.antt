@@ -19,7 +19,8 @@ use Rattle.p9_export.specs.Change.{Change, all_applied}
 use Rattle.p9_export.specs.Answer.{Outcome}
 use Rattle.p9_export.specs.Answers.{AnswersAmong, changes_of, frame_among, session_of}
 use Rattle.p9_export.specs.End.{FidsFit, on_ends}
-use Rattle.p9_export.specs.Sound.{IsMsize, IsSessionSound, IsSound, is_given, is_row_given, is_table_given}
+use Rattle.p9_space.specs.Given.{is_given, is_row_given, is_table_given}
+use Rattle.p9_export.specs.Sound.{IsMsize, IsSessionSound, IsSound}
 use Rattle.p9_export.specs.Step.{finds_taken, frame_answer, message_answer, ran_out, request_of, session_answer}
 use Rattle.p9_export.proofs.Changes.{AllLawful, evolves-all}
 use Rattle.p9_export.proofs.Done.{OnDone, done-err, done-is, done-ok, done-then}

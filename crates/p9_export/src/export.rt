@@ -2,9 +2,9 @@
 
 ghost use Rattle.std.specs.Prelude.{◌≡◌, ◌≤◌, ◌↔◌, [], Err, None, false, IsSome, IsTrue, OnErr, OnOk, length, map, take};
 ghost use Rattle.p9_export.specs.Event.{Closing, Opening, Request, is_frame};
-ghost use Rattle.p9_export.specs.Sound.{is_table_given};
 ghost use Rattle.p9_export.specs.State.{session_at};
 ghost use Rattle.p9_export.specs.Step.{is_no_memory_reply, step};
+ghost use Rattle.p9_space.specs.Given.{is_table_given};
 ghost use Rattle.p9_wire.specs.Frame.{msize_max};
 ghost use Rattle.p9_export.specs.declared.export.OpenError.TheVariants.{Live};
 

@@ -2,7 +2,7 @@
 
 ghost use Rattle.std.specs.Prelude.{◌≡◌, map};
 ghost use Rattle.std.specs.List.{list_all};
-ghost use Rattle.p9_export.specs.Sound.{is_given, is_row_given, is_table_given};
+ghost use Rattle.p9_space.specs.Given.{is_given, is_row_given, is_table_given};
 
 use p9_base::NodeRef;
 use p9_space::{Member, Members, MountTable};

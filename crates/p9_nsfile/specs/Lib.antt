@@ -7,3 +7,5 @@ pub mod Answer
 pub mod Find
 pub mod Bind
 pub mod Run
+pub mod Given
+pub mod Text

@@ -8,7 +8,6 @@ use Rattle.p9_tree.specs.Forest.{is_dir_of, node_of}
 use Rattle.p9_space.specs.Place.{file_ref}
 use Rattle.p9_space.specs.Table.{MountRow}
 use Rattle.p9_space.specs.Trail.{here}
-use Rattle.p9_nsfile.specs.declared.error.NsError.{NsError}
 use Rattle.p9_nsfile.specs.declared.fault.OpFault.{OpFault}
 use Rattle.p9_nsfile.specs.declared.fault.OpFault.TheVariants.{Path, NotOffered, BadInclude, TooDeep}
 use Rattle.p9_nsfile.specs.declared.operation.Operation.{Operation}
@@ -17,13 +16,13 @@ use Rattle.p9_nsfile.specs.declared.run.TheConstants.{NESTED_MAX}
 use Rattle.p9_nsfile.specs.Bind.{bound_by, mounted_by, unmounted_by, with_table}
 use Rattle.p9_nsfile.specs.Find.{found, found_file}
 use Rattle.p9_nsfile.specs.Flags.{Word}
-use Rattle.p9_nsfile.specs.Line.{NumberedLine, lines_in}
+use Rattle.p9_nsfile.specs.Line.{BadLineOf, NumberedLine, lines_in}
 use Rattle.p9_nsfile.specs.Space.{Report, Setting, Space, beginning}
 
 -- a file's lines, if they may be included: one line of bad form, and none of them acts
-abbrev pub or_bad_include : Result (List NumberedLine) NsError → Result (List NumberedLine) OpFault
+abbrev pub or_bad_include : Result (List NumberedLine) BadLineOf → Result (List NumberedLine) OpFault
 or_bad_include (Ok lines) = Ok lines
-or_bad_include (Err error) = Err BadInclude
+or_bad_include (Err bad) = Err BadInclude
 
 abbrev pub file_lines : Option Node → Result (List NumberedLine) OpFault
 file_lines None = Err (Path PhaseError)
@@ -72,7 +71,7 @@ module _ (setting : Setting) where
   lines_done left outer space lines = fold (line_done (included left) outer) space lines
 
   -- the mount table that a text makes of another, and its reports; a line of bad form refuses the whole text
-  abbrev pub run_of : List ℕ → List MountRow → Result (List MountRow × List Report) NsError
+  abbrev pub run_of : List ℕ → List MountRow → Result (List MountRow × List Report) BadLineOf
   run_of text table =
       and_then (lines_in text) (λ lines.
       let space = lines_done NESTED_MAX None (beginning table) lines in

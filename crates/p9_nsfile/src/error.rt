@@ -1,5 +1,8 @@
 //! Why a namespace file isn't run.
 
+ghost use Rattle.std.specs.Prelude.{◌≡◌};
+ghost use Rattle.p9_nsfile.specs.Text.{form_text};
+
 use p9_base::NoMemory;
 use std::alloc::{AllocError, AllocFailed};
 use thiserror::Error;
@@ -16,6 +19,19 @@ pub enum BadForm {
     /// A flag without a letter, with a letter that is none of `abcC`, or `a` together with `b`.
     #[error("bad flag")]
     BadFlag,
+}
+
+impl BadForm {
+    /// The text that tells it.
+    pub fn text(self) -> &'static str
+        ensures { result.now ≡ form_text self }
+    {
+        match self {
+            BadForm::UnknownWord => "unknown word",
+            BadForm::WordCount => "wrong number of words",
+            BadForm::BadFlag => "bad flag",
+        }
+    }
 }
 
 /// Why a namespace file isn't run. The mount table is as before.

@@ -1,5 +1,8 @@
 //! Why an operation of a namespace file does nothing.
 
+ghost use Rattle.std.specs.Prelude.{◌≡◌};
+ghost use Rattle.p9_nsfile.specs.Text.{fault_text};
+
 use p9_base::{Fault, NoMemory};
 use std::alloc::{AllocError, AllocFailed};
 use thiserror::Error;
@@ -34,6 +37,25 @@ pub enum OpFault {
     /// A file is included by one that is nested as deep as files may be.
     #[error("nested too deep")]
     TooDeep,
+}
+
+impl OpFault {
+    /// The text that tells it.
+    pub fn text(self) -> &'static str
+        ensures { result.now ≡ fault_text self }
+    {
+        match self {
+            OpFault::Path(fault) => fault.text(),
+            OpFault::UnknownServer => "unknown server",
+            OpFault::KindMismatch => "inconsistent mount",
+            OpFault::NotMounted => "not mounted",
+            OpFault::NotMember => "not in the union",
+            OpFault::SpecGiven => "spec not offered",
+            OpFault::NotOffered => "not offered",
+            OpFault::BadInclude => "bad included file",
+            OpFault::TooDeep => "nested too deep",
+        }
+    }
 }
 
 /// Why a call ends: the operation fails, or memory is refused.

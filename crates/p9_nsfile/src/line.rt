@@ -1,9 +1,8 @@
 //! The lines of a namespace file.
 
-ghost use Rattle.std.specs.Prelude.{◌≡◌, ◌⊎◌, Ok, Err, IfOk, IfErr, map};
+ghost use Rattle.std.specs.Prelude.{◌≡◌, Ok, IfOk, IfErr, map};
 ghost use Rattle.p9_base.specs.Statement.{statement_value};
-ghost use Rattle.p9_nsfile.specs.declared.error.NsError.TheVariants.{NoMemory as OutOfMemory};
-ghost use Rattle.p9_nsfile.specs.Line.{line_of, line_value, lines_in};
+ghost use Rattle.p9_nsfile.specs.Line.{IsNsFault, line_of, line_value, lines_in};
 
 use crate::error::NsError;
 use crate::operation::{Operation, read_operation};
@@ -25,7 +24,7 @@ pub(crate) fn read_lines<A: Allocator + Copy>(
     text: &str,
 ) -> Result<Vec<Line<'_>, A>, NsError>
     ensures ok { IfOk result (λ found. lines_in text.now ≡ Ok (map line_value found.items)) }
-    ensures err { IfErr result (λ e. (e ≡ OutOfMemory) ⊎ (lines_in text.now ≡ Err e)) }
+    ensures err { IfErr result (IsNsFault (lines_in text.now)) }
 {
     let mut lines = Vec::new(alloc);
     for statement in &statements(alloc, text)? {
@@ -36,7 +35,7 @@ pub(crate) fn read_lines<A: Allocator + Copy>(
 
 fn read_line<'a, A: Allocator>(statement: &Statement<'a, A>) -> Result<Line<'a>, NsError>
     ensures ok { IfOk result (λ line. line_of (statement_value statement.now) ≡ Ok (line_value line)) }
-    ensures err { IfErr result (λ e. line_of (statement_value statement.now) ≡ Err e) }
+    ensures err { IfErr result (IsNsFault (line_of (statement_value statement.now))) }
 {
     match read_operation(statement.words.as_slice()) {
         Ok(operation) => Ok(Line {

@@ -1,12 +1,12 @@
 //! The running of namespace files, as namespace(6).
 
-ghost use Rattle.std.specs.Prelude.{◌≡◌, ◌⊎◌, IfErr, IfOk, Ok, Err, Some, OnErr, OnOk, map};
+ghost use Rattle.std.specs.Prelude.{◌≡◌, IfErr, IfOk, Ok, Some, OnErr, OnOk, map};
 ghost use Rattle.p9_nsfile.specs.Answer.{Acts, GivesLines};
-ghost use Rattle.p9_nsfile.specs.Line.{line_value, lines_in};
+ghost use Rattle.p9_nsfile.specs.Given.{KeepsGiven};
+ghost use Rattle.p9_nsfile.specs.Line.{IsNsFault, line_value, lines_in};
 ghost use Rattle.p9_nsfile.specs.Operation.{operation_value};
 ghost use Rattle.p9_nsfile.specs.Run.{acted, entered, file_lines, included, included_lines, line_done, lines_done, or_bad_include, run_of};
 ghost use Rattle.p9_nsfile.specs.Space.{names_of, variables_of};
-ghost use Rattle.p9_nsfile.specs.declared.error.NsError.TheVariants.{NoMemory as OutOfMemory};
 
 use crate::bind::{bind, mount, unmount};
 use crate::error::NsError;
@@ -27,7 +27,8 @@ pub const NESTED_MAX: u8 = 8;
 
 /// Runs a namespace file: the mount table is what its lines make of it, one after another. The
 /// answer is what operations failed, in order: the line's number, counted from 1, and the fault.
-/// An operation that fails does nothing, and the next one goes on.
+/// An operation that fails does nothing, and the next one goes on. A table that names only nodes
+/// that were made stays one.
 ///
 /// `vars` are the variables, each a name and its value, and `servers` the names of the servers by
 /// their numbers, which are distinct and one for each tree.
@@ -43,9 +44,11 @@ pub fn run_file<T: Tree>(
     table: &mut MountTable<T::Alloc>,
 ) -> Result<Vec<(u64, OpFault), T::Alloc>, NsError>
     ensures ok { IfOk result (λ reports. run_of (record { forest = map T.state forest.now.trees.items; vars = variables_of vars.now; servers = names_of servers.now }) text.now table.old ≡ Ok (table.new, reports.items)) }
-    ensures err { IfErr result (λ e. (e ≡ OutOfMemory) ⊎ (run_of (record { forest = map T.state forest.now.trees.items; vars = variables_of vars.now; servers = names_of servers.now }) text.now table.old ≡ Err e)) }
+    ensures err { IfErr result (IsNsFault (run_of (record { forest = map T.state forest.now.trees.items; vars = variables_of vars.now; servers = names_of servers.now }) text.now table.old)) }
     ensures unchanged { OnErr result (table.new ≡ table.old) }
+    ensures given { OnOk result (KeepsGiven (record { forest = map T.state forest.now.trees.items; vars = variables_of vars.now; servers = names_of servers.now }) table.old table.new) }
 {
+    forest.well_formed();
     let lines = read_lines(alloc, text)?;
     let setting = Setting::new(alloc, forest, vars, servers);
     let mut space = Space::begin(alloc, table)?;

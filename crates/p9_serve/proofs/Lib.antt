@@ -2,4 +2,6 @@ mod Scripts
 mod Bundles
 mod Smalls
 mod Plays
-mod Commands
+mod Worlds
+mod Prints
+mod Paths

@@ -7,7 +7,7 @@ use Rattle.std.specs.String.{string_bytes}
 use Rattle.p9_base.specs.Line.{is_blank, lines_of}
 use Rattle.p9_base.specs.TryFold.{and_then, try_fold}
 use Rattle.p9_serve.specs.declared.bundle.Section.{Section}
-use Rattle.p9_serve.specs.declared.bundle.Section.TheVariants.{Script}
+use Rattle.p9_serve.specs.declared.bundle.Section.TheVariants.{World, Ns, Script}
 use Rattle.p9_serve.specs.declared.bundle.Bundle.{Bundle}
 use Rattle.p9_serve.specs.declared.bundle.Reader.{Reader}
 use Rattle.p9_serve.specs.declared.bundle.BundleError.{BundleError}
@@ -17,14 +17,18 @@ use Rattle.p9_serve.specs.declared.bundle.BundleError.TheVariants.{BadBundle, No
 
 -- the sections, in the order in which they stand
 abbrev pub sections : List Section
-sections = Script ∷ []
+sections = World ∷ Ns ∷ Script ∷ []
 
 -- a section's place among all
 abbrev pub place_of : Section → ℕ
-place_of Script = 0
+place_of World = 0
+place_of Ns = 1
+place_of Script = 2
 
 -- the line that begins a section
 abbrev pub head_of : Section → List ℕ
+head_of World = codes "%% world"
+head_of Ns = codes "%% ns"
 head_of Script = codes "%% script"
 
 -- the section that a line begins
@@ -40,6 +44,8 @@ may_follow (Some last) section = nat_lt (place_of last) (place_of section)
 
 -- the texts of the sections that are there
 pub record Texts : Type 0 where
+  pub world : Option (List ℕ)
+  pub ns : Option (List ℕ)
   pub script : Option (List ℕ)
 
 -- a bundle as far as it is read: the sections, and the one that was begun last
@@ -49,6 +55,8 @@ pub record Reading : Type 0 where
 
 -- the section begins, without a line
 abbrev pub with_section : Section → Texts → Texts
+with_section World texts = record texts { world = Some [] }
+with_section Ns texts = record texts { ns = Some [] }
 with_section Script texts = record texts { script = Some [] }
 
 -- one line more
@@ -57,6 +65,8 @@ with_line line text = text ++ line ++ 10 ∷ []
 
 -- the section has one line more
 abbrev pub with_line_in : Section → List ℕ → Texts → Texts
+with_line_in World line texts = record texts { world = option_map (with_line line) texts.world }
+with_line_in Ns line texts = record texts { ns = option_map (with_line line) texts.ns }
 with_line_in Script line texts = record texts { script = option_map (with_line line) texts.script }
 
 -- a line that begins with `%%` begins a section, or is bad
@@ -80,7 +90,7 @@ with_numbered_line reading numbered =
     else continued reading numbered.0 numbered.1 reading.last
 
 abbrev pub unread : Reading
-unread = record { texts = record { script = None }; last = None }
+unread = record { texts = record { world = None; ns = None; script = None }; last = None }
 
 -- the sections of a text, or the number of its first bad line
 abbrev pub bundle_of : List ℕ → Result Texts ℕ
@@ -90,7 +100,11 @@ bundle_of text =
 -- The code's values, as they are seen.
 
 abbrev pub bundle_value : {A : Type 0} → Bundle A → Texts
-bundle_value bundle = record { script = option_map string_bytes bundle.script }
+bundle_value bundle = record {
+  world = option_map string_bytes bundle.world;
+  ns = option_map string_bytes bundle.ns;
+  script = option_map string_bytes bundle.script;
+}
 
 abbrev pub reader_value : {A : Type 0} → Reader A → Reading
 reader_value reader = record { texts = bundle_value reader.bundle; last = reader.last }

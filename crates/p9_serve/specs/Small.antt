@@ -5,7 +5,7 @@ use Rattle.p9_base.specs.declared.mode.Mode.{Mode}
 use Rattle.p9_base.specs.Mode.{permissions_of}
 use Rattle.p9_tree.specs.Node.{Node}
 use Rattle.p9_tree.specs.Server.{Server, root_node}
-use Rattle.p9_export.specs.State.{State}
+use Rattle.p9_world.specs.World.{World}
 
 -- rwxr-xr-x
 abbrev pub directory_mode : Mode
@@ -45,10 +45,12 @@ small = record {
   next = 4;
 }
 
--- the exporter of the world, to glenda, without mounts and sessions
-abbrev pub small_state : State
-small_state = record {
-  setting = record { users = codes "glenda" ∷ []; table = [] };
+-- the world, with glenda for its one user
+abbrev pub small_world : World
+small_world = record {
   forest = small ∷ [];
-  sessions = [];
+  users = codes "glenda" ∷ [];
+  hidden = [];
+  vars = [];
+  servers = codes "main" ∷ [];
 }

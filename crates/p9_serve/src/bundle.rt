@@ -27,12 +27,16 @@ pub enum BundleError {
 /// The sections of a bundle: of each the text of its lines, or `None` where it isn't there.
 #[derive(Drop)]
 pub struct Bundle<A: Allocator> {
+    pub world: Option<String<A>>,
+    pub ns: Option<String<A>>,
     pub script: Option<String<A>>,
 }
 
 // The sections, in the order in which they stand.
 #[derive(Clone, Copy)]
 enum Section {
+    World,
+    Ns,
     Script,
 }
 
@@ -42,6 +46,8 @@ impl Section {
         ensures { result ≡ section_of line.now }
     {
         match line {
+            "%% world" => Some(Section::World),
+            "%% ns" => Some(Section::Ns),
             "%% script" => Some(Section::Script),
             _ => None,
         }
@@ -52,7 +58,9 @@ impl Section {
         ensures { result ≡ place_of self }
     {
         match self {
-            Section::Script => 0,
+            Section::World => 0,
+            Section::Ns => 1,
+            Section::Script => 2,
         }
     }
 
@@ -76,7 +84,11 @@ impl<A: Allocator + Copy> Reader<A> {
         ensures { reader_value result ≡ unread }
     {
         Reader {
-            bundle: Bundle { script: None },
+            bundle: Bundle {
+                world: None,
+                ns: None,
+                script: None,
+            },
             last: None,
         }
     }
@@ -135,6 +147,8 @@ impl<A: Allocator + Copy> Bundle<A> {
         ensures { bundle_value self.new ≡ with_section section (bundle_value self.old) }
     {
         match section {
+            Section::World => self.world = Some(String::new(alloc)),
+            Section::Ns => self.ns = Some(String::new(alloc)),
             Section::Script => self.script = Some(String::new(alloc)),
         }
     }
@@ -145,6 +159,8 @@ impl<A: Allocator + Copy> Bundle<A> {
             (bundle_value self.new ≡ with_line_in section line.now (bundle_value self.old)) }
     {
         match section {
+            Section::World => push_line(&mut self.world, line),
+            Section::Ns => push_line(&mut self.ns, line),
             Section::Script => push_line(&mut self.script, line),
         }
     }
@@ -171,9 +187,9 @@ fn is_blank(line: &str) -> bool
 
 /// The sections of a bundle.
 ///
-/// A section begins with the line `%% script`, and has the lines up to the next section or the end; in
-/// its text each of them ends with a newline. A section stands once at most. Any other line that begins
-/// with `%%`, and a line before the first section that has anything but blanks and tabs, is
+/// A section begins with one of the lines `%% world`, `%% ns` and `%% script`, and has the lines up to
+/// the next section or the end; in its text each of them ends with a newline. Each section stands once at
+/// most, and they stand in this order. Any other line that begins with `%%`, and a line before the first section that has anything but blanks and tabs, is
 /// [`BundleError::BadBundle`]; want of memory is [`BundleError::NoMemory`].
 pub fn split_bundle<A: Allocator + Copy>(alloc: A, text: &str) -> Result<Bundle<A>, BundleError>
     ensures ok { IfOk result (λ bundle. bundle_of text.now ≡ Ok (bundle_value bundle)) }

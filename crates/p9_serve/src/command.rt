@@ -1,98 +1,66 @@
 //! The program's commands.
 
 ghost use Rattle.std.specs.Prelude.{◌≡◌, IfErr, IfNone, IfOk, IfSome, Ok, OnOk, false, map, true};
+ghost use Rattle.std.specs.Option.{option_copied, option_map};
 ghost use Rattle.std.specs.Str.{is_utf8};
 ghost use Rattle.std.specs.String.{string_bytes};
-ghost use Rattle.p9_serve.specs.Command.{Ends, IsStop, asked_of, events_in, or_refused};
-ghost use Rattle.p9_serve.specs.Command.{refusal_text, script_in, status_of};
 ghost use Rattle.p9_serve.specs.Bundle.{bundle_of, bundle_value};
-ghost use Rattle.p9_serve.specs.Play.{PlaysAll};
+ghost use Rattle.p9_serve.specs.Command.{Ends, Runs, Writes, command_of, job, job_in, job_of};
+ghost use Rattle.p9_serve.specs.Command.{job_over, script_in};
+ghost use Rattle.p9_serve.specs.NameSpace.{space_in};
+ghost use Rattle.p9_serve.specs.Refusal.{IsStop, or_refused};
 ghost use Rattle.p9_serve.specs.Script.{event_value};
-ghost use Rattle.p9_serve.specs.Small.{small_state};
-ghost use Rattle.p9_serve.specs.declared.command.Refusal.TheVariants.{BadSection};
+ghost use Rattle.p9_serve.specs.declared.refusal.Refusal.TheVariants.{BadSection};
 
 use crate::bundle::{Bundle, BundleError, split_bundle};
 use crate::line::print_line;
+use crate::name_space::NameSpace;
 use crate::play::play_events;
+use crate::refusal::{Refusal, Stop};
 use crate::script::{ScriptError, read_script};
-use crate::small::small_export;
 use p9_base::NoMemory;
 use p9_export::Event;
 use p9_tree::PlainTree;
-use std::alloc::{AllocError, Allocator};
+use std::alloc::Allocator;
 
-// Why a command does nothing.
+/// What a command does with the name space of its input.
 #[derive(Clone, Copy)]
-enum Refusal {
-    BadCommandLine,
-    NotUtf8,
-    // A line of the input.
-    BadSection { line: u64 },
-    // A line of the script.
-    BadLine { line: u64 },
-}
-
-// What keeps a command from its work.
-#[derive(Clone, Copy)]
-enum Stop {
-    Refused(Refusal),
-    NoMemory,
-}
-
-impl Refusal {
-    // The exit status that tells it.
-    fn status(self) -> u8
-        ensures { result ≡ status_of self }
-    {
-        match self {
-            Refusal::BadCommandLine => 2,
-            _ => 1,
-        }
-    }
-
-    // The line that tells it.
-    fn text<A: Allocator + Copy>(self, alloc: A) -> Result<String<A>, AllocError>
-        ensures { IfOk result (λ text. string_bytes text ≡ refusal_text self) }
-    {
-        match self {
-            Refusal::BadCommandLine => String::from_str(alloc, "p9: bad command line"),
-            Refusal::NotUtf8 => String::from_str(alloc, "input: not UTF-8"),
-            Refusal::BadSection { line } => format!(in alloc; "bundle:{line}: bad section"),
-            Refusal::BadLine { line } => format!(in alloc; "script:{line}: bad line"),
-        }
-    }
+enum Command {
+    /// Plays the script, and prints the replies.
+    Play,
+    /// Prints the mount table.
+    Ns,
 }
 
 /// Runs a command of the program over its input, and answers the exit status. What is printed goes
-/// behind what stands in `out`, and a fault, as one line, behind what stands in `err`.
+/// behind what stands in `out`, and what is told of faults, in lines, behind what stands in `err`.
 ///
-/// The one command is `play`: it reads the input's script and plays it over the sample world, a server
-/// with `/a`, `/a/b` and `/a/f` that serves glenda. It prints for each frame a line, the reply in lower
-/// case hexadecimal digits, and `skip` for an event that doesn't fit, and ends with status 0. An input
-/// that is not UTF-8, no bundle or no script ends with status 1, and any other command with status 2;
-/// then nothing is played. Want of memory may have printed a part.
+/// The input is a bundle. Its world, or the sample world without one, is what the lines of its namespace
+/// section are run over. An operation that fails is told as `ns:L: TEXT`, and does nothing more. Then
+/// `play` plays the script over the name space: for each frame it prints a line, the reply in lower case
+/// hexadecimal digits, and `skip` for an event that doesn't fit; and `ns` prints the mount table, as
+/// binds that would make it again. Both end with status 0.
+///
+/// An input that is not UTF-8 or no bundle, and then the first bad line of its world, its namespace file
+/// and its script, in this order, ends with status 1, and any other command with status 2; nothing is
+/// printed on `out` then. Want of memory may have printed a part.
 pub fn run_command<A: Allocator + Copy>(
     cmd: &str,
     input: &[u8],
     out: &mut Vec<u8, A>,
     err: &mut Vec<u8, A>,
 ) -> Result<u8, NoMemory>
-    ensures { IfOk result (λ status. Ends (asked_of cmd.now input.now) (record {
-      status = status;
+    ensures { IfOk result (λ status. Ends (job_of cmd.now input.now) status (record {
       out_before = out.old.items;
       out = out.new.items;
       err_before = err.old.items;
       err = err.new.items;
     })) }
 {
-    let alloc = *out.allocator();
-    match asked(alloc, cmd, input) {
-        Ok(events) => {
-            play_small(events.as_slice(), out)?;
-            Ok(0)
-        }
+    match run(cmd, input, out, err) {
+        Ok(()) => Ok(0),
         Err(Stop::Refused(refusal)) => {
-            let text = refusal.text(alloc)?;
+            let text = refusal.text(*err.allocator())?;
             print_line(text.as_str(), err)?;
             Ok(refusal.status())
         }
@@ -100,38 +68,56 @@ pub fn run_command<A: Allocator + Copy>(
     }
 }
 
-// Plays events over the sample world.
-fn play_small<A: Allocator + Copy>(
-    events: &[Event<A>],
+// Does what a command is asked, up to the reason that stops it.
+fn run<A: Allocator + Copy>(
+    cmd: &str,
+    input: &[u8],
     out: &mut Vec<u8, A>,
-) -> Result<(), NoMemory>
-    ensures { OnOk result (PlaysAll (map event_value events.now) small_state out.old.items out.new.items) }
+    err: &mut Vec<u8, A>,
+) -> Result<(), Stop>
+    ensures { Runs (job_of cmd.now input.now) (record {
+      out_before = out.old.items;
+      out = out.new.items;
+      err_before = err.old.items;
+      err = err.new.items;
+    }) result }
 {
-    let mut export = small_export::<PlainTree<A>>(*out.allocator())?;
-    play_events(&mut export, events, out)
-}
-
-// The events that a command plays.
-fn asked<A: Allocator + Copy>(alloc: A, cmd: &str, input: &[u8]) -> Result<Vec<Event<A>, A>, Stop>
-    ensures ok { IfOk result (λ events. asked_of cmd.now input.now ≡ Ok (map event_value events.items)) }
-    ensures stop { IfErr result (IsStop (asked_of cmd.now input.now)) }
-{
-    if cmd != "play" {
-        return Err(Stop::Refused(Refusal::BadCommandLine));
+    match command_of(cmd) {
+        Some(command) => run_in(command, input, out, err),
+        None => Err(Stop::Refused(Refusal::BadCommandLine)),
     }
-    events(alloc, input)
 }
 
-// The events of an input.
-fn events<A: Allocator + Copy>(alloc: A, input: &[u8]) -> Result<Vec<Event<A>, A>, Stop>
-    ensures ok { IfOk result (λ events. events_in input.now ≡ Ok (map event_value events.items)) }
-    ensures stop { IfErr result (IsStop (events_in input.now)) }
+// The command of a word.
+fn command_of(word: &str) -> Option<Command>
+    ensures { result ≡ command_of word.now }
+{
+    match word {
+        "play" => Some(Command::Play),
+        "ns" => Some(Command::Ns),
+        _ => None,
+    }
+}
+
+// The same for a command, of an input.
+fn run_in<A: Allocator + Copy>(
+    command: Command,
+    input: &[u8],
+    out: &mut Vec<u8, A>,
+    err: &mut Vec<u8, A>,
+) -> Result<(), Stop>
+    ensures { Runs (job_in command input.now) (record {
+      out_before = out.old.items;
+      out = out.new.items;
+      err_before = err.old.items;
+      err = err.new.items;
+    }) result }
 {
     let Some(text) = text(input) else {
         return Err(Stop::Refused(Refusal::NotUtf8));
     };
-    match sections(alloc, text) {
-        Ok(bundle) => script(alloc, &bundle),
+    match sections(*out.allocator(), text) {
+        Ok(bundle) => run_over(command, &bundle, out, err),
         Err(stop) => Err(stop),
     }
 }
@@ -159,19 +145,100 @@ fn sections<A: Allocator + Copy>(alloc: A, text: &str) -> Result<Bundle<A>, Stop
     }
 }
 
+// The same for a command, of the sections of an input.
+fn run_over<A: Allocator + Copy>(
+    command: Command,
+    bundle: &Bundle<A>,
+    out: &mut Vec<u8, A>,
+    err: &mut Vec<u8, A>,
+) -> Result<(), Stop>
+    ensures { Runs (job_over command (bundle_value bundle.now)) (record {
+      out_before = out.old.items;
+      out = out.new.items;
+      err_before = err.old.items;
+      err = err.new.items;
+    }) result }
+{
+    match name_space(*out.allocator(), bundle) {
+        Ok(space) => run_on(command, space, bundle, out, err),
+        Err(stop) => Err(stop),
+    }
+}
+
+// The name space of the sections.
+fn name_space<A: Allocator + Copy>(
+    alloc: A,
+    bundle: &Bundle<A>,
+) -> Result<NameSpace<PlainTree<A>>, Stop>
+    ensures ok { IfOk result (λ space.
+        space_in (bundle_value bundle.now).world (bundle_value bundle.now).ns ≡ Ok space) }
+    ensures stop { IfErr result
+        (IsStop (space_in (bundle_value bundle.now).world (bundle_value bundle.now).ns)) }
+{
+    NameSpace::read(alloc, text_of(&bundle.world), text_of(&bundle.ns))
+}
+
+// The text of a section, if it is there.
+fn text_of<A: Allocator>(section: &Option<String<A>>) -> Option<&str>
+    ensures { option_copied result ≡ option_map string_bytes section.now }
+{
+    match section {
+        Some(text) => Some(text.as_str()),
+        None => None,
+    }
+}
+
+// The same for a command, of a name space and the section of the script: what failed in the making of
+// the name space is told first.
+fn run_on<A: Allocator + Copy>(
+    command: Command,
+    space: NameSpace<PlainTree<A>>,
+    bundle: &Bundle<A>,
+    out: &mut Vec<u8, A>,
+    err: &mut Vec<u8, A>,
+) -> Result<(), Stop>
+    ensures { Runs (Ok (job command (bundle_value bundle.now) space)) (record {
+      out_before = out.old.items;
+      out = out.new.items;
+      err_before = err.old.items;
+      err = err.new.items;
+    }) result }
+{
+    space.print_reports(err)?;
+    match script(*out.allocator(), bundle) {
+        Ok(events) => {
+            work(command, space, events.as_slice(), out)?;
+            Ok(())
+        }
+        Err(stop) => Err(stop),
+    }
+}
+
 // The events of a bundle's script.
 fn script<A: Allocator + Copy>(alloc: A, bundle: &Bundle<A>) -> Result<Vec<Event<A>, A>, Stop>
     ensures ok { IfOk result (λ events.
         script_in (bundle_value bundle.now) ≡ Ok (map event_value events.items)) }
     ensures stop { IfErr result (IsStop (script_in (bundle_value bundle.now))) }
 {
-    let text = match &bundle.script {
-        Some(text) => text.as_str(),
-        None => "",
-    };
-    match read_script(alloc, text) {
+    match read_script(alloc, text_of(&bundle.script).unwrap_or("")) {
         Ok(events) => Ok(events),
-        Err(ScriptError::BadScript { line }) => Err(Stop::Refused(Refusal::BadLine { line })),
+        Err(ScriptError::BadScript { line }) => Err(Stop::Refused(Refusal::BadEvent { line })),
         Err(ScriptError::NoMemory) => Err(Stop::NoMemory),
+    }
+}
+
+// Does a command's work.
+fn work<A: Allocator + Copy>(
+    command: Command,
+    space: NameSpace<PlainTree<A>>,
+    events: &[Event<A>],
+    out: &mut Vec<u8, A>,
+) -> Result<(), NoMemory>
+    ensures { OnOk result
+        (Writes command space (map event_value events.now) out.old.items out.new.items) }
+{
+    match command {
+        Command::Play => play_events(&mut space.export(), events, out),
+        Command::Ns => space.print_table(out),
     }
 }

@@ -1,11 +1,17 @@
-//! The program's commands over bytes in memory: an input is split into sections, its script is read,
-//! and its events are played over an exporter.
+//! The program's commands over bytes in memory: an input is split into sections, its world is made and
+//! its namespace file is run over it, and the events of its script are played over an exporter, or the
+//! mount table is printed.
 #![tactic(auto)]
 
 mod bundle;
 mod command;
 mod line;
+mod listing;
+mod name_space;
+mod path;
 mod play;
+mod refusal;
+mod report;
 mod script;
 mod small;
 #[cfg(test)]

@@ -1,25 +1,32 @@
-//! The sample world `small`, over which a script is played that brings no world.
+//! The sample world `small`, for an input that brings no world.
 
 ghost use Rattle.std.specs.Prelude.{◌≡◌, IfOk, IsTrue, OnOk, codes};
 ghost use Rattle.p9_base.specs.Name.{is_name};
 ghost use Rattle.p9_tree.specs.Server.{CanAdd, added};
-ghost use Rattle.p9_serve.specs.Small.{directory_mode, file_mode, glendas, small, small_state};
+ghost use Rattle.p9_serve.specs.Small.{directory_mode, file_mode, glendas, small, small_world};
 
 use p9_base::{FileFlags, Kind, Mode, Name, NoMemory, Permissions, User};
-use p9_export::Export;
-use p9_space::MountTable;
 use p9_tree::{Forest, New, Tree};
+use p9_world::World;
 
-/// An exporter of the world `small`, to glenda, without mounts: one server with the directories `/a` and
-/// `/a/b` and the file `/a/f`, which are hers.
-pub fn small_export<T: Tree>(alloc: T::Alloc) -> Result<Export<T>, NoMemory>
-    ensures { IfOk result (λ export. export ≡ small_state) }
+/// The world `small`: one server, `main`, with the directories `/a` and `/a/b` and the file `/a/f`, which
+/// are glenda's, and she is the one user.
+pub fn small_world<T: Tree>(alloc: T::Alloc) -> Result<World<T>, NoMemory>
+    ensures { IfOk result (λ world. world ≡ small_world) }
 {
     let mut trees = Vec::new(alloc);
     trees.push(small::<T>(alloc)?)?;
     let mut users = Vec::new(alloc);
     users.push(glenda())?;
-    Ok(Export::new(Forest { trees }, users, MountTable::new(alloc)))
+    let mut servers = Vec::new(alloc);
+    servers.push(String::from_str(alloc, "main")?)?;
+    Ok(World {
+        forest: Forest { trees },
+        users,
+        hidden: Vec::new(alloc),
+        vars: Vec::new(alloc),
+        servers,
+    })
 }
 
 fn small<T: Tree>(alloc: T::Alloc) -> Result<T, NoMemory>

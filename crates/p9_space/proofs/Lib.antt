@@ -1,2 +1,5 @@
 pub mod Tables
 pub mod Names
+pub mod GivenLists
+pub mod GivenTables
+pub mod GivenWalks

@@ -4,3 +4,4 @@ pub mod Trail
 pub mod Place
 pub mod Rights
 pub mod Walk
+pub mod Given

@@ -1,5 +1,5 @@
 use Rattle.std.proofs.Common.{◌≡◌, drop, map}
-use Rattle.p9_export.specs.Sound.{is_table_given}
+use Rattle.p9_space.specs.Given.{is_table_given}
 use Rattle.p9_export.proofs.given.is_table_given.Given as goal
 
 -- the rows that are left give the answer

@@ -1,10 +1,11 @@
-use Rattle.std.proofs.Common.{◌≡◌, ◌+◌, [], ◌∷◌, ◌++◌, Ok, map, drop, sym, ap, ◌∙◌, inr}
+use Rattle.std.proofs.Common.{◌≡◌, ◌+◌, [], ◌∷◌, ◌++◌, Ok, map, drop, ap, ◌∙◌}
 use Rattle.std.proofs.lemmas.List.{map_push}
 use Rattle.p9_base.specs.Statement.{statement_value, statements_of}
 use Rattle.p9_base.specs.TryFold.{and_then, try_fold}
-use Rattle.p9_base.proofs.TryFold.{try_fold-ok, try_fold-err}
+use Rattle.p9_base.proofs.TryFold.{try_fold-ok}
 use Rattle.p9_nsfile.specs.Line.{line_value, lines_in, with_line}
 use Rattle.p9_nsfile.proofs.Words.{IfErr-same}
+use Rattle.p9_nsfile.proofs.Lines.{lines-fault}
 use Rattle.p9_nsfile.proofs.line.read_lines.Goals as goal
 
 pub loop-statement-init : goal.loop-statement-init
@@ -18,9 +19,8 @@ returns-in_err-read_line-clause-err g c =
     let same : map statement_value items ≡ ys = ap (map statement_value) c.deref-statement-items.ensures.value ∙ c.in_ok-statements.ensures in
     let lines = map line_value c.loop-statement.lines.items in
     IfErr-same c.from_residual-in_err-read_line.result c.in_err-read_line.field-0.0 _ c.from_residual-in_err-read_line.ensures.1
-    (inr (sym c.loop-statement.invariant
-    ∙ try_fold-err with_line statement_value items ys same lines c.loop-statement.statement-index c.in_err-read_line.field-0.0 c.statement-item.result c.statement-item.result c.loop-statement-test.true c.statement-item.is
-    (ap (λ r. and_then r (λ l. Ok (lines ++ l ∷ []))) c.in_err-read_line.ensures.err)))
+    (lines-fault statement_value items ys same lines c.loop-statement.statement-index c.statement-item.result c.statement-item.result c.loop-statement-test.true c.statement-item.is
+    c.in_err-read_line.field-0.0 _ c.in_err-read_line.ensures.err c.loop-statement.invariant)
 
 pub loop-statement-preserved : goal.loop-statement-preserved
 loop-statement-preserved g c =

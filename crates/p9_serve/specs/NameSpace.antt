@@ -1,0 +1,53 @@
+-- The name space of an input: its world, and the mount table that its namespace file makes.
+use Rattle.std.specs.Prelude.{ℕ, List, [], Option, Some, None, Result, Ok, unwrap_or}
+use Rattle.p9_base.specs.TryFold.{and_then}
+use Rattle.p9_space.specs.Table.{MountRow}
+use Rattle.p9_world.specs.World.{World}
+use Rattle.p9_world.specs.Reading.{world_of}
+use Rattle.p9_nsfile.specs.Line.{BadLineOf}
+use Rattle.p9_nsfile.specs.Run.{run_of}
+use Rattle.p9_nsfile.specs.Space.{Report, Setting}
+use Rattle.p9_export.specs.State.{State}
+use Rattle.p9_serve.specs.Refusal.{or_refused}
+use Rattle.p9_serve.specs.Small.{small_world}
+use Rattle.p9_serve.specs.declared.refusal.Refusal.{Refusal}
+use Rattle.p9_serve.specs.declared.refusal.Refusal.TheVariants.{BadWorld, BadOperation}
+
+-- a world, the mount table over it, and what failed in its making
+pub record NameSpace : Type 0 where
+  pub world : World
+  pub table : List MountRow
+  pub reports : List Report
+
+-- what a namespace file is run in
+abbrev pub setting_of : World → Setting
+setting_of world = record { forest = world.forest; vars = world.vars; servers = world.servers }
+
+-- the world of a section; where it isn't there the sample world
+abbrev pub world_in : Option (List ℕ) → Result World Refusal
+world_in None = Ok small_world
+world_in (Some text) = or_refused (λ bad. BadWorld bad.0 bad.1) (world_of text)
+
+-- a line of bad form is refused
+abbrev pub or_bad_operation : {X : Type 0} → Result X BadLineOf → Result X Refusal
+or_bad_operation ran = or_refused (λ bad. BadOperation bad.0 bad.1) ran
+
+abbrev pub name_space : World → List MountRow × List Report → NameSpace
+name_space world ran = record { world = world; table = ran.0; reports = ran.1 }
+
+-- the text of a namespace section is run over an empty table
+abbrev pub space_over : List ℕ → World → Result NameSpace Refusal
+space_over text world =
+    and_then (or_bad_operation (run_of (setting_of world) text [])) (λ ran. Ok (name_space world ran))
+
+-- the name space of the sections of a world and of a namespace file, or the first reason against it
+abbrev pub space_in : Option (List ℕ) → Option (List ℕ) → Result NameSpace Refusal
+space_in world ns = and_then (world_in world) (space_over (unwrap_or ns []))
+
+-- the exporter of the name space to the world's users, without sessions
+abbrev pub exported : NameSpace → State
+exported space = record {
+  setting = record { users = space.world.users; table = space.table };
+  forest = space.world.forest;
+  sessions = [];
+}
