@@ -1,19 +1,17 @@
 -- The fids of a session: a finite map from numbers to users, trails and what is open.
-use Rattle.std.specs.Prelude.{ℕ, ◌==◌, ◌&&◌, Bool, count_by, nat_le, List, Option, None, Some, length, is_some, if◌then◌else◌}
+use Rattle.std.specs.Prelude.{ℕ, ◌-◌, ◌^◌, ◌==◌, ◌&&◌, Bool, count_by, nat_le, List, Option, None, Some, length, is_some, if◌then◌else◌}
 use Rattle.std.specs.Option.{option_map_or}
 use Rattle.std.specs.Ordering.{nat_cmp}
 use Rattle.std.specs.Map.{lookup, remove_entry, set_value, values_of}
 use Rattle.std.specs.BTreeMap.{insert_entry, is_at}
 use Rattle.p9_base.specs.declared.fault.Fault.{Fault}
 use Rattle.p9_base.specs.declared.fault.Fault.TheVariants.{FidInUse, TooManyFids, UnknownFid}
-use Rattle.p9_base.specs.declared.fid.TheConstants.{NOFID}
 use Rattle.p9_base.specs.declared.node_ref.NodeRef.{NodeRef}
 use Rattle.p9_space.specs.Place.{file_ref}
 use Rattle.p9_space.specs.Row.{same_node}
 use Rattle.p9_space.specs.Table.{MountRow}
 use Rattle.p9_space.specs.Trail.{here}
 use Rattle.p9_fids.specs.declared.opened.Opened.{Opened}
-use Rattle.p9_fids.specs.declared.table.TheConstants.{FIDS_MAX}
 
 pub record Fid : Type 0 where
   pub user : List ℕ
@@ -43,12 +41,20 @@ trailed trail v = record v { trail = trail }
 abbrev pub opened_as : Opened → Fid → Fid
 opened_as opened v = record v { opened = Some opened }
 
+-- the number that is no fid: the greatest of 32 bits
+abbrev pub nofid : ℕ
+nofid = 2 ^ 32 - 1
+
+-- the most fids of a session
+abbrev pub fids_max : ℕ
+fids_max = 1024
+
 -- why no such fid is added
 abbrev pub put_fault : ℕ → List FidRow → Option Fault
 put_fault fid fids =
-    if fid == NOFID then Some UnknownFid
+    if fid == nofid then Some UnknownFid
     else if is_some (fid_at fid fids) then Some FidInUse
-    else if nat_le FIDS_MAX (length fids) then Some TooManyFids
+    else if nat_le fids_max (length fids) then Some TooManyFids
     else None
 
 -- an open fid has the node as its file

@@ -1,5 +1,5 @@
 -- The file that a word of a namespace file names.
-use Rattle.std.specs.Prelude.{ℕ, ◌==◌, List, [], ◌∷◌, Option, Some, None, Result, Ok, Err, take, position, if◌then◌else◌}
+use Rattle.std.specs.Prelude.{ℕ, ◌^◌, ◌==◌, List, [], ◌∷◌, Option, Some, None, Result, Ok, Err, take, position, if◌then◌else◌}
 use Rattle.std.specs.Option.{option_map_or}
 use Rattle.std.specs.List.{before_first, after_first}
 use Rattle.std.specs.Str.{bytes_eq}
@@ -12,7 +12,6 @@ use Rattle.p9_space.specs.Trail.{here}
 use Rattle.p9_space.specs.Walk.{walk}
 use Rattle.p9_nsfile.specs.declared.fault.OpFault.{OpFault}
 use Rattle.p9_nsfile.specs.declared.fault.OpFault.TheVariants.{Path, UnknownServer}
-use Rattle.p9_nsfile.specs.declared.setting.TheConstants.{SERVERS_MAX}
 use Rattle.p9_nsfile.specs.Flags.{Word}
 use Rattle.p9_nsfile.specs.Space.{Setting, Space, root_place}
 use Rattle.p9_nsfile.specs.Variable.{expanded, is_slash}
@@ -22,11 +21,15 @@ abbrev pub path_fault : {X : Type 0} → Result X Fault → Result X OpFault
 path_fault (Ok value) = Ok value
 path_fault (Err fault) = Err (Path fault)
 
+-- a server's number has 16 bits
+abbrev pub servers_max : ℕ
+servers_max = 2 ^ 16
+
 -- the root of the server of this name
 abbrev pub server_root : List (List ℕ) → Word → Result NodeRef OpFault
 server_root servers name =
     option_map_or (λ number. Ok (record { server = number; number = 0 }))
-    (position (λ server. bytes_eq server name) (take SERVERS_MAX servers)) (Err UnknownServer)
+    (position (λ server. bytes_eq server name) (take servers_max servers)) (Err UnknownServer)
 
 -- what stands behind the '#' at the front, which names a server
 abbrev pub behind_hash : Word → Option Word

@@ -12,12 +12,15 @@ use Rattle.p9_nsfile.specs.declared.fault.OpFault.{OpFault}
 use Rattle.p9_nsfile.specs.declared.fault.OpFault.TheVariants.{Path, NotOffered, BadInclude, TooDeep}
 use Rattle.p9_nsfile.specs.declared.operation.Operation.{Operation}
 use Rattle.p9_nsfile.specs.declared.operation.Operation.TheVariants.{Mount, Bind, Cd, Unmount, Clear, Include, Import}
-use Rattle.p9_nsfile.specs.declared.run.TheConstants.{NESTED_MAX}
 use Rattle.p9_nsfile.specs.Bind.{bound_by, mounted_by, unmounted_by, with_table}
 use Rattle.p9_nsfile.specs.Find.{found, found_file}
 use Rattle.p9_nsfile.specs.Flags.{Word}
 use Rattle.p9_nsfile.specs.Line.{BadLineOf, NumberedLine, lines_in}
 use Rattle.p9_nsfile.specs.Space.{Report, Setting, Space, beginning}
+
+-- how deep included files may be nested
+abbrev pub nested_max : ℕ
+nested_max = 8
 
 -- a file's lines, if they may be included: one line of bad form, and none of them acts
 abbrev pub or_bad_include : Result (List NumberedLine) BadLineOf → Result (List NumberedLine) OpFault
@@ -74,5 +77,5 @@ module _ (setting : Setting) where
   abbrev pub run_of : List ℕ → List MountRow → Result (List MountRow × List Report) BadLineOf
   run_of text table =
       and_then (lines_in text) (λ lines.
-      let space = lines_done NESTED_MAX None (beginning table) lines in
+      let space = lines_done nested_max None (beginning table) lines in
       Ok (space.table, space.reports))

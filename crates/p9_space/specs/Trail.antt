@@ -1,14 +1,17 @@
 -- Trails: the places that a walk came by, from the place of attachment on.
-use Rattle.std.specs.Prelude.{◌-◌, ◌<◌, ◌≤◌, List, [], ◌∷◌, ◌++◌, length, slice_index_or, take, nat_lt, if◌then◌else◌}
+use Rattle.std.specs.Prelude.{ℕ, ◌-◌, ◌<◌, ◌≤◌, List, [], ◌∷◌, ◌++◌, length, slice_index_or, take, nat_lt, if◌then◌else◌}
 use Rattle.p9_base.specs.declared.node_ref.NodeRef.{NodeRef}
-use Rattle.p9_space.specs.declared.trail.TheConstants.{PLACES_MAX}
 use Rattle.p9_space.specs.declared.trail.Step.{Step}
 use Rattle.p9_space.specs.declared.trail.Step.TheVariants.{Up, To}
+
+-- the most places of a trail
+abbrev pub places_max : ℕ
+places_max = 64
 
 -- one place at least, and not too many
 pub record IsTrail (trail : List NodeRef) : Type 0 where
   pub some : 0 < length trail
-  pub few : length trail ≤ PLACES_MAX
+  pub few : length trail ≤ places_max
 
 -- the last place; the other case never comes, since no trail is empty
 abbrev pub here : List NodeRef → NodeRef

@@ -10,18 +10,16 @@ use Rattle.p9_tree.specs.Node.{Node, is_dir}
 use Rattle.p9_tree.specs.Server.{Server}
 use Rattle.p9_tree.specs.Forest.{node_of, child_in}
 use Rattle.p9_space.specs.declared.row.Member.{Member}
-use Rattle.p9_space.specs.declared.rights.TheConstants.{TO_EXECUTE}
-use Rattle.p9_space.specs.declared.trail.TheConstants.{PLACES_MAX}
 use Rattle.p9_space.specs.declared.trail.Step.{Step}
 use Rattle.p9_space.specs.declared.trail.Step.TheVariants.{Up, To}
 use Rattle.p9_space.specs.Place.{file_of}
-use Rattle.p9_space.specs.Rights.{may}
+use Rattle.p9_space.specs.Rights.{may, to_execute}
 use Rattle.p9_space.specs.Table.{MountRow, members_of}
-use Rattle.p9_space.specs.Trail.{here, stepped}
+use Rattle.p9_space.specs.Trail.{here, places_max, stepped}
 
 -- the user may search the directory; without a user everybody may
 abbrev pub may_search : Option (List ℕ) → Node → Bool
-may_search user n = option_map_or (λ u. may u n TO_EXECUTE) user true
+may_search user n = option_map_or (λ u. may u n to_execute) user true
 
 -- the first that there is
 abbrev pub or_else : {X : Type 0} → Option X → Option X → Option X
@@ -59,7 +57,7 @@ module _ (forest : List Server) where
     abbrev pub step_down : List NodeRef → List ℕ → List Member → Result Step Fault
     step_down trail name ms =
         if not (list_any is_searched ms) then Err PermissionDenied
-        else option_map_or (λ place. if length trail == PLACES_MAX then Err PathTooDeep else Ok (To place)) (child_among name ms) (Err NotFound)
+        else option_map_or (λ place. if length trail == places_max then Err PathTooDeep else Ok (To place)) (child_among name ms) (Err NotFound)
 
     -- where a name leads from the members of the last place
     abbrev pub step_among : List NodeRef → List ℕ → List Member → Result Step Fault

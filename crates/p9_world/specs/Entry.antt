@@ -1,5 +1,5 @@
 -- Lines 'dir PATH MODE UID GID' and 'file PATH MODE UID GID HEX', which belong to the last server.
-use Rattle.std.specs.Prelude.{ℕ, ◌+◌, ◌-◌, ◌&&◌, Bool, not, nat_le, nat_lt, List, [], ◌∷◌, Option, Some, None, Result, Ok, is_some, length, codes, if◌then◌else◌}
+use Rattle.std.specs.Prelude.{ℕ, ◌+◌, ◌-◌, ◌^◌, ◌&&◌, Bool, not, nat_le, nat_lt, List, [], ◌∷◌, Option, Some, None, Result, Ok, is_some, length, codes, if◌then◌else◌}
 use Rattle.std.specs.Result.{result_ok}
 use Rattle.std.specs.Str.{bytes_eq}
 use Rattle.hex.specs.Hex.{decode_of}
@@ -8,8 +8,6 @@ use Rattle.p9_base.specs.declared.mode.Permissions.{Permissions}
 use Rattle.p9_base.specs.TryFold.{and_then}
 use Rattle.p9_base.specs.User.{is_user}
 use Rattle.p9_clean.specs.Path.{Word}
-use Rattle.p9_tree.specs.declared.bytes.TheConstants.{FILE_MAX}
-use Rattle.p9_tree.specs.declared.tree.TheConstants.{NEXT_MAX}
 use Rattle.p9_tree.specs.Node.{Node, with_owner}
 use Rattle.p9_tree.specs.Server.{Server, added, child_of, with_changed}
 use Rattle.p9_tree.specs.Forest.{server_at, tree_changed_at}
@@ -33,6 +31,14 @@ in_last_server change w =
     Ok (record w { forest = tree_changed_at (last_number w) (λ old. server) w.forest })))
 
 -- New nodes.
+
+-- the most bytes of a file
+abbrev pub file_max : ℕ
+file_max = 2 ^ 20
+
+-- a server gives the numbers below this one
+abbrev pub next_max : ℕ
+next_max = 2 ^ 48
 
 -- what a line says of a node: its owner is its last changer too
 pub record Entry : Type 0 where
@@ -62,7 +68,7 @@ abbrev pub with_entry : Word → List Word → Entry → Server → Result Serve
 with_entry name names entry server =
     given (dir_of names server) NoParent (λ dir.
     need (not (is_some (child_of dir name server.nodes))) Duplicate (
-    need (nat_lt server.next NEXT_MAX) TooMany (
+    need (nat_lt server.next next_max) TooMany (
     Ok (added server (node_of server.next dir name entry)))))
 
 -- Lines.
@@ -95,5 +101,5 @@ file_line path mode uid gid hex server =
     given (file_mode_in mode) BadMode (λ mode.
     need (is_owned uid gid) BadUser (
     given (bytes_in hex) BadHex (λ bytes.
-    need (nat_le (length bytes) FILE_MAX) TooLarge (
+    need (nat_le (length bytes) file_max) TooLarge (
     with_entry place.0 place.1 (record { mode = mode; uid = uid; gid = gid; bytes = bytes }) server))))))
