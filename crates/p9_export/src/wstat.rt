@@ -30,20 +30,20 @@ struct Touched<'a> {
     gid: Option<&'a str>,
 }
 
-/// Changes what is told of a fid's file, all at once, and marks the directory that it stands in. A
-/// field is untouched that holds its greatest number, or is empty, or holds what stands there; where
-/// all are, nothing changes.
+/// Changes what is told of a fid's file, all at once, and marks the directory that it stands in.
+/// A field is untouched that holds its greatest number, or is empty, or holds what stands there;
+/// where all are, nothing changes.
 ///
 /// The first that applies refuses, by the file as it is, and leaves all: there is no such fid,
-/// [`Fault::UnknownFid`]; its file doesn't exist, [`Fault::PhaseError`]; a field is touched that no
-/// wstat changes, or the mode is none of a directory for a directory, or of a file for a file,
-/// [`Fault::FixedField`]; a name is for a server's root, [`Fault::IsRoot`], or not valid,
-/// [`Fault::BadFileName`], or the user may not write the directory, [`Fault::PermissionDenied`], or
-/// that has the name, [`Fault::FileExists`]; a length is for a directory, [`Fault::IsDirectory`], or
-/// the user may not write the file, [`Fault::PermissionDenied`], or it is more than [`FILE_MAX`],
-/// [`Fault::FileTooLarge`]; the mode or the mtime is touched and the user doesn't rule the file, or
-/// the user may not give it to the group, [`Fault::PermissionDenied`]. Else memory may be refused,
-/// [`Fault::OutOfMemory`].
+/// [`Fault::UnknownFid`]; its file doesn't exist, [`Fault::PhaseError`]; a field is touched that
+/// no wstat changes, or the mode means nothing, or is a directory's for a file or a file's for a
+/// directory, [`Fault::FixedField`]; a name is for a server's root, [`Fault::IsRoot`], or not
+/// valid, [`Fault::BadFileName`], or the user may not write the directory,
+/// [`Fault::PermissionDenied`], or that has the name, [`Fault::FileExists`]; a length is for a
+/// directory, [`Fault::IsDirectory`], or the user may not write the file,
+/// [`Fault::PermissionDenied`], or it is more than [`FILE_MAX`], [`Fault::FileTooLarge`]; the
+/// mode or the mtime is touched and the user doesn't rule the file, or the user may not give it
+/// to the group, [`Fault::PermissionDenied`]. Else memory may be refused, [`Fault::OutOfMemory`].
 pub fn wstat<T: Tree>(
     setting: &Setting<T::Alloc>,
     forest: &mut Forest<T>,

@@ -11,9 +11,9 @@ use p9_wire::Stat;
 use std::alloc::{Allocator, Global};
 use std::process::Abort;
 
-// Nodes 1 to 6 are glenda's /a and what stands in it: her files g and f, and of the system's a file s
-// that all may write, a directory d, and a file r that none may write. Nodes 7 to 9 are the system's
-// /b, and in it two files of hers: f, which none may write, and h.
+// Nodes 1 to 6 are glenda's /a and what stands in it: her files g and f, and of the system's a
+// file s that all may write, a directory d, and a file r that none may write. Nodes 7 to 9 are the
+// system's /b, and in it two files of hers: f, which none may write, and h.
 fn hers_and_others() -> [Made; 9] {
     [
         dir(0, "a", "glenda"),
@@ -335,8 +335,8 @@ fn a_wstat_of_no_file_is_refused(rt: HostRuntime) {
     wstat(&rt, &mut export, 1, &UNTOUCHED, Err("phase error"));
 }
 
-// Nodes 1 to 3: glenda's /a, and in it the system's s, that all may write, and l, of whose group she
-// is the leader, and which the group may not write.
+// Nodes 1 to 3: glenda's /a, and in it the system's s, that all may write, and l, of whose group
+// she is the leader, and which the group may not write.
 fn shared() -> [Made; 3] {
     [
         dir(0, "a", "glenda"),
