@@ -1,4 +1,4 @@
--- The mount table as binds, which would make it again.
+-- The mount table, told as binds.
 use Rattle.std.specs.Prelude.{ℕ, Bool, List, [], ◌∷◌, ◌++◌, codes, if◌then◌else◌}
 use Rattle.std.specs.List.{flat_map}
 use Rattle.p9_base.specs.declared.node_ref.NodeRef.{NodeRef}

@@ -5,6 +5,7 @@
 
 mod bundle;
 mod command;
+mod input;
 mod line;
 mod listing;
 mod name_space;

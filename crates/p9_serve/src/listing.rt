@@ -1,4 +1,4 @@
-//! The mount table as binds, which would make it again.
+//! The mount table, told as binds.
 
 ghost use Rattle.std.specs.Prelude.{◌≡◌, ◌++◌, OnOk};
 ghost use Rattle.p9_serve.specs.Listing.{bind_line, first_flags, later_flags, later_line};

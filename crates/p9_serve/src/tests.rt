@@ -1,14 +1,19 @@
 //! Inputs and what the program prints for them, with bytes from outside.
 
+mod faults;
+mod files;
 mod messages;
+mod namespaces;
+mod refusals;
+mod unions;
+mod worlds;
 
 use crate::{BundleError, ScriptError, read_script, run_command, split_bundle};
-use p9_base::NoMemory;
 use p9_export::Event;
-use p9_refusing::{Refusing, refuse_each};
-use std::alloc::{Allocator, Global};
+use std::alloc::Global;
 use std::process::Abort;
 use std::test::Fail;
+use worlds::SMALL;
 
 // What a command is to print, and its exit status.
 #[derive(Clone, Copy)]
@@ -27,6 +32,8 @@ fn ends(rt: &impl Abort, alloc: Global, cmd: &str, input: &[u8], expected: Expec
     assert_eq!(rt; status, expected.status);
 }
 
+// The input is played over the sample world, and it is played so where the world is given and the
+// namespace file is empty.
 fn plays(rt: &impl Abort, alloc: Global, input: &str, out: &'static str) {
     let expected = Expected {
         status: 0,
@@ -34,6 +41,9 @@ fn plays(rt: &impl Abort, alloc: Global, input: &str, out: &'static str) {
         err: "",
     };
     ends(rt, alloc, "play", input.as_bytes(), expected);
+    let parts = ["%% world\n", SMALL, "%% ns\n", input];
+    let given = parts.join(alloc, "").expect(rt, "memory");
+    ends(rt, alloc, "play", given.as_bytes(), expected);
 }
 
 fn is_refused(rt: &impl Abort, alloc: Global, input: &str, err: &'static str) {
@@ -161,57 +171,6 @@ fn bad_script_lines(rt: HostRuntime) {
     }
 }
 
-#[test]
-fn bad_sections(rt: HostRuntime) {
-    let rows = [
-        ("%%script\n", "bundle:1: bad section\n"),
-        ("%% script \n", "bundle:1: bad section\n"),
-        ("%%  script\n", "bundle:1: bad section\n"),
-        ("%% script\r\n", "bundle:1: bad section\n"),
-        ("%%\n", "bundle:1: bad section\n"),
-        ("%% Script\n", "bundle:1: bad section\n"),
-        ("%% world\n", "bundle:1: bad section\n"),
-        ("%% script\n%% script\n", "bundle:2: bad section\n"),
-        ("%% script\nopen 1\n\n%% ns\n", "bundle:4: bad section\n"),
-        ("\n \t\n# a comment\n%% script\n", "bundle:3: bad section\n"),
-        (" %% script\n", "bundle:1: bad section\n"),
-        ("open 1\n%% script\n", "bundle:1: bad section\n"),
-        ("\r\n%% script\n", "bundle:1: bad section\n"),
-    ];
-    for (input, err) in rows {
-        is_refused(&rt, rt.alloc(), input, err);
-    }
-    // Behind a blank it begins no section.
-    is_refused(
-        &rt,
-        rt.alloc(),
-        "%% script\n %% script\n",
-        "script:1: bad line\n",
-    );
-}
-
-// The command line first, then the bytes, then the sections, then the script.
-#[test]
-fn faults_in_their_order(rt: HostRuntime) {
-    let refused = |status, err| Expected {
-        status,
-        out: "",
-        err,
-    };
-    let bad_command = refused(2, "p9: bad command line\n");
-    for cmd in ["", "Play", "play ", "check", "verify", "ns", "serve"] {
-        ends(&rt, rt.alloc(), cmd, b"\xff", bad_command);
-    }
-    let not_utf8 = refused(1, "input: not UTF-8\n");
-    ends(&rt, rt.alloc(), "play", b"open 1\n\xff", not_utf8);
-    let bad_section = refused(1, "bundle:3: bad section\n");
-    let input = b"%% script\nopen\n%% script\n";
-    ends(&rt, rt.alloc(), "play", input, bad_section);
-    let first_line = refused(1, "script:1: bad line\n");
-    let input = b"%% script\nopen\nclose\n";
-    ends(&rt, rt.alloc(), "play", input, first_line);
-}
-
 // What is printed goes behind what stands there.
 #[test]
 fn output_is_appended(rt: HostRuntime) -> Result<(), Fail> {
@@ -229,13 +188,25 @@ fn output_is_appended(rt: HostRuntime) -> Result<(), Fail> {
     Ok(())
 }
 
+fn section(text: &Option<String>) -> Option<&str> {
+    match text {
+        Some(text) => Some(text.as_str()),
+        None => None,
+    }
+}
+
 #[test]
 fn sections_and_events(rt: HostRuntime) -> Result<(), Fail> {
-    let bundle = split_bundle(rt.alloc(), "\n%% script\nopen 01\n\n# x\nclose 1 2")?;
-    let script = bundle.script.as_ref().ok_or("no script")?;
-    assert_eq!(rt; script.as_str(), "open 01\n\n# x\nclose 1 2\n");
+    let text = "\n%% world\n%% ns\nclear\n %% ns\n%% script\nopen 01\n\n# x\nclose 1 2";
+    let bundle = split_bundle(rt.alloc(), text)?;
+    assert_eq!(rt; section(&bundle.world), Some(""));
+    assert_eq!(rt; section(&bundle.ns), Some("clear\n %% ns\n"));
+    assert_eq!(rt;
+        section(&bundle.script),
+        Some("open 01\n\n# x\nclose 1 2\n")
+    );
     let none = split_bundle(rt.alloc(), " \n\t")?;
-    assert!(rt; none.script.is_none());
+    assert!(rt; none.world.is_none() && none.ns.is_none() && none.script.is_none());
     let second = BundleError::BadBundle { line: 2 };
     assert_eq!(rt; split_bundle(rt.alloc(), "\n%% cert").err(), Some(second));
     let events = read_script(rt.alloc(), "open 01\nmsg 2 03 aB0c\nclose 4294967295 5")?;
@@ -252,32 +223,4 @@ fn sections_and_events(rt: HostRuntime) -> Result<(), Fail> {
         Some(fourth)
     );
     Ok(())
-}
-
-// Plays the first attach. Where memory is refused, the command says so, or the attach's reply does.
-fn play_again<A: Allocator + Copy>(rt: &impl Abort, alloc: A) {
-    let mut out = Vec::new(alloc);
-    let mut err = Vec::new(alloc);
-    let outcome = run_command("play", FIRST_ATTACH.as_bytes(), &mut out, &mut err);
-    assert_eq!(rt; err.len(), 0);
-    if outcome == Err(NoMemory) {
-        out.clear();
-        let again = run_command("play", FIRST_ATTACH.as_bytes(), &mut out, &mut err);
-        assert_eq!(rt; again, Ok(0));
-        assert_eq!(rt; str::from_utf8(out.as_slice()), Ok(FIRST_ATTACH_OUT));
-        return;
-    }
-    assert_eq!(rt; outcome, Ok(0));
-    let refused = "1300000065ffff002000000600395032303030
-160000006b01000d006f7574206f66206d656d6f7279
-";
-    let text = str::from_utf8(out.as_slice());
-    assert!(rt; text == Ok(FIRST_ATTACH_OUT) || text == Ok(refused));
-}
-
-#[test]
-fn each_refused_growth_is_told(rt: HostRuntime) {
-    let memory = Refusing::new(rt.alloc());
-    let refusals = refuse_each(&memory, || (), |()| play_again(&rt, &memory));
-    assert!(rt; refusals > 20);
 }

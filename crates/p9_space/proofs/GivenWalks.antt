@@ -111,6 +111,7 @@ module _ (forest : List Server) (sound : IsForest forest) where
           up : (b : Bool) → list_all (is_given forest) (if b then take (length trail - 1) trail else trail) ≡ true
           up true = all-take (is_given forest) (length trail - 1) trail all
           up false = all
+
           by : (step : Result Step Fault) → LeadsToMade step → ((t : List NodeRef) → list_all (is_given forest) t ≡ true → IfOk (walk forest table user t names) (λ t. list_all (is_given forest) t ≡ true)) → IfOk (and_then step (λ step. walk forest table user (stepped trail step) names)) (λ t. list_all (is_given forest) t ≡ true)
           by (Err fault) made rest = tt
           by (Ok Up) made rest = rest (upward trail) (up (nat_lt 1 (length trail)))
