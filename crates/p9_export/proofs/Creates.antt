@@ -7,16 +7,13 @@ use Rattle.p9_base.specs.declared.mode.Mode.{Mode}
 use Rattle.p9_base.specs.declared.node_ref.NodeRef.{NodeRef}
 use Rattle.p9_base.specs.declared.qid.Qid.{Qid}
 use Rattle.p9_tree.specs.declared.new.New.{New}
-use Rattle.p9_tree.specs.declared.tree.TheConstants.{NEXT_MAX}
 use Rattle.p9_tree.specs.Inside.{beside}
 use Rattle.p9_tree.specs.New.{new_node}
 use Rattle.p9_tree.specs.Node.{Node, is_dir, marked}
-use Rattle.p9_tree.specs.Server.{CanAdd, Server, added}
+use Rattle.p9_tree.specs.Server.{CanAdd, Server, added, next_max}
 use Rattle.p9_tree.specs.Forest.{child_in, forest_changed_at, next_of, node_of, server_at, tree_changed_at}
 use Rattle.p9_tree.proofs.Lookups.{number-node_at}
-use Rattle.p9_space.specs.declared.rights.TheConstants.{TO_WRITE}
-use Rattle.p9_space.specs.declared.trail.TheConstants.{PLACES_MAX}
-use Rattle.p9_space.specs.Rights.{may}
+use Rattle.p9_space.specs.Rights.{may, to_write}
 use Rattle.p9_fids.specs.Fid.{Fid}
 use Rattle.p9_export.specs.declared.opening.Opening.{Opening}
 use Rattle.p9_export.specs.State.{Session}
@@ -27,13 +24,14 @@ use Rattle.p9_export.specs.Create.{create_reply, created, created_in, creation, 
 use Rattle.p9_export.specs.Open.{room_of}
 use Rattle.p9_export.specs.Qid.{qid_of}
 use Rattle.p9_export.specs.Step.{is_done}
+use Rattle.p9_space.specs.Trail.{places_max}
 
 -- what a directory that refuses nothing is
 pub record Permits (forest : List Server) (v : Fid) (name : List ℕ) (target : NodeRef) (dir : Node) : Type 0 where
   pub is_directory : is_dir dir ≡ true
   pub free : child_in target name forest ≡ None
-  pub room : next_of target.server forest < NEXT_MAX
-  pub short : length v.trail < PLACES_MAX
+  pub room : next_of target.server forest < next_max
+  pub short : length v.trail < places_max
 
 -- where no fault of five is due, none of the five tests says so
 none_of : {X : Type 0} (f1 f2 f3 f4 f5 : X) (a b c d e : Bool) → (if not a then Some f1 else if not b then Some f2 else if c then Some f3 else if d then Some f4 else if e then Some f5 else None) ≡ None → (a ≡ true) × (c ≡ false) × (d ≡ false) × (e ≡ false)
@@ -58,12 +56,12 @@ if_some o x P found holds = rw found holds
 module _ (forest : List Server) (v : Fid) (name : List ℕ) (target : NodeRef) (dir : Node) where
   pub nothing_refuses : fault_in forest v name target dir ≡ None → Permits forest v name target dir
   nothing_refuses none =
-      let all = none_of NotDirectory PermissionDenied FileExists QidsUsedUp PathTooDeep (is_dir dir) (may v.user dir TO_WRITE) (is_some (child_in target name forest)) (nat_le NEXT_MAX (next_of target.server forest)) (nat_le PLACES_MAX (length v.trail)) none in
+      let all = none_of NotDirectory PermissionDenied FileExists QidsUsedUp PathTooDeep (is_dir dir) (may v.user dir to_write) (is_some (child_in target name forest)) (nat_le next_max (next_of target.server forest)) (nat_le places_max (length v.trail)) none in
       record {
         is_directory = all.0;
         free = is_none (child_in target name forest) all.1;
-        room = below NEXT_MAX (next_of target.server forest) all.2;
-        short = below PLACES_MAX (length v.trail) all.3;
+        room = below next_max (next_of target.server forest) all.2;
+        short = below places_max (length v.trail) all.3;
       }
 
   module _ (now : ℕ) (asked : Mode) (new : New) (made : new_node 0 dir.number new ≡ created v.user now 0 dir name asked) (found : node_of target forest ≡ Some dir) where

@@ -3,9 +3,8 @@ use Rattle.std.proofs.Common.{◌≡◌, ℕ, ◌+◌, Bool, true, false, List, 
 use Rattle.std.specs.Prelude.{◌==◌, nat_le}
 use Rattle.p9_base.specs.declared.fault.Fault.{Fault}
 use Rattle.p9_base.specs.declared.fault.Fault.TheVariants.{OutOfMemory}
-use Rattle.p9_tree.specs.declared.bytes.TheConstants.{FILE_MAX}
 use Rattle.p9_base.specs.declared.node_ref.NodeRef.{NodeRef}
-use Rattle.p9_tree.specs.Bytes.{overwritten}
+use Rattle.p9_tree.specs.Bytes.{overwritten, file_max}
 use Rattle.p9_tree.specs.Node.{Node, is_dir, marked, with_bytes}
 use Rattle.p9_tree.specs.Server.{Server}
 use Rattle.p9_tree.specs.Forest.{forest_changed_at, is_dir_of, node_of}
@@ -42,13 +41,13 @@ module _ (table : List MountRow) (forest : List Server) (v : Fid) (n : Node) (fo
 pub write_answer-done : (setting : Setting) (forest : List Server) (session : Session) (now fid offset : ℕ) (bytes : List ℕ) (v : Fid) (n : Node) (at : NodeRef) (place : ℕ)
     → at ≡ fid_ref setting.table v → place ≡ write_place offset n
     → fid_at fid session.fids ≡ Some v → is_writable v ≡ true → node_of at forest ≡ Some n
-    → (length bytes == 0) ≡ false → nat_le (place + length bytes) FILE_MAX ≡ true
+    → (length bytes == 0) ≡ false → nat_le (place + length bytes) file_max ≡ true
     → write_answer setting forest session now fid offset bytes ≡ written session now v at place bytes
 unfolding need given
 write_answer-done setting forest session now fid offset [] v n at place at_is place_is found opens there some fits = let no : true ≡ false = some in cc
 write_answer-done setting forest session now fid offset (b ∷ bs) v n at place at_is place_is found opens there some fits =
     let there' : node_of (fid_ref setting.table v) forest ≡ Some n = rw (← at_is) there in
-    let fits' : nat_le (write_place offset n + length (b ∷ bs)) FILE_MAX ≡ true = rw (← place_is) fits in
+    let fits' : nat_le (write_place offset n + length (b ∷ bs)) file_max ≡ true = rw (← place_is) fits in
     rw (at_is, place_is, found, opens, there', fits') refl
 
 -- and the file is marked

@@ -12,15 +12,13 @@ use Rattle.p9_base.specs.declared.mode.Mode.{Mode}
 use Rattle.p9_base.specs.declared.node_ref.NodeRef.{NodeRef}
 use Rattle.p9_base.specs.Mode.{is_dir as is_dir_mode, mode_of}
 use Rattle.p9_base.specs.Name.{is_name}
-use Rattle.p9_tree.specs.declared.bytes.TheConstants.{FILE_MAX}
 use Rattle.p9_tree.specs.Change.{CanChange, CanChangeNode, changed}
 use Rattle.p9_tree.specs.Inside.{beside}
 use Rattle.p9_tree.specs.Node.{Node, is_dir}
 use Rattle.p9_tree.specs.Server.{Server}
 use Rattle.p9_tree.specs.Forest.{IsForest, child_in, forest_changed_at, node_of, server_at}
 use Rattle.p9_tree.proofs.Lookups.{number-node_at}
-use Rattle.p9_space.specs.declared.rights.TheConstants.{TO_WRITE}
-use Rattle.p9_space.specs.Rights.{may, rules}
+use Rattle.p9_space.specs.Rights.{may, rules, to_write}
 use Rattle.p9_space.specs.Walk.{or_else}
 use Rattle.p9_wire.specs.Message.{Rwstat, StatFields}
 use Rattle.p9_fids.specs.Fid.{Fid, fid_at}
@@ -34,6 +32,7 @@ use Rattle.p9_export.specs.Rights.{may_write_parent}
 use Rattle.p9_export.specs.Step.{is_done}
 use Rattle.p9_export.specs.Wstat.{Touched, gid_fault, has_sibling, is_any, is_mode_for, length_fault, may_give, mode_fault, name_fault, node_change, rewriting, ruling_fault, touched_of, touches_fixed, wstat_answer, wstat_fault}
 use Rattle.p9_export.proofs.Removals.{node_of-inner}
+use Rattle.p9_tree.specs.Bytes.{file_max}
 
 -- where there is no fault in a chain, there is none in its parts
 or_else-none : {X : Type 0} (a b : Option X) → or_else a b ≡ None → (a ≡ None) × (b ≡ None)
@@ -67,7 +66,7 @@ is_there : {X : Type 0} (o : Option X) → is_none o ≡ false → is_some o ≡
 is_there None e = let no : true ≡ false = e in absurd (cc)
 is_there (Some x) e = refl
 
-not_above : (size : ℕ) → nat_lt FILE_MAX size ≡ false → size ≤ FILE_MAX
+not_above : (size : ℕ) → nat_lt file_max size ≡ false → size ≤ file_max
 not_above size e = grind (arith, nat_tests)
 
 -- a mode that no test refuses is of the node's kind
@@ -108,10 +107,10 @@ module _ (user : List ℕ) (forest : List Server) (at : NodeRef) (n : Node) (t :
         let free : name_fault user forest at n name ≡ None = rw is at permits.name in
         no_four _ _ _ _ (is_none n.parent) (is_name name) (may_write_parent user forest at n) (has_sibling forest at n name) free
 
-    length_free : (size : ℕ) → t.length ≡ Some size → (is_dir n ≡ false) × (nat_lt FILE_MAX size ≡ false)
+    length_free : (size : ℕ) → t.length ≡ Some size → (is_dir n ≡ false) × (nat_lt file_max size ≡ false)
     length_free size is =
         let free : length_fault user n size ≡ None = rw is at permits.length in
-        no_three _ _ _ (is_dir n) (may user n TO_WRITE) (nat_lt FILE_MAX size) free
+        no_three _ _ _ (is_dir n) (may user n to_write) (nat_lt file_max size) free
 
     -- a name is then valid
     pub valid_name : (name : List ℕ) → t.name ≡ Some name → is_name name ≡ true

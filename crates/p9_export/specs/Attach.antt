@@ -6,8 +6,7 @@ use Rattle.p9_base.specs.declared.fault.Fault.TheVariants.{NoAuthentication, Unk
 use Rattle.p9_tree.specs.Server.{Server}
 use Rattle.p9_space.specs.Place.{file_of, file_ref}
 use Rattle.p9_wire.specs.Message.{Rattach}
-use Rattle.p9_base.specs.declared.fid.TheConstants.{NOFID}
-use Rattle.p9_fids.specs.Fid.{put_fault, with_fid}
+use Rattle.p9_fids.specs.Fid.{put_fault, with_fid, nofid}
 use Rattle.p9_export.specs.State.{Setting, Session}
 use Rattle.p9_export.specs.Answer.{Answer, need, given, unless}
 use Rattle.p9_export.specs.Qid.{qid_of}
@@ -30,7 +29,7 @@ attached fid user session = record session { fids = with_fid fid (record { user 
 abbrev pub attach_answer : Setting → List Server → Session → ℕ → ℕ → List ℕ → List ℕ → Answer
 attach_answer setting forest session fid afid uname aname =
     unless (put_fault fid session.fids) (
-    need (afid == NOFID) NoAuthentication (
+    need (afid == nofid) NoAuthentication (
     given (listed_user uname setting.users) UnknownUser (λ user.
     need (is_root_name aname) UnknownAttachName (
     given (file_of root_place setting.table forest) PhaseError (λ file.

@@ -11,17 +11,14 @@ use Rattle.p9_base.specs.declared.node_ref.NodeRef.{NodeRef}
 use Rattle.p9_base.specs.declared.qid.Qid.{Qid}
 use Rattle.p9_base.specs.Mode.{is_dir as is_dir_mode, mode_of}
 use Rattle.p9_base.specs.Name.{is_name}
-use Rattle.p9_tree.specs.declared.tree.TheConstants.{NEXT_MAX}
 use Rattle.p9_tree.specs.Node.{Node, is_dir}
-use Rattle.p9_tree.specs.Server.{Server}
+use Rattle.p9_tree.specs.Server.{Server, next_max}
 use Rattle.p9_tree.specs.Forest.{child_in, next_of, node_of}
 use Rattle.p9_tree.specs.Inside.{beside}
 use Rattle.p9_space.specs.declared.row.Member.{Member}
-use Rattle.p9_space.specs.declared.rights.TheConstants.{TO_WRITE}
-use Rattle.p9_space.specs.declared.trail.TheConstants.{PLACES_MAX}
-use Rattle.p9_space.specs.Rights.{may}
+use Rattle.p9_space.specs.Rights.{may, to_write}
 use Rattle.p9_space.specs.Table.{members_of}
-use Rattle.p9_space.specs.Trail.{here}
+use Rattle.p9_space.specs.Trail.{here, places_max}
 use Rattle.p9_space.specs.Walk.{and_then, is_alive, is_alive_dir}
 use Rattle.p9_wire.specs.Message.{RMessage, Rcreate}
 use Rattle.p9_fids.specs.Fid.{Fid, changed_fid, fid_at}
@@ -96,10 +93,10 @@ creation forest session now fid v target dir name asked o =
 abbrev pub fault_in : List Server → Fid → List ℕ → NodeRef → Node → Option Fault
 fault_in forest v name target dir =
     if not (is_dir dir) then Some NotDirectory
-    else if not (may v.user dir TO_WRITE) then Some PermissionDenied
+    else if not (may v.user dir to_write) then Some PermissionDenied
     else if is_some (child_in target name forest) then Some FileExists
-    else if nat_le NEXT_MAX (next_of target.server forest) then Some QidsUsedUp
-    else if nat_le PLACES_MAX (length v.trail) then Some PathTooDeep
+    else if nat_le next_max (next_of target.server forest) then Some QidsUsedUp
+    else if nat_le places_max (length v.trail) then Some PathTooDeep
     else None
 
 abbrev pub created_in : List Server → Session → ℕ → ℕ → Fid → List ℕ → Mode → Opening → NodeRef → Answer

@@ -6,8 +6,7 @@ use Rattle.p9_tree.specs.Node.{Node, is_dir, is_in}
 use Rattle.p9_tree.specs.Server.{Server}
 use Rattle.p9_tree.specs.Forest.{node_of, server_at}
 use Rattle.p9_space.specs.declared.row.Member.{Member}
-use Rattle.p9_space.specs.declared.rights.TheConstants.{TO_READ}
-use Rattle.p9_space.specs.Rights.{may}
+use Rattle.p9_space.specs.Rights.{may, to_read}
 use Rattle.p9_space.specs.Table.{MountRow, members_of}
 use Rattle.p9_fids.specs.declared.opened.Cursor.{Cursor}
 
@@ -27,7 +26,7 @@ children_of dir forest = filter (is_in dir.number) (server_at dir.server forest)
 module _ (forest : List Server) (user : List ℕ) where
   -- an alive directory that the user may read; the first member without this test
   abbrev pub is_listed : ℕ → Member → Bool
-  is_listed position m = option_map_or (λ n. is_dir n && (position == 0 || may user n TO_READ)) (node_of m.node forest) false
+  is_listed position m = option_map_or (λ n. is_dir n && (position == 0 || may user n to_read)) (node_of m.node forest) false
 
   abbrev pub entries_of : ℕ → Member → List Entry
   entries_of position m =

@@ -13,7 +13,6 @@ use Rattle.p9_tree.specs.Server.{Server}
 use Rattle.p9_space.specs.Rights.{may}
 use Rattle.p9_space.specs.Table.{MountRow}
 use Rattle.p9_wire.specs.Message.{RMessage, Ropen}
-use Rattle.p9_wire.specs.declared.constants.TheConstants.{IOHDRSZ}
 use Rattle.p9_fids.specs.Fid.{changed_fid, fid_at, open_count, opened_as}
 use Rattle.p9_export.specs.declared.opening.Opening.{Opening}
 use Rattle.p9_export.specs.State.{Setting, Session, SessionRow}
@@ -24,9 +23,13 @@ use Rattle.p9_export.specs.Opening.{is_plain_read, newly_opened, opening_of, wan
 use Rattle.p9_export.specs.Qid.{qid_of}
 use Rattle.p9_export.specs.Rights.{may_write_parent}
 
+-- what stands around the data of a read or a write takes so many bytes at most
+abbrev pub io_header : ℕ
+io_header = 24
+
 -- what a read or a write of a session may carry
 abbrev pub room_of : Session → ℕ
-room_of session = option_map_or (λ msize. msize - IOHDRSZ) session.msize 0
+room_of session = option_map_or (λ msize. msize - io_header) session.msize 0
 
 abbrev pub is_append_only_kind : Kind → Bool
 is_append_only_kind Directory = false

@@ -6,11 +6,10 @@ use Rattle.p9_tree.specs.Node.{Node}
 use Rattle.p9_tree.specs.Server.{Server}
 use Rattle.p9_tree.specs.Forest.{node_of}
 use Rattle.p9_tree.specs.Inside.{beside}
-use Rattle.p9_space.specs.declared.rights.TheConstants.{TO_WRITE}
-use Rattle.p9_space.specs.Rights.{may}
+use Rattle.p9_space.specs.Rights.{may, to_write}
 
 abbrev pub may_write : List ℕ → List Server → NodeRef → Bool
-may_write user forest at = option_map_or (λ n. may user n TO_WRITE) (node_of at forest) false
+may_write user forest at = option_map_or (λ n. may user n to_write) (node_of at forest) false
 
 -- the user may change the entries of the directory that the file stands in; a root stands in none
 abbrev pub may_write_parent : List ℕ → List Server → NodeRef → Node → Bool

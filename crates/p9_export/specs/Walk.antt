@@ -3,7 +3,6 @@ use Rattle.std.specs.Prelude.{ℕ, ◌==◌, List, [], ◌∷◌, Option, Some, 
 use Rattle.std.specs.Option.{option_map_or}
 use Rattle.p9_base.specs.declared.fault.Fault.{Fault}
 use Rattle.p9_base.specs.declared.fault.Fault.TheVariants.{FidOpen, PhaseError, UnknownFid}
-use Rattle.p9_base.specs.declared.fid.TheConstants.{NOFID}
 use Rattle.p9_base.specs.declared.node_ref.NodeRef.{NodeRef}
 use Rattle.p9_base.specs.declared.qid.Qid.{Qid}
 use Rattle.p9_tree.specs.Server.{Server}
@@ -11,7 +10,7 @@ use Rattle.p9_space.specs.declared.trail.Step.{Step}
 use Rattle.p9_space.specs.Trail.{here, stepped}
 use Rattle.p9_space.specs.Walk.{and_then, step_of}
 use Rattle.p9_wire.specs.Message.{Rwalk}
-use Rattle.p9_fids.specs.Fid.{Fid, FidRow, changed_fid, fid_at, put_fault, trailed, with_fid}
+use Rattle.p9_fids.specs.Fid.{Fid, FidRow, changed_fid, fid_at, put_fault, trailed, with_fid, nofid}
 use Rattle.p9_export.specs.State.{Setting, Session}
 use Rattle.p9_export.specs.Answer.{Answer, given, need, unless}
 use Rattle.p9_export.specs.Qid.{qid_at}
@@ -51,7 +50,7 @@ module _ (setting : Setting) (forest : List Server) where
 -- why newfid can't be where the walk leads; the fid itself always can
 abbrev pub newfid_fault : ℕ → ℕ → List FidRow → Option Fault
 newfid_fault fid newfid fids =
-    if newfid == NOFID then Some UnknownFid
+    if newfid == nofid then Some UnknownFid
     else if newfid == fid then None
     else put_fault newfid fids
 

@@ -2,7 +2,6 @@
 use Rattle.std.specs.Prelude.{ℕ, ◌+◌, Bool, false, nat_le, List, [], ◌∷◌, Ok, length, if◌then◌else◌}
 use Rattle.p9_base.specs.declared.fault.Fault.TheVariants.{FidNotOpen, FileTooLarge, PhaseError, UnknownFid}
 use Rattle.p9_base.specs.declared.node_ref.NodeRef.{NodeRef}
-use Rattle.p9_tree.specs.declared.bytes.TheConstants.{FILE_MAX}
 use Rattle.p9_tree.specs.Node.{Node}
 use Rattle.p9_tree.specs.Server.{Server}
 use Rattle.p9_wire.specs.Message.{Rwrite}
@@ -14,6 +13,7 @@ use Rattle.p9_export.specs.Answer.{Answer, given, need}
 use Rattle.p9_export.specs.Change.{EditNode, Mark, Overwrite}
 use Rattle.p9_export.specs.End.{fid_file, fid_ref}
 use Rattle.p9_export.specs.Open.{is_append_only}
+use Rattle.p9_tree.specs.Bytes.{file_max}
 
 -- open for writing
 abbrev pub is_writable : Fid → Bool
@@ -33,7 +33,7 @@ write_file session now v at n offset [] = Ok (record { changes = []; session = s
 write_file session now v at n offset (b ∷ bs) =
     let bytes = b ∷ bs in
     let place = write_place offset n in
-    need (nat_le (place + length bytes) FILE_MAX) FileTooLarge (
+    need (nat_le (place + length bytes) file_max) FileTooLarge (
     written session now v at place bytes)
 
 abbrev pub write_answer : Setting → List Server → Session → ℕ → ℕ → ℕ → List ℕ → Answer

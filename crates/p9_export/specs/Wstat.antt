@@ -9,14 +9,12 @@ use Rattle.p9_base.specs.declared.node_ref.NodeRef.{NodeRef}
 use Rattle.p9_base.specs.declared.qid.Qid.{Qid}
 use Rattle.p9_base.specs.Mode.{is_dir as is_dir_mode, mode_of}
 use Rattle.p9_base.specs.Name.{is_name}
-use Rattle.p9_tree.specs.declared.bytes.TheConstants.{FILE_MAX}
 use Rattle.p9_tree.specs.Node.{Node, is_dir}
 use Rattle.p9_tree.specs.Server.{Server}
 use Rattle.p9_tree.specs.Forest.{child_in}
 use Rattle.p9_tree.specs.Inside.{beside}
 use Rattle.p9_tree.specs.declared.change.Change.{Change as NodeChange}
-use Rattle.p9_space.specs.declared.rights.TheConstants.{TO_WRITE}
-use Rattle.p9_space.specs.Rights.{may, rules}
+use Rattle.p9_space.specs.Rights.{may, rules, to_write}
 use Rattle.p9_space.specs.Walk.{or_else}
 use Rattle.p9_wire.specs.Message.{Rwstat, StatFields}
 use Rattle.p9_fids.specs.Fid.{fid_at}
@@ -27,6 +25,7 @@ use Rattle.p9_export.specs.Change.{Change, EditNode, Rewrite}
 use Rattle.p9_export.specs.End.{fid_file, fid_ref, parent_marked}
 use Rattle.p9_export.specs.Qid.{stat_of}
 use Rattle.p9_export.specs.Rights.{may_write_parent}
+use Rattle.p9_tree.specs.Bytes.{file_max}
 
 -- What is touched: all but a field that holds its greatest number, or is empty, or holds what stands there.
 
@@ -114,8 +113,8 @@ name_fault user forest at n name =
 abbrev pub length_fault : List ℕ → Node → ℕ → Option Fault
 length_fault user n size =
     if is_dir n then Some IsDirectory
-    else if not (may user n TO_WRITE) then Some PermissionDenied
-    else if nat_lt FILE_MAX size then Some FileTooLarge
+    else if not (may user n to_write) then Some PermissionDenied
+    else if nat_lt file_max size then Some FileTooLarge
     else None
 
 -- mode and mtime are for who rules the file

@@ -14,13 +14,12 @@ use Rattle.p9_tree.specs.Server.{Server, child_of}
 use Rattle.p9_tree.specs.Forest.{IsForest, child_in, no_server}
 use Rattle.p9_tree.proofs.Lookups.{All-node_at, node_at-found}
 use Rattle.p9_space.specs.declared.row.Member.{Member}
-use Rattle.p9_space.specs.declared.trail.TheConstants.{PLACES_MAX}
 use Rattle.p9_space.specs.declared.trail.Step.{Step}
 use Rattle.p9_space.specs.declared.trail.Step.TheVariants.{Up, To}
 use Rattle.p9_space.specs.Given.{is_given}
 use Rattle.p9_space.specs.Place.{file_of}
 use Rattle.p9_space.specs.Table.{MountRow, members_of}
-use Rattle.p9_space.specs.Trail.{here, stepped, upward}
+use Rattle.p9_space.specs.Trail.{here, stepped, upward, places_max}
 use Rattle.p9_space.specs.Walk.{and_then, arrived, child_among, child_ref, is_alive, is_alive_dir, is_searched, or_else, step_among, step_down, step_of, walk}
 use Rattle.p9_space.proofs.GivenLists.{all-append, all-cons, all-index_or, all-take}
 
@@ -73,12 +72,12 @@ module _ (forest : List Server) (sound : IsForest forest) where
     step_down-given : (trail : List NodeRef) (name : List ℕ) (ms : List Member) → LeadsToMade (step_down forest user trail name ms)
     step_down-given trail name ms =
         by_test (not (list_any (is_searched forest user) ms)) PermissionDenied
-        (option_map_or (λ place. if length trail == PLACES_MAX then Err PathTooDeep else Ok (To place)) (child_among forest user name ms) (Err NotFound))
+        (option_map_or (λ place. if length trail == places_max then Err PathTooDeep else Ok (To place)) (child_among forest user name ms) (Err NotFound))
         (by (child_among forest user name ms) (child_among-given name ms))
       where
-        by : (place : Option NodeRef) → IsMade place → LeadsToMade (option_map_or (λ place. if length trail == PLACES_MAX then Err PathTooDeep else Ok (To place)) place (Err NotFound))
+        by : (place : Option NodeRef) → IsMade place → LeadsToMade (option_map_or (λ place. if length trail == places_max then Err PathTooDeep else Ok (To place)) place (Err NotFound))
         by None made = tt
-        by (Some place) made = by_test (length trail == PLACES_MAX) PathTooDeep (Ok (To place)) made
+        by (Some place) made = by_test (length trail == places_max) PathTooDeep (Ok (To place)) made
 
     step_among-given : (trail : List NodeRef) (name : List ℕ) (ms : List Member) → LeadsToMade (step_among forest user trail name ms)
     step_among-given trail name ms =

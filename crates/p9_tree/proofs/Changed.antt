@@ -6,8 +6,7 @@ use Rattle.std.proofs.Math.Seq.{take-nil}
 use Rattle.std.specs.List.{position}
 use Rattle.std.proofs.lemmas.Bool.Decides.{nat_tests}
 use Rattle.p9_base.specs.declared.mode.Permissions.{Permissions}
-use Rattle.p9_tree.specs.declared.bytes.TheConstants.{FILE_MAX}
-use Rattle.p9_tree.specs.Bytes.{overwritten, cut_to}
+use Rattle.p9_tree.specs.Bytes.{overwritten, cut_to, file_max}
 use Rattle.p9_tree.specs.Node.{Node, IsTellable, has_number, is_dir, marked, touched, with_bytes, with_owner}
 use Rattle.p9_tree.specs.Server.{Server, node_at, is_dir_at, IsSound, WellFormed, changed_at, with_nodes, with_changed}
 use Rattle.p9_tree.proofs.BytesLemmas.{length-cut_to, length-overwritten}
@@ -146,18 +145,18 @@ sound-with_owner permissions uid gid n is_directory told = record { sound = λ s
 pub keeps-with_bytes : (f : List ℕ → List ℕ) → KeepsPlace (with_bytes f)
 keeps-with_bytes f = record { in_dir = record { number = λ n. refl; parent = λ n. refl }; name = λ n. refl }
 
-pub sound-with_bytes : (f : List ℕ → List ℕ) (n : Node) → (length n.bytes ≤ FILE_MAX → length (f n.bytes) ≤ FILE_MAX) → (IsTrue (is_dir n) → n.bytes ≡ [] → f n.bytes ≡ []) → KeepsSound (with_bytes f) n
+pub sound-with_bytes : (f : List ℕ → List ℕ) (n : Node) → (length n.bytes ≤ file_max → length (f n.bytes) ≤ file_max) → (IsTrue (is_dir n) → n.bytes ≡ [] → f n.bytes ≡ []) → KeepsSound (with_bytes f) n
 sound-with_bytes f n small empty = record { sound = λ s. record { small = small s.small; empty_dir = λ d. empty d (s.empty_dir d); valid_name = s.valid_name; root_name = s.root_name; tellable = s.tellable }; dir = λ s. refl }
 
 pub sound-cut_to : (size : ℕ) (n : Node) → KeepsSound (with_bytes (cut_to size)) n
-sound-cut_to size n = sound-with_bytes (cut_to size) n (length-cut_to size n.bytes FILE_MAX) (λ d none. ap (cut_to size) none ∙ take-nil size)
+sound-cut_to size n = sound-with_bytes (cut_to size) n (length-cut_to size n.bytes file_max) (λ d none. ap (cut_to size) none ∙ take-nil size)
 
 -- a file that is there stays sound after a write that fits
-pub sound-overwritten : (offset : ℕ) (bytes : List ℕ) (s : Server) (k i : ℕ) (n : Node) → position (has_number k) s.nodes ≡ Some i → n ≡ get_or s.nodes i n → IsFalse (is_dir_at k s.nodes) → offset + length bytes ≤ FILE_MAX → KeepsSound (with_bytes (overwritten offset bytes)) n
+pub sound-overwritten : (offset : ℕ) (bytes : List ℕ) (s : Server) (k i : ℕ) (n : Node) → position (has_number k) s.nodes ≡ Some i → n ≡ get_or s.nodes i n → IsFalse (is_dir_at k s.nodes) → offset + length bytes ≤ file_max → KeepsSound (with_bytes (overwritten offset bytes)) n
 sound-overwritten offset bytes s k i n place read file fits =
     let found : node_at k s.nodes ≡ Some n = node_at-position k s.nodes i n place read in
     let not_dir : is_dir n ≡ false = sym (ap (λ o. option_map_or is_dir o false) found) ∙ file in
-    sound-with_bytes (overwritten offset bytes) n (length-overwritten offset bytes n.bytes FILE_MAX fits) (λ d none. absurd (cc))
+    sound-with_bytes (overwritten offset bytes) n (length-overwritten offset bytes n.bytes file_max fits) (λ d none. absurd (cc))
 
 -- the root that is written over is a directory
 pub root_is_dir : (s : Server) (i : ℕ) (n : Node) → WellFormed s → position (has_number 0) s.nodes ≡ Some i → n ≡ get_or s.nodes i n → IsTrue (is_dir n)

@@ -8,9 +8,8 @@ use Rattle.std.proofs.lemmas.List.{length-append, length-take, length-replicate}
 use Rattle.p9_base.specs.Name.{is_name}
 use Rattle.p9_base.specs.declared.mode.Mode.{Mode}
 use Rattle.p9_base.specs.Mode.{is_dir as is_dir_mode}
-use Rattle.p9_tree.specs.declared.bytes.TheConstants.{FILE_MAX}
 use Rattle.p9_tree.specs.declared.change.Change.{Change}
-use Rattle.p9_tree.specs.Bytes.{resized}
+use Rattle.p9_tree.specs.Bytes.{resized, file_max}
 use Rattle.p9_tree.specs.Change.{CanChange, CanChangeNode, changed}
 use Rattle.p9_tree.specs.Node.{Node, IsTellable, is_child, is_dir, marked, root_name, with_bytes}
 use Rattle.p9_tree.specs.Server.{Server, node_at, child_of, WellFormed}
@@ -43,12 +42,12 @@ same_dir c n kind = go c.mode refl
     go (Some mode) e = kind mode e
 
 module _ (s : Server) (n : Node) (c : Change) (can : CanChangeNode s n c) (valid : ForSome c.name (λ name. IsTrue (is_name name))) (in_dir : ForSome c.name (λ name. IsSome n.parent)) (told : IsTellable (changed c n)) where
-  small : length n.bytes ≤ FILE_MAX → length (changed c n).bytes ≤ FILE_MAX
+  small : length n.bytes ≤ file_max → length (changed c n).bytes ≤ file_max
   small old = go c.length refl
     where
-      go : (o : Option ℕ) → c.length ≡ o → length (option_map_or (λ size. marked c.user c.now (with_bytes (resized size) n)) o n).bytes ≤ FILE_MAX
+      go : (o : Option ℕ) → c.length ≡ o → length (option_map_or (λ size. marked c.user c.now (with_bytes (resized size) n)) o n).bytes ≤ file_max
       go None e = old
-      go (Some size) e = length-resized size n.bytes FILE_MAX (can.small size e)
+      go (Some size) e = length-resized size n.bytes file_max (can.small size e)
 
   empty : IsTrue (is_dir n) → n.bytes ≡ [] → (changed c n).bytes ≡ []
   empty dir old = go c.length refl

@@ -2,6 +2,10 @@
 use Rattle.std.specs.Prelude.{ℕ, ◌+◌, List, ◌++◌, length, take, drop}
 use Rattle.p9_base.specs.Text.{padded}
 
+-- the most bytes that a file has
+abbrev pub file_max : ℕ
+file_max = 1048576
+
 -- up to count bytes from the offset on, as many as are there
 abbrev pub read_from : ℕ → ℕ → List ℕ → List ℕ
 read_from offset count old = take count (drop offset old)

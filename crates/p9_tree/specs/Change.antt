@@ -2,9 +2,8 @@
 use Rattle.std.specs.Prelude.{◌≡◌, ◌≢◌, ℕ, ◌≤◌, IsFalse, is_some, unwrap_or, if◌then◌else◌}
 use Rattle.std.specs.Option.{ForSome, option_map_or}
 use Rattle.p9_base.specs.Mode.{is_dir as is_dir_mode}
-use Rattle.p9_tree.specs.declared.bytes.TheConstants.{FILE_MAX}
 use Rattle.p9_tree.specs.declared.change.Change.{Change}
-use Rattle.p9_tree.specs.Bytes.{resized}
+use Rattle.p9_tree.specs.Bytes.{resized, file_max}
 use Rattle.p9_tree.specs.Node.{Node, is_dir, marked, with_bytes}
 use Rattle.p9_tree.specs.Server.{Server, node_at, child_of}
 
@@ -42,7 +41,7 @@ pub record CanChangeNode (s : Server) (n : Node) (c : Change) : Type 0 where
   pub free : ForSome c.name (λ name. ForSome n.parent (λ dir.
       ForSome (child_of dir name s.nodes) (λ m. m.number ≡ n.number)))
   pub file : ForSome c.length (λ size. IsFalse (is_dir n))
-  pub small : ForSome c.length (λ size. size ≤ FILE_MAX)
+  pub small : ForSome c.length (λ size. size ≤ file_max)
 
 -- so may the node of the number, if it exists
 abbrev pub CanChange : Server → ℕ → Change → Type 0

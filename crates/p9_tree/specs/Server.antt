@@ -1,13 +1,16 @@
 -- A server: its nodes by rising number, and the number that its next new node gets.
-use Rattle.std.specs.Prelude.{◌≡◌, ℕ, ◌+◌, ◌<◌, ◌≤◌, ◌&&◌, Bool, true, false, List, [], ◌∷◌, ◌++◌, Option, Some, None, IsTrue, is_some, codes, length, find, All, AllPairs, if◌then◌else◌}
+use Rattle.std.specs.Prelude.{◌≡◌, ℕ, ◌+◌, ◌^◌, ◌<◌, ◌≤◌, ◌&&◌, Bool, true, false, List, [], ◌∷◌, ◌++◌, Option, Some, None, IsTrue, is_some, codes, length, find, All, AllPairs, if◌then◌else◌}
 use Rattle.std.specs.Option.{option_map_or}
 use Rattle.p9_base.specs.declared.mode.Kind.TheVariants.{Directory}
 use Rattle.p9_base.specs.declared.mode.Rights.{Rights}
 use Rattle.p9_base.specs.declared.mode.Mode.{Mode}
 use Rattle.p9_base.specs.Name.{is_name}
-use Rattle.p9_tree.specs.declared.bytes.TheConstants.{FILE_MAX}
-use Rattle.p9_tree.specs.declared.tree.TheConstants.{NEXT_MAX}
 use Rattle.p9_tree.specs.Node.{Node, IsTellable, root_name, has_number, is_in, is_child, is_above, is_dir}
+use Rattle.p9_tree.specs.Bytes.{file_max}
+
+-- the greatest next number
+abbrev pub next_max : ℕ
+next_max = 2 ^ 48
 
 pub record Server : Type 0 where
   pub nodes : List Node
@@ -46,14 +49,14 @@ has_children dir nodes = is_some (child_after dir None nodes)
 -- what holds of a node by itself: it has users' names and numbers of 32 bits; that its mode has no bit without
 -- a meaning is in modes' type
 pub record IsSound (n : Node) : Type 0 where
-  pub small : length n.bytes ≤ FILE_MAX
+  pub small : length n.bytes ≤ file_max
   pub empty_dir : IsTrue (is_dir n) → n.bytes ≡ []
   pub valid_name : (p : ℕ) → n.parent ≡ Some p → IsTrue (is_name n.name)
   pub root_name : n.parent ≡ None → n.name ≡ root_name
   pub tellable : IsTellable n
 
 pub record WellFormed (s : Server) : Type 0 where
-  pub few : s.next ≤ NEXT_MAX
+  pub few : s.next ≤ next_max
   pub rising : AllPairs (λ m n. m.number < n.number) s.nodes
   pub below : All (λ n. n.number < s.next) s.nodes
   pub sound : (k : ℕ) (n : Node) → node_at k s.nodes ≡ Some n → IsSound n
@@ -68,10 +71,10 @@ pub record WellFormed (s : Server) : Type 0 where
 
 -- the node may join the server, in the directory
 pub record CanAdd (s : Server) (dir : ℕ) (n : Node) : Type 0 where
-  pub room : s.next < NEXT_MAX
+  pub room : s.next < next_max
   pub into : IsTrue (is_dir_at dir s.nodes)
   pub free : child_of dir n.name s.nodes ≡ None
-  pub small : length n.bytes ≤ FILE_MAX
+  pub small : length n.bytes ≤ file_max
   pub empty_dir : IsTrue (is_dir n) → n.bytes ≡ []
 
 -- A new server.
