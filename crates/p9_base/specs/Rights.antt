@@ -12,7 +12,8 @@ abbrev pub rights_cover : Rights → Rights → Bool
 rights_cover given wanted =
     (given.read || not wanted.read) && (given.write || not wanted.write) && (given.execute || not wanted.execute)
 
--- a right is given by the owner's bits to the owner, by the group's to its members, by the others' to everybody
+-- a right is given by the owner's bits to the owner, by the group's to its members, by the others'
+-- to everybody
 abbrev pub is_given : (Rights → Bool) → Permissions → Bool → Bool → Bool
 is_given right p owner member = (owner && right p.owner) || ((member && right p.group) || right p.others)
 

@@ -1,7 +1,9 @@
 //! A node's mode: its kind and its permissions, as intro(5) and stat(5).
 
 ghost use Rattle.std.specs.Prelude.{◌≡◌, ◌≢◌, ◌<◌, ◌^◌, IfSome, IfNone};
-ghost use Rattle.p9_base.specs.Mode.{flags_among, flags_bits, is_dir, kind_among, kind_bits, kind_of, mode_bits, mode_of, permissions_bits, permissions_of, qid_kind, rights_bits, rights_of};
+ghost use Rattle.p9_base.specs.Mode.{flags_among, flags_bits, is_dir, kind_among, kind_bits};
+ghost use Rattle.p9_base.specs.Mode.{kind_of, mode_bits, mode_of, permissions_bits, permissions_of};
+ghost use Rattle.p9_base.specs.Mode.{qid_kind, rights_bits, rights_of};
 ghost use Rattle.p9_base.specs.Rights.{rights_cover, rights_or};
 ghost use Rattle.p9_base.specs.declared.mode.Kind.{Kind};
 ghost use Rattle.p9_base.specs.declared.mode.Mode.{Mode};

@@ -23,8 +23,8 @@ abbrev pub changes_of : Answer → List Change
 changes_of (Ok outcome) = outcome.changes
 changes_of (Err fault) = []
 
--- the forest, the session and the reply are the outcome's; a refusal has the answer's fault, or is want of
--- memory where that may be answered, and leaves both
+-- the forest, the session and the reply are the outcome's; a refusal has the answer's fault, or is
+-- want of memory where that may be answered, and leaves both
 abbrev pub Answers : Answer → Bool → List Server → List Server → Session → Session → Result RMessage Fault → Type 0
 Answers answer may_run_out forest forest' old new (Ok reply) =
     (answer ≡ Ok (record { changes = changes_of answer; session = new; reply = reply })) × (forest' ≡ all_applied (changes_of answer) forest)
@@ -86,8 +86,8 @@ abbrev pub frame_among : Setting → List Server → List SessionRow → ℕ →
 frame_among setting forest sessions name now frame =
     option_map_or (λ session. frame_answer setting forest sessions session now frame) (session_at name sessions) (Err PhaseError)
 
--- a reply that can be written: its message has a spelling that is no longer than a frame, its data are no more
--- than a frame holds
+-- a reply that can be written: its message has a spelling that is no longer than a frame, its data
+-- are no more than a frame holds
 abbrev pub CanWrite : Result Reply Fault → Type 0
 CanWrite (Ok (Message m)) = ReplyFits (r_view m)
 CanWrite (Ok (Data count)) = 11 + count ≤ msize_max

@@ -30,7 +30,8 @@ use Rattle.p9_export.specs.Open.{room_of}
 use Rattle.p9_export.specs.Opening.{is_plain_read, newly_opened, opening_of}
 use Rattle.p9_export.specs.Qid.{qid_of}
 
--- a right to read or write is given only where the directory gives it; to execute, in a file, as asked
+-- a right to read or write is given only where the directory gives it; to execute, in a file, as
+-- asked
 abbrev pub file_rights : Rights → Rights → Rights
 file_rights dir asked = record { read = asked.read && dir.read; write = asked.write && dir.write; execute = asked.execute }
 

@@ -33,13 +33,15 @@ taken_out user now at n = DropNode at ∷ parent_marked user now at n.parent
 abbrev pub removes_on_close : Fid → Bool
 removes_on_close v = option_map_or (λ o. o.remove_on_close) v.opened false
 
--- what the end of a fid changes: a file that is open with remove-on-close goes, without a further test
+-- what the end of a fid changes: a file that is open with remove-on-close goes, without a further
+-- test
 abbrev pub on_end : List MountRow → ℕ → List Server → Fid → List Change
 on_end table now forest v =
     if removes_on_close v then option_map_or (taken_out v.user now (fid_ref table v)) (fid_file table forest v) []
     else []
 
--- what the end of all of them changes, by rising number, each in the forest that the one before left
+-- what the end of all of them changes, by rising number, each in the forest that the one before
+-- left
 abbrev pub on_ends : List MountRow → ℕ → List Server → List FidRow → List Change
 on_ends table now forest [] = []
 on_ends table now forest (row ∷ rows) =
@@ -48,7 +50,8 @@ on_ends table now forest (row ∷ rows) =
 
 -- What the machine keeps of fids that are open.
 
--- a directory is open for reading alone, and is not removed on close; and the file's number was given
+-- a directory is open for reading alone, and is not removed on close; and the file's number was
+-- given
 pub record IsOpenOn (table : List MountRow) (forest : List Server) (v : Fid) (o : Opened) : Type 0 where
   pub given : (fid_ref table v).number < next_of (fid_ref table v).server forest
   pub mode : (n : Node) → fid_file table forest v ≡ Some n → IsTrue (is_dir n) → o.mode ≡ Read

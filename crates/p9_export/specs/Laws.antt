@@ -12,12 +12,14 @@ use Rattle.p9_export.specs.Event.{Request, is_frame}
 use Rattle.p9_export.specs.Sound.{IsSound}
 use Rattle.p9_export.specs.Step.{Stepped, request_of, step, tag_of}
 
--- a state that an exporter can have: its servers are well-formed, and what it keeps of its sessions holds
+-- a state that an exporter can have: its servers are well-formed, and what it keeps of its sessions
+-- holds
 pub record IsState (state : State) : Type 0 where
   pub forest : IsForest state.forest
   pub sound : IsSound state.setting.table state.forest state.sessions
 
--- the most bytes that a reply has: the session's msize; before a version 43, which each refusal needs at most
+-- the most bytes that a reply has: the session's msize; before a version 43, which each refusal
+-- needs at most
 abbrev pub reply_max : Session → ℕ
 reply_max session = unwrap_or session.msize 43
 
@@ -33,8 +35,9 @@ after_refusal state name session request = state
 abbrev pub IsFaultText : List ℕ → Type 0
 IsFaultText ename = (fault : Fault) × (ename ≡ text_of fault)
 
--- the reply to a frame of a session: the bytes are its spelling with the frame's tag, and no more than the session
--- takes; if it is an error, it is one of the faults, and the state is what a refusal leaves
+-- the reply to a frame of a session: the bytes are its spelling with the frame's tag, and no more
+-- than the session takes; if it is an error, it is one of the faults, and the state is what a
+-- refusal leaves
 pub record IsAnswered (state : State) (name : ℕ) (session : Session) (frame : List ℕ) (after : Stepped) (reply : RMessage) : Type 0 where
   pub spelled : after.reply ≡ r_spelling (tag_of frame) reply
   pub fits : RFits reply

@@ -14,8 +14,8 @@ open_mode_of bits =
     else if bits % 4 == 2 then ReadWrite
     else Execute
 
--- besides these there are truncation (16), close on exec (32), which is dropped, and remove-on-close (64); no
--- other bit is known
+-- besides these there are truncation (16), close on exec (32), which is dropped, and
+-- remove-on-close (64); no other bit is known
 abbrev pub opening_of : ℕ → Option Opening
 opening_of bits =
     if bit_and bits 140 == 0 then Some (record { mode = open_mode_of bits; truncates = not (bit_and bits 16 == 0); remove_on_close = not (bit_and bits 64 == 0) })

@@ -63,8 +63,8 @@ message_answer setting forest sessions session now m =
 abbrev pub fits_msize : Session → List ℕ → Bool
 fits_msize session frame = option_map_or (λ msize. nat_le (length frame) msize) session.msize true
 
--- the request of a frame: a frame that is too long, or that no request spells, is malformed; before a version only
--- a version is a request
+-- the request of a frame: a frame that is too long, or that no request spells, is malformed; before
+-- a version only a version is a request
 abbrev pub request_of : Session → List ℕ → Result TMessage Fault
 request_of session frame =
     if not (fits_msize session frame) then Err Malformed
@@ -84,8 +84,8 @@ abbrev pub is_done : Answer → Bool
 is_done (Ok outcome) = true
 is_done (Err fault) = false
 
--- whether a request may be answered by want of memory, in the place of the answer that it has: an attach or
--- a walk in the place of any, a create, a write or a wstat where no refusal is due
+-- whether a request may be answered by want of memory, in the place of the answer that it has: an
+-- attach or a walk in the place of any, a create, a write or a wstat where no refusal is due
 abbrev pub may_run_out : TMessage → Answer → Bool
 may_run_out (Tattach fid afid uname aname) answer = true
 may_run_out (Twalk fid newfid names) answer = true

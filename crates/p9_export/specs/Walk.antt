@@ -15,8 +15,8 @@ use Rattle.p9_export.specs.State.{Setting, Session}
 use Rattle.p9_export.specs.Answer.{Answer, given, need, unless}
 use Rattle.p9_export.specs.Qid.{qid_at}
 
--- how far names lead: the qid of each file where a step arrives, the trail there, and the fault of the step
--- that is refused, if one is
+-- how far names lead: the qid of each file where a step arrives, the trail there, and the fault of
+-- the step that is refused, if one is
 pub record Walked : Type 0 where
   pub qids : List Qid
   pub trail : List NodeRef

@@ -27,7 +27,8 @@ use Rattle.p9_export.specs.Qid.{stat_of}
 use Rattle.p9_export.specs.Rights.{may_write_parent}
 use Rattle.p9_tree.specs.Bytes.{file_max}
 
--- What is touched: all but a field that holds its greatest number, or is empty, or holds what stands there.
+-- What is touched: all but a field that holds its greatest number, or is empty, or holds what
+-- stands there.
 
 abbrev pub is_number_touched : ℕ → ℕ → ℕ → Bool
 is_number_touched greatest there wanted = not (wanted == greatest || wanted == there)
@@ -121,8 +122,8 @@ length_fault user n size =
 abbrev pub ruling_fault : {X : Type 0} → List ℕ → Node → X → Option Fault
 ruling_fault user n touched = if rules user n then None else Some PermissionDenied
 
--- a file is given to a group by its owner, who is a member of it, or by the leader of both groups; each user is
--- the only member and the leader of the group of the same name
+-- a file is given to a group by its owner, who is a member of it, or by the leader of both groups;
+-- each user is the only member and the leader of the group of the same name
 abbrev pub may_give : List ℕ → Node → List ℕ → Bool
 may_give user n gid = (bytes_eq n.uid user || bytes_eq n.gid user) && bytes_eq gid user
 

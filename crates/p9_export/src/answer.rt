@@ -22,8 +22,8 @@ use std::collections::BTreeMap;
 // The bytes of a reply to a read before its data: the header and their count.
 const BEFORE_DATA: usize = 11;
 
-/// Answers a frame of the session of this name. What a read gives is put behind the first 11 bytes of
-/// the reply.
+/// Answers a frame of the session of this name. What a read gives is put behind the first 11 bytes
+/// of the reply.
 pub fn answer<T: Tree>(
     setting: &Setting<T::Alloc>,
     forest: &mut Forest<T>,
@@ -34,11 +34,16 @@ pub fn answer<T: Tree>(
     reply: &mut [u8],
 ) -> Result<Reply, Fault>
     requires live { IsSome (session_at name sessions.old.entries) }
-    requires sound { IfSome (session_at name sessions.old.entries) (IsSessionSound setting.now.table (map T.state forest.old.trees.items)) }
+    requires sound { IfSome (session_at name sessions.old.entries) (IsSessionSound setting.now.table
+        (map T.state forest.old.trees.items)) }
     requires room { msize_max ≤ length reply.old }
     ensures reply { CanWrite result }
     ensures len { length reply.new ≡ length reply.old }
-    ensures answer { let old = map T.state forest.old.trees.items in let new = map T.state forest.new.trees.items in let answer = frame_among setting.now old sessions.old.entries name now frame.now in AnswersAmong name answer (ran_out frame.now answer) old new sessions.old.entries sessions.new.entries (replied (reply_view new (drop 11 reply.new)) result) }
+    ensures answer { let old = map T.state forest.old.trees.items in
+        let new = map T.state forest.new.trees.items in
+        let answer = frame_among setting.now old sessions.old.entries name now frame.now in
+        AnswersAmong name answer (ran_out frame.now answer) old new sessions.old.entries
+        sessions.new.entries (replied (reply_view new (drop 11 reply.new)) result) }
 {
     let session = sessions.get(&name).unwrap();
     let request = request_of(session, frame)?;
@@ -56,7 +61,8 @@ fn finds_taken<T: Tree>(
     session: &Session<T::Alloc>,
     request: &TMsg<'_>,
 ) -> bool
-    ensures { result ≡ finds_taken setting.now (map T.state forest.now.trees.items) sessions.now.entries session.now (t_view request.now) }
+    ensures { result ≡ finds_taken setting.now
+        (map T.state forest.now.trees.items) sessions.now.entries session.now (t_view request.now) }
 {
     match request {
         TMsg::Open { fid, .. } => is_taken(setting, forest, sessions, session, *fid),

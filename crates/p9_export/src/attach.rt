@@ -24,8 +24,8 @@ const ROOT_PLACE: NodeRef = NodeRef {
 /// Makes a fid for the root of the name space, held by a listed user.
 ///
 /// The first that applies refuses, and leaves the session: the fid can't be added
-/// ([`p9_fids::FidTable::put_fault`]); an afid is given, [`Fault::NoAuthentication`]; the user isn't
-/// listed, [`Fault::UnknownUser`]; the tree is neither unnamed nor `/`,
+/// ([`p9_fids::FidTable::put_fault`]); an afid is given, [`Fault::NoAuthentication`]; the user
+/// isn't listed, [`Fault::UnknownUser`]; the tree is neither unnamed nor `/`,
 /// [`Fault::UnknownAttachName`]; the root place has no file, [`Fault::PhaseError`]. Else memory may
 /// be refused, [`Fault::OutOfMemory`].
 pub fn attach<T: Tree>(
@@ -37,7 +37,9 @@ pub fn attach<T: Tree>(
     uname: &str,
     aname: &str,
 ) -> Result<Qid, Fault>
-    ensures { let forest = map T.state forest.now.trees.items in Answers (attach_answer setting.now forest session.old fid afid uname.now aname.now) true forest forest session.old session.new (replied Rattach result) }
+    ensures { let forest = map T.state forest.now.trees.items in
+        Answers (attach_answer setting.now forest session.old fid afid uname.now aname.now) true
+        forest forest session.old session.new (replied Rattach result) }
 {
     if let Some(fault) = session.fids.put_fault(fid) {
         return Err(fault);

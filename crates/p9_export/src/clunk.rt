@@ -14,8 +14,8 @@ use p9_tree::{Forest, Tree};
 
 /// Lets a fid go, with what its end does ([`end_fid`]).
 ///
-/// A fid that isn't there is [`Fault::UnknownFid`], and leaves all. Nothing else refuses, and it takes
-/// no memory.
+/// A fid that isn't there is [`Fault::UnknownFid`], and leaves all. Nothing else refuses, and it
+/// takes no memory.
 pub fn clunk<T: Tree>(
     setting: &Setting<T::Alloc>,
     forest: &mut Forest<T>,
@@ -24,7 +24,10 @@ pub fn clunk<T: Tree>(
     fid: u32,
 ) -> Result<(), Fault>
     requires { FidsFit setting.now.table (map T.state forest.old.trees.items) session.old.fids }
-    ensures { let old = map T.state forest.old.trees.items in let new = map T.state forest.new.trees.items in Answers (clunk_answer setting.now old session.old now fid) false old new session.old session.new (replied (λ _. Rclunk) result) }
+    ensures { let old = map T.state forest.old.trees.items in
+        let new = map T.state forest.new.trees.items in
+        Answers (clunk_answer setting.now old session.old now fid) false old new session.old
+        session.new (replied (λ _. Rclunk) result) }
 {
     let Some(ended) = session.fids.take(fid) else {
         return Err(Fault::UnknownFid);

@@ -1,6 +1,7 @@
 //! The answer to a create, as open(5).
 
-ghost use Rattle.std.specs.Prelude.{◌≡◌, ◌<◌, ◌++◌, ◌∷◌, [], IfOk, IfSome, IsSome, OnErr, OnOk, length, map};
+ghost use Rattle.std.specs.Prelude.{◌≡◌, ◌<◌, ◌++◌, ◌∷◌, [], IfOk, IfSome, IsSome, OnErr, OnOk};
+ghost use Rattle.std.specs.Prelude.{length, map};
 ghost use Rattle.std.specs.List.{list_any};
 ghost use Rattle.std.specs.Option.{option_copied};
 ghost use Rattle.p9_tree.specs.Forest.{forest_changed_at, next_of, server_at, tree_changed_at};
@@ -11,7 +12,8 @@ ghost use Rattle.p9_tree.specs.Server.{CanAdd, added};
 ghost use Rattle.p9_fids.specs.Fid.{fid_at};
 ghost use Rattle.p9_space.specs.Walk.{is_alive, is_alive_dir};
 ghost use Rattle.p9_export.specs.Answers.{Answers, replied};
-ghost use Rattle.p9_export.specs.Create.{create_answer, create_reply, created, created_in, entered, fault_in, permitting, target_among};
+ghost use Rattle.p9_export.specs.Create.{create_answer, create_reply, created, created_in, entered};
+ghost use Rattle.p9_export.specs.Create.{fault_in, permitting, target_among};
 ghost use Rattle.p9_export.specs.Qid.{qid_of};
 ghost use Rattle.p9_export.specs.Step.{is_done};
 
@@ -49,7 +51,11 @@ pub fn create<T: Tree>(
     perm: u32,
     mode: u8,
 ) -> Result<(Qid, u32), Fault>
-    ensures { let old = map T.state forest.old.trees.items in let new = map T.state forest.new.trees.items in let answer = create_answer setting.now old session.old now fid name.now perm mode in Answers answer (is_done answer) old new session.old session.new (replied create_reply result) }
+    ensures { let old = map T.state forest.old.trees.items in
+        let new = map T.state forest.new.trees.items in
+        let answer = create_answer setting.now old session.old now fid name.now perm mode in
+        Answers answer (is_done answer) old new session.old session.new
+        (replied create_reply result) }
 {
     let Some(holder) = session.fids.get(fid) else {
         return Err(Fault::UnknownFid);
@@ -144,7 +150,11 @@ fn create_in<T: Tree>(
     target: NodeRef,
 ) -> Result<(Qid, u32), Fault>
     requires { IsSome (fid_at fid session.old.fids) }
-    ensures { let old = map T.state forest.old.trees.items in let new = map T.state forest.new.trees.items in IfSome (fid_at fid session.old.fids) (λ v. let answer = created_in old session.old now fid v name asked opening target in Answers answer (is_done answer) old new session.old session.new (replied create_reply result)) }
+    ensures { let old = map T.state forest.old.trees.items in
+        let new = map T.state forest.new.trees.items in
+        IfSome (fid_at fid session.old.fids) (λ v. let answer = created_in old session.old now fid v
+        name asked opening target in Answers answer (is_done answer) old new session.old session.new
+        (replied create_reply result)) }
 {
     let holder = session.fids.get(fid).unwrap();
     let Some(dir) = forest.node(target) else {
@@ -172,7 +182,8 @@ fn fault_in<T: Tree>(
     target: NodeRef,
     dir: &Node<T::Alloc>,
 ) -> Option<Fault>
-    ensures { result ≡ fault_in (map T.state forest.now.trees.items) holder.now name.now target dir.now }
+    ensures { result ≡ fault_in (map T.state forest.now.trees.items) holder.now name.now target
+        dir.now }
 {
     if !dir.is_dir() {
         Some(Fault::NotDirectory)
@@ -223,10 +234,17 @@ fn trail_to<A: Allocator + Copy>(trail: &Trail<A>, place: NodeRef) -> Result<Tra
 
 // Makes the node in the directory and marks that, and answers the node's qid.
 fn add_to<T: Tree>(forest: &mut Forest<T>, target: NodeRef, new: &New<'_>) -> Result<Qid, NoMemory>
-    requires { let server = server_at target.server (map T.state forest.old.trees.items) in CanAdd server target.number (new_node server.next target.number new.now) }
-    ensures ok { OnOk result (map T.state forest.new.trees.items ≡ forest_changed_at target (marked new.now.muid new.now.mtime) (tree_changed_at target.server (λ s. added s (new_node s.next target.number new.now)) (map T.state forest.old.trees.items))) }
-    ensures qid { let next = next_of target.server (map T.state forest.old.trees.items) in IfOk result (λ qid. qid ≡ qid_of (beside target next) (new_node next target.number new.now)) }
-    ensures err { OnErr result (map T.state forest.new.trees.items ≡ map T.state forest.old.trees.items) }
+    requires { let server = server_at target.server (map T.state forest.old.trees.items) in
+        CanAdd server target.number (new_node server.next target.number new.now) }
+    ensures ok { OnOk result (map T.state forest.new.trees.items
+        ≡ forest_changed_at target (marked new.now.muid new.now.mtime)
+        (tree_changed_at target.server (λ s. added s (new_node s.next target.number new.now))
+        (map T.state forest.old.trees.items))) }
+    ensures qid { let next = next_of target.server (map T.state forest.old.trees.items) in
+        IfOk result (λ qid. qid ≡ qid_of (beside target next)
+        (new_node next target.number new.now)) }
+    ensures err { OnErr result (map T.state forest.new.trees.items
+        ≡ map T.state forest.old.trees.items) }
 {
     forest.well_formed();
     let at = forest.add(target, new)?;

@@ -2,7 +2,8 @@
 
 ghost use Rattle.std.specs.Prelude.{◌≡◌, [], map};
 ghost use Rattle.p9_export.specs.Change.{all_applied};
-ghost use Rattle.p9_export.specs.End.{FidFits, FidsFit, on_end, on_ends, parent_marked, removes_on_close, taken_out};
+ghost use Rattle.p9_export.specs.End.{FidFits, FidsFit, on_end, on_ends, parent_marked};
+ghost use Rattle.p9_export.specs.End.{removes_on_close, taken_out};
 
 use crate::setting::Setting;
 use p9_base::{NodeRef, User};
@@ -20,7 +21,9 @@ pub fn end_fid<T: Tree>(
     now: u32,
 )
     requires { FidFits setting.now.table (map T.state forest.old.trees.items) fid.now }
-    ensures { let old = map T.state forest.old.trees.items in map T.state forest.new.trees.items ≡ all_applied (on_end setting.now.table now old fid.now) old }
+    ensures { let old = map T.state forest.old.trees.items in
+        map T.state forest.new.trees.items ≡ all_applied
+        (on_end setting.now.table now old fid.now) old }
 {
     if !removes_on_close(fid) {
         return;
@@ -54,7 +57,8 @@ pub fn mark_parent<T: Tree>(
     user: User,
     now: u32,
 )
-    ensures { let old = map T.state forest.old.trees.items in map T.state forest.new.trees.items ≡ all_applied (parent_marked user now at parent) old }
+    ensures { let old = map T.state forest.old.trees.items in
+        map T.state forest.new.trees.items ≡ all_applied (parent_marked user now at parent) old }
 {
     if let Some(number) = parent {
         forest.bump(
@@ -76,7 +80,9 @@ pub fn end_fids<T: Tree>(
     now: u32,
 )
     requires { FidsFit setting.now.table (map T.state forest.old.trees.items) fids.old }
-    ensures forest { let old = map T.state forest.old.trees.items in map T.state forest.new.trees.items ≡ all_applied (on_ends setting.now.table now old fids.old) old }
+    ensures forest { let old = map T.state forest.old.trees.items in
+        map T.state forest.new.trees.items ≡ all_applied
+        (on_ends setting.now.table now old fids.old) old }
     ensures fids { fids.new ≡ [] }
 {
     while let Some(number) = fids.first() {

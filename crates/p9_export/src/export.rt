@@ -1,6 +1,7 @@
 //! The exporter: the state, and what each event makes of it.
 
-ghost use Rattle.std.specs.Prelude.{◌≡◌, ◌≤◌, ◌↔◌, [], Err, None, false, IsSome, IsTrue, OnErr, OnOk, length, map, take};
+ghost use Rattle.std.specs.Prelude.{◌≡◌, ◌≤◌, ◌↔◌, [], Err, None, false, IsSome, IsTrue, OnErr};
+ghost use Rattle.std.specs.Prelude.{OnOk, length, map, take};
 ghost use Rattle.p9_export.specs.Event.{Closing, Opening, Request, is_frame};
 ghost use Rattle.p9_export.specs.State.{session_at};
 ghost use Rattle.p9_export.specs.Step.{is_no_memory_reply, step};
@@ -53,15 +54,20 @@ impl<T: Tree> Model for Export<T> {
 
 impl<T: Tree> Export<T> {
     /// An exporter of these trees by this mount table, to these users, without sessions. This takes
-    /// no memory. No key and no member of the table is a node that is still to be made: [`is_table_given`]
-    /// tests that.
+    /// no memory. No key and no member of the table is a node that is still to be made:
+    /// [`is_table_given`] tests that.
     pub fn new(
         forest: Forest<T>,
         users: Vec<User, T::Alloc>,
         table: MountTable<T::Alloc>,
     ) -> Export<T>
         requires { IsTrue (is_table_given (map T.state forest.trees.items) table) }
-        ensures { result ≡ record { setting = record { users = users.items; table = table }; forest = map T.state forest.trees.items; sessions = [] } }
+        ensures { result ≡ record {
+          setting = record { users = users.items; table = table };
+          forest
+              = map T.state forest.trees.items;
+          sessions = [];
+        } }
     {
         let alloc = *users.allocator();
         Export {
@@ -87,7 +93,8 @@ impl<T: Tree> Export<T> {
     /// A session of this name that is open is [`OpenError::Live`]; want of memory is
     /// [`OpenError::NoMemory`]. Both leave the exporter.
     pub fn open(&mut self, s: u32) -> Result<(), OpenError>
-        ensures ok { OnOk result ((session_at s self.old.sessions ≡ None) × (self.new ≡ (step self.old (Opening s) false).state)) }
+        ensures ok { OnOk result ((session_at s self.old.sessions ≡ None) × (self.new
+            ≡ (step self.old (Opening s) false).state)) }
         ensures live { (result ≡ Err Live) ↔ IsSome (session_at s self.old.sessions) }
         ensures unchanged { OnErr result (self.new ≡ self.old) }
     {
@@ -121,8 +128,11 @@ impl<T: Tree> Export<T> {
         requires whole { IsTrue (is_frame frame.now) }
         requires room { msize_max ≤ length reply.old }
         ensures within { result ≤ length reply.old }
-        ensures state { self.new ≡ (step self.old (Request s frame.now now) (is_no_memory_reply frame.now (take result reply.new))).state }
-        ensures bytes { take result reply.new ≡ (step self.old (Request s frame.now now) (is_no_memory_reply frame.now (take result reply.new))).reply }
+        ensures state { self.new ≡ (step self.old (Request s frame.now now)
+            (is_no_memory_reply frame.now (take result reply.new))).state }
+        ensures bytes { take result reply.new
+            ≡ (step self.old (Request s frame.now now) (is_no_memory_reply frame.now
+            (take result reply.new))).reply }
     {
         self.forest.well_formed();
         let tag = tag_of(frame);

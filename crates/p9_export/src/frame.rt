@@ -6,7 +6,8 @@ ghost use Rattle.p9_base.specs.Fault.{text_of};
 ghost use Rattle.p9_wire.specs.Message.{Rerror};
 ghost use Rattle.p9_wire.specs.Spelling.{r_spelling};
 ghost use Rattle.p9_export.specs.Step.{request_of, tag_of};
-ghost use Rattle.p9_export.specs.Answers.{CanWrite, message_of, replied, reply_view, request_view, stat_reply};
+ghost use Rattle.p9_export.specs.Answers.{CanWrite, message_of, replied, reply_view, request_view};
+ghost use Rattle.p9_export.specs.Answers.{stat_reply};
 
 use crate::qid::stat_of;
 use crate::reply::Reply;
@@ -60,7 +61,8 @@ pub fn write_answer<T: Tree>(
 ) -> usize
     requires reply { CanWrite answered.now }
     requires room { msize_max ≤ length out.old }
-    ensures bytes { take result out.new ≡ r_spelling tag (message_of (replied (reply_view (map T.state forest.now.trees.items) (drop 11 out.old)) answered.now)) }
+    ensures bytes { take result out.new ≡ r_spelling tag (message_of (replied (reply_view
+        (map T.state forest.now.trees.items) (drop 11 out.old)) answered.now)) }
     ensures within { result ≤ length out.old }
 {
     match answered {
@@ -87,7 +89,8 @@ fn write_fault(fault: Fault, tag: u16, out: &mut [u8]) -> usize
 
 fn write_stat_of<T: Tree>(forest: &Forest<T>, at: NodeRef, tag: u16, out: &mut [u8]) -> usize
     requires room { msize_max ≤ length out.old }
-    ensures bytes { take result out.new ≡ r_spelling tag (stat_reply (map T.state forest.now.trees.items) at) }
+    ensures bytes { take result out.new ≡ r_spelling tag (stat_reply
+        (map T.state forest.now.trees.items) at) }
     ensures within { result ≤ length out.old }
 {
     let Some(file) = forest.node(at) else {

@@ -34,7 +34,8 @@ fn is_row_given<T: Tree>(forest: &Forest<T>, key: NodeRef, members: &Members<'_>
 }
 
 fn are_given<T: Tree>(forest: &Forest<T>, members: &[Member]) -> bool
-    ensures { result ≡ list_all (λ m. is_given (map T.state forest.now.trees.items) m.node) members.now }
+    ensures { result ≡ list_all (λ m. is_given
+        (map T.state forest.now.trees.items) m.node) members.now }
 {
     members.iter().all(|m| is_given(forest, m.node))
 }

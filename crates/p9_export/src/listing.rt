@@ -1,7 +1,8 @@
-//! The entries of a directory, over a union, as read(5). They are looked for one by one, which takes
-//! no memory.
+//! The entries of a directory, over a union, as read(5). They are looked for one by one, which
+//! takes no memory.
 
-ghost use Rattle.std.specs.Prelude.{◌≡◌, ◌≢◌, ◌≤◌, ◌<◌, ◌+◌, ◌^◌, [], IfErr, IfOk, IfSome, OnOk, filter, length, map, slice_get, take};
+ghost use Rattle.std.specs.Prelude.{◌≡◌, ◌≢◌, ◌≤◌, ◌<◌, ◌+◌, ◌^◌, [], IfErr, IfOk, IfSome, OnOk};
+ghost use Rattle.std.specs.Prelude.{filter, length, map, slice_get, take};
 ghost use Rattle.std.specs.List.{flat_map};
 ghost use Rattle.std.specs.Option.{option_map};
 ghost use Rattle.p9_base.specs.declared.fault.Fault.TheVariants.{SmallReadCount};
@@ -57,10 +58,17 @@ pub fn list<T: Tree>(
     buffer: &mut [u8],
 ) -> Result<Given, Fault>
     ensures size { IfOk result (λ given. given.size ≤ length buffer.old) }
-    ensures bytes { let left = left_of (map T.state forest.now.trees.items) user.now cursor members.now in IfOk result (λ given. take given.size buffer.new ≡ flat_map entry_bytes (fitting (length buffer.old) left)) }
-    ensures cursor { let left = left_of (map T.state forest.now.trees.items) user.now cursor members.now in IfOk result (λ given. given.cursor ≡ cursor_after cursor (fitting (length buffer.old) left)) }
-    ensures ok { let left = left_of (map T.state forest.now.trees.items) user.now cursor members.now in OnOk result (fitting (length buffer.old) left ≡ [] → left ≡ []) }
-    ensures err { let left = left_of (map T.state forest.now.trees.items) user.now cursor members.now in IfErr result (λ fault. (fault ≡ SmallReadCount) × (left ≢ []) × (fitting (length buffer.old) left ≡ [])) }
+    ensures bytes { let left = left_of (map T.state forest.now.trees.items) user.now cursor
+        members.now in IfOk result (λ given. take given.size buffer.new
+        ≡ flat_map entry_bytes (fitting (length buffer.old) left)) }
+    ensures cursor { let left = left_of (map T.state forest.now.trees.items) user.now cursor
+        members.now in IfOk result (λ given. given.cursor
+        ≡ cursor_after cursor (fitting (length buffer.old) left)) }
+    ensures ok { let left = left_of (map T.state forest.now.trees.items) user.now cursor members.now
+        in OnOk result (fitting (length buffer.old) left ≡ [] → left ≡ []) }
+    ensures err { let left = left_of (map T.state forest.now.trees.items) user.now cursor
+        members.now in IfErr result (λ fault. (fault ≡ SmallReadCount) × (left ≢ [])
+        × (fitting (length buffer.old) left ≡ [])) }
 {
     let given = fill(forest, members, user, cursor, buffer);
     if given.size == 0 && first_left(forest, members, user, cursor).is_some() {
@@ -78,8 +86,11 @@ fn fill<T: Tree>(
     buffer: &mut [u8],
 ) -> Given
     ensures size { result.size ≤ length buffer.old }
-    ensures bytes { take result.size buffer.new ≡ flat_map entry_bytes (fitting (length buffer.old) (left_of (map T.state forest.now.trees.items) user.now cursor members.now)) }
-    ensures cursor { result.cursor ≡ cursor_after cursor (fitting (length buffer.old) (left_of (map T.state forest.now.trees.items) user.now cursor members.now)) }
+    ensures bytes { take result.size buffer.new
+        ≡ flat_map entry_bytes (fitting (length buffer.old) (left_of
+        (map T.state forest.now.trees.items) user.now cursor members.now)) }
+    ensures cursor { result.cursor ≡ cursor_after cursor (fitting (length buffer.old) (left_of
+        (map T.state forest.now.trees.items) user.now cursor members.now)) }
 {
     forest.well_formed();
     let mut given = Given { size: 0, cursor };
@@ -105,8 +116,11 @@ fn give<T: Tree>(
     cursor: Option<Cursor>,
     buffer: &mut [u8],
 ) -> Option<(Cursor, usize)>
-    ensures last { result ≡ option_map end_of (slice_get (fitting (length buffer.old) (left_of (map T.state forest.now.trees.items) user.now cursor members.now)) 0) }
-    ensures bytes { buffer.new ≡ put_front (flat_map entry_bytes (take 1 (fitting (length buffer.old) (left_of (map T.state forest.now.trees.items) user.now cursor members.now)))) buffer.old }
+    ensures last { result ≡ option_map end_of (slice_get (fitting (length buffer.old) (left_of
+        (map T.state forest.now.trees.items) user.now cursor members.now)) 0) }
+    ensures bytes { buffer.new ≡ put_front (flat_map entry_bytes (take 1 (fitting
+        (length buffer.old) (left_of (map T.state forest.now.trees.items) user.now cursor
+        members.now)))) buffer.old }
 {
     let entry = first_left(forest, members, user, cursor)?;
     let at = NodeRef {
@@ -143,7 +157,8 @@ fn first_left<'a, T: Tree>(
     user: &User,
     cursor: Option<Cursor>,
 ) -> Option<Entry<'a, T::Alloc>>
-    ensures first { result ≡ slice_get (left_of (map T.state forest.now.trees.items) user.now cursor members.now) 0 }
+    ensures first { result ≡ slice_get (left_of
+        (map T.state forest.now.trees.items) user.now cursor members.now) 0 }
     ensures below { IfSome result (λ e. e.node.number < 2 ^ 48) }
 {
     for position in 0..members.len() {
@@ -162,7 +177,8 @@ fn first_in<'a, T: Tree>(
     user: &User,
     cursor: Option<Cursor>,
 ) -> Option<Entry<'a, T::Alloc>>
-    ensures first { result ≡ slice_get (filter (is_behind cursor) (entries_of (map T.state forest.now.trees.items) user.now position member)) 0 }
+    ensures first { result ≡ slice_get (filter (is_behind cursor) (entries_of
+        (map T.state forest.now.trees.items) user.now position member)) 0 }
     ensures below { IfSome result (λ e. e.node.number < 2 ^ 48) }
 {
     if !is_listed(forest, position, member, user) {
@@ -189,7 +205,8 @@ fn first_above<'a, T: Tree>(
     dir: NodeRef,
     floor: Option<u64>,
 ) -> Option<Entry<'a, T::Alloc>>
-    ensures first { result ≡ option_map (entry_at position dir) (child_in_after dir floor (map T.state forest.now.trees.items)) }
+    ensures first { result ≡ option_map (entry_at position dir) (child_in_after dir floor
+        (map T.state forest.now.trees.items)) }
     ensures below { IfSome result (λ e. e.node.number < 2 ^ 48) }
 {
     forest.well_formed();

@@ -26,8 +26,8 @@ use p9_base::Fault;
 use p9_tree::{Forest, Tree};
 use p9_wire::{RMsg, TMsg};
 
-/// Answers a request of a session. `taken` says that an open finds its file in use. What a read gives
-/// is put at the front of `buffer`.
+/// Answers a request of a session. `taken` says that an open finds its file in use. What a read
+/// gives is put at the front of `buffer`.
 pub fn message<T: Tree>(
     setting: &Setting<T::Alloc>,
     forest: &mut Forest<T>,
@@ -37,11 +37,16 @@ pub fn message<T: Tree>(
     request: &TMsg<'_>,
     buffer: &mut [u8],
 ) -> Result<Reply, Fault>
-    requires fids { FidsFit setting.now.table (map T.state forest.old.trees.items) session.old.fids }
+    requires fids { FidsFit setting.now.table
+        (map T.state forest.old.trees.items) session.old.fids }
     requires buffer { msize_max ≤ 11 + length buffer.old }
     requires room { 24 + room_of session.old ≤ msize_max }
     ensures reply { CanWrite result }
-    ensures answer { let old = map T.state forest.old.trees.items in let new = map T.state forest.new.trees.items in let answer = session_answer setting.now old taken session.old now (t_view request.now) in Answers answer (may_run_out (t_view request.now) answer) old new session.old session.new (replied (reply_view new buffer.new) result) }
+    ensures answer { let old = map T.state forest.old.trees.items in
+        let new = map T.state forest.new.trees.items in
+        let answer = session_answer setting.now old taken session.old now (t_view request.now) in
+        Answers answer (may_run_out (t_view request.now) answer) old new session.old session.new
+        (replied (reply_view new buffer.new) result) }
 {
     match request {
         TMsg::Version {

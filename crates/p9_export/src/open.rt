@@ -4,7 +4,8 @@ ghost use Rattle.std.specs.Prelude.{◌≡◌, map, false, IfSome, IsSome};
 ghost use Rattle.p9_tree.specs.Forest.{node_of};
 ghost use Rattle.p9_export.specs.Answers.{Answers, replied};
 ghost use Rattle.p9_export.specs.Change.{all_applied};
-ghost use Rattle.p9_export.specs.Open.{is_append_only, is_cut, is_exclusive, is_in_use, is_taken, may_open, open_answer, open_reply, truncated, truncation};
+ghost use Rattle.p9_export.specs.Open.{is_append_only, is_cut, is_exclusive, is_in_use, is_taken};
+ghost use Rattle.p9_export.specs.Open.{may_open, open_answer, open_reply, truncated, truncation};
 ghost use Rattle.p9_export.specs.Qid.{qid_of};
 
 use crate::opening::Opening;
@@ -58,7 +59,8 @@ pub fn is_taken<T: Tree>(
     session: &Session<T::Alloc>,
     fid: u32,
 ) -> bool
-    ensures { result ≡ is_taken setting.now (map T.state forest.now.trees.items) sessions.now.entries session.now fid }
+    ensures { result ≡ is_taken setting.now (map T.state forest.now.trees.items)
+        sessions.now.entries session.now fid }
 {
     let Some(fid) = session.fids.get(fid) else {
         return false;
@@ -88,7 +90,10 @@ pub fn open<T: Tree>(
     fid: u32,
     mode: u8,
 ) -> Result<(Qid, u32), Fault>
-    ensures { let old = map T.state forest.old.trees.items in let new = map T.state forest.new.trees.items in Answers (open_answer setting.now old taken session.old now fid mode) false old new session.old session.new (replied open_reply result) }
+    ensures { let old = map T.state forest.old.trees.items in
+        let new = map T.state forest.new.trees.items in
+        Answers (open_answer setting.now old taken session.old now fid mode) false old new
+        session.old session.new (replied open_reply result) }
 {
     let Some(holder) = session.fids.get(fid) else {
         return Err(Fault::UnknownFid);
@@ -149,8 +154,11 @@ fn truncated_qid<T: Tree>(
     opening: Opening,
 ) -> Qid
     requires { IsSome (node_of at (map T.state forest.old.trees.items)) }
-    ensures forest { let old = map T.state forest.old.trees.items in IfSome (node_of at old) (λ n. map T.state forest.new.trees.items ≡ all_applied (truncation user now at n opening) old) }
-    ensures qid { IfSome (node_of at (map T.state forest.old.trees.items)) (λ n. result ≡ qid_of at (truncated user now n opening)) }
+    ensures forest { let old = map T.state forest.old.trees.items in
+        IfSome (node_of at old) (λ n. map T.state forest.new.trees.items
+        ≡ all_applied (truncation user now at n opening) old) }
+    ensures qid { IfSome (node_of at (map T.state forest.old.trees.items)) (λ n. result
+        ≡ qid_of at (truncated user now n opening)) }
 {
     truncate(forest, at, user, now, opening);
     forest.well_formed();
@@ -160,7 +168,9 @@ fn truncated_qid<T: Tree>(
 // Cuts the file where the opening truncates it.
 fn truncate<T: Tree>(forest: &mut Forest<T>, at: NodeRef, user: User, now: u32, opening: Opening)
     requires { IsSome (node_of at (map T.state forest.old.trees.items)) }
-    ensures { let old = map T.state forest.old.trees.items in IfSome (node_of at old) (λ n. map T.state forest.new.trees.items ≡ all_applied (truncation user now at n opening) old) }
+    ensures { let old = map T.state forest.old.trees.items in
+        IfSome (node_of at old) (λ n. map T.state forest.new.trees.items
+        ≡ all_applied (truncation user now at n opening) old) }
 {
     if is_cut(forest.node(at).unwrap(), opening) {
         forest.cut(at, 0);

@@ -1,6 +1,7 @@
 //! The answer to a read, as read(5).
 
-ghost use Rattle.std.specs.Prelude.{◌≡◌, ◌==◌, ◌||◌, ◌≤◌, ◌<◌, ◌^◌, false, IfOk, IsSome, length, map, take};
+ghost use Rattle.std.specs.Prelude.{◌≡◌, ◌==◌, ◌||◌, ◌≤◌, ◌<◌, ◌^◌, false, IfOk, IsSome, length};
+ghost use Rattle.std.specs.Prelude.{map, take};
 ghost use Rattle.p9_base.specs.declared.fault.Fault.TheVariants.{UnknownFid};
 ghost use Rattle.p9_fids.specs.Fid.{fid_at};
 ghost use Rattle.p9_tree.specs.Bytes.{read_from};
@@ -25,10 +26,11 @@ use p9_tree::{Forest, Tree};
 /// was last read. A directory gives whole stats of the entries of its union that are left; offset 0
 /// begins anew. This takes no memory.
 ///
-/// The first that applies refuses, and leaves everything: no such fid, [`Fault::UnknownFid`]; not open
-/// for reading, [`Fault::FidNotOpen`]; the file is gone, [`Fault::PhaseError`]; in a directory, an
-/// offset that is neither 0 nor where the last read ended, [`Fault::BadDirectoryOffset`]; there, an
-/// entry that is left and no room for it, [`Fault::SmallReadCount`].
+/// The first that applies refuses, and leaves everything: no such fid, [`Fault::UnknownFid`]; not
+/// open for reading, [`Fault::FidNotOpen`]; the file is gone, [`Fault::PhaseError`]; in a
+/// directory, an offset that is neither 0 nor where the last read ended,
+/// [`Fault::BadDirectoryOffset`]; there, an entry that is left and no room for it,
+/// [`Fault::SmallReadCount`].
 pub fn read<T: Tree>(
     setting: &Setting<T::Alloc>,
     forest: &mut Forest<T>,
@@ -41,7 +43,10 @@ pub fn read<T: Tree>(
 ) -> Result<u32, Fault>
     requires { room_of session.old ≤ length buffer.old }
     ensures size { IfOk result (λ count. count ≤ room_of session.old) }
-    ensures answer { let old = map T.state forest.old.trees.items in let new = map T.state forest.new.trees.items in Answers (read_answer setting.now old session.old now fid offset count) false old new session.old session.new (replied (data_reply buffer.new) result) }
+    ensures answer { let old = map T.state forest.old.trees.items in
+        let new = map T.state forest.new.trees.items in
+        Answers (read_answer setting.now old session.old now fid offset count) false old new
+        session.old session.new (replied (data_reply buffer.new) result) }
 {
     let Some(value) = session.fids.get(fid) else {
         return Err(Fault::UnknownFid);
@@ -94,8 +99,10 @@ fn read_file<T: Tree>(
 ) -> u32
     requires { length buffer.old < 2 ^ 32 }
     ensures size { result ≤ length buffer.old }
-    ensures bytes { take result buffer.new ≡ read_from offset (length buffer.old) (bytes_of at (map T.state forest.old.trees.items)) }
-    ensures forest { map T.state forest.new.trees.items ≡ forest_changed_at at (touched now) (map T.state forest.old.trees.items) }
+    ensures bytes { take result buffer.new ≡ read_from offset (length buffer.old) (bytes_of at
+        (map T.state forest.old.trees.items)) }
+    ensures forest { map T.state forest.new.trees.items
+        ≡ forest_changed_at at (touched now) (map T.state forest.old.trees.items) }
 {
     let size = forest.read_into(at, offset, buffer);
     forest.touch(at, now);
@@ -115,7 +122,11 @@ fn read_dir<T: Tree>(
     requires there { IsSome (fid_at fid session.old.fids) }
     requires short { length buffer.old < 2 ^ 32 }
     ensures size { IfOk result (λ count. count ≤ length buffer.old) }
-    ensures answer { let forest = map T.state forest.now.trees.items in Answers (given (fid_at fid session.old.fids) UnknownFid (λ v. read_dir setting.now forest session.old fid v opened offset (length buffer.old))) false forest forest session.old session.new (replied (data_reply buffer.new) result) }
+    ensures answer { let forest = map T.state forest.now.trees.items in
+        Answers (given (fid_at fid session.old.fids) UnknownFid
+        (λ v. read_dir setting.now forest session.old fid v opened offset
+        (length buffer.old))) false forest forest session.old session.new (replied
+        (data_reply buffer.new) result) }
 {
     if !may_begin(offset, &opened) {
         return Err(Fault::BadDirectoryOffset);

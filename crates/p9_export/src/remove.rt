@@ -16,12 +16,12 @@ use p9_tree::{Forest, Tree};
 use p9_wire::RMsg;
 
 /// Removes the file of a fid, and marks the directory that it stood in. The fid ends in every case,
-/// and removes nothing on its close: so why the file stays is told in the answer, and a fault is only
-/// that the fid isn't there, [`Fault::UnknownFid`], which leaves all.
+/// and removes nothing on its close: so why the file stays is told in the answer, and a fault is
+/// only that the fid isn't there, [`Fault::UnknownFid`], which leaves all.
 ///
-/// The first that applies is told: the file doesn't exist, [`Fault::PhaseError`]; it is a server's root,
-/// [`Fault::IsRoot`]; the user may not write its directory, [`Fault::PermissionDenied`]; it is a
-/// directory with entries, [`Fault::NotEmpty`]. It takes no memory.
+/// The first that applies is told: the file doesn't exist, [`Fault::PhaseError`]; it is a server's
+/// root, [`Fault::IsRoot`]; the user may not write its directory, [`Fault::PermissionDenied`]; it
+/// is a directory with entries, [`Fault::NotEmpty`]. It takes no memory.
 pub fn remove<T: Tree>(
     setting: &Setting<T::Alloc>,
     forest: &mut Forest<T>,
@@ -30,7 +30,10 @@ pub fn remove<T: Tree>(
     fid: u32,
 ) -> Result<RMsg<'static>, Fault>
     ensures reply { IfOk result (λ reply. ReplyFits (r_view reply)) }
-    ensures answer { let old = map T.state forest.old.trees.items in let new = map T.state forest.new.trees.items in Answers (remove_answer setting.now old session.old now fid) false old new session.old session.new (replied r_view result) }
+    ensures answer { let old = map T.state forest.old.trees.items in
+        let new = map T.state forest.new.trees.items in
+        Answers (remove_answer setting.now old session.old now fid) false old new session.old
+        session.new (replied r_view result) }
 {
     let Some(ended) = session.fids.take(fid) else {
         return Err(Fault::UnknownFid);
@@ -50,7 +53,10 @@ fn remove_file<T: Tree>(
     fid: &Fid<T::Alloc>,
     now: u32,
 ) -> Result<(), Fault>
-    ensures { let old = map T.state forest.old.trees.items in let new = map T.state forest.new.trees.items in (left : SessionOf) → Answers (removal setting.now old left now fid.now) false old new left left (replied (λ _. Rremove) result) }
+    ensures { let old = map T.state forest.old.trees.items in
+        let new = map T.state forest.new.trees.items in
+        (left : SessionOf) → Answers (removal setting.now old left now fid.now) false old new left
+        left (replied (λ _. Rremove) result) }
 {
     let at = setting.file(fid);
     let Some(file) = forest.node(at) else {

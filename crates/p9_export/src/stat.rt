@@ -11,15 +11,17 @@ use p9_tree::{Forest, Tree};
 
 /// The file of a fid, of which is told. No permission is needed.
 ///
-/// The first that applies refuses: the fid isn't there, [`Fault::UnknownFid`]; its file doesn't exist,
-/// [`Fault::PhaseError`]. It changes nothing, and takes no memory.
+/// The first that applies refuses: the fid isn't there, [`Fault::UnknownFid`]; its file doesn't
+/// exist, [`Fault::PhaseError`]. It changes nothing, and takes no memory.
 pub fn stat<T: Tree>(
     setting: &Setting<T::Alloc>,
     forest: &Forest<T>,
     session: &Session<T::Alloc>,
     fid: u32,
 ) -> Result<NodeRef, Fault>
-    ensures { let forest = map T.state forest.now.trees.items in Answers (stat_answer setting.now forest session.now fid) false forest forest session.now session.now (replied (stat_reply forest) result) }
+    ensures { let forest = map T.state forest.now.trees.items in
+        Answers (stat_answer setting.now forest session.now fid) false forest forest session.now
+        session.now (replied (stat_reply forest) result) }
 {
     let Some(held) = session.fids.get(fid) else {
         return Err(Fault::UnknownFid);

@@ -31,7 +31,10 @@ pub fn version<T: Tree>(
 ) -> Result<RMsg<'static>, Fault>
     requires { FidsFit setting.now.table (map T.state forest.old.trees.items) session.old.fids }
     ensures reply { IfOk result (λ reply. ReplyFits (r_view reply)) }
-    ensures answer { Answers (version_answer setting.now (map T.state forest.old.trees.items) session.old now msize version.now) false (map T.state forest.old.trees.items) (map T.state forest.new.trees.items) session.old session.new (replied r_view result) }
+    ensures answer { Answers (version_answer setting.now
+        (map T.state forest.old.trees.items) session.old now msize version.now) false
+        (map T.state forest.old.trees.items) (map T.state forest.new.trees.items) session.old
+        session.new (replied r_view result) }
 {
     if msize < MSIZE_MIN {
         return Err(Fault::SmallMsize);

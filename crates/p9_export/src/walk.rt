@@ -1,6 +1,7 @@
 //! The answer to a walk, as walk(5).
 
-ghost use Rattle.std.specs.Prelude.{◌≡◌, ◌≤◌, List, None, Some, IfOk, IfErr, IsSome, OnErr, OnOk, length, map, true};
+ghost use Rattle.std.specs.Prelude.{◌≡◌, ◌≤◌, List, None, Some, IfOk, IfErr, IsSome, OnErr, OnOk};
+ghost use Rattle.std.specs.Prelude.{length, map, true};
 ghost use Rattle.p9_base.specs.declared.fault.Fault.TheVariants.{OutOfMemory};
 ghost use Rattle.p9_fids.specs.Fid.{fid_at};
 ghost use Rattle.p9_space.specs.Place.{file_of};
@@ -26,9 +27,9 @@ use std::marker::Model;
 /// step arrives. Where no step is refused, the fid itself goes there, or newfid is added there.
 ///
 /// The first that applies refuses: the fid isn't there, [`Fault::UnknownFid`]; it is open,
-/// [`Fault::FidOpen`]; newfid is [`NOFID`], [`Fault::UnknownFid`]; newfid is another fid and can't be
-/// added ([`p9_fids::FidTable::put_fault`]); the first step is refused ([`find_step`]). In the place of
-/// any answer memory may be refused, [`Fault::OutOfMemory`]. A refusal leaves the session.
+/// [`Fault::FidOpen`]; newfid is [`NOFID`], [`Fault::UnknownFid`]; newfid is another fid and can't
+/// be added ([`p9_fids::FidTable::put_fault`]); the first step is refused ([`find_step`]). In the
+/// place of any answer memory may be refused, [`Fault::OutOfMemory`]. A refusal leaves the session.
 pub fn walk<T: Tree>(
     setting: &Setting<T::Alloc>,
     forest: &Forest<T>,
@@ -37,7 +38,9 @@ pub fn walk<T: Tree>(
     newfid: u32,
     names: &Names<'_>,
 ) -> Result<Qids, Fault>
-    ensures { let forest = map T.state forest.now.trees.items in Answers (walk_answer setting.now forest session.old fid newfid names.now) true forest forest session.old session.new (replied Rwalk result) }
+    ensures { let forest = map T.state forest.now.trees.items in
+        Answers (walk_answer setting.now forest session.old fid newfid names.now) true forest forest
+        session.old session.new (replied Rwalk result) }
 {
     let Some(held) = session.fids.get(fid) else {
         return Err(Fault::UnknownFid);
@@ -93,7 +96,8 @@ fn walk_along<T: Tree>(
     start: &Trail<T::Alloc>,
     names: &Names<'_>,
 ) -> Result<Walked<T::Alloc>, NoMemory>
-    ensures { IfOk result (λ w. w ≡ walked setting.now (map T.state forest.now.trees.items) user.now start.now names.now) }
+    ensures { IfOk result (λ w. w ≡ walked setting.now
+        (map T.state forest.now.trees.items) user.now start.now names.now) }
 {
     let mut qids = Qids::new();
     let mut trail = start.copy()?;
@@ -124,8 +128,10 @@ fn arrive<T: Tree>(
     step: Step,
 ) -> Result<Qid, NoMemory>
     requires room { length (stepped trail.old step) ≤ PLACES_MAX }
-    requires file { IsSome (file_of (here (stepped trail.old step)) setting.now.table (map T.state forest.now.trees.items)) }
-    ensures qid { IfOk result (λ qid. qid_at setting.now.table (map T.state forest.now.trees.items) (here (stepped trail.old step)) ≡ Some qid) }
+    requires file { IsSome (file_of (here (stepped trail.old step)) setting.now.table
+        (map T.state forest.now.trees.items)) }
+    ensures qid { IfOk result (λ qid. qid_at setting.now.table (map T.state forest.now.trees.items)
+        (here (stepped trail.old step)) ≡ Some qid) }
     ensures ok { OnOk result (trail.new ≡ stepped trail.old step) }
     ensures err { OnErr result (trail.new ≡ trail.old) }
 {
@@ -146,7 +152,9 @@ fn end_walk<A: Allocator + Copy>(
 ) -> Result<Qids, Fault>
     requires there { IsSome (fid_at fid session.old.fids) }
     requires free { newfid_fault fid newfid session.old.fids ≡ None }
-    ensures { (forest : List Server) → Answers (walk_outcome fid newfid (record { user = user; trail = walked.trail; opened = None }) session.old walked) true forest forest session.old session.new (replied Rwalk result) }
+    ensures { (forest : List Server) → Answers (walk_outcome fid newfid
+        (record { user = user; trail = walked.trail; opened = None }) session.old walked) true
+        forest forest session.old session.new (replied Rwalk result) }
 {
     match walked.stopped {
         None => {
@@ -174,7 +182,8 @@ fn move_fid<A: Allocator + Copy>(
 ) -> Result<(), Fault>
     requires there { IsSome (fid_at fid session.old.fids) }
     requires free { newfid_fault fid newfid session.old.fids ≡ None }
-    ensures ok { OnOk result (session.new ≡ moved fid newfid (record { user = user; trail = trail; opened = None }) trail session.old) }
+    ensures ok { OnOk result (session.new ≡ moved fid newfid
+        (record { user = user; trail = trail; opened = None }) trail session.old) }
     ensures err { IfErr result (λ fault. fault ≡ OutOfMemory) }
     ensures unchanged { OnErr result (session.new ≡ session.old) }
 {

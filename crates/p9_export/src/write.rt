@@ -35,7 +35,10 @@ pub fn write<T: Tree>(
     bytes: &[u8],
 ) -> Result<u32, Fault>
     requires { FidsFit setting.now.table (map T.state forest.old.trees.items) session.now.fids }
-    ensures { let old = map T.state forest.old.trees.items in let new = map T.state forest.new.trees.items in let answer = write_answer setting.now old session.now now fid offset bytes.now in Answers answer (is_done answer) old new session.now session.now (replied Rwrite result) }
+    ensures { let old = map T.state forest.old.trees.items in
+        let new = map T.state forest.new.trees.items in
+        let answer = write_answer setting.now old session.now now fid offset bytes.now in
+        Answers answer (is_done answer) old new session.now session.now (replied Rwrite result) }
 {
     let Some(holder) = session.fids.get(fid) else {
         return Err(Fault::UnknownFid);

@@ -7,7 +7,11 @@ ghost use Rattle.p9_base.specs.Name.{is_name};
 ghost use Rattle.p9_wire.specs.Message.{Rwstat, stat_view};
 ghost use Rattle.p9_export.specs.Answers.{Answers, replied};
 ghost use Rattle.p9_export.specs.Step.{is_done};
-ghost use Rattle.p9_export.specs.Wstat.{gid_fault, has_sibling, is_any, is_number_touched, is_text_touched, length_fault, may_give, mode_fault, name_fault, node_change, ruling_fault, touched_number, touched_of, touched_text, touched_view, touches_fixed, touches_qid, wstat_answer, wstat_fault};
+ghost use Rattle.p9_export.specs.Wstat.{gid_fault, has_sibling, is_any, is_number_touched};
+ghost use Rattle.p9_export.specs.Wstat.{is_text_touched, length_fault, may_give, mode_fault};
+ghost use Rattle.p9_export.specs.Wstat.{name_fault, node_change, ruling_fault, touched_number};
+ghost use Rattle.p9_export.specs.Wstat.{touched_of, touched_text, touched_view, touches_fixed};
+ghost use Rattle.p9_export.specs.Wstat.{touches_qid, wstat_answer, wstat_fault};
 
 use crate::end::mark_parent;
 use crate::qid::stat_of;
@@ -52,7 +56,11 @@ pub fn wstat<T: Tree>(
     fid: u32,
     wanted: &Stat<'_>,
 ) -> Result<(), Fault>
-    ensures { let old = map T.state forest.old.trees.items in let new = map T.state forest.new.trees.items in let answer = wstat_answer setting.now old session.now now fid (stat_view wanted.now) in Answers answer (is_done answer) old new session.now session.now (replied (λ _. Rwstat) result) }
+    ensures { let old = map T.state forest.old.trees.items in
+        let new = map T.state forest.new.trees.items in
+        let answer = wstat_answer setting.now old session.now now fid (stat_view wanted.now) in
+        Answers answer (is_done answer) old new session.now session.now (replied
+        (λ _. Rwstat) result) }
 {
     let Some(holder) = session.fids.get(fid) else {
         return Err(Fault::UnknownFid);
@@ -176,7 +184,8 @@ fn wstat_fault<T: Tree>(
     file: &Node<T::Alloc>,
     touched: &Touched<'_>,
 ) -> Option<Fault>
-    ensures { result ≡ wstat_fault user.now (map T.state forest.now.trees.items) at file.now (touched_view touched.now) }
+    ensures { result ≡ wstat_fault user.now (map T.state forest.now.trees.items) at file.now
+        (touched_view touched.now) }
 {
     if let Some(fault) = mode_fault(file, touched.mode) {
         return Some(fault);
@@ -213,7 +222,8 @@ fn name_fault<T: Tree>(
     file: &Node<T::Alloc>,
     name: Option<&str>,
 ) -> Option<Fault>
-    ensures { result ≡ option_and_then (name_fault user.now (map T.state forest.now.trees.items) at file.now) (option_copied name.entry) }
+    ensures { result ≡ option_and_then (name_fault user.now
+        (map T.state forest.now.trees.items) at file.now) (option_copied name.entry) }
 {
     let name = name?;
     if file.parent().is_none() {

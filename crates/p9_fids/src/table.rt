@@ -1,9 +1,11 @@
 //! The fids of a session.
 
-ghost use Rattle.std.specs.Prelude.{◌≡◌, ◌⊎◌, [], None, Some, length, slice_get, IfErr, IsSome, OnErr, OnOk};
+ghost use Rattle.std.specs.Prelude.{◌≡◌, ◌⊎◌, [], None, Some, length, slice_get, IfErr, IsSome};
+ghost use Rattle.std.specs.Prelude.{OnErr, OnOk};
 ghost use Rattle.std.specs.Option.{option_copied, option_map};
 ghost use Rattle.p9_base.specs.declared.fault.Fault.TheVariants.{OutOfMemory};
-ghost use Rattle.p9_fids.specs.Fid.{changed_fid, fid_at, open_count, opened_as, put_fault, trailed, with_fid, without_fid};
+ghost use Rattle.p9_fids.specs.Fid.{changed_fid, fid_at, open_count, opened_as, put_fault, trailed};
+ghost use Rattle.p9_fids.specs.Fid.{with_fid, without_fid};
 
 use crate::fid::Fid;
 use crate::opened::Opened;
@@ -85,8 +87,10 @@ impl<A: Allocator + Copy> FidTable<A> {
     /// Adds a fid, unless [`FidTable::put_fault`] tells why not, or memory is refused, which is
     /// [`Fault::OutOfMemory`]. A refusal leaves the fids, and drops the new one.
     pub fn put(&mut self, fid: u32, value: Fid<A>) -> Result<(), Fault>
-        ensures ok { OnOk result ((put_fault fid self.old ≡ None) × (self.new ≡ with_fid fid value self.old)) }
-        ensures err { IfErr result (λ fault. (put_fault fid self.old ≡ Some fault) ⊎ ((put_fault fid self.old ≡ None) × (fault ≡ OutOfMemory))) }
+        ensures ok { OnOk result ((put_fault fid self.old ≡ None) × (self.new
+            ≡ with_fid fid value self.old)) }
+        ensures err { IfErr result (λ fault. (put_fault fid self.old ≡ Some fault)
+            ⊎ ((put_fault fid self.old ≡ None) × (fault ≡ OutOfMemory))) }
         ensures unchanged { OnErr result (self.new ≡ self.old) }
     {
         if let Some(fault) = self.put_fault(fid) {

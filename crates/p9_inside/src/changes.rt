@@ -1,6 +1,11 @@
 //! Changes outside do not touch what is inside.
 
-ghost use Rattle.p9_inside.specs.Changes.{ServerChangeSpares, ChangeSpares, MarkSpares, TouchSpares, OwnerSpares, WriteSpares, CutSpares, WstatSpares, ServerDropSpares, DropSpares, ServerAddSpares, AddSpares, NewSpares, InTurnSpares, ServerParentDecides, ParentDecides, ServerNextIsFree, NextIsFree};
+ghost use Rattle.p9_inside.specs.Changes.{ServerChangeSpares, ChangeSpares, MarkSpares};
+ghost use Rattle.p9_inside.specs.Changes.{TouchSpares, OwnerSpares, WriteSpares, CutSpares};
+ghost use Rattle.p9_inside.specs.Changes.{WstatSpares, ServerDropSpares, DropSpares};
+ghost use Rattle.p9_inside.specs.Changes.{ServerAddSpares, AddSpares, NewSpares, InTurnSpares};
+ghost use Rattle.p9_inside.specs.Changes.{ServerParentDecides, ParentDecides, ServerNextIsFree};
+ghost use Rattle.p9_inside.specs.Changes.{NextIsFree};
 
 /// A change of a node that is not inside, which leaves it where it stands, spares the insides.
 pub fn change_spares_insides()

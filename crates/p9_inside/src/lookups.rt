@@ -1,6 +1,10 @@
 //! Look-ups outside do not see what is inside.
 
-ghost use Rattle.p9_inside.specs.Lookups.{ServerKeepsNode, KeepsNode, ServerKeepsDirTest, KeepsDirTest, ServerKeepsBytes, KeepsBytes, ServerKeepsChild, KeepsChild, ServerKeepsChildAfter, KeepsChildAfter, ServerKeepsChildren, KeepsChildren, ServerKeepsNext, KeepsNext};
+ghost use Rattle.p9_inside.specs.Lookups.{ServerKeepsNode, KeepsNode, ServerKeepsDirTest};
+ghost use Rattle.p9_inside.specs.Lookups.{KeepsDirTest, ServerKeepsBytes, KeepsBytes};
+ghost use Rattle.p9_inside.specs.Lookups.{ServerKeepsChild, KeepsChild, ServerKeepsChildAfter};
+ghost use Rattle.p9_inside.specs.Lookups.{KeepsChildAfter, ServerKeepsChildren, KeepsChildren};
+ghost use Rattle.p9_inside.specs.Lookups.{ServerKeepsNext, KeepsNext};
 
 /// A number whose node is not inside has the same node, or none, when the insides are left out.
 pub fn outer_keeps_node()

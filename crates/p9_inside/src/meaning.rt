@@ -1,6 +1,10 @@
 //! What inside means.
 
-ghost use Rattle.p9_inside.specs.Meaning.{ServerPassIsChain, PassIsChain, NothingInsideItself, ServerInsideByParent, InsideByParent, ServerInsidesAreSplit, InsidesAreSplit, ServerBarredIsHiddenOrInside, BarredIsHiddenOrInside, ServerOnlyNodesHide, OnlyNodesHide};
+ghost use Rattle.p9_inside.specs.Meaning.{ServerPassIsChain, PassIsChain, NothingInsideItself};
+ghost use Rattle.p9_inside.specs.Meaning.{ServerInsideByParent, InsideByParent};
+ghost use Rattle.p9_inside.specs.Meaning.{ServerInsidesAreSplit, InsidesAreSplit};
+ghost use Rattle.p9_inside.specs.Meaning.{ServerBarredIsHiddenOrInside, BarredIsHiddenOrInside};
+ghost use Rattle.p9_inside.specs.Meaning.{ServerOnlyNodesHide, OnlyNodesHide};
 
 /// The pass over the nodes by rising number finds exactly those in whose chain of parents a hidden
 /// directory stands.

@@ -1,6 +1,7 @@
 //! What is inside in small worlds, node by node.
 
-ghost use Rattle.p9_inside.specs.Worlds.{BoundInsideInsides, CoveredVaultInsides, DeepInsides, RemovedInsides, VaultInsides, VaultOthers};
+ghost use Rattle.p9_inside.specs.Worlds.{BoundInsideInsides, CoveredVaultInsides, DeepInsides};
+ghost use Rattle.p9_inside.specs.Worlds.{RemovedInsides, VaultInsides, VaultOthers};
 
 /// In the worlds `vault`, `covered_vault` and `bound_inside` one node is inside; in a deeper world
 /// two are; and none any more once the hidden directory and what was in it are removed.

@@ -4,7 +4,8 @@ use Rattle.p9_space.specs.Given.{is_table_given}
 use Rattle.p9_space.specs.Table.{MountRow}
 use Rattle.p9_nsfile.specs.Space.{Setting}
 
--- there is a server, and each that has a name is there: if the old table names only nodes that were made, so does the new one
+-- there is a server, and each that has a name is there: if the old table names only nodes that were
+-- made, so does the new one
 abbrev pub KeepsGiven : Setting → List MountRow → List MountRow → Type 0
 KeepsGiven setting old new =
     0 < length setting.forest → length setting.servers ≤ length setting.forest

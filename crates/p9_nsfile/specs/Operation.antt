@@ -1,4 +1,5 @@
--- The form of a line: the operation that its words say, as namespace(6), or what is wrong with them.
+-- The form of a line: the operation that its words say, as namespace(6), or what is wrong with
+-- them.
 use Rattle.std.specs.Prelude.{ℕ, List, [], ◌∷◌, Option, Some, None, Result, Ok, Err, drop, codes, option_map, if◌then◌else◌}
 use Rattle.std.specs.Option.{option_map_or}
 use Rattle.std.specs.Borrow.{Bor}
@@ -41,7 +42,8 @@ abbrev pub with_flags : Option Flags → (Flags → Operation Word) → Form
 with_flags None operation = Err BadFlag
 with_flags (Some flags) operation = Ok (operation flags)
 
--- `mount [-abcC] server old [spec]`: the words behind the flags are counted before the flags are looked at
+-- `mount [-abcC] server old [spec]`: the words behind the flags are counted before the flags are
+-- looked at
 abbrev pub mount_form : Option Flags → List Word → Form
 mount_form flags (server ∷ old ∷ []) = with_flags flags (λ flags. Mount flags server old None)
 mount_form flags (server ∷ old ∷ spec ∷ []) = with_flags flags (λ flags. Mount flags server old (Some spec))

@@ -73,7 +73,8 @@ module _ (setting : Setting) where
   abbrev pub lines_done : ℕ → Option ℕ → Space → List NumberedLine → Space
   lines_done left outer space lines = fold (line_done (included left) outer) space lines
 
-  -- the mount table that a text makes of another, and its reports; a line of bad form refuses the whole text
+  -- the mount table that a text makes of another, and its reports; a line of bad form refuses the
+  -- whole text
   abbrev pub run_of : List ℕ → List MountRow → Result (List MountRow × List Report) BadLineOf
   run_of text table =
       and_then (lines_in text) (λ lines.

@@ -3,7 +3,8 @@
 ghost use Rattle.std.specs.Prelude.{◌≡◌, IfOk, None, Some};
 ghost use Rattle.std.specs.Option.{option_copied};
 ghost use Rattle.p9_nsfile.specs.Answer.{Acts};
-ghost use Rattle.p9_nsfile.specs.Bind.{bound_by, has_spec, is_replace, may_hold, mounted_by, put_at, root_mounted, unmounted_by};
+ghost use Rattle.p9_nsfile.specs.Bind.{bound_by, has_spec, is_replace, may_hold, mounted_by};
+ghost use Rattle.p9_nsfile.specs.Bind.{put_at, root_mounted, unmounted_by};
 
 use crate::fault::{OpFault, Stop};
 use crate::find::{find, find_file};
@@ -24,7 +25,8 @@ pub(crate) fn mount<T: Tree>(
     old: &str,
     spec: Option<&str>,
 ) -> Result<(), Stop>
-    ensures { Acts (mounted_by setting.now space.old flags server.now old.now (option_copied spec.entry)) space.old space.new result }
+    ensures { Acts (mounted_by setting.now space.old flags server.now old.now
+        (option_copied spec.entry)) space.old space.new result }
 {
     let server = setting.expand(server)?;
     let root = match setting.server_root(server.as_str()) {
@@ -45,7 +47,8 @@ fn mount_root<T: Tree>(
     root: NodeRef,
     old: &str,
 ) -> Result<(), Stop>
-    ensures { Acts (root_mounted setting.now space.old flags root old.now) space.old space.new result }
+    ensures { Acts (root_mounted setting.now space.old flags root old.now) space.old space.new
+        result }
 {
     let to = find(setting, space, old)?.here();
     put(setting, space, to, &[root], flags)
@@ -69,7 +72,8 @@ pub(crate) fn bind<T: Tree>(
     new: &str,
     old: &str,
 ) -> Result<(), Stop>
-    ensures { Acts (bound_by setting.now space.old flags new.now old.now) space.old space.new result }
+    ensures { Acts (bound_by setting.now space.old flags new.now old.now) space.old space.new
+        result }
 {
     let from = find(setting, space, new)?.here();
     let to = find(setting, space, old)?.here();
@@ -95,8 +99,8 @@ fn put<T: Tree>(
     Ok(())
 }
 
-// Whether the nodes may stand for the key: directories for a directory, and in the place of a file a
-// file. The first node is asked.
+// Whether the nodes may stand for the key: directories for a directory, and in the place of a file
+// a file. The first node is asked.
 fn may_hold<T: Tree>(
     setting: &Setting<'_, T>,
     order: Order,
@@ -132,7 +136,8 @@ pub(crate) fn unmount<T: Tree>(
     new: Option<&str>,
     old: &str,
 ) -> Result<(), Stop>
-    ensures { Acts (unmounted_by setting.now space.old (option_copied new.entry) old.now) space.old space.new result }
+    ensures { Acts (unmounted_by setting.now space.old
+        (option_copied new.entry) old.now) space.old space.new result }
 {
     match new {
         Some(new) => unmount_file(setting, space, new, old),
@@ -157,7 +162,8 @@ fn unmount_file<T: Tree>(
     new: &str,
     old: &str,
 ) -> Result<(), Stop>
-    ensures { Acts (unmounted_by setting.now space.old (Some new.now) old.now) space.old space.new result }
+    ensures { Acts (unmounted_by setting.now space.old
+        (Some new.now) old.now) space.old space.new result }
 {
     let file = find_file(setting, space, new)?;
     let to = find(setting, space, old)?.here();

@@ -5,7 +5,8 @@ ghost use Rattle.std.specs.List.{after_first, before_first};
 ghost use Rattle.std.specs.Option.{option_copied};
 ghost use Rattle.p9_clean.specs.Path.{slash};
 ghost use Rattle.p9_nsfile.specs.Answer.{Gives};
-ghost use Rattle.p9_nsfile.specs.Find.{behind_hash, found, found_at, found_file, found_from, found_on_server, walked};
+ghost use Rattle.p9_nsfile.specs.Find.{behind_hash, found, found_at, found_file, found_from};
+ghost use Rattle.p9_nsfile.specs.Find.{found_on_server, walked};
 ghost use Rattle.p9_nsfile.specs.Variable.{is_slash};
 
 use crate::fault::Stop;

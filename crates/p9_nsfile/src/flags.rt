@@ -29,9 +29,9 @@ fn is_flag(word: &str) -> bool
     word.starts_with('-')
 }
 
-/// What the flags say. A flag without a letter or with any but `abcC` is bad, and so is `a` together
-/// with `b`. `b` puts the new members before those that stand there, `a` puts them after these, `c`
-/// permits creation, and `C` has no effect.
+/// What the flags say. A flag without a letter or with any but `abcC` is bad, and so is `a`
+/// together with `b`. `b` puts the new members before those that stand there, `a` puts them after
+/// these, `c` permits creation, and `C` has no effect.
 pub(crate) fn read_flags(flags: &[&str]) -> Option<Flags>
     ensures { result ≡ flags_of (map (λ w. w.now) flags.now) }
 {

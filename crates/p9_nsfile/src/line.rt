@@ -17,8 +17,8 @@ pub(crate) struct Line<'a> {
     pub operation: Operation<&'a str>,
 }
 
-/// The lines of a text, in order, blank lines and comments left out. The errors are the first line of
-/// bad form, [`NsError::BadLine`], and want of memory.
+/// The lines of a text, in order, blank lines and comments left out. The errors are the first line
+/// of bad form, [`NsError::BadLine`], and want of memory.
 pub(crate) fn read_lines<A: Allocator + Copy>(
     alloc: A,
     text: &str,
@@ -34,7 +34,8 @@ pub(crate) fn read_lines<A: Allocator + Copy>(
 }
 
 fn read_line<'a, A: Allocator>(statement: &Statement<'a, A>) -> Result<Line<'a>, NsError>
-    ensures ok { IfOk result (λ line. line_of (statement_value statement.now) ≡ Ok (line_value line)) }
+    ensures ok { IfOk result (λ line. line_of (statement_value statement.now)
+        ≡ Ok (line_value line)) }
     ensures err { IfErr result (IsNsFault (line_of (statement_value statement.now))) }
 {
     match read_operation(statement.words.as_slice()) {

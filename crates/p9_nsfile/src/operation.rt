@@ -1,7 +1,9 @@
 //! The operations of namespace files, as namespace(6).
 
 ghost use Rattle.std.specs.Prelude.{◌≡◌, map, option_map};
-ghost use Rattle.p9_nsfile.specs.Operation.{arguments_of, bind_form, bind_of, cd_of, clear_of, form_value, include_of, mount_form, mount_of, operation_of, unmount_of, verb_of, with_flags};
+ghost use Rattle.p9_nsfile.specs.Operation.{arguments_of, bind_form, bind_of, cd_of, clear_of};
+ghost use Rattle.p9_nsfile.specs.Operation.{form_value, include_of, mount_form, mount_of};
+ghost use Rattle.p9_nsfile.specs.Operation.{operation_of, unmount_of, verb_of, with_flags};
 ghost use Rattle.p9_nsfile.specs.declared.operation.Operation.TheVariants.{Bind, Mount};
 
 use crate::error::BadForm;
@@ -130,7 +132,8 @@ fn mounting<'a>(
     old: &'a str,
     spec: Option<&'a str>,
 ) -> Result<Operation<&'a str>, BadForm>
-    ensures { form_value result ≡ with_flags flags (λ flags. Mount flags server.now old.now (option_map (λ w. w.now) spec.entry)) }
+    ensures { form_value result ≡ with_flags flags (λ flags. Mount flags server.now old.now
+        (option_map (λ w. w.now) spec.entry)) }
 {
     match flags {
         Some(flags) => Ok(Operation::Mount {

@@ -5,7 +5,8 @@ ghost use Rattle.p9_nsfile.specs.Answer.{Acts, GivesLines};
 ghost use Rattle.p9_nsfile.specs.Given.{KeepsGiven};
 ghost use Rattle.p9_nsfile.specs.Line.{IsNsFault, line_value, lines_in};
 ghost use Rattle.p9_nsfile.specs.Operation.{operation_value};
-ghost use Rattle.p9_nsfile.specs.Run.{acted, entered, file_lines, included, included_lines, line_done, lines_done, or_bad_include, run_of};
+ghost use Rattle.p9_nsfile.specs.Run.{acted, entered, file_lines, included, included_lines};
+ghost use Rattle.p9_nsfile.specs.Run.{line_done, lines_done, or_bad_include, run_of};
 ghost use Rattle.p9_nsfile.specs.Space.{names_of, variables_of};
 
 use crate::bind::{bind, mount, unmount};
@@ -33,8 +34,8 @@ pub const NESTED_MAX: u8 = 8;
 /// `vars` are the variables, each a name and its value, and `servers` the names of the servers by
 /// their numbers, which are distinct and one for each tree.
 ///
-/// Each line is read before the first acts. The first of bad form is [`NsError::BadLine`]; the other
-/// error is want of memory, [`NsError::NoMemory`]. Both leave the table.
+/// Each line is read before the first acts. The first of bad form is [`NsError::BadLine`]; the
+/// other error is want of memory, [`NsError::NoMemory`]. Both leave the table.
 pub fn run_file<T: Tree>(
     alloc: T::Alloc,
     text: &str,
@@ -43,10 +44,26 @@ pub fn run_file<T: Tree>(
     forest: &Forest<T>,
     table: &mut MountTable<T::Alloc>,
 ) -> Result<Vec<(u64, OpFault), T::Alloc>, NsError>
-    ensures ok { IfOk result (λ reports. run_of (record { forest = map T.state forest.now.trees.items; vars = variables_of vars.now; servers = names_of servers.now }) text.now table.old ≡ Ok (table.new, reports.items)) }
-    ensures err { IfErr result (IsNsFault (run_of (record { forest = map T.state forest.now.trees.items; vars = variables_of vars.now; servers = names_of servers.now }) text.now table.old)) }
+    ensures ok { IfOk result (λ reports. run_of
+        (record {
+          forest = map T.state forest.now.trees.items;
+          vars = variables_of vars.now;
+          servers
+              = names_of servers.now;
+        }) text.now table.old ≡ Ok (table.new, reports.items)) }
+    ensures err { IfErr result (IsNsFault (run_of
+        (record {
+          forest = map T.state forest.now.trees.items;
+          vars = variables_of vars.now;
+          servers
+              = names_of servers.now;
+        }) text.now table.old)) }
     ensures unchanged { OnErr result (table.new ≡ table.old) }
-    ensures given { OnOk result (KeepsGiven (record { forest = map T.state forest.now.trees.items; vars = variables_of vars.now; servers = names_of servers.now }) table.old table.new) }
+    ensures given { OnOk result (KeepsGiven (record {
+      forest = map T.state forest.now.trees.items;
+      vars = variables_of vars.now;
+      servers = names_of servers.now;
+    }) table.old table.new) }
 {
     forest.well_formed();
     let lines = read_lines(alloc, text)?;
@@ -58,8 +75,8 @@ pub fn run_file<T: Tree>(
     Ok(reports)
 }
 
-// Runs lines one after another. `left` is how many files may still be nested, and `outer` the line of
-// the text by which a file is included. Want of memory leaves an unfinished name space.
+// Runs lines one after another. `left` is how many files may still be nested, and `outer` the line
+// of the text by which a file is included. Want of memory leaves an unfinished name space.
 #[cycle(run)]
 fn run_lines<T: Tree>(
     setting: &Setting<'_, T>,
@@ -68,7 +85,8 @@ fn run_lines<T: Tree>(
     lines: &[Line<'_>],
     space: &mut Space<T::Alloc>,
 ) -> Result<(), NoMemory>
-    ensures { OnOk result (space.new ≡ lines_done setting.now left outer space.old (map line_value lines.now)) }
+    ensures { OnOk result (space.new ≡ lines_done setting.now left outer space.old
+        (map line_value lines.now)) }
 {
     for line in lines {
         run_line(setting, left, outer, line, space)?;
@@ -85,7 +103,8 @@ fn run_line<T: Tree>(
     line: &Line<'_>,
     space: &mut Space<T::Alloc>,
 ) -> Result<(), NoMemory>
-    ensures { OnOk result (space.new ≡ line_done setting.now (included setting.now left) outer space.old (line_value line.now)) }
+    ensures { OnOk result (space.new ≡ line_done setting.now
+        (included setting.now left) outer space.old (line_value line.now)) }
 {
     let number = outer.unwrap_or(line.number);
     match act(setting, left, number, line.operation, space) {
@@ -104,7 +123,8 @@ fn act<T: Tree>(
     operation: Operation<&str>,
     space: &mut Space<T::Alloc>,
 ) -> Result<(), Stop>
-    ensures { Acts (acted setting.now (included setting.now left line) space.old (operation_value operation.entry)) space.old space.new result }
+    ensures { Acts (acted setting.now (included setting.now left line) space.old
+        (operation_value operation.entry)) space.old space.new result }
 {
     match operation {
         Operation::Mount {

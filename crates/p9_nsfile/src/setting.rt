@@ -1,6 +1,7 @@
 //! What a namespace file is run in.
 
-ghost use Rattle.std.specs.Prelude.{◌≡◌, ◌∷◌, ◌<◌, [], IfOk, IfSome, None, length, map, position, string_bytes};
+ghost use Rattle.std.specs.Prelude.{◌≡◌, ◌∷◌, ◌<◌, [], IfOk, IfSome, None, length, map, position};
+ghost use Rattle.std.specs.Prelude.{string_bytes};
 ghost use Rattle.std.specs.Option.{option_copied};
 ghost use Rattle.std.specs.Str.{bytes_eq};
 ghost use Rattle.p9_tree.specs.Forest.{is_dir_of, node_of};
@@ -47,7 +48,12 @@ impl<'a, T: Tree> Setting<'a, T> {
         vars: &'a [(String<T::Alloc>, String<T::Alloc>)],
         servers: &'a [String<T::Alloc>],
     ) -> Setting<'a, T>
-        ensures { result ≡ record { forest = map T.state forest.now.trees.items; vars = variables_of vars.now; servers = names_of servers.now } }
+        ensures { result ≡ record {
+          forest = map T.state forest.now.trees.items;
+          vars = variables_of
+              vars.now;
+          servers = names_of servers.now;
+        } }
     {
         Setting {
             alloc,
@@ -90,7 +96,8 @@ impl<'a, T: Tree> Setting<'a, T> {
         start: &Trail<T::Alloc>,
         names: &[&str],
     ) -> Result<Trail<T::Alloc>, Stop>
-        ensures { Gives (path_fault (walk self.now.forest table.now None start.now (map (λ n. n.now) names.now))) result }
+        ensures { Gives (path_fault (walk self.now.forest table.now None start.now (map
+            (λ n. n.now) names.now))) result }
     {
         match resolve(self.forest, table, start, names, None) {
             Ok(trail) => Ok(trail),
@@ -140,7 +147,8 @@ fn server_root<A: Allocator>(servers: &[String<A>], name: &str) -> Result<NodeRe
 }
 
 fn server_number<A: Allocator>(servers: &[String<A>], name: &str) -> Option<usize>
-    ensures number { result ≡ position (λ server. bytes_eq (string_bytes server) name.now) servers.now }
+    ensures number { result ≡ position (λ server. bytes_eq
+        (string_bytes server) name.now) servers.now }
     ensures within { IfSome result (λ number. number < length servers.now) }
 {
     servers.iter().position(|server| is_named(server, name))

@@ -98,7 +98,8 @@ impl<A: Allocator + Copy> Space<A> {
     /// the name space.
     pub fn bind(&mut self, key: NodeRef, nodes: &[NodeRef], flags: Flags) -> Result<(), NoMemory>
         requires { 0 < length nodes.now }
-        ensures ok { OnOk result (self.new ≡ with_table self.old (bound key nodes.now flags.order flags.create self.old.table)) }
+        ensures ok { OnOk result (self.new ≡ with_table self.old
+            (bound key nodes.now flags.order flags.create self.old.table)) }
         ensures err { OnErr result (self.new ≡ self.old) }
     {
         self.table.bind(key, nodes, flags.order, flags.create)
@@ -123,7 +124,10 @@ impl<A: Allocator + Copy> Space<A> {
 
     /// Reports the fault of a line.
     pub fn report(&mut self, line: u64, fault: OpFault) -> Result<(), NoMemory>
-        ensures { OnOk result (self.new ≡ record self.old { reports = self.old.reports ++ (line, fault) ∷ [] }) }
+        ensures { OnOk result (self.new ≡ record self.old {
+          reports = self.old.reports ++
+              (line, fault) ∷ [];
+        }) }
     {
         self.reports.push((line, fault))?;
         Ok(())

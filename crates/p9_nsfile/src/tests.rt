@@ -192,8 +192,8 @@ fn a_current_directory_and_an_unmount(rt: HostRuntime) -> Result<(), Fail> {
     Ok(())
 }
 
-// The files 4 to 6: one includes itself, one acts and has an operation that fails, and one has a line
-// of bad form behind one that would act.
+// The files 4 to 6: one includes itself, one acts and has an operation that fails, and one has a
+// line of bad form behind one that would act.
 fn include_nodes() -> [Made; 6] {
     [
         dir(0, "a"),

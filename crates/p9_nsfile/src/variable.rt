@@ -10,9 +10,9 @@ ghost use Rattle.p9_nsfile.specs.Variable.{dollar, expanded, value_of, with_valu
 use p9_base::NoMemory;
 use std::alloc::Allocator;
 
-/// The word with the variables' values put in: `$name`, which ends at a `/`, a `$` or the word's end.
-/// A name that no variable has is empty text, and of several variables of a name the first counts.
-/// What is put in is not looked at again.
+/// The word with the variables' values put in: `$name`, which ends at a `/`, a `$` or the word's
+/// end. A name that no variable has is empty text, and of several variables of a name the first
+/// counts. What is put in is not looked at again.
 ///
 /// The only error is want of memory.
 pub(crate) fn expand<A: Allocator + Copy>(
@@ -35,7 +35,8 @@ pub(crate) fn expand<A: Allocator + Copy>(
 
 // What stands between the dollars of a word.
 fn pieces<A: Allocator + Copy>(alloc: A, word: &str) -> Result<Vec<&str, A>, NoMemory>
-    ensures { IfOk result (λ found. map (λ p. p.now) found.items ≡ slice_split (λ b. b == dollar) word.now) }
+    ensures { IfOk result (λ found. map (λ p. p.now) found.items
+        ≡ slice_split (λ b. b == dollar) word.now) }
 {
     let found = word.split('$').collect(alloc)?;
     Ok(found)
@@ -47,7 +48,8 @@ fn push_expanded<A: Allocator + Copy>(
     piece: &str,
     vars: &[(String<A>, String<A>)],
 ) -> Result<(), NoMemory>
-    ensures { OnOk result (string_bytes text.new ≡ string_bytes text.old ++ with_value (variables_of vars.now) piece.now) }
+    ensures { OnOk result (string_bytes text.new
+        ≡ string_bytes text.old ++ with_value (variables_of vars.now) piece.now) }
 {
     match piece.split_once('/') {
         Some((name, rest)) => {

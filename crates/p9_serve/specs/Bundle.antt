@@ -77,7 +77,8 @@ begun reading number (Some section) =
     then Ok (record { texts = with_section section reading.texts; last = Some section })
     else Err number
 
--- any other line belongs to the section that was begun last; before the first one it is blank, or bad
+-- any other line belongs to the section that was begun last; before the first one it is blank, or
+-- bad
 abbrev pub continued : Reading → ℕ → List ℕ → Option Section → Result Reading ℕ
 continued reading number line None = if list_all is_blank line then Ok reading else Err number
 continued reading number line (Some section) =

@@ -27,7 +27,8 @@ command_of word =
     else if bytes_eq word (codes "ns") then Some Ns
     else None
 
--- a command, the name space that it works on, and the events of the script, or the reason against them
+-- a command, the name space that it works on, and the events of the script, or the reason against
+-- them
 pub record Job : Type 0 where
   pub command : Command
   pub space : NameSpace
@@ -40,7 +41,8 @@ script_in texts = or_refused BadEvent (script_of (unwrap_or texts.script []))
 abbrev pub job : Command → Texts → NameSpace → Job
 job command texts space = record { command = command; space = space; script = script_in texts }
 
--- what a command has to do with the sections of an input, or the first reason against it before the script's
+-- what a command has to do with the sections of an input, or the first reason against it before the
+-- script's
 abbrev pub job_over : Command → Texts → Result Job Refusal
 job_over command texts = and_then (space_in texts.world texts.ns) (λ space. Ok (job command texts space))
 

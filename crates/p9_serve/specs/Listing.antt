@@ -7,7 +7,8 @@ use Rattle.p9_space.specs.Table.{MountRow}
 use Rattle.p9_world.specs.World.{World}
 use Rattle.p9_serve.specs.Path.{path_of}
 
--- the first member replaces what stood there, and the others go behind it; creation is permitted by `c`
+-- the first member replaces what stood there, and the others go behind it; creation is permitted by
+-- `c`
 abbrev pub first_flags : Bool → List ℕ
 first_flags create = if create then codes " -c" else codes ""
 

@@ -22,7 +22,8 @@ silent after = record { state = after.state; text = [] }
 abbrev pub told : Stepped → Played
 told after = record { state = after.state; text = encode_lower after.reply ++ 10 ∷ [] }
 
--- an event is played; refused says that memory was refused to a request, and counts for no other event
+-- an event is played; refused says that memory was refused to a request, and counts for no other
+-- event
 abbrev pub played : State → Event → Bool → Played
 played state (Opening name) refused =
     if is_some (session_at name state.sessions) then skipped state
@@ -43,7 +44,8 @@ play_text state (event ∷ events) [] =
 play_text state (event ∷ events) (refused ∷ marks) =
     let here = played state event refused in here.text ++ play_text here.state events marks
 
--- an event was played, with some mark: the state after it, and what was printed behind the text before
+-- an event was played, with some mark: the state after it, and what was printed behind the text
+-- before
 pub record Plays (event : Event) (old new : State) (before after : List ℕ) : Type 0 where
   pub refused : Bool
   pub state_is : new ≡ (played old event refused).state

@@ -187,9 +187,10 @@ fn is_blank(line: &str) -> bool
 
 /// The sections of a bundle.
 ///
-/// A section begins with one of the lines `%% world`, `%% ns` and `%% script`, and has the lines up to
-/// the next section or the end; in its text each of them ends with a newline. Each section stands once at
-/// most, and they stand in this order. Any other line that begins with `%%`, and a line before the first section that has anything but blanks and tabs, is
+/// A section begins with one of the lines `%% world`, `%% ns` and `%% script`, and has the lines up
+/// to the next section or the end; in its text each of them ends with a newline. Each section
+/// stands once at most, and they stand in this order. Any other line that begins with `%%`, and a
+/// line before the first section that has anything but blanks and tabs, is
 /// [`BundleError::BadBundle`]; want of memory is [`BundleError::NoMemory`].
 pub fn split_bundle<A: Allocator + Copy>(alloc: A, text: &str) -> Result<Bundle<A>, BundleError>
     ensures ok { IfOk result (λ bundle. bundle_of text.now ≡ Ok (bundle_value bundle)) }

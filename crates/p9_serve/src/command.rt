@@ -29,15 +29,15 @@ enum Command {
 /// Runs a command of the program over its input, and answers the exit status. What is printed goes
 /// behind what stands in `out`, and what is told of faults, in lines, behind what stands in `err`.
 ///
-/// The input is a bundle. Its world, or the sample world without one, is what the lines of its namespace
-/// section are run over. An operation that fails is told as `ns:L: TEXT`, and does nothing more. Then
-/// `play` plays the script over the name space: for each frame it prints a line, the reply in lower case
-/// hexadecimal digits, and `skip` for an event that doesn't fit; and `ns` prints the mount table, a
-/// bind for each member of each row. Both end with status 0.
+/// The input is a bundle. Its world, or the sample world without one, is what the lines of its
+/// namespace section are run over. An operation that fails is told as `ns:L: TEXT`, and does
+/// nothing more. Then `play` plays the script over the name space: for each frame it prints a line,
+/// the reply in lower case hexadecimal digits, and `skip` for an event that doesn't fit; and `ns`
+/// prints the mount table, a bind for each member of each row. Both end with status 0.
 ///
-/// An input that is not UTF-8 or no bundle, and then the first bad line of its world, its namespace file
-/// and its script, in this order, ends with status 1, and any other command with status 2; nothing is
-/// printed on `out` then. Want of memory may have printed a part.
+/// An input that is not UTF-8 or no bundle, and then the first bad line of its world, its namespace
+/// file and its script, in this order, ends with status 1, and any other command with status 2;
+/// nothing is printed on `out` then. Want of memory may have printed a part.
 pub fn run_command<A: Allocator + Copy>(
     cmd: &str,
     input: &[u8],
@@ -136,8 +136,8 @@ fn run_over<A: Allocator + Copy>(
     }
 }
 
-// The same for a command, of a name space and the section of the script: what failed in the making of
-// the name space is told first.
+// The same for a command, of a name space and the section of the script: what failed in the making
+// of the name space is told first.
 fn run_on<A: Allocator + Copy>(
     command: Command,
     space: NameSpace<PlainTree<A>>,

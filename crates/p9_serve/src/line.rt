@@ -15,8 +15,8 @@ pub fn print_line<A: Allocator + Copy>(line: &str, out: &mut Vec<u8, A>) -> Resu
     Ok(())
 }
 
-/// Prints bytes as a line of lower case hexadecimal digits. Where memory is refused, a part of it may
-/// stand there.
+/// Prints bytes as a line of lower case hexadecimal digits. Where memory is refused, a part of it
+/// may stand there.
 pub fn print_hex<A: Allocator + Copy>(bytes: &[u8], out: &mut Vec<u8, A>) -> Result<(), NoMemory>
     ensures { OnOk result (out.new.items ≡ out.old.items ++ (encode_lower bytes.now ++ 10 ∷ [])) }
 {

@@ -10,8 +10,8 @@ use p9_space::{Member, MountTable};
 use p9_tree::Tree;
 use p9_world::World;
 
-/// Prints a mount table, a line for each member of each row. Where memory is refused, a part of it may
-/// stand there.
+/// Prints a mount table, a line for each member of each row. Where memory is refused, a part of it
+/// may stand there.
 pub(crate) fn print_table<T: Tree>(
     world: &World<T>,
     table: &MountTable<T::Alloc>,
@@ -33,7 +33,8 @@ fn print_row<T: Tree>(
     members: &[Member],
     out: &mut Vec<u8, T::Alloc>,
 ) -> Result<(), NoMemory>
-    ensures { OnOk result (out.new.items ≡ out.old.items ++ members_text world.now key members.now) }
+    ensures { OnOk result (out.new.items ≡ out.old.items ++ members_text world.now key
+        members.now) }
 {
     let Some((first, others)) = members.split_first() else {
         return Ok(());
@@ -66,7 +67,8 @@ fn print_bind<T: Tree>(
     node: NodeRef,
     out: &mut Vec<u8, T::Alloc>,
 ) -> Result<(), NoMemory>
-    ensures { OnOk result (out.new.items ≡ out.old.items ++ bind_line world.now key flags.now node) }
+    ensures { OnOk result (out.new.items ≡ out.old.items ++ bind_line world.now key flags.now
+        node) }
 {
     out.extend_from_slice(b"bind")?;
     out.extend_from_slice(flags.as_bytes())?;

@@ -6,7 +6,8 @@ ghost use Rattle.p9_nsfile.specs.Given.{KeepsGiven};
 ghost use Rattle.p9_nsfile.specs.Line.{IsNsFault};
 ghost use Rattle.p9_nsfile.specs.Run.{run_of};
 ghost use Rattle.p9_serve.specs.Listing.{table_text};
-ghost use Rattle.p9_serve.specs.NameSpace.{exported, or_bad_operation, setting_of, space_in, space_over, world_in};
+ghost use Rattle.p9_serve.specs.NameSpace.{exported, or_bad_operation, setting_of, space_in};
+ghost use Rattle.p9_serve.specs.NameSpace.{space_over, world_in};
 ghost use Rattle.p9_serve.specs.Refusal.{IsStop};
 ghost use Rattle.p9_serve.specs.Report.{reports_text};
 
@@ -44,18 +45,20 @@ impl<T: Tree> Model for NameSpace<T> {
 }
 
 impl<T: Tree> NameSpace<T> {
-    /// The name space of these sections. Without a world section the world is `small`, and without a
-    /// namespace section nothing is mounted.
+    /// The name space of these sections. Without a world section the world is `small`, and without
+    /// a namespace section nothing is mounted.
     ///
-    /// The first bad line of the world, then that of the namespace file, is the refusal; want of memory
-    /// is the other reason.
+    /// The first bad line of the world, then that of the namespace file, is the refusal; want of
+    /// memory is the other reason.
     pub fn read(
         alloc: T::Alloc,
         world: Option<&str>,
         ns: Option<&str>,
     ) -> Result<NameSpace<T>, Stop>
-        ensures ok { IfOk result (λ space. space_in (option_copied world.entry) (option_copied ns.entry) ≡ Ok space) }
-        ensures stop { IfErr result (IsStop (space_in (option_copied world.entry) (option_copied ns.entry))) }
+        ensures ok { IfOk result (λ space. space_in (option_copied world.entry)
+            (option_copied ns.entry) ≡ Ok space) }
+        ensures stop { IfErr result (IsStop (space_in (option_copied world.entry)
+            (option_copied ns.entry))) }
     {
         let world = world_in(alloc, world)?;
         NameSpace::over(alloc, ns.unwrap_or(""), world)
@@ -86,7 +89,8 @@ impl<T: Tree> NameSpace<T> {
 
     /// Prints the mount table, a line for each member of each row.
     pub fn print_table(&self, out: &mut Vec<u8, T::Alloc>) -> Result<(), NoMemory>
-        ensures { OnOk result (out.new.items ≡ out.old.items ++ table_text self.now.world self.now.table) }
+        ensures { OnOk result (out.new.items ≡ out.old.items ++ table_text self.now.world
+            self.now.table) }
     {
         print_table(&self.world, &self.table, out)
     }
@@ -132,7 +136,8 @@ fn run<T: Tree>(
 ) -> Result<Vec<(u64, OpFault), T::Alloc>, Stop>
     ensures ok { IfOk result (λ reports.
         run_of (setting_of world.now) text.now table.old ≡ Ok (table.new, reports.items)) }
-    ensures stop { IfErr result (IsStop (or_bad_operation (run_of (setting_of world.now) text.now table.old))) }
+    ensures stop { IfErr result (IsStop (or_bad_operation (run_of
+        (setting_of world.now) text.now table.old))) }
     ensures given { OnOk result (KeepsGiven (setting_of world.now) table.old table.new) }
 {
     match run_file(

@@ -10,8 +10,8 @@ use p9_tree::{Forest, Tree};
 use p9_world::World;
 use std::alloc::Allocator;
 
-/// Prints a node's path: `#`, its server's name, and from the root on a slash before each name. The root
-/// is a slash alone. Where memory is refused, a part of it may stand there.
+/// Prints a node's path: `#`, its server's name, and from the root on a slash before each name. The
+/// root is a slash alone. Where memory is refused, a part of it may stand there.
 pub(crate) fn print_path<T: Tree>(
     world: &World<T>,
     at: NodeRef,
@@ -80,7 +80,8 @@ fn entry<T: Tree>(forest: &Forest<T>, at: NodeRef) -> Option<(u64, &str)>
 }
 
 fn print_names<A: Allocator + Copy>(names: &[&str], out: &mut Vec<u8, A>) -> Result<(), NoMemory>
-    ensures { OnOk result (out.new.items ≡ out.old.items ++ rooted_path (map (λ n. n.now) names.now)) }
+    ensures { OnOk result (out.new.items ≡ out.old.items ++ rooted_path (map
+        (λ n. n.now) names.now)) }
 {
     if names.is_empty() {
         out.push(b'/')?;

@@ -25,10 +25,10 @@ pub enum ScriptError {
 
 /// The events of a script, in order.
 ///
-/// A line is `open S`, `msg S NOW HEX` or `close S NOW`: a session's name and a reading of the clock are
-/// decimal numbers below 2^32, and `HEX` is one byte or more in hexadecimal digits of either case. Blank
-/// lines and lines that begin with `#` are passed over, and counted. Any other line is
-/// [`ScriptError::BadScript`]; want of memory is [`ScriptError::NoMemory`].
+/// A line is `open S`, `msg S NOW HEX` or `close S NOW`: a session's name and a reading of the
+/// clock are decimal numbers below 2^32, and `HEX` is one byte or more in hexadecimal digits of
+/// either case. Blank lines and lines that begin with `#` are passed over, and counted. Any other
+/// line is [`ScriptError::BadScript`]; want of memory is [`ScriptError::NoMemory`].
 pub fn read_script<A: Allocator + Copy>(
     alloc: A,
     text: &str,

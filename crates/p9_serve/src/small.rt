@@ -9,8 +9,8 @@ use p9_base::{FileFlags, Kind, Mode, Name, NoMemory, Permissions, User};
 use p9_tree::{Forest, New, Tree};
 use p9_world::World;
 
-/// The world `small`: one server, `main`, with the directories `/a` and `/a/b` and the file `/a/f`, which
-/// are glenda's, and she is the one user.
+/// The world `small`: one server, `main`, with the directories `/a` and `/a/b` and the file `/a/f`,
+/// which are glenda's, and she is the one user.
 pub fn small_world<T: Tree>(alloc: T::Alloc) -> Result<World<T>, NoMemory>
     ensures { IfOk result (λ world. world ≡ small_world) }
 {
@@ -48,7 +48,8 @@ fn add<T: Tree>(
     bytes: &[u8],
 ) -> Result<(), NoMemory>
     requires name { IsTrue (is_name name.now) }
-    requires can_add { let old = T.state tree.old in CanAdd old dir (glendas old.next dir name.now mode bytes.now) }
+    requires can_add { let old = T.state tree.old in
+        CanAdd old dir (glendas old.next dir name.now mode bytes.now) }
     ensures { OnOk result (
         let old = T.state tree.old in
         T.state tree.new ≡ added old (glendas old.next dir name.now mode bytes.now)) }

@@ -1,4 +1,5 @@
--- What a user may do with a file, as intro(5). Each user is the only member and the leader of the group of the same name.
+-- What a user may do with a file, as intro(5). Each user is the only member and the leader of the
+-- group of the same name.
 use Rattle.std.specs.Prelude.{ℕ, ◌||◌, Bool, true, false, List}
 use Rattle.std.specs.Str.{bytes_eq}
 use Rattle.p9_base.specs.declared.mode.Rights.{Rights}

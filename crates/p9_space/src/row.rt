@@ -1,6 +1,8 @@
 //! The members of a union directory.
 
-ghost use Rattle.std.specs.Prelude.{◌≡◌, ◌≢◌, ◌++◌, ◌∷◌, ◌<◌, ◌↔◌, [], true, IsTrue, length, unwrap_or, slice_get, remove, position, IfSome, IfOk, OnOk, OnErr};
+ghost use Rattle.std.specs.Prelude.{◌≡◌, ◌≢◌, ◌++◌, ◌∷◌, ◌<◌, ◌↔◌, [], true, IsTrue, length};
+ghost use Rattle.std.specs.Prelude.{unwrap_or, slice_get, remove, position, IfSome, IfOk, OnOk};
+ghost use Rattle.std.specs.Prelude.{OnErr};
 ghost use Rattle.std.specs.Option.{option_copied};
 ghost use Rattle.p9_space.specs.Row.{brought, is_of, member};
 

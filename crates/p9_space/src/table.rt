@@ -1,10 +1,12 @@
 //! The mount table.
 
-ghost use Rattle.std.specs.Prelude.{◌≡◌, ◌++◌, ◌<◌, ◌↔◌, [], IsTrue, IsSome, is_some, length, remove, slice_get, OnOk, OnErr, IfOk, IfErr};
+ghost use Rattle.std.specs.Prelude.{◌≡◌, ◌++◌, ◌<◌, ◌↔◌, [], IsTrue, IsSome, is_some, length};
+ghost use Rattle.std.specs.Prelude.{remove, slice_get, OnOk, OnErr, IfOk, IfErr};
 ghost use Rattle.std.specs.Bool.{OnFalse};
 ghost use Rattle.p9_space.specs.Place.{file_ref};
 ghost use Rattle.p9_space.specs.Row.{brought, joined};
-ghost use Rattle.p9_space.specs.Table.{IsTable, bound, standing, unmounted, members_of, row_of, with_row, without_row};
+ghost use Rattle.p9_space.specs.Table.{IsTable, bound, standing, unmounted, members_of, row_of};
+ghost use Rattle.p9_space.specs.Table.{with_row, without_row};
 
 use crate::row::{Member, Members, Order, Row};
 use indexmap::IndexMap;
@@ -30,8 +32,8 @@ type Rows<A> = IndexMap<NodeRef, Row<A>, BuildHasherDefault<FoldHasher>, A>;
 /// The mount table: rows of a key and its members, as bind(1). A walk that comes to a key goes on
 /// in the members.
 ///
-/// It is seen as the list of its rows, in the order of their making. No row is empty, and no key has
-/// two.
+/// It is seen as the list of its rows, in the order of their making. No row is empty, and no key
+/// has two.
 #[derive(Drop)]
 pub struct MountTable<A: Allocator + Copy> {
     alloc: A,
@@ -90,7 +92,8 @@ impl<A: Allocator + Copy> MountTable<A> {
         order: Order,
         create: bool,
     ) -> Result<Row<A>, NoMemory>
-        ensures { IfOk result (λ row. row ≡ joined order (brought nodes.now create) (standing key self.now)) }
+        ensures { IfOk result (λ row. row ≡ joined order (brought nodes.now create)
+            (standing key self.now)) }
     {
         let mut row = Row::new(self.alloc);
         match order {

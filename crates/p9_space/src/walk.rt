@@ -1,11 +1,13 @@
 //! Walks along names, as walk(5).
 
-ghost use Rattle.std.specs.Prelude.{◌≡◌, ◌≤◌, ◌⊎◌, Ok, Err, OnOk, OnErr, IfOk, IfErr, map, length, is_some};
+ghost use Rattle.std.specs.Prelude.{◌≡◌, ◌≤◌, ◌⊎◌, Ok, Err, OnOk, OnErr, IfOk, IfErr, map, length};
+ghost use Rattle.std.specs.Prelude.{is_some};
 ghost use Rattle.std.specs.List.{list_any};
 ghost use Rattle.std.specs.Option.{option_copied};
 ghost use Rattle.p9_base.specs.declared.fault.Fault.TheVariants.{OutOfMemory};
 ghost use Rattle.p9_space.specs.Trail.{here, stepped};
-ghost use Rattle.p9_space.specs.Walk.{child_among, child_ref, is_alive, is_alive_dir, is_searched, may_search, step_among, step_down, step_of, walk};
+ghost use Rattle.p9_space.specs.Walk.{child_among, child_ref, is_alive, is_alive_dir, is_searched};
+ghost use Rattle.p9_space.specs.Walk.{may_search, step_among, step_down, step_of, walk};
 
 use crate::rights::{TO_EXECUTE, may};
 use crate::row::Member;
@@ -41,7 +43,8 @@ fn is_alive_dir<T: Tree>(forest: &Forest<T>, member: &Member) -> bool
 
 // Whether the member is a directory that exists and that the user may search.
 fn is_searched<T: Tree>(forest: &Forest<T>, member: &Member, user: Option<&User>) -> bool
-    ensures { result ≡ is_searched (map T.state forest.now.trees.items) (option_copied user.entry) member.now }
+    ensures { result ≡ is_searched (map T.state forest.now.trees.items)
+        (option_copied user.entry) member.now }
 {
     match forest.node(member.node) {
         Some(node) => node.is_dir() && may_search(node, user),
@@ -62,7 +65,8 @@ fn has_alive_dir<T: Tree>(forest: &Forest<T>, members: &[Member]) -> bool
 }
 
 fn has_searched<T: Tree>(forest: &Forest<T>, members: &[Member], user: Option<&User>) -> bool
-    ensures { result ≡ list_any (is_searched (map T.state forest.now.trees.items) (option_copied user.entry)) members.now }
+    ensures { result ≡ list_any (is_searched (map T.state forest.now.trees.items)
+        (option_copied user.entry)) members.now }
 {
     members.iter().any(|m| is_searched(forest, m, user))
 }
@@ -87,7 +91,8 @@ fn named_child<T: Tree>(
     name: &Name,
     user: Option<&User>,
 ) -> Option<NodeRef>
-    ensures { result ≡ child_among (map T.state forest.now.trees.items) (option_copied user.entry) name.now members.now }
+    ensures { result ≡ child_among (map T.state forest.now.trees.items)
+        (option_copied user.entry) name.now members.now }
 {
     for member in members {
         if is_searched(forest, member, user) {
@@ -106,7 +111,8 @@ fn find_child<T: Tree>(
     name: &str,
     user: Option<&User>,
 ) -> Option<NodeRef>
-    ensures { result ≡ child_among (map T.state forest.now.trees.items) (option_copied user.entry) name.now members.now }
+    ensures { result ≡ child_among (map T.state forest.now.trees.items)
+        (option_copied user.entry) name.now members.now }
 {
     match Name::new(name) {
         Some(name) => named_child(forest, members, &name, user),
@@ -127,7 +133,8 @@ fn find_down<T: Tree, A: Allocator + Copy>(
 ) -> Result<Step, Fault>
     requires { length trail.now ≤ PLACES_MAX }
     ensures room { IfOk result (λ step. length (stepped trail.now step) ≤ PLACES_MAX) }
-    ensures step { result ≡ step_down (map T.state forest.now.trees.items) (option_copied user.entry) trail.now name.now members.now }
+    ensures step { result ≡ step_down (map T.state forest.now.trees.items)
+        (option_copied user.entry) trail.now name.now members.now }
 {
     if !has_searched(forest, members, user) {
         return Err(Fault::PermissionDenied);
@@ -154,7 +161,8 @@ fn find_among<T: Tree, A: Allocator + Copy>(
 ) -> Result<Step, Fault>
     requires { length trail.now ≤ PLACES_MAX }
     ensures room { IfOk result (λ step. length (stepped trail.now step) ≤ PLACES_MAX) }
-    ensures step { result ≡ step_among (map T.state forest.now.trees.items) (option_copied user.entry) trail.now name.now members.now }
+    ensures step { result ≡ step_among (map T.state forest.now.trees.items)
+        (option_copied user.entry) trail.now name.now members.now }
 {
     if !has_alive(forest, members) {
         return Err(Fault::PhaseError);
@@ -171,10 +179,10 @@ fn find_among<T: Tree, A: Allocator + Copy>(
 /// One step of a walk from the last place of a trail, by any text as a name. Without a user it
 /// isn't tested whether a directory may be searched.
 ///
-/// The first that applies is the fault: no member of the last place exists:
-/// [`Fault::PhaseError`]; none that exists is a directory: [`Fault::NotDirectory`]; for a name other
-/// than `..`, none of these directories may be searched by the user: [`Fault::PermissionDenied`];
-/// none that may has a child of the name: [`Fault::NotFound`]; the trail has [`PLACES_MAX`] places:
+/// The first that applies is the fault: no member of the last place exists: [`Fault::PhaseError`];
+/// none that exists is a directory: [`Fault::NotDirectory`]; for a name other than `..`, none of
+/// these directories may be searched by the user: [`Fault::PermissionDenied`]; none that may has a
+/// child of the name: [`Fault::NotFound`]; the trail has [`PLACES_MAX`] places:
 /// [`Fault::PathTooDeep`]; and the file of the new last place doesn't exist: [`Fault::PhaseError`].
 pub fn find_step<T: Tree, A: Allocator + Copy, B: Allocator + Copy>(
     forest: &Forest<T>,
@@ -183,7 +191,8 @@ pub fn find_step<T: Tree, A: Allocator + Copy, B: Allocator + Copy>(
     name: &str,
     user: Option<&User>,
 ) -> Result<Step, Fault>
-    ensures step { result ≡ step_of (map T.state forest.now.trees.items) table.now (option_copied user.entry) trail.now name.now }
+    ensures step { result ≡ step_of (map T.state forest.now.trees.items) table.now
+        (option_copied user.entry) trail.now name.now }
     ensures room { IfOk result (λ step. length (stepped trail.now step) ≤ PLACES_MAX) }
 {
     let step = find_among(
@@ -208,8 +217,11 @@ pub fn resolve<T: Tree, A: Allocator + Copy, B: Allocator + Copy>(
     names: &[&str],
     user: Option<&User>,
 ) -> Result<Trail<B>, Fault>
-    ensures ok { IfOk result (λ trail. walk (map T.state forest.now.trees.items) table.now (option_copied user.entry) start.now (map (λ n. n.now) names.now) ≡ Ok trail) }
-    ensures err { IfErr result (λ fault. (fault ≡ OutOfMemory) ⊎ (walk (map T.state forest.now.trees.items) table.now (option_copied user.entry) start.now (map (λ n. n.now) names.now) ≡ Err fault)) }
+    ensures ok { IfOk result (λ trail. walk (map T.state forest.now.trees.items) table.now
+        (option_copied user.entry) start.now (map (λ n. n.now) names.now) ≡ Ok trail) }
+    ensures err { IfErr result (λ fault. (fault ≡ OutOfMemory)
+        ⊎ (walk (map T.state forest.now.trees.items) table.now (option_copied user.entry) start.now
+        (map (λ n. n.now) names.now) ≡ Err fault)) }
 {
     let mut trail = start.copy()?;
     for name in names {

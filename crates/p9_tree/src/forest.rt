@@ -4,7 +4,9 @@ ghost use Rattle.std.specs.Prelude.{◌≡◌, ◌≢◌, ◌+◌, ◌≤◌, If
 ghost use Rattle.std.specs.Option.{option_copied};
 ghost use Rattle.p9_tree.specs.Bytes.{cut_to, overwritten, put_front, read_from};
 ghost use Rattle.p9_tree.specs.Change.{CanChange, changed};
-ghost use Rattle.p9_tree.specs.Forest.{IsForest, bytes_of, child_in, child_in_after, forest_changed_at, has_children_of, is_dir_of, next_of, node_of, server_at, tree_changed_at};
+ghost use Rattle.p9_tree.specs.Forest.{IsForest, bytes_of, child_in, child_in_after};
+ghost use Rattle.p9_tree.specs.Forest.{forest_changed_at, has_children_of, is_dir_of, next_of};
+ghost use Rattle.p9_tree.specs.Forest.{node_of, server_at, tree_changed_at};
 ghost use Rattle.p9_tree.specs.New.{CanAddNew, added_new};
 ghost use Rattle.p9_tree.specs.Node.{marked, touched, with_bytes};
 ghost use Rattle.p9_tree.specs.Server.{with_dropped};

@@ -1,13 +1,15 @@
 //! A file or directory of a server.
 
-ghost use Rattle.std.specs.Prelude.{◌≡◌, ◌≢◌, ◌+◌, ◌≤◌, ◌&&◌, IsTrue, IfOk, IsSome, OnOk, OnErr, length, unwrap_or};
+ghost use Rattle.std.specs.Prelude.{◌≡◌, ◌≢◌, ◌+◌, ◌≤◌, ◌&&◌, IsTrue, IfOk, IsSome, OnOk, OnErr};
+ghost use Rattle.std.specs.Prelude.{length, unwrap_or};
 ghost use Rattle.std.specs.Option.{ForSome};
 ghost use Rattle.p9_base.specs.Name.{is_name};
 ghost use Rattle.p9_base.specs.Text.{is_text};
 ghost use Rattle.p9_tree.specs.Bytes.{cut_to, overwritten, put_front, read_from};
 ghost use Rattle.p9_tree.specs.Change.{changed, with_length, with_mtime};
 ghost use Rattle.p9_tree.specs.New.{new_node};
-ghost use Rattle.p9_tree.specs.Node.{IsTellable, is_above, is_child, is_dir, is_in, marked, touched, with_bytes, with_owner};
+ghost use Rattle.p9_tree.specs.Node.{IsTellable, is_above, is_child, is_dir, is_in, marked};
+ghost use Rattle.p9_tree.specs.Node.{touched, with_bytes, with_owner};
 
 use crate::bytes::{Bytes, FILE_MAX};
 use crate::change::Change;

@@ -6,7 +6,9 @@ ghost use Rattle.p9_tree.specs.Bytes.{cut_to, overwritten, put_front, read_from}
 ghost use Rattle.p9_tree.specs.Change.{CanChange, changed};
 ghost use Rattle.p9_tree.specs.New.{CanAddNew, added_new};
 ghost use Rattle.p9_tree.specs.Node.{marked, touched, with_bytes, with_owner};
-ghost use Rattle.p9_tree.specs.Server.{Server, WellFormed, bytes_at, child_after, child_of, has_children, is_dir_at, node_at, rooted, with_changed, with_dropped};
+ghost use Rattle.p9_tree.specs.Server.{Server, WellFormed, bytes_at, child_after, child_of};
+ghost use Rattle.p9_tree.specs.Server.{has_children, is_dir_at, node_at, rooted, with_changed};
+ghost use Rattle.p9_tree.specs.Server.{with_dropped};
 
 use crate::bytes::FILE_MAX;
 use crate::change::Change;

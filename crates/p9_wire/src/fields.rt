@@ -5,7 +5,9 @@ ghost use Rattle.std.specs.Prelude.{◌≡◌, ◌≤◌, ◌==◌, Some, None, 
 ghost use Rattle.std.specs.List.{list_any};
 ghost use Rattle.p9_base.specs.Text.{is_text};
 ghost use Rattle.p9_wire.specs.Message.{stat_view};
-ghost use Rattle.p9_wire.specs.FieldReading.{Gives, number_at, bytes_at, sized_bytes_at, text_at, qid_at, counted_at, times, several_at, sized_at, stat_fields_at, stat_at};
+ghost use Rattle.p9_wire.specs.FieldReading.{Gives, number_at, bytes_at, sized_bytes_at, text_at};
+ghost use Rattle.p9_wire.specs.FieldReading.{qid_at, counted_at, times, several_at, sized_at};
+ghost use Rattle.p9_wire.specs.FieldReading.{stat_fields_at, stat_at};
 ghost use Rattle.p9_wire.specs.Reading.{header_at};
 
 use crate::constants::MAXWELEM;

@@ -6,7 +6,8 @@ ghost use Rattle.p9_wire.specs.Spelling.{t_len, t_spelling, TSpells, r_len, r_sp
 ghost use Rattle.p9_wire.specs.Reading.{t_message_of, r_message_of};
 ghost use Rattle.p9_wire.specs.Frame.{first_frame, BeginsFrames};
 ghost use Rattle.p9_wire.specs.declared.frame.Frame.TheVariants.{Need};
-ghost use Rattle.p9_wire.specs.Laws.{ReadsSpellings, ReadsEachSpelling, HasOneMessage, HasOneSpelling};
+ghost use Rattle.p9_wire.specs.Laws.{ReadsSpellings, ReadsEachSpelling, HasOneMessage};
+ghost use Rattle.p9_wire.specs.Laws.{HasOneSpelling};
 
 /// Requests and their spellings are one for one, and `t_message_of` reads exactly these.
 pub fn requests_are_spelled_once()

@@ -1,6 +1,7 @@
 //! The names of a walk, kept in place.
 
-ghost use Rattle.std.specs.Prelude.{◌≡◌, ◌==◌, ◌<◌, ◌≤◌, ◌++◌, ◌∷◌, [], ℕ, List, Some, take, map, length, slice_get};
+ghost use Rattle.std.specs.Prelude.{◌≡◌, ◌==◌, ◌<◌, ◌≤◌, ◌++◌, ◌∷◌, [], ℕ, List, Some, take, map};
+ghost use Rattle.std.specs.Prelude.{length, slice_get};
 
 use crate::constants::MAXWELEM;
 use std::marker::Model;

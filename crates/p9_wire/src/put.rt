@@ -2,7 +2,8 @@
 //! the place behind it.
 
 ghost use Rattle.std.specs.Prelude.{◌≡◌, ◌≤◌, ◌<◌, ◌+◌, ◌*◌, ◌^◌, ◌++◌, All, length, sum_by};
-ghost use Rattle.p9_wire.specs.Fields.{number, text, counted, several, sized, qid_bytes, stat_fields, stat_bytes, stat_len, FitsStat};
+ghost use Rattle.p9_wire.specs.Fields.{number, text, counted, several, sized, qid_bytes};
+ghost use Rattle.p9_wire.specs.Fields.{stat_fields, stat_bytes, stat_len, FitsStat};
 ghost use Rattle.p9_wire.specs.Message.{stat_view};
 ghost use Rattle.p9_wire.specs.Writing.{Puts, Writes};
 

@@ -4,7 +4,9 @@ ghost use Rattle.std.specs.Prelude.{◌≡◌, ℕ, IfSome, IfNone};
 ghost use Rattle.p9_wire.specs.Message.{RMessage, r_view};
 ghost use Rattle.p9_wire.specs.Spelling.{RSpells};
 ghost use Rattle.p9_wire.specs.FieldReading.{Gives};
-ghost use Rattle.p9_wire.specs.Reading.{r_version_at, r_attach_at, r_error_at, r_walk_at, r_open_at, r_create_at, r_read_at, r_write_at, r_stat_at, r_body_at, r_message_of};
+ghost use Rattle.p9_wire.specs.Reading.{r_version_at, r_attach_at, r_error_at, r_walk_at};
+ghost use Rattle.p9_wire.specs.Reading.{r_open_at, r_create_at, r_read_at, r_write_at, r_stat_at};
+ghost use Rattle.p9_wire.specs.Reading.{r_body_at, r_message_of};
 
 use crate::constants::{
     RATTACH, RCLUNK, RCREATE, RERROR, RFLUSH, ROPEN, RREAD, RREMOVE, RSTAT, RVERSION, RWALK,

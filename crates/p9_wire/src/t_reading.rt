@@ -4,7 +4,10 @@ ghost use Rattle.std.specs.Prelude.{◌≡◌, ℕ, IfSome, IfNone};
 ghost use Rattle.p9_wire.specs.Message.{TMessage, t_view};
 ghost use Rattle.p9_wire.specs.Spelling.{TSpells};
 ghost use Rattle.p9_wire.specs.FieldReading.{Gives};
-ghost use Rattle.p9_wire.specs.Reading.{t_version_at, t_auth_at, t_attach_at, t_flush_at, t_walk_at, t_open_at, t_create_at, t_read_at, t_write_at, t_clunk_at, t_remove_at, t_stat_at, t_wstat_at, t_body_at, t_message_of};
+ghost use Rattle.p9_wire.specs.Reading.{t_version_at, t_auth_at, t_attach_at, t_flush_at};
+ghost use Rattle.p9_wire.specs.Reading.{t_walk_at, t_open_at, t_create_at, t_read_at, t_write_at};
+ghost use Rattle.p9_wire.specs.Reading.{t_clunk_at, t_remove_at, t_stat_at, t_wstat_at, t_body_at};
+ghost use Rattle.p9_wire.specs.Reading.{t_message_of};
 
 use crate::constants::{
     TATTACH, TAUTH, TCLUNK, TCREATE, TFLUSH, TOPEN, TREAD, TREMOVE, TSTAT, TVERSION, TWALK, TWRITE,

@@ -2,7 +2,8 @@
 
 ghost use Rattle.std.specs.Prelude.{◌≡◌, ◌≤◌, ◌∷◌, [], IfOk, IfSome, IsTrue, length, option_map};
 ghost use Rattle.p9_base.specs.Mode.{is_dir};
-ghost use Rattle.p9_world.specs.Entry.{bytes_in, dir_line, file_line, in_last_server, with_dir, with_entry};
+ghost use Rattle.p9_world.specs.Entry.{bytes_in, dir_line, file_line, in_last_server, with_dir};
+ghost use Rattle.p9_world.specs.Entry.{with_entry};
 ghost use Rattle.p9_world.specs.Meaning.{Makes};
 ghost use Rattle.p9_world.specs.Path.{last_and_rest};
 
@@ -23,7 +24,8 @@ pub fn add_dir<T: Tree>(
     uid: &str,
     gid: &str,
 ) -> Result<(), LineError>
-    ensures { Makes (in_last_server (dir_line path.now mode.now uid.now gid.now) world.old) world.old world.new result }
+    ensures { Makes (in_last_server (dir_line path.now mode.now uid.now gid.now) world.old)
+        world.old world.new result }
 {
     let Some(tree) = world.forest.trees.last_mut() else {
         return Err(LineError::Bad(LineFault::NoServer));
@@ -41,7 +43,8 @@ pub fn add_file<T: Tree>(
     gid: &str,
     hex: &str,
 ) -> Result<(), LineError>
-    ensures { Makes (in_last_server (file_line path.now mode.now uid.now gid.now hex.now) world.old) world.old world.new result }
+    ensures { Makes (in_last_server (file_line path.now mode.now uid.now gid.now hex.now) world.old)
+        world.old world.new result }
 {
     let Some(tree) = world.forest.trees.last_mut() else {
         return Err(LineError::Bad(LineFault::NoServer));
@@ -58,7 +61,8 @@ fn add_dir_to<T: Tree>(
     uid: &str,
     gid: &str,
 ) -> Result<(), LineError>
-    ensures made { Makes (dir_line path.now mode.now uid.now gid.now (T.state tree.old)) (T.state tree.old) (T.state tree.new) result }
+    ensures made { Makes (dir_line path.now mode.now uid.now gid.now (T.state tree.old))
+        (T.state tree.old) (T.state tree.new) result }
     ensures next { (T.state tree.old).next ≤ (T.state tree.new).next }
 {
     let Some(names) = names_of(alloc, path)? else {
@@ -84,7 +88,8 @@ fn make_dir<T: Tree>(
     uid: User,
     gid: User,
 ) -> Result<(), LineError>
-    ensures made { Makes (with_dir (last_and_rest names.now) permissions uid gid (T.state tree.old)) (T.state tree.old) (T.state tree.new) result }
+    ensures made { Makes (with_dir (last_and_rest names.now) permissions uid gid (T.state tree.old))
+        (T.state tree.old) (T.state tree.new) result }
     ensures next { (T.state tree.old).next ≤ (T.state tree.new).next }
 {
     let Some((name, names)) = last_and_rest(names) else {
@@ -113,7 +118,8 @@ fn add_file_to<T: Tree>(
     gid: &str,
     hex: &str,
 ) -> Result<(), LineError>
-    ensures made { Makes (file_line path.now mode.now uid.now gid.now hex.now (T.state tree.old)) (T.state tree.old) (T.state tree.new) result }
+    ensures made { Makes (file_line path.now mode.now uid.now gid.now hex.now (T.state tree.old))
+        (T.state tree.old) (T.state tree.new) result }
     ensures next { (T.state tree.old).next ≤ (T.state tree.new).next }
 {
     let Some(names) = names_of(alloc, path)? else {
@@ -164,7 +170,14 @@ fn add_entry<T: Tree>(
 ) -> Result<(), LineError>
     requires small { length entry.now.bytes.now ≤ FILE_MAX }
     requires empty_dir { IsTrue (is_dir entry.now.mode) → entry.now.bytes.now ≡ [] }
-    ensures made { Makes (with_entry name names.now (record { mode = entry.now.mode; uid = entry.now.uid; gid = entry.now.gid; bytes = entry.now.bytes.now }) (T.state tree.old)) (T.state tree.old) (T.state tree.new) result }
+    ensures made { Makes (with_entry name names.now
+        (record {
+          mode = entry.now.mode;
+          uid = entry.now.uid;
+          gid = entry.now.gid;
+          bytes =
+              entry.now.bytes.now;
+        }) (T.state tree.old)) (T.state tree.old) (T.state tree.new) result }
     ensures next { (T.state tree.old).next ≤ (T.state tree.new).next }
 {
     let Some(dir) = dir_of(tree, names) else {

@@ -1,7 +1,8 @@
 //! The modes that words write.
 
 ghost use Rattle.std.specs.Prelude.{◌≡◌};
-ghost use Rattle.p9_world.specs.Mode.{begins_with, behind, file_mode_in, is_octal_digit, permissions_in};
+ghost use Rattle.p9_world.specs.Mode.{begins_with, behind, file_mode_in, is_octal_digit};
+ghost use Rattle.p9_world.specs.Mode.{permissions_in};
 
 use p9_base::{FileFlags, Kind, Mode, Permissions};
 

@@ -26,7 +26,8 @@ fn names_among<A: Allocator + Copy>(
     alloc: A,
     words: &[&str],
 ) -> Result<Option<Vec<Name, A>>, NoMemory>
-    ensures { IfOk result (λ found. option_map (λ names. names.items) found ≡ names_among (map (λ w. w.now) words.now)) }
+    ensures { IfOk result (λ found. option_map (λ names. names.items) found
+        ≡ names_among (map (λ w. w.now) words.now)) }
 {
     let mut names = Vec::new(alloc);
     for word in words {

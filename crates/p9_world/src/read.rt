@@ -3,8 +3,10 @@
 ghost use Rattle.std.specs.Prelude.{◌≡◌, IfErr, IfOk, Ok, map};
 ghost use Rattle.p9_base.specs.Statement.{statement_value};
 ghost use Rattle.p9_world.specs.Meaning.{Makes};
-ghost use Rattle.p9_world.specs.Reading.{Steps, Tells, line_meaning, operated, operation_of, read_statement, world_of};
-ghost use Rattle.p9_world.specs.declared.read.Operation.TheVariants.{Dir, File, Hide, Server, Set, User};
+ghost use Rattle.p9_world.specs.Reading.{Steps, Tells, line_meaning, operated, operation_of};
+ghost use Rattle.p9_world.specs.Reading.{read_statement, world_of};
+ghost use Rattle.p9_world.specs.declared.read.Operation.TheVariants.{Dir, File, Hide, Server, Set};
+ghost use Rattle.p9_world.specs.declared.read.Operation.TheVariants.{User};
 
 use crate::entry::{add_dir, add_file};
 use crate::error::{LineError, LineFault, WorldError};
@@ -79,7 +81,8 @@ fn read_line<T: Tree>(
     world: &mut World<T>,
     words: &[&str],
 ) -> Result<(), LineError>
-    ensures { Makes (line_meaning (map (λ w. w.now) words.now) world.old) world.old world.new result }
+    ensures { Makes (line_meaning (map (λ w. w.now) words.now) world.old) world.old world.new
+        result }
 {
     let [word, words @ ..] = words else {
         return Err(LineError::Bad(LineFault::UnknownWord));
@@ -122,7 +125,8 @@ fn server_line<T: Tree>(
     world: &mut World<T>,
     words: &[&str],
 ) -> Result<(), LineError>
-    ensures { Makes (operated Server (map (λ w. w.now) words.now) world.old) world.old world.new result }
+    ensures { Makes (operated Server (map (λ w. w.now) words.now) world.old) world.old world.new
+        result }
 {
     match words {
         [name] => add_server(alloc, world, name),
@@ -131,7 +135,8 @@ fn server_line<T: Tree>(
 }
 
 fn dir_line<T: Tree>(alloc: T::Alloc, world: &mut World<T>, words: &[&str]) -> Result<(), LineError>
-    ensures { Makes (operated Dir (map (λ w. w.now) words.now) world.old) world.old world.new result }
+    ensures { Makes (operated Dir (map (λ w. w.now) words.now) world.old) world.old world.new
+        result }
 {
     match words {
         [path, mode, uid, gid] => add_dir(alloc, world, path, mode, uid, gid),
@@ -144,7 +149,8 @@ fn file_line<T: Tree>(
     world: &mut World<T>,
     words: &[&str],
 ) -> Result<(), LineError>
-    ensures { Makes (operated File (map (λ w. w.now) words.now) world.old) world.old world.new result }
+    ensures { Makes (operated File (map (λ w. w.now) words.now) world.old) world.old world.new
+        result }
 {
     match words {
         [path, mode, uid, gid, hex] => add_file(alloc, world, path, mode, uid, gid, hex),
@@ -153,7 +159,8 @@ fn file_line<T: Tree>(
 }
 
 fn user_line<T: Tree>(world: &mut World<T>, words: &[&str]) -> Result<(), LineError>
-    ensures { Makes (operated User (map (λ w. w.now) words.now) world.old) world.old world.new result }
+    ensures { Makes (operated User (map (λ w. w.now) words.now) world.old) world.old world.new
+        result }
 {
     match words {
         [name] => add_user(world, name),
@@ -166,7 +173,8 @@ fn hide_line<T: Tree>(
     world: &mut World<T>,
     words: &[&str],
 ) -> Result<(), LineError>
-    ensures { Makes (operated Hide (map (λ w. w.now) words.now) world.old) world.old world.new result }
+    ensures { Makes (operated Hide (map (λ w. w.now) words.now) world.old) world.old world.new
+        result }
 {
     match words {
         [server, path] => hide(alloc, world, server, path),
@@ -175,7 +183,8 @@ fn hide_line<T: Tree>(
 }
 
 fn set_line<T: Tree>(alloc: T::Alloc, world: &mut World<T>, words: &[&str]) -> Result<(), LineError>
-    ensures { Makes (operated Set (map (λ w. w.now) words.now) world.old) world.old world.new result }
+    ensures { Makes (operated Set (map (λ w. w.now) words.now) world.old) world.old world.new
+        result }
 {
     match words {
         [name, value] => set_variable(alloc, world, name, value),

@@ -32,7 +32,8 @@ pub fn set_variable<T: Tree>(
 }
 
 fn is_set<A: Allocator>(name: &str, vars: &[(String<A>, String<A>)]) -> bool
-    ensures { result ≡ is_set name.now (map (λ var. (string_bytes var.0, string_bytes var.1)) vars.now) }
+    ensures { result ≡ is_set name.now (map (λ var.
+        (string_bytes var.0, string_bytes var.1)) vars.now) }
 {
     vars.iter().any(|var| var.0.as_str() == name)
 }

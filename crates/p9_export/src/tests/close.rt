@@ -151,8 +151,8 @@ fn the_end_of_a_session_removes_what_is_held(rt: HostRuntime) {
     exchange_in(&rt, rt.alloc(), &mut export, &GONE);
 }
 
-// Fid 1 has a/f open, to be removed on close. Its directory may then no more be written: nobody opens
-// it so again, yet the file goes with fid 1, and the directory is marked.
+// Fid 1 has a/f open, to be removed on close. Its directory may then no more be written: nobody
+// opens it so again, yet the file goes with fid 1, and the directory is marked.
 #[test]
 fn a_file_goes_from_a_directory_that_may_not_be_written(rt: HostRuntime) {
     let rows = [

@@ -101,8 +101,8 @@ pub fn forest_of<A: Allocator + Copy>(
     Forest { trees }
 }
 
-/// An exporter to glenda of one server, of a root and these nodes, which have the numbers from 1 on,
-/// where the binds stand: each a place, and the node that is bound there.
+/// An exporter to glenda of one server, of a root and these nodes, which have the numbers from 1
+/// on, where the binds stand: each a place, and the node that is bound there.
 pub fn world<A: Allocator + Copy>(
     rt: &impl Abort,
     alloc: A,

@@ -104,8 +104,8 @@ fn bad_namespace_files(rt: HostRuntime) {
     all_refused(&rt, rt.alloc(), &rows);
 }
 
-// The command line first, then the bytes, then the sections in their order, and last the script, behind
-// what is told of the namespace file.
+// The command line first, then the bytes, then the sections in their order, and last the script,
+// behind what is told of the namespace file.
 #[test]
 fn faults_in_their_order(rt: HostRuntime) {
     let bad_command = Expected {

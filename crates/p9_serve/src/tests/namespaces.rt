@@ -95,7 +95,8 @@ user glenda
     all_end(&rt, rt.alloc(), &rows);
 }
 
-// What is taken away: a row that isn't there, a node that is no member, the first member, and the last one.
+// What is taken away: a row that isn't there, a node that is no member, the first member, and the
+// last one.
 #[test]
 fn unmounts(rt: HostRuntime) {
     let rows = [
@@ -123,7 +124,8 @@ fn unmounts(rt: HostRuntime) {
     all_end(&rt, rt.alloc(), &rows);
 }
 
-// Each option, in the first place and behind others; a server's root; rows in the order of their making.
+// Each option, in the first place and behind others; a server's root; rows in the order of their
+// making.
 #[test]
 fn lines_of_the_table(rt: HostRuntime) {
     let two_servers = "server main

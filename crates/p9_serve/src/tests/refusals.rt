@@ -35,7 +35,8 @@ fn a_play_is_run_again_at_each_refusal(rt: HostRuntime) {
     assert!(rt; refusals > 20);
 }
 
-// A world of one's own, a namespace file with an operation that fails, and a script that isn't played.
+// A world of one's own, a namespace file with an operation that fails, and a script that isn't
+// played.
 const NAME_SPACE: &str = "%% world
 server main
 dir /u 755 glenda glenda

@@ -84,7 +84,8 @@ msg 1 0 180000006e02000000000001000000020001006d02002e2e
     plays_over(&rt, rt.alloc(), play);
 }
 
-// Reads of a listing: no room for an entry, an offset that is none, one entry at a time, and the end.
+// Reads of a listing: no room for an entry, an offset that is none, one entry at a time, and the
+// end.
 #[test]
 fn listing_reads(rt: HostRuntime) {
     let play = Play {
@@ -169,7 +170,8 @@ msg 1 0 150000007203000100000003006e6577a401000001
     plays_over(&rt, rt.alloc(), play);
 }
 
-// One session lists x entry by entry; the other removes the first file and makes one in the second member.
+// One session lists x entry by entry; the other removes the first file and makes one in the second
+// member.
 #[test]
 fn listing_while_another_session_works(rt: HostRuntime) {
     let play = Play {

@@ -112,8 +112,8 @@ msg 2 0 1900000068010000000000ffffffff0600676c656e64610000
 ",
 };
 
-/// The sections of a world, a namespace file and a script, which goes on from its beginning, and the
-/// replies after those to the beginning.
+/// The sections of a world, a namespace file and a script, which goes on from its beginning, and
+/// the replies after those to the beginning.
 #[derive(Clone, Copy)]
 pub struct Play {
     pub world: &'static str,

@@ -8,8 +8,8 @@ use std::alloc::{AllocError, Global};
 use std::process::Abort;
 use std::test::Fail;
 
-// Texts, each with its first bad line, by what is wrong there. Behind the faults that stand alone come
-// lines to which two apply, of which the first is told.
+// Texts, each with its first bad line, by what is wrong there. Behind the faults that stand alone
+// come lines to which two apply, of which the first is told.
 
 const UNKNOWN_WORD: [(&str, u64); 4] = [
     ("serve m", 1),
