@@ -1,5 +1,6 @@
 //! Inputs and what the program prints for them, with bytes from outside.
 
+mod examples;
 mod faults;
 mod files;
 mod messages;
