@@ -81,6 +81,9 @@ pub fn message<T: Tree>(
             let (qid, iounit) = create(setting, forest, session, now, *fid, name, *perm, *mode)?;
             Ok(Reply::Message(RMsg::Create { qid, iounit }))
         }
+        TMsg::Read { fid, offset, count } => Ok(Reply::Data(read(
+            setting, forest, session, now, *fid, *offset, *count, buffer,
+        )?)),
         TMsg::Write { fid, offset, bytes } => {
             let count = write(setting, forest, session, now, *fid, *offset, bytes)?;
             Ok(Reply::Message(RMsg::Write { count }))
@@ -91,9 +94,6 @@ pub fn message<T: Tree>(
         }
         TMsg::Remove { fid } => Ok(Reply::Message(remove(setting, forest, session, now, *fid)?)),
         TMsg::Stat { fid } => Ok(Reply::StatOf(stat(setting, forest, session, *fid)?)),
-        TMsg::Read { fid, offset, count } => Ok(Reply::Data(read(
-            setting, forest, session, now, *fid, *offset, *count, buffer,
-        )?)),
         TMsg::Wstat { fid, stat: wanted } => {
             wstat(setting, forest, session, now, *fid, wanted)?;
             Ok(Reply::Message(RMsg::Wstat))
