@@ -71,6 +71,36 @@ msg 2 0 0c0000007005000100000000
     plays_over(&rt, rt.alloc(), play);
 }
 
+// Nothing is touched; then a time that never changes, and the name of another entry; then a free
+// name, which marks the directory.
+#[test]
+fn wstat(rt: HostRuntime) {
+    let play = Play {
+        world: SMALL,
+        ns: "",
+        begin: BEGIN,
+        script: "\
+msg 1 7 170000006e020000000000010000000200010061010066
+msg 1 7 3e0000007e03000100000031002f00ffffffffffffffffffffffffffffffffffffffffffffffffffffffffffffffffffffffffffffff0000000000000000
+msg 1 7 3e0000007e04000100000031002f00ffffffffffffffffffffffffffffffffffffffffffffff05000000ffffffffffffffffffffffff0000000000000000
+msg 1 7 3f0000007e05000100000032003000ffffffffffffffffffffffffffffffffffffffffffffffffffffffffffffffffffffffffffffff010062000000000000
+msg 1 7 3f0000007e06000100000032003000ffffffffffffffffffffffffffffffffffffffffffffffffffffffffffffffffffffffffffffff010067000000000000
+msg 1 7 140000006e070000000000020000000100010061
+msg 1 7 0b0000007c080002000000
+",
+        out: "\
+230000006f020002008000000000010000000000000000000000000300000000000000
+070000007f0300
+1f0000006b040016007773746174206f662061206669786564206669656c64
+1c0000006b0500130066696c6520616c726561647920657869737473
+070000007f0600
+160000006f0700010080010000000100000000000000
+4d0000007d08004400420000000000000080010000000100000000000000ed010080070000000700000000000000000000000100610600676c656e64610600676c656e64610600676c656e6461
+",
+    };
+    plays_over(&rt, rt.alloc(), play);
+}
+
 // A write past the greatest length, and one up to it, which fills the gap with zeros.
 #[test]
 fn largest_file(rt: HostRuntime) {
