@@ -6,6 +6,7 @@ mod list;
 mod many;
 mod open;
 mod read;
+mod refused;
 mod remove;
 mod stats;
 mod walk;
