@@ -13,8 +13,7 @@ use Rattle.p9_space.specs.Walk.{and_then}
 use Rattle.p9_wire.specs.Fields.{FitsText}
 use Rattle.p9_wire.specs.Laws.{IsBytes}
 use Rattle.p9_wire.specs.Frame.{msize_max}
-use Rattle.p9_wire.specs.Message.{RMessage, Rerror, Rflush, TMessage, Tversion, Tauth, Tattach, Tflush, Twalk, Topen, Tcreate, Tread, Twrite, Tclunk, Tremove, Tstat, Twstat}
-use Rattle.p9_wire.specs.Reading.{t_message_of}
+use Rattle.p9_wire.specs.Message.{RMessage, Rerror, TMessage, Tversion, Tauth, Tattach, Tflush, Twalk, Topen, Tcreate, Tread, Twrite, Tclunk, Tremove, Tstat, Twstat}
 use Rattle.p9_wire.specs.Spelling.{TSpells, r_body, r_len, r_spelling, r_type}
 use Rattle.p9_wire.proofs.Bytes.{each_fits}
 use Rattle.p9_wire.proofs.Lengths.{length-frame, length-r_body}
@@ -28,11 +27,11 @@ use Rattle.p9_export.specs.Laws.{EveryFrameIsAnswered, IsAnswered, IsState, afte
 use Rattle.p9_export.specs.Open.{room_of}
 use Rattle.p9_export.specs.Remove.{removal, remove_answer}
 use Rattle.p9_export.specs.Sound.{IsMsize}
-use Rattle.p9_export.specs.Step.{Stepped, answered, fits_msize, is_version, message_answer, no_memory_reply, ran_out, request_of, tag_of, with_outcome}
+use Rattle.p9_export.specs.Step.{Stepped, answered, is_version, message_answer, no_memory_reply, ran_out, request_of, tag_of, with_outcome}
 use Rattle.p9_export.proofs.Done.{OnDone, done-err, done-is, done-ok}
 use Rattle.p9_export.proofs.Fitting.{Replies, fitting-attach, fitting-clunk, fitting-create, fitting-open, fitting-read, fitting-removal, fitting-stat, fitting-version, fitting-walk, fitting-write, fitting-wstat}
 use Rattle.p9_export.proofs.Sounds.{session-sound}
-use Rattle.p9_export.proofs.Steps.{ran_out-is, set_value-same}
+use Rattle.p9_export.proofs.Steps.{ran_out-is, request-is, set_value-same}
 
 -- The texts of the faults are short.
 
@@ -102,37 +101,11 @@ least_msize : (msize : Option ℕ) → IsMsize msize → 43 ≤ unwrap_or msize 
 least_msize None is = omega arith
 least_msize (Some m) is = let low = is.0 in omega arith
 
--- The request of a frame.
-
 module _ (session : Session) (frame : List ℕ) where
-  -- it is spelled by the frame, and it is a version, or the msize is set
-  pub record IsRequest (m : TMessage) : Type 0 where
-    pub tag : ℕ
-    pub read : t_message_of frame ≡ Some (tag, m)
-    pub allowed : (is_version m || is_some session.msize) ≡ true
-
-  request-is : (m : TMessage) → request_of session frame ≡ Ok m → IsRequest m
-  request-is m is = by_msize (fits_msize session frame) refl
-    where
-      by_test : (r : ℕ × TMessage) → t_message_of frame ≡ Some r → fits_msize session frame ≡ true → (b : Bool) → (is_version r.1 || is_some session.msize) ≡ b → IsRequest m
-      by_test r found fits true e =
-          let same : Ok r.1 ≡ Ok m = rw (fits, found, e) at is in
-          let its : r.1 ≡ m = cc in
-          record { tag = r.0; read = subst (λ x. t_message_of frame ≡ Some (r.0, x)) its found; allowed = subst (λ x. (is_version x || is_some session.msize) ≡ true) its e }
-      by_test r found fits false e = let no : Err VersionNotSet ≡ Ok m = rw (fits, found, e) at is in absurd (cc)
-
-      by_message : fits_msize session frame ≡ true → (o : Option (ℕ × TMessage)) → t_message_of frame ≡ o → IsRequest m
-      by_message fits None e = let no : Err Malformed ≡ Ok m = rw (fits, e) at is in absurd (cc)
-      by_message fits (Some r) e = by_test r e fits (is_version r.1 || is_some session.msize) refl
-
-      by_msize : (b : Bool) → fits_msize session frame ≡ b → IsRequest m
-      by_msize true e = by_message e (t_message_of frame) refl
-      by_msize false e = let no : Err Malformed ≡ Ok m = rw e at is in absurd (cc)
-
-  -- so another request than a version has an msize
+  -- another request than a version has an msize
   wide_for : (m : TMessage) → IsMsize session.msize → request_of session frame ≡ Ok m → is_version m ≡ false → IsWide session
   wide_for m short is other =
-      let allowed : (is_version m || is_some session.msize) ≡ true = (request-is m is).allowed in
+      let allowed : (is_version m || is_some session.msize) ≡ true = (request-is session frame m is).allowed in
       let set : is_some session.msize ≡ true = rw other at allowed in
       wide_session session set short
 
@@ -166,9 +139,6 @@ module _ (state : State) (name : ℕ) (session : Session) (frame : List ℕ) (th
       refusal = λ ename e. let no : is_error (Rerror ename) ≡ false = subst (λ m. is_error m ≡ false) e its.plain in absurd (cc);
     },
   )
-
-  same_state : with_outcome state name frame (record { changes = []; session = session; reply = Rflush }) ≡ record { state = state; reply = r_spelling (tag_of frame) Rflush }
-  same_state = ap (λ r. record { state = record state { sessions = r }; reply = r_spelling (tag_of frame) Rflush }) (set_value-same (is_at (nat_cmp name)) state.sessions session there)
 
   -- the answer to a request whose refusal leaves all
   given_by : (refused : Bool) (answer : Answer) → after_refusal state name session (request_of session frame) ≡ state → OnDone (Replies (reply_max session)) answer → Given (answered state name session frame refused answer)

@@ -126,9 +126,6 @@ length-fitting room (entry ∷ es) = go (nat_le (length (entry_bytes entry)) roo
 -- The messages, in the manual's order.
 
 module _ (most : ℕ) (setting : Setting) (forest : List Server) (session : Session) where
-  P : Outcome → Type 0
-  P = Replies most
-
   pub fitting-version : 43 ≤ most → (now msize : ℕ) (version : List ℕ) → OnDone (Replies most) (version_answer setting forest session now msize version)
   fitting-version wide now msize version =
       done-need (Replies most) _ _ _ (λ e. done-if (Replies most) (is_known version) (begun setting forest session now _) (not_spoken session _)
@@ -163,22 +160,22 @@ module _ (most : ℕ) (setting : Setting) (forest : List Server) (session : Sess
         done-given (Replies most) _ _ _ (λ dir e8. done-unless (Replies most) _ _ (λ e9. done-ok (Replies most) _ (record { fits = tt; short = omega (arith, wide); plain = refl }))))))))))
 
     module _ (room : 24 + room_of session ≤ most) (frames : most ≤ msize_max) where
-      fitting-data : (session' : Session) (bytes : List ℕ) (count : ℕ) → length bytes ≤ min count (room_of session) → (RFits (Rread bytes)) × (7 + r_len (Rread bytes) ≤ most)
-      fitting-data session' bytes count le = (omega (arith, le, room, frames), omega (arith, le, room))
+      fitting-data : (bytes : List ℕ) (count : ℕ) → length bytes ≤ min count (room_of session) → (RFits (Rread bytes)) × (7 + r_len (Rread bytes) ≤ most)
+      fitting-data bytes count le = (omega (arith, le, room, frames), omega (arith, le, room))
 
       fitting-given_of : (fid : ℕ) (o : Opened) (offset : ℕ) (cursor : Option Cursor) (left given : List Entry) (count : ℕ) → length (flat_map entry_bytes given) ≤ min count (room_of session) → OnDone (Replies most) (given_of session fid o offset cursor left given)
       fitting-given_of fid o offset cursor [] given count le =
-          let d = fitting-data session (flat_map entry_bytes given) count le in
+          let d = fitting-data (flat_map entry_bytes given) count le in
           done-ok (Replies most) _ (record { fits = d.0; short = d.1; plain = refl })
       fitting-given_of fid o offset cursor (e ∷ es) [] count le = done-err (Replies most) _
       fitting-given_of fid o offset cursor (e ∷ es) (g ∷ gs) count le =
-          let d = fitting-data session (flat_map entry_bytes (g ∷ gs)) count le in
+          let d = fitting-data (flat_map entry_bytes (g ∷ gs)) count le in
           done-ok (Replies most) _ (record { fits = d.0; short = d.1; plain = refl })
 
       fitting-read_file : (now : ℕ) (at : NodeRef) (n : Node) (offset count : ℕ) → OnDone (Replies most) (read_file session now at n offset (min count (room_of session)))
       fitting-read_file now at n offset count =
           let le : length (read_from offset (min count (room_of session)) n.bytes) ≤ min count (room_of session) = simp (length-take) (omega arith) in
-          let d = fitting-data session (read_from offset (min count (room_of session)) n.bytes) count le in
+          let d = fitting-data (read_from offset (min count (room_of session)) n.bytes) count le in
           done-ok (Replies most) _ (record { fits = d.0; short = d.1; plain = refl })
 
       pub fitting-read : (now fid offset count : ℕ) → OnDone (Replies most) (read_answer setting forest session now fid offset count)

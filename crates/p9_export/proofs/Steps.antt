@@ -1,5 +1,5 @@
 -- A request that was answered made the step.
-use Rattle.std.proofs.Common.{◌≡◌, ℕ, List, [], ◌∷◌, Bool, true, false, Option, Some, None, IsSome, Result, Ok, Err, ◌⊎◌, inl, inr, refl, ap, sym, ◌∙◌}
+use Rattle.std.proofs.Common.{◌≡◌, ℕ, List, [], ◌∷◌, Bool, true, false, Option, Some, None, IsSome, Result, Ok, Err, ◌⊎◌, inl, inr, refl, ap, sym, ◌∙◌, subst}
 use Rattle.std.specs.Prelude.{◌&&◌, ◌||◌, is_some}
 use Rattle.std.specs.Cmp.Lexicographic.{bytes_decides}
 use Rattle.std.proofs.lemmas.Bool.{and_parts}
@@ -90,31 +90,36 @@ module _ (state : State) (name : ℕ) (forest : List Server) (rows : List Sessio
           let reply : bytes ≡ no_memory_reply frame = written ∙ ap (λ f. r_spelling (tag_of frame) (Rerror (text_of f))) memory.0 in
           without_memory answer (is_no_memory_reply frame bytes) did.1 did.2 ((bytes_decides bytes (no_memory_reply frame)).1 reply) memory.1 reply
 
-module _ (session : Session) (frame : List ℕ) where
-  -- a frame with a request is spelled by it
-  Spelled : TMessage → Type 0
-  Spelled m = (r : ℕ × TMessage) × (t_message_of frame ≡ Some r) × (r.1 ≡ m)
+-- The request of a frame.
 
-  request-spelled : (m : TMessage) → request_of session frame ≡ Ok m → Spelled m
-  unfolding Spelled
-  request-spelled m is = by_msize (fits_msize session frame) refl
+module _ (session : Session) (frame : List ℕ) where
+  -- it is spelled by the frame, and it is a version, or the msize is set
+  pub record IsRequest (m : TMessage) : Type 0 where
+    pub tag : ℕ
+    pub read : t_message_of frame ≡ Some (tag, m)
+    pub allowed : (is_version m || is_some session.msize) ≡ true
+
+  pub request-is : (m : TMessage) → request_of session frame ≡ Ok m → IsRequest m
+  request-is m is = by_msize (fits_msize session frame) refl
     where
-      by_test : (r : ℕ × TMessage) → t_message_of frame ≡ Some r → fits_msize session frame ≡ true → (b : Bool) → (is_version r.1 || is_some session.msize) ≡ b → r.1 ≡ m
-      by_test r found fits true e = let same : Ok r.1 ≡ Ok m = rw (fits, found, e) at is in cc
+      by_test : (r : ℕ × TMessage) → t_message_of frame ≡ Some r → fits_msize session frame ≡ true → (b : Bool) → (is_version r.1 || is_some session.msize) ≡ b → IsRequest m
+      by_test r found fits true e =
+          let same : Ok r.1 ≡ Ok m = rw (fits, found, e) at is in
+          let its : r.1 ≡ m = cc in
+          record { tag = r.0; read = subst (λ x. t_message_of frame ≡ Some (r.0, x)) its found; allowed = subst (λ x. (is_version x || is_some session.msize) ≡ true) its e }
       by_test r found fits false e = let no : Err VersionNotSet ≡ Ok m = rw (fits, found, e) at is in absurd (cc)
 
-      by_message : fits_msize session frame ≡ true → (o : Option (ℕ × TMessage)) → t_message_of frame ≡ o → (r : ℕ × TMessage) × (t_message_of frame ≡ Some r) × (r.1 ≡ m)
+      by_message : fits_msize session frame ≡ true → (o : Option (ℕ × TMessage)) → t_message_of frame ≡ o → IsRequest m
       by_message fits None e = let no : Err Malformed ≡ Ok m = rw (fits, e) at is in absurd (cc)
-      by_message fits (Some r) e = (r, e, by_test r e fits (is_version r.1 || is_some session.msize) refl)
+      by_message fits (Some r) e = by_test r e fits (is_version r.1 || is_some session.msize) refl
 
-      by_msize : (b : Bool) → fits_msize session frame ≡ b → (r : ℕ × TMessage) × (t_message_of frame ≡ Some r) × (r.1 ≡ m)
+      by_msize : (b : Bool) → fits_msize session frame ≡ b → IsRequest m
       by_msize true e = by_message e (t_message_of frame) refl
       by_msize false e = let no : Err Malformed ≡ Ok m = rw e at is in absurd (cc)
 
   -- so whether its answer may be want of memory is the request's
   pub ran_out-is : (m : TMessage) (a : Answer) → request_of session frame ≡ Ok m → ran_out frame a ≡ may_run_out m a
-  unfolding Spelled
-  ran_out-is m a is = let spelled = request-spelled m is in rw spelled.1 (ap (λ x. may_run_out x a) spelled.2)
+  ran_out-is m a is = let r = request-is m is in rw r.read refl
 
 module _ (state : State) (name now : ℕ) (forest : List Server) (rows : List SessionRow) (session : Session) (frame bytes : List ℕ) (there : session_at name state.sessions ≡ Some session) where
   answer : Answer

@@ -48,15 +48,13 @@ pub fn run_file<T: Tree>(
         (record {
           forest = map T.state forest.now.trees.items;
           vars = variables_of vars.now;
-          servers
-              = names_of servers.now;
+          servers = names_of servers.now;
         }) text.now table.old ≡ Ok (table.new, reports.items)) }
     ensures err { IfErr result (IsNsFault (run_of
         (record {
           forest = map T.state forest.now.trees.items;
           vars = variables_of vars.now;
-          servers
-              = names_of servers.now;
+          servers = names_of servers.now;
         }) text.now table.old)) }
     ensures unchanged { OnErr result (table.new ≡ table.old) }
     ensures given { OnOk result (KeepsGiven (record {

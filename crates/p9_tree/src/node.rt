@@ -198,7 +198,7 @@ impl<A: Allocator> Node<A> {
             mtime: new.mtime,
             bytes: Bytes::copy_of(alloc, new.bytes)?,
         };
-        node.told();
+        node.tellable();
         Ok(node)
     }
 
@@ -211,7 +211,7 @@ impl<A: Allocator> Node<A> {
         self.version = self.version.wrapping_add(1);
         self.atime = now;
         self.mtime = now;
-        self.told();
+        self.tellable();
     }
 
     /// Notes that the file was read now.
@@ -220,7 +220,7 @@ impl<A: Allocator> Node<A> {
         ensures tellable { IsTellable self.new }
     {
         self.atime = now;
-        self.told();
+        self.tellable();
     }
 
     /// Makes it a directory of these permissions, owner and group, changed last by the owner.
@@ -235,7 +235,7 @@ impl<A: Allocator> Node<A> {
         self.uid = uid;
         self.gid = gid;
         self.muid = uid;
-        self.told();
+        self.tellable();
     }
 
     /// Writes into the file's bytes, as [`Bytes::write`].
@@ -268,12 +268,12 @@ impl<A: Allocator> Node<A> {
         self.mode = change.mode.unwrap_or(self.mode);
         self.gid = change.gid.unwrap_or(self.gid);
         self.rename(change.name);
-        self.told();
+        self.tellable();
         Ok(())
     }
 
     // What a stat tells of it has room there, by the types of its fields.
-    fn told(&self)
+    fn tellable(&self)
         ensures { IsTellable self.now }
     {
         let _ = self.uid.as_str();
