@@ -4,7 +4,17 @@ use Rattle.p9_base.proofs.Texts.{is_text-ascii}
 use Rattle.p9_base.specs.Text.{is_text}
 use Rattle.p9_base.specs.Fault.{text_of}
 use Rattle.p9_base.specs.declared.fault.Fault.{Fault}
-use Rattle.p9_base.specs.declared.fault.Fault.TheVariants.{Malformed, VersionNotSet, SmallMsize, NoAuthentication, UnknownUser, UnknownAttachName, UnknownFid, FidInUse, FidOpen, FidNotOpen, NotDirectory, NotFound, PermissionDenied, PhaseError, BadOpenMode, IsDirectory, ExclusiveUse, BadFileName, FileExists, CreationForbidden, BadDirectoryOffset, SmallReadCount, FileTooLarge, NotEmpty, IsRoot, FixedField, TooManyFids, QidsUsedUp, OutOfMemory, PathTooDeep}
+use Rattle.p9_base.specs.declared.fault.Fault.TheVariants.{Malformed, VersionNotSet, SmallMsize}
+use Rattle.p9_base.specs.declared.fault.Fault.TheVariants.{NoAuthentication, UnknownUser}
+use Rattle.p9_base.specs.declared.fault.Fault.TheVariants.{UnknownAttachName, UnknownFid, FidInUse}
+use Rattle.p9_base.specs.declared.fault.Fault.TheVariants.{FidOpen, FidNotOpen, NotDirectory}
+use Rattle.p9_base.specs.declared.fault.Fault.TheVariants.{NotFound, PermissionDenied, PhaseError}
+use Rattle.p9_base.specs.declared.fault.Fault.TheVariants.{BadOpenMode, IsDirectory, ExclusiveUse}
+use Rattle.p9_base.specs.declared.fault.Fault.TheVariants.{BadFileName, FileExists}
+use Rattle.p9_base.specs.declared.fault.Fault.TheVariants.{CreationForbidden, BadDirectoryOffset}
+use Rattle.p9_base.specs.declared.fault.Fault.TheVariants.{SmallReadCount, FileTooLarge, NotEmpty}
+use Rattle.p9_base.specs.declared.fault.Fault.TheVariants.{IsRoot, FixedField, TooManyFids}
+use Rattle.p9_base.specs.declared.fault.Fault.TheVariants.{QidsUsedUp, OutOfMemory, PathTooDeep}
 
 -- each is a text
 pub fault_text_is_text : (fault : Fault) → is_text (text_of fault) ≡ true

@@ -1,5 +1,6 @@
 -- A mode's bits determine the mode.
-use Rattle.std.proofs.Common.{◌≡◌, ℕ, ◌+◌, ◌-◌, ◌*◌, ◌/◌, ◌%◌, ◌<◌, ◌^◌, Bool, true, false, arith, refl, sym, ap, ◌∙◌, lit<}
+use Rattle.std.proofs.Common.{◌≡◌, ℕ, ◌+◌, ◌-◌, ◌*◌, ◌/◌, ◌%◌, ◌<◌, ◌^◌, Bool, true, false, arith}
+use Rattle.std.proofs.Common.{refl, sym, ap, ◌∙◌, lit<}
 use Rattle.std.specs.Prelude.{◌==◌}
 use Rattle.p9_base.specs.declared.mode.Rights.{Rights}
 use Rattle.p9_base.specs.declared.mode.Permissions.{Permissions}
@@ -7,12 +8,18 @@ use Rattle.p9_base.specs.declared.mode.FileFlags.{FileFlags}
 use Rattle.p9_base.specs.declared.mode.Kind.{Kind}
 use Rattle.p9_base.specs.declared.mode.Kind.TheVariants.{Directory, File}
 use Rattle.p9_base.specs.declared.mode.Mode.{Mode}
-use Rattle.p9_base.specs.Mode.{rights_bits, permissions_bits, flags_bits, flags_among, kind_bits, mode_bits, rights_of}
+use Rattle.p9_base.specs.Mode.{rights_bits, permissions_bits, flags_bits, flags_among, kind_bits}
+use Rattle.p9_base.specs.Mode.{mode_bits, rights_of}
 
 -- three bits give the rights back
 rights_of-rights_bits : (r : Rights) → rights_of (rights_bits r) ≡ r
 rights_of-rights_bits r = go r.read r.write r.execute where
-  go : (a b c : Bool) → rights_of (rights_bits (record { read = a; write = b; execute = c })) ≡ record { read = a; write = b; execute = c }
+  go : (a b c : Bool)
+      → rights_of (rights_bits (record { read = a; write = b; execute = c })) ≡ record {
+        read = a;
+        write = b;
+        execute = c;
+      }
   go true true true = refl
   go true true false = refl
   go true false true = refl
@@ -36,7 +43,8 @@ rights_bits_lt r = go r.read r.write r.execute where
 
 -- three bits determine the rights
 rights_bits-injective : (r s : Rights) → rights_bits r ≡ rights_bits s → r ≡ s
-rights_bits-injective r s e = sym (rights_of-rights_bits r) ∙ ap rights_of e ∙ rights_of-rights_bits s
+rights_bits-injective r s e =
+    sym (rights_of-rights_bits r) ∙ ap rights_of e ∙ rights_of-rights_bits s
 
 abbrev of_classes : Rights → Rights → Rights → Permissions
 of_classes a b c = record { owner = a; group = b; others = c }
@@ -67,7 +75,11 @@ permissions_bits_lt p =
 -- a file's bits give its flags back
 flags_among-flags_bits : (f : FileFlags) → flags_among (flags_bits f) ≡ f
 flags_among-flags_bits f = go f.append_only f.exclusive f.temporary where
-  go : (a e t : Bool) → flags_among (flags_bits (record { append_only = a; exclusive = e; temporary = t })) ≡ record { append_only = a; exclusive = e; temporary = t }
+  go : (a e t : Bool) → flags_among (flags_bits (record {
+    append_only = a;
+    exclusive = e;
+    temporary = t;
+  })) ≡ record { append_only = a; exclusive = e; temporary = t }
   go true true true = refl
   go true true false = refl
   go true false true = refl
@@ -83,7 +95,11 @@ record IsFlagBits (n : ℕ) : Type 0 where
 
 flag_bits : (f : FileFlags) → IsFlagBits (flags_bits f)
 flag_bits f = go f.append_only f.exclusive f.temporary where
-  go : (a e t : Bool) → IsFlagBits (flags_bits (record { append_only = a; exclusive = e; temporary = t }))
+  go : (a e t : Bool) → IsFlagBits (flags_bits (record {
+    append_only = a;
+    exclusive = e;
+    temporary = t;
+  }))
   go true true true = record { below = lit< tt; whole = refl }
   go true true false = record { below = lit< tt; whole = refl }
   go true false true = record { below = lit< tt; whole = refl }
@@ -105,7 +121,8 @@ kind_bits-injective (File f) (File g) e =
     ap File (sym (flags_among-flags_bits f) ∙ ap flags_among e ∙ flags_among-flags_bits g)
 
 -- the bits above the low nine are the kind's
-pub kind_bits-mode_bits : (m : Mode) (bits : ℕ) → mode_bits m ≡ bits → kind_bits m.kind ≡ bits - bits % 512
+pub kind_bits-mode_bits : (m : Mode) (bits : ℕ) → mode_bits m ≡ bits
+    → kind_bits m.kind ≡ bits - bits % 512
 kind_bits-mode_bits m bits e =
     let whole = kind_bits_whole m.kind in
     let low = permissions_bits_lt m.permissions in
@@ -117,7 +134,8 @@ of_parts k p = record { kind = k; permissions = p }
 -- all bits determine the mode
 pub mode_bits-injective : (m n : Mode) → mode_bits m ≡ mode_bits n → m ≡ n
 mode_bits-injective m n e =
-    let kinds : kind_bits m.kind ≡ kind_bits n.kind = kind_bits-mode_bits m _ e ∙ sym (kind_bits-mode_bits n _ refl) in
+    let kinds : kind_bits m.kind ≡ kind_bits n.kind =
+    kind_bits-mode_bits m _ e ∙ sym (kind_bits-mode_bits n _ refl) in
     let low : permissions_bits m.permissions ≡ permissions_bits n.permissions = omega arith in
     ap (λ k. of_parts k m.permissions) (kind_bits-injective m.kind n.kind kinds)
     ∙ ap (λ p. of_parts n.kind p) (permissions_bits-injective m.permissions n.permissions low)

@@ -1,7 +1,17 @@
 -- The faults: for each its number in the documents and the text that a reply carries.
 use Rattle.std.specs.Prelude.{ℕ, List, codes}
 use Rattle.p9_base.specs.declared.fault.Fault.{Fault}
-use Rattle.p9_base.specs.declared.fault.Fault.TheVariants.{Malformed, VersionNotSet, SmallMsize, NoAuthentication, UnknownUser, UnknownAttachName, UnknownFid, FidInUse, FidOpen, FidNotOpen, NotDirectory, NotFound, PermissionDenied, PhaseError, BadOpenMode, IsDirectory, ExclusiveUse, BadFileName, FileExists, CreationForbidden, BadDirectoryOffset, SmallReadCount, FileTooLarge, NotEmpty, IsRoot, FixedField, TooManyFids, QidsUsedUp, OutOfMemory, PathTooDeep}
+use Rattle.p9_base.specs.declared.fault.Fault.TheVariants.{Malformed, VersionNotSet, SmallMsize}
+use Rattle.p9_base.specs.declared.fault.Fault.TheVariants.{NoAuthentication, UnknownUser}
+use Rattle.p9_base.specs.declared.fault.Fault.TheVariants.{UnknownAttachName, UnknownFid, FidInUse}
+use Rattle.p9_base.specs.declared.fault.Fault.TheVariants.{FidOpen, FidNotOpen, NotDirectory}
+use Rattle.p9_base.specs.declared.fault.Fault.TheVariants.{NotFound, PermissionDenied, PhaseError}
+use Rattle.p9_base.specs.declared.fault.Fault.TheVariants.{BadOpenMode, IsDirectory, ExclusiveUse}
+use Rattle.p9_base.specs.declared.fault.Fault.TheVariants.{BadFileName, FileExists}
+use Rattle.p9_base.specs.declared.fault.Fault.TheVariants.{CreationForbidden, BadDirectoryOffset}
+use Rattle.p9_base.specs.declared.fault.Fault.TheVariants.{SmallReadCount, FileTooLarge, NotEmpty}
+use Rattle.p9_base.specs.declared.fault.Fault.TheVariants.{IsRoot, FixedField, TooManyFids}
+use Rattle.p9_base.specs.declared.fault.Fault.TheVariants.{QidsUsedUp, OutOfMemory, PathTooDeep}
 
 -- the table
 abbrev pub row_of : Fault → ℕ × List ℕ

@@ -1,5 +1,6 @@
 -- A node's mode and its bits, as stat(5).
-use Rattle.std.specs.Prelude.{ℕ, ◌+◌, ◌-◌, ◌*◌, ◌/◌, ◌%◌, ◌^◌, ◌==◌, Bool, true, false, not, bit_and, nat_le, Option, Some, None, if◌then◌else◌}
+use Rattle.std.specs.Prelude.{ℕ, ◌+◌, ◌-◌, ◌*◌, ◌/◌, ◌%◌, ◌^◌, ◌==◌, Bool, true, false, not}
+use Rattle.std.specs.Prelude.{bit_and, nat_le, Option, Some, None, if◌then◌else◌}
 use Rattle.std.specs.Option.{option_map}
 use Rattle.p9_base.specs.declared.mode.Rights.{Rights}
 use Rattle.p9_base.specs.declared.mode.Permissions.{Permissions}
@@ -58,7 +59,11 @@ rights_of bits = record { read = bits / 4 == 1; write = bits / 2 % 2 == 1; execu
 
 -- the permissions of nine bits
 abbrev pub permissions_of : ℕ → Permissions
-permissions_of bits = record { owner = rights_of (bits / 64); group = rights_of (bits / 8 % 8); others = rights_of (bits % 8) }
+permissions_of bits = record {
+  owner = rights_of (bits / 64);
+  group = rights_of (bits / 8 % 8);
+  others = rights_of (bits % 8);
+}
 
 -- the one kind of which these may be the bits
 abbrev pub kind_among : ℕ → Kind
@@ -69,4 +74,6 @@ kind_of bits = if kind_bits (kind_among bits) == bits then Some (kind_among bits
 
 -- the mode whose bits these are, if they are a mode's
 abbrev pub mode_of : ℕ → Option Mode
-mode_of bits = option_map (λ kind. record { kind = kind; permissions = permissions_of (bits % 512) }) (kind_of (bits - bits % 512))
+mode_of bits =
+    option_map (λ kind. record { kind = kind; permissions = permissions_of (bits % 512) })
+    (kind_of (bits - bits % 512))

@@ -5,17 +5,23 @@ use Rattle.p9_base.specs.declared.mode.Permissions.{Permissions}
 
 -- what either gives
 abbrev pub rights_or : Rights → Rights → Rights
-rights_or a b = record { read = a.read || b.read; write = a.write || b.write; execute = a.execute || b.execute }
+rights_or a b = record {
+  read = a.read || b.read;
+  write = a.write || b.write;
+  execute = a.execute || b.execute;
+}
 
 -- each wanted right is given
 abbrev pub rights_cover : Rights → Rights → Bool
 rights_cover given wanted =
-    (given.read || not wanted.read) && (given.write || not wanted.write) && (given.execute || not wanted.execute)
+    (given.read || not wanted.read) && (given.write || not wanted.write)
+    && (given.execute || not wanted.execute)
 
 -- a right is given by the owner's bits to the owner, by the group's to its members, by the others'
 -- to everybody
 abbrev pub is_given : (Rights → Bool) → Permissions → Bool → Bool → Bool
-is_given right p owner member = (owner && right p.owner) || ((member && right p.group) || right p.others)
+is_given right p owner member =
+    (owner && right p.owner) || ((member && right p.group) || right p.others)
 
 -- each right that is wanted is given, by whichever class
 abbrev pub is_granted : Permissions → Bool → Bool → Rights → Bool

@@ -1,12 +1,14 @@
 -- The rules of cleaning lead to one list without a rule to apply.
-use Rattle.std.proofs.Common.{◌≡◌, ◌≢◌, ℕ, ◌<◌, ◌≤◌, Bool, true, false, List, [], ◌∷◌, ◌++◌, length, refl, sym, ap, subst, ◌∙◌, arith}
+use Rattle.std.proofs.Common.{◌≡◌, ◌≢◌, ℕ, ◌<◌, ◌≤◌, Bool, true, false, List, [], ◌∷◌, ◌++◌, length}
+use Rattle.std.proofs.Common.{refl, sym, ap, subst, ◌∙◌, arith}
 use Rattle.std.specs.Prelude.{IsTrue, filter, codes}
 use Rattle.std.proofs.lemmas.Bool.{false≢true, lt-ltb}
 use Rattle.std.proofs.lemmas.List.{length-append}
 use Rattle.std.proofs.lemmas.List.Elements.{filter-append}
 use Rattle.std.proofs.lemmas.Slice.Eq.{bytes_eq-Decides}
 use Rattle.std.specs.Str.{bytes_eq}
-use Rattle.p9_clean.specs.Path.{is_dot, is_dot_dot, is_element, in_front, reduced, below_root, shortened}
+use Rattle.p9_clean.specs.Path.{is_dot, is_dot_dot, is_element, in_front, reduced, below_root}
+use Rattle.p9_clean.specs.Path.{shortened}
 use Rattle.p9_clean.specs.Rules.{Shortens, Leads, IsClean, CleansTo}
 use Rattle.p9_clean.specs.Rules.Shortens.{empty_goes, dot_goes, name_goes, root_goes}
 use Rattle.p9_clean.specs.Rules.Leads.{here, step}
@@ -17,32 +19,43 @@ abbrev pub left_of : Bool → List (List ℕ) → List (List ℕ)
 left_of rooted words = shortened rooted (filter is_element words)
 
 -- a rule shortens a list
-pub length-Shortens : {rooted : Bool} {words next : List (List ℕ)} → Shortens rooted words next → length next < length words
-length-Shortens (empty_goes before after) = omega (arith, length-append before after, length-append before ([] ∷ after))
-length-Shortens (dot_goes before after) = omega (arith, length-append before after, length-append before (codes "." ∷ after))
-length-Shortens (name_goes before after name p q r) = omega (arith, length-append before after, length-append before (name ∷ codes ".." ∷ after))
+pub length-Shortens : {rooted : Bool} {words next : List (List ℕ)} → Shortens rooted words next
+    → length next < length words
+length-Shortens (empty_goes before after) =
+    omega (arith, length-append before after, length-append before ([] ∷ after))
+length-Shortens (dot_goes before after) =
+    omega (arith, length-append before after, length-append before (codes "." ∷ after))
+length-Shortens (name_goes before after name p q r) =
+    omega (arith, length-append before after, length-append before (name ∷ codes ".." ∷ after))
 length-Shortens (root_goes after root) = omega arith
 
 -- rules never lengthen a list
-pub length-Leads : {rooted : Bool} {words last : List (List ℕ)} → Leads rooted words last → length last ≤ length words
+pub length-Leads : {rooted : Bool} {words last : List (List ℕ)} → Leads rooted words last
+    → length last ≤ length words
 length-Leads (here {words = words}) = omega arith
-length-Leads (step rule rules) = let shorter = length-Shortens rule in let others = length-Leads rules in omega arith
+length-Leads (step rule rules) =
+    let shorter = length-Shortens rule in let others = length-Leads rules in omega arith
 
 -- lists that leave the same leave the same behind others
-reduced-behind : (before xs ys : List (List ℕ)) → reduced xs ≡ reduced ys → reduced (before ++ xs) ≡ reduced (before ++ ys)
+reduced-behind : (before xs ys : List (List ℕ)) → reduced xs ≡ reduced ys
+    → reduced (before ++ xs) ≡ reduced (before ++ ys)
 reduced-behind [] xs ys e = e
 reduced-behind (w ∷ ws) xs ys e = ap (in_front w) (reduced-behind ws xs ys e)
 
 -- the same of a rooted path, and of one that is not
-shortened-behind : (rooted : Bool) (before xs ys : List (List ℕ)) → reduced xs ≡ reduced ys → shortened rooted (before ++ xs) ≡ shortened rooted (before ++ ys)
+shortened-behind : (rooted : Bool) (before xs ys : List (List ℕ)) → reduced xs ≡ reduced ys
+    → shortened rooted (before ++ xs) ≡ shortened rooted (before ++ ys)
 shortened-behind true before xs ys e = ap below_root (reduced-behind before xs ys e)
 shortened-behind false before xs ys e = reduced-behind before xs ys e
 
 -- words that leave the same behind others leave the same
-left_of-behind : (rooted : Bool) (before xs ys : List (List ℕ)) → reduced (filter is_element xs) ≡ reduced (filter is_element ys) → left_of rooted (before ++ xs) ≡ left_of rooted (before ++ ys)
+left_of-behind : (rooted : Bool) (before xs ys : List (List ℕ))
+    → reduced (filter is_element xs) ≡ reduced (filter is_element ys)
+    → left_of rooted (before ++ xs) ≡ left_of rooted (before ++ ys)
 left_of-behind rooted before xs ys e =
     ap (shortened rooted) (filter-append is_element before xs)
-    ∙ shortened-behind rooted (filter is_element before) (filter is_element xs) (filter is_element ys) e
+    ∙ shortened-behind rooted (filter is_element before) (filter is_element xs)
+    (filter is_element ys) e
     ∙ sym (ap (shortened rooted) (filter-append is_element before ys))
 
 -- a test of bytes that are others fails
@@ -59,58 +72,78 @@ is_element-from_false b bs other = rw (other, lt-ltb 0 (length (b ∷ bs)) (omeg
 -- a word that is neither empty nor '.' is an element
 is_element-other : (word : List ℕ) → word ≢ [] → word ≢ codes "." → is_element word ≡ true
 is_element-other [] some other = absurd (some refl)
-is_element-other (b ∷ bs) some other = is_element-from_false b bs (is_other (b ∷ bs) (codes ".") other)
+is_element-other (b ∷ bs) some other =
+    is_element-from_false b bs (is_other (b ∷ bs) (codes ".") other)
 
 -- a name and the '..' behind it leave nothing
-reduced-name_goes : (after : List (List ℕ)) (name : List ℕ) → is_element name ≡ true → is_dot_dot name ≡ false → reduced (filter is_element (name ∷ codes ".." ∷ after)) ≡ reduced (filter is_element after)
+reduced-name_goes : (after : List (List ℕ)) (name : List ℕ) → is_element name ≡ true
+    → is_dot_dot name ≡ false
+    → reduced (filter is_element (name ∷ codes ".." ∷ after)) ≡ reduced (filter is_element after)
 reduced-name_goes after name element other =
     let es = reduced (filter is_element after) in
-    rw element (ap (in_front name) (in_front-dot_dot (codes "..") es refl) ∙ in_front-gone name (codes "..") es other refl)
+    rw element (ap (in_front name) (in_front-dot_dot (codes "..") es refl)
+    ∙ in_front-gone name (codes "..") es other refl)
 
 -- '..' at the start of a rooted path leaves nothing
-left_of-root_goes : (rooted : Bool) (after : List (List ℕ)) → IsTrue rooted → left_of rooted (codes ".." ∷ after) ≡ left_of rooted after
-left_of-root_goes true after root = ap below_root (in_front-dot_dot (codes "..") (reduced (filter is_element after)) refl)
+left_of-root_goes : (rooted : Bool) (after : List (List ℕ)) → IsTrue rooted
+    → left_of rooted (codes ".." ∷ after) ≡ left_of rooted after
+left_of-root_goes true after root =
+    ap below_root (in_front-dot_dot (codes "..") (reduced (filter is_element after)) refl)
 left_of-root_goes false after root = absurd (false≢true root)
 
 -- what cleaning leaves of words is what it leaves of them after a rule
-pub left_of-Shortens : {rooted : Bool} {words next : List (List ℕ)} → Shortens rooted words next → left_of rooted words ≡ left_of rooted next
-left_of-Shortens {rooted} (empty_goes before after) = left_of-behind rooted before ([] ∷ after) after refl
-left_of-Shortens {rooted} (dot_goes before after) = left_of-behind rooted before (codes "." ∷ after) after refl
+pub left_of-Shortens : {rooted : Bool} {words next : List (List ℕ)} → Shortens rooted words next
+    → left_of rooted words ≡ left_of rooted next
+left_of-Shortens {rooted} (empty_goes before after) =
+    left_of-behind rooted before ([] ∷ after) after refl
+left_of-Shortens {rooted} (dot_goes before after) =
+    left_of-behind rooted before (codes "." ∷ after) after refl
 left_of-Shortens {rooted} (name_goes before after name some no_dot no_dots) =
-    left_of-behind rooted before (name ∷ codes ".." ∷ after) after (reduced-name_goes after name (is_element-other name some no_dot) (is_other name (codes "..") no_dots))
+    left_of-behind rooted before (name ∷ codes ".." ∷ after) after
+    (reduced-name_goes after name (is_element-other name some no_dot)
+    (is_other name (codes "..") no_dots))
 left_of-Shortens {rooted} (root_goes after root) = left_of-root_goes rooted after root
 
 -- and after any rules
-pub left_of-Leads : {rooted : Bool} {words last : List (List ℕ)} → Leads rooted words last → left_of rooted words ≡ left_of rooted last
+pub left_of-Leads : {rooted : Bool} {words last : List (List ℕ)} → Leads rooted words last
+    → left_of rooted words ≡ left_of rooted last
 left_of-Leads here = refl
 left_of-Leads (step rule rules) = left_of-Shortens rule ∙ left_of-Leads rules
 
 -- a rule that needs no root applies behind any word
-Shortens-cons : {words next : List (List ℕ)} (rooted : Bool) (word : List ℕ) → Shortens false words next → Shortens rooted (word ∷ words) (word ∷ next)
+Shortens-cons : {words next : List (List ℕ)} (rooted : Bool) (word : List ℕ)
+    → Shortens false words next → Shortens rooted (word ∷ words) (word ∷ next)
 Shortens-cons rooted word (empty_goes before after) = empty_goes (word ∷ before) after
 Shortens-cons rooted word (dot_goes before after) = dot_goes (word ∷ before) after
-Shortens-cons rooted word (name_goes before after name p q r) = name_goes (word ∷ before) after name p q r
+Shortens-cons rooted word (name_goes before after name p q r) =
+    name_goes (word ∷ before) after name p q r
 Shortens-cons rooted word (root_goes after root) = absurd (false≢true root)
 
 -- rules that need no root apply behind any word
-Leads-cons : {words last : List (List ℕ)} (rooted : Bool) (word : List ℕ) → Leads false words last → Leads rooted (word ∷ words) (word ∷ last)
+Leads-cons : {words last : List (List ℕ)} (rooted : Bool) (word : List ℕ) → Leads false words last
+    → Leads rooted (word ∷ words) (word ∷ last)
 Leads-cons rooted word here = here
-Leads-cons rooted word (step rule rules) = step (Shortens-cons rooted word rule) (Leads-cons rooted word rules)
+Leads-cons rooted word (step rule rules) =
+    step (Shortens-cons rooted word rule) (Leads-cons rooted word rules)
 
 -- a rule that needs no root applies in a rooted path too
-Shortens-rooted : {words next : List (List ℕ)} (rooted : Bool) → Shortens false words next → Shortens rooted words next
+Shortens-rooted : {words next : List (List ℕ)} (rooted : Bool) → Shortens false words next
+    → Shortens rooted words next
 Shortens-rooted rooted (empty_goes before after) = empty_goes before after
 Shortens-rooted rooted (dot_goes before after) = dot_goes before after
 Shortens-rooted rooted (name_goes before after name p q r) = name_goes before after name p q r
 Shortens-rooted rooted (root_goes after root) = absurd (false≢true root)
 
 -- rules that need no root apply in a rooted path too
-Leads-rooted : {words last : List (List ℕ)} (rooted : Bool) → Leads false words last → Leads rooted words last
+Leads-rooted : {words last : List (List ℕ)} (rooted : Bool) → Leads false words last
+    → Leads rooted words last
 Leads-rooted rooted here = here
-Leads-rooted rooted (step rule rules) = step (Shortens-rooted rooted rule) (Leads-rooted rooted rules)
+Leads-rooted rooted (step rule rules) =
+    step (Shortens-rooted rooted rule) (Leads-rooted rooted rules)
 
 -- rules may follow rules
-Leads-both : {rooted : Bool} {words next last : List (List ℕ)} → Leads rooted words next → Leads rooted next last → Leads rooted words last
+Leads-both : {rooted : Bool} {words next last : List (List ℕ)} → Leads rooted words next
+    → Leads rooted next last → Leads rooted words last
 Leads-both here others = others
 Leads-both (step rule rules) others = step rule (Leads-both rules others)
 
@@ -124,51 +157,67 @@ element_not_dot : (word : List ℕ) → is_element word ≡ true → word ≢ co
 element_not_dot word element = λ e. false≢true (ap is_element (sym e) ∙ element)
 
 -- a word that is no element is empty or '.': a rule takes it away
-no_element_goes : (word : List ℕ) (after : List (List ℕ)) → is_element word ≡ false → Shortens false (word ∷ after) after
+no_element_goes : (word : List ℕ) (after : List (List ℕ)) → is_element word ≡ false
+    → Shortens false (word ∷ after) after
 no_element_goes [] after no_element = empty_goes [] after
 no_element_goes (b ∷ bs) after no_element = go (bytes_eq (b ∷ bs) (codes ".")) refl where
   go : (t : Bool) → bytes_eq (b ∷ bs) (codes ".") ≡ t → Shortens false ((b ∷ bs) ∷ after) after
-  go true dot = subst (λ word. Shortens false (word ∷ after) after) (sym ((bytes_eq-Decides (b ∷ bs) (codes ".")).0 dot)) (dot_goes [] after)
+  go true dot =
+      subst (λ word. Shortens false (word ∷ after) after)
+      (sym ((bytes_eq-Decides (b ∷ bs) (codes ".")).0 dot)) (dot_goes [] after)
   go false other = absurd (false≢true (sym no_element ∙ is_element-from_false b bs other))
 
 -- an element in front goes with the '..' behind it
-Leads-in_front : (word : List ℕ) (es : List (List ℕ)) → is_element word ≡ true → Leads false (word ∷ es) (in_front word es)
+Leads-in_front : (word : List ℕ) (es : List (List ℕ)) → is_element word ≡ true
+    → Leads false (word ∷ es) (in_front word es)
 Leads-in_front word [] element = here
 Leads-in_front word (next ∷ es) element = go (is_dot_dot word) (is_dot_dot next) refl refl where
-  go : (s t : Bool) → is_dot_dot word ≡ s → is_dot_dot next ≡ t → Leads false (word ∷ next ∷ es) (in_front word (next ∷ es))
+  go : (s t : Bool) → is_dot_dot word ≡ s → is_dot_dot next ≡ t
+      → Leads false (word ∷ next ∷ es) (in_front word (next ∷ es))
   go true t up n = rw (in_front-dot_dot word (next ∷ es) up) here
   go false false name n = rw (in_front-name word next es n) here
   go false true name up =
       let dots : next ≡ codes ".." = (bytes_eq-Decides next (codes "..")).0 up in
       let gone : Shortens false (word ∷ codes ".." ∷ es) es =
-      name_goes [] es word (element_not_empty word element) (element_not_dot word element) (λ e. false≢true (sym name ∙ ap is_dot_dot e)) in
-      rw (in_front-gone word next es name up) (subst (λ n. Leads false (word ∷ n ∷ es) es) (sym dots) (step gone here))
+      name_goes [] es word (element_not_empty word element) (element_not_dot word element)
+      (λ e. false≢true (sym name ∙ ap is_dot_dot e)) in
+      rw (in_front-gone word next es name up)
+      (subst (λ n. Leads false (word ∷ n ∷ es) es) (sym dots) (step gone here))
 
 -- the rules lead to the elements without names taken back
 Leads-reduced : (words : List (List ℕ)) → Leads false words (reduced (filter is_element words))
 Leads-reduced [] = here
 Leads-reduced (word ∷ words) = go (is_element word) refl (Leads-reduced words) where
-  go : (t : Bool) → is_element word ≡ t → Leads false words (reduced (filter is_element words)) → Leads false (word ∷ words) (reduced (filter is_element (word ∷ words)))
-  go true element rules = rw element (Leads-both (Leads-cons false word rules) (Leads-in_front word (reduced (filter is_element words)) element))
+  go : (t : Bool) → is_element word ≡ t → Leads false words (reduced (filter is_element words))
+      → Leads false (word ∷ words) (reduced (filter is_element (word ∷ words)))
+  go true element rules =
+      rw element
+      (Leads-both (Leads-cons false word rules)
+      (Leads-in_front word (reduced (filter is_element words)) element))
   go false no_element rules = rw no_element (step (no_element_goes word words no_element) rules)
 
 -- in a rooted path the rules take away the '..' at the start
 Leads-below_root : (es : List (List ℕ)) → Leads true es (below_root es)
 Leads-below_root [] = here
 Leads-below_root (e ∷ es) = go (is_dot_dot e) refl (Leads-below_root es) where
-  go : (t : Bool) → is_dot_dot e ≡ t → Leads true es (below_root es) → Leads true (e ∷ es) (below_root (e ∷ es))
+  go : (t : Bool) → is_dot_dot e ≡ t → Leads true es (below_root es)
+      → Leads true (e ∷ es) (below_root (e ∷ es))
   go true up rules =
       let dots : e ≡ codes ".." = (bytes_eq-Decides e (codes "..")).0 up in
-      rw up (subst (λ n. Leads true (n ∷ es) (below_root es)) (sym dots) (step (root_goes es refl) rules))
+      rw up (subst (λ n. Leads true (n ∷ es) (below_root es)) (sym dots)
+      (step (root_goes es refl) rules))
   go false name rules = rw name here
 
 -- the rules lead from words to what cleaning leaves of them
 Leads-left_of : (rooted : Bool) (words : List (List ℕ)) → Leads rooted words (left_of rooted words)
-Leads-left_of true words = Leads-both (Leads-rooted true (Leads-reduced words)) (Leads-below_root (reduced (filter is_element words)))
+Leads-left_of true words =
+    Leads-both (Leads-rooted true (Leads-reduced words))
+    (Leads-below_root (reduced (filter is_element words)))
 Leads-left_of false words = Leads-reduced words
 
 -- cleaning leaves what it left
-pub left_of-left_of : (rooted : Bool) (words : List (List ℕ)) → left_of rooted (left_of rooted words) ≡ left_of rooted words
+pub left_of-left_of : (rooted : Bool) (words : List (List ℕ))
+    → left_of rooted (left_of rooted words) ≡ left_of rooted words
 left_of-left_of rooted words = sym (left_of-Leads (Leads-left_of rooted words))
 
 -- no rule applies to it: what cleaning leaves of the shorter list would be as long
@@ -176,20 +225,25 @@ IsClean-left_of : (rooted : Bool) (words : List (List ℕ)) → IsClean rooted (
 IsClean-left_of rooted words next rule =
     let shorter = length-Shortens rule in
     let least = length-Leads (Leads-left_of rooted next) in
-    let same : length (left_of rooted next) ≡ length (left_of rooted words) = ap length (sym (left_of-Shortens rule) ∙ left_of-left_of rooted words) in
+    let same : length (left_of rooted next) ≡ length (left_of rooted words) =
+    ap length (sym (left_of-Shortens rule) ∙ left_of-left_of rooted words) in
     omega arith
 
 -- the rules lead from a list to which none applies to itself alone
-stays : {rooted : Bool} {words last : List (List ℕ)} → IsClean rooted words → Leads rooted words last → last ≡ words
+stays : {rooted : Bool} {words last : List (List ℕ)} → IsClean rooted words
+    → Leads rooted words last → last ≡ words
 stays clean here = refl
 stays clean (step {next = next} rule rules) = absurd (clean next rule)
 
 -- a list to which no rule applies, and to which they lead, is what cleaning leaves
-only_left_of : (rooted : Bool) (words last : List (List ℕ)) → Leads rooted words last → IsClean rooted last → last ≡ left_of rooted words
-only_left_of rooted words last rules clean = sym (left_of-Leads rules ∙ stays clean (Leads-left_of rooted last))
+only_left_of : (rooted : Bool) (words last : List (List ℕ)) → Leads rooted words last
+    → IsClean rooted last → last ≡ left_of rooted words
+only_left_of rooted words last rules clean =
+    sym (left_of-Leads rules ∙ stays clean (Leads-left_of rooted last))
 
 -- what cleaning leaves of words is what the rules make of them
-pub CleansTo-left_of : (rooted : Bool) (words : List (List ℕ)) → CleansTo rooted words (left_of rooted words)
+pub CleansTo-left_of : (rooted : Bool) (words : List (List ℕ))
+    → CleansTo rooted words (left_of rooted words)
 CleansTo-left_of rooted words = record {
   reached = Leads-left_of rooted words;
   clean = IsClean-left_of rooted words;

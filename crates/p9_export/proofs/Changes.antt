@@ -3,7 +3,8 @@ use Rattle.std.proofs.Common.{◌≡◌, ℕ, List, [], ◌∷◌, inl, inr, Som
 use Rattle.p9_tree.specs.Node.{Node, is_dir}
 use Rattle.p9_tree.specs.Server.{Server, added, node_at, with_changed, with_dropped}
 use Rattle.p9_tree.specs.Forest.{next_of, node_of, server_at}
-use Rattle.p9_export.specs.Change.{Change, EditNode, AddNode, DropNode, Edit, Mark, Touch, Overwrite, Cut, applied, all_applied, edited}
+use Rattle.p9_export.specs.Change.{Change, EditNode, AddNode, DropNode, Edit, Mark, Touch}
+use Rattle.p9_export.specs.Change.{Overwrite, Cut, applied, all_applied, edited}
 use Rattle.p9_export.proofs.Members.{member-changed_at, member-dropped_at, member-joined}
 use Rattle.p9_export.proofs.Evolves.{Evolved, Evolves, evolves-same, evolves-tree, evolves-twice}
 
@@ -20,15 +21,24 @@ IsLawful forest (DropNode at) = Unit {0}
 
 abbrev pub AllLawful : List Server → List Change → Type 0
 AllLawful forest [] = Unit {0}
-AllLawful forest (change ∷ changes) = IsLawful forest change × AllLawful (applied change forest) changes
+AllLawful forest (change ∷ changes) =
+    IsLawful forest change × AllLawful (applied change forest) changes
 
-evolved-edit : (s : Server) (k : ℕ) (f : Node → Node) → ((n : Node) → node_at k s.nodes ≡ Some n → ((f n).number ≡ n.number) × (is_dir (f n) ≡ is_dir n)) → Evolved s (with_changed k f s)
+evolved-edit : (s : Server) (k : ℕ) (f : Node → Node)
+    → ((n : Node) → node_at k s.nodes ≡ Some n
+    → ((f n).number ≡ n.number) × (is_dir (f n) ≡ is_dir n)) → Evolved s (with_changed k f s)
 evolved-edit s k f keeps = record {
   next = omega arith;
   was = λ n there below. let old = member-changed_at n k f s.nodes there in
       elim old.2 [
         | inl same ↦ (old.0, old.1, ap (λ (m : Node). m.number) (sym same), ap is_dir (sym same))
-        | inr new ↦ (let kept = keeps old.0 new.1 in (old.0, old.1, sym kept.0 ∙ ap (λ (m : Node). m.number) (sym new.0), sym kept.1 ∙ ap is_dir (sym new.0)))
+        | inr new ↦ (let kept = keeps old.0 new.1 in (
+          old.0,
+          old.1,
+          sym kept.0 ∙ ap (λ (m : Node). m.number) (sym new.0),
+          sym kept.1
+              ∙ ap is_dir (sym new.0),
+        ))
       ];
 }
 
@@ -43,23 +53,32 @@ evolved-add s y number = record {
   next = omega arith;
   was = λ n there below. elim (member-joined n y s.nodes there) [
     | inl old ↦ (n, old, refl, refl)
-    | inr new ↦ (let same : n.number ≡ s.next = ap (λ (m : Node). m.number) new ∙ number in absurd (omega arith))
+    | inr new ↦ (let same : n.number ≡ s.next = ap (λ (m : Node). m.number) new ∙ number in
+        absurd (omega arith))
   ];
 }
 
-pub evolves-applied : (forest : List Server) (change : Change) → IsLawful forest change → Evolves forest (applied change forest)
+pub evolves-applied : (forest : List Server) (change : Change) → IsLawful forest change
+    → Evolves forest (applied change forest)
 unfolding applied
 evolves-applied forest (EditNode at edit) lawful =
-    evolves-tree forest at.server (with_changed at.number (edited edit)) (evolved-edit (server_at at.server forest) at.number (edited edit) (λ n found. let kept = lawful n found in (kept.number, kept.dir)))
+    evolves-tree forest at.server (with_changed at.number (edited edit))
+    (evolved-edit (server_at at.server forest) at.number (edited edit)
+    (λ n found. let kept = lawful n found in (kept.number, kept.dir)))
 evolves-applied forest (AddNode server node) lawful =
-    evolves-tree forest server (λ s. added s node) (evolved-add (server_at server forest) node lawful)
+    evolves-tree forest server (λ s. added s node)
+    (evolved-add (server_at server forest) node lawful)
 evolves-applied forest (DropNode at) lawful =
-    evolves-tree forest at.server (with_dropped at.number) (evolved-drop (server_at at.server forest) at.number)
+    evolves-tree forest at.server (with_dropped at.number)
+    (evolved-drop (server_at at.server forest) at.number)
 
-pub evolves-all : (forest : List Server) (changes : List Change) → AllLawful forest changes → Evolves forest (all_applied changes forest)
+pub evolves-all : (forest : List Server) (changes : List Change) → AllLawful forest changes
+    → Evolves forest (all_applied changes forest)
 evolves-all forest [] lawful = evolves-same forest
 evolves-all forest (change ∷ changes) lawful =
-    evolves-twice forest (applied change forest) (all_applied changes (applied change forest)) (evolves-applied forest change lawful.0) (evolves-all (applied change forest) changes lawful.1)
+    evolves-twice forest (applied change forest) (all_applied changes (applied change forest))
+    (evolves-applied forest change lawful.0)
+    (evolves-all (applied change forest) changes lawful.1)
 
 -- the edits of requests, but for wstat's, keep any node
 pub keeps-mark : (user : List ℕ) (now : ℕ) (n : Node) → Keeps (Mark user now) n

@@ -1,5 +1,6 @@
 -- The end of fids.
-use Rattle.std.proofs.Common.{◌≡◌, ◌≢◌, ℕ, ◌<◌, ◌&&◌, Bool, true, false, List, [], ◌∷◌, ◌++◌, Option, Some, None, refl, sym, ap, ◌∙◌, subst, arith, length, Equal}
+use Rattle.std.proofs.Common.{◌≡◌, ◌≢◌, ℕ, ◌<◌, ◌&&◌, Bool, true, false, List, [], ◌∷◌, ◌++◌}
+use Rattle.std.proofs.Common.{Option, Some, None, refl, sym, ap, ◌∙◌, subst, arith, length, Equal}
 use Rattle.std.specs.Prelude.{◌==◌, is_some, slice_get}
 use Rattle.std.specs.Option.{option_map}
 use Rattle.std.specs.Cmp.{nat_cmp_is}
@@ -15,7 +16,8 @@ use Rattle.p9_space.specs.Table.{MountRow}
 use Rattle.p9_fids.specs.declared.opened.Opened.{Opened}
 use Rattle.p9_fids.specs.Fid.{Fid, FidRow, fid_at, without_fid}
 use Rattle.p9_export.specs.Change.{Change, DropNode, all_applied, applied}
-use Rattle.p9_export.specs.End.{FidFits, FidsFit, fid_file, fid_ref, on_end, on_ends, parent_marked, removes_on_close, taken_out}
+use Rattle.p9_export.specs.End.{FidFits, FidsFit, fid_file, fid_ref, on_end, on_ends, parent_marked}
+use Rattle.p9_export.specs.End.{removes_on_close, taken_out}
 use Rattle.p9_export.proofs.Members.{found-member, member-node_at}
 use Rattle.p9_export.proofs.Changes.{AllLawful, evolves-all, keeps-mark}
 use Rattle.p9_export.proofs.OpenFids.{fits-evolved}
@@ -31,32 +33,40 @@ in-parent k m e = go m.parent refl
   where
     go : (o : Option ℕ) → m.parent ≡ o → m.parent ≡ Some k
     go None is = let no : false ≡ true = rw is at e in cc
-    go (Some p) is = let same : (p == k) ≡ true = rw is at e in is ∙ ap Some (grind (arith, nat_tests))
+    go (Some p) is =
+        let same : (p == k) ≡ true = rw is at e in is ∙ ap Some (grind (arith, nat_tests))
 
-module _ (s : Server) (k : ℕ) (n : Node) (well : WellFormed s) (found : node_at k s.nodes ≡ Some n) (file : is_dir n ≡ false) where
+module _ (s : Server) (k : ℕ) (n : Node) (well : WellFormed s) (found : node_at k s.nodes ≡ Some n)
+    (file : is_dir n ≡ false) where
   not_dir : is_dir_at k s.nodes ≡ false
   not_dir = rw found file
 
   -- a file is not the root
   leaf-not_root : k ≢ 0
-  leaf-not_root is = let root : is_dir_at 0 s.nodes ≡ true = well.root in let same : is_dir_at 0 s.nodes ≡ false = subst (λ j. is_dir_at j s.nodes ≡ false) is not_dir in cc
+  leaf-not_root is =
+      let root : is_dir_at 0 s.nodes ≡ true = well.root in
+      let same : is_dir_at 0 s.nodes
+      ≡ false = subst (λ j. is_dir_at j s.nodes ≡ false) is not_dir in cc
 
   -- nothing stands in it
   leaf-empty : is_some (child_after k None s.nodes) ≡ false
   leaf-empty = go (child_after k None s.nodes) refl
     where
-      go : (o : Option Node) → child_after k None s.nodes ≡ o → is_some (child_after k None s.nodes) ≡ false
+      go : (o : Option Node) → child_after k None s.nodes ≡ o
+          → is_some (child_after k None s.nodes) ≡ false
       go None e = rw e refl
       go (Some m) e =
           let there = found-member (λ x. is_in k x && is_above None x) s.nodes m e in
-          let here : node_at m.number s.nodes ≡ Some m = member-node_at m s.nodes well.rising there.0 in
+          let here : node_at m.number s.nodes ≡ Some m =
+          member-node_at m s.nodes well.rising there.0 in
           let inside : is_in k m ≡ true = (and_parts (is_in k m) (is_above None m) there.1).0 in
           let parent : m.parent ≡ Some k = in-parent k m inside in
           let dir : is_dir_at k s.nodes ≡ true = well.parent_dir m.number k m here parent in
           absurd (cc)
 
 -- a file may be dropped
-pub leaf : (forest : List Server) (at : NodeRef) (n : Node) → IsForest forest → node_of at forest ≡ Some n → is_dir n ≡ false → IsLeaf at forest
+pub leaf : (forest : List Server) (at : NodeRef) (n : Node) → IsForest forest
+    → node_of at forest ≡ Some n → is_dir n ≡ false → IsLeaf at forest
 leaf forest at n sound found file = go (slice_get forest at.server) refl
   where
     go : (o : Option Server) → slice_get forest at.server ≡ o → IsLeaf at forest
@@ -64,13 +74,19 @@ leaf forest at n sound found file = go (slice_get forest at.server) refl
     go (Some s) e =
         let there : node_at at.number s.nodes ≡ Some n = rw e at found in
         let well = sound.servers at.server s e in
-        record { not_root = leaf-not_root s at.number n well there file; empty = rw e (leaf-empty s at.number n well there file) }
+        record {
+          not_root = leaf-not_root s at.number n well there file;
+          empty = rw e (leaf-empty s at.number n well there file);
+        }
 
 -- what is open with remove-on-close is a file
-pub removed_file : (table : List MountRow) (forest : List Server) (v : Fid) (n : Node) → FidFits table forest v → removes_on_close v ≡ true → fid_file table forest v ≡ Some n → is_dir n ≡ false
+pub removed_file : (table : List MountRow) (forest : List Server) (v : Fid) (n : Node)
+    → FidFits table forest v → removes_on_close v ≡ true → fid_file table forest v ≡ Some n
+    → is_dir n ≡ false
 removed_file table forest v n fits removes found = go v.opened refl
   where
-    dir_or_not : (o : Opened) → v.opened ≡ Some o → o.remove_on_close ≡ true → (b : Bool) → is_dir n ≡ b → is_dir n ≡ false
+    dir_or_not : (o : Opened) → v.opened ≡ Some o → o.remove_on_close ≡ true → (b : Bool)
+        → is_dir n ≡ b → is_dir n ≡ false
     dir_or_not o is closes true dir = let stays = (fits o is).stays n found dir in cc
     dir_or_not o is closes false file = file
 
@@ -79,50 +95,76 @@ removed_file table forest v n fits removes found = go v.opened refl
     go (Some o) is = dir_or_not o is (rw is at removes) (is_dir n) refl
 
 -- one list of changes after another
-pub applied-append : (xs ys : List Change) (forest : List Server) → all_applied (xs ++ ys) forest ≡ all_applied ys (all_applied xs forest)
+pub applied-append : (xs ys : List Change) (forest : List Server)
+    → all_applied (xs ++ ys) forest ≡ all_applied ys (all_applied xs forest)
 applied-append [] ys forest = refl
 applied-append (x ∷ xs) ys forest = applied-append xs ys (applied x forest)
 
-pub lawful-append : (forest : List Server) (xs ys : List Change) → AllLawful forest xs → AllLawful (all_applied xs forest) ys → AllLawful forest (xs ++ ys)
+pub lawful-append : (forest : List Server) (xs ys : List Change) → AllLawful forest xs
+    → AllLawful (all_applied xs forest) ys → AllLawful forest (xs ++ ys)
 lawful-append forest [] ys first second = second
-lawful-append forest (x ∷ xs) ys first second = (first.0, lawful-append (applied x forest) xs ys first.1 second)
+lawful-append forest (x ∷ xs) ys first second =
+    (first.0, lawful-append (applied x forest) xs ys first.1 second)
 
-pub lawful-parent_marked : (forest : List Server) (user : List ℕ) (now : ℕ) (at : NodeRef) (parent : Option ℕ) → AllLawful forest (parent_marked user now at parent)
+pub lawful-parent_marked : (forest : List Server) (user : List ℕ) (now : ℕ) (at : NodeRef)
+    (parent : Option ℕ) → AllLawful forest (parent_marked user now at parent)
 lawful-parent_marked forest user now at None = tt
 lawful-parent_marked forest user now at (Some p) = ((λ n found. keeps-mark user now n), tt)
 
-pub lawful-taken_out : (forest : List Server) (user : List ℕ) (now : ℕ) (at : NodeRef) (n : Node) → AllLawful forest (taken_out user now at n)
-lawful-taken_out forest user now at n = (tt, lawful-parent_marked (applied (DropNode at) forest) user now at n.parent)
+pub lawful-taken_out : (forest : List Server) (user : List ℕ) (now : ℕ) (at : NodeRef) (n : Node)
+    → AllLawful forest (taken_out user now at n)
+lawful-taken_out forest user now at n =
+    (tt, lawful-parent_marked (applied (DropNode at) forest) user now at n.parent)
 
 module _ (table : List MountRow) (now : ℕ) where
-  pub lawful-on_end : (forest : List Server) (v : Fid) → AllLawful forest (on_end table now forest v)
+  pub lawful-on_end : (forest : List Server) (v : Fid)
+      → AllLawful forest (on_end table now forest v)
   lawful-on_end forest v = go (removes_on_close v) refl (fid_file table forest v) refl
     where
-      go : (b : Bool) → removes_on_close v ≡ b → (o : Option Node) → fid_file table forest v ≡ o → AllLawful forest (on_end table now forest v)
+      go : (b : Bool) → removes_on_close v ≡ b → (o : Option Node) → fid_file table forest v ≡ o
+          → AllLawful forest (on_end table now forest v)
       go false e o is = rw e tt
       go true e None is = rw (e, is) tt
       go true e (Some n) is = rw (e, is) (lawful-taken_out forest v.user now (fid_ref table v) n)
 
-  pub lawful-on_ends : (forest : List Server) (fids : List FidRow) → AllLawful forest (on_ends table now forest fids)
+  pub lawful-on_ends : (forest : List Server) (fids : List FidRow)
+      → AllLawful forest (on_ends table now forest fids)
   lawful-on_ends forest [] = tt
   lawful-on_ends forest (row ∷ rows) =
-      lawful-append forest (on_end table now forest row.1) (on_ends table now (all_applied (on_end table now forest row.1) forest) rows) (lawful-on_end forest row.1) (lawful-on_ends (all_applied (on_end table now forest row.1) forest) rows)
+      lawful-append forest (on_end table now forest row.1)
+      (on_ends table now (all_applied (on_end table now forest row.1) forest) rows)
+      (lawful-on_end forest row.1)
+      (lawful-on_ends (all_applied (on_end table now forest row.1) forest) rows)
 
   -- the first fid ends, then the others
-  pub ends-first : (forest : List Server) (row : FidRow) (rows : List FidRow) → all_applied (on_ends table now forest (row ∷ rows)) forest ≡ all_applied (on_ends table now (all_applied (on_end table now forest row.1) forest) rows) (all_applied (on_end table now forest row.1) forest)
-  ends-first forest row rows = applied-append (on_end table now forest row.1) (on_ends table now (all_applied (on_end table now forest row.1) forest) rows) forest
+  pub ends-first : (forest : List Server) (row : FidRow) (rows : List FidRow)
+      → all_applied (on_ends table now forest (row ∷ rows)) forest
+      ≡ all_applied (on_ends table now (all_applied (on_end table now forest row.1) forest) rows)
+      (all_applied (on_end table now forest row.1) forest)
+  ends-first forest row rows =
+      applied-append (on_end table now forest row.1)
+      (on_ends table now (all_applied (on_end table now forest row.1) forest) rows) forest
 
   -- what is kept of the others after the end of one
-  pub fits-ended : (forest : List Server) (row : FidRow) (rows : List FidRow) → IsForest forest → FidsFit table forest (row ∷ rows) → FidsFit table (all_applied (on_end table now forest row.1) forest) rows
-  fits-ended forest row rows sound fits = fits-evolved table forest (all_applied (on_end table now forest row.1) forest) sound (evolves-all forest (on_end table now forest row.1) (lawful-on_end forest row.1)) rows fits.1
+  pub fits-ended : (forest : List Server) (row : FidRow) (rows : List FidRow) → IsForest forest
+      → FidsFit table forest (row ∷ rows)
+      → FidsFit table (all_applied (on_end table now forest row.1) forest) rows
+  fits-ended forest row rows sound fits =
+      fits-evolved table forest (all_applied (on_end table now forest row.1) forest) sound
+      (evolves-all forest (on_end table now forest row.1) (lawful-on_end forest row.1)) rows fits.1
 
 -- what is open with remove-on-close may be dropped
-pub removed_leaf : (table : List MountRow) (forest : List Server) (v : Fid) (at : NodeRef) (n : Node) → IsForest forest → FidFits table forest v → removes_on_close v ≡ true → at ≡ fid_ref table v → node_of at forest ≡ Some n → IsLeaf at forest
+pub removed_leaf : (table : List MountRow) (forest : List Server) (v : Fid) (at : NodeRef)
+    (n : Node) → IsForest forest → FidFits table forest v → removes_on_close v ≡ true
+    → at ≡ fid_ref table v → node_of at forest ≡ Some n → IsLeaf at forest
 removed_leaf table forest v at n sound fits removes is found =
-    leaf forest at n sound found (removed_file table forest v n fits removes (subst (λ r. node_of r forest ≡ Some n) is found))
+    leaf forest at n sound found
+    (removed_file table forest v n fits removes
+    (subst (λ r. node_of r forest ≡ Some n) is found))
 
 -- the first of all fids has ended
-pub record IsEnded (table : List MountRow) (now : ℕ) (f f' : List Server) (fids fids' : List FidRow) : Type 0 where
+pub record IsEnded (table : List MountRow) (now : ℕ) (f f' : List Server)
+    (fids fids' : List FidRow) : Type 0 where
   pub fit : FidsFit table f' fids'
   pub same : all_applied (on_ends table now f' fids') f' ≡ all_applied (on_ends table now f fids) f
   pub fewer : length fids' < length fids
@@ -131,27 +173,37 @@ at-itself : (k : ℕ) → is_at (nat_cmp k) k ≡ true
 at-itself k = rw (sym (nat_cmp_is k k Equal refl)) refl
 
 -- the first fid is there
-pub first-there : (fids : List FidRow) (number : ℕ) → option_map (λ (row : FidRow). row.0) (slice_get fids 0) ≡ Some number → fid_at number fids ≡ None → ⊥
+pub first-there : (fids : List FidRow) (number : ℕ)
+    → option_map (λ (row : FidRow). row.0) (slice_get fids 0) ≡ Some number
+    → fid_at number fids ≡ None → ⊥
 first-there [] number first none = let no : None ≡ Some number = first in cc
 first-there (row ∷ rows) number first none =
     let is : Some row.0 ≡ Some number = first in
     let same : row.0 ≡ number = cc in
-    let here : is_at (nat_cmp number) row.0 ≡ true = subst (λ k. is_at (nat_cmp number) k ≡ true) (sym same) (at-itself number) in
+    let here : is_at (nat_cmp number) row.0 ≡ true =
+    subst (λ k. is_at (nat_cmp number) k ≡ true) (sym same) (at-itself number) in
     let no : Some row.1 ≡ None = rw here at none in
     cc
 
-pub ended-first : (table : List MountRow) (now : ℕ) (f f' : List Server) (fids fids' : List FidRow) (number : ℕ) (v : Fid) →
-    IsForest f → FidsFit table f fids → option_map (λ (row : FidRow). row.0) (slice_get fids 0) ≡ Some number → fid_at number fids ≡ Some v →
-    fids' ≡ without_fid number fids → f' ≡ all_applied (on_end table now f v) f → IsEnded table now f f' fids fids'
-ended-first table now f f' [] fids' number v sound fits first found taken ended = let no : None ≡ Some number = first in cc
+pub ended-first : (table : List MountRow) (now : ℕ) (f f' : List Server) (fids fids' : List FidRow)
+    (number : ℕ) (v : Fid) →
+    IsForest f → FidsFit table f fids
+    → option_map (λ (row : FidRow). row.0) (slice_get fids 0) ≡ Some number
+    → fid_at number fids ≡ Some v →
+    fids' ≡ without_fid number fids → f' ≡ all_applied (on_end table now f v) f
+    → IsEnded table now f f' fids fids'
+ended-first table now f f' [] fids' number v sound fits first found taken ended =
+    let no : None ≡ Some number = first in cc
 ended-first table now f f' (row ∷ rows) fids' number v sound fits first found taken ended =
     let is : Some row.0 ≡ Some number = first in
     let same : row.0 ≡ number = cc in
-    let here : is_at (nat_cmp number) row.0 ≡ true = subst (λ k. is_at (nat_cmp number) k ≡ true) (sym same) (at-itself number) in
+    let here : is_at (nat_cmp number) row.0 ≡ true =
+    subst (λ k. is_at (nat_cmp number) k ≡ true) (sym same) (at-itself number) in
     let value : Some row.1 ≡ Some v = rw here at found in
     let it : v ≡ row.1 = cc in
     let left : fids' ≡ rows = rw here at taken in
-    let after : f' ≡ all_applied (on_end table now f row.1) f = ended ∙ ap (λ (w : Fid). all_applied (on_end table now f w) f) it in
+    let after : f' ≡ all_applied (on_end table now f row.1) f =
+    ended ∙ ap (λ (w : Fid). all_applied (on_end table now f w) f) it in
     rw (left, after) (record {
       fit = fits-ended table now f row rows sound fits;
       same = sym (ends-first table now f row rows);
@@ -159,6 +211,7 @@ ended-first table now f f' (row ∷ rows) fids' number v sound fits first found 
     })
 
 -- without a first there are none
-pub no-first : (fids : List FidRow) → option_map (λ (row : FidRow). row.0) (slice_get fids 0) ≡ None → fids ≡ []
+pub no-first : (fids : List FidRow) → option_map (λ (row : FidRow). row.0) (slice_get fids 0) ≡ None
+    → fids ≡ []
 no-first [] none = refl
 no-first (row ∷ rows) none = let no : Some row.0 ≡ None = none in absurd (cc)

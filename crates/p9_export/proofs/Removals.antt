@@ -1,5 +1,6 @@
 -- Removing files.
-use Rattle.std.proofs.Common.{◌≡◌, ◌≢◌, ℕ, ◌<◌, true, false, List, Option, Some, None, Ok, is_some, refl, arith}
+use Rattle.std.proofs.Common.{◌≡◌, ◌≢◌, ℕ, ◌<◌, true, false, List, Option, Some, None, Ok, is_some}
+use Rattle.std.proofs.Common.{refl, arith}
 use Rattle.std.specs.Prelude.{slice_get}
 use Rattle.p9_base.specs.declared.node_ref.NodeRef.{NodeRef}
 use Rattle.p9_tree.specs.Node.{Node}
@@ -16,14 +17,17 @@ use Rattle.p9_export.specs.Remove.{removal}
 use Rattle.p9_export.specs.Rights.{may_write_parent}
 
 -- a node that stands in a directory is no root
-pub node_of-inner : (forest : List Server) (at : NodeRef) (n : Node) → IsForest forest → node_of at forest ≡ Some n → is_some n.parent ≡ true → at.number ≢ 0
+pub node_of-inner : (forest : List Server) (at : NodeRef) (n : Node) → IsForest forest
+    → node_of at forest ≡ Some n → is_some n.parent ≡ true → at.number ≢ 0
 node_of-inner forest at n sound found inner = by n.parent refl
   where
-    go : (o : Option Server) → slice_get forest at.server ≡ o → (parent : ℕ) → n.parent ≡ Some parent → at.number ≡ 0 → ⊥
+    go : (o : Option Server) → slice_get forest at.server ≡ o → (parent : ℕ)
+        → n.parent ≡ Some parent → at.number ≡ 0 → ⊥
     go None e parent in_dir root = let none : None ≡ Some n = rw e at found in cc
     go (Some s) e parent in_dir root =
         let here : node_at at.number s.nodes ≡ Some n = rw e at found in
-        let below : parent < at.number = (sound.servers at.server s e).parent_below at.number parent n here in_dir in
+        let below : parent < at.number =
+        (sound.servers at.server s e).parent_below at.number parent n here in_dir in
         omega arith
 
     by : (o : Option ℕ) → n.parent ≡ o → at.number ≡ 0 → ⊥
@@ -36,15 +40,23 @@ absent None none = refl
 absent (Some x) none = cc
 
 -- a node is taken out, and its directory marked
-all_applied-taken_out : (user : List ℕ) (now : ℕ) (at : NodeRef) (n : Node) (old dropped new : List Server) → dropped ≡ tree_changed_at at.server (with_dropped at.number) old → new ≡ all_applied (parent_marked user now at n.parent) dropped → new ≡ all_applied (taken_out user now at n) old
+all_applied-taken_out : (user : List ℕ) (now : ℕ) (at : NodeRef) (n : Node)
+    (old dropped new : List Server)
+    → dropped ≡ tree_changed_at at.server (with_dropped at.number) old
+    → new ≡ all_applied (parent_marked user now at n.parent) dropped
+    → new ≡ all_applied (taken_out user now at n) old
 unfolding applied
 all_applied-taken_out user now at n old dropped new drop mark = rw (mark, drop) refl
 
 -- a removal that no test refuses
-pub removal-made : (setting : Setting) (old dropped new : List Server) (left : Session) (now : ℕ) (v : Fid) (at : NodeRef) (n : Node) →
-    at ≡ fid_ref setting.table v → node_of at old ≡ Some n → is_some n.parent ≡ true → may_write_parent v.user old at n ≡ true → has_children_of at old ≡ false →
-    dropped ≡ tree_changed_at at.server (with_dropped at.number) old → new ≡ all_applied (parent_marked v.user now at n.parent) dropped →
+pub removal-made : (setting : Setting) (old dropped new : List Server) (left : Session) (now : ℕ)
+    (v : Fid) (at : NodeRef) (n : Node) →
+    at ≡ fid_ref setting.table v → node_of at old ≡ Some n → is_some n.parent ≡ true
+    → may_write_parent v.user old at n ≡ true → has_children_of at old ≡ false →
+    dropped ≡ tree_changed_at at.server (with_dropped at.number) old
+    → new ≡ all_applied (parent_marked v.user now at n.parent) dropped →
     Answers (removal setting old left now v) false old new left left (Ok Rremove)
 unfolding given need
 removal-made setting old dropped new left now v at n at_is found inner permitted empty drop mark =
-    rw (← at_is, found, inner, permitted, empty) (refl, all_applied-taken_out v.user now at n old dropped new drop mark)
+    rw (← at_is, found, inner, permitted, empty)
+    (refl, all_applied-taken_out v.user now at n old dropped new drop mark)

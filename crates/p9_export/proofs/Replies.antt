@@ -1,7 +1,8 @@
 -- Replies can be told apart by their bytes.
 use Rattle.std.proofs.Common.{◌≡◌, ℕ, List, false, get_or, refl, ap, sym, ◌∙◌, arith}
 use Rattle.p9_wire.specs.Fields.{number}
-use Rattle.p9_wire.specs.Message.{RMessage, Rversion, Rattach, Rerror, Rflush, Rwalk, Ropen, Rcreate, Rread, Rwrite, Rclunk, Rremove, Rstat, Rwstat}
+use Rattle.p9_wire.specs.Message.{RMessage, Rversion, Rattach, Rerror, Rflush, Rwalk, Ropen}
+use Rattle.p9_wire.specs.Message.{Rcreate, Rread, Rwrite, Rclunk, Rremove, Rstat, Rwstat}
 use Rattle.p9_wire.specs.Spelling.{r_spelling, r_type}
 use Rattle.p9_export.specs.Answers.{is_error}
 
@@ -38,6 +39,8 @@ other_kind (Rstat stat) plain same = omega arith
 other_kind Rwstat plain same = omega arith
 
 -- the bytes of another reply are no error's
-pub not_an_error : (tag other : ℕ) (m : RMessage) (ename : List ℕ) → is_error m ≡ false → r_spelling tag m ≡ r_spelling other (Rerror ename) → ⊥
+pub not_an_error : (tag other : ℕ) (m : RMessage) (ename : List ℕ) → is_error m ≡ false
+    → r_spelling tag m ≡ r_spelling other (Rerror ename) → ⊥
 not_an_error tag other m ename plain same =
-    other_kind m plain (sym (kind-r_spelling tag m) ∙ ap (λ bytes. get_or bytes 4 0) same ∙ kind-r_spelling other (Rerror ename))
+    other_kind m plain (sym (kind-r_spelling tag m) ∙ ap (λ bytes. get_or bytes 4 0) same
+    ∙ kind-r_spelling other (Rerror ename))

@@ -1,5 +1,6 @@
 -- A request that was answered made the step.
-use Rattle.std.proofs.Common.{◌≡◌, ℕ, List, [], ◌∷◌, Bool, true, false, Option, Some, None, IsSome, Result, Ok, Err, ◌⊎◌, inl, inr, refl, ap, sym, ◌∙◌, subst}
+use Rattle.std.proofs.Common.{◌≡◌, ℕ, List, [], ◌∷◌, Bool, true, false, Option, Some, None, IsSome}
+use Rattle.std.proofs.Common.{Result, Ok, Err, ◌⊎◌, inl, inr, refl, ap, sym, ◌∙◌, subst}
 use Rattle.std.specs.Prelude.{◌&&◌, ◌||◌, is_some}
 use Rattle.std.specs.Cmp.Lexicographic.{bytes_decides}
 use Rattle.std.proofs.lemmas.Bool.{and_parts}
@@ -16,24 +17,34 @@ use Rattle.p9_wire.specs.Spelling.{r_spelling}
 use Rattle.p9_export.specs.State.{Session, SessionRow, State, changed_session, session_at}
 use Rattle.p9_export.specs.Change.{Change, all_applied}
 use Rattle.p9_export.specs.Answer.{Answer}
-use Rattle.p9_export.specs.Answers.{AnswersAmong, changes_of, frame_among, is_error, message_of, session_of}
-use Rattle.p9_export.specs.Step.{answered, finds_taken, fits_msize, frame_answer, is_no_memory_reply, is_version, may_run_out, message_answer, no_memory_reply, ran_out, request_of, step, tag_of, Stepped}
+use Rattle.p9_export.specs.Answers.{AnswersAmong, changes_of, frame_among, is_error, message_of}
+use Rattle.p9_export.specs.Answers.{session_of}
+use Rattle.p9_export.specs.Step.{answered, finds_taken, fits_msize, frame_answer}
+use Rattle.p9_export.specs.Step.{is_no_memory_reply, is_version, may_run_out, message_answer}
+use Rattle.p9_export.specs.Step.{no_memory_reply, ran_out, request_of, step, tag_of, Stepped}
 use Rattle.p9_export.specs.Event.{Request, is_frame}
 use Rattle.p9_export.proofs.Done.{done-is}
 use Rattle.p9_export.proofs.Plain.{IsPlainIf, plain-session_answer}
 use Rattle.p9_export.proofs.Replies.{not_an_error}
 
 -- to put a session where it stands changes nothing
-pub set_value-same : {X : Type 0} (t : ℕ → Bool) (rows : List (ℕ × X)) (x : X) → lookup t rows ≡ Some x → set_value t rows x ≡ rows
+pub set_value-same : {X : Type 0} (t : ℕ → Bool) (rows : List (ℕ × X)) (x : X)
+    → lookup t rows ≡ Some x → set_value t rows x ≡ rows
 set_value-same t [] x found = refl
 set_value-same t (row ∷ rows) x found = go (t row.0) refl (set_value-same t rows x)
   where
-    go : (b : Bool) → t row.0 ≡ b → (lookup t rows ≡ Some x → set_value t rows x ≡ rows) → set_value t (row ∷ rows) x ≡ row ∷ rows
-    go true e later = let is : Some row.1 ≡ Some x = rw e at found in let same : x ≡ row.1 = cc in rw e (ap (λ v. (row.0, v) ∷ rows) same)
-    go false e later = let further : lookup t rows ≡ Some x = rw e at found in rw e (ap (λ r. row ∷ r) (later further))
+    go : (b : Bool) → t row.0 ≡ b → (lookup t rows ≡ Some x → set_value t rows x ≡ rows)
+        → set_value t (row ∷ rows) x ≡ row ∷ rows
+    go true e later =
+        let is : Some row.1 ≡ Some x = rw e at found in let same : x ≡ row.1 = cc in
+        rw e (ap (λ v. (row.0, v) ∷ rows) same)
+    go false e later =
+        let further : lookup t rows ≡ Some x = rw e at found in
+        rw e (ap (λ r. row ∷ r) (later further))
 
 -- the forest and the sessions afterwards, and the reply
-pub record MakesStep (state : State) (forest : List Server) (rows : List SessionRow) (bytes : List ℕ) (after : Stepped) : Type 0 where
+pub record MakesStep (state : State) (forest : List Server) (rows : List SessionRow)
+    (bytes : List ℕ) (after : Stepped) : Type 0 where
   pub state_is : record { setting = state.setting; forest = forest; sessions = rows } ≡ after.state
   pub bytes_are : bytes ≡ after.reply
 
@@ -42,53 +53,93 @@ abbrev Plain : Bool → Result RMessage Fault → Type 0
 Plain may (Ok reply) = may ≡ true → is_error reply ≡ false
 Plain may (Err fault) = Unit {0}
 
-module _ (state : State) (name : ℕ) (forest : List Server) (rows : List SessionRow) (session : Session) (frame bytes : List ℕ) (there : session_at name state.sessions ≡ Some session) where
+module _ (state : State) (name : ℕ) (forest : List Server) (rows : List SessionRow)
+    (session : Session) (frame bytes : List ℕ)
+    (there : session_at name state.sessions ≡ Some session) where
   Makes : Bool → Answer → Type 0
-  Makes refused answer = MakesStep state forest rows bytes (answered state name session frame refused answer)
+  Makes refused answer =
+      MakesStep state forest rows bytes (answered state name session frame refused answer)
 
   -- an outcome
-  outcome : (answer : Answer) (changes : List Change) (new : Session) (m : RMessage) (refused : Bool) → answer ≡ Ok (record { changes = changes; session = new; reply = m }) → forest ≡ all_applied changes state.forest → rows ≡ changed_session name new state.sessions → (refused && ran_out frame answer) ≡ false → bytes ≡ r_spelling (tag_of frame) m → Makes refused answer
+  outcome : (answer : Answer) (changes : List Change) (new : Session) (m : RMessage)
+      (refused : Bool) → answer ≡ Ok (record { changes = changes; session = new; reply = m })
+      → forest ≡ all_applied changes state.forest → rows ≡ changed_session name new state.sessions
+      → (refused && ran_out frame answer) ≡ false → bytes ≡ r_spelling (tag_of frame) m
+      → Makes refused answer
   unfolding Makes
-  outcome answer changes new m refused is forest_is rows_are unmarked written = rw (unmarked, is, forest_is, rows_are) (record { state_is = refl; bytes_are = written })
+  outcome answer changes new m refused is forest_is rows_are unmarked written =
+      rw (unmarked, is, forest_is, rows_are) (record { state_is = refl; bytes_are = written })
 
   same_rows : changed_session name session state.sessions ≡ state.sessions
   same_rows = set_value-same (is_at (nat_cmp name)) state.sessions session there
 
   -- want of memory
-  without_memory : (answer : Answer) (refused : Bool) → forest ≡ state.forest → rows ≡ state.sessions → refused ≡ true → ran_out frame answer ≡ true → bytes ≡ no_memory_reply frame → Makes refused answer
+  without_memory : (answer : Answer) (refused : Bool) → forest ≡ state.forest
+      → rows ≡ state.sessions → refused ≡ true → ran_out frame answer ≡ true
+      → bytes ≡ no_memory_reply frame → Makes refused answer
   unfolding Makes
-  without_memory answer refused forest_is rows_are marked permitted written = rw (marked, permitted, forest_is, rows_are) (record { state_is = refl; bytes_are = written })
+  without_memory answer refused forest_is rows_are marked permitted written =
+      rw (marked, permitted, forest_is, rows_are) (record { state_is = refl; bytes_are = written })
 
   -- a refusal
-  refusal : (answer : Answer) (fault : Fault) (refused : Bool) → forest ≡ state.forest → rows ≡ state.sessions → answer ≡ Err fault → (refused ≡ true → bytes ≡ no_memory_reply frame) → bytes ≡ r_spelling (tag_of frame) (Rerror (text_of fault)) → Makes refused answer
+  refusal : (answer : Answer) (fault : Fault) (refused : Bool) → forest ≡ state.forest
+      → rows ≡ state.sessions → answer ≡ Err fault
+      → (refused ≡ true → bytes ≡ no_memory_reply frame)
+      → bytes ≡ r_spelling (tag_of frame) (Rerror (text_of fault)) → Makes refused answer
   unfolding Makes
-  refusal answer fault refused forest_is rows_are is memory written = go (refused && ran_out frame answer) refl
+  refusal answer fault refused forest_is rows_are is memory written =
+      go (refused && ran_out frame answer) refl
     where
-      go : (b : Bool) → (refused && ran_out frame answer) ≡ b → MakesStep state forest rows bytes (answered state name session frame refused answer)
-      go true e = let parts = and_parts refused (ran_out frame answer) e in rw (e, forest_is, rows_are) (record { state_is = refl; bytes_are = memory parts.0 })
-      go false e = rw (e, is, forest_is, rows_are) (record { state_is = ap (λ (r : List SessionRow). record state { sessions = r }) (sym (set_value-same (is_at (nat_cmp name)) state.sessions session there)); bytes_are = written })
+      go : (b : Bool) → (refused && ran_out frame answer) ≡ b
+          → MakesStep state forest rows bytes (answered state name session frame refused answer)
+      go true e =
+          let parts = and_parts refused (ran_out frame answer) e in
+          rw (e, forest_is, rows_are) (record { state_is = refl; bytes_are = memory parts.0 })
+      go false e =
+          rw (e, is, forest_is, rows_are) (record {
+            state_is =
+                ap (λ (r : List SessionRow). record state { sessions = r })
+                (sym (set_value-same (is_at (nat_cmp name)) state.sessions session there));
+            bytes_are = written;
+          })
 
   -- a reply that is no refusal isn't want of memory's
-  unmarked : (answer : Answer) (m : RMessage) → Plain (ran_out frame answer) (Ok m) → bytes ≡ r_spelling (tag_of frame) m → (is_no_memory_reply frame bytes && ran_out frame answer) ≡ false
+  unmarked : (answer : Answer) (m : RMessage) → Plain (ran_out frame answer) (Ok m)
+      → bytes ≡ r_spelling (tag_of frame) m
+      → (is_no_memory_reply frame bytes && ran_out frame answer) ≡ false
   unmarked answer m plain written = go (is_no_memory_reply frame bytes && ran_out frame answer) refl
     where
-      go : (b : Bool) → (is_no_memory_reply frame bytes && ran_out frame answer) ≡ b → (is_no_memory_reply frame bytes && ran_out frame answer) ≡ false
+      go : (b : Bool) → (is_no_memory_reply frame bytes && ran_out frame answer) ≡ b
+          → (is_no_memory_reply frame bytes && ran_out frame answer) ≡ false
       go false e = e
       go true e =
           let parts = and_parts (is_no_memory_reply frame bytes) (ran_out frame answer) e in
-          absurd (not_an_error (tag_of frame) (tag_of frame) m (text_of OutOfMemory) (plain parts.1) (sym written ∙ (bytes_decides bytes (no_memory_reply frame)).0 parts.0))
+          absurd (not_an_error (tag_of frame) (tag_of frame) m (text_of OutOfMemory) (plain parts.1)
+          (sym written ∙ (bytes_decides bytes (no_memory_reply frame)).0 parts.0))
 
-  pub answered-makes : (answer : Answer) (result : Result RMessage Fault) → AnswersAmong name answer (ran_out frame answer) state.forest forest state.sessions rows result → Plain (ran_out frame answer) result → bytes ≡ r_spelling (tag_of frame) (message_of result) → MakesStep state forest rows bytes (answered state name session frame (is_no_memory_reply frame bytes) answer)
+  pub answered-makes : (answer : Answer) (result : Result RMessage Fault)
+      → AnswersAmong name answer (ran_out frame answer) state.forest forest state.sessions rows
+      result → Plain (ran_out frame answer) result
+      → bytes ≡ r_spelling (tag_of frame) (message_of result)
+      → MakesStep state forest rows bytes
+      (answered state name session frame (is_no_memory_reply frame bytes) answer)
   unfolding Makes
   answered-makes answer (Ok m) did plain written =
-      outcome answer (changes_of answer) (session_of answer) m (is_no_memory_reply frame bytes) did.0 did.1 did.2 (unmarked answer m plain written) written
+      outcome answer (changes_of answer) (session_of answer) m (is_no_memory_reply frame bytes)
+      did.0 did.1 did.2 (unmarked answer m plain written) written
   answered-makes answer (Err fault) did plain written = by_cause did.0
     where
-      by_cause : ((answer ≡ Err fault) ⊎ ((fault ≡ OutOfMemory) × (ran_out frame answer ≡ true))) → MakesStep state forest rows bytes (answered state name session frame (is_no_memory_reply frame bytes) answer)
-      by_cause (inl is) = refusal answer fault (is_no_memory_reply frame bytes) did.1 did.2 is (λ e. (bytes_decides bytes (no_memory_reply frame)).0 e) written
+      by_cause : ((answer ≡ Err fault) ⊎ ((fault ≡ OutOfMemory) × (ran_out frame answer ≡ true)))
+          → MakesStep state forest rows bytes
+          (answered state name session frame (is_no_memory_reply frame bytes) answer)
+      by_cause (inl is) =
+          refusal answer fault (is_no_memory_reply frame bytes) did.1 did.2 is
+          (λ e. (bytes_decides bytes (no_memory_reply frame)).0 e) written
       by_cause (inr memory) =
-          let reply : bytes ≡ no_memory_reply frame = written ∙ ap (λ f. r_spelling (tag_of frame) (Rerror (text_of f))) memory.0 in
-          without_memory answer (is_no_memory_reply frame bytes) did.1 did.2 ((bytes_decides bytes (no_memory_reply frame)).1 reply) memory.1 reply
+          let reply : bytes ≡ no_memory_reply frame =
+          written ∙ ap (λ f. r_spelling (tag_of frame) (Rerror (text_of f))) memory.0 in
+          without_memory answer (is_no_memory_reply frame bytes) did.1 did.2
+          ((bytes_decides bytes (no_memory_reply frame)).1 reply) memory.1 reply
 
 -- The request of a frame.
 
@@ -102,14 +153,21 @@ module _ (session : Session) (frame : List ℕ) where
   pub request-is : (m : TMessage) → request_of session frame ≡ Ok m → IsRequest m
   request-is m is = by_msize (fits_msize session frame) refl
     where
-      by_test : (r : ℕ × TMessage) → t_message_of frame ≡ Some r → fits_msize session frame ≡ true → (b : Bool) → (is_version r.1 || is_some session.msize) ≡ b → IsRequest m
+      by_test : (r : ℕ × TMessage) → t_message_of frame ≡ Some r → fits_msize session frame ≡ true
+          → (b : Bool) → (is_version r.1 || is_some session.msize) ≡ b → IsRequest m
       by_test r found fits true e =
           let same : Ok r.1 ≡ Ok m = rw (fits, found, e) at is in
           let its : r.1 ≡ m = cc in
-          record { tag = r.0; read = subst (λ x. t_message_of frame ≡ Some (r.0, x)) its found; allowed = subst (λ x. (is_version x || is_some session.msize) ≡ true) its e }
-      by_test r found fits false e = let no : Err VersionNotSet ≡ Ok m = rw (fits, found, e) at is in absurd (cc)
+          record {
+            tag = r.0;
+            read = subst (λ x. t_message_of frame ≡ Some (r.0, x)) its found;
+            allowed = subst (λ x. (is_version x || is_some session.msize) ≡ true) its e;
+          }
+      by_test r found fits false e =
+          let no : Err VersionNotSet ≡ Ok m = rw (fits, found, e) at is in absurd (cc)
 
-      by_message : fits_msize session frame ≡ true → (o : Option (ℕ × TMessage)) → t_message_of frame ≡ o → IsRequest m
+      by_message : fits_msize session frame ≡ true → (o : Option (ℕ × TMessage))
+          → t_message_of frame ≡ o → IsRequest m
       by_message fits None e = let no : Err Malformed ≡ Ok m = rw (fits, e) at is in absurd (cc)
       by_message fits (Some r) e = by_test r e fits (is_version r.1 || is_some session.msize) refl
 
@@ -118,49 +176,83 @@ module _ (session : Session) (frame : List ℕ) where
       by_msize false e = let no : Err Malformed ≡ Ok m = rw e at is in absurd (cc)
 
   -- so whether its answer may be want of memory is the request's
-  pub ran_out-is : (m : TMessage) (a : Answer) → request_of session frame ≡ Ok m → ran_out frame a ≡ may_run_out m a
+  pub ran_out-is : (m : TMessage) (a : Answer) → request_of session frame ≡ Ok m
+      → ran_out frame a ≡ may_run_out m a
   ran_out-is m a is = let r = request-is m is in rw r.read refl
 
-module _ (state : State) (name now : ℕ) (forest : List Server) (rows : List SessionRow) (session : Session) (frame bytes : List ℕ) (there : session_at name state.sessions ≡ Some session) where
+module _ (state : State) (name now : ℕ) (forest : List Server) (rows : List SessionRow)
+    (session : Session) (frame bytes : List ℕ)
+    (there : session_at name state.sessions ≡ Some session) where
   answer : Answer
   answer = frame_answer state.setting state.forest state.sessions session now frame
 
   -- a reply that is answered where memory may be refused is no refusal
-  plain-among : (reply : RMessage) → answer ≡ Ok (record { changes = changes_of answer; session = session_of answer; reply = reply }) → Plain (ran_out frame answer) (Ok reply)
+  plain-among : (reply : RMessage) → answer ≡ Ok (record {
+    changes = changes_of answer;
+    session = session_of answer;
+    reply = reply;
+  }) → Plain (ran_out frame answer) (Ok reply)
   unfolding answer
   plain-among reply is = by_request (request_of session frame) refl
     where
-      by_request : (request : Result TMessage Fault) → request_of session frame ≡ request → ran_out frame answer ≡ true → is_error reply ≡ false
+      by_request : (request : Result TMessage Fault) → request_of session frame ≡ request
+          → ran_out frame answer ≡ true → is_error reply ≡ false
       by_request (Err fault) e may =
           let refused : answer ≡ Err fault = rw e refl in
-          let no : Err fault ≡ Ok (record { changes = changes_of answer; session = session_of answer; reply = reply }) = sym refused ∙ is in
+          let no : Err fault ≡ Ok (record {
+            changes = changes_of answer;
+            session = session_of answer;
+            reply = reply;
+          }) = sym refused ∙ is in
           absurd (cc)
       by_request (Ok m) e may =
           let a = message_answer state.setting state.forest state.sessions session now m in
           let same : answer ≡ a = rw e refl in
-          let its : may_run_out m a ≡ true = sym (ran_out-is session frame m a e) ∙ ap (ran_out frame) (sym same) ∙ may in
-          done-is (IsPlainIf (may_run_out m a)) a _ (plain-session_answer state.setting state.forest (finds_taken state.setting state.forest state.sessions session m) session now m) (sym same ∙ is) its
+          let its : may_run_out m a ≡ true =
+          sym (ran_out-is session frame m a e) ∙ ap (ran_out frame) (sym same) ∙ may in
+          done-is (IsPlainIf (may_run_out m a)) a _
+          (plain-session_answer state.setting state.forest
+          (finds_taken state.setting state.forest state.sessions session m) session now m)
+          (sym same ∙ is) its
 
-  plain-result : (result : Result RMessage Fault) → AnswersAmong name answer (ran_out frame answer) state.forest forest state.sessions rows result → Plain (ran_out frame answer) result
+  plain-result : (result : Result RMessage Fault)
+      → AnswersAmong name answer (ran_out frame answer) state.forest forest state.sessions rows
+      result → Plain (ran_out frame answer) result
   plain-result (Ok reply) did = plain-among reply did.0
   plain-result (Err fault) did = tt
 
   pub frame-makes : (result : Result RMessage Fault) → is_frame frame ≡ true →
-      AnswersAmong name (frame_answer state.setting state.forest state.sessions session now frame) (ran_out frame (frame_answer state.setting state.forest state.sessions session now frame)) state.forest forest state.sessions rows result →
+      AnswersAmong name (frame_answer state.setting state.forest state.sessions session now frame)
+      (ran_out frame (frame_answer state.setting state.forest state.sessions session now frame))
+      state.forest forest state.sessions rows result →
       bytes ≡ r_spelling (tag_of frame) (message_of result) →
-      MakesStep state forest rows bytes (step state (Request name frame now) (is_no_memory_reply frame bytes))
+      MakesStep state forest rows bytes
+      (step state (Request name frame now) (is_no_memory_reply frame bytes))
   unfolding answer
   frame-makes result whole did written =
-      let makes = answered-makes state name forest rows session frame bytes there (frame_answer state.setting state.forest state.sessions session now frame) result did (plain-result result did) written in
+      let makes =
+      answered-makes state name forest rows session frame bytes there
+      (frame_answer state.setting state.forest state.sessions session now frame) result did
+      (plain-result result did) written in
       rw (whole, there) makes
 
 -- the same of the session of this name, which is open
-pub among-makes : (state : State) (name now : ℕ) (forest : List Server) (rows : List SessionRow) (frame bytes : List ℕ) (result : Result RMessage Fault) → IsSome (session_at name state.sessions) → is_frame frame ≡ true →
-    AnswersAmong name (frame_among state.setting state.forest state.sessions name now frame) (ran_out frame (frame_among state.setting state.forest state.sessions name now frame)) state.forest forest state.sessions rows result →
+pub among-makes : (state : State) (name now : ℕ) (forest : List Server) (rows : List SessionRow)
+    (frame bytes : List ℕ) (result : Result RMessage Fault)
+    → IsSome (session_at name state.sessions) → is_frame frame ≡ true →
+    AnswersAmong name (frame_among state.setting state.forest state.sessions name now frame)
+    (ran_out frame (frame_among state.setting state.forest state.sessions name now frame))
+    state.forest forest state.sessions rows result →
     bytes ≡ r_spelling (tag_of frame) (message_of result) →
-    MakesStep state forest rows bytes (step state (Request name frame now) (is_no_memory_reply frame bytes))
-among-makes state name now forest rows frame bytes result live whole did written = go (session_at name state.sessions) refl
+    MakesStep state forest rows bytes
+    (step state (Request name frame now) (is_no_memory_reply frame bytes))
+among-makes state name now forest rows frame bytes result live whole did written =
+    go (session_at name state.sessions) refl
   where
-    go : (o : Option Session) → session_at name state.sessions ≡ o → MakesStep state forest rows bytes (step state (Request name frame now) (is_no_memory_reply frame bytes))
+    go : (o : Option Session) → session_at name state.sessions ≡ o
+        → MakesStep state forest rows bytes
+        (step state (Request name frame now) (is_no_memory_reply frame bytes))
     go None e = let no : false ≡ true = rw e at live in absurd (cc)
-    go (Some session) e = frame-makes state name now forest rows session frame bytes e result whole (rw e at did) written
+    go (Some session) e =
+        frame-makes state name now forest rows session frame bytes e result whole (rw e at did)
+        written

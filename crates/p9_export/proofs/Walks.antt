@@ -1,5 +1,7 @@
 -- Walks, step by step.
-use Rattle.std.proofs.Common.{◌≡◌, ℕ, List, [], ◌∷◌, ◌++◌, true, false, Option, Some, None, Result, Ok, Err, IsSome, is_none, is_some, length, map, drop, get_or, suc, ◌+◌, ◌<◌, ◌≤◌, Bor, refl, append_assoc, add-one, drop-cons}
+use Rattle.std.proofs.Common.{◌≡◌, ℕ, List, [], ◌∷◌, ◌++◌, true, false, Option, Some, None, Result}
+use Rattle.std.proofs.Common.{Ok, Err, IsSome, is_none, is_some, length, map, drop, get_or, suc}
+use Rattle.std.proofs.Common.{◌+◌, ◌<◌, ◌≤◌, Bor, refl, append_assoc, add-one, drop-cons}
 use Rattle.std.proofs.lemmas.List.{append-nil, drop_all}
 use Rattle.p9_base.specs.declared.fault.Fault.{Fault}
 use Rattle.p9_base.specs.declared.fault.Fault.TheVariants.{PhaseError}
@@ -17,56 +19,97 @@ use Rattle.p9_fids.specs.Fid.{Fid, fid_at}
 use Rattle.p9_export.specs.State.{Setting, Session}
 use Rattle.p9_export.specs.Qid.{qid_at}
 use Rattle.p9_export.specs.Answer.{given, need, unless}
-use Rattle.p9_export.specs.Walk.{Walked, ended_walk, newfid_fault, walk_answer, walk_outcome, walked}
+use Rattle.p9_export.specs.Walk.{Walked, ended_walk, newfid_fault, walk_answer, walk_outcome}
+use Rattle.p9_export.specs.Walk.{walked}
 
 -- a walk that gave these qids before
 abbrev pub so_far : List Qid → Walked → Walked
 so_far qids rest = record { qids = qids ++ rest.qids; trail = rest.trail; stopped = rest.stopped }
 
 -- a step arrives at a file
-pub file-step_of : (forest : List Server) (table : List MountRow) (user : Option (List ℕ)) (trail : List NodeRef) (name : List ℕ) (step : Step) → step_of forest table user trail name ≡ Ok step → IsSome (file_of (here (stepped trail step)) table forest)
-file-step_of forest table user trail name step found = go (step_among forest user trail name (members_of (here trail) table)) found
+pub file-step_of : (forest : List Server) (table : List MountRow) (user : Option (List ℕ))
+    (trail : List NodeRef) (name : List ℕ) (step : Step)
+    → step_of forest table user trail name ≡ Ok step
+    → IsSome (file_of (here (stepped trail step)) table forest)
+file-step_of forest table user trail name step found =
+    go (step_among forest user trail name (members_of (here trail) table)) found
   where
-    by : (s : Step) (file : Option Node) → file_of (here (stepped trail s)) table forest ≡ file → arrived forest table trail s ≡ Ok step → IsSome (file_of (here (stepped trail step)) table forest)
+    by : (s : Step) (file : Option Node) → file_of (here (stepped trail s)) table forest ≡ file
+        → arrived forest table trail s ≡ Ok step
+        → IsSome (file_of (here (stepped trail step)) table forest)
     by s None e is = let none : Err PhaseError ≡ Ok step = rw e at is in cc
-    by s (Some n) e is = let same : s ≡ step = (let ok : Ok s ≡ Ok step = rw e at is in cc) in rw (← same, e) refl
+    by s (Some n) e is =
+        let same : s ≡ step = (let ok : Ok s ≡ Ok step = rw e at is in cc) in rw (← same, e) refl
 
-    go : (r : Result Step Fault) → and_then r (arrived forest table trail) ≡ Ok step → IsSome (file_of (here (stepped trail step)) table forest)
+    go : (r : Result Step Fault) → and_then r (arrived forest table trail) ≡ Ok step
+        → IsSome (file_of (here (stepped trail step)) table forest)
     go (Err fault) is = cc
     go (Ok s) is = by s (file_of (here (stepped trail s)) table forest) refl is
 
 module _ (setting : Setting) (forest : List Server) (user : List ℕ) where
   -- one step further
-  pub walked-more : (qids : List Qid) (trail : List NodeRef) (name : List ℕ) (names : List (List ℕ)) (step : Step) (qid : Qid) → step_of forest setting.table (Some user) trail name ≡ Ok step → qid_at setting.table forest (here (stepped trail step)) ≡ Some qid →
-      so_far qids (walked setting forest user trail (name ∷ names)) ≡ so_far (qids ++ qid ∷ []) (walked setting forest user (stepped trail step) names)
+  pub walked-more : (qids : List Qid) (trail : List NodeRef) (name : List ℕ) (names : List (List ℕ))
+      (step : Step) (qid : Qid) → step_of forest setting.table (Some user) trail name ≡ Ok step
+      → qid_at setting.table forest (here (stepped trail step)) ≡ Some qid →
+      so_far qids (walked setting forest user trail (name ∷ names))
+      ≡ so_far (qids ++ qid ∷ []) (walked setting forest user (stepped trail step) names)
   walked-more qids trail name names step qid found there = rw (found, there) (rw append_assoc)
 
   -- the step that is refused ends the walk
-  pub walked-stopped : (qids : List Qid) (trail : List NodeRef) (name : List ℕ) (names : List (List ℕ)) (fault : Fault) → step_of forest setting.table (Some user) trail name ≡ Err fault →
-      so_far qids (walked setting forest user trail (name ∷ names)) ≡ record { qids = qids; trail = trail; stopped = Some fault }
+  pub walked-stopped : (qids : List Qid) (trail : List NodeRef) (name : List ℕ)
+      (names : List (List ℕ)) (fault : Fault)
+      → step_of forest setting.table (Some user) trail name ≡ Err fault →
+      so_far qids (walked setting forest user trail (name ∷ names)) ≡ record {
+        qids = qids;
+        trail = trail;
+        stopped = Some fault;
+      }
   walked-stopped qids trail name names fault refused = rw refused (rw append-nil)
 
   -- a step by the next name
-  pub walked-turn : (qids qids' : List Qid) (trail trail' : List NodeRef) (names : List (Bor (List ℕ))) (i : ℕ) (d : Bor (List ℕ)) (step : Step) (qid : Qid) →
-      i < length names → step_of forest setting.table (Some user) trail (get_or names i d).now ≡ Ok step → qid_at setting.table forest (here (stepped trail step)) ≡ Some qid → qids' ≡ qids ++ qid ∷ [] → trail' ≡ stepped trail step →
-      so_far qids (walked setting forest user trail (map (λ n. n.now) (drop i names))) ≡ so_far qids' (walked setting forest user trail' (map (λ n. n.now) (drop (i + 1) names)))
+  pub walked-turn : (qids qids' : List Qid) (trail trail' : List NodeRef)
+      (names : List (Bor (List ℕ))) (i : ℕ) (d : Bor (List ℕ)) (step : Step) (qid : Qid) →
+      i < length names
+      → step_of forest setting.table (Some user) trail (get_or names i d).now ≡ Ok step
+      → qid_at setting.table forest (here (stepped trail step)) ≡ Some qid
+      → qids' ≡ qids ++ qid ∷ [] → trail' ≡ stepped trail step →
+      so_far qids (walked setting forest user trail (map (λ n. n.now) (drop i names)))
+      ≡ so_far qids' (walked setting forest user trail' (map (λ n. n.now) (drop (i + 1) names)))
   walked-turn qids qids' trail trail' names i d step qid within found there pushed taken =
-      rw (add-one, drop-cons names i d, pushed, taken) (walked-more qids trail (get_or names i d).now (map (λ n. n.now) (drop (suc i) names)) step qid found there)
+      rw (add-one, drop-cons names i d, pushed, taken)
+      (walked-more qids trail (get_or names i d).now (map (λ n. n.now) (drop (suc i) names))
+      step qid found there)
 
   -- the next name is refused
-  pub walked-end : (qids : List Qid) (trail : List NodeRef) (names : List (Bor (List ℕ))) (i : ℕ) (d : Bor (List ℕ)) (fault : Fault) →
-      i < length names → step_of forest setting.table (Some user) trail (get_or names i d).now ≡ Err fault →
-      so_far qids (walked setting forest user trail (map (λ n. n.now) (drop i names))) ≡ record { qids = qids; trail = trail; stopped = Some fault }
+  pub walked-end : (qids : List Qid) (trail : List NodeRef) (names : List (Bor (List ℕ))) (i : ℕ)
+      (d : Bor (List ℕ)) (fault : Fault) →
+      i < length names
+      → step_of forest setting.table (Some user) trail (get_or names i d).now ≡ Err fault →
+      so_far qids (walked setting forest user trail (map (λ n. n.now) (drop i names))) ≡ record {
+        qids = qids;
+        trail = trail;
+        stopped = Some fault;
+      }
   walked-end qids trail names i d fault within refused =
-      rw (drop-cons names i d) (walked-stopped qids trail (get_or names i d).now (map (λ n. n.now) (drop (suc i) names)) fault refused)
+      rw (drop-cons names i d)
+      (walked-stopped qids trail (get_or names i d).now (map (λ n. n.now) (drop (suc i) names))
+      fault refused)
 
   -- no name is left
-  pub walked-all : (qids : List Qid) (trail : List NodeRef) (names : List (Bor (List ℕ))) (i : ℕ) → length names ≤ i →
-      so_far qids (walked setting forest user trail (map (λ n. n.now) (drop i names))) ≡ record { qids = qids; trail = trail; stopped = None }
+  pub walked-all : (qids : List Qid) (trail : List NodeRef) (names : List (Bor (List ℕ))) (i : ℕ)
+      → length names ≤ i →
+      so_far qids (walked setting forest user trail (map (λ n. n.now) (drop i names))) ≡ record {
+        qids = qids;
+        trail = trail;
+        stopped = None;
+      }
   walked-all qids trail names i past = rw (drop_all i names past) (rw append-nil)
 
 -- of the fid, only its user goes on
-ended_walk-user : (fid newfid : ℕ) (v w : Fid) (session : Session) (trail : List NodeRef) (stopped : Option Fault) (qids : List Qid) → v.user ≡ w.user → ended_walk fid newfid v session trail stopped qids ≡ ended_walk fid newfid w session trail stopped qids
+ended_walk-user : (fid newfid : ℕ) (v w : Fid) (session : Session) (trail : List NodeRef)
+    (stopped : Option Fault) (qids : List Qid) → v.user ≡ w.user
+    → ended_walk fid newfid v session trail stopped qids
+    ≡ ended_walk fid newfid w session trail stopped qids
 ended_walk-user fid newfid v w session trail None qids same = rw same
 ended_walk-user fid newfid v w session trail (Some fault) [] same = refl
 ended_walk-user fid newfid v w session trail (Some fault) (qid ∷ qids) same = refl
@@ -77,10 +120,14 @@ closed-is_none None closed = refl
 closed-is_none (Some x) closed = cc
 
 -- a walk that no test refuses
-pub walk_answer-goes : (setting : Setting) (forest : List Server) (session : Session) (fid newfid : ℕ) (names : List (List ℕ)) (v w : Fid) → fid_at fid session.fids ≡ Some v → is_some v.opened ≡ false → newfid_fault fid newfid session.fids ≡ None → v.user ≡ w.user →
-    walk_answer setting forest session fid newfid names ≡ walk_outcome fid newfid w session (walked setting forest v.user v.trail names)
+pub walk_answer-goes : (setting : Setting) (forest : List Server) (session : Session)
+    (fid newfid : ℕ) (names : List (List ℕ)) (v w : Fid) → fid_at fid session.fids ≡ Some v
+    → is_some v.opened ≡ false → newfid_fault fid newfid session.fids ≡ None → v.user ≡ w.user →
+    walk_answer setting forest session fid newfid names
+    ≡ walk_outcome fid newfid w session (walked setting forest v.user v.trail names)
 unfolding given need unless
 walk_answer-goes setting forest session fid newfid names v w found closed free same =
     let none = closed-is_none v.opened closed in
     let walk = walked setting forest v.user v.trail names in
-    rw (found, none, free) (ended_walk-user fid newfid v w session walk.trail walk.stopped walk.qids same)
+    rw (found, none, free)
+    (ended_walk-user fid newfid v w session walk.trail walk.stopped walk.qids same)

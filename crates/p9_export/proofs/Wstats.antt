@@ -1,5 +1,6 @@
 -- The answer to a wstat that no test refuses.
-use Rattle.std.proofs.Common.{◌≡◌, ◌≢◌, ℕ, ◌≤◌, Bool, true, false, List, [], ◌∷◌, Option, Some, None, Ok, is_some, option_and_then, refl, sym, ap, ◌∙◌, subst, arith}
+use Rattle.std.proofs.Common.{◌≡◌, ◌≢◌, ℕ, ◌≤◌, Bool, true, false, List, [], ◌∷◌, Option, Some}
+use Rattle.std.proofs.Common.{None, Ok, is_some, option_and_then, refl, sym, ap, ◌∙◌, subst, arith}
 use Rattle.std.specs.Prelude.{is_none, nat_lt, not, if◌then◌else◌}
 use Rattle.std.specs.Option.{option_map_or}
 use Rattle.std.specs.Str.{bytes_eq}
@@ -7,7 +8,8 @@ use Rattle.std.proofs.lemmas.Bool.{and_parts}
 use Rattle.std.proofs.lemmas.Bool.Decides.{nat_tests}
 use Rattle.std.proofs.lemmas.Slice.Eq.{bytes_eq-Decides}
 use Rattle.p9_base.specs.declared.fault.Fault.{Fault}
-use Rattle.p9_base.specs.declared.fault.Fault.TheVariants.{FixedField, PermissionDenied, PhaseError, UnknownFid}
+use Rattle.p9_base.specs.declared.fault.Fault.TheVariants.{FixedField, PermissionDenied, PhaseError}
+use Rattle.p9_base.specs.declared.fault.Fault.TheVariants.{UnknownFid}
 use Rattle.p9_base.specs.declared.mode.Mode.{Mode}
 use Rattle.p9_base.specs.declared.node_ref.NodeRef.{NodeRef}
 use Rattle.p9_base.specs.Mode.{is_dir as is_dir_mode, mode_of}
@@ -30,7 +32,10 @@ use Rattle.p9_export.specs.End.{fid_file, fid_ref, parent_marked}
 use Rattle.p9_export.specs.Qid.{stat_of}
 use Rattle.p9_export.specs.Rights.{may_write_parent}
 use Rattle.p9_export.specs.Step.{is_done}
-use Rattle.p9_export.specs.Wstat.{Touched, gid_fault, has_sibling, is_any, is_mode_for, length_fault, may_give, mode_fault, name_fault, node_change, rewriting, ruling_fault, touched_of, touches_fixed, wstat_answer, wstat_fault}
+use Rattle.p9_export.specs.Wstat.{Touched, gid_fault, has_sibling, is_any, is_mode_for}
+use Rattle.p9_export.specs.Wstat.{length_fault, may_give, mode_fault, name_fault, node_change}
+use Rattle.p9_export.specs.Wstat.{rewriting, ruling_fault, touched_of, touches_fixed, wstat_answer}
+use Rattle.p9_export.specs.Wstat.{wstat_fault}
 use Rattle.p9_export.proofs.Removals.{node_of-inner}
 use Rattle.p9_tree.specs.Bytes.{file_max}
 
@@ -40,18 +45,23 @@ or_else-none None b e = (refl, e)
 or_else-none (Some x) b e = let no : Some x ≡ None = e in absurd (cc)
 
 -- the same of a chain of tests
-no_if : {X : Type 0} (fault : X) (test : Bool) → (if test then None else Some fault) ≡ None → test ≡ true
+no_if : {X : Type 0} (fault : X) (test : Bool) → (if test then None else Some fault) ≡ None
+    → test ≡ true
 no_if fault true e = refl
 no_if fault false e = let no : Some fault ≡ None = e in absurd (cc)
 
-no_four : {X : Type 0} (f1 f2 f3 f4 : X) (a b c d : Bool) → (if a then Some f1 else if not b then Some f2 else if not c then Some f3 else if d then Some f4 else None) ≡ None → (a ≡ false) × (b ≡ true) × (d ≡ false)
+no_four : {X : Type 0} (f1 f2 f3 f4 : X) (a b c d : Bool)
+    → (if a then Some f1 else if not b then Some f2 else if not c then Some f3 else if d
+    then Some f4 else None) ≡ None → (a ≡ false) × (b ≡ true) × (d ≡ false)
 no_four f1 f2 f3 f4 true b c d e = let no : Some f1 ≡ None = e in absurd (cc)
 no_four f1 f2 f3 f4 false false c d e = let no : Some f2 ≡ None = e in absurd (cc)
 no_four f1 f2 f3 f4 false true false d e = let no : Some f3 ≡ None = e in absurd (cc)
 no_four f1 f2 f3 f4 false true true true e = let no : Some f4 ≡ None = e in absurd (cc)
 no_four f1 f2 f3 f4 false true true false e = (refl, refl, refl)
 
-no_three : {X : Type 0} (f1 f2 f3 : X) (a b c : Bool) → (if a then Some f1 else if not b then Some f2 else if c then Some f3 else None) ≡ None → (a ≡ false) × (c ≡ false)
+no_three : {X : Type 0} (f1 f2 f3 : X) (a b c : Bool)
+    → (if a then Some f1 else if not b then Some f2 else if c then Some f3 else None) ≡ None
+    → (a ≡ false) × (c ≡ false)
 no_three f1 f2 f3 true b c e = let no : Some f1 ≡ None = e in absurd (cc)
 no_three f1 f2 f3 false false c e = let no : Some f2 ≡ None = e in absurd (cc)
 no_three f1 f2 f3 false true true e = let no : Some f3 ≡ None = e in absurd (cc)
@@ -70,15 +80,19 @@ not_above : (size : ℕ) → nat_lt file_max size ≡ false → size ≤ file_ma
 not_above size e = grind (arith, nat_tests)
 
 -- a mode that no test refuses is of the node's kind
-pub kind_kept : (n : Node) (mode : Option ℕ) → option_and_then (mode_fault n) mode ≡ None → (m : Mode) → option_and_then mode_of mode ≡ Some m → is_dir_mode m ≡ is_dir n
+pub kind_kept : (n : Node) (mode : Option ℕ) → option_and_then (mode_fault n) mode ≡ None
+    → (m : Mode) → option_and_then mode_of mode ≡ Some m → is_dir_mode m ≡ is_dir n
 kind_kept n None free m is = let no : None ≡ Some m = is in absurd (cc)
 kind_kept n (Some bits) free m is =
-    let fits : option_map_or (is_mode_for n) (mode_of bits) false ≡ true = no_if FixedField _ free in
+    let fits : option_map_or (is_mode_for n) (mode_of bits) false ≡ true =
+    no_if FixedField _ free in
     let its : is_mode_for n m ≡ true = rw is at fits in
     same_kind (is_dir n) (is_dir_mode m) its
 
 -- no entry has a name that no test refuses
-no_sibling : (forest : List Server) (at : NodeRef) (n m : Node) (name : List ℕ) (dir : ℕ) → has_sibling forest at n name ≡ false → n.parent ≡ Some dir → child_in (beside at dir) name forest ≡ Some m → ⊥
+no_sibling : (forest : List Server) (at : NodeRef) (n m : Node) (name : List ℕ) (dir : ℕ)
+    → has_sibling forest at n name ≡ false → n.parent ≡ Some dir
+    → child_in (beside at dir) name forest ≡ Some m → ⊥
 no_sibling forest at n m name dir alone in_dir found =
     let here : is_some (child_in (beside at dir) name forest) ≡ false = rw in_dir at alone in
     let no : true ≡ false = rw found at here in
@@ -102,12 +116,16 @@ module _ (user : List ℕ) (forest : List Server) (at : NodeRef) (n : Node) (t :
       record { mode = first.0; name = second.0; length = third.0; gid = fifth.1 }
 
   module _ (permits : Permits) where
-    name_free : (name : List ℕ) → t.name ≡ Some name → (is_none n.parent ≡ false) × (is_name name ≡ true) × (has_sibling forest at n name ≡ false)
+    name_free : (name : List ℕ) → t.name ≡ Some name
+        → (is_none n.parent ≡ false) × (is_name name ≡ true)
+        × (has_sibling forest at n name ≡ false)
     name_free name is =
         let free : name_fault user forest at n name ≡ None = rw is at permits.name in
-        no_four _ _ _ _ (is_none n.parent) (is_name name) (may_write_parent user forest at n) (has_sibling forest at n name) free
+        no_four _ _ _ _ (is_none n.parent) (is_name name) (may_write_parent user forest at n)
+        (has_sibling forest at n name) free
 
-    length_free : (size : ℕ) → t.length ≡ Some size → (is_dir n ≡ false) × (nat_lt file_max size ≡ false)
+    length_free : (size : ℕ) → t.length ≡ Some size
+        → (is_dir n ≡ false) × (nat_lt file_max size ≡ false)
     length_free size is =
         let free : length_fault user n size ≡ None = rw is at permits.length in
         no_three _ _ _ (is_dir n) (may user n to_write) (nat_lt file_max size) free
@@ -124,61 +142,87 @@ module _ (user : List ℕ) (forest : List Server) (at : NodeRef) (n : Node) (t :
         (bytes_eq-Decides gid user).0 (and_parts (rules user n) (bytes_eq gid user) gives).1
 
     -- so the node may be changed
-    pub can_change : (now : ℕ) → IsForest forest → node_of at forest ≡ Some n → CanChange (server_at at.server forest) at.number (node_change user now t)
+    pub can_change : (now : ℕ) → IsForest forest → node_of at forest ≡ Some n
+        → CanChange (server_at at.server forest) at.number (node_change user now t)
     can_change now sound found = λ m there.
         let same : n ≡ m = let e : Some n ≡ Some m = sym found ∙ there in cc in
-        subst (λ k. CanChangeNode (server_at at.server forest) k (node_change user now t)) same (record {
+        subst (λ k. CanChangeNode (server_at at.server forest) k (node_change user now t))
+        same (record {
           same_kind = kind_kept n t.mode permits.mode;
           not_root = λ name is. not_zero name is;
-          free = λ name is dir in_dir o other. absurd (no_sibling forest at n o name dir (name_free name is).2 in_dir other);
+          free =
+              λ name is dir in_dir o other. absurd
+              (no_sibling forest at n o name dir (name_free name is).2 in_dir other);
           file = λ size is. (length_free size is).0;
           small = λ size is. not_above size (length_free size is).1;
         })
       where
         not_zero : (name : List ℕ) → t.name ≡ Some name → n.number ≢ 0
         not_zero name is =
-            let inner = node_of-inner forest at n sound found (is_there n.parent (name_free name is).0) in
-            let number : n.number ≡ at.number = number-node_at at.number (server_at at.server forest).nodes n found in
+            let inner =
+            node_of-inner forest at n sound found (is_there n.parent (name_free name is).0) in
+            let number : n.number ≡ at.number =
+            number-node_at at.number (server_at at.server forest).nodes n found in
             λ zero. inner (sym number ∙ zero)
 
 -- a chain in which nothing refuses
-steps : {X Y : Type 0} (o : Option X) (x : X) (p : X → Option Y) (y : Y) (f1 f2 f3 : Fault) (fixed : X → Y → Bool) (fault : X → Y → Option Fault) (rest : X → Y → Answer)
+steps : {X Y : Type 0} (o : Option X) (x : X) (p : X → Option Y) (y : Y) (f1 f2 f3 : Fault)
+    (fixed : X → Y → Bool) (fault : X → Y → Option Fault) (rest : X → Y → Answer)
     → o ≡ Some x → p x ≡ Some y → fixed x y ≡ false → fault x y ≡ None
-    → given o f1 (λ a. given (p a) f2 (λ b. need (not (fixed a b)) f3 (unless (fault a b) (rest a b)))) ≡ rest x y
+    → given o f1
+    (λ a. given (p a) f2 (λ b. need (not (fixed a b)) f3 (unless (fault a b) (rest a b))))
+    ≡ rest x y
 unfolding need given unless
 steps o x p y f1 f2 f3 fixed fault rest e1 e2 e3 e4 = rw (e1, e2, e3, e4) refl
 
 -- the outcome where every test passes
 abbrev pub rewritten : Session → List ℕ → ℕ → NodeRef → Node → Touched → Answer
-rewritten session user now at n t = Ok (record { changes = rewriting user now at n t; session = session; reply = Rwstat })
+rewritten session user now at n t =
+    Ok (record { changes = rewriting user now at n t; session = session; reply = Rwstat })
 
 -- which is the answer
-pub wstat_answer-done : (setting : Setting) (forest : List Server) (session : Session) (now fid : ℕ) (wanted : StatFields) (v : Fid) (n : Node) (at : NodeRef) (t : Touched)
+pub wstat_answer-done : (setting : Setting) (forest : List Server) (session : Session) (now fid : ℕ)
+    (wanted : StatFields) (v : Fid) (n : Node) (at : NodeRef) (t : Touched)
     → at ≡ fid_ref setting.table v → fid_at fid session.fids ≡ Some v → node_of at forest ≡ Some n
-    → touches_fixed (stat_of at n) wanted ≡ false → t ≡ touched_of (stat_of at n) wanted → wstat_fault v.user forest at n t ≡ None
+    → touches_fixed (stat_of at n) wanted ≡ false → t ≡ touched_of (stat_of at n) wanted
+    → wstat_fault v.user forest at n t ≡ None
     → wstat_answer setting forest session now fid wanted ≡ rewritten session v.user now at n t
 wstat_answer-done setting forest session now fid wanted v n at t at_is held found fixed t_is free =
     let place : NodeRef = fid_ref setting.table v in
-    let there : node_of place forest ≡ Some n = subst (λ a. node_of a forest ≡ Some n) at_is found in
-    let unfixed : touches_fixed (stat_of place n) wanted ≡ false = subst (λ a. touches_fixed (stat_of a n) wanted ≡ false) at_is fixed in
-    let is : t ≡ touched_of (stat_of place n) wanted = subst (λ a. t ≡ touched_of (stat_of a n) wanted) at_is t_is in
-    let passes : wstat_fault v.user forest place n t ≡ None = subst (λ a. wstat_fault v.user forest a n t ≡ None) at_is free in
-    let none : wstat_fault v.user forest place n (touched_of (stat_of place n) wanted) ≡ None = subst (λ s. wstat_fault v.user forest place n s ≡ None) is passes in
-    let done : wstat_answer setting forest session now fid wanted ≡ rewritten session v.user now place n (touched_of (stat_of place n) wanted) =
-    steps (fid_at fid session.fids) v (fid_file setting.table forest) n UnknownFid PhaseError FixedField
+    let there : node_of place forest ≡ Some n =
+    subst (λ a. node_of a forest ≡ Some n) at_is found in
+    let unfixed : touches_fixed (stat_of place n) wanted ≡ false =
+    subst (λ a. touches_fixed (stat_of a n) wanted ≡ false) at_is fixed in
+    let is : t ≡ touched_of (stat_of place n) wanted =
+    subst (λ a. t ≡ touched_of (stat_of a n) wanted) at_is t_is in
+    let passes : wstat_fault v.user forest place n t ≡ None =
+    subst (λ a. wstat_fault v.user forest a n t ≡ None) at_is free in
+    let none : wstat_fault v.user forest place n (touched_of (stat_of place n) wanted) ≡ None =
+    subst (λ s. wstat_fault v.user forest place n s ≡ None) is passes in
+    let done : wstat_answer setting forest session now fid wanted
+    ≡ rewritten session v.user now place n (touched_of (stat_of place n) wanted) =
+    steps (fid_at fid session.fids) v (fid_file setting.table forest) n UnknownFid PhaseError
+    FixedField
     (λ w m. touches_fixed (stat_of (fid_ref setting.table w) m) wanted)
-    (λ w m. wstat_fault w.user forest (fid_ref setting.table w) m (touched_of (stat_of (fid_ref setting.table w) m) wanted))
-    (λ w m. rewritten session w.user now (fid_ref setting.table w) m (touched_of (stat_of (fid_ref setting.table w) m) wanted))
+    (λ w m. wstat_fault w.user forest (fid_ref setting.table w) m
+    (touched_of (stat_of (fid_ref setting.table w) m) wanted))
+    (λ w m. rewritten session w.user now (fid_ref setting.table w) m
+    (touched_of (stat_of (fid_ref setting.table w) m) wanted))
     held there unfixed none in
-    let of_fields : wstat_answer setting forest session now fid wanted ≡ rewritten session v.user now place n t = subst (λ s. wstat_answer setting forest session now fid wanted ≡ rewritten session v.user now place n s) (sym is) done in
-    subst (λ a. wstat_answer setting forest session now fid wanted ≡ rewritten session v.user now a n t) (sym at_is) of_fields
+    let of_fields : wstat_answer setting forest session now fid wanted
+    ≡ rewritten session v.user now place n t = subst
+    (λ s. wstat_answer setting forest session now fid wanted
+    ≡ rewritten session v.user now place n s) (sym is) done in
+    subst (λ a. wstat_answer setting forest session now fid wanted
+    ≡ rewritten session v.user now a n t) (sym at_is) of_fields
 
 if_some : (b : Bool) (changes : List Change) → b ≡ true → (if b then changes else []) ≡ changes
 if_some true changes e = refl
 if_some false changes e = let no : false ≡ true = e in absurd (cc)
 
 -- the node is changed, and its directory is marked
-pub wstat-did : (answer : Answer) (forest middle forest' : List Server) (session : Session) (user : List ℕ) (now : ℕ) (at : NodeRef) (n : Node) (t : Touched)
+pub wstat-did : (answer : Answer) (forest middle forest' : List Server) (session : Session)
+    (user : List ℕ) (now : ℕ) (at : NodeRef) (n : Node) (t : Touched)
     → answer ≡ rewritten session user now at n t
     → is_any t ≡ true
     → middle ≡ forest_changed_at at (changed (node_change user now t)) forest
@@ -190,5 +234,6 @@ wstat-did answer forest middle forest' session user now at n t done some change 
     let changes : List Change = EditNode at (Rewrite (node_change user now t)) ∷ marks in
     let all : rewriting user now at n t ≡ changes = if_some (is_any t) changes some in
     let made : forest' ≡ all_applied changes forest = mark ∙ ap (all_applied marks) change in
-    let whole : forest' ≡ all_applied (rewriting user now at n t) forest = subst (λ cs. forest' ≡ all_applied cs forest) (sym all) made in
+    let whole : forest' ≡ all_applied (rewriting user now at n t) forest =
+    subst (λ cs. forest' ≡ all_applied cs forest) (sym all) made in
     rw done (refl, whole)

@@ -32,4 +32,8 @@ unless (Some fault) rest = Err fault
 -- a refusal changes nothing
 abbrev pub outcome_of : Session → Answer → Outcome
 outcome_of session (Ok outcome) = outcome
-outcome_of session (Err fault) = record { changes = []; session = session; reply = Rerror (text_of fault) }
+outcome_of session (Err fault) = record {
+  changes = [];
+  session = session;
+  reply = Rerror (text_of fault);
+}

@@ -1,5 +1,6 @@
 -- What a function that answers a request has to do.
-use Rattle.std.specs.Prelude.{◌≡◌, ℕ, ◌+◌, ◌≤◌, ◌⊎◌, Bool, true, false, List, [], Result, Ok, Err, take}
+use Rattle.std.specs.Prelude.{◌≡◌, ℕ, ◌+◌, ◌≤◌, ◌⊎◌, Bool, true, false, List, [], Result, Ok, Err}
+use Rattle.std.specs.Prelude.{take}
 use Rattle.std.specs.Option.{option_map_or}
 use Rattle.p9_base.specs.declared.fault.Fault.{Fault}
 use Rattle.p9_base.specs.declared.fault.Fault.TheVariants.{OutOfMemory, PhaseError}
@@ -25,23 +26,30 @@ changes_of (Err fault) = []
 
 -- the forest, the session and the reply are the outcome's; a refusal has the answer's fault, or is
 -- want of memory where that may be answered, and leaves both
-abbrev pub Answers : Answer → Bool → List Server → List Server → Session → Session → Result RMessage Fault → Type 0
+abbrev pub Answers : Answer → Bool → List Server → List Server → Session → Session
+    → Result RMessage Fault → Type 0
 Answers answer may_run_out forest forest' old new (Ok reply) =
-    (answer ≡ Ok (record { changes = changes_of answer; session = new; reply = reply })) × (forest' ≡ all_applied (changes_of answer) forest)
+    (answer ≡ Ok (record { changes = changes_of answer; session = new; reply = reply }))
+    × (forest' ≡ all_applied (changes_of answer) forest)
 Answers answer may_run_out forest forest' old new (Err fault) =
-    ((answer ≡ Err fault) ⊎ ((fault ≡ OutOfMemory) × (may_run_out ≡ true))) × (forest' ≡ forest) × (new ≡ old)
+    ((answer ≡ Err fault) ⊎ ((fault ≡ OutOfMemory) × (may_run_out ≡ true))) × (forest' ≡ forest)
+    × (new ≡ old)
 
 abbrev pub session_of : Answer → Session
 session_of (Ok outcome) = outcome.session
 session_of (Err fault) = fresh
 
 -- the same of the session of this name among all sessions
-abbrev pub AnswersAmong : ℕ → Answer → Bool → List Server → List Server → List SessionRow → List SessionRow → Result RMessage Fault → Type 0
+abbrev pub AnswersAmong : ℕ → Answer → Bool → List Server → List Server → List SessionRow
+    → List SessionRow → Result RMessage Fault → Type 0
 AnswersAmong name answer may_run_out forest forest' old new (Ok reply) =
-    (answer ≡ Ok (record { changes = changes_of answer; session = session_of answer; reply = reply }))
-    × (forest' ≡ all_applied (changes_of answer) forest) × (new ≡ changed_session name (session_of answer) old)
+    (answer
+    ≡ Ok (record { changes = changes_of answer; session = session_of answer; reply = reply }))
+    × (forest' ≡ all_applied (changes_of answer) forest)
+    × (new ≡ changed_session name (session_of answer) old)
 AnswersAmong name answer may_run_out forest forest' old new (Err fault) =
-    ((answer ≡ Err fault) ⊎ ((fault ≡ OutOfMemory) × (may_run_out ≡ true))) × (forest' ≡ forest) × (new ≡ old)
+    ((answer ≡ Err fault) ⊎ ((fault ≡ OutOfMemory) × (may_run_out ≡ true))) × (forest' ≡ forest)
+    × (new ≡ old)
 
 -- a result, with its value as the reply that it makes
 abbrev pub replied : {X : Type 0} → (X → RMessage) → Result X Fault → Result RMessage Fault
@@ -50,7 +58,8 @@ replied f (Err fault) = Err fault
 
 -- the stat of a node that exists
 abbrev pub stat_reply : List Server → NodeRef → RMessage
-stat_reply forest at = option_map_or (λ n. Rstat (stat_of at n)) (node_of at forest) (Rerror (text_of PhaseError))
+stat_reply forest at =
+    option_map_or (λ n. Rstat (stat_of at n)) (node_of at forest) (Rerror (text_of PhaseError))
 
 -- the data at the front of those bytes
 abbrev pub data_reply : List ℕ → ℕ → RMessage
@@ -84,7 +93,8 @@ pub record ReplyFits (reply : RMessage) : Type 0 where
 -- the answer to a frame of the session of this name
 abbrev pub frame_among : Setting → List Server → List SessionRow → ℕ → ℕ → List ℕ → Answer
 frame_among setting forest sessions name now frame =
-    option_map_or (λ session. frame_answer setting forest sessions session now frame) (session_at name sessions) (Err PhaseError)
+    option_map_or (λ session. frame_answer setting forest sessions session now frame)
+    (session_at name sessions) (Err PhaseError)
 
 -- a reply that can be written: its message has a spelling that is no longer than a frame, its data
 -- are no more than a frame holds

@@ -2,7 +2,8 @@
 use Rattle.std.specs.Prelude.{ℕ, ◌==◌, ◌||◌, Bool, List, [], ◌∷◌, Option, None, Ok, codes, find}
 use Rattle.std.specs.Str.{bytes_eq}
 use Rattle.p9_base.specs.declared.node_ref.NodeRef.{NodeRef}
-use Rattle.p9_base.specs.declared.fault.Fault.TheVariants.{NoAuthentication, UnknownUser, UnknownAttachName, PhaseError}
+use Rattle.p9_base.specs.declared.fault.Fault.TheVariants.{NoAuthentication, UnknownUser}
+use Rattle.p9_base.specs.declared.fault.Fault.TheVariants.{UnknownAttachName, PhaseError}
 use Rattle.p9_tree.specs.Server.{Server}
 use Rattle.p9_space.specs.Place.{file_of, file_ref}
 use Rattle.p9_wire.specs.Message.{Rattach}
@@ -24,7 +25,9 @@ abbrev pub is_root_name : List ℕ → Bool
 is_root_name aname = bytes_eq aname [] || bytes_eq aname (codes "/")
 
 abbrev pub attached : ℕ → List ℕ → Session → Session
-attached fid user session = record session { fids = with_fid fid (record { user = user; trail = root_place ∷ []; opened = None }) session.fids }
+attached fid user session = record session {
+  fids = with_fid fid (record { user = user; trail = root_place ∷ []; opened = None }) session.fids;
+}
 
 abbrev pub attach_answer : Setting → List Server → Session → ℕ → ℕ → List ℕ → List ℕ → Answer
 attach_answer setting forest session fid afid uname aname =

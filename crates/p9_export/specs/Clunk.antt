@@ -14,4 +14,8 @@ without fid session = record session { fids = without_fid fid session.fids }
 abbrev pub clunk_answer : Setting → List Server → Session → ℕ → ℕ → Answer
 clunk_answer setting forest session now fid =
     given (fid_at fid session.fids) UnknownFid (λ v.
-    Ok (record { changes = on_end setting.table now forest v; session = without fid session; reply = Rclunk }))
+    Ok (record {
+      changes = on_end setting.table now forest v;
+      session = without fid session;
+      reply = Rclunk;
+    }))

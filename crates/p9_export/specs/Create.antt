@@ -1,9 +1,14 @@
 -- The making of a file or directory: open(5).
-use Rattle.std.specs.Prelude.{ℕ, ◌&&◌, ◌||◌, not, nat_le, List, [], ◌∷◌, ◌++◌, Option, Some, None, Result, Ok, Err, find, is_none, is_some, length, if◌then◌else◌}
+use Rattle.std.specs.Prelude.{ℕ, ◌&&◌, ◌||◌, not, nat_le, List, [], ◌∷◌, ◌++◌, Option, Some, None}
+use Rattle.std.specs.Prelude.{Result, Ok, Err, find, is_none, is_some, length, if◌then◌else◌}
 use Rattle.std.specs.List.{list_any}
 use Rattle.std.specs.Option.{option_map_or}
 use Rattle.p9_base.specs.declared.fault.Fault.{Fault}
-use Rattle.p9_base.specs.declared.fault.Fault.TheVariants.{BadFileName, BadOpenMode, CreationForbidden, FidOpen, FileExists, IsDirectory, NotDirectory, PathTooDeep, PermissionDenied, PhaseError, QidsUsedUp, UnknownFid}
+use Rattle.p9_base.specs.declared.fault.Fault.TheVariants.{BadFileName, BadOpenMode}
+use Rattle.p9_base.specs.declared.fault.Fault.TheVariants.{CreationForbidden, FidOpen, FileExists}
+use Rattle.p9_base.specs.declared.fault.Fault.TheVariants.{IsDirectory, NotDirectory, PathTooDeep}
+use Rattle.p9_base.specs.declared.fault.Fault.TheVariants.{PermissionDenied, PhaseError, QidsUsedUp}
+use Rattle.p9_base.specs.declared.fault.Fault.TheVariants.{UnknownFid}
 use Rattle.p9_base.specs.declared.mode.Mode.{Mode}
 use Rattle.p9_base.specs.declared.mode.Permissions.{Permissions}
 use Rattle.p9_base.specs.declared.mode.Rights.{Rights}
@@ -33,18 +38,33 @@ use Rattle.p9_export.specs.Qid.{qid_of}
 -- a right to read or write is given only where the directory gives it; to execute, in a file, as
 -- asked
 abbrev pub file_rights : Rights → Rights → Rights
-file_rights dir asked = record { read = asked.read && dir.read; write = asked.write && dir.write; execute = asked.execute }
+file_rights dir asked = record {
+  read = asked.read && dir.read;
+  write = asked.write && dir.write;
+  execute = asked.execute;
+}
 
 -- in a directory each right only where the directory around gives it
 abbrev pub dir_rights : Rights → Rights → Rights
-dir_rights dir asked = record { read = asked.read && dir.read; write = asked.write && dir.write; execute = asked.execute && dir.execute }
+dir_rights dir asked = record {
+  read = asked.read && dir.read;
+  write = asked.write && dir.write;
+  execute = asked.execute && dir.execute;
+}
 
 abbrev pub in_each : (Rights → Rights → Rights) → Permissions → Permissions → Permissions
-in_each f dir asked = record { owner = f dir.owner asked.owner; group = f dir.group asked.group; others = f dir.others asked.others }
+in_each f dir asked = record {
+  owner = f dir.owner asked.owner;
+  group = f dir.group asked.group;
+  others = f dir.others asked.others;
+}
 
 -- the mode that a new node gets in a directory of these permissions
 abbrev pub inherited : Permissions → Mode → Mode
-inherited dir asked = record asked { permissions = in_each (if is_dir_mode asked then dir_rights else file_rights) dir asked.permissions }
+inherited dir asked = record asked {
+  permissions =
+      in_each (if is_dir_mode asked then dir_rights else file_rights) dir asked.permissions;
+}
 
 -- the node that is made: the user's, of the group of its directory
 abbrev pub created : List ℕ → ℕ → ℕ → Node → List ℕ → Mode → Node
@@ -76,11 +96,14 @@ target_among forest ms =
 -- the fid goes on to the end of a trail, where it is open
 abbrev pub entered : ℕ → List NodeRef → Opening → Session → Session
 entered fid trail o session = record session {
-  fids = changed_fid fid (λ v. record v { trail = trail; opened = Some (newly_opened o) }) session.fids;
+  fids =
+      changed_fid fid (λ v. record v { trail = trail; opened = Some (newly_opened o) })
+      session.fids;
 }
 
 -- the node is made in the directory, which is marked
-abbrev pub creation : List Server → Session → ℕ → ℕ → Fid → NodeRef → Node → List ℕ → Mode → Opening → Answer
+abbrev pub creation : List Server → Session → ℕ → ℕ → Fid → NodeRef → Node → List ℕ → Mode → Opening
+    → Answer
 creation forest session now fid v target dir name asked o =
     let at = beside target (next_of target.server forest) in
     let n = created v.user now at.number dir name asked in
@@ -100,7 +123,8 @@ fault_in forest v name target dir =
     else if nat_le places_max (length v.trail) then Some PathTooDeep
     else None
 
-abbrev pub created_in : List Server → Session → ℕ → ℕ → Fid → List ℕ → Mode → Opening → NodeRef → Answer
+abbrev pub created_in : List Server → Session → ℕ → ℕ → Fid → List ℕ → Mode → Opening → NodeRef
+    → Answer
 created_in forest session now fid v name asked o target =
     given (node_of target forest) PhaseError (λ dir.
     unless (fault_in forest v name target dir) (

@@ -1,5 +1,6 @@
 -- The end of fids, and removal on close: clunk(5), open(5).
-use Rattle.std.specs.Prelude.{◌≡◌, ℕ, ◌<◌, Bool, false, List, [], ◌∷◌, ◌++◌, Option, Some, IsTrue, if◌then◌else◌}
+use Rattle.std.specs.Prelude.{◌≡◌, ℕ, ◌<◌, Bool, false, List, [], ◌∷◌, ◌++◌, Option, Some, IsTrue}
+use Rattle.std.specs.Prelude.{if◌then◌else◌}
 use Rattle.std.specs.List.{AllByRecursion}
 use Rattle.std.specs.Option.{option_map_or}
 use Rattle.p9_base.specs.declared.node_ref.NodeRef.{NodeRef}
@@ -24,7 +25,8 @@ fid_file table forest v = file_of (here v.trail) table forest
 
 -- the directory that a node stands in is marked, where there is one
 abbrev pub parent_marked : List ℕ → ℕ → NodeRef → Option ℕ → List Change
-parent_marked user now at parent = option_map_or (λ number. EditNode (beside at number) (Mark user now) ∷ []) parent []
+parent_marked user now at parent =
+    option_map_or (λ number. EditNode (beside at number) (Mark user now) ∷ []) parent []
 
 -- a node is taken out, and its directory marked
 abbrev pub taken_out : List ℕ → ℕ → NodeRef → Node → List Change
@@ -37,7 +39,8 @@ removes_on_close v = option_map_or (λ o. o.remove_on_close) v.opened false
 -- test
 abbrev pub on_end : List MountRow → ℕ → List Server → Fid → List Change
 on_end table now forest v =
-    if removes_on_close v then option_map_or (taken_out v.user now (fid_ref table v)) (fid_file table forest v) []
+    if removes_on_close v
+    then option_map_or (taken_out v.user now (fid_ref table v)) (fid_file table forest v) []
     else []
 
 -- what the end of all of them changes, by rising number, each in the forest that the one before
@@ -52,10 +55,12 @@ on_ends table now forest (row ∷ rows) =
 
 -- a directory is open for reading alone, and is not removed on close; and the file's number was
 -- given
-pub record IsOpenOn (table : List MountRow) (forest : List Server) (v : Fid) (o : Opened) : Type 0 where
+pub record IsOpenOn (table : List MountRow) (forest : List Server) (v : Fid) (o : Opened) :
+    Type 0 where
   pub given : (fid_ref table v).number < next_of (fid_ref table v).server forest
   pub mode : (n : Node) → fid_file table forest v ≡ Some n → IsTrue (is_dir n) → o.mode ≡ Read
-  pub stays : (n : Node) → fid_file table forest v ≡ Some n → IsTrue (is_dir n) → o.remove_on_close ≡ false
+  pub stays : (n : Node) → fid_file table forest v ≡ Some n → IsTrue (is_dir n)
+      → o.remove_on_close ≡ false
 
 abbrev pub FidFits : List MountRow → List Server → Fid → Type 0
 FidFits table forest v = (o : Opened) → v.opened ≡ Some o → IsOpenOn table forest v o

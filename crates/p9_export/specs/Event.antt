@@ -10,4 +10,6 @@ pub data Event : Type 0 where
 
 -- as many bytes as its size says, and no fewer than a header has
 abbrev pub is_frame : List ℕ → Bool
-is_frame frame = nat_le 7 (length frame) && nat_le (length frame) msize_max && little_number 4 frame == length frame
+is_frame frame =
+    nat_le 7 (length frame) && nat_le (length frame) msize_max
+    && little_number 4 frame == length frame

@@ -38,16 +38,21 @@ IsFaultText ename = (fault : Fault) × (ename ≡ text_of fault)
 -- the reply to a frame of a session: the bytes are its spelling with the frame's tag, and no more
 -- than the session takes; if it is an error, it is one of the faults, and the state is what a
 -- refusal leaves
-pub record IsAnswered (state : State) (name : ℕ) (session : Session) (frame : List ℕ) (after : Stepped) (reply : RMessage) : Type 0 where
+pub record IsAnswered (state : State) (name : ℕ) (session : Session) (frame : List ℕ)
+    (after : Stepped) (reply : RMessage) : Type 0 where
   pub spelled : after.reply ≡ r_spelling (tag_of frame) reply
   pub fits : RFits reply
   pub short : length after.reply ≤ reply_max session
   pub refusal : (ename : List ℕ) → reply ≡ Rerror ename
-      → IsFaultText ename × (after.state ≡ after_refusal state name session (request_of session frame))
+      → IsFaultText ename
+      × (after.state ≡ after_refusal state name session (request_of session frame))
 
 -- Every frame of a session that is open gets one reply.
 
 abbrev pub EveryFrameIsAnswered : Type 0
-EveryFrameIsAnswered = (state : State) (name : ℕ) (session : Session) (frame : List ℕ) (now : ℕ) (refused : Bool)
-    → IsState state → session_at name state.sessions ≡ Some session → IsTrue (is_frame frame) → IsBytes frame
-    → (reply : RMessage) × IsAnswered state name session frame (step state (Request name frame now) refused) reply
+EveryFrameIsAnswered =
+    (state : State) (name : ℕ) (session : Session) (frame : List ℕ) (now : ℕ) (refused : Bool)
+    → IsState state → session_at name state.sessions ≡ Some session → IsTrue (is_frame frame)
+    → IsBytes frame
+    → (reply : RMessage)
+    × IsAnswered state name session frame (step state (Request name frame now) refused) reply

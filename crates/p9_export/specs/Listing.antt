@@ -1,5 +1,6 @@
 -- The entries of a directory, over a union: read(5).
-use Rattle.std.specs.Prelude.{ℕ, suc, ◌==◌, ◌&&◌, ◌||◌, Bool, true, false, nat_lt, List, [], ◌∷◌, ◌++◌, Option, filter, map, if◌then◌else◌}
+use Rattle.std.specs.Prelude.{ℕ, suc, ◌==◌, ◌&&◌, ◌||◌, Bool, true, false, nat_lt, List, [], ◌∷◌}
+use Rattle.std.specs.Prelude.{◌++◌, Option, filter, map, if◌then◌else◌}
 use Rattle.std.specs.Option.{option_map_or}
 use Rattle.p9_base.specs.declared.node_ref.NodeRef.{NodeRef}
 use Rattle.p9_tree.specs.Node.{Node, is_dir, is_in}
@@ -26,7 +27,9 @@ children_of dir forest = filter (is_in dir.number) (server_at dir.server forest)
 module _ (forest : List Server) (user : List ℕ) where
   -- an alive directory that the user may read; the first member without this test
   abbrev pub is_listed : ℕ → Member → Bool
-  is_listed position m = option_map_or (λ n. is_dir n && (position == 0 || may user n to_read)) (node_of m.node forest) false
+  is_listed position m =
+      option_map_or (λ n. is_dir n && (position == 0 || may user n to_read)) (node_of m.node forest)
+      false
 
   abbrev pub entries_of : ℕ → Member → List Entry
   entries_of position m =
@@ -44,11 +47,16 @@ listing table forest user place = entries_from forest user 0 (members_of place t
 
 -- the entry stands behind the last one that was given
 abbrev pub is_behind : Option Cursor → Entry → Bool
-is_behind cursor e = option_map_or (λ c. nat_lt c.member e.position || (c.member == e.position && nat_lt c.number e.node.number)) cursor true
+is_behind cursor e =
+    option_map_or
+    (λ c. nat_lt c.member e.position || (c.member == e.position && nat_lt c.number e.node.number))
+    cursor true
 
 -- the entries that are still to be given
-abbrev pub listing_behind : Option Cursor → List MountRow → List Server → List ℕ → NodeRef → List Entry
-listing_behind cursor table forest user place = filter (is_behind cursor) (listing table forest user place)
+abbrev pub listing_behind : Option Cursor → List MountRow → List Server → List ℕ → NodeRef
+    → List Entry
+listing_behind cursor table forest user place =
+    filter (is_behind cursor) (listing table forest user place)
 
 -- the same of these members
 abbrev pub left_of : List Server → List ℕ → Option Cursor → List Member → List Entry

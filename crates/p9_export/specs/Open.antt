@@ -1,9 +1,12 @@
 -- The opening of a fid: open(5).
-use Rattle.std.specs.Prelude.{ℕ, ◌-◌, ◌&&◌, ◌||◌, Bool, false, not, nat_lt, List, [], ◌∷◌, Ok, is_none, if◌then◌else◌}
+use Rattle.std.specs.Prelude.{ℕ, ◌-◌, ◌&&◌, ◌||◌, Bool, false, not, nat_lt, List, [], ◌∷◌, Ok}
+use Rattle.std.specs.Prelude.{is_none, if◌then◌else◌}
 use Rattle.std.specs.List.{list_any}
 use Rattle.std.specs.Map.{values_of}
 use Rattle.std.specs.Option.{option_map_or}
-use Rattle.p9_base.specs.declared.fault.Fault.TheVariants.{BadOpenMode, ExclusiveUse, FidOpen, IsDirectory, PermissionDenied, PhaseError, UnknownFid}
+use Rattle.p9_base.specs.declared.fault.Fault.TheVariants.{BadOpenMode, ExclusiveUse, FidOpen}
+use Rattle.p9_base.specs.declared.fault.Fault.TheVariants.{IsDirectory, PermissionDenied}
+use Rattle.p9_base.specs.declared.fault.Fault.TheVariants.{PhaseError, UnknownFid}
 use Rattle.p9_base.specs.declared.mode.Kind.{Kind}
 use Rattle.p9_base.specs.declared.mode.Kind.TheVariants.{Directory, File}
 use Rattle.p9_base.specs.declared.node_ref.NodeRef.{NodeRef}
@@ -49,30 +52,38 @@ is_exclusive n = is_exclusive_kind n.mode.kind
 
 -- a fid of some session has it open
 abbrev pub is_in_use : List MountRow → NodeRef → List SessionRow → Bool
-is_in_use table at sessions = list_any (λ session. nat_lt 0 (open_count table at session.fids)) (values_of sessions)
+is_in_use table at sessions =
+    list_any (λ session. nat_lt 0 (open_count table at session.fids)) (values_of sessions)
 
 -- each right that the mode asks for, and to remove on close, to change the file's directory
 abbrev pub may_open : List ℕ → List Server → NodeRef → Node → Opening → Bool
-may_open user forest at n o = may user n (wanted_by o) && (not o.remove_on_close || may_write_parent user forest at n)
+may_open user forest at n o =
+    may user n (wanted_by o) && (not o.remove_on_close || may_write_parent user forest at n)
 
 abbrev pub is_cut : Node → Opening → Bool
 is_cut n o = o.truncates && not (is_append_only n)
 
 -- truncation cuts the file to nothing, and marks it
 abbrev pub truncation : List ℕ → ℕ → NodeRef → Node → Opening → List Change
-truncation user now at n o = if is_cut n o then EditNode at (Cut 0) ∷ EditNode at (Mark user now) ∷ [] else []
+truncation user now at n o =
+    if is_cut n o then EditNode at (Cut 0) ∷ EditNode at (Mark user now) ∷ [] else []
 
 -- the file after it
 abbrev pub truncated : List ℕ → ℕ → Node → Opening → Node
 truncated user now n o = if is_cut n o then edited (Mark user now) (edited (Cut 0) n) else n
 
 abbrev pub opened_session : ℕ → Opening → Session → Session
-opened_session fid o session = record session { fids = changed_fid fid (opened_as (newly_opened o)) session.fids }
+opened_session fid o session = record session {
+  fids = changed_fid fid (opened_as (newly_opened o)) session.fids;
+}
 
 -- the file of the fid is for one fid at a time, and a fid of some session has it open
 abbrev pub is_taken : Setting → List Server → List SessionRow → Session → ℕ → Bool
 is_taken setting forest sessions session fid =
-    option_map_or (λ v. option_map_or (λ n. is_exclusive n && is_in_use setting.table (fid_ref setting.table v) sessions) (fid_file setting.table forest v) false) (fid_at fid session.fids) false
+    option_map_or (λ v.
+    option_map_or (λ n. is_exclusive n && is_in_use setting.table (fid_ref setting.table v) sessions)
+    (fid_file setting.table forest v) false)
+    (fid_at fid session.fids) false
 
 abbrev pub open_answer : Setting → List Server → Bool → Session → ℕ → ℕ → ℕ → Answer
 open_answer setting forest taken session now fid bits =

@@ -1,5 +1,6 @@
 -- What the mode of an open or a create asks for: open(5).
-use Rattle.std.specs.Prelude.{ℕ, ◌%◌, ◌==◌, ◌&&◌, ◌||◌, Bool, true, false, not, bit_and, Option, Some, None, if◌then◌else◌}
+use Rattle.std.specs.Prelude.{ℕ, ◌%◌, ◌==◌, ◌&&◌, ◌||◌, Bool, true, false, not, bit_and, Option}
+use Rattle.std.specs.Prelude.{Some, None, if◌then◌else◌}
 use Rattle.p9_base.specs.declared.mode.Rights.{Rights}
 use Rattle.p9_fids.specs.declared.opened.OpenMode.{OpenMode}
 use Rattle.p9_fids.specs.declared.opened.OpenMode.TheVariants.{Read, Write, ReadWrite, Execute}
@@ -18,7 +19,11 @@ open_mode_of bits =
 -- remove-on-close (64); no other bit is known
 abbrev pub opening_of : ℕ → Option Opening
 opening_of bits =
-    if bit_and bits 140 == 0 then Some (record { mode = open_mode_of bits; truncates = not (bit_and bits 16 == 0); remove_on_close = not (bit_and bits 64 == 0) })
+    if bit_and bits 140 == 0 then Some (record {
+      mode = open_mode_of bits;
+      truncates = not (bit_and bits 16 == 0);
+      remove_on_close = not (bit_and bits 64 == 0);
+    })
     else None
 
 abbrev pub is_read : OpenMode → Bool
@@ -44,4 +49,9 @@ wanted_by o = let r = mode_rights o.mode in record r { write = r.write || o.trun
 
 -- a fid that was opened so
 abbrev pub newly_opened : Opening → Opened
-newly_opened o = record { mode = o.mode; remove_on_close = o.remove_on_close; next_offset = 0; cursor = None }
+newly_opened o = record {
+  mode = o.mode;
+  remove_on_close = o.remove_on_close;
+  next_offset = 0;
+  cursor = None;
+}

@@ -12,7 +12,11 @@ use Rattle.p9_wire.specs.Message.{StatFields}
 
 -- a file's identity among those of all servers, and its version
 abbrev pub qid_of : NodeRef → Node → Qid
-qid_of at n = record { kind = qid_kind n.mode; version = n.version; path = at.server * 2 ^ 48 + at.number }
+qid_of at n = record {
+  kind = qid_kind n.mode;
+  version = n.version;
+  path = at.server * 2 ^ 48 + at.number;
+}
 
 -- the qid of a place's file, while that exists
 abbrev pub qid_at : List MountRow → List Server → NodeRef → Option Qid

@@ -1,7 +1,9 @@
 -- Reading: read(5).
-use Rattle.std.specs.Prelude.{ℕ, ◌+◌, ◌-◌, ◌==◌, ◌||◌, min, nat_le, List, [], ◌∷◌, Option, Some, None, Ok, Err, length, if◌then◌else◌}
+use Rattle.std.specs.Prelude.{ℕ, ◌+◌, ◌-◌, ◌==◌, ◌||◌, min, nat_le, List, [], ◌∷◌, Option, Some}
+use Rattle.std.specs.Prelude.{None, Ok, Err, length, if◌then◌else◌}
 use Rattle.std.specs.List.{flat_map}
-use Rattle.p9_base.specs.declared.fault.Fault.TheVariants.{BadDirectoryOffset, FidNotOpen, PhaseError, SmallReadCount, UnknownFid}
+use Rattle.p9_base.specs.declared.fault.Fault.TheVariants.{BadDirectoryOffset, FidNotOpen}
+use Rattle.p9_base.specs.declared.fault.Fault.TheVariants.{PhaseError, SmallReadCount, UnknownFid}
 use Rattle.p9_base.specs.declared.node_ref.NodeRef.{NodeRef}
 use Rattle.p9_tree.specs.Bytes.{read_from}
 use Rattle.p9_tree.specs.Node.{Node, is_dir}
@@ -27,7 +29,11 @@ use Rattle.p9_export.specs.Qid.{stat_of}
 -- the bytes from the offset on that are there and have room; the time of the last read moves
 abbrev pub read_file : Session → ℕ → NodeRef → Node → ℕ → ℕ → Answer
 read_file session now at n offset room =
-    Ok (record { changes = EditNode at (Touch now) ∷ []; session = session; reply = Rread (read_from offset room n.bytes) })
+    Ok (record {
+      changes = EditNode at (Touch now) ∷ [];
+      session = session;
+      reply = Rread (read_from offset room n.bytes);
+    })
 
 -- A directory.
 
@@ -57,13 +63,21 @@ cursor_at offset o = if offset == 0 then None else o.cursor
 
 abbrev pub listed_session : ℕ → Opened → ℕ → Option Cursor → List Entry → Session → Session
 listed_session fid o offset cursor given session = record session {
-  fids = changed_fid fid (opened_as (record o { next_offset = offset + length (flat_map entry_bytes given); cursor = cursor_after cursor given })) session.fids;
+  fids =
+      changed_fid fid (opened_as (record o {
+        next_offset = offset + length (flat_map entry_bytes given);
+        cursor = cursor_after cursor given;
+      })) session.fids;
 }
 
 -- the entries that are given of those that are left
 abbrev pub listed : Session → ℕ → Opened → ℕ → Option Cursor → List Entry → Answer
 listed session fid o offset cursor given =
-    Ok (record { changes = []; session = listed_session fid o offset cursor given session; reply = Rread (flat_map entry_bytes given) })
+    Ok (record {
+      changes = [];
+      session = listed_session fid o offset cursor given session;
+      reply = Rread (flat_map entry_bytes given);
+    })
 
 -- where entries are left, room for one is needed
 abbrev pub given_of : Session → ℕ → Opened → ℕ → Option Cursor → List Entry → List Entry → Answer

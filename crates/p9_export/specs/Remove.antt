@@ -1,6 +1,7 @@
 -- Removing a file, which ends its fid in every case: remove(5).
 use Rattle.std.specs.Prelude.{ℕ, not, List, Ok, is_some}
-use Rattle.p9_base.specs.declared.fault.Fault.TheVariants.{IsRoot, NotEmpty, PermissionDenied, PhaseError, UnknownFid}
+use Rattle.p9_base.specs.declared.fault.Fault.TheVariants.{IsRoot, NotEmpty, PermissionDenied}
+use Rattle.p9_base.specs.declared.fault.Fault.TheVariants.{PhaseError, UnknownFid}
 use Rattle.p9_tree.specs.Server.{Server}
 use Rattle.p9_tree.specs.Forest.{has_children_of}
 use Rattle.p9_wire.specs.Message.{Rremove}

@@ -13,4 +13,5 @@ may_write user forest at = option_map_or (λ n. may user n to_write) (node_of at
 
 -- the user may change the entries of the directory that the file stands in; a root stands in none
 abbrev pub may_write_parent : List ℕ → List Server → NodeRef → Node → Bool
-may_write_parent user forest at n = option_map_or (λ parent. may_write user forest (beside at parent)) n.parent false
+may_write_parent user forest at n =
+    option_map_or (λ parent. may_write user forest (beside at parent)) n.parent false

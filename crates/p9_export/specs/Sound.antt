@@ -18,6 +18,7 @@ abbrev pub IsSessionSound : List MountRow → List Server → Session → Type 0
 IsSessionSound table forest session = FidsFit table forest session.fids × IsMsize session.msize
 
 -- a fid that makes a node stands on it, so what is kept of open fids holds in each session
-pub record IsSound (table : List MountRow) (forest : List Server) (rows : List SessionRow) : Type 0 where
+pub record IsSound (table : List MountRow) (forest : List Server) (rows : List SessionRow) :
+    Type 0 where
   pub given : IsTrue (is_table_given forest table)
   pub sessions : AllByRecursion (λ row. IsSessionSound table forest row.1) rows

@@ -14,4 +14,8 @@ abbrev pub stat_answer : Setting → List Server → Session → ℕ → Answer
 stat_answer setting forest session fid =
     given (fid_at fid session.fids) UnknownFid (λ v.
     given (fid_file setting.table forest v) PhaseError (λ n.
-    Ok (record { changes = []; session = session; reply = Rstat (stat_of (fid_ref setting.table v) n) })))
+    Ok (record {
+      changes = [];
+      session = session;
+      reply = Rstat (stat_of (fid_ref setting.table v) n);
+    })))

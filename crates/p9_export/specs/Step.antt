@@ -1,17 +1,21 @@
 -- A step: what one event makes of a state, and the bytes that answer it.
-use Rattle.std.specs.Prelude.{ℕ, ◌&&◌, ◌||◌, Bool, true, false, nat_le, List, [], ◌∷◌, ◌++◌, Result, Ok, Err, drop, not, is_some, length, if◌then◌else◌}
+use Rattle.std.specs.Prelude.{ℕ, ◌&&◌, ◌||◌, Bool, true, false, nat_le, List, [], ◌∷◌, ◌++◌, Result}
+use Rattle.std.specs.Prelude.{Ok, Err, drop, not, is_some, length, if◌then◌else◌}
 use Rattle.std.specs.Option.{option_map_or}
 use Rattle.std.specs.Str.{bytes_eq}
 use Rattle.byteorder.specs.Endian.{little_number}
-use Rattle.p9_base.specs.declared.fault.Fault.TheVariants.{Malformed, NoAuthentication, OutOfMemory, VersionNotSet}
+use Rattle.p9_base.specs.declared.fault.Fault.TheVariants.{Malformed, NoAuthentication, OutOfMemory}
+use Rattle.p9_base.specs.declared.fault.Fault.TheVariants.{VersionNotSet}
 use Rattle.p9_base.specs.declared.fault.Fault.{Fault}
 use Rattle.p9_base.specs.Fault.{text_of}
 use Rattle.p9_tree.specs.Server.{Server}
 use Rattle.p9_space.specs.Walk.{and_then}
-use Rattle.p9_wire.specs.Message.{TMessage, Tversion, Tauth, Tattach, Tflush, Twalk, Topen, Tcreate, Tread, Twrite, Tclunk, Tremove, Tstat, Twstat, Rerror, Rflush}
+use Rattle.p9_wire.specs.Message.{TMessage, Tversion, Tauth, Tattach, Tflush, Twalk, Topen, Tcreate}
+use Rattle.p9_wire.specs.Message.{Tread, Twrite, Tclunk, Tremove, Tstat, Twstat, Rerror, Rflush}
 use Rattle.p9_wire.specs.Spelling.{r_spelling}
 use Rattle.p9_wire.specs.Reading.{t_message_of}
-use Rattle.p9_export.specs.State.{Setting, Session, SessionRow, State, changed_session, fresh, session_at, with_session, without_session}
+use Rattle.p9_export.specs.State.{Setting, Session, SessionRow, State, changed_session, fresh}
+use Rattle.p9_export.specs.State.{session_at, with_session, without_session}
 use Rattle.p9_export.specs.Change.{all_applied}
 use Rattle.p9_export.specs.Answer.{Answer, Outcome, outcome_of}
 use Rattle.p9_export.specs.End.{on_ends}
@@ -36,26 +40,39 @@ is_version other = false
 
 -- each message, in the manual's order; taken says that an open finds its file in use
 abbrev pub session_answer : Setting → List Server → Bool → Session → ℕ → TMessage → Answer
-session_answer setting forest taken session now (Tversion msize version) = version_answer setting forest session now msize version
+session_answer setting forest taken session now (Tversion msize version) =
+    version_answer setting forest session now msize version
 session_answer setting forest taken session now (Tauth afid uname aname) = Err NoAuthentication
-session_answer setting forest taken session now (Tattach fid afid uname aname) = attach_answer setting forest session fid afid uname aname
-session_answer setting forest taken session now (Tflush oldtag) = Ok (record { changes = []; session = session; reply = Rflush })
-session_answer setting forest taken session now (Twalk fid newfid names) = walk_answer setting forest session fid newfid names
-session_answer setting forest taken session now (Topen fid mode) = open_answer setting forest taken session now fid mode
-session_answer setting forest taken session now (Tcreate fid name perm mode) = create_answer setting forest session now fid name perm mode
-session_answer setting forest taken session now (Tread fid offset count) = read_answer setting forest session now fid offset count
-session_answer setting forest taken session now (Twrite fid offset bytes) = write_answer setting forest session now fid offset bytes
-session_answer setting forest taken session now (Tclunk fid) = clunk_answer setting forest session now fid
-session_answer setting forest taken session now (Tremove fid) = remove_answer setting forest session now fid
+session_answer setting forest taken session now (Tattach fid afid uname aname) =
+    attach_answer setting forest session fid afid uname aname
+session_answer setting forest taken session now (Tflush oldtag) =
+    Ok (record { changes = []; session = session; reply = Rflush })
+session_answer setting forest taken session now (Twalk fid newfid names) =
+    walk_answer setting forest session fid newfid names
+session_answer setting forest taken session now (Topen fid mode) =
+    open_answer setting forest taken session now fid mode
+session_answer setting forest taken session now (Tcreate fid name perm mode) =
+    create_answer setting forest session now fid name perm mode
+session_answer setting forest taken session now (Tread fid offset count) =
+    read_answer setting forest session now fid offset count
+session_answer setting forest taken session now (Twrite fid offset bytes) =
+    write_answer setting forest session now fid offset bytes
+session_answer setting forest taken session now (Tclunk fid) =
+    clunk_answer setting forest session now fid
+session_answer setting forest taken session now (Tremove fid) =
+    remove_answer setting forest session now fid
 session_answer setting forest taken session now (Tstat fid) = stat_answer setting forest session fid
-session_answer setting forest taken session now (Twstat fid stat) = wstat_answer setting forest session now fid stat
+session_answer setting forest taken session now (Twstat fid stat) =
+    wstat_answer setting forest session now fid stat
 
 -- whether an open finds its file in use, in any session
 abbrev pub finds_taken : Setting → List Server → List SessionRow → Session → TMessage → Bool
-finds_taken setting forest sessions session (Topen fid mode) = is_taken setting forest sessions session fid
+finds_taken setting forest sessions session (Topen fid mode) =
+    is_taken setting forest sessions session fid
 finds_taken setting forest sessions session other = false
 
-abbrev pub message_answer : Setting → List Server → List SessionRow → Session → ℕ → TMessage → Answer
+abbrev pub message_answer : Setting → List Server → List SessionRow → Session → ℕ → TMessage
+    → Answer
 message_answer setting forest sessions session now m =
     session_answer setting forest (finds_taken setting forest sessions session m) session now m
 
@@ -68,7 +85,9 @@ fits_msize session frame = option_map_or (λ msize. nat_le (length frame) msize)
 abbrev pub request_of : Session → List ℕ → Result TMessage Fault
 request_of session frame =
     if not (fits_msize session frame) then Err Malformed
-    else option_map_or (λ m. if is_version m.1 || is_some session.msize then Ok m.1 else Err VersionNotSet) (t_message_of frame) (Err Malformed)
+    else option_map_or
+    (λ m. if is_version m.1 || is_some session.msize then Ok m.1 else Err VersionNotSet)
+    (t_message_of frame) (Err Malformed)
 
 abbrev pub frame_answer : Setting → List Server → List SessionRow → Session → ℕ → List ℕ → Answer
 frame_answer setting forest sessions session now frame =
@@ -117,7 +136,10 @@ unchanged state = record { state = state; reply = [] }
 
 abbrev pub with_outcome : State → ℕ → List ℕ → Outcome → Stepped
 with_outcome state name frame outcome = record {
-  state = record state { forest = all_applied outcome.changes state.forest; sessions = changed_session name outcome.session state.sessions };
+  state = record state {
+    forest = all_applied outcome.changes state.forest;
+    sessions = changed_session name outcome.session state.sessions;
+  };
   reply = r_spelling (tag_of frame) outcome.reply;
 }
 
@@ -128,7 +150,8 @@ answered state name session frame refused answer =
 
 abbrev pub requested : State → ℕ → List ℕ → ℕ → Bool → Session → Stepped
 requested state name frame now refused session =
-    answered state name session frame refused (frame_answer state.setting state.forest state.sessions session now frame)
+    answered state name session frame refused
+    (frame_answer state.setting state.forest state.sessions session now frame)
 
 -- a session ends, and its fids by rising number
 abbrev pub closed : State → ℕ → ℕ → Session → Stepped
@@ -144,11 +167,17 @@ closed state name now session = record {
 abbrev pub step : State → Event → Bool → Stepped
 step state (Opening name) refused =
     if refused || is_some (session_at name state.sessions) then unchanged state
-    else record { state = record state { sessions = with_session name fresh state.sessions }; reply = [] }
+    else record {
+      state = record state { sessions = with_session name fresh state.sessions };
+      reply = [];
+    }
 step state (Request name frame now) refused =
-    if is_frame frame then option_map_or (requested state name frame now refused) (session_at name state.sessions) (unchanged state)
+    if is_frame frame
+    then option_map_or (requested state name frame now refused) (session_at name state.sessions)
+    (unchanged state)
     else unchanged state
-step state (Closing name now) refused = option_map_or (closed state name now) (session_at name state.sessions) (unchanged state)
+step state (Closing name now) refused =
+    option_map_or (closed state name now) (session_at name state.sessions) (unchanged state)
 
 -- one event after another, with their marks; the replies are joined
 abbrev pub run : State → List Event → List Bool → Stepped

@@ -1,5 +1,6 @@
 -- A version, which begins the session anew: version(5).
-use Rattle.std.specs.Prelude.{ℕ, ◌||◌, Bool, min, nat_eq, nat_le, List, [], Some, Ok, codes, if◌then◌else◌}
+use Rattle.std.specs.Prelude.{ℕ, ◌||◌, Bool, min, nat_eq, nat_le, List, [], Some, Ok, codes}
+use Rattle.std.specs.Prelude.{if◌then◌else◌}
 use Rattle.std.specs.List.{starts_with}
 use Rattle.std.specs.Str.{bytes_eq}
 use Rattle.p9_base.specs.declared.fault.Fault.TheVariants.{SmallMsize}
@@ -28,7 +29,8 @@ begun setting forest session now msize = Ok (record {
 
 -- a version that isn't spoken here changes nothing
 abbrev pub not_spoken : Session → ℕ → Answer
-not_spoken session msize = Ok (record { changes = []; session = session; reply = Rversion msize (codes "unknown") })
+not_spoken session msize =
+    Ok (record { changes = []; session = session; reply = Rversion msize (codes "unknown") })
 
 abbrev pub version_answer : Setting → List Server → Session → ℕ → ℕ → List ℕ → Answer
 version_answer setting forest session now msize version =

@@ -1,5 +1,6 @@
 -- A walk, which takes a fid along names: walk(5).
-use Rattle.std.specs.Prelude.{ℕ, ◌==◌, List, [], ◌∷◌, Option, Some, None, Result, Ok, Err, is_none, if◌then◌else◌}
+use Rattle.std.specs.Prelude.{ℕ, ◌==◌, List, [], ◌∷◌, Option, Some, None, Result, Ok, Err, is_none}
+use Rattle.std.specs.Prelude.{if◌then◌else◌}
 use Rattle.std.specs.Option.{option_map_or}
 use Rattle.p9_base.specs.declared.fault.Fault.{Fault}
 use Rattle.p9_base.specs.declared.fault.Fault.TheVariants.{FidOpen, PhaseError, UnknownFid}
@@ -31,21 +32,29 @@ module _ (setting : Setting) (forest : List Server) where
   abbrev pub arrival : List NodeRef → Step → Result Arrival Fault
   arrival trail step =
       let next = stepped trail step in
-      option_map_or (λ qid. Ok (record { trail = next; qid = qid })) (qid_at setting.table forest (here next)) (Err PhaseError)
+      option_map_or (λ qid. Ok (record { trail = next; qid = qid }))
+      (qid_at setting.table forest (here next)) (Err PhaseError)
 
   -- one step by a name
   abbrev pub arrived_by : List ℕ → List NodeRef → List ℕ → Result Arrival Fault
-  arrived_by user trail name = and_then (step_of forest setting.table (Some user) trail name) (arrival trail)
+  arrived_by user trail name =
+      and_then (step_of forest setting.table (Some user) trail name) (arrival trail)
 
   -- ends where a step is refused, else goes on
   abbrev pub going_on : List NodeRef → Result Arrival Fault → (List NodeRef → Walked) → Walked
   going_on trail (Err fault) later = record { qids = []; trail = trail; stopped = Some fault }
-  going_on trail (Ok a) later = let rest = later a.trail in record { qids = a.qid ∷ rest.qids; trail = rest.trail; stopped = rest.stopped }
+  going_on trail (Ok a) later =
+      let rest = later a.trail in record {
+        qids = a.qid ∷ rest.qids;
+        trail = rest.trail;
+        stopped = rest.stopped;
+      }
 
   -- one step after another, up to the first that is refused
   abbrev pub walked : List ℕ → List NodeRef → List (List ℕ) → Walked
   walked user trail [] = record { qids = []; trail = trail; stopped = None }
-  walked user trail (name ∷ names) = going_on trail (arrived_by user trail name) (λ next. walked user next names)
+  walked user trail (name ∷ names) =
+      going_on trail (arrived_by user trail name) (λ next. walked user next names)
 
 -- why newfid can't be where the walk leads; the fid itself always can
 abbrev pub newfid_fault : ℕ → ℕ → List FidRow → Option Fault

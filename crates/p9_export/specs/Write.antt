@@ -1,6 +1,7 @@
 -- Writing: write in read(5).
 use Rattle.std.specs.Prelude.{ℕ, ◌+◌, Bool, false, nat_le, List, [], ◌∷◌, Ok, length, if◌then◌else◌}
-use Rattle.p9_base.specs.declared.fault.Fault.TheVariants.{FidNotOpen, FileTooLarge, PhaseError, UnknownFid}
+use Rattle.p9_base.specs.declared.fault.Fault.TheVariants.{FidNotOpen, FileTooLarge, PhaseError}
+use Rattle.p9_base.specs.declared.fault.Fault.TheVariants.{UnknownFid}
 use Rattle.p9_base.specs.declared.node_ref.NodeRef.{NodeRef}
 use Rattle.p9_tree.specs.Node.{Node}
 use Rattle.p9_tree.specs.Server.{Server}
@@ -25,11 +26,16 @@ write_place offset n = if is_append_only n then length n.bytes else offset
 
 abbrev pub written : Session → ℕ → Fid → NodeRef → ℕ → List ℕ → Answer
 written session now v at place bytes =
-    Ok (record { changes = EditNode at (Overwrite place bytes) ∷ EditNode at (Mark v.user now) ∷ []; session = session; reply = Rwrite (length bytes) })
+    Ok (record {
+      changes = EditNode at (Overwrite place bytes) ∷ EditNode at (Mark v.user now) ∷ [];
+      session = session;
+      reply = Rwrite (length bytes);
+    })
 
 -- no bytes change nothing, at any offset
 abbrev pub write_file : Session → ℕ → Fid → NodeRef → Node → ℕ → List ℕ → Answer
-write_file session now v at n offset [] = Ok (record { changes = []; session = session; reply = Rwrite 0 })
+write_file session now v at n offset [] =
+    Ok (record { changes = []; session = session; reply = Rwrite 0 })
 write_file session now v at n offset (b ∷ bs) =
     let bytes = b ∷ bs in
     let place = write_place offset n in

@@ -1,9 +1,13 @@
 -- Changing what is told of a file: wstat in stat(5).
-use Rattle.std.specs.Prelude.{ℕ, ◌-◌, ◌^◌, ◌==◌, ◌&&◌, ◌||◌, Bool, false, not, nat_lt, List, [], ◌∷◌, Option, Some, None, Ok, is_none, is_some, option_and_then, if◌then◌else◌}
+use Rattle.std.specs.Prelude.{ℕ, ◌-◌, ◌^◌, ◌==◌, ◌&&◌, ◌||◌, Bool, false, not, nat_lt, List, []}
+use Rattle.std.specs.Prelude.{◌∷◌, Option, Some, None, Ok, is_none, is_some, option_and_then}
+use Rattle.std.specs.Prelude.{if◌then◌else◌}
 use Rattle.std.specs.Option.{option_copied, option_map_or}
 use Rattle.std.specs.Str.{bytes_eq}
 use Rattle.p9_base.specs.declared.fault.Fault.{Fault}
-use Rattle.p9_base.specs.declared.fault.Fault.TheVariants.{BadFileName, FileExists, FileTooLarge, FixedField, IsDirectory, IsRoot, PermissionDenied, PhaseError, UnknownFid}
+use Rattle.p9_base.specs.declared.fault.Fault.TheVariants.{BadFileName, FileExists, FileTooLarge}
+use Rattle.p9_base.specs.declared.fault.Fault.TheVariants.{FixedField, IsDirectory, IsRoot}
+use Rattle.p9_base.specs.declared.fault.Fault.TheVariants.{PermissionDenied, PhaseError, UnknownFid}
 use Rattle.p9_base.specs.declared.mode.Mode.{Mode}
 use Rattle.p9_base.specs.declared.node_ref.NodeRef.{NodeRef}
 use Rattle.p9_base.specs.declared.qid.Qid.{Qid}
@@ -37,7 +41,8 @@ abbrev pub is_text_touched : List ℕ → List ℕ → Bool
 is_text_touched there wanted = not (bytes_eq wanted [] || bytes_eq wanted there)
 
 abbrev pub touched_number : ℕ → ℕ → ℕ → Option ℕ
-touched_number greatest there wanted = if is_number_touched greatest there wanted then Some wanted else None
+touched_number greatest there wanted =
+    if is_number_touched greatest there wanted then Some wanted else None
 
 abbrev pub touched_text : List ℕ → List ℕ → Option (List ℕ)
 touched_text there wanted = if is_text_touched there wanted then Some wanted else None
@@ -96,7 +101,8 @@ abbrev pub is_mode_for : Node → Mode → Bool
 is_mode_for n m = if is_dir n then is_dir_mode m else not (is_dir_mode m)
 
 abbrev pub mode_fault : Node → ℕ → Option Fault
-mode_fault n bits = if option_map_or (is_mode_for n) (mode_of bits) false then None else Some FixedField
+mode_fault n bits =
+    if option_map_or (is_mode_for n) (mode_of bits) false then None else Some FixedField
 
 -- the directory of the file has an entry of the name
 abbrev pub has_sibling : List Server → NodeRef → Node → List ℕ → Bool
@@ -155,7 +161,9 @@ node_change user now t = record {
 -- if anything is touched, the directory that the file stands in is marked
 abbrev pub rewriting : List ℕ → ℕ → NodeRef → Node → Touched → List Change
 rewriting user now at n t =
-    if is_any t then EditNode at (Rewrite (node_change user now t)) ∷ parent_marked user now at n.parent else []
+    if is_any t
+    then EditNode at (Rewrite (node_change user now t)) ∷ parent_marked user now at n.parent
+    else []
 
 abbrev pub wstat_answer : Setting → List Server → Session → ℕ → ℕ → StatFields → Answer
 wstat_answer setting forest session now fid wanted =

@@ -1,5 +1,6 @@
 -- The fids of a session: a finite map from numbers to users, trails and what is open.
-use Rattle.std.specs.Prelude.{ℕ, ◌-◌, ◌^◌, ◌==◌, ◌&&◌, Bool, count_by, nat_le, List, Option, None, Some, length, is_some, if◌then◌else◌}
+use Rattle.std.specs.Prelude.{ℕ, ◌-◌, ◌^◌, ◌==◌, ◌&&◌, Bool, count_by, nat_le, List, Option, None}
+use Rattle.std.specs.Prelude.{Some, length, is_some, if◌then◌else◌}
 use Rattle.std.specs.Option.{option_map_or}
 use Rattle.std.specs.Ordering.{nat_cmp}
 use Rattle.std.specs.Map.{lookup, remove_entry, set_value, values_of}
@@ -33,7 +34,8 @@ without_fid fid fids = remove_entry (is_at (nat_cmp fid)) fids
 
 -- with a change of one fid, if it is there
 abbrev pub changed_fid : ℕ → (Fid → Fid) → List FidRow → List FidRow
-changed_fid fid f fids = option_map_or (λ v. set_value (is_at (nat_cmp fid)) fids (f v)) (fid_at fid fids) fids
+changed_fid fid f fids =
+    option_map_or (λ v. set_value (is_at (nat_cmp fid)) fids (f v)) (fid_at fid fids) fids
 
 abbrev pub trailed : List NodeRef → Fid → Fid
 trailed trail v = record v { trail = trail }

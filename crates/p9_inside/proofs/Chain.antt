@@ -1,12 +1,16 @@
 -- A node is inside exactly where a hidden number stands in its chain of parents.
-use Rattle.std.proofs.Common.{◌≡◌, ◌≢◌, ℕ, zero, suc, ◌<◌, Bool, true, false, not, ◌||◌, List, [], ◌∷◌, Option, Some, None, IsTrue, refl, sym, ap, ◌∙◌, arith, inl, inr, ◌⊎◌, ◌↔◌, All}
+use Rattle.std.proofs.Common.{◌≡◌, ◌≢◌, ℕ, zero, suc, ◌<◌, Bool, true, false, not, ◌||◌, List, []}
+use Rattle.std.proofs.Common.{◌∷◌, Option, Some, None, IsTrue, refl, sym, ap, ◌∙◌, arith, inl, inr}
+use Rattle.std.proofs.Common.{◌⊎◌, ◌↔◌, All}
 use Rattle.std.specs.Prelude.{filter}
 use Rattle.std.proofs.lemmas.List.Elements.{All-head, All-tail, All-weaker}
 use Rattle.std.specs.Option.{option_map_or}
 use Rattle.p9_tree.specs.Node.{Node}
 use Rattle.p9_tree.specs.Server.{Server, WellFormed, node_at}
-use Rattle.p9_tree.specs.Inside.{IsInside, Child, Deeper, IsInsideAny, is_among, is_inner, barred_from, is_barred_at, is_inside_at}
-use Rattle.p9_inside.specs.Meaning.{NothingInsideItself, ServerPassIsChain, ServerBarredIsHiddenOrInside, ServerOnlyNodesHide}
+use Rattle.p9_tree.specs.Inside.{IsInside, Child, Deeper, IsInsideAny, is_among, is_inner}
+use Rattle.p9_tree.specs.Inside.{barred_from, is_barred_at, is_inside_at}
+use Rattle.p9_inside.specs.Meaning.{NothingInsideItself, ServerPassIsChain}
+use Rattle.p9_inside.specs.Meaning.{ServerBarredIsHiddenOrInside, ServerOnlyNodesHide}
 use Rattle.p9_inside.proofs.Pass.{IsOrdered, barred-is_among, each_found}
 
 -- a well-formed server's nodes are ordered
@@ -97,7 +101,8 @@ filter_agree_each p q (x ∷ xs) h =
     let here : p x ≡ q x = All-head (λ x. p x ≡ q x) x xs h in
     grind (arith, filter_agree_each p q xs (All-tail (λ x. p x ≡ q x) x xs h))
 
-module _ (hidden other : List ℕ) (s : Server) (w : WellFormed s) (agree : (k : ℕ) → node_at k s.nodes ≢ None → is_among other k ≡ is_among hidden k) where
+module _ (hidden other : List ℕ) (s : Server) (w : WellFormed s)
+    (agree : (k : ℕ) → node_at k s.nodes ≢ None → is_among other k ≡ is_among hidden k) where
   -- a node's parent exists
   parent_exists : (k p : ℕ) (n : Node) → node_at k s.nodes ≡ Some n → n.parent ≡ Some p
       → node_at p s.nodes ≢ None
@@ -112,8 +117,12 @@ module _ (hidden other : List ℕ) (s : Server) (w : WellFormed s) (agree : (k :
   -- by either list the same nodes are inside
   inside-other : (k : ℕ) → is_inside_at k other s.nodes ≡ is_inside_at k hidden s.nodes
   inside-other k = same_tests _ _
-      (λ i. let c = (inside_chain other s.nodes (ordered s w) k).0 i in (inside_chain hidden s.nodes (ordered s w) k).1 (c.0, sym (agree c.0 (chain_exists c.0 k c.2)) ∙ c.1, c.2))
-      (λ i. let c = (inside_chain hidden s.nodes (ordered s w) k).0 i in (inside_chain other s.nodes (ordered s w) k).1 (c.0, agree c.0 (chain_exists c.0 k c.2) ∙ c.1, c.2))
+      (λ i. let c = (inside_chain other s.nodes (ordered s w) k).0 i in
+      (inside_chain hidden s.nodes (ordered s w) k).1
+      (c.0, sym (agree c.0 (chain_exists c.0 k c.2)) ∙ c.1, c.2))
+      (λ i. let c = (inside_chain hidden s.nodes (ordered s w) k).0 i in
+      (inside_chain other s.nodes (ordered s w) k).1
+      (c.0, agree c.0 (chain_exists c.0 k c.2) ∙ c.1, c.2))
 
   -- so the pass finds the same
   inner-other : (n : Node) → node_at n.number s.nodes ≡ Some n
@@ -121,18 +130,27 @@ module _ (hidden other : List ℕ) (s : Server) (w : WellFormed s) (agree : (k :
   inner-other n e = rw e at (inside-other n.number)
 
   -- at each node
-  each_inner : All (λ n. is_inner (barred_from other s.nodes) n ≡ is_inner (barred_from hidden s.nodes) n) s.nodes
+  each_inner : All
+      (λ n. is_inner (barred_from other s.nodes) n ≡ is_inner (barred_from hidden s.nodes) n)
+      s.nodes
   each_inner =
-      All-weaker (λ n. node_at n.number s.nodes ≡ Some n) (λ n. is_inner (barred_from other s.nodes) n ≡ is_inner (barred_from hidden s.nodes) n) inner-other s.nodes (each_found s.nodes (ordered s w))
+      All-weaker (λ n. node_at n.number s.nodes ≡ Some n)
+      (λ n. is_inner (barred_from other s.nodes) n ≡ is_inner (barred_from hidden s.nodes) n)
+      inner-other s.nodes (each_found s.nodes (ordered s w))
 
 pub server_only_nodes_hide : ServerOnlyNodesHide
 server_only_nodes_hide hidden other s w agree =
-    let same : All (λ n. is_inner (barred_from other s.nodes) n ≡ is_inner (barred_from hidden s.nodes) n) s.nodes
+    let same : All
+    (λ n. is_inner (barred_from other s.nodes) n ≡ is_inner (barred_from hidden s.nodes) n)
+    s.nodes
     = each_inner hidden other s w agree in
     record {
       insides = filter_agree_each _ _ s.nodes same;
       others =
-          filter_agree_each _ _ s.nodes (All-weaker _ (λ n. not (is_inner (barred_from other s.nodes) n) ≡ not (is_inner (barred_from hidden s.nodes) n)) (λ n e. ap not e) s.nodes same);
+          filter_agree_each _ _ s.nodes
+          (All-weaker _
+          (λ n. not (is_inner (barred_from other s.nodes) n)
+          ≡ not (is_inner (barred_from hidden s.nodes) n)) (λ n e. ap not e) s.nodes same);
     }
 
 pub nothing_inside_itself : NothingInsideItself

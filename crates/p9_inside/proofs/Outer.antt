@@ -1,14 +1,18 @@
 -- Look-ups in a server without its insides.
-use Rattle.std.proofs.Common.{◌≡◌, ℕ, Bool, true, false, eqb, not, ◌&&◌, List, [], ◌∷◌, Option, Some, None, IsFalse, refl, sym, ap, subst, ◌∙◌, arith}
+use Rattle.std.proofs.Common.{◌≡◌, ℕ, Bool, true, false, eqb, not, ◌&&◌, List, [], ◌∷◌, Option}
+use Rattle.std.proofs.Common.{Some, None, IsFalse, refl, sym, ap, subst, ◌∙◌, arith}
 use Rattle.std.specs.Prelude.{filter, find, is_some, ◌==◌}
 use Rattle.std.specs.Option.{option_map_or}
 use Rattle.std.proofs.lemmas.Bool.Decides.{nat_tests}
 use Rattle.p9_tree.specs.Node.{Node, has_number, is_in, is_child, is_above, is_dir}
 use Rattle.p9_tree.specs.Server.{Server, node_at}
-use Rattle.p9_tree.specs.Inside.{is_among, is_inner, barred_from, is_inside_at, inner_nodes, outer_nodes}
+use Rattle.p9_tree.specs.Inside.{is_among, is_inner, barred_from, is_inside_at, inner_nodes}
+use Rattle.p9_tree.specs.Inside.{outer_nodes}
 use Rattle.p9_inside.specs.Meaning.{IsSplit, ServerInsidesAreSplit}
 use Rattle.p9_inside.proofs.Pass.{IsOrdered, no_later, tail_ordered}
-use Rattle.p9_inside.specs.Lookups.{ServerKeepsNode, ServerKeepsDirTest, ServerKeepsBytes, ServerKeepsChild, ServerKeepsChildAfter, ServerKeepsChildren, SameChildren}
+use Rattle.p9_inside.specs.Lookups.{ServerKeepsNode, ServerKeepsDirTest, ServerKeepsBytes}
+use Rattle.p9_inside.specs.Lookups.{ServerKeepsChild, ServerKeepsChildAfter, ServerKeepsChildren}
+use Rattle.p9_inside.specs.Lookups.{SameChildren}
 
 -- a filter that keeps what is found changes nothing in the finding
 find-filter : {X : Type 0} (p q : X → Bool) (xs : List X)
@@ -40,7 +44,8 @@ child_outer barred dir n out here = go n.parent here
 
 pub server_keeps_node : ServerKeepsNode
 server_keeps_node hidden s k out =
-    find-filter (has_number k) (λ n. not (is_inner (barred_from hidden s.nodes) n)) s.nodes (λ n e. let kept = rw e at out in ap not kept)
+    find-filter (has_number k) (λ n. not (is_inner (barred_from hidden s.nodes) n)) s.nodes
+    (λ n e. let kept = rw e at out in ap not kept)
 
 pub server_keeps_dir_test : ServerKeepsDirTest
 server_keeps_dir_test hidden s k out =
@@ -54,7 +59,8 @@ server_keeps_bytes hidden s k out =
 and_left : (a b : Bool) → (a && b) ≡ true → a ≡ true
 and_left a b h = grind arith
 
-module _ (hidden : List ℕ) (s : Server) (dir : ℕ) (out : IsFalse (is_among (barred_from hidden s.nodes) dir)) where
+module _ (hidden : List ℕ) (s : Server) (dir : ℕ)
+    (out : IsFalse (is_among (barred_from hidden s.nodes) dir)) where
   -- whatever asks only for children of the directory is answered alike
   keeps_children : (p : Node → Bool) → ((n : Node) → p n ≡ true → is_in dir n ≡ true)
       → find p (outer_nodes hidden s.nodes) ≡ find p s.nodes
@@ -66,7 +72,9 @@ module _ (hidden : List ℕ) (s : Server) (dir : ℕ) (out : IsFalse (is_among (
   keeps_all = record {
     all = filter-filter_all (is_in dir) _ s.nodes (λ n t. child_outer _ dir n out t);
     some =
-        ap is_some (keeps_children (λ n. is_in dir n && is_above None n) (λ n t. and_left (is_in dir n) _ t));
+        ap is_some
+        (keeps_children (λ n. is_in dir n && is_above None n)
+        (λ n t. and_left (is_in dir n) _ t));
   }
 
 pub server_keeps_child : ServerKeepsChild
@@ -75,7 +83,8 @@ server_keeps_child hidden s dir name out =
 
 pub server_keeps_child_after : ServerKeepsChildAfter
 server_keeps_child_after hidden s dir floor out =
-    keeps_children hidden s dir out (λ n. is_in dir n && is_above floor n) (λ n t. and_left (is_in dir n) _ t)
+    keeps_children hidden s dir out (λ n. is_in dir n && is_above floor n)
+    (λ n t. and_left (is_in dir n) _ t)
 
 pub server_keeps_children : ServerKeepsChildren
 server_keeps_children = keeps_all
@@ -99,7 +108,8 @@ node_at-filter_out q k (x ∷ xs) n o e out =
     go true t ih =
         let same : x ≡ n = (let found : Some x ≡ Some n = rw t at e in cc) in
         let here : q x ≡ false = rw same out in
-        rw here (find-filter_none (has_number k) q xs (no_later x xs o k (grind (arith, nat_tests))))
+        rw here
+        (find-filter_none (has_number k) q xs (no_later x xs o k (grind (arith, nat_tests))))
     go false t ih =
         let rest : node_at k (filter q xs) ≡ None = ih (rw t at e) out in
         grind arith
@@ -110,32 +120,43 @@ split_found : (hidden : List ℕ) (nodes : List Node) (k : ℕ) (n : Node) → I
     → IsSplit k b nodes (inner_nodes hidden nodes) (outer_nodes hidden nodes)
 split_found hidden nodes k n o e true t = record {
   insides =
-      find-filter (has_number k) (is_inner (barred_from hidden nodes)) nodes (λ m found. let same : n ≡ m = cc in rw (← same) t);
+      find-filter (has_number k) (is_inner (barred_from hidden nodes)) nodes
+      (λ m found. let same : n ≡ m = cc in rw (← same) t);
   others =
-      node_at-filter_out (λ m. not (is_inner (barred_from hidden nodes) m)) k nodes n o e (ap not t);
+      node_at-filter_out (λ m. not (is_inner (barred_from hidden nodes) m)) k nodes n o e
+      (ap not t);
 }
 split_found hidden nodes k n o e false t = record {
   insides = node_at-filter_out (is_inner (barred_from hidden nodes)) k nodes n o e t;
   others =
-      find-filter (has_number k) (λ m. not (is_inner (barred_from hidden nodes) m)) nodes (λ m found. let same : n ≡ m = cc in rw (← same) (ap not t));
+      find-filter (has_number k) (λ m. not (is_inner (barred_from hidden nodes) m)) nodes
+      (λ m found. let same : n ≡ m = cc in rw (← same) (ap not t));
 }
 
 -- the insides and the others, where numbers rise
 pub split_ordered : (hidden : List ℕ) (nodes : List Node) (k : ℕ) → IsOrdered nodes
-    → IsSplit k (is_inside_at k hidden nodes) nodes (inner_nodes hidden nodes) (outer_nodes hidden nodes)
+    → IsSplit k (is_inside_at k hidden nodes) nodes (inner_nodes hidden nodes)
+    (outer_nodes hidden nodes)
 split_ordered hidden nodes k o = go (node_at k nodes) refl
   where
     inside_is : (found : Option Node) → node_at k nodes ≡ found
-        → is_inside_at k hidden nodes ≡ option_map_or (is_inner (barred_from hidden nodes)) found false
+        → is_inside_at k hidden nodes
+        ≡ option_map_or (is_inner (barred_from hidden nodes)) found false
     inside_is found e = ap (λ q. option_map_or (is_inner (barred_from hidden nodes)) q false) e
 
     go : (found : Option Node) → node_at k nodes ≡ found
-        → IsSplit k (is_inside_at k hidden nodes) nodes (inner_nodes hidden nodes) (outer_nodes hidden nodes)
+        → IsSplit k (is_inside_at k hidden nodes) nodes (inner_nodes hidden nodes)
+        (outer_nodes hidden nodes)
     go None e =
-        subst (λ b. IsSplit k b nodes (inner_nodes hidden nodes) (outer_nodes hidden nodes)) (sym (inside_is None e))
-        (record { insides = find-filter_none (has_number k) _ nodes e; others = find-filter_none (has_number k) _ nodes e ∙ sym e })
+        subst (λ b. IsSplit k b nodes (inner_nodes hidden nodes) (outer_nodes hidden nodes))
+        (sym (inside_is None e))
+        (record {
+          insides = find-filter_none (has_number k) _ nodes e;
+          others = find-filter_none (has_number k) _ nodes e ∙ sym e;
+        })
     go (Some n) e =
-        subst (λ b. IsSplit k b nodes (inner_nodes hidden nodes) (outer_nodes hidden nodes)) (sym (inside_is (Some n) e))
+        subst (λ b. IsSplit k b nodes (inner_nodes hidden nodes) (outer_nodes hidden nodes))
+        (sym (inside_is (Some n) e))
         (split_found hidden nodes k n o e (is_inner (barred_from hidden nodes) n) refl)
 
 pub server_insides_are_split : ServerInsidesAreSplit

@@ -1,5 +1,6 @@
 -- What one pass over a server's nodes gathers.
-use Rattle.std.proofs.Common.{◌≡◌, ℕ, suc, ◌<◌, ◌≤◌, Bool, true, false, eqb, ◌&&◌, ◌||◌, List, [], ◌∷◌, Option, Some, None, refl, arith, All, AllPairs}
+use Rattle.std.proofs.Common.{◌≡◌, ℕ, suc, ◌<◌, ◌≤◌, Bool, true, false, eqb, ◌&&◌, ◌||◌, List, []}
+use Rattle.std.proofs.Common.{◌∷◌, Option, Some, None, refl, arith, All, AllPairs}
 use Rattle.std.specs.Option.{option_map_or}
 use Rattle.std.proofs.lemmas.Bool.Decides.{nat_tests}
 use Rattle.std.proofs.lemmas.List.Elements.{All-cons, All-weaker}
@@ -37,14 +38,16 @@ module _ (x : Node) (xs : List Node) (o : IsOrdered (x ∷ xs)) where
   -- no other node has a number up to the first
   pub no_later : (j : ℕ) → j ≤ x.number → node_at j xs ≡ None
   no_later j le =
-      node_at-before j xs (All-weaker (λ n. x.number < n.number) (λ n. j < n.number) (λ n lt. omega arith) xs above)
+      node_at-before j xs
+      (All-weaker (λ n. x.number < n.number) (λ n. j < n.number) (λ n lt. omega arith) xs above)
 
 -- each node is the one of its number
 pub each_found : (xs : List Node) → IsOrdered xs → All (λ n. node_at n.number xs ≡ Some n) xs
 each_found [] o = λ k d in_range. absurd (omega arith)
 each_found (x ∷ xs) o =
     All-cons (λ n. node_at n.number (x ∷ xs) ≡ Some n) x xs (grind (arith, nat_tests))
-    (All-weaker (λ n. node_at n.number xs ≡ Some n) (λ n. node_at n.number (x ∷ xs) ≡ Some n) (λ n e. later x xs o n.number n e) xs (each_found xs (tail_ordered x xs o)))
+    (All-weaker (λ n. node_at n.number xs ≡ Some n) (λ n. node_at n.number (x ∷ xs) ≡ Some n)
+    (λ n e. later x xs o n.number n e) xs (each_found xs (tail_ordered x xs o)))
 
 -- the pass gathers no number but those of nodes
 pub barred-absent : (ks : List ℕ) (xs : List Node) (k : ℕ) → node_at k xs ≡ None
@@ -58,7 +61,8 @@ inner-head : (ks : List ℕ) (x : Node) (xs : List Node) → IsOrdered (x ∷ xs
 inner-head ks x xs o = go x.parent refl
   where
     go : (q : Option ℕ) → x.parent ≡ q
-        → option_map_or (λ p. is_among (barred_from ks (x ∷ xs)) p) q false ≡ option_map_or (λ p. is_among ks p) q false
+        → option_map_or (λ p. is_among (barred_from ks (x ∷ xs)) p) q false
+        ≡ option_map_or (λ p. is_among ks p) q false
     go None e = refl
     go (Some p) e =
         let low : p < x.number = head_parent x xs o p e in
@@ -78,7 +82,8 @@ barred-is_among ks (x ∷ xs) k o =
     go (eqb x.number k) refl (barred-is_among (grown_by ks x) xs k (tail_ordered x xs o))
   where
     go : (b : Bool) → eqb x.number k ≡ b
-        → is_among (barred_from ks (x ∷ xs)) k ≡ (is_among (grown_by ks x) k || is_inside_at k (grown_by ks x) xs)
+        → is_among (barred_from ks (x ∷ xs)) k
+        ≡ (is_among (grown_by ks x) k || is_inside_at k (grown_by ks x) xs)
         → is_among (barred_from ks (x ∷ xs)) k ≡ (is_among ks k || is_inside_at k ks (x ∷ xs))
     go true e later =
         let none : node_at k xs ≡ None = no_later x xs o k (grind (arith, nat_tests)) in

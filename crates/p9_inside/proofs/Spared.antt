@@ -1,5 +1,7 @@
 -- Changes of a server outside its insides.
-use Rattle.std.proofs.Common.{◌≡◌, ℕ, ◌+◌, ◌<◌, Bool, true, false, not, cond, eqb, List, [], ◌∷◌, ◌++◌, Option, Some, None, IsTrue, IsFalse, refl, sym, ap, ◌∙◌, append-nil, arith, All}
+use Rattle.std.proofs.Common.{◌≡◌, ℕ, ◌+◌, ◌<◌, Bool, true, false, not, cond, eqb, List, [], ◌∷◌}
+use Rattle.std.proofs.Common.{◌++◌, Option, Some, None, IsTrue, IsFalse, refl, sym, ap, ◌∙◌}
+use Rattle.std.proofs.Common.{append-nil, arith, All}
 use Rattle.std.specs.Prelude.{filter}
 use Rattle.std.specs.Option.{option_map_or}
 use Rattle.std.proofs.lemmas.Bool.Decides.{nat_tests}
@@ -8,7 +10,8 @@ use Rattle.p9_tree.specs.Node.{Node}
 use Rattle.p9_tree.specs.Server.{Server, node_at, changed_at, dropped_at, with_dropped, with_nodes}
 use Rattle.p9_tree.proofs.Lookups.{node_at-past}
 use Rattle.p9_tree.specs.Inside.{is_among, is_inner, grown_by, barred_from, is_inside_at}
-use Rattle.p9_inside.specs.Changes.{KeepsParent, ServerSpares, ServerChangeSpares, ServerDropSpares, ServerAddSpares, ServerParentDecides, ServerNextIsFree}
+use Rattle.p9_inside.specs.Changes.{KeepsParent, ServerSpares, ServerChangeSpares, ServerDropSpares}
+use Rattle.p9_inside.specs.Changes.{ServerAddSpares, ServerParentDecides, ServerNextIsFree}
 use Rattle.p9_inside.proofs.Pass.{IsOrdered, tail_ordered, no_later, barred-is_among}
 use Rattle.p9_inside.proofs.Chain.{ordered}
 
@@ -43,7 +46,8 @@ module _ (k : ℕ) (f : Node → Node) (keeps : KeepsParent f) where
   filter-changed_at p same (x ∷ xs) kept = go (eqb x.number k) refl (filter-changed_at p same xs)
     where
       go : (b : Bool) → eqb x.number k ≡ b
-          → (((n : Node) → node_at k xs ≡ Some n → p n ≡ true) → filter p (changed_at k f xs) ≡ changed_at k f (filter p xs))
+          → (((n : Node) → node_at k xs ≡ Some n → p n ≡ true)
+          → filter p (changed_at k f xs) ≡ changed_at k f (filter p xs))
           → filter p (changed_at k f (x ∷ xs)) ≡ changed_at k f (filter p (x ∷ xs))
       go true e ih =
           let here : p x ≡ true = kept x (rw e refl) in
@@ -62,7 +66,8 @@ module _ (k : ℕ) (f : Node → Node) (keeps : KeepsParent f) where
   filter-changed_out p same (x ∷ xs) out = go (eqb x.number k) refl (filter-changed_out p same xs)
     where
       go : (b : Bool) → eqb x.number k ≡ b
-          → (((n : Node) → node_at k xs ≡ Some n → p n ≡ false) → filter p (changed_at k f xs) ≡ filter p xs)
+          → (((n : Node) → node_at k xs ≡ Some n → p n ≡ false)
+          → filter p (changed_at k f xs) ≡ filter p xs)
           → filter p (changed_at k f (x ∷ xs)) ≡ filter p (x ∷ xs)
       go true e ih =
           let here : p x ≡ false = out x (rw e refl) in
@@ -89,17 +94,23 @@ pub server_change_spares : ServerChangeSpares
 server_change_spares hidden s k f keeps out =
     let barred : barred_from hidden (changed_at k f s.nodes) ≡ barred_from hidden s.nodes
     = barred-changed_at k f keeps hidden s.nodes in
-    let same : (n : Node) → is_inner (barred_from hidden s.nodes) (f n) ≡ is_inner (barred_from hidden s.nodes) n
+    let same : (n : Node)
+    → is_inner (barred_from hidden s.nodes) (f n) ≡ is_inner (barred_from hidden s.nodes) n
     = inner-changed k f keeps (barred_from hidden s.nodes) in
     record {
       commutes =
-          ap (λ ns. with_nodes s ns) (ap (λ b. filter (λ n. not (is_inner b n)) (changed_at k f s.nodes)) barred
-          ∙ filter-changed_at k f keeps (λ n. not (is_inner (barred_from hidden s.nodes) n)) (λ n. ap not (same n)) s.nodes (λ n found. ap not (not_inside k hidden s.nodes out n found)));
+          ap (λ ns. with_nodes s ns)
+          (ap (λ b. filter (λ n. not (is_inner b n)) (changed_at k f s.nodes)) barred
+          ∙ filter-changed_at k f keeps (λ n. not (is_inner (barred_from hidden s.nodes) n))
+          (λ n. ap not (same n)) s.nodes
+          (λ n found. ap not (not_inside k hidden s.nodes out n found)));
       insides = ap (λ b. filter (is_inner b) (changed_at k f s.nodes)) barred
-          ∙ filter-changed_out k f keeps (is_inner (barred_from hidden s.nodes)) same s.nodes (not_inside k hidden s.nodes out);
+          ∙ filter-changed_out k f keeps (is_inner (barred_from hidden s.nodes)) same s.nodes
+          (not_inside k hidden s.nodes out);
       barred = λ j. ap (λ b. is_among b j) barred;
       inside =
-          λ j. ap (λ b. option_map_or (is_inner b) (node_at j (changed_at k f s.nodes)) false) barred
+          λ j. ap (λ b. option_map_or (is_inner b) (node_at j (changed_at k f s.nodes)) false)
+          barred
           ∙ asked-changed_at k f keeps (is_inner (barred_from hidden s.nodes)) same j s.nodes;
     }
 
@@ -128,7 +139,8 @@ grown-outer ks x xs out = go (is_inner ks x) refl
   where
     go : (b : Bool) → is_inner ks x ≡ b → grown_by ks x ≡ ks
     go true e =
-        absurd (let t : is_inner (barred_from ks (x ∷ xs)) x ≡ true = inner-barred ks (x ∷ xs) x e in cc)
+        absurd (let t : is_inner (barred_from ks (x ∷ xs)) x
+        ≡ true = inner-barred ks (x ∷ xs) x e in cc)
     go false e = rw e refl
 
 module _ (k : ℕ) where
@@ -141,7 +153,9 @@ module _ (k : ℕ) where
       go (eqb x.number k) refl (barred-dropped_at (grown_by ks x) xs)
     where
       go : (b : Bool) → eqb x.number k ≡ b
-          → (((n : Node) → node_at k xs ≡ Some n → is_inner (barred_from (grown_by ks x) xs) n ≡ false) → barred_from (grown_by ks x) (dropped_at k xs) ≡ barred_from (grown_by ks x) xs)
+          → (((n : Node) → node_at k xs ≡ Some n
+          → is_inner (barred_from (grown_by ks x) xs) n ≡ false)
+          → barred_from (grown_by ks x) (dropped_at k xs) ≡ barred_from (grown_by ks x) xs)
           → barred_from ks (dropped_at k (x ∷ xs)) ≡ barred_from ks (x ∷ xs)
       go true e ih =
           let same : grown_by ks x ≡ ks = grown-outer ks x xs (out x (rw e refl)) in
@@ -156,7 +170,8 @@ module _ (k : ℕ) where
   filter-dropped_at p (x ∷ xs) kept = go (eqb x.number k) refl (filter-dropped_at p xs)
     where
       go : (b : Bool) → eqb x.number k ≡ b
-          → (((n : Node) → node_at k xs ≡ Some n → p n ≡ true) → filter p (dropped_at k xs) ≡ dropped_at k (filter p xs))
+          → (((n : Node) → node_at k xs ≡ Some n → p n ≡ true)
+          → filter p (dropped_at k xs) ≡ dropped_at k (filter p xs))
           → filter p (dropped_at k (x ∷ xs)) ≡ dropped_at k (filter p (x ∷ xs))
       go true e ih = let here : p x ≡ true = kept x (rw e refl) in rw (e, here) (rw e refl)
       go false e ih =
@@ -172,7 +187,8 @@ module _ (k : ℕ) where
   filter-dropped_out p (x ∷ xs) out = go (eqb x.number k) refl (filter-dropped_out p xs)
     where
       go : (b : Bool) → eqb x.number k ≡ b
-          → (((n : Node) → node_at k xs ≡ Some n → p n ≡ false) → filter p (dropped_at k xs) ≡ filter p xs)
+          → (((n : Node) → node_at k xs ≡ Some n → p n ≡ false)
+          → filter p (dropped_at k xs) ≡ filter p xs)
           → filter p (dropped_at k (x ∷ xs)) ≡ filter p (x ∷ xs)
       go true e ih = let here : p x ≡ false = out x (rw e refl) in rw (e, here) refl
       go false e ih =
@@ -189,8 +205,11 @@ module _ (k : ℕ) where
       go (eqb x.number k) refl (asked-dropped_at p j xs (tail_ordered x xs o))
     where
       go : (b : Bool) → eqb x.number k ≡ b
-          → (((n : Node) → node_at k xs ≡ Some n → p n ≡ false) → option_map_or p (node_at j (dropped_at k xs)) false ≡ option_map_or p (node_at j xs) false)
-          → option_map_or p (node_at j (dropped_at k (x ∷ xs))) false ≡ option_map_or p (node_at j (x ∷ xs)) false
+          → (((n : Node) → node_at k xs ≡ Some n → p n ≡ false)
+          → option_map_or p (node_at j (dropped_at k xs)) false
+          ≡ option_map_or p (node_at j xs) false)
+          → option_map_or p (node_at j (dropped_at k (x ∷ xs))) false
+          ≡ option_map_or p (node_at j (x ∷ xs)) false
       go true e ih =
           let here : p x ≡ false = out x (rw e refl) in
           let none : j ≡ x.number → node_at j xs ≡ None = λ same. no_later x xs o j (omega arith) in
@@ -202,13 +221,16 @@ module _ (k : ℕ) where
           gone true t here none = rw (t, none (grind (arith, nat_tests))) (sym here)
           gone false t here none = rw t refl
       go false e ih =
-          let rest : option_map_or p (node_at j (dropped_at k xs)) false ≡ option_map_or p (node_at j xs) false
+          let rest : option_map_or p (node_at j (dropped_at k xs)) false
+          ≡ option_map_or p (node_at j xs) false
           = ih (λ n found. out n (rw e found)) in
           rw e (past (eqb x.number j) rest)
         where
           past : (b : Bool)
-              → option_map_or p (node_at j (dropped_at k xs)) false ≡ option_map_or p (node_at j xs) false
-              → option_map_or p (cond b (Some x) (node_at j (dropped_at k xs))) false ≡ option_map_or p (cond b (Some x) (node_at j xs)) false
+              → option_map_or p (node_at j (dropped_at k xs)) false
+              ≡ option_map_or p (node_at j xs) false
+              → option_map_or p (cond b (Some x) (node_at j (dropped_at k xs))) false
+              ≡ option_map_or p (cond b (Some x) (node_at j xs)) false
           past true r = refl
           past false r = r
 
@@ -216,14 +238,17 @@ module _ (k : ℕ) where
 pub drop_spares_ordered : (hidden : List ℕ) (s : Server) (k : ℕ) → IsOrdered s.nodes
     → IsFalse (is_inside_at k hidden s.nodes) → ServerSpares hidden (with_dropped k) s
 drop_spares_ordered hidden s k o out =
-    let not_inner : (n : Node) → node_at k s.nodes ≡ Some n → is_inner (barred_from hidden s.nodes) n ≡ false
+    let not_inner : (n : Node) → node_at k s.nodes ≡ Some n
+    → is_inner (barred_from hidden s.nodes) n ≡ false
     = not_inside k hidden s.nodes out in
     let barred : barred_from hidden (dropped_at k s.nodes) ≡ barred_from hidden s.nodes
     = barred-dropped_at k hidden s.nodes not_inner in
     record {
       commutes =
-          ap (λ ns. with_nodes s ns) (ap (λ b. filter (λ n. not (is_inner b n)) (dropped_at k s.nodes)) barred
-          ∙ filter-dropped_at k (λ n. not (is_inner (barred_from hidden s.nodes) n)) s.nodes (λ n found. ap not (not_inner n found)));
+          ap (λ ns. with_nodes s ns)
+          (ap (λ b. filter (λ n. not (is_inner b n)) (dropped_at k s.nodes)) barred
+          ∙ filter-dropped_at k (λ n. not (is_inner (barred_from hidden s.nodes) n)) s.nodes
+          (λ n found. ap not (not_inner n found)));
       insides = ap (λ b. filter (is_inner b) (dropped_at k s.nodes)) barred
           ∙ filter-dropped_out k (is_inner (barred_from hidden s.nodes)) s.nodes not_inner;
       barred = λ j. ap (λ b. is_among b j) barred;
@@ -257,10 +282,13 @@ server_add_spares hidden s dir make in_dir out =
     = barred-push hidden s.nodes n ∙ rw not_inner refl in
     record {
       commutes =
-          ap (λ ns. record { nodes = ns; next = s.next + 1 }) (ap (λ b. filter (λ m. not (is_inner b m)) (s.nodes ++ n ∷ [])) barred
-          ∙ filter-append (λ m. not (is_inner (barred_from hidden s.nodes) m)) s.nodes (n ∷ []) ∙ rw not_inner refl);
+          ap (λ ns. record { nodes = ns; next = s.next + 1 })
+          (ap (λ b. filter (λ m. not (is_inner b m)) (s.nodes ++ n ∷ [])) barred
+          ∙ filter-append (λ m. not (is_inner (barred_from hidden s.nodes) m)) s.nodes (n ∷ [])
+          ∙ rw not_inner refl);
       insides = ap (λ b. filter (is_inner b) (s.nodes ++ n ∷ [])) barred
-          ∙ filter-append (is_inner (barred_from hidden s.nodes)) s.nodes (n ∷ []) ∙ rw not_inner (append-nil _);
+          ∙ filter-append (is_inner (barred_from hidden s.nodes)) s.nodes (n ∷ [])
+          ∙ rw not_inner (append-nil _);
       barred = λ j. ap (λ b. is_among b j) barred;
       inside =
           λ j. ap (λ b. option_map_or (is_inner b) (node_at j (s.nodes ++ n ∷ [])) false) barred
@@ -292,7 +320,8 @@ pub server_parent_decides : ServerParentDecides
 server_parent_decides hidden s dir n w at in_dir =
     let found : node_at s.next (s.nodes ++ n ∷ []) ≡ Some n
     = rw (← at) (node_at-push s.nodes n (rw (← at) at w.below)) in
-    rw found (ap (λ b. is_inner b n) (barred-push hidden s.nodes n) ∙ inner-grown (barred_from hidden s.nodes) n ∙ rw in_dir refl)
+    rw found (ap (λ b. is_inner b n) (barred-push hidden s.nodes n)
+    ∙ inner-grown (barred_from hidden s.nodes) n ∙ rw in_dir refl)
 
 -- the next number is not barred, where all hidden and all present ones lie below it
 pub next_is_free_ordered : (hidden : List ℕ) (s : Server) → IsOrdered s.nodes

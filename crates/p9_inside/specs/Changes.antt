@@ -10,7 +10,8 @@ use Rattle.p9_tree.specs.New.{new_node}
 use Rattle.p9_tree.specs.Node.{Node, marked, touched, with_owner, with_bytes}
 use Rattle.p9_tree.specs.Server.{Server, WellFormed, added, with_changed, with_dropped}
 use Rattle.p9_tree.specs.Forest.{IsForest, forest_changed_at, is_dir_of, next_of, tree_changed_at}
-use Rattle.p9_tree.specs.Inside.{beside, inner_nodes, is_among, is_barred_at, is_inside_at, outer_server, is_hidden, is_barred, is_inside, inner, outer}
+use Rattle.p9_tree.specs.Inside.{beside, inner_nodes, is_among, is_barred_at, is_inside_at}
+use Rattle.p9_tree.specs.Inside.{outer_server, is_hidden, is_barred, is_inside, inner, outer}
 
 -- the change of a node leaves it where it stands
 pub record KeepsParent (f : Node → Node) : Type 0 where

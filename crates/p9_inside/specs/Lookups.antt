@@ -2,9 +2,12 @@
 use Rattle.std.specs.Prelude.{◌≡◌, ℕ, List, Option, IsFalse, filter}
 use Rattle.p9_base.specs.declared.node_ref.NodeRef.{NodeRef}
 use Rattle.p9_tree.specs.Node.{Node, is_in}
-use Rattle.p9_tree.specs.Server.{Server, node_at, is_dir_at, bytes_at, child_of, child_after, has_children}
-use Rattle.p9_tree.specs.Forest.{server_at, node_of, child_in, child_in_after, next_of, is_dir_of, bytes_of}
-use Rattle.p9_tree.specs.Inside.{is_barred_at, is_inside_at, outer_server, is_barred, is_inside, outer}
+use Rattle.p9_tree.specs.Server.{Server, node_at, is_dir_at, bytes_at, child_of, child_after}
+use Rattle.p9_tree.specs.Server.{has_children}
+use Rattle.p9_tree.specs.Forest.{server_at, node_of, child_in, child_in_after, next_of, is_dir_of}
+use Rattle.p9_tree.specs.Forest.{bytes_of}
+use Rattle.p9_tree.specs.Inside.{is_barred_at, is_inside_at, outer_server, is_barred, is_inside}
+use Rattle.p9_tree.specs.Inside.{outer}
 
 -- Of a number whose node isn't inside.
 

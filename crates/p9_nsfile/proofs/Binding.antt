@@ -11,9 +11,15 @@ use Rattle.p9_nsfile.specs.Space.{Setting, Space}
 use Rattle.p9_nsfile.specs.Variable.{expanded}
 
 -- a mount whose server is known, without a spec
-pub mounted_by-root : (setting : Setting) (space : Space) (flags : Flags) (server name old : List ℕ) (spec : Option (List ℕ)) (root : NodeRef) (given : Bool) →
-    name ≡ expanded setting.vars server → Ok root ≡ server_root setting.servers name → given ≡ has_spec setting spec → given ≡ false →
+pub mounted_by-root : (setting : Setting) (space : Space) (flags : Flags) (server name old : List ℕ)
+    (spec : Option (List ℕ)) (root : NodeRef) (given : Bool) →
+    name ≡ expanded setting.vars server → Ok root ≡ server_root setting.servers name
+    → given ≡ has_spec setting spec → given ≡ false →
     mounted_by setting space flags server old spec ≡ root_mounted setting space flags root old
 mounted_by-root setting space flags server name old spec root given is there asked none =
-    ap (λ answer. and_then answer (λ r. if has_spec setting spec then Err SpecGiven else root_mounted setting space flags r old)) (ap (server_root setting.servers) (sym is) ∙ sym there)
-    ∙ ap (λ b. if b then Err SpecGiven else root_mounted setting space flags root old) (sym asked ∙ none)
+    ap (λ answer. and_then answer
+    (λ r. if has_spec setting spec then Err SpecGiven
+    else root_mounted setting space flags r old))
+    (ap (server_root setting.servers) (sym is) ∙ sym there)
+    ∙ ap (λ b. if b then Err SpecGiven else root_mounted setting space flags root old)
+    (sym asked ∙ none)

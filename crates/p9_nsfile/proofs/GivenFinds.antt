@@ -1,5 +1,7 @@
 -- The files that a namespace file finds were made.
-use Rattle.std.proofs.Common.{◌≡◌, ℕ, zero, suc, ◌<◌, ◌≤◌, Bool, true, false, cond, List, [], ◌∷◌, Option, Some, None, Result, Ok, Err, length, position, take, refl, sym, subst, arith, length-take}
+use Rattle.std.proofs.Common.{◌≡◌, ℕ, zero, suc, ◌<◌, ◌≤◌, Bool, true, false, cond, List, [], ◌∷◌}
+use Rattle.std.proofs.Common.{Option, Some, None, Result, Ok, Err, length, position, take, refl}
+use Rattle.std.proofs.Common.{sym, subst, arith, length-take}
 use Rattle.std.specs.Prelude.{if◌then◌else◌, nat_lt, slice_get, unwrap_or}
 use Rattle.std.specs.List.{after_first, before_first, list_all, position_or_len}
 use Rattle.std.specs.Option.{option_map_or}
@@ -23,51 +25,79 @@ use Rattle.p9_space.proofs.GivenTables.{file-given}
 use Rattle.p9_space.proofs.GivenWalks.{here-given, walk-given}
 use Rattle.p9_nsfile.specs.declared.fault.OpFault.TheVariants.{UnknownServer}
 use Rattle.p9_nsfile.specs.declared.setting.TheConstants.{SERVERS_MAX}
-use Rattle.p9_nsfile.specs.Find.{behind_hash, found, found_at, found_file, found_from, found_on_server, path_fault, server_root, walked}
+use Rattle.p9_nsfile.specs.Find.{behind_hash, found, found_at, found_file, found_from}
+use Rattle.p9_nsfile.specs.Find.{found_on_server, path_fault, server_root, walked}
 use Rattle.p9_nsfile.specs.Flags.{Word}
 use Rattle.p9_nsfile.specs.Space.{Setting, Space, root_place}
 use Rattle.p9_nsfile.specs.Variable.{expanded, is_slash}
 
 -- what comes of a value of which something holds
-pub holds-then : {X Y E : Type 0} (P : X → Type 0) (Q : Y → Type 0) (r : Result X E) (next : X → Result Y E) → IfOk r P → ((x : X) → P x → IfOk (next x) Q) → IfOk (and_then r next) Q
+pub holds-then : {X Y E : Type 0} (P : X → Type 0) (Q : Y → Type 0) (r : Result X E)
+    (next : X → Result Y E) → IfOk r P → ((x : X) → P x → IfOk (next x) Q)
+    → IfOk (and_then r next) Q
 holds-then P Q (Ok x) next holds goes_on = goes_on x holds
 holds-then P Q (Err e) next holds goes_on = tt
 
 -- a place within a list
-position-within : {X : Type 0} (p : X → Bool) (xs : List X) (i : ℕ) → position p xs ≡ Some i → i < length xs
+position-within : {X : Type 0} (p : X → Bool) (xs : List X) (i : ℕ) → position p xs ≡ Some i
+    → i < length xs
 position-within p xs i found = by (nat_lt (position_or_len p xs) (length xs)) refl found
   where
-    by : (b : Bool) → nat_lt (position_or_len p xs) (length xs) ≡ b → cond b (Some (position_or_len p xs)) None ≡ Some i → i < length xs
+    by : (b : Bool) → nat_lt (position_or_len p xs) (length xs) ≡ b
+        → cond b (Some (position_or_len p xs)) None ≡ Some i → i < length xs
     by true within is = let same : position_or_len p xs ≡ i = cc in grind (arith, nat_tests)
     by false past is = let none : None ≡ Some i = is in absurd (cc)
 
 -- a position within a list has a value
-get-within : {X : Type 0} (xs : List X) (i : ℕ) → i < length xs → (x : X) × (slice_get xs i ≡ Some x)
+get-within : {X : Type 0} (xs : List X) (i : ℕ) → i < length xs
+    → (x : X) × (slice_get xs i ≡ Some x)
 get-within [] i within = absurd (omega arith)
 get-within (x ∷ xs) zero within = (x, refl)
 get-within (x ∷ xs) (suc i) within = get-within xs i (omega arith)
 
 module _ (setting : Setting) (sound : IsForest setting.forest) where
   -- each server's root was made
-  pub root-given : (k : ℕ) → k < length setting.forest → is_given setting.forest (record { server = k; number = 0 }) ≡ true
+  pub root-given : (k : ℕ) → k < length setting.forest → is_given setting.forest (record {
+    server = k;
+    number = 0;
+  }) ≡ true
   root-given k within =
       let there = get-within setting.forest k within in
       let well = sound.servers k there.0 there.1 in
-      let below : 0 < there.0.next = by there.0 (node_at 0 there.0.nodes) refl well.root (λ n found. (number-node_at 0 there.0.nodes n found, All-node_at (λ m. m.number < there.0.next) 0 there.0.nodes n well.below found)) in
-      subst (λ s. nat_lt 0 (unwrap_or s no_server).next ≡ true) (sym there.1) (lt-ltb 0 there.0.next below)
+      let below : 0 < there.0.next =
+      by there.0 (node_at 0 there.0.nodes) refl well.root
+      (λ n found. (
+        number-node_at 0 there.0.nodes n found,
+        All-node_at (λ m. m.number < there.0.next) 0
+            there.0.nodes n well.below found,
+      )) in
+      subst (λ s. nat_lt 0 (unwrap_or s no_server).next ≡ true) (sym there.1)
+      (lt-ltb 0 there.0.next below)
     where
-      by : (s : Server) (node : Option Node) → node_at 0 s.nodes ≡ node → option_map_or is_dir node false ≡ true → ((n : Node) → node_at 0 s.nodes ≡ Some n → (n.number ≡ 0) × (n.number < s.next)) → 0 < s.next
+      by : (s : Server) (node : Option Node) → node_at 0 s.nodes ≡ node
+          → option_map_or is_dir node false ≡ true
+          → ((n : Node) → node_at 0 s.nodes ≡ Some n → (n.number ≡ 0) × (n.number < s.next))
+          → 0 < s.next
       by s None e dir its = let none : false ≡ true = dir in absurd (cc)
-      by s (Some n) e dir its = let both = its n e in let zero_is = both.0 in let lt = both.1 in omega arith
+      by s (Some n) e dir its =
+          let both = its n e in let zero_is = both.0 in let lt = both.1 in omega arith
 
-  module _ (some : 0 < length setting.forest) (named : length setting.servers ≤ length setting.forest) where
-    pub server_root-given : (name : Word) → IfOk (server_root setting.servers name) (λ root. is_given setting.forest root ≡ true)
-    server_root-given name = by (position (λ server. bytes_eq server name) (take SERVERS_MAX setting.servers)) refl
+  module _ (some : 0 < length setting.forest)
+      (named : length setting.servers ≤ length setting.forest) where
+    pub server_root-given : (name : Word)
+        → IfOk (server_root setting.servers name) (λ root. is_given setting.forest root ≡ true)
+    server_root-given name =
+        by (position (λ server. bytes_eq server name) (take SERVERS_MAX setting.servers)) refl
       where
-        by : (number : Option ℕ) → position (λ server. bytes_eq server name) (take SERVERS_MAX setting.servers) ≡ number → IfOk (option_map_or (λ number. Ok (record { server = number; number = 0 })) number (Err UnknownServer)) (λ root. is_given setting.forest root ≡ true)
+        by : (number : Option ℕ)
+            → position (λ server. bytes_eq server name) (take SERVERS_MAX setting.servers) ≡ number
+            → IfOk (option_map_or (λ number. Ok (record { server = number; number = 0 })) number
+            (Err UnknownServer)) (λ root. is_given setting.forest root ≡ true)
         by None e = tt
         by (Some k) e =
-            let within : k < length (take SERVERS_MAX setting.servers) = position-within (λ server. bytes_eq server name) (take SERVERS_MAX setting.servers) k e in
+            let within : k < length (take SERVERS_MAX setting.servers) =
+            position-within (λ server. bytes_eq server name) (take SERVERS_MAX setting.servers)
+            k e in
             root-given k (omega (arith, length-take SERVERS_MAX setting.servers))
 
     -- of a name space, what its table and its current directory name was made
@@ -81,19 +111,26 @@ module _ (setting : Setting) (sound : IsForest setting.forest) where
     abbrev pub root_trail-given : IsTrailGiven (root_place ∷ [])
     root_trail-given = rw (root-given 0 some) refl
 
-    pub last-given : (trail : List NodeRef) → IsTrailGiven trail → is_given setting.forest (here trail) ≡ true
+    pub last-given : (trail : List NodeRef) → IsTrailGiven trail
+        → is_given setting.forest (here trail) ≡ true
     last-given trail all = here-given setting.forest trail (root-given 0 some) all
 
     module _ (space : Space) (made : IsSpaceGiven space) where
-      walked-given : (start : List NodeRef) (path : Word) → IsTrailGiven start → IfOk (walked setting space start path) IsTrailGiven
-      walked-given start path all = by (walk setting.forest space.table None start (cleaned_elements path)) (walk-given setting.forest sound None space.table start (cleaned_elements path) all)
+      walked-given : (start : List NodeRef) (path : Word) → IsTrailGiven start
+          → IfOk (walked setting space start path) IsTrailGiven
+      walked-given start path all =
+          by (walk setting.forest space.table None start (cleaned_elements path))
+          (walk-given setting.forest sound None space.table start (cleaned_elements path) all)
         where
-          by : (trail : Result (List NodeRef) Fault) → IfOk trail IsTrailGiven → IfOk (path_fault trail) IsTrailGiven
+          by : (trail : Result (List NodeRef) Fault) → IfOk trail IsTrailGiven
+              → IfOk (path_fault trail) IsTrailGiven
           by (Ok trail) all = all
           by (Err fault) all = tt
 
       found_from-given : (path : Word) → IfOk (found_from setting space path) IsTrailGiven
-      found_from-given path = walked-given (if is_rooted path then root_place ∷ [] else space.current) path (by (is_rooted path))
+      found_from-given path =
+          walked-given (if is_rooted path then root_place ∷ [] else space.current) path
+          (by (is_rooted path))
         where
           by : (b : Bool) → IsTrailGiven (if b then root_place ∷ [] else space.current)
           by true = root_trail-given
@@ -101,7 +138,9 @@ module _ (setting : Setting) (sound : IsForest setting.forest) where
 
       found_on_server-given : (path : Word) → IfOk (found_on_server setting space path) IsTrailGiven
       found_on_server-given path =
-          holds-then (λ root. is_given setting.forest root ≡ true) IsTrailGiven (server_root setting.servers (before_first is_slash path)) (λ root. walked setting space (root ∷ []) (slash ∷ after_first is_slash path))
+          holds-then (λ root. is_given setting.forest root ≡ true) IsTrailGiven
+          (server_root setting.servers (before_first is_slash path))
+          (λ root. walked setting space (root ∷ []) (slash ∷ after_first is_slash path))
           (server_root-given (before_first is_slash path))
           (λ root is. walked-given (root ∷ []) (slash ∷ after_first is_slash path) (rw is refl))
 
@@ -111,11 +150,17 @@ module _ (setting : Setting) (sound : IsForest setting.forest) where
           by : (path : Word) → IfOk (found_at setting space path) IsTrailGiven
           by path = at (behind_hash path)
             where
-              at : (rest : Option Word) → IfOk (option_map_or (found_on_server setting space) rest (found_from setting space path)) IsTrailGiven
+              at : (rest : Option Word)
+                  → IfOk (option_map_or (found_on_server setting space) rest
+                  (found_from setting space path)) IsTrailGiven
               at None = found_from-given path
               at (Some rest) = found_on_server-given rest
 
-      pub found_file-given : (word : Word) → IfOk (found_file setting space word) (λ file. is_given setting.forest file ≡ true)
+      pub found_file-given : (word : Word)
+          → IfOk (found_file setting space word) (λ file. is_given setting.forest file ≡ true)
       found_file-given word =
-          holds-then IsTrailGiven (λ file. is_given setting.forest file ≡ true) (found setting space word) (λ trail. Ok (file_ref (here trail) space.table)) (found-given word)
-          (λ trail all. file-given setting.forest space.table made.table (here trail) (last-given trail all))
+          holds-then IsTrailGiven (λ file. is_given setting.forest file ≡ true)
+          (found setting space word) (λ trail. Ok (file_ref (here trail) space.table))
+          (found-given word)
+          (λ trail all. file-given setting.forest space.table made.table (here trail)
+          (last-given trail all))

@@ -1,5 +1,6 @@
 -- What a function that may lack memory has to answer.
-use Rattle.std.specs.Prelude.{◌≡◌, Bool, true, false, List, Result, Ok, Err, Vec, map, if◌then◌else◌}
+use Rattle.std.specs.Prelude.{◌≡◌, Bool, true, false, List, Result, Ok, Err, Vec, map}
+use Rattle.std.specs.Prelude.{if◌then◌else◌}
 use Rattle.p9_nsfile.specs.declared.line.Line.{Line}
 use Rattle.p9_nsfile.specs.Line.{NumberedLine, line_value}
 use Rattle.p9_base.specs.declared.fault.Fault as fault
@@ -31,7 +32,8 @@ abbrev pub walk_stop : fault.Fault → Stop
 walk_stop fault = if is_memory fault then NoMemory else Fault (Path fault)
 
 -- the lines, or the fault
-abbrev pub GivesLines : {A : Type 0} → Result (List NumberedLine) OpFault → Result (Vec Line A) Stop → Type 0
+abbrev pub GivesLines : {A : Type 0} → Result (List NumberedLine) OpFault → Result (Vec Line A) Stop
+    → Type 0
 GivesLines answer (Ok lines) = answer ≡ Ok (map line_value lines.items)
 GivesLines answer (Err (Fault fault)) = answer ≡ Err fault
 GivesLines answer (Err NoMemory) = Unit {0}

@@ -1,5 +1,6 @@
 -- Mounts, binds, and what takes them away, as bind(1).
-use Rattle.std.specs.Prelude.{◌&&◌, Bool, true, false, not, nat_lt, List, [], ◌∷◌, length, map, Option, Some, None, Result, Ok, Err, if◌then◌else◌}
+use Rattle.std.specs.Prelude.{◌&&◌, Bool, true, false, not, nat_lt, List, [], ◌∷◌, length, map}
+use Rattle.std.specs.Prelude.{Option, Some, None, Result, Ok, Err, if◌then◌else◌}
 use Rattle.std.specs.Option.{option_map_or}
 use Rattle.p9_base.specs.declared.node_ref.NodeRef.{NodeRef}
 use Rattle.p9_base.specs.TryFold.{and_then}
@@ -12,7 +13,8 @@ use Rattle.p9_space.specs.declared.table.UnmountError.TheVariants as u
 use Rattle.p9_space.specs.Table.{MountRow, bound, members_of, unmounted}
 use Rattle.p9_space.specs.Trail.{here}
 use Rattle.p9_nsfile.specs.declared.fault.OpFault.{OpFault}
-use Rattle.p9_nsfile.specs.declared.fault.OpFault.TheVariants.{KindMismatch, NotMounted, NotMember, SpecGiven}
+use Rattle.p9_nsfile.specs.declared.fault.OpFault.TheVariants.{KindMismatch, NotMounted, NotMember}
+use Rattle.p9_nsfile.specs.declared.fault.OpFault.TheVariants.{SpecGiven}
 use Rattle.p9_nsfile.specs.declared.flags.Flags.{Flags}
 use Rattle.p9_nsfile.specs.Find.{found, found_file, server_root}
 use Rattle.p9_nsfile.specs.Flags.{Word}
@@ -28,7 +30,8 @@ is_replace After = false
 abbrev pub may_hold : List Server → Order → NodeRef → List NodeRef → Bool
 may_hold forest order key [] = false
 may_hold forest order key (node ∷ nodes) =
-    if is_dir_of key forest then is_dir_of node forest else not (is_dir_of node forest) && is_replace order
+    if is_dir_of key forest then is_dir_of node forest
+    else not (is_dir_of node forest) && is_replace order
 
 -- with another table
 abbrev pub with_table : Space → List MountRow → Space
@@ -37,12 +40,14 @@ with_table space table = record space { table = table }
 -- the nodes in the place of the key, or before or after what stands there
 abbrev pub put_at : Setting → Space → NodeRef → List NodeRef → Flags → Result Space OpFault
 put_at setting space key nodes flags =
-    if may_hold setting.forest flags.order key nodes then Ok (with_table space (bound key nodes flags.order flags.create space.table))
+    if may_hold setting.forest flags.order key nodes
+    then Ok (with_table space (bound key nodes flags.order flags.create space.table))
     else Err KindMismatch
 
 -- a spec is given where it isn't empty, with the variables' values put in
 abbrev pub has_spec : Setting → Option Word → Bool
-has_spec setting spec = option_map_or (λ word. nat_lt 0 (length (expanded setting.vars word))) spec false
+has_spec setting spec =
+    option_map_or (λ word. nat_lt 0 (length (expanded setting.vars word))) spec false
 
 -- the root on the old file
 abbrev pub root_mounted : Setting → Space → Flags → NodeRef → Word → Result Space OpFault

@@ -1,5 +1,6 @@
 -- The file that a word of a namespace file names.
-use Rattle.std.specs.Prelude.{ℕ, ◌^◌, ◌==◌, List, [], ◌∷◌, Option, Some, None, Result, Ok, Err, take, position, if◌then◌else◌}
+use Rattle.std.specs.Prelude.{ℕ, ◌^◌, ◌==◌, List, [], ◌∷◌, Option, Some, None, Result, Ok, Err}
+use Rattle.std.specs.Prelude.{take, position, if◌then◌else◌}
 use Rattle.std.specs.Option.{option_map_or}
 use Rattle.std.specs.List.{before_first, after_first}
 use Rattle.std.specs.Str.{bytes_eq}
@@ -39,7 +40,8 @@ behind_hash (b ∷ bs) = if b == 35 then Some bs else None
 module _ (setting : Setting) (space : Space) where
   -- along the cleaned path; no permission is needed
   abbrev pub walked : List NodeRef → Word → Result (List NodeRef) OpFault
-  walked start path = path_fault (walk setting.forest space.table None start (cleaned_elements path))
+  walked start path =
+      path_fault (walk setting.forest space.table None start (cleaned_elements path))
 
   -- a path from the root place, or from the current directory
   abbrev pub found_from : Word → Result (List NodeRef) OpFault
@@ -48,7 +50,8 @@ module _ (setting : Setting) (space : Space) where
   -- a path that begins with a server's name; what stands behind that is rooted
   abbrev pub found_on_server : Word → Result (List NodeRef) OpFault
   found_on_server path =
-      and_then (server_root setting.servers (before_first is_slash path)) (λ root. walked (root ∷ []) (slash ∷ after_first is_slash path))
+      and_then (server_root setting.servers (before_first is_slash path))
+      (λ root. walked (root ∷ []) (slash ∷ after_first is_slash path))
 
   abbrev pub found_at : Word → Result (List NodeRef) OpFault
   found_at path = option_map_or found_on_server (behind_hash path) (found_from path)

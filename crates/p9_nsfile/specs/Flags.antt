@@ -1,5 +1,6 @@
 -- The flags of a mount or a bind, as bind(1).
-use Rattle.std.specs.Prelude.{ℕ, ◌==◌, ◌&&◌, ◌||◌, Bool, not, nat_lt, List, length, drop, slice_index, Option, Some, None, if◌then◌else◌}
+use Rattle.std.specs.Prelude.{ℕ, ◌==◌, ◌&&◌, ◌||◌, Bool, not, nat_lt, List, length, drop}
+use Rattle.std.specs.Prelude.{slice_index, Option, Some, None, if◌then◌else◌}
 use Rattle.std.specs.List.{list_all, list_any}
 use Rattle.p9_space.specs.declared.row.Order.{Order}
 use Rattle.p9_space.specs.declared.row.Order.TheVariants.{Replace, Before, After}

@@ -1,6 +1,7 @@
 -- The form of a line: the operation that its words say, as namespace(6), or what is wrong with
 -- them.
-use Rattle.std.specs.Prelude.{ℕ, List, [], ◌∷◌, Option, Some, None, Result, Ok, Err, drop, codes, option_map, if◌then◌else◌}
+use Rattle.std.specs.Prelude.{ℕ, List, [], ◌∷◌, Option, Some, None, Result, Ok, Err, drop, codes}
+use Rattle.std.specs.Prelude.{option_map, if◌then◌else◌}
 use Rattle.std.specs.Option.{option_map_or}
 use Rattle.std.specs.Borrow.{Bor}
 use Rattle.std.specs.Str.{bytes_eq}
@@ -9,7 +10,8 @@ use Rattle.p9_nsfile.specs.declared.error.BadForm.{BadForm}
 use Rattle.p9_nsfile.specs.declared.error.BadForm.TheVariants.{UnknownWord, WordCount, BadFlag}
 use Rattle.p9_nsfile.specs.declared.flags.Flags.{Flags}
 use Rattle.p9_nsfile.specs.declared.operation.Operation.{Operation}
-use Rattle.p9_nsfile.specs.declared.operation.Operation.TheVariants.{Mount, Bind, Cd, Unmount, Clear, Include, Import}
+use Rattle.p9_nsfile.specs.declared.operation.Operation.TheVariants.{Mount, Bind, Cd, Unmount}
+use Rattle.p9_nsfile.specs.declared.operation.Operation.TheVariants.{Clear, Include, Import}
 use Rattle.p9_nsfile.specs.declared.operation.Verb.{Verb}
 use Rattle.p9_nsfile.specs.declared.operation.Verb.TheVariants as v
 use Rattle.p9_nsfile.specs.Flags.{Word, flags_of, is_flag}
@@ -46,7 +48,8 @@ with_flags (Some flags) operation = Ok (operation flags)
 -- looked at
 abbrev pub mount_form : Option Flags → List Word → Form
 mount_form flags (server ∷ old ∷ []) = with_flags flags (λ flags. Mount flags server old None)
-mount_form flags (server ∷ old ∷ spec ∷ []) = with_flags flags (λ flags. Mount flags server old (Some spec))
+mount_form flags (server ∷ old ∷ spec ∷ []) =
+    with_flags flags (λ flags. Mount flags server old (Some spec))
 mount_form flags others = Err WordCount
 
 abbrev pub mount_of : List Word → Form
@@ -94,11 +97,13 @@ arguments_of v.Import words = Ok Import
 -- the form of a line of these words
 abbrev pub operation_of : List Word → Form
 operation_of [] = Err UnknownWord
-operation_of (first ∷ words) = option_map_or (λ verb. arguments_of verb words) (verb_of first) (Err UnknownWord)
+operation_of (first ∷ words) =
+    option_map_or (λ verb. arguments_of verb words) (verb_of first) (Err UnknownWord)
 
 -- an operation whose words lie in a text, as one of the words
 abbrev pub operation_value : Operation (Bor (List ℕ)) → Operation Word
-operation_value (Mount flags server old spec) = Mount flags server.now old.now (option_map (λ w. w.now) spec)
+operation_value (Mount flags server old spec) =
+    Mount flags server.now old.now (option_map (λ w. w.now) spec)
 operation_value (Bind flags new old) = Bind flags new.now old.now
 operation_value (Cd dir) = Cd dir.now
 operation_value (Unmount new old) = Unmount (option_map (λ w. w.now) new) old.now

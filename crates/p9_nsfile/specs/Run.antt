@@ -1,5 +1,6 @@
 -- What the lines of a namespace file make of a mount table, as namespace(6).
-use Rattle.std.specs.Prelude.{ℕ, zero, suc, List, [], ◌∷◌, ◌++◌, Option, Some, None, Result, Ok, Err, fold, unwrap_or, if◌then◌else◌}
+use Rattle.std.specs.Prelude.{ℕ, zero, suc, List, [], ◌∷◌, ◌++◌, Option, Some, None, Result, Ok}
+use Rattle.std.specs.Prelude.{Err, fold, unwrap_or, if◌then◌else◌}
 use Rattle.std.specs.Str.{is_utf8}
 use Rattle.p9_base.specs.declared.fault.Fault.TheVariants.{NotDirectory, PhaseError}
 use Rattle.p9_base.specs.TryFold.{and_then}
@@ -9,9 +10,11 @@ use Rattle.p9_space.specs.Place.{file_ref}
 use Rattle.p9_space.specs.Table.{MountRow}
 use Rattle.p9_space.specs.Trail.{here}
 use Rattle.p9_nsfile.specs.declared.fault.OpFault.{OpFault}
-use Rattle.p9_nsfile.specs.declared.fault.OpFault.TheVariants.{Path, NotOffered, BadInclude, TooDeep}
+use Rattle.p9_nsfile.specs.declared.fault.OpFault.TheVariants.{Path, NotOffered, BadInclude}
+use Rattle.p9_nsfile.specs.declared.fault.OpFault.TheVariants.{TooDeep}
 use Rattle.p9_nsfile.specs.declared.operation.Operation.{Operation}
-use Rattle.p9_nsfile.specs.declared.operation.Operation.TheVariants.{Mount, Bind, Cd, Unmount, Clear, Include, Import}
+use Rattle.p9_nsfile.specs.declared.operation.Operation.TheVariants.{Mount, Bind, Cd, Unmount}
+use Rattle.p9_nsfile.specs.declared.operation.Operation.TheVariants.{Clear, Include, Import}
 use Rattle.p9_nsfile.specs.Bind.{bound_by, mounted_by, unmounted_by, with_table}
 use Rattle.p9_nsfile.specs.Find.{found, found_file}
 use Rattle.p9_nsfile.specs.Flags.{Word}
@@ -23,13 +26,16 @@ abbrev pub nested_max : ℕ
 nested_max = 8
 
 -- a file's lines, if they may be included: one line of bad form, and none of them acts
-abbrev pub or_bad_include : Result (List NumberedLine) BadLineOf → Result (List NumberedLine) OpFault
+abbrev pub or_bad_include : Result (List NumberedLine) BadLineOf
+    → Result (List NumberedLine) OpFault
 or_bad_include (Ok lines) = Ok lines
 or_bad_include (Err bad) = Err BadInclude
 
 abbrev pub file_lines : Option Node → Result (List NumberedLine) OpFault
 file_lines None = Err (Path PhaseError)
-file_lines (Some n) = if is_dir n then Err BadInclude else if is_utf8 n.bytes then or_bad_include (lines_in n.bytes) else Err BadInclude
+file_lines (Some n) =
+    if is_dir n then Err BadInclude else if is_utf8 n.bytes then or_bad_include (lines_in n.bytes)
+    else Err BadInclude
 
 -- a fault is reported with its line, and the operation does nothing
 abbrev pub reported : ℕ → Space → Result Space OpFault → Space
@@ -41,14 +47,18 @@ module _ (setting : Setting) where
   abbrev pub entered : Space → Word → Result Space OpFault
   entered space dir =
       and_then (found setting space dir) (λ trail.
-      if is_dir_of (file_ref (here trail) space.table) setting.forest then Ok (record space { current = trail }) else Err (Path NotDirectory))
+      if is_dir_of (file_ref (here trail) space.table) setting.forest
+      then Ok (record space { current = trail })
+      else Err (Path NotDirectory))
 
   -- the lines of the file that a word names
   abbrev pub included_lines : Space → Word → Result (List NumberedLine) OpFault
-  included_lines space path = and_then (found_file setting space path) (λ file. file_lines (node_of file setting.forest))
+  included_lines space path =
+      and_then (found_file setting space path) (λ file. file_lines (node_of file setting.forest))
 
   -- what an operation makes of the name space
-  abbrev pub acted : (Space → Word → Result Space OpFault) → Space → Operation Word → Result Space OpFault
+  abbrev pub acted : (Space → Word → Result Space OpFault) → Space → Operation Word
+      → Result Space OpFault
   acted include space (Mount flags server old spec) = mounted_by setting space flags server old spec
   acted include space (Bind flags new old) = bound_by setting space flags new old
   acted include space (Cd dir) = entered space dir
@@ -58,7 +68,8 @@ module _ (setting : Setting) where
   acted include space Import = Err NotOffered
 
   -- what a line does; in an included file it is the outermost line that is reported
-  abbrev pub line_done : (ℕ → Space → Word → Result Space OpFault) → Option ℕ → Space → NumberedLine → Space
+  abbrev pub line_done : (ℕ → Space → Word → Result Space OpFault) → Option ℕ → Space → NumberedLine
+      → Space
   line_done include outer space line =
       let number = unwrap_or outer line.0 in
       reported number space (acted (include number) space line.1)
@@ -67,7 +78,8 @@ module _ (setting : Setting) where
   unfoldable pub included : ℕ → ℕ → Space → Word → Result Space OpFault
   included zero line space path = Err TooDeep
   included (suc left) line space path =
-      and_then (included_lines space path) (λ lines. Ok (fold (line_done (included left) (Some line)) space lines))
+      and_then (included_lines space path)
+      (λ lines. Ok (fold (line_done (included left) (Some line)) space lines))
 
   -- the lines of a text, one after another
   abbrev pub lines_done : ℕ → Option ℕ → Space → List NumberedLine → Space

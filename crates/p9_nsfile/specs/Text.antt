@@ -4,7 +4,9 @@ use Rattle.p9_base.specs.Fault.{text_of as walk_text}
 use Rattle.p9_nsfile.specs.declared.error.BadForm.{BadForm}
 use Rattle.p9_nsfile.specs.declared.error.BadForm.TheVariants.{UnknownWord, WordCount, BadFlag}
 use Rattle.p9_nsfile.specs.declared.fault.OpFault.{OpFault}
-use Rattle.p9_nsfile.specs.declared.fault.OpFault.TheVariants.{Path, UnknownServer, KindMismatch, NotMounted, NotMember, SpecGiven, NotOffered, BadInclude, TooDeep}
+use Rattle.p9_nsfile.specs.declared.fault.OpFault.TheVariants.{Path, UnknownServer, KindMismatch}
+use Rattle.p9_nsfile.specs.declared.fault.OpFault.TheVariants.{NotMounted, NotMember, SpecGiven}
+use Rattle.p9_nsfile.specs.declared.fault.OpFault.TheVariants.{NotOffered, BadInclude, TooDeep}
 
 -- of a line of bad form
 abbrev pub form_text : BadForm → List ℕ

@@ -1,5 +1,6 @@
 -- Bundles: the program's input, in sections.
-use Rattle.std.specs.Prelude.{◌≡◌, ℕ, Bool, true, nat_eq, nat_lt, List, [], ◌∷◌, ◌++◌, Option, Some, None, Result, Ok, Err, codes, find, if◌then◌else◌}
+use Rattle.std.specs.Prelude.{◌≡◌, ℕ, Bool, true, nat_eq, nat_lt, List, [], ◌∷◌, ◌++◌, Option, Some}
+use Rattle.std.specs.Prelude.{None, Result, Ok, Err, codes, find, if◌then◌else◌}
 use Rattle.std.specs.List.{enumerate_from, list_all, starts_with}
 use Rattle.std.specs.Option.{option_map}
 use Rattle.std.specs.Str.{bytes_eq}
@@ -87,7 +88,8 @@ continued reading number line (Some section) =
 -- the line of this number is read
 abbrev pub with_numbered_line : Reading → ℕ × List ℕ → Result Reading ℕ
 with_numbered_line reading numbered =
-    if starts_with nat_eq numbered.1 (codes "%%") then begun reading numbered.0 (section_of numbered.1)
+    if starts_with nat_eq numbered.1 (codes "%%")
+    then begun reading numbered.0 (section_of numbered.1)
     else continued reading numbered.0 numbered.1 reading.last
 
 abbrev pub unread : Reading
@@ -96,7 +98,8 @@ unread = record { texts = record { world = None; ns = None; script = None }; las
 -- the sections of a text, or the number of its first bad line
 abbrev pub bundle_of : List ℕ → Result Texts ℕ
 bundle_of text =
-    and_then (try_fold with_numbered_line unread (enumerate_from 1 (lines_of text))) (λ reading. Ok reading.texts)
+    and_then (try_fold with_numbered_line unread (enumerate_from 1 (lines_of text)))
+    (λ reading. Ok reading.texts)
 
 -- The code's values, as they are seen.
 

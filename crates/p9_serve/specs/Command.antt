@@ -1,5 +1,6 @@
 -- The program's commands: what each does with its input, and how it ends.
-use Rattle.std.specs.Prelude.{◌≡◌, ℕ, List, [], ◌∷◌, ◌++◌, Option, Some, None, Result, Ok, Err, codes, unwrap_or, if◌then◌else◌}
+use Rattle.std.specs.Prelude.{◌≡◌, ℕ, List, [], ◌∷◌, ◌++◌, Option, Some, None, Result, Ok, Err}
+use Rattle.std.specs.Prelude.{codes, unwrap_or, if◌then◌else◌}
 use Rattle.std.specs.Option.{option_map_or}
 use Rattle.std.specs.Str.{bytes_eq, is_utf8}
 use Rattle.p9_base.specs.TryFold.{and_then}
@@ -14,7 +15,8 @@ use Rattle.p9_serve.specs.Script.{script_of}
 use Rattle.p9_serve.specs.declared.command.Command.{Command}
 use Rattle.p9_serve.specs.declared.command.Command.TheVariants.{Play, Ns}
 use Rattle.p9_serve.specs.declared.refusal.Refusal.{Refusal}
-use Rattle.p9_serve.specs.declared.refusal.Refusal.TheVariants.{BadCommandLine, NotUtf8, BadSection, BadEvent}
+use Rattle.p9_serve.specs.declared.refusal.Refusal.TheVariants.{BadCommandLine, NotUtf8, BadSection}
+use Rattle.p9_serve.specs.declared.refusal.Refusal.TheVariants.{BadEvent}
 use Rattle.p9_serve.specs.declared.refusal.Stop.{Stop}
 use Rattle.p9_serve.specs.declared.refusal.Stop.TheVariants.{Refused, NoMemory}
 
@@ -44,14 +46,18 @@ job command texts space = record { command = command; space = space; script = sc
 -- what a command has to do with the sections of an input, or the first reason against it before the
 -- script's
 abbrev pub job_over : Command → Texts → Result Job Refusal
-job_over command texts = and_then (space_in texts.world texts.ns) (λ space. Ok (job command texts space))
+job_over command texts =
+    and_then (space_in texts.world texts.ns) (λ space. Ok (job command texts space))
 
 abbrev pub job_in : Command → List ℕ → Result Job Refusal
-job_in command input = need (is_utf8 input) NotUtf8 (and_then (or_refused BadSection (bundle_of input)) (job_over command))
+job_in command input =
+    need (is_utf8 input) NotUtf8
+    (and_then (or_refused BadSection (bundle_of input)) (job_over command))
 
 -- the same for a word and its input
 abbrev pub job_of : List ℕ → List ℕ → Result Job Refusal
-job_of cmd input = option_map_or (λ command. job_in command input) (command_of cmd) (Err BadCommandLine)
+job_of cmd input =
+    option_map_or (λ command. job_in command input) (command_of cmd) (Err BadCommandLine)
 
 -- What is printed.
 
@@ -69,7 +75,8 @@ told refusal p = record p { err = p.err ++ (refusal_text refusal ++ 10 ∷ []) }
 -- a refusal prints its reason alone
 abbrev pub Tells : Refusal → ℕ → Printed → Type 0
 Tells refusal status p =
-    (status ≡ status_of refusal) × (p.err ≡ p.err_before ++ (refusal_text refusal ++ 10 ∷ [])) × (p.out ≡ p.out_before)
+    (status ≡ status_of refusal) × (p.err ≡ p.err_before ++ (refusal_text refusal ++ 10 ∷ []))
+    × (p.out ≡ p.out_before)
 
 -- `play` prints the play text, and `ns` the mount table
 abbrev pub Writes : Command → NameSpace → List Event → List ℕ → List ℕ → Type 0

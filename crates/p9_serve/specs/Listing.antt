@@ -19,14 +19,16 @@ module _ (world : World) where
   -- `bind`, its flags, the node of a member and the key
   abbrev pub bind_line : NodeRef → List ℕ → NodeRef → List ℕ
   bind_line key flags node =
-      codes "bind" ++ flags ++ codes " " ++ path_of world node ++ codes " " ++ path_of world key ++ 10 ∷ []
+      codes "bind" ++ flags ++ codes " " ++ path_of world node ++ codes " " ++ path_of world key
+      ++ 10 ∷ []
 
   abbrev pub later_line : NodeRef → Member → List ℕ
   later_line key m = bind_line key (later_flags m.create) m.node
 
   abbrev pub members_text : NodeRef → List Member → List ℕ
   members_text key [] = []
-  members_text key (m ∷ ms) = bind_line key (first_flags m.create) m.node ++ flat_map (later_line key) ms
+  members_text key (m ∷ ms) =
+      bind_line key (first_flags m.create) m.node ++ flat_map (later_line key) ms
 
   abbrev pub row_text : MountRow → List ℕ
   row_text row = members_text row.0 row.1

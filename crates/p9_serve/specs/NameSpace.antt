@@ -38,7 +38,8 @@ name_space world ran = record { world = world; table = ran.0; reports = ran.1 }
 -- the text of a namespace section is run over an empty table
 abbrev pub space_over : List ℕ → World → Result NameSpace Refusal
 space_over text world =
-    and_then (or_bad_operation (run_of (setting_of world) text [])) (λ ran. Ok (name_space world ran))
+    and_then (or_bad_operation (run_of (setting_of world) text []))
+    (λ ran. Ok (name_space world ran))
 
 -- the name space of the sections of a world and of a namespace file, or the first reason against it
 abbrev pub space_in : Option (List ℕ) → Option (List ℕ) → Result NameSpace Refusal

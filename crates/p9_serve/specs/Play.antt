@@ -1,5 +1,6 @@
 -- The play text: what is printed for the events of a script.
-use Rattle.std.specs.Prelude.{◌≡◌, ℕ, ◌&&◌, Bool, false, List, [], ◌∷◌, ◌++◌, is_some, codes, if◌then◌else◌}
+use Rattle.std.specs.Prelude.{◌≡◌, ℕ, ◌&&◌, Bool, false, List, [], ◌∷◌, ◌++◌, is_some, codes}
+use Rattle.std.specs.Prelude.{if◌then◌else◌}
 use Rattle.hex.specs.Hex.{encode_lower}
 use Rattle.p9_export.specs.State.{State, session_at}
 use Rattle.p9_export.specs.Event.{Event, Opening, Request, Closing, is_frame}

@@ -4,7 +4,8 @@ use Rattle.std.specs.Fmt.{decimal}
 use Rattle.p9_world.specs.Meaning.{text_of as world_text}
 use Rattle.p9_nsfile.specs.Text.{form_text}
 use Rattle.p9_serve.specs.declared.refusal.Refusal.{Refusal}
-use Rattle.p9_serve.specs.declared.refusal.Refusal.TheVariants.{BadCommandLine, NotUtf8, BadSection, BadWorld, BadOperation, BadEvent}
+use Rattle.p9_serve.specs.declared.refusal.Refusal.TheVariants.{BadCommandLine, NotUtf8, BadSection}
+use Rattle.p9_serve.specs.declared.refusal.Refusal.TheVariants.{BadWorld, BadOperation, BadEvent}
 use Rattle.p9_serve.specs.declared.refusal.Stop.{Stop}
 use Rattle.p9_serve.specs.declared.refusal.Stop.TheVariants.{Refused, NoMemory}
 

@@ -1,5 +1,6 @@
 -- Scripts: what happens to the exporter, line by line.
-use Rattle.std.specs.Prelude.{◌≡◌, ℕ, ◌^◌, List, [], ◌∷◌, ◌++◌, Option, Some, None, Result, Ok, Err, codes, if◌then◌else◌}
+use Rattle.std.specs.Prelude.{◌≡◌, ℕ, ◌^◌, List, [], ◌∷◌, ◌++◌, Option, Some, None, Result, Ok, Err}
+use Rattle.std.specs.Prelude.{codes, if◌then◌else◌}
 use Rattle.std.specs.Option.{option_map}
 use Rattle.std.specs.Result.{result_ok}
 use Rattle.std.specs.Str.{bytes_eq}
@@ -29,7 +30,8 @@ bytes_in [] = None
 bytes_in (digit ∷ digits) = result_ok (decode_of (digit ∷ digits))
 
 abbrev pub opening_of : List ℕ → List ℕ → Option Event
-opening_of verb name = if bytes_eq verb (codes "open") then option_map Opening (short_number name) else None
+opening_of verb name =
+    if bytes_eq verb (codes "open") then option_map Opening (short_number name) else None
 
 abbrev pub closing_at : Option ℕ → Option ℕ → Option Event
 closing_at (Some name) (Some now) = Some (Closing name now)
@@ -37,7 +39,8 @@ closing_at name now = None
 
 abbrev pub closing_of : List ℕ → List ℕ → List ℕ → Option Event
 closing_of verb name now =
-    if bytes_eq verb (codes "close") then closing_at (short_number name) (short_number now) else None
+    if bytes_eq verb (codes "close") then closing_at (short_number name) (short_number now)
+    else None
 
 abbrev pub request_at : Option ℕ → Option (List ℕ) → Option ℕ → Option Event
 request_at (Some name) (Some frame) (Some now) = Some (Request name frame now)
@@ -45,7 +48,8 @@ request_at name frame now = None
 
 abbrev pub request_of : List ℕ → List ℕ → List ℕ → List ℕ → Option Event
 request_of verb name now hex =
-    if bytes_eq verb (codes "msg") then request_at (short_number name) (bytes_in hex) (short_number now)
+    if bytes_eq verb (codes "msg")
+    then request_at (short_number name) (bytes_in hex) (short_number now)
     else None
 
 -- the event that the words of a line say: `open S`, `close S NOW` or `msg S NOW HEX`

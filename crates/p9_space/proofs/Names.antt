@@ -1,5 +1,7 @@
 -- A text that is no valid name belongs to no node.
-use Rattle.std.proofs.Common.{◌≡◌, ℕ, suc, ◌<◌, ◌==◌, ◌&&◌, Bool, true, false, IsTrue, cond, List, [], ◌∷◌, Option, Some, None, slice_get, unwrap_or, refl, sym, subst, true≢false, arith, All, AllPairs}
+use Rattle.std.proofs.Common.{◌≡◌, ℕ, suc, ◌<◌, ◌==◌, ◌&&◌, Bool, true, false, IsTrue, cond, List}
+use Rattle.std.proofs.Common.{[], ◌∷◌, Option, Some, None, slice_get, unwrap_or, refl, sym, subst}
+use Rattle.std.proofs.Common.{true≢false, arith, All, AllPairs}
 use Rattle.std.specs.Option.{option_map_or}
 use Rattle.std.specs.Str.{bytes_eq}
 use Rattle.std.proofs.lemmas.Bool.Decides.{nat_tests}
@@ -21,15 +23,18 @@ node_at-below k (x ∷ xs) above =
     grind (arith, nat_tests, node_at-below k xs (All-tail (λ n. k < n.number) x xs above))
 
 -- the nodes behind the first have greater numbers
-rising-head : (x : Node) (xs : List Node) → AllPairs (λ m n. m.number < n.number) (x ∷ xs) → All (λ n. x.number < n.number) xs
+rising-head : (x : Node) (xs : List Node) → AllPairs (λ m n. m.number < n.number) (x ∷ xs)
+    → All (λ n. x.number < n.number) xs
 rising-head x xs rising k d within = rising 0 (suc k) d (omega arith) (omega arith)
 
 -- and rise among themselves
-rising-tail : (x : Node) (xs : List Node) → AllPairs (λ m n. m.number < n.number) (x ∷ xs) → AllPairs (λ m n. m.number < n.number) xs
+rising-tail : (x : Node) (xs : List Node) → AllPairs (λ m n. m.number < n.number) (x ∷ xs)
+    → AllPairs (λ m n. m.number < n.number) xs
 rising-tail x xs rising i j d lt within = rising (suc i) (suc j) d (omega arith) (omega arith)
 
 -- what is found behind the first is found
-node_at-later : (x : Node) (xs : List Node) → All (λ n. x.number < n.number) xs → (k : ℕ) (n : Node) → node_at k xs ≡ Some n → node_at k (x ∷ xs) ≡ Some n
+node_at-later : (x : Node) (xs : List Node) → All (λ n. x.number < n.number) xs → (k : ℕ) (n : Node)
+    → node_at k xs ≡ Some n → node_at k (x ∷ xs) ≡ Some n
 node_at-later x xs above k n found = by (has_number k x) refl
   where
     by : (b : Bool) → has_number k x ≡ b → cond b (Some x) (node_at k xs) ≡ Some n
@@ -40,47 +45,63 @@ node_at-later x xs above k n found = by (has_number k x) refl
     by false other = found
 
 -- where each node that a look-up finds is sound, each node is
-All-sound : (xs : List Node) → AllPairs (λ m n. m.number < n.number) xs → ((k : ℕ) (n : Node) → node_at k xs ≡ Some n → IsSound n) → All IsSound xs
+All-sound : (xs : List Node) → AllPairs (λ m n. m.number < n.number) xs
+    → ((k : ℕ) (n : Node) → node_at k xs ≡ Some n → IsSound n) → All IsSound xs
 All-sound [] rising sound = All-nil IsSound
 All-sound (x ∷ xs) rising sound =
     let first : node_at x.number (x ∷ xs) ≡ Some x = grind (arith, nat_tests) in
-    All-cons IsSound x xs (sound x.number x first) (All-sound xs (rising-tail x xs rising) (λ k n found. sound k n (node_at-later x xs (rising-head x xs rising) k n found)))
+    All-cons IsSound x xs (sound x.number x first)
+    (All-sound xs (rising-tail x xs rising)
+    (λ k n found. sound k n (node_at-later x xs (rising-head x xs rising) k n found)))
 
 -- a child's name is valid
-child-valid : (dir : ℕ) (name : List ℕ) (n : Node) → IsSound n → is_child dir name n ≡ true → IsTrue (is_name name)
+child-valid : (dir : ℕ) (name : List ℕ) (n : Node) → IsSound n → is_child dir name n ≡ true
+    → IsTrue (is_name name)
 child-valid dir name n sound child = by n.parent refl child
   where
-    by : (p : Option ℕ) → n.parent ≡ p → (option_map_or (λ parent. parent == dir) p false && bytes_eq n.name name) ≡ true → IsTrue (is_name name)
+    by : (p : Option ℕ) → n.parent ≡ p
+        → (option_map_or (λ parent. parent == dir) p false && bytes_eq n.name name) ≡ true
+        → IsTrue (is_name name)
     by None e h = absurd (true≢false (sym h))
     by (Some p) e h =
         let same : bytes_eq n.name name ≡ true = grind (arith, nat_tests) in
-        subst (λ s. IsTrue (is_name s)) ((bytes_eq-Decides n.name name).0 same) (sound.valid_name p e)
+        subst (λ s. IsTrue (is_name s)) ((bytes_eq-Decides n.name name).0 same)
+        (sound.valid_name p e)
 
 -- no child has a name that isn't valid
-child_of-invalid : (dir : ℕ) (name : List ℕ) → (IsTrue (is_name name) → ⊥) → (xs : List Node) → All IsSound xs → child_of dir name xs ≡ None
+child_of-invalid : (dir : ℕ) (name : List ℕ) → (IsTrue (is_name name) → ⊥) → (xs : List Node)
+    → All IsSound xs → child_of dir name xs ≡ None
 child_of-invalid dir name bad [] sound = refl
 child_of-invalid dir name bad (x ∷ xs) sound =
     by (is_child dir name x) refl (child_of-invalid dir name bad xs (All-tail IsSound x xs sound))
   where
-    by : (b : Bool) → is_child dir name x ≡ b → child_of dir name xs ≡ None → cond b (Some x) (child_of dir name xs) ≡ None
+    by : (b : Bool) → is_child dir name x ≡ b → child_of dir name xs ≡ None
+        → cond b (Some x) (child_of dir name xs) ≡ None
     by true e rest = absurd (bad (child-valid dir name x (All-head IsSound x xs sound) e))
     by false e rest = rest
 
-child_in-invalid : (forest : List Server) → IsForest forest → (dir : NodeRef) (name : List ℕ) → (IsTrue (is_name name) → ⊥) → child_in dir name forest ≡ None
+child_in-invalid : (forest : List Server) → IsForest forest → (dir : NodeRef) (name : List ℕ)
+    → (IsTrue (is_name name) → ⊥) → child_in dir name forest ≡ None
 child_in-invalid forest sound dir name bad = by (slice_get forest dir.server) refl
   where
-    by : (s : Option Server) → slice_get forest dir.server ≡ s → child_of dir.number name (unwrap_or s no_server).nodes ≡ None
+    by : (s : Option Server) → slice_get forest dir.server ≡ s
+        → child_of dir.number name (unwrap_or s no_server).nodes ≡ None
     by None e = refl
     by (Some s) e =
         let whole = sound.servers dir.server s e in
         child_of-invalid dir.number name bad s.nodes (All-sound s.nodes whole.rising whole.sound)
 
 -- so no member of a place has such a child
-pub child_among-invalid : (forest : List Server) (user : Option (List ℕ)) (name : List ℕ) → IsForest forest → (IsTrue (is_name name) → ⊥) → (ms : List Member) → child_among forest user name ms ≡ None
+pub child_among-invalid : (forest : List Server) (user : Option (List ℕ)) (name : List ℕ)
+    → IsForest forest → (IsTrue (is_name name) → ⊥) → (ms : List Member)
+    → child_among forest user name ms ≡ None
 child_among-invalid forest user name sound bad [] = refl
 child_among-invalid forest user name sound bad (m ∷ ms) =
-    by (is_searched forest user m) (child_in-invalid forest sound m.node name bad) (child_among-invalid forest user name sound bad ms)
+    by (is_searched forest user m) (child_in-invalid forest sound m.node name bad)
+    (child_among-invalid forest user name sound bad ms)
   where
-    by : (b : Bool) → child_in m.node name forest ≡ None → child_among forest user name ms ≡ None → or_else (cond b (child_ref forest m.node name) None) (child_among forest user name ms) ≡ None
+    by : (b : Bool) → child_in m.node name forest ≡ None → child_among forest user name ms ≡ None
+        → or_else (cond b (child_ref forest m.node name) None) (child_among forest user name ms)
+        ≡ None
     by true none rest = rw (none, rest)
     by false none rest = rest

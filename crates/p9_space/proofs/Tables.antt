@@ -1,5 +1,7 @@
 -- What keeps a table's rows non-empty and its keys distinct, and rows that are changed in place.
-use Rattle.std.proofs.Common.{◌≡◌, ℕ, ◌<◌, Bool, true, false, List, [], ◌∷◌, Option, Some, None, IfSome, is_some, unwrap_or, cond, length, position, remove, Ok, refl, sym, ap, ◌∙◌, true≢false, arith, length-append}
+use Rattle.std.proofs.Common.{◌≡◌, ℕ, ◌<◌, Bool, true, false, List, [], ◌∷◌, Option, Some, None}
+use Rattle.std.proofs.Common.{IfSome, is_some, unwrap_or, cond, length, position, remove, Ok, refl}
+use Rattle.std.proofs.Common.{sym, ap, ◌∙◌, true≢false, arith, length-append}
 use Rattle.std.specs.List.{All, IsDistinct}
 use Rattle.std.specs.Map.{lookup, remove_entry, set_value, keys_of}
 use Rattle.std.proofs.lemmas.List.Elements.{All-cons, All-head, All-tail}
@@ -11,7 +13,8 @@ use Rattle.p9_space.specs.declared.row.Member.{Member}
 use Rattle.p9_space.specs.declared.row.Order.{Order}
 use Rattle.p9_space.specs.declared.row.Order.TheVariants.{Replace, Before, After}
 use Rattle.p9_space.specs.Row.{same_node, is_of, member, brought, joined}
-use Rattle.p9_space.specs.Table.{MountRow, IsTable, members_of, row_of, unmounted, with_members, with_row, without_row}
+use Rattle.p9_space.specs.Table.{MountRow, IsTable, members_of, row_of, unmounted, with_members}
+use Rattle.p9_space.specs.Table.{with_row, without_row}
 
 module _ {K X : Type 0} (P : K × X → Type 0) (test : K → Bool) where
   -- what holds of each entry holds of those that are left
@@ -25,78 +28,107 @@ module _ {K X : Type 0} (P : K × X → Type 0) (test : K → Bool) where
 
 module _ {K X : Type 0} (P : X → Type 0) (eq : K → K → Bool) where
   -- what holds of each value and of the new one holds of each after it is put in
-  pub All-insert_entry : (es : List (K × X)) (k : K) (v : X) → P v → All (λ e. P e.1) es → All (λ e. P e.1) (insert_entry eq es k v)
+  pub All-insert_entry : (es : List (K × X)) (k : K) (v : X) → P v → All (λ e. P e.1) es
+      → All (λ e. P e.1) (insert_entry eq es k v)
   All-insert_entry [] k v here all = All-cons (λ e. P e.1) (k, v) [] here all
-  All-insert_entry (e ∷ es) k v here all = by (eq k e.0) (All-insert_entry es k v here (All-tail (λ e. P e.1) e es all))
+  All-insert_entry (e ∷ es) k v here all =
+      by (eq k e.0) (All-insert_entry es k v here (All-tail (λ e. P e.1) e es all))
     where
-      by : (b : Bool) → All (λ e. P e.1) (insert_entry eq es k v) → All (λ e. P e.1) (cond b ((e.0, v) ∷ es) (e ∷ insert_entry eq es k v))
+      by : (b : Bool) → All (λ e. P e.1) (insert_entry eq es k v)
+          → All (λ e. P e.1) (cond b ((e.0, v) ∷ es) (e ∷ insert_entry eq es k v))
       by true rest = All-cons (λ e. P e.1) (e.0, v) es here (All-tail (λ e. P e.1) e es all)
-      by false rest = All-cons (λ e. P e.1) e (insert_entry eq es k v) (All-head (λ e. P e.1) e es all) rest
+      by false rest =
+          All-cons (λ e. P e.1) e (insert_entry eq es k v) (All-head (λ e. P e.1) e es all) rest
 
 module _ {K X : Type 0} (eq : K → K → Bool) where
   -- a value that is changed in place is one that is put in
-  pub insert_entry-set_value : (es : List (K × X)) (k : K) (v : X) → is_some (lookup (eq k) es) ≡ true → insert_entry eq es k v ≡ set_value (eq k) es v
+  pub insert_entry-set_value : (es : List (K × X)) (k : K) (v : X)
+      → is_some (lookup (eq k) es) ≡ true → insert_entry eq es k v ≡ set_value (eq k) es v
   insert_entry-set_value [] k v found = absurd (true≢false (sym found))
   insert_entry-set_value (e ∷ es) k v found = by (eq k e.0) found (insert_entry-set_value es k v)
     where
-      by : (b : Bool) → is_some (cond b (Some e.1) (lookup (eq k) es)) ≡ true → (is_some (lookup (eq k) es) ≡ true → insert_entry eq es k v ≡ set_value (eq k) es v) → cond b ((e.0, v) ∷ es) (e ∷ insert_entry eq es k v) ≡ cond b ((e.0, v) ∷ es) (e ∷ set_value (eq k) es v)
+      by : (b : Bool) → is_some (cond b (Some e.1) (lookup (eq k) es)) ≡ true
+          → (is_some (lookup (eq k) es) ≡ true → insert_entry eq es k v ≡ set_value (eq k) es v)
+          → cond b ((e.0, v) ∷ es) (e ∷ insert_entry eq es k v)
+          ≡ cond b ((e.0, v) ∷ es) (e ∷ set_value (eq k) es v)
       by true there rest = refl
       by false there rest = ap (λ t. e ∷ t) (rest there)
 
 -- the row that a bind makes has members
-pub joined-some : (order : Order) (nodes : List NodeRef) (create : Bool) (old : List Member) → 0 < length nodes → 0 < length (joined order (brought nodes create) old)
+pub joined-some : (order : Order) (nodes : List NodeRef) (create : Bool) (old : List Member)
+    → 0 < length nodes → 0 < length (joined order (brought nodes create) old)
 joined-some order [] create old some = absurd (omega arith)
 joined-some Replace (node ∷ nodes) create old some = omega arith
-joined-some Before (node ∷ nodes) create old some = omega (arith, length-append (brought (node ∷ nodes) create) old)
-joined-some After (node ∷ nodes) create old some = omega (arith, length-append old (brought (node ∷ nodes) create))
+joined-some Before (node ∷ nodes) create old some =
+    omega (arith, length-append (brought (node ∷ nodes) create) old)
+joined-some After (node ∷ nodes) create old some =
+    omega (arith, length-append old (brought (node ∷ nodes) create))
 
 -- a row that loses its one member goes
-pub with_members-one : (key : NodeRef) (ms : List Member) (i : ℕ) (table : List MountRow) → length ms ≡ 1 → i < length ms → with_members key (remove ms i) table ≡ without_row key table
+pub with_members-one : (key : NodeRef) (ms : List Member) (i : ℕ) (table : List MountRow)
+    → length ms ≡ 1 → i < length ms → with_members key (remove ms i) table ≡ without_row key table
 with_members-one key (m ∷ []) i table one within = let e : i ≡ 0 = omega arith in rw e
 with_members-one key [] i table one within = absurd (omega (arith, one))
 with_members-one key (m ∷ n ∷ ms) i table one within = absurd (omega (arith, one))
 
 -- a row with members stays
-pub with_members-some : (key : NodeRef) (ms : List Member) (table : List MountRow) → 0 < length ms → with_members key ms table ≡ with_row key ms table
+pub with_members-some : (key : NodeRef) (ms : List Member) (table : List MountRow) → 0 < length ms
+    → with_members key ms table ≡ with_row key ms table
 with_members-some key [] table some = absurd (omega arith)
 with_members-some key (m ∷ ms) table some = refl
 
 -- each key has members
-pub members_of-some : (key : NodeRef) (table : List MountRow) → IsTable table → 0 < length (members_of key table)
-members_of-some key table sound = by (row_of key table) (All-lookup (λ ms. 0 < length ms) (same_node key) table sound.not_empty)
+pub members_of-some : (key : NodeRef) (table : List MountRow) → IsTable table
+    → 0 < length (members_of key table)
+members_of-some key table sound =
+    by (row_of key table) (All-lookup (λ ms. 0 < length ms) (same_node key) table sound.not_empty)
   where
-    by : (row : Option (List Member)) → IfSome row (λ ms. 0 < length ms) → 0 < length (unwrap_or row (member true key ∷ []))
+    by : (row : Option (List Member)) → IfSome row (λ ms. 0 < length ms)
+        → 0 < length (unwrap_or row (member true key ∷ []))
     by None some = omega arith
     by (Some ms) some = some
 
 -- the members of a key with a row are its row's
-pub members_of-row : (key : NodeRef) (table : List MountRow) (ms : List Member) → row_of key table ≡ Some ms → members_of key table ≡ ms
+pub members_of-row : (key : NodeRef) (table : List MountRow) (ms : List Member)
+    → row_of key table ≡ Some ms → members_of key table ≡ ms
 members_of-row key table ms found = ap (λ row. unwrap_or row (member true key ∷ [])) found
 
 -- a table stays sound under a row of members
-pub IsTable-with_row : (new table : List MountRow) (key : NodeRef) (ms : List Member) → new ≡ with_row key ms table → 0 < length ms → IsDistinct same_node (keys_of new) → IsTable table → IsTable new
+pub IsTable-with_row : (new table : List MountRow) (key : NodeRef) (ms : List Member)
+    → new ≡ with_row key ms table → 0 < length ms → IsDistinct same_node (keys_of new)
+    → IsTable table → IsTable new
 IsTable-with_row new table key ms change some distinct sound = record {
-  not_empty = rw change (All-insert_entry (λ members. 0 < length members) same_node table key ms some sound.not_empty);
+  not_empty =
+      rw change
+      (All-insert_entry (λ members. 0 < length members) same_node table key ms some
+      sound.not_empty);
   distinct = distinct;
 }
 
 -- and without a row
-pub IsTable-without_row : (new table : List MountRow) (key : NodeRef) → new ≡ without_row key table → IsDistinct same_node (keys_of new) → IsTable table → IsTable new
+pub IsTable-without_row : (new table : List MountRow) (key : NodeRef) → new ≡ without_row key table
+    → IsDistinct same_node (keys_of new) → IsTable table → IsTable new
 IsTable-without_row new table key change distinct sound = record {
-  not_empty = rw change (All-remove_entry (λ row. 0 < length row.1) (same_node key) table sound.not_empty);
+  not_empty =
+      rw change (All-remove_entry (λ row. 0 < length row.1) (same_node key) table sound.not_empty);
   distinct = distinct;
 }
 
 -- a row that is changed in place is one that is replaced
-pub set_value-with_row : (new table : List MountRow) (key : NodeRef) (old ms : List Member) → row_of key table ≡ Some old → new ≡ set_value (same_node key) table ms → new ≡ with_row key ms table
-set_value-with_row new table key old ms row change = change ∙ sym (insert_entry-set_value same_node table key ms (ap is_some row))
+pub set_value-with_row : (new table : List MountRow) (key : NodeRef) (old ms : List Member)
+    → row_of key table ≡ Some old → new ≡ set_value (same_node key) table ms
+    → new ≡ with_row key ms table
+set_value-with_row new table key old ms row change =
+    change ∙ sym (insert_entry-set_value same_node table key ms (ap is_some row))
 
 -- a row that loses one of several members keeps some
-pub length-remove-some : (ms : List Member) (i : ℕ) → i < length ms → 1 < length ms → 0 < length (remove ms i)
+pub length-remove-some : (ms : List Member) (i : ℕ) → i < length ms → 1 < length ms
+    → 0 < length (remove ms i)
 length-remove-some ms i within others = omega (arith, length-remove ms i within)
 
 -- without one of a row's several members
-pub without_member-more : (key node : NodeRef) (table : List MountRow) (ms : List Member) (i : ℕ) → row_of key table ≡ Some ms → position (is_of node) ms ≡ Some i → i < length ms → 1 < length ms
+pub without_member-more : (key node : NodeRef) (table : List MountRow) (ms : List Member) (i : ℕ)
+    → row_of key table ≡ Some ms → position (is_of node) ms ≡ Some i → i < length ms → 1 < length ms
     → unmounted key (Some node) table ≡ Ok (with_row key (remove (members_of key table) i) table)
 without_member-more key node table ms i row first within others =
     let e = with_members-some key (remove ms i) table (length-remove-some ms i within others) in

@@ -1,5 +1,6 @@
 -- The mount table: a list of rows, each a key and the members that stand for it, as bind(1).
-use Rattle.std.specs.Prelude.{◌<◌, Bool, true, false, List, [], ◌∷◌, Option, Some, None, Result, Ok, Err, is_some, length, unwrap_or, position, remove, All, if◌then◌else◌}
+use Rattle.std.specs.Prelude.{◌<◌, Bool, true, false, List, [], ◌∷◌, Option, Some, None, Result, Ok}
+use Rattle.std.specs.Prelude.{Err, is_some, length, unwrap_or, position, remove, All, if◌then◌else◌}
 use Rattle.std.specs.List.{IsDistinct}
 use Rattle.std.specs.Map.{lookup, remove_entry, keys_of}
 use Rattle.std.specs.Option.{option_map_or}
@@ -40,7 +41,8 @@ standing key table = unwrap_or (row_of key table) (member false key ∷ [])
 
 -- the nodes bound in the place of the key, or before or after what stands there
 abbrev pub bound : NodeRef → List NodeRef → Order → Bool → List MountRow → List MountRow
-bound key nodes order create table = with_row key (joined order (brought nodes create) (standing key table)) table
+bound key nodes order create table =
+    with_row key (joined order (brought nodes create) (standing key table)) table
 
 -- the table with these members for a key that has a row; where they are none the row goes
 abbrev pub with_members : NodeRef → List Member → List MountRow → List MountRow
@@ -48,11 +50,16 @@ with_members key [] table = without_row key table
 with_members key (m ∷ ms) table = with_row key (m ∷ ms) table
 
 -- without the first of the row's members that is the node
-abbrev pub without_member : NodeRef → NodeRef → List MountRow → List Member → Result (List MountRow) UnmountError
+abbrev pub without_member : NodeRef → NodeRef → List MountRow → List Member
+    → Result (List MountRow) UnmountError
 without_member key node table members =
-    option_map_or (λ i. Ok (with_members key (remove members i) table)) (position (is_of node) members) (Err NotMember)
+    option_map_or (λ i. Ok (with_members key (remove members i) table))
+    (position (is_of node) members) (Err NotMember)
 
 -- without the key's row, or without one node in it
-abbrev pub unmounted : NodeRef → Option NodeRef → List MountRow → Result (List MountRow) UnmountError
-unmounted key None table = if is_some (row_of key table) then Ok (without_row key table) else Err NotMounted
-unmounted key (Some node) table = option_map_or (without_member key node table) (row_of key table) (Err NotMounted)
+abbrev pub unmounted : NodeRef → Option NodeRef → List MountRow
+    → Result (List MountRow) UnmountError
+unmounted key None table =
+    if is_some (row_of key table) then Ok (without_row key table) else Err NotMounted
+unmounted key (Some node) table =
+    option_map_or (without_member key node table) (row_of key table) (Err NotMounted)

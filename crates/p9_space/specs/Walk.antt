@@ -1,11 +1,13 @@
 -- Walks over the servers and the mount table, as walk(5).
-use Rattle.std.specs.Prelude.{ℕ, ◌==◌, ◌&&◌, Bool, true, false, not, List, [], ◌∷◌, Option, Some, None, Result, Ok, Err, is_some, codes, length, if◌then◌else◌}
+use Rattle.std.specs.Prelude.{ℕ, ◌==◌, ◌&&◌, Bool, true, false, not, List, [], ◌∷◌, Option, Some}
+use Rattle.std.specs.Prelude.{None, Result, Ok, Err, is_some, codes, length, if◌then◌else◌}
 use Rattle.std.specs.Option.{option_map, option_map_or}
 use Rattle.std.specs.List.{list_any}
 use Rattle.std.specs.Str.{bytes_eq}
 use Rattle.p9_base.specs.declared.node_ref.NodeRef.{NodeRef}
 use Rattle.p9_base.specs.declared.fault.Fault.{Fault}
-use Rattle.p9_base.specs.declared.fault.Fault.TheVariants.{NotDirectory, NotFound, PermissionDenied, PhaseError, PathTooDeep}
+use Rattle.p9_base.specs.declared.fault.Fault.TheVariants.{NotDirectory, NotFound, PermissionDenied}
+use Rattle.p9_base.specs.declared.fault.Fault.TheVariants.{PhaseError, PathTooDeep}
 use Rattle.p9_tree.specs.Node.{Node, is_dir}
 use Rattle.p9_tree.specs.Server.{Server}
 use Rattle.p9_tree.specs.Forest.{node_of, child_in}
@@ -41,7 +43,8 @@ module _ (forest : List Server) where
 
   -- the node of the name in the directory, as a place
   abbrev pub child_ref : NodeRef → List ℕ → Option NodeRef
-  child_ref dir name = option_map (λ n. record { server = dir.server; number = n.number }) (child_in dir name forest)
+  child_ref dir name =
+      option_map (λ n. record { server = dir.server; number = n.number }) (child_in dir name forest)
 
   module _ (user : Option (List ℕ)) where
     -- an alive directory that the user may search
@@ -51,13 +54,16 @@ module _ (forest : List Server) where
     -- the child of the name in the first member that may be searched and has one
     abbrev pub child_among : List ℕ → List Member → Option NodeRef
     child_among name [] = None
-    child_among name (m ∷ ms) = or_else (if is_searched m then child_ref m.node name else None) (child_among name ms)
+    child_among name (m ∷ ms) =
+        or_else (if is_searched m then child_ref m.node name else None) (child_among name ms)
 
     -- where a name other than `..` leads from the members of the last place
     abbrev pub step_down : List NodeRef → List ℕ → List Member → Result Step Fault
     step_down trail name ms =
         if not (list_any is_searched ms) then Err PermissionDenied
-        else option_map_or (λ place. if length trail == places_max then Err PathTooDeep else Ok (To place)) (child_among name ms) (Err NotFound)
+        else option_map_or
+        (λ place. if length trail == places_max then Err PathTooDeep else Ok (To place))
+        (child_among name ms) (Err NotFound)
 
     -- where a name leads from the members of the last place
     abbrev pub step_among : List NodeRef → List ℕ → List Member → Result Step Fault
@@ -70,14 +76,17 @@ module _ (forest : List Server) where
 module _ (forest : List Server) (table : List MountRow) where
   -- a step arrives where the file of the new last place is alive
   abbrev pub arrived : List NodeRef → Step → Result Step Fault
-  arrived trail step = if is_some (file_of (here (stepped trail step)) table forest) then Ok step else Err PhaseError
+  arrived trail step =
+      if is_some (file_of (here (stepped trail step)) table forest) then Ok step else Err PhaseError
 
   module _ (user : Option (List ℕ)) where
     -- one step by a name
     abbrev pub step_of : List NodeRef → List ℕ → Result Step Fault
-    step_of trail name = and_then (step_among forest user trail name (members_of (here trail) table)) (arrived trail)
+    step_of trail name =
+        and_then (step_among forest user trail name (members_of (here trail) table)) (arrived trail)
 
     -- the trail after the steps by the names, or the fault of the first that is refused
     abbrev pub walk : List NodeRef → List (List ℕ) → Result (List NodeRef) Fault
     walk trail [] = Ok trail
-    walk trail (name ∷ names) = and_then (step_of trail name) (λ step. walk (stepped trail step) names)
+    walk trail (name ∷ names) =
+        and_then (step_of trail name) (λ step. walk (stepped trail step) names)

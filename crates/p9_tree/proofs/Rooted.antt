@@ -30,5 +30,6 @@ WellFormed-rooted = record {
   only_root = λ k n e none. zero_only k n e;
   parent_below = λ k p n e in_p. let same : root_node ≡ n = only k n e in absurd (cc);
   parent_dir = λ k p n e in_p. let same : root_node ≡ n = only k n e in absurd (cc);
-  siblings = λ j k p m n e1 e2 in_m in_n names. let same : root_node ≡ m = only j m e1 in absurd (cc);
+  siblings =
+      λ j k p m n e1 e2 in_m in_n names. let same : root_node ≡ m = only j m e1 in absurd (cc);
 }

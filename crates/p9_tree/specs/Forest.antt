@@ -2,7 +2,8 @@
 use Rattle.std.specs.Prelude.{◌≡◌, ℕ, List, [], Option, Some, slice_get, slice_set, unwrap_or, Bool}
 use Rattle.p9_base.specs.declared.node_ref.NodeRef.{NodeRef}
 use Rattle.p9_tree.specs.Node.{Node}
-use Rattle.p9_tree.specs.Server.{Server, WellFormed, bytes_at, child_after, child_of, has_children, is_dir_at, node_at, with_changed}
+use Rattle.p9_tree.specs.Server.{Server, WellFormed, bytes_at, child_after, child_of, has_children}
+use Rattle.p9_tree.specs.Server.{is_dir_at, node_at, with_changed}
 
 -- a server that isn't there is one without nodes
 abbrev pub no_server : Server

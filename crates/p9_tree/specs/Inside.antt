@@ -3,7 +3,8 @@
 -- A node is inside a directory that stands in its chain of parents; so a directory is not inside
 -- itself. Hidden directories are named by their numbers. A number may have lost its node: since it
 -- is never given again, it then hides nothing.
-use Rattle.std.specs.Prelude.{◌≡◌, ℕ, suc, ◌==◌, Bool, false, not, List, [], ◌∷◌, Some, IsTrue, filter, map, if◌then◌else◌}
+use Rattle.std.specs.Prelude.{◌≡◌, ℕ, suc, ◌==◌, Bool, false, not, List, [], ◌∷◌, Some, IsTrue}
+use Rattle.std.specs.Prelude.{filter, map, if◌then◌else◌}
 use Rattle.std.specs.Option.{option_map_or}
 use Rattle.std.specs.List.{list_any}
 use Rattle.p9_base.specs.declared.node_ref.NodeRef.{NodeRef}

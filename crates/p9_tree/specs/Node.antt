@@ -1,5 +1,6 @@
 -- A file or directory of a server, as stat(5), and what a request changes in it.
-use Rattle.std.specs.Prelude.{ℕ, ◌+◌, ◌<◌, ◌^◌, ◌%◌, ◌==◌, ◌&&◌, Bool, true, false, nat_lt, IsTrue, List, Option, codes}
+use Rattle.std.specs.Prelude.{ℕ, ◌+◌, ◌<◌, ◌^◌, ◌%◌, ◌==◌, ◌&&◌, Bool, true, false, nat_lt, IsTrue}
+use Rattle.std.specs.Prelude.{List, Option, codes}
 use Rattle.std.specs.Option.{option_map_or}
 use Rattle.std.specs.Str.{bytes_eq}
 use Rattle.p9_base.specs.declared.mode.Mode.{Mode}

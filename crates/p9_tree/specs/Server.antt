@@ -1,11 +1,14 @@
 -- A server: its nodes by rising number, and the number that its next new node gets.
-use Rattle.std.specs.Prelude.{◌≡◌, ℕ, ◌+◌, ◌^◌, ◌<◌, ◌≤◌, ◌&&◌, Bool, true, false, List, [], ◌∷◌, ◌++◌, Option, Some, None, IsTrue, is_some, codes, length, find, All, AllPairs, if◌then◌else◌}
+use Rattle.std.specs.Prelude.{◌≡◌, ℕ, ◌+◌, ◌^◌, ◌<◌, ◌≤◌, ◌&&◌, Bool, true, false, List, [], ◌∷◌}
+use Rattle.std.specs.Prelude.{◌++◌, Option, Some, None, IsTrue, is_some, codes, length, find, All}
+use Rattle.std.specs.Prelude.{AllPairs, if◌then◌else◌}
 use Rattle.std.specs.Option.{option_map_or}
 use Rattle.p9_base.specs.declared.mode.Kind.TheVariants.{Directory}
 use Rattle.p9_base.specs.declared.mode.Rights.{Rights}
 use Rattle.p9_base.specs.declared.mode.Mode.{Mode}
 use Rattle.p9_base.specs.Name.{is_name}
-use Rattle.p9_tree.specs.Node.{Node, IsTellable, root_name, has_number, is_in, is_child, is_above, is_dir}
+use Rattle.p9_tree.specs.Node.{Node, IsTellable, root_name, has_number, is_in, is_child, is_above}
+use Rattle.p9_tree.specs.Node.{is_dir}
 use Rattle.p9_tree.specs.Bytes.{file_max}
 
 -- the greatest next number

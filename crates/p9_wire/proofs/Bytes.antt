@@ -1,5 +1,6 @@
 -- The bytes of a number that was read are those it was read from.
-use Rattle.std.proofs.Common.{◌≡◌, ℕ, zero, suc, ◌+◌, ◌*◌, ◌/◌, ◌%◌, ◌^◌, ◌<◌, ◌≤◌, List, [], ◌∷◌, ◌++◌, length, take, get_or, refl, sym, ap, ◌∙◌, inl, inr, arith}
+use Rattle.std.proofs.Common.{◌≡◌, ℕ, zero, suc, ◌+◌, ◌*◌, ◌/◌, ◌%◌, ◌^◌, ◌<◌, ◌≤◌, List, [], ◌∷◌}
+use Rattle.std.proofs.Common.{◌++◌, length, take, get_or, refl, sym, ap, ◌∙◌, inl, inr, arith}
 use Rattle.std.proofs.Math.Nat.{div-div-eq-div-mul, div-one, pow-succ'}
 use Rattle.std.proofs.lemmas.List.{get_or-append-add, get_or_append_left, get_or_past}
 use Rattle.std.proofs.lemmas.Bool.{cases_lt}
@@ -13,7 +14,8 @@ abbrev pub IsBytes : List ℕ → Type 0
 IsBytes bytes = (i : ℕ) → get_or bytes i 0 < 256
 
 -- a list whose items are bytes
-pub each_fits : (bytes : List ℕ) → ((k : ℕ) (d : ℕ) → k < length bytes → get_or bytes k d < 256) → IsBytes bytes
+pub each_fits : (bytes : List ℕ) → ((k : ℕ) (d : ℕ) → k < length bytes → get_or bytes k d < 256)
+    → IsBytes bytes
 each_fits bytes fits i = elim (cases_lt i (length bytes)) [
   | inl lt ↦ fits i 0 lt
   | inr le ↦ rw (get_or_past bytes i 0 le) (omega arith)
@@ -52,13 +54,15 @@ low_first-suc i zero x = refl
 low_first-suc i (suc n) x = rw (byte_at-suc i x, low_first-suc (suc i) n x) refl
 
 -- the bytes of the number that was read are those it was read from
-pub number-back : (n : ℕ) (bytes : List ℕ) → IsBytes bytes → n ≤ length bytes → little_bytes n (little_number n bytes) ≡ take n bytes
+pub number-back : (n : ℕ) (bytes : List ℕ) → IsBytes bytes → n ≤ length bytes
+    → little_bytes n (little_number n bytes) ≡ take n bytes
 number-back zero bytes fits long = refl
 number-back (suc n) [] fits long = absurd (omega arith)
 number-back (suc n) (a ∷ bytes) fits long =
     let rest = little_from 0 n bytes in
     let low : a < 256 = fits 0 in
-    let value : little_from 0 (suc n) (a ∷ bytes) ≡ a + 256 * rest = ap (λ (r : ℕ). a + 256 * r) (little_from-cons 0 n a bytes) in
+    let value : little_from 0 (suc n) (a ∷ bytes) ≡ a + 256 * rest =
+    ap (λ (r : ℕ). a + 256 * r) (little_from-cons 0 n a bytes) in
     let first : (a + 256 * rest) % 256 ≡ a = omega arith in
     let others : (a + 256 * rest) / 256 ≡ rest = omega arith in
     let ih = number-back n bytes (IsBytes-rest a bytes fits) (omega arith) in

@@ -1,5 +1,6 @@
 -- The frame of a message: what is read of one was spelled so, and what is spelled so is read.
-use Rattle.std.proofs.Common.{◌≡◌, ℕ, ◌+◌, ◌^◌, ◌<◌, Bool, true, false, cond, eqb, List, [], ◌++◌, length, Option, Some, None, refl, sym, ap, subst, ◌∙◌, arith}
+use Rattle.std.proofs.Common.{◌≡◌, ℕ, ◌+◌, ◌^◌, ◌<◌, Bool, true, false, cond, eqb, List, [], ◌++◌}
+use Rattle.std.proofs.Common.{length, Option, Some, None, refl, sym, ap, subst, ◌∙◌, arith}
 use Rattle.std.proofs.lemmas.Bool.{eqb-true, eq-eqb}
 use Rattle.std.proofs.lemmas.List.{append-nil, nil_from_length}
 use Rattle.p9_wire.specs.Fields.{number}
@@ -9,10 +10,12 @@ use Rattle.p9_wire.specs.FieldReading.{◌and_then◌, Gives, Reader, number_at,
 use Rattle.p9_wire.specs.Reading.{header_at, message_at}
 use Rattle.p9_wire.proofs.Bytes.{IsBytes, IsBytes-back}
 use Rattle.p9_wire.proofs.Lengths.{length-parts, length-frame}
-use Rattle.p9_wire.proofs.Codes.{bind_some, if_passed, some_is, Codes, number-codes, then-codes, made-sound}
+use Rattle.p9_wire.proofs.Codes.{bind_some, if_passed, some_is, Codes, number-codes, then-codes}
+use Rattle.p9_wire.proofs.Codes.{made-sound}
 
 -- type and tag are read as they are spelled
-kind_tag : Codes (λ (x : ℕ × ℕ). number 1 x.0 ++ number 2 x.1) (λ (x : ℕ × ℕ). (x.0 < 256 ^ 1) × (x.1 < 256 ^ 2)) (number_at 1 then number_at 2)
+kind_tag : Codes (λ (x : ℕ × ℕ). number 1 x.0 ++ number 2 x.1)
+    (λ (x : ℕ × ℕ). (x.0 < 256 ^ 1) × (x.1 < 256 ^ 2)) (number_at 1 then number_at 2)
 kind_tag = then-codes (number-codes 1) (number-codes 2)
 
 -- the parts of a frame that has all of these bytes
@@ -22,31 +25,54 @@ record Opened (bytes : List ℕ) (kind tag : ℕ) (body : List ℕ) : Type 0 whe
   tag_fits : tag < 2 ^ 16
 
 -- the parts that were read are those of the frame
-header-sound : (bytes : List ℕ) (x : ℕ × ℕ × List ℕ) → IsBytes bytes → header_at bytes ≡ Some x → Opened bytes x.0 x.1 x.2
+header-sound : (bytes : List ℕ) (x : ℕ × ℕ × List ℕ) → IsBytes bytes → header_at bytes ≡ Some x
+    → Opened bytes x.0 x.1 x.2
 unfolding header_at
 header-sound bytes x fits e =
-    let a = bind_some (number_at 4 bytes) (λ size. cond (eqb size.0 (length bytes)) ((number_at 1 then number_at 2) size.1 and_then λ x. Some (x.0.0, x.0.1, x.1)) None) x e in
-    let g = when_passed (eqb a.0.0 (length bytes)) ((number_at 1 then number_at 2) a.0.1 and_then λ x. Some (x.0.0, x.0.1, x.1)) x a.2 in
-    let b = bind_some ((number_at 1 then number_at 2) a.0.1) (λ x. Some (x.0.0, x.0.1, x.1)) x g.1 in
+    let a =
+    bind_some (number_at 4 bytes)
+    (λ size. cond (eqb size.0 (length bytes))
+    ((number_at 1 then number_at 2) size.1 and_then λ x. Some (x.0.0, x.0.1, x.1)) None) x e in
+    let g =
+    when_passed (eqb a.0.0 (length bytes))
+    ((number_at 1 then number_at 2) a.0.1 and_then λ x. Some (x.0.0, x.0.1, x.1)) x a.2 in
+    let b =
+    bind_some ((number_at 1 then number_at 2) a.0.1) (λ x. Some (x.0.0, x.0.1, x.1)) x g.1 in
     let size-is : a.0.0 ≡ length bytes = eqb-true _ _ g.0 in
     let t0 = (number-codes 4).sound bytes a.0 fits a.1 in
-    let t1 = kind_tag.sound a.0.1 b.0 (IsBytes-back (number 4 a.0.0) a.0.1 (subst IsBytes t0.0 fits)) b.1 in
+    let t1 =
+    kind_tag.sound a.0.1 b.0 (IsBytes-back (number 4 a.0.0) a.0.1 (subst IsBytes t0.0 fits))
+    b.1 in
     let parts : bytes ≡ number 4 (length bytes) ++ (number 1 b.0.0.0 ++ number 2 b.0.0.1 ++ b.0.1) =
-    t0.0 ∙ ap (λ (back : List ℕ). number 4 a.0.0 ++ back) t1.0 ∙ ap (λ (n : ℕ). number 4 n ++ (number 1 b.0.0.0 ++ number 2 b.0.0.1 ++ b.0.1)) size-is in
-    subst (λ (y : ℕ × ℕ × List ℕ). Opened bytes y.0 y.1 y.2) (some_is _ x b.2) (record { whole = parts; size_fits = omega (arith, size-is, t0.1); tag_fits = t1.1.1 })
+    t0.0 ∙ ap (λ (back : List ℕ). number 4 a.0.0 ++ back) t1.0
+    ∙ ap (λ (n : ℕ). number 4 n ++ (number 1 b.0.0.0 ++ number 2 b.0.0.1 ++ b.0.1)) size-is in
+    subst (λ (y : ℕ × ℕ × List ℕ). Opened bytes y.0 y.1 y.2) (some_is _ x b.2) (record {
+      whole = parts;
+      size_fits = omega (arith, size-is, t0.1);
+      tag_fits = t1.1.1;
+    })
   where
-    when_passed : {A : Type 0} (b : Bool) (r : Option A) (y : A) → cond b r None ≡ Some y → (b ≡ true) × (r ≡ Some y)
+    when_passed : {A : Type 0} (b : Bool) (r : Option A) (y : A) → cond b r None ≡ Some y
+        → (b ≡ true) × (r ≡ Some y)
     when_passed true r y e = (refl, e)
     when_passed false r y e = absurd cc
 
 -- and the parts of a frame are read
-header-complete : (kind tag : ℕ) (body : List ℕ) → kind < 256 → tag < 2 ^ 16 → 7 + length body < 2 ^ 32 → header_at (frame kind tag body) ≡ Some (kind, tag, body)
+header-complete : (kind tag : ℕ) (body : List ℕ) → kind < 256 → tag < 2 ^ 16
+    → 7 + length body < 2 ^ 32 → header_at (frame kind tag body) ≡ Some (kind, tag, body)
 unfolding header_at
 header-complete kind tag body kind_fits tag_fits size_fits =
-    let size : eqb (7 + length body) (length (frame kind tag body)) ≡ true = eq-eqb _ _ (sym (length-frame kind tag body)) in
-    rw ((number-codes 4).complete (7 + length body) (number 1 kind ++ number 2 tag ++ body) size_fits, size, kind_tag.complete (kind, tag) body (kind_fits, tag_fits)) refl
+    let size : eqb (7 + length body) (length (frame kind tag body)) ≡ true =
+    eq-eqb _ _ (sym (length-frame kind tag body)) in
+    rw (
+      (number-codes 4).complete (7 + length body) (number 1 kind ++ number 2 tag ++ body)
+          size_fits,
+      size,
+      kind_tag.complete (kind, tag) body (kind_fits, tag_fits),
+    ) refl
 
-module _ {M : Type 0} (kind : M → ℕ) (body : M → List ℕ) (Fits : M → Type 0) (body_at : ℕ → Reader M) where
+module _ {M : Type 0} (kind : M → ℕ) (body : M → List ℕ) (Fits : M → Type 0)
+    (body_at : ℕ → Reader M) where
   -- these bytes are the frame of the message, whose fields and size fit
   pub record Framed (bytes : List ℕ) (tag : ℕ) (m : M) : Type 0 where
     pub whole : bytes ≡ frame (kind m) tag (body m)
@@ -61,20 +87,28 @@ module _ {M : Type 0} (kind : M → ℕ) (body : M → List ℕ) (Fits : M → T
   -- what reading a body has to meet
   pub record Reads : Type 0 where
     pub small : (m : M) → kind m < 256
-    pub sound : (k : ℕ) (bytes : List ℕ) (x : M × List ℕ) → IsBytes bytes → body_at k bytes ≡ Some x → Taken k bytes x
-    pub complete : (m : M) (rest : List ℕ) → Fits m → body_at (kind m) (body m ++ rest) ≡ Some (m, rest)
+    pub sound : (k : ℕ) (bytes : List ℕ) (x : M × List ℕ) → IsBytes bytes → body_at k bytes ≡ Some x
+        → Taken k bytes x
+    pub complete : (m : M) (rest : List ℕ) → Fits m
+        → body_at (kind m) (body m ++ rest) ≡ Some (m, rest)
 
   -- a message that is made of its fields
-  pub taken : {A : Type 0} {f : A → List ℕ} {F : A → Type 0} {r : Reader A} (c : Codes f F r) (make : A → M) (k : ℕ)
-      → ((a : A) → kind (make a) ≡ k) → ((a : A) → body (make a) ≡ f a) → ((a : A) → F a → Fits (make a))
-      → (bytes : List ℕ) (x : M × List ℕ) → IsBytes bytes → made make r bytes ≡ Some x → Taken k bytes x
+  pub taken : {A : Type 0} {f : A → List ℕ} {F : A → Type 0} {r : Reader A} (c : Codes f F r)
+      (make : A → M) (k : ℕ)
+      → ((a : A) → kind (make a) ≡ k) → ((a : A) → body (make a) ≡ f a)
+      → ((a : A) → F a → Fits (make a))
+      → (bytes : List ℕ) (x : M × List ℕ) → IsBytes bytes → made make r bytes ≡ Some x
+      → Taken k bytes x
   taken {A} {f} {F} {r} c make k kind_of body_of fits_of bytes x fits e =
       let t = made-sound c make bytes x fits e in
-      subst (λ (m : M). (kind m ≡ k) × (bytes ≡ body m ++ x.1) × Fits m) t.1 (kind_of t.0, t.2 ∙ ap (λ (s : List ℕ). s ++ x.1) (sym (body_of t.0)), fits_of t.0 t.3)
+      subst (λ (m : M). (kind m ≡ k) × (bytes ≡ body m ++ x.1) × Fits m) t.1
+      (kind_of t.0, t.2 ∙ ap (λ (s : List ℕ). s ++ x.1) (sym (body_of t.0)), fits_of t.0 t.3)
 
   -- an if-chain of readers
-  pub chosen : (k n : ℕ) (r s : Reader M) (bytes : List ℕ) (x : M × List ℕ) → cond (eqb k n) r s bytes ≡ Some x
-      → (r bytes ≡ Some x → Taken n bytes x) → (s bytes ≡ Some x → Taken k bytes x) → Taken k bytes x
+  pub chosen : (k n : ℕ) (r s : Reader M) (bytes : List ℕ) (x : M × List ℕ)
+      → cond (eqb k n) r s bytes ≡ Some x
+      → (r bytes ≡ Some x → Taken n bytes x) → (s bytes ≡ Some x → Taken k bytes x)
+      → Taken k bytes x
   chosen k n r s bytes x e first others = cases (eqb k n) refl e
     where
       cases : (b : Bool) → eqb k n ≡ b → cond b r s bytes ≡ Some x → Taken k bytes x
@@ -82,59 +116,99 @@ module _ {M : Type 0} (kind : M → ℕ) (body : M → List ℕ) (Fits : M → T
       cases false is e = others e
 
   -- a body that takes up the frame makes it the frame of its message
-  closed : (bytes : List ℕ) (k tag : ℕ) (rest after : List ℕ) (m : M) → Opened bytes k tag rest → kind m ≡ k → rest ≡ body m ++ after → eqb (length after) 0 ≡ true → Fits m → Framed bytes tag m
+  closed : (bytes : List ℕ) (k tag : ℕ) (rest after : List ℕ) (m : M) → Opened bytes k tag rest
+      → kind m ≡ k → rest ≡ body m ++ after → eqb (length after) 0 ≡ true → Fits m
+      → Framed bytes tag m
   closed bytes k tag rest after m opened kind-is rest-is ended fits =
       let nothing : after ≡ [] = nil_from_length after (eqb-true _ _ ended) in
-      let body-is : rest ≡ body m = rest-is ∙ ap (λ (r : List ℕ). body m ++ r) nothing ∙ append-nil (body m) in
-      let size : length bytes ≡ 7 + length (body m) = ap length opened.whole ∙ length-parts (length bytes) k tag rest ∙ ap (λ (r : List ℕ). 7 + length r) body-is in
+      let body-is : rest ≡ body m =
+      rest-is ∙ ap (λ (r : List ℕ). body m ++ r) nothing ∙ append-nil (body m) in
+      let size : length bytes ≡ 7 + length (body m) =
+      ap length opened.whole ∙ length-parts (length bytes) k tag rest
+      ∙ ap (λ (r : List ℕ). 7 + length r) body-is in
       let whole : bytes ≡ frame (kind m) tag (body m) =
       opened.whole ∙ ap (λ (n : ℕ). number 4 n ++ (number 1 k ++ number 2 tag ++ rest)) size
-      ∙ ap (λ (r : List ℕ). number 4 (7 + length (body m)) ++ (number 1 k ++ number 2 tag ++ r)) body-is
-      ∙ ap (λ (j : ℕ). number 4 (7 + length (body m)) ++ (number 1 j ++ number 2 tag ++ body m)) (sym kind-is) in
-      record { whole = whole; fits = fits; tag_fits = opened.tag_fits; size_fits = omega (arith, size, opened.size_fits) }
+      ∙ ap (λ (r : List ℕ). number 4 (7 + length (body m)) ++ (number 1 k ++ number 2 tag ++ r))
+      body-is
+      ∙ ap (λ (j : ℕ). number 4 (7 + length (body m)) ++ (number 1 j ++ number 2 tag ++ body m))
+      (sym kind-is) in
+      record {
+        whole = whole;
+        fits = fits;
+        tag_fits = opened.tag_fits;
+        size_fits = omega (arith, size, opened.size_fits);
+      }
 
   -- what was read is framed so
-  pub message-sound : Reads → (bytes : List ℕ) (x : ℕ × M) → IsBytes bytes → message_at body_at bytes ≡ Some x → Framed bytes x.0 x.1
+  pub message-sound : Reads → (bytes : List ℕ) (x : ℕ × M) → IsBytes bytes
+      → message_at body_at bytes ≡ Some x → Framed bytes x.0 x.1
   message-sound reads bytes x fits e =
-      let a = bind_some (header_at bytes) (λ f. body_at f.0 f.2 and_then λ m. cond (eqb (length m.1) 0) (Some (f.1, m.0)) None) x e in
-      let b = bind_some (body_at a.0.0 a.0.2) (λ m. cond (eqb (length m.1) 0) (Some (a.0.1, m.0)) None) x a.2 in
+      let a =
+      bind_some (header_at bytes)
+      (λ f. body_at f.0 f.2 and_then λ m. cond (eqb (length m.1) 0) (Some (f.1, m.0)) None) x
+      e in
+      let b =
+      bind_some (body_at a.0.0 a.0.2) (λ m. cond (eqb (length m.1) 0) (Some (a.0.1, m.0)) None)
+      x a.2 in
       let g = if_passed (eqb (length b.0.1) 0) (a.0.1, b.0.0) x b.2 in
       let opened = header-sound bytes a.0 fits a.1 in
-      let in_body : IsBytes a.0.2 = IsBytes-back (number 1 a.0.0 ++ number 2 a.0.1) a.0.2 (IsBytes-back (number 4 (length bytes)) (number 1 a.0.0 ++ number 2 a.0.1 ++ a.0.2) (subst IsBytes opened.whole fits)) in
+      let in_body : IsBytes a.0.2 =
+      IsBytes-back (number 1 a.0.0 ++ number 2 a.0.1) a.0.2
+      (IsBytes-back (number 4 (length bytes)) (number 1 a.0.0 ++ number 2 a.0.1 ++ a.0.2)
+      (subst IsBytes opened.whole fits)) in
       let t = reads.sound a.0.0 a.0.2 b.0 in_body b.1 in
-      subst (λ (y : ℕ × M). Framed bytes y.0 y.1) g.1 (closed bytes a.0.0 a.0.1 a.0.2 b.0.1 b.0.0 opened t.0 t.1 g.0 t.2)
+      subst (λ (y : ℕ × M). Framed bytes y.0 y.1) g.1
+      (closed bytes a.0.0 a.0.1 a.0.2 b.0.1 b.0.0 opened t.0 t.1 g.0 t.2)
 
   -- and what is framed so is read
-  pub message-complete : Reads → (bytes : List ℕ) (tag : ℕ) (m : M) → Framed bytes tag m → message_at body_at bytes ≡ Some (tag, m)
+  pub message-complete : Reads → (bytes : List ℕ) (tag : ℕ) (m : M) → Framed bytes tag m
+      → message_at body_at bytes ≡ Some (tag, m)
   message-complete reads bytes tag m spelled =
-      let first = header-complete (kind m) tag (body m) (reads.small m) spelled.tag_fits spelled.size_fits in
-      let second : body_at (kind m) (body m) ≡ Some (m, []) = ap (body_at (kind m)) (sym (append-nil (body m))) ∙ reads.complete m [] spelled.fits in
+      let first =
+      header-complete (kind m) tag (body m) (reads.small m) spelled.tag_fits
+      spelled.size_fits in
+      let second : body_at (kind m) (body m) ≡ Some (m, []) =
+      ap (body_at (kind m)) (sym (append-nil (body m))) ∙ reads.complete m [] spelled.fits in
       ap (message_at body_at) spelled.whole ∙ rw (first, second) refl
 
 -- a function that answers a message exactly where the relation holds of it
-pub record Decides {M : Type 0} (message_of : List ℕ → Option (ℕ × M)) (Spells : List ℕ → ℕ → M → Type 0) : Type 0 where
-  pub sound : (bytes : List ℕ) (tag : ℕ) (m : M) → IsBytes bytes → message_of bytes ≡ Some (tag, m) → Spells bytes tag m
-  pub complete : (bytes : List ℕ) (tag : ℕ) (m : M) → Spells bytes tag m → message_of bytes ≡ Some (tag, m)
+pub record Decides {M : Type 0} (message_of : List ℕ → Option (ℕ × M))
+    (Spells : List ℕ → ℕ → M → Type 0) : Type 0 where
+  pub sound : (bytes : List ℕ) (tag : ℕ) (m : M) → IsBytes bytes → message_of bytes ≡ Some (tag, m)
+      → Spells bytes tag m
+  pub complete : (bytes : List ℕ) (tag : ℕ) (m : M) → Spells bytes tag m
+      → message_of bytes ≡ Some (tag, m)
 
-module _ {M : Type 0} {message_of : List ℕ → Option (ℕ × M)} {Spells : List ℕ → ℕ → M → Type 0} (decides : Decides message_of Spells) where
+module _ {M : Type 0} {message_of : List ℕ → Option (ℕ × M)} {Spells : List ℕ → ℕ → M → Type 0}
+    (decides : Decides message_of Spells) where
   -- what the code read, seen by view, has this spelling
-  pub is_found : {X : Type 0} (view : X → ℕ × M) (result : Option X) (bytes : List ℕ) → IsBytes bytes → Gives view result (message_of bytes) → IfSome result (λ x. Spells bytes (view x).0 (view x).1)
+  pub is_found : {X : Type 0} (view : X → ℕ × M) (result : Option X) (bytes : List ℕ)
+      → IsBytes bytes → Gives view result (message_of bytes)
+      → IfSome result (λ x. Spells bytes (view x).0 (view x).1)
   is_found view None bytes fits gives = tt
   is_found view (Some x) bytes fits gives = decides.sound bytes (view x).0 (view x).1 fits gives
 
   -- where the code read nothing, nothing has this spelling
-  pub is_none : {X : Type 0} (view : X → ℕ × M) (result : Option X) (bytes : List ℕ) → Gives view result (message_of bytes) → IfNone result ((tag : ℕ) (m : M) → Spells bytes tag m → ⊥)
-  is_none view None bytes gives = λ tag m spelled. let e = decides.complete bytes tag m spelled in absurd cc
+  pub is_none : {X : Type 0} (view : X → ℕ × M) (result : Option X) (bytes : List ℕ)
+      → Gives view result (message_of bytes)
+      → IfNone result ((tag : ℕ) (m : M) → Spells bytes tag m → ⊥)
+  is_none view None bytes gives =
+      λ tag m spelled. let e = decides.complete bytes tag m spelled in absurd cc
   is_none view (Some x) bytes gives = tt
 
   -- a spelling has one tag and one message
   pub one_tag : (bytes : List ℕ) (s t : ℕ) (m n : M) → Spells bytes s m → Spells bytes t n → s ≡ t
   one_tag bytes s t m n p q =
-      let same : (s, m) ≡ (t, n) = some_is (s, m) (t, n) (sym (decides.complete bytes s m p) ∙ decides.complete bytes t n q) in
+      let same : (s, m) ≡ (t, n) =
+      some_is (s, m) (t, n) (sym (decides.complete bytes s m p)
+      ∙ decides.complete bytes t n q) in
       ap (λ (x : ℕ × M). x.0) same
 
   -- and one message
-  pub one_message : (bytes : List ℕ) (s t : ℕ) (m n : M) → Spells bytes s m → Spells bytes t n → m ≡ n
+  pub one_message : (bytes : List ℕ) (s t : ℕ) (m n : M) → Spells bytes s m → Spells bytes t n
+      → m ≡ n
   one_message bytes s t m n p q =
-      let same : (s, m) ≡ (t, n) = some_is (s, m) (t, n) (sym (decides.complete bytes s m p) ∙ decides.complete bytes t n q) in
+      let same : (s, m) ≡ (t, n) =
+      some_is (s, m) (t, n) (sym (decides.complete bytes s m p)
+      ∙ decides.complete bytes t n q) in
       ap (λ (x : ℕ × M). x.1) same

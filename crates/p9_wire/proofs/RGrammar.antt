@@ -1,13 +1,18 @@
 -- Each reply is read as it is spelled.
 use Rattle.std.proofs.Common.{◌≡◌, ℕ, ◌+◌, ◌<◌, ◌^◌, List, ◌++◌, length, Some, refl, arith}
-use Rattle.p9_wire.specs.Message.{RMessage, Rversion, Rattach, Rerror, Rflush, Rwalk, Ropen, Rcreate, Rread, Rwrite, Rclunk, Rremove, Rstat, Rwstat}
+use Rattle.p9_wire.specs.Message.{RMessage, Rversion, Rattach, Rerror, Rflush, Rwalk, Ropen}
+use Rattle.p9_wire.specs.Message.{Rcreate, Rread, Rwrite, Rclunk, Rremove, Rstat, Rwstat}
 use Rattle.p9_wire.specs.Fields.{FitsText, FitsStat, QidNumbersFit, StatNumbersFit}
 use Rattle.p9_wire.specs.Spelling.{r_type, r_body, r_len, RNumbersFit, RFits, r_spelling, RSpells}
-use Rattle.p9_wire.specs.Reading.{r_version_at, r_attach_at, r_error_at, r_flush_at, r_walk_at, r_open_at, r_create_at, r_read_at, r_write_at, r_clunk_at, r_remove_at, r_stat_at, r_wstat_at, r_body_at, r_message_of}
+use Rattle.p9_wire.specs.Reading.{r_version_at, r_attach_at, r_error_at, r_flush_at, r_walk_at}
+use Rattle.p9_wire.specs.Reading.{r_open_at, r_create_at, r_read_at, r_write_at, r_clunk_at}
+use Rattle.p9_wire.specs.Reading.{r_remove_at, r_stat_at, r_wstat_at, r_body_at, r_message_of}
 use Rattle.p9_wire.proofs.Bytes.{IsBytes}
 use Rattle.p9_wire.proofs.Lengths.{length-r_body, r_len-fits}
-use Rattle.p9_wire.proofs.Codes.{number-codes, text-codes, counted-codes, several-codes, qid-codes, stat-codes, then-codes, FitsSeveral, nothing-codes, made-complete}
-use Rattle.p9_wire.proofs.Framing.{Taken, Reads, Framed, Decides, taken, chosen, message-sound, message-complete}
+use Rattle.p9_wire.proofs.Codes.{number-codes, text-codes, counted-codes, several-codes, qid-codes}
+use Rattle.p9_wire.proofs.Codes.{stat-codes, then-codes, FitsSeveral, nothing-codes, made-complete}
+use Rattle.p9_wire.proofs.Framing.{Taken, Reads, Framed, Decides, taken, chosen, message-sound}
+use Rattle.p9_wire.proofs.Framing.{message-complete}
 
 -- each field fits, in the order of the fields
 abbrev RFieldsFit : RMessage → Type 0
@@ -62,68 +67,107 @@ abbrev Read : ℕ → List ℕ → RMessage × List ℕ → Type 0
 Read = Taken r_type r_body RFieldsFit r_body_at
 
 -- version: a body that was read is a Rversion and spelled so
-read-version : (bytes : List ℕ) (x : RMessage × List ℕ) → IsBytes bytes → r_version_at bytes ≡ Some x → Read 101 bytes x
+read-version : (bytes : List ℕ) (x : RMessage × List ℕ) → IsBytes bytes
+    → r_version_at bytes ≡ Some x → Read 101 bytes x
 unfolding r_version_at
-read-version = taken r_type r_body RFieldsFit r_body_at (then-codes (number-codes 4) text-codes) (λ x. Rversion x.0 x.1) 101 (λ a. refl) (λ a. refl) (λ a h. h)
+read-version =
+    taken r_type r_body RFieldsFit r_body_at (then-codes (number-codes 4) text-codes)
+    (λ x. Rversion x.0 x.1) 101 (λ a. refl) (λ a. refl) (λ a h. h)
 
 -- attach: a body that was read is a Rattach and spelled so
-read-attach : (bytes : List ℕ) (x : RMessage × List ℕ) → IsBytes bytes → r_attach_at bytes ≡ Some x → Read 105 bytes x
+read-attach : (bytes : List ℕ) (x : RMessage × List ℕ) → IsBytes bytes → r_attach_at bytes ≡ Some x
+    → Read 105 bytes x
 unfolding r_attach_at
-read-attach = taken r_type r_body RFieldsFit r_body_at qid-codes Rattach 105 (λ a. refl) (λ a. refl) (λ a h. h)
+read-attach =
+    taken r_type r_body RFieldsFit r_body_at qid-codes Rattach 105 (λ a. refl) (λ a. refl)
+    (λ a h. h)
 
 -- error: a body that was read is a Rerror and spelled so
-read-error : (bytes : List ℕ) (x : RMessage × List ℕ) → IsBytes bytes → r_error_at bytes ≡ Some x → Read 107 bytes x
+read-error : (bytes : List ℕ) (x : RMessage × List ℕ) → IsBytes bytes → r_error_at bytes ≡ Some x
+    → Read 107 bytes x
 unfolding r_error_at
-read-error = taken r_type r_body RFieldsFit r_body_at text-codes Rerror 107 (λ a. refl) (λ a. refl) (λ a h. h)
+read-error =
+    taken r_type r_body RFieldsFit r_body_at text-codes Rerror 107 (λ a. refl) (λ a. refl)
+    (λ a h. h)
 
 -- flush: a body that was read is a Rflush and spelled so
-read-flush : (bytes : List ℕ) (x : RMessage × List ℕ) → IsBytes bytes → r_flush_at bytes ≡ Some x → Read 109 bytes x
-read-flush = taken r_type r_body RFieldsFit r_body_at nothing-codes (λ x. Rflush) 109 (λ a. refl) (λ a. refl) (λ a h. h)
+read-flush : (bytes : List ℕ) (x : RMessage × List ℕ) → IsBytes bytes → r_flush_at bytes ≡ Some x
+    → Read 109 bytes x
+read-flush =
+    taken r_type r_body RFieldsFit r_body_at nothing-codes (λ x. Rflush) 109 (λ a. refl) (λ a. refl)
+    (λ a h. h)
 
 -- walk: a body that was read is a Rwalk and spelled so
-read-walk : (bytes : List ℕ) (x : RMessage × List ℕ) → IsBytes bytes → r_walk_at bytes ≡ Some x → Read 111 bytes x
+read-walk : (bytes : List ℕ) (x : RMessage × List ℕ) → IsBytes bytes → r_walk_at bytes ≡ Some x
+    → Read 111 bytes x
 unfolding r_walk_at
-read-walk = taken r_type r_body RFieldsFit r_body_at (several-codes qid-codes) Rwalk 111 (λ a. refl) (λ a. refl) (λ a h. h)
+read-walk =
+    taken r_type r_body RFieldsFit r_body_at (several-codes qid-codes) Rwalk 111 (λ a. refl)
+    (λ a. refl) (λ a h. h)
 
 -- open: a body that was read is a Ropen and spelled so
-read-open : (bytes : List ℕ) (x : RMessage × List ℕ) → IsBytes bytes → r_open_at bytes ≡ Some x → Read 113 bytes x
+read-open : (bytes : List ℕ) (x : RMessage × List ℕ) → IsBytes bytes → r_open_at bytes ≡ Some x
+    → Read 113 bytes x
 unfolding r_open_at
-read-open = taken r_type r_body RFieldsFit r_body_at (then-codes qid-codes (number-codes 4)) (λ x. Ropen x.0 x.1) 113 (λ a. refl) (λ a. refl) (λ a h. h)
+read-open =
+    taken r_type r_body RFieldsFit r_body_at (then-codes qid-codes (number-codes 4))
+    (λ x. Ropen x.0 x.1) 113 (λ a. refl) (λ a. refl) (λ a h. h)
 
 -- create: a body that was read is a Rcreate and spelled so
-read-create : (bytes : List ℕ) (x : RMessage × List ℕ) → IsBytes bytes → r_create_at bytes ≡ Some x → Read 115 bytes x
+read-create : (bytes : List ℕ) (x : RMessage × List ℕ) → IsBytes bytes → r_create_at bytes ≡ Some x
+    → Read 115 bytes x
 unfolding r_create_at
-read-create = taken r_type r_body RFieldsFit r_body_at (then-codes qid-codes (number-codes 4)) (λ x. Rcreate x.0 x.1) 115 (λ a. refl) (λ a. refl) (λ a h. h)
+read-create =
+    taken r_type r_body RFieldsFit r_body_at (then-codes qid-codes (number-codes 4))
+    (λ x. Rcreate x.0 x.1) 115 (λ a. refl) (λ a. refl) (λ a h. h)
 
 -- read: a body that was read is a Rread and spelled so
-read-read : (bytes : List ℕ) (x : RMessage × List ℕ) → IsBytes bytes → r_read_at bytes ≡ Some x → Read 117 bytes x
+read-read : (bytes : List ℕ) (x : RMessage × List ℕ) → IsBytes bytes → r_read_at bytes ≡ Some x
+    → Read 117 bytes x
 unfolding r_read_at
-read-read = taken r_type r_body RFieldsFit r_body_at counted-codes Rread 117 (λ a. refl) (λ a. refl) (λ a h. h)
+read-read =
+    taken r_type r_body RFieldsFit r_body_at counted-codes Rread 117 (λ a. refl) (λ a. refl)
+    (λ a h. h)
 
 -- write: a body that was read is a Rwrite and spelled so
-read-write : (bytes : List ℕ) (x : RMessage × List ℕ) → IsBytes bytes → r_write_at bytes ≡ Some x → Read 119 bytes x
+read-write : (bytes : List ℕ) (x : RMessage × List ℕ) → IsBytes bytes → r_write_at bytes ≡ Some x
+    → Read 119 bytes x
 unfolding r_write_at
-read-write = taken r_type r_body RFieldsFit r_body_at (number-codes 4) Rwrite 119 (λ a. refl) (λ a. refl) (λ a h. h)
+read-write =
+    taken r_type r_body RFieldsFit r_body_at (number-codes 4) Rwrite 119 (λ a. refl) (λ a. refl)
+    (λ a h. h)
 
 -- clunk: a body that was read is a Rclunk and spelled so
-read-clunk : (bytes : List ℕ) (x : RMessage × List ℕ) → IsBytes bytes → r_clunk_at bytes ≡ Some x → Read 121 bytes x
-read-clunk = taken r_type r_body RFieldsFit r_body_at nothing-codes (λ x. Rclunk) 121 (λ a. refl) (λ a. refl) (λ a h. h)
+read-clunk : (bytes : List ℕ) (x : RMessage × List ℕ) → IsBytes bytes → r_clunk_at bytes ≡ Some x
+    → Read 121 bytes x
+read-clunk =
+    taken r_type r_body RFieldsFit r_body_at nothing-codes (λ x. Rclunk) 121 (λ a. refl) (λ a. refl)
+    (λ a h. h)
 
 -- remove: a body that was read is a Rremove and spelled so
-read-remove : (bytes : List ℕ) (x : RMessage × List ℕ) → IsBytes bytes → r_remove_at bytes ≡ Some x → Read 123 bytes x
-read-remove = taken r_type r_body RFieldsFit r_body_at nothing-codes (λ x. Rremove) 123 (λ a. refl) (λ a. refl) (λ a h. h)
+read-remove : (bytes : List ℕ) (x : RMessage × List ℕ) → IsBytes bytes → r_remove_at bytes ≡ Some x
+    → Read 123 bytes x
+read-remove =
+    taken r_type r_body RFieldsFit r_body_at nothing-codes (λ x. Rremove) 123 (λ a. refl)
+    (λ a. refl) (λ a h. h)
 
 -- stat: a body that was read is a Rstat and spelled so
-read-stat : (bytes : List ℕ) (x : RMessage × List ℕ) → IsBytes bytes → r_stat_at bytes ≡ Some x → Read 125 bytes x
+read-stat : (bytes : List ℕ) (x : RMessage × List ℕ) → IsBytes bytes → r_stat_at bytes ≡ Some x
+    → Read 125 bytes x
 unfolding r_stat_at
-read-stat = taken r_type r_body RFieldsFit r_body_at stat-codes Rstat 125 (λ a. refl) (λ a. refl) (λ a h. h)
+read-stat =
+    taken r_type r_body RFieldsFit r_body_at stat-codes Rstat 125 (λ a. refl) (λ a. refl) (λ a h. h)
 
 -- wstat: a body that was read is a Rwstat and spelled so
-read-wstat : (bytes : List ℕ) (x : RMessage × List ℕ) → IsBytes bytes → r_wstat_at bytes ≡ Some x → Read 127 bytes x
-read-wstat = taken r_type r_body RFieldsFit r_body_at nothing-codes (λ x. Rwstat) 127 (λ a. refl) (λ a. refl) (λ a h. h)
+read-wstat : (bytes : List ℕ) (x : RMessage × List ℕ) → IsBytes bytes → r_wstat_at bytes ≡ Some x
+    → Read 127 bytes x
+read-wstat =
+    taken r_type r_body RFieldsFit r_body_at nothing-codes (λ x. Rwstat) 127 (λ a. refl) (λ a. refl)
+    (λ a h. h)
 
 -- a reply that was read has its type, its fields and its spelling
-sound : (k : ℕ) (bytes : List ℕ) (x : RMessage × List ℕ) → IsBytes bytes → r_body_at k bytes ≡ Some x → Read k bytes x
+sound : (k : ℕ) (bytes : List ℕ) (x : RMessage × List ℕ) → IsBytes bytes
+    → r_body_at k bytes ≡ Some x → Read k bytes x
 unfolding r_body_at
 sound k bytes x fits e =
     chosen r_type r_body RFieldsFit r_body_at k 101 _ _ bytes x e (read-version bytes x fits)
@@ -142,15 +186,22 @@ sound k bytes x fits e =
     (λ e. absurd cc)))))))))))))
 
 -- a reply that is spelled is read
-complete : (m : RMessage) (rest : List ℕ) → RFieldsFit m → r_body_at (r_type m) (r_body m ++ rest) ≡ Some (m, rest)
-unfolding r_body_at r_version_at r_attach_at r_error_at r_walk_at r_open_at r_create_at r_read_at r_write_at r_stat_at
-complete (Rversion msize version) rest h = made-complete (then-codes (number-codes 4) text-codes) (λ x. Rversion x.0 x.1) (msize, version) rest h
+complete : (m : RMessage) (rest : List ℕ) → RFieldsFit m
+    → r_body_at (r_type m) (r_body m ++ rest) ≡ Some (m, rest)
+unfolding r_body_at r_version_at r_attach_at r_error_at r_walk_at r_open_at r_create_at r_read_at
+    r_write_at r_stat_at
+complete (Rversion msize version) rest h =
+    made-complete (then-codes (number-codes 4) text-codes) (λ x. Rversion x.0 x.1) (msize, version)
+    rest h
 complete (Rattach qid) rest h = made-complete qid-codes Rattach qid rest h
 complete (Rerror ename) rest h = made-complete text-codes Rerror ename rest h
 complete Rflush rest h = made-complete nothing-codes (λ x. Rflush) tt rest h
 complete (Rwalk qids) rest h = made-complete (several-codes qid-codes) Rwalk qids rest h
-complete (Ropen qid iounit) rest h = made-complete (then-codes qid-codes (number-codes 4)) (λ x. Ropen x.0 x.1) (qid, iounit) rest h
-complete (Rcreate qid iounit) rest h = made-complete (then-codes qid-codes (number-codes 4)) (λ x. Rcreate x.0 x.1) (qid, iounit) rest h
+complete (Ropen qid iounit) rest h =
+    made-complete (then-codes qid-codes (number-codes 4)) (λ x. Ropen x.0 x.1) (qid, iounit) rest h
+complete (Rcreate qid iounit) rest h =
+    made-complete (then-codes qid-codes (number-codes 4)) (λ x. Rcreate x.0 x.1) (qid, iounit) rest
+    h
 complete (Rread bytes) rest h = made-complete counted-codes Rread bytes rest h
 complete (Rwrite count) rest h = made-complete (number-codes 4) Rwrite count rest h
 complete Rclunk rest h = made-complete nothing-codes (λ x. Rclunk) tt rest h
@@ -185,7 +236,13 @@ r-decides = record {
   sound = λ bytes tag m fits e.
       let framed = message-sound r_type r_body RFieldsFit r_body_at reads bytes (tag, m) fits e in
       let apart = fields-apart m framed.fits (omega (arith, length-r_body m, framed.size_fits)) in
-      record { whole = framed.whole; numbers = apart.0; fits = apart.1; tag_fits = framed.tag_fits };
+      record {
+        whole = framed.whole;
+        numbers = apart.0;
+        fits = apart.1;
+        tag_fits =
+            framed.tag_fits;
+      };
   complete = λ bytes tag m spelled.
       let framed : Framed r_type r_body RFieldsFit r_body_at bytes tag m = record {
         whole = spelled.whole;

@@ -1,23 +1,31 @@
 -- Each request is read as it is spelled.
 use Rattle.std.proofs.Common.{◌≡◌, ℕ, ◌+◌, ◌<◌, ◌^◌, List, ◌++◌, length, Some, refl, arith}
-use Rattle.p9_wire.specs.Message.{TMessage, Tversion, Tauth, Tattach, Tflush, Twalk, Topen, Tcreate, Tread, Twrite, Tclunk, Tremove, Tstat, Twstat}
+use Rattle.p9_wire.specs.Message.{TMessage, Tversion, Tauth, Tattach, Tflush, Twalk, Topen, Tcreate}
+use Rattle.p9_wire.specs.Message.{Tread, Twrite, Tclunk, Tremove, Tstat, Twstat}
 use Rattle.p9_wire.specs.Fields.{FitsText, FitsStat, StatNumbersFit}
 use Rattle.p9_wire.specs.Spelling.{t_type, t_body, t_len, TNumbersFit, TFits, t_spelling, TSpells}
-use Rattle.p9_wire.specs.Reading.{t_version_at, t_auth_at, t_attach_at, t_flush_at, t_walk_at, t_open_at, t_create_at, t_read_at, t_write_at, t_clunk_at, t_remove_at, t_stat_at, t_wstat_at, t_body_at, t_message_of}
+use Rattle.p9_wire.specs.Reading.{t_version_at, t_auth_at, t_attach_at, t_flush_at, t_walk_at}
+use Rattle.p9_wire.specs.Reading.{t_open_at, t_create_at, t_read_at, t_write_at, t_clunk_at}
+use Rattle.p9_wire.specs.Reading.{t_remove_at, t_stat_at, t_wstat_at, t_body_at, t_message_of}
 use Rattle.p9_wire.proofs.Bytes.{IsBytes}
 use Rattle.p9_wire.proofs.Lengths.{length-t_body, t_len-fits}
-use Rattle.p9_wire.proofs.Codes.{number-codes, text-codes, counted-codes, several-codes, stat-codes, then-codes, FitsSeveral, made-complete}
-use Rattle.p9_wire.proofs.Framing.{Taken, Reads, Framed, Decides, taken, chosen, message-sound, message-complete}
+use Rattle.p9_wire.proofs.Codes.{number-codes, text-codes, counted-codes, several-codes, stat-codes}
+use Rattle.p9_wire.proofs.Codes.{then-codes, FitsSeveral, made-complete}
+use Rattle.p9_wire.proofs.Framing.{Taken, Reads, Framed, Decides, taken, chosen, message-sound}
+use Rattle.p9_wire.proofs.Framing.{message-complete}
 
 -- each field fits, in the order of the fields
 abbrev TFieldsFit : TMessage → Type 0
 TFieldsFit (Tversion msize version) = (msize < 2 ^ 32) × FitsText version
 TFieldsFit (Tauth afid uname aname) = (afid < 2 ^ 32) × FitsText uname × FitsText aname
-TFieldsFit (Tattach fid afid uname aname) = (fid < 2 ^ 32) × (afid < 2 ^ 32) × FitsText uname × FitsText aname
+TFieldsFit (Tattach fid afid uname aname) =
+    (fid < 2 ^ 32) × (afid < 2 ^ 32) × FitsText uname × FitsText aname
 TFieldsFit (Tflush oldtag) = oldtag < 2 ^ 16
-TFieldsFit (Twalk fid newfid names) = (fid < 2 ^ 32) × (newfid < 2 ^ 32) × FitsSeveral FitsText names
+TFieldsFit (Twalk fid newfid names) =
+    (fid < 2 ^ 32) × (newfid < 2 ^ 32) × FitsSeveral FitsText names
 TFieldsFit (Topen fid mode) = (fid < 2 ^ 32) × (mode < 2 ^ 8)
-TFieldsFit (Tcreate fid name perm mode) = (fid < 2 ^ 32) × FitsText name × (perm < 2 ^ 32) × (mode < 2 ^ 8)
+TFieldsFit (Tcreate fid name perm mode) =
+    (fid < 2 ^ 32) × FitsText name × (perm < 2 ^ 32) × (mode < 2 ^ 8)
 TFieldsFit (Tread fid offset count) = (fid < 2 ^ 32) × (offset < 2 ^ 64) × (count < 2 ^ 32)
 TFieldsFit (Twrite fid offset bytes) = (fid < 2 ^ 32) × (offset < 2 ^ 64) × (length bytes < 2 ^ 32)
 TFieldsFit (Tclunk fid) = fid < 2 ^ 32
@@ -62,72 +70,120 @@ abbrev Read : ℕ → List ℕ → TMessage × List ℕ → Type 0
 Read = Taken t_type t_body TFieldsFit t_body_at
 
 -- version: a body that was read is a Tversion and spelled so
-read-version : (bytes : List ℕ) (x : TMessage × List ℕ) → IsBytes bytes → t_version_at bytes ≡ Some x → Read 100 bytes x
+read-version : (bytes : List ℕ) (x : TMessage × List ℕ) → IsBytes bytes
+    → t_version_at bytes ≡ Some x → Read 100 bytes x
 unfolding t_version_at
-read-version = taken t_type t_body TFieldsFit t_body_at (then-codes (number-codes 4) text-codes) (λ x. Tversion x.0 x.1) 100 (λ a. refl) (λ a. refl) (λ a h. h)
+read-version =
+    taken t_type t_body TFieldsFit t_body_at (then-codes (number-codes 4) text-codes)
+    (λ x. Tversion x.0 x.1) 100 (λ a. refl) (λ a. refl) (λ a h. h)
 
 -- auth: a body that was read is a Tauth and spelled so
-read-auth : (bytes : List ℕ) (x : TMessage × List ℕ) → IsBytes bytes → t_auth_at bytes ≡ Some x → Read 102 bytes x
+read-auth : (bytes : List ℕ) (x : TMessage × List ℕ) → IsBytes bytes → t_auth_at bytes ≡ Some x
+    → Read 102 bytes x
 unfolding t_auth_at
-read-auth = taken t_type t_body TFieldsFit t_body_at (then-codes (then-codes (number-codes 4) text-codes) text-codes) (λ x. Tauth x.0.0 x.0.1 x.1) 102 (λ a. refl) (λ a. refl) (λ a h. (h.0.0, h.0.1, h.1))
+read-auth =
+    taken t_type t_body TFieldsFit t_body_at
+    (then-codes (then-codes (number-codes 4) text-codes) text-codes) (λ x. Tauth x.0.0 x.0.1 x.1)
+    102 (λ a. refl) (λ a. refl) (λ a h. (h.0.0, h.0.1, h.1))
 
 -- attach: a body that was read is a Tattach and spelled so
-read-attach : (bytes : List ℕ) (x : TMessage × List ℕ) → IsBytes bytes → t_attach_at bytes ≡ Some x → Read 104 bytes x
+read-attach : (bytes : List ℕ) (x : TMessage × List ℕ) → IsBytes bytes → t_attach_at bytes ≡ Some x
+    → Read 104 bytes x
 unfolding t_attach_at
-read-attach = taken t_type t_body TFieldsFit t_body_at (then-codes (then-codes (then-codes (number-codes 4) (number-codes 4)) text-codes) text-codes) (λ x. Tattach x.0.0.0 x.0.0.1 x.0.1 x.1) 104 (λ a. refl) (λ a. refl) (λ a h. (h.0.0.0, h.0.0.1, h.0.1, h.1))
+read-attach =
+    taken t_type t_body TFieldsFit t_body_at
+    (then-codes (then-codes (then-codes (number-codes 4) (number-codes 4)) text-codes) text-codes)
+    (λ x. Tattach x.0.0.0 x.0.0.1 x.0.1 x.1) 104 (λ a. refl) (λ a. refl)
+    (λ a h. (h.0.0.0, h.0.0.1, h.0.1, h.1))
 
 -- flush: a body that was read is a Tflush and spelled so
-read-flush : (bytes : List ℕ) (x : TMessage × List ℕ) → IsBytes bytes → t_flush_at bytes ≡ Some x → Read 108 bytes x
+read-flush : (bytes : List ℕ) (x : TMessage × List ℕ) → IsBytes bytes → t_flush_at bytes ≡ Some x
+    → Read 108 bytes x
 unfolding t_flush_at
-read-flush = taken t_type t_body TFieldsFit t_body_at (number-codes 2) Tflush 108 (λ a. refl) (λ a. refl) (λ a h. h)
+read-flush =
+    taken t_type t_body TFieldsFit t_body_at (number-codes 2) Tflush 108 (λ a. refl) (λ a. refl)
+    (λ a h. h)
 
 -- walk: a body that was read is a Twalk and spelled so
-read-walk : (bytes : List ℕ) (x : TMessage × List ℕ) → IsBytes bytes → t_walk_at bytes ≡ Some x → Read 110 bytes x
+read-walk : (bytes : List ℕ) (x : TMessage × List ℕ) → IsBytes bytes → t_walk_at bytes ≡ Some x
+    → Read 110 bytes x
 unfolding t_walk_at
-read-walk = taken t_type t_body TFieldsFit t_body_at (then-codes (then-codes (number-codes 4) (number-codes 4)) (several-codes text-codes)) (λ x. Twalk x.0.0 x.0.1 x.1) 110 (λ a. refl) (λ a. refl) (λ a h. (h.0.0, h.0.1, h.1))
+read-walk =
+    taken t_type t_body TFieldsFit t_body_at
+    (then-codes (then-codes (number-codes 4) (number-codes 4)) (several-codes text-codes))
+    (λ x. Twalk x.0.0 x.0.1 x.1) 110 (λ a. refl) (λ a. refl) (λ a h. (h.0.0, h.0.1, h.1))
 
 -- open: a body that was read is a Topen and spelled so
-read-open : (bytes : List ℕ) (x : TMessage × List ℕ) → IsBytes bytes → t_open_at bytes ≡ Some x → Read 112 bytes x
+read-open : (bytes : List ℕ) (x : TMessage × List ℕ) → IsBytes bytes → t_open_at bytes ≡ Some x
+    → Read 112 bytes x
 unfolding t_open_at
-read-open = taken t_type t_body TFieldsFit t_body_at (then-codes (number-codes 4) (number-codes 1)) (λ x. Topen x.0 x.1) 112 (λ a. refl) (λ a. refl) (λ a h. h)
+read-open =
+    taken t_type t_body TFieldsFit t_body_at (then-codes (number-codes 4) (number-codes 1))
+    (λ x. Topen x.0 x.1) 112 (λ a. refl) (λ a. refl) (λ a h. h)
 
 -- create: a body that was read is a Tcreate and spelled so
-read-create : (bytes : List ℕ) (x : TMessage × List ℕ) → IsBytes bytes → t_create_at bytes ≡ Some x → Read 114 bytes x
+read-create : (bytes : List ℕ) (x : TMessage × List ℕ) → IsBytes bytes → t_create_at bytes ≡ Some x
+    → Read 114 bytes x
 unfolding t_create_at
-read-create = taken t_type t_body TFieldsFit t_body_at (then-codes (then-codes (then-codes (number-codes 4) text-codes) (number-codes 4)) (number-codes 1)) (λ x. Tcreate x.0.0.0 x.0.0.1 x.0.1 x.1) 114 (λ a. refl) (λ a. refl) (λ a h. (h.0.0.0, h.0.0.1, h.0.1, h.1))
+read-create =
+    taken t_type t_body TFieldsFit t_body_at
+    (then-codes (then-codes (then-codes (number-codes 4) text-codes) (number-codes 4))
+    (number-codes 1)) (λ x. Tcreate x.0.0.0 x.0.0.1 x.0.1 x.1) 114 (λ a. refl) (λ a. refl)
+    (λ a h. (h.0.0.0, h.0.0.1, h.0.1, h.1))
 
 -- read: a body that was read is a Tread and spelled so
-read-read : (bytes : List ℕ) (x : TMessage × List ℕ) → IsBytes bytes → t_read_at bytes ≡ Some x → Read 116 bytes x
+read-read : (bytes : List ℕ) (x : TMessage × List ℕ) → IsBytes bytes → t_read_at bytes ≡ Some x
+    → Read 116 bytes x
 unfolding t_read_at
-read-read = taken t_type t_body TFieldsFit t_body_at (then-codes (then-codes (number-codes 4) (number-codes 8)) (number-codes 4)) (λ x. Tread x.0.0 x.0.1 x.1) 116 (λ a. refl) (λ a. refl) (λ a h. (h.0.0, h.0.1, h.1))
+read-read =
+    taken t_type t_body TFieldsFit t_body_at
+    (then-codes (then-codes (number-codes 4) (number-codes 8)) (number-codes 4))
+    (λ x. Tread x.0.0 x.0.1 x.1) 116 (λ a. refl) (λ a. refl) (λ a h. (h.0.0, h.0.1, h.1))
 
 -- write: a body that was read is a Twrite and spelled so
-read-write : (bytes : List ℕ) (x : TMessage × List ℕ) → IsBytes bytes → t_write_at bytes ≡ Some x → Read 118 bytes x
+read-write : (bytes : List ℕ) (x : TMessage × List ℕ) → IsBytes bytes → t_write_at bytes ≡ Some x
+    → Read 118 bytes x
 unfolding t_write_at
-read-write = taken t_type t_body TFieldsFit t_body_at (then-codes (then-codes (number-codes 4) (number-codes 8)) counted-codes) (λ x. Twrite x.0.0 x.0.1 x.1) 118 (λ a. refl) (λ a. refl) (λ a h. (h.0.0, h.0.1, h.1))
+read-write =
+    taken t_type t_body TFieldsFit t_body_at
+    (then-codes (then-codes (number-codes 4) (number-codes 8)) counted-codes)
+    (λ x. Twrite x.0.0 x.0.1 x.1) 118 (λ a. refl) (λ a. refl) (λ a h. (h.0.0, h.0.1, h.1))
 
 -- clunk: a body that was read is a Tclunk and spelled so
-read-clunk : (bytes : List ℕ) (x : TMessage × List ℕ) → IsBytes bytes → t_clunk_at bytes ≡ Some x → Read 120 bytes x
+read-clunk : (bytes : List ℕ) (x : TMessage × List ℕ) → IsBytes bytes → t_clunk_at bytes ≡ Some x
+    → Read 120 bytes x
 unfolding t_clunk_at
-read-clunk = taken t_type t_body TFieldsFit t_body_at (number-codes 4) Tclunk 120 (λ a. refl) (λ a. refl) (λ a h. h)
+read-clunk =
+    taken t_type t_body TFieldsFit t_body_at (number-codes 4) Tclunk 120 (λ a. refl) (λ a. refl)
+    (λ a h. h)
 
 -- remove: a body that was read is a Tremove and spelled so
-read-remove : (bytes : List ℕ) (x : TMessage × List ℕ) → IsBytes bytes → t_remove_at bytes ≡ Some x → Read 122 bytes x
+read-remove : (bytes : List ℕ) (x : TMessage × List ℕ) → IsBytes bytes → t_remove_at bytes ≡ Some x
+    → Read 122 bytes x
 unfolding t_remove_at
-read-remove = taken t_type t_body TFieldsFit t_body_at (number-codes 4) Tremove 122 (λ a. refl) (λ a. refl) (λ a h. h)
+read-remove =
+    taken t_type t_body TFieldsFit t_body_at (number-codes 4) Tremove 122 (λ a. refl) (λ a. refl)
+    (λ a h. h)
 
 -- stat: a body that was read is a Tstat and spelled so
-read-stat : (bytes : List ℕ) (x : TMessage × List ℕ) → IsBytes bytes → t_stat_at bytes ≡ Some x → Read 124 bytes x
+read-stat : (bytes : List ℕ) (x : TMessage × List ℕ) → IsBytes bytes → t_stat_at bytes ≡ Some x
+    → Read 124 bytes x
 unfolding t_stat_at
-read-stat = taken t_type t_body TFieldsFit t_body_at (number-codes 4) Tstat 124 (λ a. refl) (λ a. refl) (λ a h. h)
+read-stat =
+    taken t_type t_body TFieldsFit t_body_at (number-codes 4) Tstat 124 (λ a. refl) (λ a. refl)
+    (λ a h. h)
 
 -- wstat: a body that was read is a Twstat and spelled so
-read-wstat : (bytes : List ℕ) (x : TMessage × List ℕ) → IsBytes bytes → t_wstat_at bytes ≡ Some x → Read 126 bytes x
+read-wstat : (bytes : List ℕ) (x : TMessage × List ℕ) → IsBytes bytes → t_wstat_at bytes ≡ Some x
+    → Read 126 bytes x
 unfolding t_wstat_at
-read-wstat = taken t_type t_body TFieldsFit t_body_at (then-codes (number-codes 4) stat-codes) (λ x. Twstat x.0 x.1) 126 (λ a. refl) (λ a. refl) (λ a h. h)
+read-wstat =
+    taken t_type t_body TFieldsFit t_body_at (then-codes (number-codes 4) stat-codes)
+    (λ x. Twstat x.0 x.1) 126 (λ a. refl) (λ a. refl) (λ a h. h)
 
 -- a request that was read has its type, its fields and its spelling
-sound : (k : ℕ) (bytes : List ℕ) (x : TMessage × List ℕ) → IsBytes bytes → t_body_at k bytes ≡ Some x → Read k bytes x
+sound : (k : ℕ) (bytes : List ℕ) (x : TMessage × List ℕ) → IsBytes bytes
+    → t_body_at k bytes ≡ Some x → Read k bytes x
 unfolding t_body_at
 sound k bytes x fits e =
     chosen t_type t_body TFieldsFit t_body_at k 100 _ _ bytes x e (read-version bytes x fits)
@@ -146,21 +202,45 @@ sound k bytes x fits e =
     (λ e. absurd cc)))))))))))))
 
 -- a request that is spelled is read
-complete : (m : TMessage) (rest : List ℕ) → TFieldsFit m → t_body_at (t_type m) (t_body m ++ rest) ≡ Some (m, rest)
-unfolding t_body_at t_version_at t_auth_at t_attach_at t_flush_at t_walk_at t_open_at t_create_at t_read_at t_write_at t_clunk_at t_remove_at t_stat_at t_wstat_at
-complete (Tversion msize version) rest h = made-complete (then-codes (number-codes 4) text-codes) (λ x. Tversion x.0 x.1) (msize, version) rest h
-complete (Tauth afid uname aname) rest h = made-complete (then-codes (then-codes (number-codes 4) text-codes) text-codes) (λ x. Tauth x.0.0 x.0.1 x.1) ((afid, uname), aname) rest ((h.0, h.1), h.2)
-complete (Tattach fid afid uname aname) rest h = made-complete (then-codes (then-codes (then-codes (number-codes 4) (number-codes 4)) text-codes) text-codes) (λ x. Tattach x.0.0.0 x.0.0.1 x.0.1 x.1) (((fid, afid), uname), aname) rest (((h.0, h.1), h.2), h.3)
+complete : (m : TMessage) (rest : List ℕ) → TFieldsFit m
+    → t_body_at (t_type m) (t_body m ++ rest) ≡ Some (m, rest)
+unfolding t_body_at t_version_at t_auth_at t_attach_at t_flush_at t_walk_at t_open_at t_create_at
+    t_read_at t_write_at t_clunk_at t_remove_at t_stat_at t_wstat_at
+complete (Tversion msize version) rest h =
+    made-complete (then-codes (number-codes 4) text-codes) (λ x. Tversion x.0 x.1) (msize, version)
+    rest h
+complete (Tauth afid uname aname) rest h =
+    made-complete (then-codes (then-codes (number-codes 4) text-codes) text-codes)
+    (λ x. Tauth x.0.0 x.0.1 x.1) ((afid, uname), aname) rest ((h.0, h.1), h.2)
+complete (Tattach fid afid uname aname) rest h =
+    made-complete
+    (then-codes (then-codes (then-codes (number-codes 4) (number-codes 4)) text-codes) text-codes)
+    (λ x. Tattach x.0.0.0 x.0.0.1 x.0.1 x.1) (((fid, afid), uname), aname) rest
+    (((h.0, h.1), h.2), h.3)
 complete (Tflush oldtag) rest h = made-complete (number-codes 2) Tflush oldtag rest h
-complete (Twalk fid newfid names) rest h = made-complete (then-codes (then-codes (number-codes 4) (number-codes 4)) (several-codes text-codes)) (λ x. Twalk x.0.0 x.0.1 x.1) ((fid, newfid), names) rest ((h.0, h.1), h.2)
-complete (Topen fid mode) rest h = made-complete (then-codes (number-codes 4) (number-codes 1)) (λ x. Topen x.0 x.1) (fid, mode) rest h
-complete (Tcreate fid name perm mode) rest h = made-complete (then-codes (then-codes (then-codes (number-codes 4) text-codes) (number-codes 4)) (number-codes 1)) (λ x. Tcreate x.0.0.0 x.0.0.1 x.0.1 x.1) (((fid, name), perm), mode) rest (((h.0, h.1), h.2), h.3)
-complete (Tread fid offset count) rest h = made-complete (then-codes (then-codes (number-codes 4) (number-codes 8)) (number-codes 4)) (λ x. Tread x.0.0 x.0.1 x.1) ((fid, offset), count) rest ((h.0, h.1), h.2)
-complete (Twrite fid offset bytes) rest h = made-complete (then-codes (then-codes (number-codes 4) (number-codes 8)) counted-codes) (λ x. Twrite x.0.0 x.0.1 x.1) ((fid, offset), bytes) rest ((h.0, h.1), h.2)
+complete (Twalk fid newfid names) rest h =
+    made-complete
+    (then-codes (then-codes (number-codes 4) (number-codes 4)) (several-codes text-codes))
+    (λ x. Twalk x.0.0 x.0.1 x.1) ((fid, newfid), names) rest ((h.0, h.1), h.2)
+complete (Topen fid mode) rest h =
+    made-complete (then-codes (number-codes 4) (number-codes 1)) (λ x. Topen x.0 x.1) (fid, mode)
+    rest h
+complete (Tcreate fid name perm mode) rest h =
+    made-complete
+    (then-codes (then-codes (then-codes (number-codes 4) text-codes) (number-codes 4))
+    (number-codes 1)) (λ x. Tcreate x.0.0.0 x.0.0.1 x.0.1 x.1) (((fid, name), perm), mode) rest
+    (((h.0, h.1), h.2), h.3)
+complete (Tread fid offset count) rest h =
+    made-complete (then-codes (then-codes (number-codes 4) (number-codes 8)) (number-codes 4))
+    (λ x. Tread x.0.0 x.0.1 x.1) ((fid, offset), count) rest ((h.0, h.1), h.2)
+complete (Twrite fid offset bytes) rest h =
+    made-complete (then-codes (then-codes (number-codes 4) (number-codes 8)) counted-codes)
+    (λ x. Twrite x.0.0 x.0.1 x.1) ((fid, offset), bytes) rest ((h.0, h.1), h.2)
 complete (Tclunk fid) rest h = made-complete (number-codes 4) Tclunk fid rest h
 complete (Tremove fid) rest h = made-complete (number-codes 4) Tremove fid rest h
 complete (Tstat fid) rest h = made-complete (number-codes 4) Tstat fid rest h
-complete (Twstat fid stat) rest h = made-complete (then-codes (number-codes 4) stat-codes) (λ x. Twstat x.0 x.1) (fid, stat) rest h
+complete (Twstat fid stat) rest h =
+    made-complete (then-codes (number-codes 4) stat-codes) (λ x. Twstat x.0 x.1) (fid, stat) rest h
 
 -- one byte holds a type
 small : (m : TMessage) → t_type m < 256
@@ -189,7 +269,13 @@ t-decides = record {
   sound = λ bytes tag m fits e.
       let framed = message-sound t_type t_body TFieldsFit t_body_at reads bytes (tag, m) fits e in
       let apart = fields-apart m framed.fits (omega (arith, length-t_body m, framed.size_fits)) in
-      record { whole = framed.whole; numbers = apart.0; fits = apart.1; tag_fits = framed.tag_fits };
+      record {
+        whole = framed.whole;
+        numbers = apart.0;
+        fits = apart.1;
+        tag_fits =
+            framed.tag_fits;
+      };
   complete = λ bytes tag m spelled.
       let framed : Framed t_type t_body TFieldsFit t_body_at bytes tag m = record {
         whole = spelled.whole;

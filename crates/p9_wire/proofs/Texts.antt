@@ -8,7 +8,8 @@ use Rattle.std.proofs.lemmas.Str.{IsUtf8-from_is_utf8, is_utf8-from_IsUtf8}
 use Rattle.p9_base.specs.Text.{is_text}
 
 -- UTF-8 without NUL is a text
-pub is_text_of : (bytes : List ℕ) → IsUtf8 bytes → list_any (λ (b : ℕ). eqb b 0) bytes ≡ false → is_text bytes ≡ true
+pub is_text_of : (bytes : List ℕ) → IsUtf8 bytes → list_any (λ (b : ℕ). eqb b 0) bytes ≡ false
+    → is_text bytes ≡ true
 is_text_of bytes utf8 no_nul = and_from _ _ (is_utf8-from_IsUtf8 bytes utf8) (ap not no_nul)
 
 -- what has a NUL is none
@@ -23,5 +24,6 @@ no_utf8 bytes bad = and_left _ _ (false_from_ne_true _ (λ e. bad (IsUtf8-from_i
 pub ruleset text_rules = (is_text_of, has_nul, no_utf8)
 
 -- of UTF-8, a text is what has no NUL
-pub is_text-utf8 : (bytes : List ℕ) → IsUtf8 bytes → not (list_any (λ (b : ℕ). eqb b 0) bytes) ≡ is_text bytes
+pub is_text-utf8 : (bytes : List ℕ) → IsUtf8 bytes
+    → not (list_any (λ (b : ℕ). eqb b 0) bytes) ≡ is_text bytes
 is_text-utf8 bytes utf8 = rw (is_utf8-from_IsUtf8 bytes utf8) refl

@@ -1,5 +1,6 @@
 -- Fields read from left to right: a field is a value and the bytes behind it.
-use Rattle.std.specs.Prelude.{◌≡◌, ℕ, zero, suc, ◌==◌, List, [], ◌∷◌, length, take, drop, Option, Some, None, nat_lt, if◌then◌else◌}
+use Rattle.std.specs.Prelude.{◌≡◌, ℕ, zero, suc, ◌==◌, List, [], ◌∷◌, length, take, drop, Option}
+use Rattle.std.specs.Prelude.{Some, None, nat_lt, if◌then◌else◌}
 use Rattle.byteorder.specs.Endian.{little_number}
 use Rattle.p9_base.specs.declared.qid.Qid.{Qid}
 use Rattle.p9_base.specs.Text.{is_text}
@@ -88,8 +89,8 @@ stat_fields_at =
       gid = x.0.1;
       muid = x.1;
     })
-    (number_at 2 then number_at 4 then qid_at then number_at 4 then number_at 4 then number_at 4 then number_at 8
-    then text_at then text_at then text_at then text_at)
+    (number_at 2 then number_at 4 then qid_at then number_at 4 then number_at 4 then number_at 4
+    then number_at 8 then text_at then text_at then text_at then text_at)
 
 -- as a message holds a stat: a length, and the stat's own size and fields, which take it up
 abbrev pub stat_at : Reader StatFields

@@ -1,5 +1,6 @@
 -- The frames of a byte string.
-use Rattle.std.specs.Prelude.{◌≡◌, ℕ, zero, suc, List, length, take, drop, nat_lt, ◌||◌, if◌then◌else◌}
+use Rattle.std.specs.Prelude.{◌≡◌, ℕ, zero, suc, List, length, take, drop, nat_lt, ◌||◌}
+use Rattle.std.specs.Prelude.{if◌then◌else◌}
 use Rattle.byteorder.specs.Endian.{little_number}
 use Rattle.p9_wire.specs.declared.frame.Frame.{Frame}
 use Rattle.p9_wire.specs.declared.frame.Frame.TheVariants.{Need, Whole, Broken}

@@ -1,7 +1,11 @@
 -- The messages read from their bytes: a function that answers exactly what the grammar spells.
 use Rattle.std.specs.Prelude.{ℕ, ◌==◌, List, length, Option, Some, None, if◌then◌else◌}
-use Rattle.p9_wire.specs.Message.{TMessage, Tversion, Tauth, Tattach, Tflush, Twalk, Topen, Tcreate, Tread, Twrite, Tclunk, Tremove, Tstat, Twstat, RMessage, Rversion, Rattach, Rerror, Rflush, Rwalk, Ropen, Rcreate, Rread, Rwrite, Rclunk, Rremove, Rstat, Rwstat}
-use Rattle.p9_wire.specs.FieldReading.{◌and_then◌, Reader, ◌then◌, made, nothing_at, number_at, text_at, counted_at, several_at, qid_at, stat_at}
+use Rattle.p9_wire.specs.Message.{TMessage, Tversion, Tauth, Tattach, Tflush, Twalk, Topen, Tcreate}
+use Rattle.p9_wire.specs.Message.{Tread, Twrite, Tclunk, Tremove, Tstat, Twstat, RMessage, Rversion}
+use Rattle.p9_wire.specs.Message.{Rattach, Rerror, Rflush, Rwalk, Ropen, Rcreate, Rread, Rwrite}
+use Rattle.p9_wire.specs.Message.{Rclunk, Rremove, Rstat, Rwstat}
+use Rattle.p9_wire.specs.FieldReading.{◌and_then◌, Reader, ◌then◌, made, nothing_at, number_at}
+use Rattle.p9_wire.specs.FieldReading.{text_at, counted_at, several_at, qid_at, stat_at}
 
 -- type, tag and body of the bytes, where these are all of a frame
 unfoldable pub header_at : List ℕ → Option (ℕ × ℕ × List ℕ)

@@ -1,8 +1,13 @@
 -- The grammar of messages: the one spelling of each, and what has a spelling.
 use Rattle.std.specs.Prelude.{◌≡◌, ℕ, ◌+◌, ◌*◌, ◌<◌, ◌≤◌, ◌^◌, List, [], ◌++◌, length, sum_by}
 use Rattle.std.specs.List.{AllByRecursion}
-use Rattle.p9_wire.specs.Message.{TMessage, Tversion, Tauth, Tattach, Tflush, Twalk, Topen, Tcreate, Tread, Twrite, Tclunk, Tremove, Tstat, Twstat, RMessage, Rversion, Rattach, Rerror, Rflush, Rwalk, Ropen, Rcreate, Rread, Rwrite, Rclunk, Rremove, Rstat, Rwstat}
-use Rattle.p9_wire.specs.Fields.{number, text, counted, several, sized, qid_bytes, stat_bytes, stat_len, FitsText, FitsNames, FitsStat, QidNumbersFit, StatNumbersFit}
+use Rattle.p9_wire.specs.Message.{TMessage, Tversion, Tauth, Tattach, Tflush, Twalk, Topen, Tcreate}
+use Rattle.p9_wire.specs.Message.{Tread, Twrite, Tclunk, Tremove, Tstat, Twstat, RMessage, Rversion}
+use Rattle.p9_wire.specs.Message.{Rattach, Rerror, Rflush, Rwalk, Ropen, Rcreate, Rread, Rwrite}
+use Rattle.p9_wire.specs.Message.{Rclunk, Rremove, Rstat, Rwstat}
+use Rattle.p9_wire.specs.Fields.{number, text, counted, several, sized, qid_bytes, stat_bytes}
+use Rattle.p9_wire.specs.Fields.{stat_len, FitsText, FitsNames, FitsStat, QidNumbersFit}
+use Rattle.p9_wire.specs.Fields.{StatNumbersFit}
 
 -- size, which counts itself, type, tag and body
 abbrev pub frame : ℕ → ℕ → List ℕ → List ℕ

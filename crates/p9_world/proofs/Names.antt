@@ -1,5 +1,6 @@
 -- Names along a path, read one after another.
-use Rattle.std.proofs.Common.{◌≡◌, ℕ, ◌+◌, List, [], ◌∷◌, ◌++◌, Option, Some, None, if◌then◌else◌, length, refl, sym, ap, ◌∙◌, arith, option_map}
+use Rattle.std.proofs.Common.{◌≡◌, ℕ, ◌+◌, List, [], ◌∷◌, ◌++◌, Option, Some, None, if◌then◌else◌}
+use Rattle.std.proofs.Common.{length, refl, sym, ap, ◌∙◌, arith, option_map}
 use Rattle.std.specs.List.{list_all, IsLastAndRest}
 use Rattle.std.specs.Option.{option_map_or, MatchOption}
 use Rattle.p9_base.specs.Name.{is_name}
@@ -11,12 +12,18 @@ abbrev pub names_behind : List Word → List Word → Option (List Word)
 names_behind names words = if list_all is_name words then Some (names ++ words) else None
 
 -- the last of some names, found behind the rest
-last_and_rest-append : (rest : List Word) (name : Word) → last_and_rest (rest ++ name ∷ []) ≡ Some (name, rest)
+last_and_rest-append : (rest : List Word) (name : Word)
+    → last_and_rest (rest ++ name ∷ []) ≡ Some (name, rest)
 last_and_rest-append [] name = refl
-last_and_rest-append (first ∷ rest) name = ap (λ o. Some (option_map_or (λ place. (place.0, first ∷ place.1)) o (first, []))) (last_and_rest-append rest name)
+last_and_rest-append (first ∷ rest) name =
+    ap (λ o. Some (option_map_or (λ place. (place.0, first ∷ place.1)) o (first, [])))
+    (last_and_rest-append rest name)
 
 -- what a split before the last name gives
-pub last_and_rest-split : {P : Type 0} (last : P → Word) (rest : P → List Word) (names : List Word) (o : Option P) → MatchOption o (length names ≡ 0) (λ p. IsLastAndRest names (last p) (rest p)) → option_map (λ p. (last p, rest p)) o ≡ last_and_rest names
+pub last_and_rest-split : {P : Type 0} (last : P → Word) (rest : P → List Word) (names : List Word)
+    (o : Option P) → MatchOption o (length names ≡ 0) (λ p. IsLastAndRest names (last p) (rest p))
+    → option_map (λ p. (last p, rest p)) o ≡ last_and_rest names
 last_and_rest-split last rest [] None none = refl
 last_and_rest-split last rest (name ∷ names) None none = absurd (omega arith)
-last_and_rest-split last rest names (Some p) split = sym (ap last_and_rest split.0 ∙ last_and_rest-append (rest p) (last p))
+last_and_rest-split last rest names (Some p) split =
+    sym (ap last_and_rest split.0 ∙ last_and_rest-append (rest p) (last p))

@@ -1,5 +1,8 @@
 -- What keeps a world's trees, names and hidden numbers together.
-use Rattle.std.proofs.Common.{◌≡◌, ◌≢◌, ℕ, zero, suc, ◌+◌, ◌-◌, ◌<◌, ◌≤◌, ◌^◌, Bool, true, false, List, [], ◌∷◌, ◌++◌, length, get_or, set, Option, Some, None, refl, sym, ap, ◌∙◌, subst, arith, All, AllPairs, length-append, is_some, map, Result, Ok, Err, cond, IsTrue}
+use Rattle.std.proofs.Common.{◌≡◌, ◌≢◌, ℕ, zero, suc, ◌+◌, ◌-◌, ◌<◌, ◌≤◌, ◌^◌, Bool, true, false}
+use Rattle.std.proofs.Common.{List, [], ◌∷◌, ◌++◌, length, get_or, set, Option, Some, None, refl}
+use Rattle.std.proofs.Common.{sym, ap, ◌∙◌, subst, arith, All, AllPairs, length-append, is_some}
+use Rattle.std.proofs.Common.{map, Result, Ok, Err, cond, IsTrue}
 use Rattle.std.specs.List.{position, position_or_len}
 use Rattle.std.specs.Str.{bytes_eq}
 use Rattle.std.proofs.lemmas.Bool.{lt-ltb, cases_lt}
@@ -27,44 +30,66 @@ use Rattle.p9_world.specs.declared.error.LineError.{LineError}
 use Rattle.p9_world.specs.declared.error.LineError.TheVariants.{Bad, NoMemory}
 
 -- before the first place that passes, none does
-fails_before : {X : Type 0} (p : X → Bool) (xs : List X) (k : ℕ) (d : X) → k < position_or_len p xs → p (get_or xs k d) ≡ false
+fails_before : {X : Type 0} (p : X → Bool) (xs : List X) (k : ℕ) (d : X) → k < position_or_len p xs
+    → p (get_or xs k d) ≡ false
 fails_before p [] k d lt = absurd (omega arith)
 fails_before p (x ∷ xs) zero d lt = grind (arith, nat_tests)
 fails_before p (x ∷ xs) (suc k) d lt = grind (arith, nat_tests, fails_before p xs k d)
 
 -- where no server has the name, each has another
-other_names : (name : List ℕ) (servers : List (List ℕ)) (k : ℕ) (d : List ℕ) → is_some (server_number name servers) ≡ false → k < length servers → get_or servers k d ≢ name
+other_names : (name : List ℕ) (servers : List (List ℕ)) (k : ℕ) (d : List ℕ)
+    → is_some (server_number name servers) ≡ false → k < length servers → get_or servers k d ≢ name
 other_names name servers k d absent lt same =
     let p : List ℕ → Bool = λ other. bytes_eq other name in
-    let passes : p (get_or servers k d) ≡ true = (bytes_eq-Decides (get_or servers k d) name).1 same in
-    let all : length servers ≤ position_or_len (λ other. bytes_eq other name) servers = grind (arith, nat_tests) in
+    let passes : p (get_or servers k d) ≡ true =
+    (bytes_eq-Decides (get_or servers k d) name).1 same in
+    let all : length servers ≤ position_or_len (λ other. bytes_eq other name) servers =
+    grind (arith, nat_tests) in
     let fails = fails_before (λ other. bytes_eq other name) servers k d (omega arith) in
     cc
 
 -- a server that joins leaves the others' numbers
-next_of-joined : (i : ℕ) (forest : List Server) (s : Server) → next_of i forest ≤ next_of i (forest ++ s ∷ [])
+next_of-joined : (i : ℕ) (forest : List Server) (s : Server)
+    → next_of i forest ≤ next_of i (forest ++ s ∷ [])
 next_of-joined i [] s = omega arith
 next_of-joined zero (x ∷ xs) s = omega arith
 next_of-joined (suc i) (x ∷ xs) s = next_of-joined i xs s
 
 -- a server whose next number doesn't fall leaves no number above it
-next_of-changed : (i k : ℕ) (forest : List Server) (s : Server) → next_of k forest ≤ s.next → next_of i forest ≤ next_of i (tree_changed_at k (λ old. s) forest)
+next_of-changed : (i k : ℕ) (forest : List Server) (s : Server) → next_of k forest ≤ s.next
+    → next_of i forest ≤ next_of i (tree_changed_at k (λ old. s) forest)
 next_of-changed i k [] s le = omega arith
 next_of-changed zero zero (x ∷ xs) s le = le
 next_of-changed (suc i) zero (x ∷ xs) s le = omega arith
 next_of-changed zero (suc k) (x ∷ xs) s le = omega arith
 next_of-changed (suc i) (suc k) (x ∷ xs) s le = next_of-changed i k xs s le
 
-pub IsWorld-with_server : (name : List ℕ) (w : World) → IsWorld w → is_some (server_number name w.servers) ≡ false → length w.servers < 2 ^ 16 → IsWorld (with_server name w)
+pub IsWorld-with_server : (name : List ℕ) (w : World) → IsWorld w
+    → is_some (server_number name w.servers) ≡ false → length w.servers < 2 ^ 16
+    → IsWorld (with_server name w)
 IsWorld-with_server name w ok absent room = record {
-  named = omega (arith, ok.named, length-append w.servers (name ∷ []), length-append w.forest (rooted ∷ []));
+  named =
+      omega (
+        arith,
+        ok.named,
+        length-append w.servers (name ∷ []),
+        length-append w.forest
+            (rooted ∷ []),
+      );
   few = omega (arith, ok.named, length-append w.forest (rooted ∷ []));
-  distinct = all_pairs_push (λ a b. a ≢ b) w.servers name ok.distinct (λ k d lt. other_names name w.servers k d absent lt);
-  below = All-weaker (λ r. r.number < next_of r.server w.forest) (λ r. r.number < next_of r.server (w.forest ++ rooted ∷ [])) (λ r h. omega (arith, next_of-joined r.server w.forest rooted)) w.hidden ok.below;
+  distinct =
+      all_pairs_push (λ a b. a ≢ b) w.servers name ok.distinct
+      (λ k d lt. other_names name w.servers k d absent lt);
+  below =
+      All-weaker (λ r. r.number < next_of r.server w.forest)
+      (λ r. r.number < next_of r.server (w.forest ++ rooted ∷ []))
+      (λ r h. omega (arith, next_of-joined r.server w.forest rooted)) w.hidden ok.below;
 }
 
 -- a line that passes each test
-pub server_line-ok : (name : List ℕ) (w : World) → is_server_name name ≡ true → is_some (server_number name w.servers) ≡ false → length w.servers < 2 ^ 16 → server_line name w ≡ Ok (with_server name w)
+pub server_line-ok : (name : List ℕ) (w : World) → is_server_name name ≡ true
+    → is_some (server_number name w.servers) ≡ false → length w.servers < 2 ^ 16
+    → server_line name w ≡ Ok (with_server name w)
 server_line-ok name w valid absent room =
     let test = lt-ltb _ _ room in
     rw (valid, absent, test) refl
@@ -73,67 +98,103 @@ server_line-ok name w valid absent room =
 abbrev pub with_changed_server : ℕ → Server → World → World
 with_changed_server k s w = record w { forest = tree_changed_at k (λ old. s) w.forest }
 
-pub IsWorld-changed : (k : ℕ) (s : Server) (w : World) → IsWorld w → next_of k w.forest ≤ s.next → IsWorld (with_changed_server k s w)
+pub IsWorld-changed : (k : ℕ) (s : Server) (w : World) → IsWorld w → next_of k w.forest ≤ s.next
+    → IsWorld (with_changed_server k s w)
 IsWorld-changed k s w ok le = record {
   named = ok.named ∙ sym (length-set w.forest k s);
   few = omega (arith, ok.few, length-set w.forest k s);
   distinct = ok.distinct;
-  below = All-weaker (λ r. r.number < next_of r.server w.forest) (λ r. r.number < next_of r.server (tree_changed_at k (λ old. s) w.forest)) (λ r h. omega (arith, next_of-changed r.server k w.forest s le)) w.hidden ok.below;
+  below =
+      All-weaker (λ r. r.number < next_of r.server w.forest)
+      (λ r. r.number < next_of r.server (tree_changed_at k (λ old. s) w.forest))
+      (λ r h. omega (arith, next_of-changed r.server k w.forest s le)) w.hidden ok.below;
 }
 
 -- a server written over by itself
-same_server : (k : ℕ) (forest : List Server) → tree_changed_at k (λ old. server_at k forest) forest ≡ forest
+same_server : (k : ℕ) (forest : List Server)
+    → tree_changed_at k (λ old. server_at k forest) forest ≡ forest
 same_server k [] = refl
 same_server zero (x ∷ xs) = refl
 same_server (suc k) (x ∷ xs) = ap (λ rest. x ∷ rest) (same_server k xs)
 
 -- a change of the last server, seen in the world
-pub Makes-in_last_server : {D : Type 0} (change : Server → Result Server LineFault) (w : World) (s new : Server) (r : Result D LineError) → 0 < length w.forest → server_at (last_number w) w.forest ≡ s → Makes (change s) s new r → Makes (in_last_server change w) w (with_changed_server (last_number w) new w) r
+pub Makes-in_last_server : {D : Type 0} (change : Server → Result Server LineFault) (w : World)
+    (s new : Server) (r : Result D LineError) → 0 < length w.forest
+    → server_at (last_number w) w.forest ≡ s → Makes (change s) s new r
+    → Makes (in_last_server change w) w (with_changed_server (last_number w) new w) r
 Makes-in_last_server change w s new (Ok done) some at made =
     let test = lt-ltb 0 (length w.forest) some in
     rw (test, at, made) refl
 Makes-in_last_server change w s new (Err (Bad fault)) some at made =
-    let test = lt-ltb 0 (length w.forest) some in
-    (rw (test, at, made.0) refl, ap (λ forest. record w { forest = forest }) (ap (λ s. tree_changed_at (last_number w) (λ old. s) w.forest) (made.1 ∙ sym at) ∙ same_server (last_number w) w.forest))
+    let test = lt-ltb 0 (length w.forest) some in (
+      rw (test, at, made.0) refl,
+      ap (λ forest. record w { forest = forest })
+          (ap (λ s. tree_changed_at (last_number w) (λ old. s) w.forest) (made.1 ∙ sym at)
+          ∙ same_server (last_number w) w.forest),
+    )
 Makes-in_last_server change w s new (Err NoMemory) some at made =
-    ap (λ forest. record w { forest = forest }) (ap (λ s. tree_changed_at (last_number w) (λ old. s) w.forest) (made ∙ sym at) ∙ same_server (last_number w) w.forest)
+    ap (λ forest. record w { forest = forest })
+    (ap (λ s. tree_changed_at (last_number w) (λ old. s) w.forest) (made ∙ sym at)
+    ∙ same_server (last_number w) w.forest)
 
 -- the last of some trees, and a write over it
-module _ {T : Type 0} (state : T → Server) (ts : List T) (t u : T) (n : ℕ) (count : n ≡ length ts) (some : 0 < length ts) (read : t ≡ get_or ts (n - 1) t) where
+module _ {T : Type 0} (state : T → Server) (ts : List T) (t u : T) (n : ℕ) (count : n ≡ length ts)
+    (some : 0 < length ts) (read : t ≡ get_or ts (n - 1) t) where
   last_is : n - 1 ≡ length (map state ts) - 1
   last_is = omega (arith, length-map ts state)
 
   pub state-last : server_at (length (map state ts) - 1) (map state ts) ≡ state t
-  state-last = ap (λ i. server_at i (map state ts)) (sym last_is) ∙ server_at-map state ts (n - 1) t (omega arith) read
+  state-last =
+      ap (λ i. server_at i (map state ts)) (sym last_is)
+      ∙ server_at-map state ts (n - 1) t (omega arith) read
 
-  pub map-last : map state (set ts (n - 1) u) ≡ tree_changed_at (length (map state ts) - 1) (λ old. state u) (map state ts)
-  map-last = map-tree_changed_at state (λ old. state u) ts (n - 1) t u (omega arith) read refl ∙ ap (λ i. tree_changed_at i (λ old. state u) (map state ts)) last_is
+  pub map-last : map state (set ts (n - 1) u)
+      ≡ tree_changed_at (length (map state ts) - 1) (λ old. state u) (map state ts)
+  map-last =
+      map-tree_changed_at state (λ old. state u) ts (n - 1) t u (omega arith) read refl
+      ∙ ap (λ i. tree_changed_at i (λ old. state u) (map state ts)) last_is
 
   -- the world stays one where the server's next number doesn't fall
-  pub IsWorld-last : (w : World) → IsWorld (record w { forest = map state ts }) → (state t).next ≤ (state u).next → IsWorld (record w { forest = map state (set ts (n - 1) u) })
+  pub IsWorld-last : (w : World) → IsWorld (record w { forest = map state ts })
+      → (state t).next ≤ (state u).next
+      → IsWorld (record w { forest = map state (set ts (n - 1) u) })
   IsWorld-last w ok rises =
-      let same : next_of (length (map state ts) - 1) (map state ts) ≡ (state t).next = ap (λ (s : Server). s.next) state-last in
-      rw map-last (IsWorld-changed (length (map state ts) - 1) (state u) (record w { forest = map state ts }) ok (omega arith))
+      let same : next_of (length (map state ts) - 1) (map state ts) ≡ (state t).next =
+      ap (λ (s : Server). s.next) state-last in
+      rw map-last (IsWorld-changed (length (map state ts) - 1) (state u) (record w {
+        forest = map state ts;
+      }) ok (omega arith))
 
   -- and its line is that of the last server
-  pub Makes-last : {D : Type 0} (change : Server → Result Server LineFault) (w : World) (r : Result D LineError) → Makes (change (state t)) (state t) (state u) r → Makes (in_last_server change (record w { forest = map state ts })) (record w { forest = map state ts }) (record w { forest = map state (set ts (n - 1) u) }) r
+  pub Makes-last : {D : Type 0} (change : Server → Result Server LineFault) (w : World)
+      (r : Result D LineError) → Makes (change (state t)) (state t) (state u) r
+      → Makes (in_last_server change (record w { forest = map state ts })) (record w {
+        forest = map state ts;
+      }) (record w { forest = map state (set ts (n - 1) u) }) r
   Makes-last change w r made =
       let here : 0 < length (map state ts) = omega (arith, length-map ts state) in
-      rw map-last (Makes-in_last_server change (record w { forest = map state ts }) (state t) (state u) r here state-last made)
+      rw map-last
+      (Makes-in_last_server change (record w { forest = map state ts }) (state t) (state u) r
+      here state-last made)
 
 -- the directory that some names lead to has a number of its server
-pub dir_of-below : (names : List Word) (s : Server) (k : ℕ) → WellFormed s → dir_of names s ≡ Some k → k < s.next
+pub dir_of-below : (names : List Word) (s : Server) (k : ℕ) → WellFormed s → dir_of names s ≡ Some k
+    → k < s.next
 dir_of-below names s k well found = go (number_from 0 names s.nodes) refl
   where
-    node : (j : ℕ) (o : Option Node) → node_at j s.nodes ≡ o → is_dir_at j s.nodes ≡ true → j < s.next
+    node : (j : ℕ) (o : Option Node) → node_at j s.nodes ≡ o → is_dir_at j s.nodes ≡ true
+        → j < s.next
     node j None e dir = absurd (grind (arith))
     node j (Some m) e dir =
-        let below : m.number < s.next = All-node_at (λ m. m.number < s.next) j s.nodes m well.below e in
+        let below : m.number < s.next =
+        All-node_at (λ m. m.number < s.next) j s.nodes m well.below e in
         let same : m.number ≡ j = number-node_at j s.nodes m e in
         omega arith
 
     test : (j : ℕ) (b : Bool) → is_dir_at j s.nodes ≡ b → dir_number s.nodes j ≡ Some k → k < s.next
-    test j true e at = let same : j ≡ k = grind (arith) in subst (λ i. i < s.next) same (node j (node_at j s.nodes) refl e)
+    test j true e at =
+        let same : j ≡ k = grind (arith) in
+        subst (λ i. i < s.next) same (node j (node_at j s.nodes) refl e)
     test j false e at = absurd (grind (arith))
 
     go : (o : Option ℕ) → number_from 0 names s.nodes ≡ o → k < s.next
@@ -141,5 +202,9 @@ dir_of-below names s k well found = go (number_from 0 names s.nodes) refl
     go (Some j) e = test j (is_dir_at j s.nodes) refl (rw e at found)
 
 -- the line of a directory that is found
-pub hide_line-found : (server path : List ℕ) (w : World) (number dir : ℕ) (names : List Word) → server_number server w.servers ≡ Some number → names_of path ≡ Some names → dir_of names (server_at number w.forest) ≡ Some dir → hide_line server path w ≡ with_hidden (record { server = number; number = dir }) w
-hide_line-found server path w number dir names at_server at_path at_dir = rw (at_server, at_path, at_dir) refl
+pub hide_line-found : (server path : List ℕ) (w : World) (number dir : ℕ) (names : List Word)
+    → server_number server w.servers ≡ Some number → names_of path ≡ Some names
+    → dir_of names (server_at number w.forest) ≡ Some dir
+    → hide_line server path w ≡ with_hidden (record { server = number; number = dir }) w
+hide_line-found server path w number dir names at_server at_path at_dir =
+    rw (at_server, at_path, at_dir) refl

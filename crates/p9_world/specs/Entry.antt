@@ -1,5 +1,6 @@
 -- Lines 'dir PATH MODE UID GID' and 'file PATH MODE UID GID HEX', which belong to the last server.
-use Rattle.std.specs.Prelude.{ℕ, ◌+◌, ◌-◌, ◌^◌, ◌&&◌, Bool, not, nat_le, nat_lt, List, [], ◌∷◌, Option, Some, None, Result, Ok, is_some, length, codes, if◌then◌else◌}
+use Rattle.std.specs.Prelude.{ℕ, ◌+◌, ◌-◌, ◌^◌, ◌&&◌, Bool, not, nat_le, nat_lt, List, [], ◌∷◌}
+use Rattle.std.specs.Prelude.{Option, Some, None, Result, Ok, is_some, length, codes, if◌then◌else◌}
 use Rattle.std.specs.Result.{result_ok}
 use Rattle.std.specs.Str.{bytes_eq}
 use Rattle.hex.specs.Hex.{decode_of}
@@ -12,7 +13,9 @@ use Rattle.p9_tree.specs.Node.{Node, with_owner}
 use Rattle.p9_tree.specs.Server.{Server, added, child_of, with_changed}
 use Rattle.p9_tree.specs.Forest.{server_at, tree_changed_at}
 use Rattle.p9_world.specs.declared.error.LineFault.{LineFault}
-use Rattle.p9_world.specs.declared.error.LineFault.TheVariants.{NoServer, BadPath, BadMode, BadUser, BadHex, TooLarge, NoParent, Duplicate, TooMany}
+use Rattle.p9_world.specs.declared.error.LineFault.TheVariants.{NoServer, BadPath, BadMode, BadUser}
+use Rattle.p9_world.specs.declared.error.LineFault.TheVariants.{BadHex, TooLarge, NoParent}
+use Rattle.p9_world.specs.declared.error.LineFault.TheVariants.{Duplicate, TooMany}
 use Rattle.p9_world.specs.Meaning.{given, need}
 use Rattle.p9_world.specs.Mode.{dir_mode, file_mode_in, permissions_in}
 use Rattle.p9_world.specs.Path.{dir_of, last_and_rest, names_of}
@@ -77,11 +80,17 @@ abbrev pub is_owned : List ℕ → List ℕ → Bool
 is_owned uid gid = is_user uid && is_user gid
 
 -- '/' is the root, which is changed; any other path is a new directory's
-abbrev pub with_dir : Option (Word × List Word) → Permissions → List ℕ → List ℕ → Server → Result Server LineFault
+abbrev pub with_dir : Option (Word × List Word) → Permissions → List ℕ → List ℕ → Server
+    → Result Server LineFault
 with_dir None permissions uid gid server =
     Ok (with_changed 0 (with_owner permissions uid gid) server)
 with_dir (Some place) permissions uid gid server =
-    with_entry place.0 place.1 (record { mode = dir_mode permissions; uid = uid; gid = gid; bytes = [] }) server
+    with_entry place.0 place.1 (record {
+      mode = dir_mode permissions;
+      uid = uid;
+      gid = gid;
+      bytes = [];
+    }) server
 
 abbrev pub dir_line : List ℕ → List ℕ → List ℕ → List ℕ → Server → Result Server LineFault
 dir_line path mode uid gid server =
@@ -102,4 +111,5 @@ file_line path mode uid gid hex server =
     need (is_owned uid gid) BadUser (
     given (bytes_in hex) BadHex (λ bytes.
     need (nat_le (length bytes) file_max) TooLarge (
-    with_entry place.0 place.1 (record { mode = mode; uid = uid; gid = gid; bytes = bytes }) server))))))
+    with_entry place.0 place.1 (record { mode = mode; uid = uid; gid = gid; bytes = bytes })
+    server))))))

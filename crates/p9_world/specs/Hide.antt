@@ -4,7 +4,8 @@ use Rattle.std.specs.List.{list_any}
 use Rattle.p9_base.specs.declared.node_ref.NodeRef.{NodeRef}
 use Rattle.p9_tree.specs.Forest.{server_at}
 use Rattle.p9_world.specs.declared.error.LineFault.{LineFault}
-use Rattle.p9_world.specs.declared.error.LineFault.TheVariants.{NoServer, BadPath, NoParent, Duplicate}
+use Rattle.p9_world.specs.declared.error.LineFault.TheVariants.{NoServer, BadPath, NoParent}
+use Rattle.p9_world.specs.declared.error.LineFault.TheVariants.{Duplicate}
 use Rattle.p9_world.specs.Meaning.{given, need}
 use Rattle.p9_world.specs.Path.{dir_of, names_of}
 use Rattle.p9_world.specs.Server.{server_number}

@@ -1,7 +1,11 @@
 -- What a line means: a value, or what is wrong with the line.
-use Rattle.std.specs.Prelude.{◌≡◌, Bool, Option, Some, None, List, Result, Ok, Err, codes, ℕ, if◌then◌else◌}
+use Rattle.std.specs.Prelude.{◌≡◌, Bool, Option, Some, None, List, Result, Ok, Err, codes, ℕ}
+use Rattle.std.specs.Prelude.{if◌then◌else◌}
 use Rattle.p9_world.specs.declared.error.LineFault.{LineFault}
-use Rattle.p9_world.specs.declared.error.LineFault.TheVariants.{UnknownWord, WordCount, NoServer, BadName, BadPath, BadMode, BadUser, BadHex, TooLarge, NoParent, Duplicate, TooMany}
+use Rattle.p9_world.specs.declared.error.LineFault.TheVariants.{UnknownWord, WordCount, NoServer}
+use Rattle.p9_world.specs.declared.error.LineFault.TheVariants.{BadName, BadPath, BadMode, BadUser}
+use Rattle.p9_world.specs.declared.error.LineFault.TheVariants.{BadHex, TooLarge, NoParent}
+use Rattle.p9_world.specs.declared.error.LineFault.TheVariants.{Duplicate, TooMany}
 use Rattle.p9_world.specs.declared.error.LineError.{LineError}
 use Rattle.p9_world.specs.declared.error.LineError.TheVariants.{Bad, NoMemory}
 
@@ -25,7 +29,8 @@ abbrev pub need : {X : Type 0} → Bool → LineFault → Result X LineFault →
 need test fault rest = if test then rest else Err fault
 
 -- goes on with the value, where there is one
-abbrev pub given : {X Y : Type 0} → Option X → LineFault → (X → Result Y LineFault) → Result Y LineFault
+abbrev pub given : {X Y : Type 0} → Option X → LineFault → (X → Result Y LineFault)
+    → Result Y LineFault
 given None fault rest = Err fault
 given (Some x) fault rest = rest x
 

@@ -1,5 +1,6 @@
 -- The world of a text: each line in turn makes its change.
-use Rattle.std.specs.Prelude.{◌≡◌, ℕ, nat_lt, List, [], ◌∷◌, Option, Some, None, Result, Ok, Err, length, codes, if◌then◌else◌}
+use Rattle.std.specs.Prelude.{◌≡◌, ℕ, nat_lt, List, [], ◌∷◌, Option, Some, None, Result, Ok, Err}
+use Rattle.std.specs.Prelude.{length, codes, if◌then◌else◌}
 use Rattle.std.specs.Str.{bytes_eq}
 use Rattle.p9_base.specs.Statement.{statements_of}
 use Rattle.p9_base.specs.TryFold.{and_then, try_fold}
@@ -32,7 +33,8 @@ operation_of word =
 abbrev pub operated : Operation → List (List ℕ) → World → Result World LineFault
 operated Server (name ∷ []) w = server_line name w
 operated Dir (path ∷ mode ∷ uid ∷ gid ∷ []) w = in_last_server (dir_line path mode uid gid) w
-operated File (path ∷ mode ∷ uid ∷ gid ∷ hex ∷ []) w = in_last_server (file_line path mode uid gid hex) w
+operated File (path ∷ mode ∷ uid ∷ gid ∷ hex ∷ []) w =
+    in_last_server (file_line path mode uid gid hex) w
 operated User (name ∷ []) w = user_line name w
 operated Hide (server ∷ path ∷ []) w = hide_line server path w
 operated Set (name ∷ value ∷ []) w = set_line name value w
@@ -40,7 +42,8 @@ operated operation words w = Err WordCount
 
 abbrev pub line_meaning : List (List ℕ) → World → Result World LineFault
 line_meaning [] w = Err UnknownWord
-line_meaning (word ∷ words) w = given (operation_of word) UnknownWord (λ operation. operated operation words w)
+line_meaning (word ∷ words) w =
+    given (operation_of word) UnknownWord (λ operation. operated operation words w)
 
 -- a fault with the number of its line
 abbrev pub at_line : {X : Type 0} → ℕ → Result X LineFault → Result X (ℕ × LineFault)
@@ -65,6 +68,7 @@ Tells (BadWorld line kind) world = world ≡ Err (line, kind)
 Tells NoMemory world = Unit {0}
 
 -- what a reader of one statement does
-abbrev pub Steps : {D : Type 0} → Result World (ℕ × LineFault) → World → Result D WorldError → Type 0
+abbrev pub Steps : {D : Type 0} → Result World (ℕ × LineFault) → World → Result D WorldError
+    → Type 0
 Steps step new (Ok done) = step ≡ Ok new
 Steps step new (Err error) = Tells error step

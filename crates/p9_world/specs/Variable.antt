@@ -1,5 +1,6 @@
 -- A line 'set NAME VALUE'.
-use Rattle.std.specs.Prelude.{ℕ, ◌==◌, ◌&&◌, ◌||◌, Bool, not, nat_le, List, [], ◌∷◌, ◌++◌, Result, Ok, length}
+use Rattle.std.specs.Prelude.{ℕ, ◌==◌, ◌&&◌, ◌||◌, Bool, not, nat_le, List, [], ◌∷◌, ◌++◌, Result}
+use Rattle.std.specs.Prelude.{Ok, length}
 use Rattle.std.specs.List.{list_any}
 use Rattle.std.specs.Str.{bytes_eq}
 use Rattle.p9_world.specs.declared.error.LineFault.{LineFault}

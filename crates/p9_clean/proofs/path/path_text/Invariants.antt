@@ -7,4 +7,5 @@ use Rattle.p9_clean.proofs.path.path_text.Given as goal
 abbrev pub invariant-loop-element : goal.invariant-loop-element
 invariant-loop-element g l =
     string_bytes l.text
-    ≡ (if l.rooted then codes "/" else []) ++ join_with_byte slash (map (λ e. e.now) (take (l.element-index + 1) l.elements))
+    ≡ (if l.rooted then codes "/" else [])
+    ++ join_with_byte slash (map (λ e. e.now) (take (l.element-index + 1) l.elements))

@@ -14,7 +14,9 @@ unwrap-requires g c =
     let new = map g.T.Tree.state c.add.new.self.trees.items in
     let at = beside c.args.target (next_of c.args.target.server old) in
     let n = new_node (next_of c.args.target.server old) c.args.target.number c.args.new.now in
-    let found : node_of at new ≡ Some n = ap (node_of at) c.in_ok-at.ensures.ok ∙ node_of-added c.args.target n old c.well_formed-2.ensures c.requires.into refl in
+    let found : node_of at new ≡ Some n =
+    ap (node_of at) c.in_ok-at.ensures.ok
+    ∙ node_of-added c.args.target n old c.well_formed-2.ensures c.requires.into refl in
     copied-some c.node.result (rw (c.node.ensures, c.in_ok-at.ensures.made, found) refl)
 
 pub returns-clause-qid : goal.returns-clause-qid
@@ -23,7 +25,12 @@ returns-clause-qid g c =
     let new = map g.T.Tree.state c.add.new.self.trees.items in
     let at = beside c.args.target (next_of c.args.target.server old) in
     let n = new_node (next_of c.args.target.server old) c.args.target.number c.args.new.now in
-    let found : node_of at new ≡ Some n = ap (node_of at) c.in_ok-at.ensures.ok ∙ node_of-added c.args.target n old c.well_formed-2.ensures c.requires.into refl in
-    let read : Some c.unwrap.result.now ≡ Some n = sym (ap option_copied c.unwrap.ensures) ∙ c.node.ensures ∙ ap (λ r. node_of r new) c.in_ok-at.ensures.made ∙ found in
+    let found : node_of at new ≡ Some n =
+    ap (node_of at) c.in_ok-at.ensures.ok
+    ∙ node_of-added c.args.target n old c.well_formed-2.ensures c.requires.into refl in
+    let read : Some c.unwrap.result.now ≡ Some n =
+    sym (ap option_copied c.unwrap.ensures) ∙ c.node.ensures
+    ∙ ap (λ r. node_of r new) c.in_ok-at.ensures.made ∙ found in
     let same : c.unwrap.result.now ≡ n = cc in
-    c.qid_of-qid.ensures ∙ ap (λ r. qid_of r c.unwrap.result.now) c.in_ok-at.ensures.made ∙ ap (qid_of at) same
+    c.qid_of-qid.ensures ∙ ap (λ r. qid_of r c.unwrap.result.now) c.in_ok-at.ensures.made
+    ∙ ap (qid_of at) same

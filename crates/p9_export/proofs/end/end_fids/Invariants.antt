@@ -8,7 +8,8 @@ invariant-loop-number g l =
     let here = map g.T.Tree.state l.forest.trees.items in
     let start = map g.T.Tree.state l.fn.forest.trees.items in
     FidsFit l.setting.table here l.fids
-    × (all_applied (on_ends l.setting.table l.now here l.fids) here ≡ all_applied (on_ends l.fn.setting.table l.fn.now start l.fn.fids) start)
+    × (all_applied (on_ends l.setting.table l.now here l.fids) here
+    ≡ all_applied (on_ends l.fn.setting.table l.fn.now start l.fn.fids) start)
 
 abbrev pub decreases-loop-number : goal.decreases-loop-number
 decreases-loop-number g l = length l.fids

@@ -6,7 +6,8 @@ use Rattle.p9_export.proofs.listing.fill.Given as goal
 abbrev pub invariant-loop-last : goal.invariant-loop-last
 invariant-loop-last g l =
     let left = left_of (map g.T.Tree.state l.forest.trees.items) l.user in
-    Filling (length l.fn.buffer) (left l.fn.cursor l.members) l.fn.cursor l.buffer l.given.size l.given.cursor (left l.given.cursor l.members)
+    Filling (length l.fn.buffer) (left l.fn.cursor l.members) l.fn.cursor l.buffer l.given.size
+    l.given.cursor (left l.given.cursor l.members)
 
 abbrev pub decreases-loop-last : goal.decreases-loop-last
 decreases-loop-last g l = length l.fn.buffer - l.given.size

@@ -4,4 +4,7 @@ use Rattle.p9_export.proofs.listing.first_left.Given as goal
 
 abbrev pub invariant-loop-position : goal.invariant-loop-position
 invariant-loop-position g l =
-    left_of (map g.T.Tree.state l.forest.trees.items) l.user l.cursor l.members ≡ filter (is_behind l.cursor) (entries_from (map g.T.Tree.state l.forest.trees.items) l.user l.position (drop l.position l.members))
+    left_of (map g.T.Tree.state l.forest.trees.items) l.user l.cursor l.members
+    ≡ filter (is_behind l.cursor)
+    (entries_from (map g.T.Tree.state l.forest.trees.items) l.user l.position
+    (drop l.position l.members))

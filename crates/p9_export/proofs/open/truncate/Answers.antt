@@ -12,6 +12,12 @@ pub returns-then-is_cut : goal.returns-then-is_cut
 returns-then-is_cut g c =
     let forest = map g.T.Tree.state c.args.forest.now.trees.items in
     let n = c.unwrap.result.now in
-    let found : node_of c.args.at forest ≡ Some n = sym c.node.ensures ∙ ap option_copied c.unwrap.ensures in
-    let changed = c.bump.ensures ∙ ap (forest_changed_at c.args.at (marked c.args.user c.args.now)) c.cut.ensures in
-    rw found (changed ∙ truncation-cut c.args.user c.args.now c.args.at forest n c.args.opening (sym c.is_cut.ensures ∙ c.if-is_cut.true))
+    let found : node_of c.args.at forest ≡ Some n =
+    sym c.node.ensures ∙ ap option_copied c.unwrap.ensures in
+    let changed =
+    c.bump.ensures
+    ∙ ap (forest_changed_at c.args.at (marked c.args.user c.args.now)) c.cut.ensures in
+    rw found
+    (changed
+    ∙ truncation-cut c.args.user c.args.now c.args.at forest n c.args.opening
+    (sym c.is_cut.ensures ∙ c.if-is_cut.true))

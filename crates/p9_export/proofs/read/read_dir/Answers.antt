@@ -7,10 +7,32 @@ use Rattle.p9_export.proofs.read.read_dir.Goals as goal
 
 pub returns-clause-answer : goal.returns-clause-answer
 returns-clause-answer g c =
-    let v : Fid = record { user = c.value.inside.user; trail = c.value.inside.trail; opened = c.value.inside.opened } in
-    let there : fid_at c.args.fid c.session.inside.fids ≡ Some v = sym c.get.ensures ∙ ap option_copied c.unwrap-value.ensures ∙ ap Some (sym c.value.view_is) in
+    let v : Fid = record {
+      user = c.value.inside.user;
+      trail = c.value.inside.trail;
+      opened = c.value.inside.opened;
+    } in
+    let there : fid_at c.args.fid c.session.inside.fids ≡ Some v =
+    sym c.get.ensures ∙ ap option_copied c.unwrap-value.ensures
+    ∙ ap Some (sym c.value.view_is) in
     let within = c.in_ok-given.ensures.size in
     let long = c.list.auto.buffer in
     let members_are = c.as_slice.ensures ∙ c.members-members.ensures.members in
-    rw (← c.session.view_is, ← c.setting.view_is) (dir_listed (record { users = c.setting.inside.users.items; table = c.setting.inside.table }) (map g.T.Tree.state c.args.forest.now.trees.items) (record { msize = c.session.inside.msize; fids = c.session.inside.fids }) c.args.fid v c.args.opened c.args.offset (length c.args.buffer.now) c.as_slice.result.now c.cursor_at-cursor.result c.in_ok-given.given.size c.in_ok-given.given.cursor c.list.new.buffer c.set_opened.new.self
-    there (sym c.may_begin.ensures ∙ c.if-not-may_begin.false) (members_are ∙ ap (λ place. members_of place c.setting.inside.table) c.here.ensures.last) c.cursor_at-cursor.ensures c.in_ok-given.ensures.ok c.in_ok-given.ensures.bytes c.in_ok-given.ensures.cursor (omega (arith, within, long)) (c.set_opened.ensures ∙ ap (λ k. changed_fid c.args.fid (opened_as (record c.args.opened { next_offset = k + c.in_ok-given.given.size; cursor = c.in_ok-given.given.cursor })) c.session.inside.fids) c.from.ensures))
+    rw (← c.session.view_is, ← c.setting.view_is) (dir_listed (record {
+      users = c.setting.inside.users.items;
+      table = c.setting.inside.table;
+    }) (map g.T.Tree.state c.args.forest.now.trees.items) (record {
+      msize =
+          c.session.inside.msize;
+      fids = c.session.inside.fids;
+    }) c.args.fid v c.args.opened
+    c.args.offset (length c.args.buffer.now) c.as_slice.result.now c.cursor_at-cursor.result
+    c.in_ok-given.given.size c.in_ok-given.given.cursor c.list.new.buffer c.set_opened.new.self
+    there (sym c.may_begin.ensures ∙ c.if-not-may_begin.false)
+    (members_are ∙ ap (λ place. members_of place c.setting.inside.table) c.here.ensures.last)
+    c.cursor_at-cursor.ensures c.in_ok-given.ensures.ok c.in_ok-given.ensures.bytes
+    c.in_ok-given.ensures.cursor (omega (arith, within, long))
+    (c.set_opened.ensures ∙ ap (λ k. changed_fid c.args.fid (opened_as (record c.args.opened {
+      next_offset = k + c.in_ok-given.given.size;
+      cursor = c.in_ok-given.given.cursor;
+    })) c.session.inside.fids) c.from.ensures))

@@ -7,6 +7,7 @@ use Rattle.p9_export.proofs.remove.remove.Goals as goal
 pub returns-in_default-clause-answer : goal.returns-in_default-clause-answer
 unfolding given
 returns-in_default-clause-answer g c =
-    let none : fid_at c.args.fid c.session.inside.fids ≡ None = sym c.take.ensures.value ∙ c.in_default.is in
+    let none : fid_at c.args.fid c.session.inside.fids ≡ None =
+    sym c.take.ensures.value ∙ c.in_default.is in
     let same = c.take.ensures.after ∙ without_fid-none c.args.fid c.session.inside.fids none in
     rw (← c.session.view_is) (inl (rw none), refl, rw same)

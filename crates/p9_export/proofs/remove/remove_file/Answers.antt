@@ -8,18 +8,27 @@ use Rattle.p9_export.proofs.remove.remove_file.Goals as goal
 pub drop_leaf-requires-clause-not_root : goal.drop_leaf-requires-clause-not_root
 drop_leaf-requires-clause-not_root g c =
     let forest = map g.T.Tree.state c.args.forest.now.trees.items in
-    let found : node_of c.file-at.result forest ≡ Some c.in-Some.file.now = sym c.node.ensures ∙ ap option_copied c.in-Some.is in
-    let inner : is_some c.parent-parent.result ≡ true = c.is_none.ensures ∙ ap not c.if-is_none.false in
-    node_of-inner forest c.file-at.result c.in-Some.file.now c.well_formed-2.ensures found (rw (← c.parent-parent.ensures) inner)
+    let found : node_of c.file-at.result forest ≡ Some c.in-Some.file.now =
+    sym c.node.ensures ∙ ap option_copied c.in-Some.is in
+    let inner : is_some c.parent-parent.result ≡ true =
+    c.is_none.ensures ∙ ap not c.if-is_none.false in
+    node_of-inner forest c.file-at.result c.in-Some.file.now c.well_formed-2.ensures found
+    (rw (← c.parent-parent.ensures) inner)
 
 pub returns : goal.returns
 returns g c = λ left.
     let forest = map g.T.Tree.state c.args.forest.now.trees.items in
-    let found : node_of c.file-at.result forest ≡ Some c.in-Some.file.now = sym c.node.ensures ∙ ap option_copied c.in-Some.is in
-    let inner : is_some c.parent-parent.result ≡ true = c.is_none.ensures ∙ ap not c.if-is_none.false in
-    let permitted : may_write_parent c.args.fid.now.user forest c.file-at.result c.in-Some.file.now ≡ true = rw (← c.fid.view_is) (sym c.may_write_parent.ensures ∙ c.if-not-may_write_parent.false) in
+    let found : node_of c.file-at.result forest ≡ Some c.in-Some.file.now =
+    sym c.node.ensures ∙ ap option_copied c.in-Some.is in
+    let inner : is_some c.parent-parent.result ≡ true =
+    c.is_none.ensures ∙ ap not c.if-is_none.false in
+    let permitted : may_write_parent c.args.fid.now.user forest c.file-at.result c.in-Some.file.now
+    ≡ true = rw (← c.fid.view_is)
+    (sym c.may_write_parent.ensures ∙ c.if-not-may_write_parent.false) in
     let gone : c.after.result ≡ None = absent _ (sym c.is_some.ensures ∙ c.if-is_some.false) in
     let none = rw gone at c.after.ensures in
     let empty : has_children_of c.file-at.result forest ≡ false = rw (← none) refl in
-    removal-made c.args.setting.now forest _ _ left c.args.now c.args.fid.now c.file-at.result c.in-Some.file.now c.file-at.ensures found (rw (← c.parent-parent.ensures) inner) permitted empty c.drop_leaf.ensures
+    removal-made c.args.setting.now forest _ _ left c.args.now c.args.fid.now c.file-at.result
+    c.in-Some.file.now c.file-at.ensures found (rw (← c.parent-parent.ensures) inner) permitted
+    empty c.drop_leaf.ensures
     (rw (← c.parent-parent.ensures, ← c.fid.view_is) c.mark_parent.ensures)

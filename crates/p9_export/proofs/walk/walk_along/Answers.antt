@@ -1,4 +1,5 @@
-use Rattle.std.proofs.Common.{ℕ, ◌∙◌, List, [], Some, Bor, map, get_or, refl, sym, arith, length-append}
+use Rattle.std.proofs.Common.{ℕ, ◌∙◌, List, [], Some, Bor, map, get_or, refl, sym, arith}
+use Rattle.std.proofs.Common.{length-append}
 use Rattle.p9_export.proofs.Walks.{file-step_of, walked-all, walked-end, walked-turn}
 use Rattle.p9_export.specs.State.{Setting}
 use Rattle.p9_export.proofs.walk.walk_along.Goals as goal
@@ -17,7 +18,11 @@ pub arrive-requires : goal.arrive-requires
 unfolding nameless
 arrive-requires g c = record {
   room = c.in-Ok.ensures.room;
-  file = rw (← c.setting.view_is) (file-step_of _ c.setting.inside.table (Some c.args.user.now) c.loop-name.trail (get_or c.as_slice-name-items.result.now c.loop-name.name-index nameless).now c.in-Ok.step (sym c.in-Ok.ensures.step));
+  file =
+      rw (← c.setting.view_is)
+      (file-step_of _ c.setting.inside.table (Some c.args.user.now) c.loop-name.trail
+      (get_or c.as_slice-name-items.result.now c.loop-name.name-index nameless).now c.in-Ok.step
+      (sym c.in-Ok.ensures.step));
 }
 
 pub push-requires : goal.push-requires
@@ -29,9 +34,17 @@ push-requires g c =
 pub loop-name-preserved : goal.loop-name-preserved
 unfolding nameless
 loop-name-preserved g c =
-    let setting : Setting = record { users = c.setting.inside.users.items; table = c.setting.inside.table } in
+    let setting : Setting = record {
+      users = c.setting.inside.users.items;
+      table = c.setting.inside.table;
+    } in
     let there = rw (← c.setting.view_is) at c.in_ok-arrive-in-Ok.ensures.qid in
-    let turn = walked-turn setting (map g.T.Tree.state c.args.forest.now.trees.items) c.args.user.now c.loop-name.qids c.push.new.self c.loop-name.trail c.arrive.new.trail c.as_slice-name-items.result.now c.loop-name.name-index nameless c.in-Ok.step c.in_ok-arrive-in-Ok.field-0 c.loop-name-test.true (sym c.in-Ok.ensures.step) there c.push.ensures c.in_ok-arrive-in-Ok.ensures.ok in
+    let turn =
+    walked-turn setting (map g.T.Tree.state c.args.forest.now.trees.items) c.args.user.now
+    c.loop-name.qids c.push.new.self c.loop-name.trail c.arrive.new.trail
+    c.as_slice-name-items.result.now c.loop-name.name-index nameless c.in-Ok.step
+    c.in_ok-arrive-in-Ok.field-0 c.loop-name-test.true (sym c.in-Ok.ensures.step) there
+    c.push.ensures c.in_ok-arrive-in-Ok.ensures.ok in
     record {
       count = rw c.push.ensures (omega (arith, length-append c.loop-name.qids));
       walk = c.loop-name.invariant.walk ∙ rw (← c.setting.view_is) turn;
@@ -40,9 +53,19 @@ loop-name-preserved g c =
 pub returns-in-Err : goal.returns-in-Err
 unfolding nameless
 returns-in-Err g c =
-    let setting : Setting = record { users = c.setting.inside.users.items; table = c.setting.inside.table } in
-    let end = walked-end setting (map g.T.Tree.state c.args.forest.now.trees.items) c.args.user.now c.loop-name.qids c.loop-name.trail c.as_slice-name-items.result.now c.loop-name.name-index nameless c.in-Err.fault c.loop-name-test.true (sym c.in-Err.ensures.step) in
+    let setting : Setting = record {
+      users = c.setting.inside.users.items;
+      table = c.setting.inside.table;
+    } in
+    let end =
+    walked-end setting (map g.T.Tree.state c.args.forest.now.trees.items) c.args.user.now
+    c.loop-name.qids c.loop-name.trail c.as_slice-name-items.result.now c.loop-name.name-index
+    nameless c.in-Err.fault c.loop-name-test.true (sym c.in-Err.ensures.step) in
     sym (c.loop-name.invariant.walk ∙ rw (← c.setting.view_is) end)
 
 pub returns : goal.returns
-returns g c = sym (c.loop-name.invariant.walk ∙ walked-all c.args.setting.now (map g.T.Tree.state c.args.forest.now.trees.items) c.args.user.now _ _ c.as_slice-name-items.result.now c.loop-name.name-index c.loop-name-test.false)
+returns g c =
+    sym (c.loop-name.invariant.walk
+    ∙ walked-all c.args.setting.now (map g.T.Tree.state c.args.forest.now.trees.items)
+    c.args.user.now _ _ c.as_slice-name-items.result.now c.loop-name.name-index
+    c.loop-name-test.false)

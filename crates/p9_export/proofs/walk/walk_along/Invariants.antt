@@ -10,5 +10,6 @@ invariant-loop-name g l =
     let walk = walked l.setting forest l.user in
     record {
       count : length l.qids ≡ l.name-index;
-      walk : walk l.start l.names ≡ so_far l.qids (walk l.trail (map (λ n. n.now) (drop l.name-index l.name-items)));
+      walk : walk l.start l.names
+          ≡ so_far l.qids (walk l.trail (map (λ n. n.now) (drop l.name-index l.name-items)));
     }

@@ -8,14 +8,18 @@ use Rattle.p9_fids.specs.Fid.{fid_at}
 use Rattle.p9_export.specs.Change.{all_applied}
 use Rattle.p9_export.specs.End.{parent_marked}
 use Rattle.p9_export.specs.Qid.{stat_of}
-use Rattle.p9_export.specs.Wstat.{Touched, is_any, node_change, touched_of, touched_view, touches_fixed, wstat_fault}
+use Rattle.p9_export.specs.Wstat.{Touched, is_any, node_change, touched_of, touched_view}
+use Rattle.p9_export.specs.Wstat.{touches_fixed, wstat_fault}
 use Rattle.p9_export.proofs.Places.{node_of-below}
 use Rattle.p9_export.proofs.Writes.{memory_refused}
-use Rattle.p9_export.proofs.Wstats.{can_change, nothing_refuses, own_group, valid_name, wstat-did, wstat_answer-done}
+use Rattle.p9_export.proofs.Wstats.{can_change, nothing_refuses, own_group, valid_name, wstat-did}
+use Rattle.p9_export.proofs.Wstats.{wstat_answer-done}
 use Rattle.p9_export.proofs.wstat.wstat.Goals as goal
 
 pub stat_of-there-requires : goal.stat_of-there-requires
-stat_of-there-requires g c = node_of-below _ c.file-at.result c.in-Some-node.file.now c.well_formed-2.ensures (sym c.in-Some-node.ensures)
+stat_of-there-requires g c =
+    node_of-below _ c.file-at.result c.in-Some-node.file.now c.well_formed-2.ensures
+    (sym c.in-Some-node.ensures)
 
 pub node_change-change-requires-clause-name : goal.node_change-change-requires-clause-name
 node_change-change-requires-clause-name g c =
@@ -23,7 +27,8 @@ node_change-change-requires-clause-name g c =
     let n = c.in-Some-node.file.now in
     let at = c.file-at.result in
     let t : Touched = touched_view c.touched_of-touched.result in
-    let none : wstat_fault c.holder.inside.user forest at n t ≡ None = sym c.wstat_fault.ensures ∙ c.in_default-wstat_fault.is in
+    let none : wstat_fault c.holder.inside.user forest at n t ≡ None =
+    sym c.wstat_fault.ensures ∙ c.in_default-wstat_fault.is in
     let permits = nothing_refuses c.holder.inside.user forest at n t none in
     valid_name c.holder.inside.user forest at n t permits
 
@@ -33,7 +38,8 @@ node_change-change-requires-clause-gid g c =
     let n = c.in-Some-node.file.now in
     let at = c.file-at.result in
     let t : Touched = touched_view c.touched_of-touched.result in
-    let none : wstat_fault c.holder.inside.user forest at n t ≡ None = sym c.wstat_fault.ensures ∙ c.in_default-wstat_fault.is in
+    let none : wstat_fault c.holder.inside.user forest at n t ≡ None =
+    sym c.wstat_fault.ensures ∙ c.in_default-wstat_fault.is in
     let permits = nothing_refuses c.holder.inside.user forest at n t none in
     own_group c.holder.inside.user forest at n t permits
 
@@ -43,9 +49,12 @@ change-requires g c =
     let n = c.in-Some-node.file.now in
     let at = c.file-at.result in
     let t : Touched = touched_view c.touched_of-touched.result in
-    let none : wstat_fault c.holder.inside.user forest at n t ≡ None = sym c.wstat_fault.ensures ∙ c.in_default-wstat_fault.is in
+    let none : wstat_fault c.holder.inside.user forest at n t ≡ None =
+    sym c.wstat_fault.ensures ∙ c.in_default-wstat_fault.is in
     let permits = nothing_refuses c.holder.inside.user forest at n t none in
-    rw c.node_change-change.ensures (can_change c.holder.inside.user forest at n t permits c.args.now c.well_formed-2.ensures (sym c.in-Some-node.ensures))
+    rw c.node_change-change.ensures
+    (can_change c.holder.inside.user forest at n t permits c.args.now c.well_formed-2.ensures
+    (sym c.in-Some-node.ensures))
 
 pub returns-in_err-change : goal.returns-in_err-change
 returns-in_err-change g c =
@@ -53,16 +62,26 @@ returns-in_err-change g c =
     let n = c.in-Some-node.file.now in
     let at = c.file-at.result in
     let t : Touched = touched_view c.touched_of-touched.result in
-    let none : wstat_fault c.holder.inside.user forest at n t ≡ None = sym c.wstat_fault.ensures ∙ c.in_default-wstat_fault.is in
+    let none : wstat_fault c.holder.inside.user forest at n t ≡ None =
+    sym c.wstat_fault.ensures ∙ c.in_default-wstat_fault.is in
     let v = c.in-Some.holder.now in
     let wanted : StatFields = stat_view c.args.wanted.now in
-    let held : fid_at c.args.fid c.args.session.now.fids ≡ Some v = rw (← c.session.view_is) (sym c.in-Some.ensures) in
-    let fixed : touches_fixed (stat_of at n) wanted ≡ false = ap (λ (s : StatFields). touches_fixed s wanted) (sym c.stat_of-there.ensures.value) ∙ (sym c.touches_fixed.ensures ∙ c.if-touches_fixed.false) in
-    let t_is : t ≡ touched_of (stat_of at n) wanted = c.touched_of-touched.ensures ∙ ap (λ (s : StatFields). touched_of s wanted) c.stat_of-there.ensures.value in
+    let held : fid_at c.args.fid c.args.session.now.fids ≡ Some v =
+    rw (← c.session.view_is) (sym c.in-Some.ensures) in
+    let fixed : touches_fixed (stat_of at n) wanted ≡ false =
+    ap (λ (s : StatFields). touches_fixed s wanted) (sym c.stat_of-there.ensures.value)
+    ∙ (sym c.touches_fixed.ensures ∙ c.if-touches_fixed.false) in
+    let t_is : t ≡ touched_of (stat_of at n) wanted =
+    c.touched_of-touched.ensures
+    ∙ ap (λ (s : StatFields). touched_of s wanted) c.stat_of-there.ensures.value in
     let free : wstat_fault v.user forest at n t ≡ None = rw (← c.holder.view_is) none in
-    let done = wstat_answer-done c.args.setting.now forest c.args.session.now c.args.now c.args.fid wanted v n at t c.file-at.ensures held (sym c.in-Some-node.ensures) fixed t_is free in
+    let done =
+    wstat_answer-done c.args.setting.now forest c.args.session.now c.args.now c.args.fid wanted
+    v n at t c.file-at.ensures held (sym c.in-Some-node.ensures) fixed t_is free in
     let refused = err_from_is_err_and c.from_residual.result c.from_residual.ensures.1 in
-    memory_refused (λ _. Rwstat) _ _ forest (map g.T.Tree.state c.change.new.self.trees.items) c.args.session.now c.args.session.now c.from_residual.result refused.0 done refused.1 refused.2 c.in_err-change.ensures.err refl
+    memory_refused (λ _. Rwstat) _ _ forest (map g.T.Tree.state c.change.new.self.trees.items)
+    c.args.session.now c.args.session.now c.from_residual.result refused.0 done refused.1
+    refused.2 c.in_err-change.ensures.err refl
 
 pub returns : goal.returns
 returns g c =
@@ -70,19 +89,35 @@ returns g c =
     let n = c.in-Some-node.file.now in
     let at = c.file-at.result in
     let t : Touched = touched_view c.touched_of-touched.result in
-    let none : wstat_fault c.holder.inside.user forest at n t ≡ None = sym c.wstat_fault.ensures ∙ c.in_default-wstat_fault.is in
+    let none : wstat_fault c.holder.inside.user forest at n t ≡ None =
+    sym c.wstat_fault.ensures ∙ c.in_default-wstat_fault.is in
     let v = c.in-Some.holder.now in
     let wanted : StatFields = stat_view c.args.wanted.now in
-    let held : fid_at c.args.fid c.args.session.now.fids ≡ Some v = rw (← c.session.view_is) (sym c.in-Some.ensures) in
-    let fixed : touches_fixed (stat_of at n) wanted ≡ false = ap (λ (s : StatFields). touches_fixed s wanted) (sym c.stat_of-there.ensures.value) ∙ (sym c.touches_fixed.ensures ∙ c.if-touches_fixed.false) in
-    let t_is : t ≡ touched_of (stat_of at n) wanted = c.touched_of-touched.ensures ∙ ap (λ (s : StatFields). touched_of s wanted) c.stat_of-there.ensures.value in
+    let held : fid_at c.args.fid c.args.session.now.fids ≡ Some v =
+    rw (← c.session.view_is) (sym c.in-Some.ensures) in
+    let fixed : touches_fixed (stat_of at n) wanted ≡ false =
+    ap (λ (s : StatFields). touches_fixed s wanted) (sym c.stat_of-there.ensures.value)
+    ∙ (sym c.touches_fixed.ensures ∙ c.if-touches_fixed.false) in
+    let t_is : t ≡ touched_of (stat_of at n) wanted =
+    c.touched_of-touched.ensures
+    ∙ ap (λ (s : StatFields). touched_of s wanted) c.stat_of-there.ensures.value in
     let free : wstat_fault v.user forest at n t ≡ None = rw (← c.holder.view_is) none in
-    let done = wstat_answer-done c.args.setting.now forest c.args.session.now c.args.now c.args.fid wanted v n at t c.file-at.ensures held (sym c.in-Some-node.ensures) fixed t_is free in
+    let done =
+    wstat_answer-done c.args.setting.now forest c.args.session.now c.args.now c.args.fid wanted
+    v n at t c.file-at.ensures held (sym c.in-Some-node.ensures) fixed t_is free in
     let some : is_any t ≡ true = sym c.is_any.ensures ∙ c.if-not-is_any.false in
     let middle = map g.T.Tree.state c.change.new.self.trees.items in
     let new = map g.T.Tree.state c.mark_parent.new.forest.trees.items in
-    let made : middle ≡ forest_changed_at at (changed (node_change c.holder.inside.user c.args.now t)) forest = c.in_ok-change.ensures.ok ∙ ap (λ (d : NodeChange). forest_changed_at at (changed d) forest) c.node_change-change.ensures in
-    let change : middle ≡ forest_changed_at at (changed (node_change v.user c.args.now t)) forest = rw (← c.holder.view_is) made in
-    let marked : new ≡ all_applied (parent_marked c.holder.inside.user c.args.now at n.parent) middle = c.mark_parent.ensures ∙ ap (λ p. all_applied (parent_marked c.holder.inside.user c.args.now at p) middle) c.parent-parent.ensures in
-    let mark : new ≡ all_applied (parent_marked v.user c.args.now at n.parent) middle = rw (← c.holder.view_is) marked in
+    let made : middle ≡ forest_changed_at at
+    (changed (node_change c.holder.inside.user c.args.now t)) forest = c.in_ok-change.ensures.ok
+    ∙ ap (λ (d : NodeChange). forest_changed_at at (changed d) forest)
+    c.node_change-change.ensures in
+    let change : middle ≡ forest_changed_at at (changed (node_change v.user c.args.now t)) forest =
+    rw (← c.holder.view_is) made in
+    let marked : new ≡ all_applied (parent_marked c.holder.inside.user c.args.now at n.parent)
+    middle = c.mark_parent.ensures
+    ∙ ap (λ p. all_applied (parent_marked c.holder.inside.user c.args.now at p) middle)
+    c.parent-parent.ensures in
+    let mark : new ≡ all_applied (parent_marked v.user c.args.now at n.parent) middle =
+    rw (← c.holder.view_is) marked in
     wstat-did _ forest middle new c.args.session.now v.user c.args.now at n t done some change mark

@@ -1,4 +1,5 @@
-use Rattle.p9_inside.proofs.SparedForests.{mark_spares, touch_spares, owner_spares, write_spares, cut_spares, wstat_spares}
+use Rattle.p9_inside.proofs.SparedForests.{mark_spares, touch_spares, owner_spares, write_spares}
+use Rattle.p9_inside.proofs.SparedForests.{cut_spares, wstat_spares}
 use Rattle.p9_inside.proofs.changes.named_changes_spare_insides.Goals as goal
 
 pub returns-clause-mark : goal.returns-clause-mark

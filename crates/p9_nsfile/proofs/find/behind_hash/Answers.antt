@@ -4,4 +4,7 @@ use Rattle.p9_nsfile.proofs.Finding.{behind_hash-is}
 use Rattle.p9_nsfile.proofs.find.behind_hash.Goals as goal
 
 pub returns : goal.returns
-returns c = behind_hash-is c.args.path.now c.strip_prefix.result (strip_prefix_char 35 c.args.path.now c.strip_prefix.result c.strip_prefix.ensures.cases (lit< tt))
+returns c =
+    behind_hash-is c.args.path.now c.strip_prefix.result
+    (strip_prefix_char 35 c.args.path.now c.strip_prefix.result c.strip_prefix.ensures.cases
+    (lit< tt))

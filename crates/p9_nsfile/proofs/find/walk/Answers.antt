@@ -13,7 +13,9 @@ returns g c =
     let forest = c.args.setting.now.forest in
     let start = c.args.start.now in
     let path = c.args.path.now in
-    subst (λ table. Gives (path_fault (walk forest table None start (cleaned_elements path))) c.walk.result) c.table.ensures
+    subst (λ table. Gives (path_fault (walk forest table None start (cleaned_elements path)))
+    c.walk.result) c.table.ensures
     (subst (λ answer. Gives answer c.walk.result)
-    (walk-cleaned forest c.table.result.now start path c.as_str.result.now (map (λ n. n.now) c.deref.result.now) names text)
+    (walk-cleaned forest c.table.result.now start path c.as_str.result.now
+    (map (λ n. n.now) c.deref.result.now) names text)
     c.walk.ensures)

@@ -6,5 +6,8 @@ use Rattle.p9_nsfile.proofs.find.walk_rooted.Goals as goal
 
 pub returns : goal.returns
 returns g c =
-    subst (λ start. Gives (walked c.args.setting.now c.args.space.now start (slash ∷ c.args.rest.now)) c.walk.result) c.in_ok-root.ensures
-    (subst (λ path. Gives (walked c.args.setting.now c.args.space.now c.in_ok-root.root path) c.walk.result) (c.as_str.ensures.value ∙ c.in_ok-path.ensures) c.walk.ensures)
+    subst
+    (λ start. Gives (walked c.args.setting.now c.args.space.now start (slash ∷ c.args.rest.now))
+    c.walk.result) c.in_ok-root.ensures
+    (subst (λ path. Gives (walked c.args.setting.now c.args.space.now c.in_ok-root.root path)
+    c.walk.result) (c.as_str.ensures.value ∙ c.in_ok-path.ensures) c.walk.ensures)

@@ -8,5 +8,6 @@ use Rattle.p9_nsfile.proofs.flags.are_good.Goals as goal
 pub returns : goal.returns
 returns c =
     let flags = c.args.flags.now in
-    all_from_yields_List (λ w. is_good w.now) _ _ _ c.all.ensures.ran (YieldsList-from_slice flags (cc)) (λ x b q k. search (rules, tests))
+    all_from_yields_List (λ w. is_good w.now) _ _ _ c.all.ensures.ran
+    (YieldsList-from_slice flags (cc)) (λ x b q k. search (rules, tests))
     ∙ sym (list_all-map is_good (λ w. w.now) flags)

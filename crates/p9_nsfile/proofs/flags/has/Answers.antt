@@ -8,5 +8,6 @@ use Rattle.p9_nsfile.proofs.flags.has.Goals as goal
 pub returns : goal.returns
 returns c =
     let flags = c.args.flags.now in
-    any_from_yields_List (λ w. contains c.args.letter w.now) _ _ _ c.any.ensures.ran (YieldsList-from_slice flags (cc)) (λ x b q k. search (rules, tests))
+    any_from_yields_List (λ w. contains c.args.letter w.now) _ _ _ c.any.ensures.ran
+    (YieldsList-from_slice flags (cc)) (λ x b q k. search (rules, tests))
     ∙ list_any-map (λ w. w.now) (contains c.args.letter) flags

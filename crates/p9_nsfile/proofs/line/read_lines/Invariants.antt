@@ -7,4 +7,5 @@ use Rattle.p9_nsfile.proofs.line.read_lines.Given as goal
 -- the lines so far, and what the statements that are left add
 abbrev pub invariant-loop-statement : goal.invariant-loop-statement
 invariant-loop-statement g l =
-    try_fold with_line (map line_value l.lines.items) (drop l.statement-index (statements_of l.text)) ≡ lines_in l.text
+    try_fold with_line (map line_value l.lines.items)
+    (drop l.statement-index (statements_of l.text)) ≡ lines_in l.text

@@ -6,6 +6,12 @@ use Rattle.p9_nsfile.proofs.run.run_file.Goals as goal
 
 pub returns-clause-given : goal.returns-clause-given
 returns-clause-given g c =
-    let setting : Setting = record { forest = map g.T.Tree.state c.args.forest.now.trees.items; vars = variables_of c.args.vars.now; servers = names_of c.args.servers.now } in
-    KeepsGiven-lines setting c.new-setting.result (map line_value c.deref.result.now) c.args.table.now c.into_parts-made.result.0 c.in_ok-space.space c.run_lines.new.space
-    c.well_formed-2.ensures c.new-setting.ensures c.in_ok-space.ensures c.in_ok-run_lines.ensures c.into_parts-made.ensures.table
+    let setting : Setting = record {
+      forest = map g.T.Tree.state c.args.forest.now.trees.items;
+      vars = variables_of c.args.vars.now;
+      servers = names_of c.args.servers.now;
+    } in
+    KeepsGiven-lines setting c.new-setting.result (map line_value c.deref.result.now)
+    c.args.table.now c.into_parts-made.result.0 c.in_ok-space.space c.run_lines.new.space
+    c.well_formed-2.ensures c.new-setting.ensures c.in_ok-space.ensures c.in_ok-run_lines.ensures
+    c.into_parts-made.ensures.table

@@ -7,4 +7,5 @@ use Rattle.p9_nsfile.proofs.variable.expand.Given as goal
 -- what is written so far, and what the pieces that are left add
 abbrev pub invariant-loop-piece : goal.invariant-loop-piece
 invariant-loop-piece g l =
-    string_bytes l.text ++ flat_map (with_value (variables_of l.vars)) (map (λ p. p.now) (drop l.piece-index l.others)) ≡ expanded (variables_of l.vars) l.word
+    string_bytes l.text ++ flat_map (with_value (variables_of l.vars))
+    (map (λ p. p.now) (drop l.piece-index l.others)) ≡ expanded (variables_of l.vars) l.word

@@ -7,4 +7,5 @@ use Rattle.p9_nsfile.proofs.variable.pieces.Goals as goal
 pub returns : goal.returns
 returns g c =
     map_from_collect {E = Unit {0}} (Ok c.in_ok-found.found) c.in_ok-found.ensures.ran
-    (YieldsList-from_str_split dollar c.args.word.now (lit< tt) c.split.ensures.text c.split.ensures.has_more c.split.ensures.pattern)
+    (YieldsList-from_str_split dollar c.args.word.now (lit< tt) c.split.ensures.text
+    c.split.ensures.has_more c.split.ensures.pattern)

@@ -9,4 +9,5 @@ use Rattle.p9_serve.proofs.bundle.split_bundle.Given as goal
 abbrev pub invariant-loop-i : goal.invariant-loop-i
 invariant-loop-i g l =
     let numbered = enumerate_from 1 (lines_of l.fn.text) in
-    try_fold with_numbered_line (reader_value l.reader) (drop l.i numbered) ≡ try_fold with_numbered_line unread numbered
+    try_fold with_numbered_line (reader_value l.reader) (drop l.i numbered)
+    ≡ try_fold with_numbered_line unread numbered

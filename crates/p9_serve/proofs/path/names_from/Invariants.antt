@@ -8,4 +8,5 @@ abbrev pub invariant-loop : goal.invariant-loop
 invariant-loop g l =
     let nodes = (server_at l.fn.at.server (map g.T.Tree.state l.fn.forest.trees.items)).nodes in
     (l.here.server ≡ l.fn.at.server)
-    × (names_below (l.fn.at.number - l.counter) l.here.number nodes ++ reverse (map (λ n. n.now) l.names.items) ≡ names_to l.fn.at.number nodes)
+    × (names_below (l.fn.at.number - l.counter) l.here.number nodes
+    ++ reverse (map (λ n. n.now) l.names.items) ≡ names_to l.fn.at.number nodes)

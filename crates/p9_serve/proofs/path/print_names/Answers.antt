@@ -11,5 +11,6 @@ returns g c =
     let test : ◌≡◌ {A = Bool} c.is_empty.result false = c.if-is_empty.false in
     let is = c.is_empty.ensures in
     let some : 0 < length c.args.names.now = grind (arith, nat_tests) in
-    printed-all (λ n. codes "/" ++ n.now) c.args.names.now c.args.out.now.items c.loop-name.name-index c.loop-name.out.items (omega arith) c.loop-name.invariant
+    printed-all (λ n. codes "/" ++ n.now) c.args.names.now c.args.out.now.items
+    c.loop-name.name-index c.loop-name.out.items (omega arith) c.loop-name.invariant
     ∙ ap (λ text. c.args.out.now.items ++ text) (sym (rooted_path-names c.args.names.now some))

@@ -5,4 +5,5 @@ use Rattle.p9_serve.proofs.play.play_events.Given as goal
 
 abbrev pub invariant-loop-event : goal.invariant-loop-event
 invariant-loop-event g l =
-    PlaysSoFar (map event_value l.fn.events) l.fn.export l.fn.out.items (drop l.event-index (map event_value l.fn.events)) l.export l.out.items
+    PlaysSoFar (map event_value l.fn.events) l.fn.export l.fn.out.items
+    (drop l.event-index (map event_value l.fn.events)) l.export l.out.items

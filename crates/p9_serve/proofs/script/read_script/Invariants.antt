@@ -7,4 +7,5 @@ use Rattle.p9_serve.proofs.script.read_script.Given as goal
 -- the events so far and those of the statements that are left are those of the text
 abbrev pub invariant-loop-statement : goal.invariant-loop-statement
 invariant-loop-statement g l =
-    try_fold with_statement (map event_value l.events.items) (drop l.statement-index (statements_of l.fn.text)) ≡ script_of l.fn.text
+    try_fold with_statement (map event_value l.events.items)
+    (drop l.statement-index (statements_of l.fn.text)) ≡ script_of l.fn.text

@@ -7,4 +7,5 @@ use Rattle.p9_space.proofs.walk.named_child.Given as goal
 abbrev pub invariant-loop-member : goal.invariant-loop-member
 invariant-loop-member g l =
     let forest = map g.T.Tree.state l.forest.trees.items in
-    child_among forest (option_copied l.user) l.name (drop l.member-index l.members) ≡ child_among forest (option_copied l.user) l.name l.members
+    child_among forest (option_copied l.user) l.name (drop l.member-index l.members)
+    ≡ child_among forest (option_copied l.user) l.name l.members

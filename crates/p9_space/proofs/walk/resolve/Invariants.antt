@@ -7,4 +7,6 @@ use Rattle.p9_space.proofs.walk.resolve.Given as goal
 abbrev pub invariant-loop-name : goal.invariant-loop-name
 invariant-loop-name g l =
     let forest = map g.T.Tree.state l.forest.trees.items in
-    walk forest l.table (option_copied l.user) l.trail (map (λ n. n.now) (drop l.name-index l.names)) ≡ walk forest l.table (option_copied l.user) l.start (map (λ n. n.now) l.names)
+    walk forest l.table (option_copied l.user) l.trail
+    (map (λ n. n.now) (drop l.name-index l.names))
+    ≡ walk forest l.table (option_copied l.user) l.start (map (λ n. n.now) l.names)

@@ -5,13 +5,24 @@ use Rattle.p9_wire.proofs.Times.{goes_on, ends, is_done}
 use Rattle.p9_wire.proofs.fields.some_names.Goals as goal
 
 pub returns-in-None : goal.returns-in-None
-returns-in-None c = ends text_at c.loop-i.names c.args.count c.loop-i.i c.loop-i.rest.now (times text_at c.args.count c.args.bytes.now) c.loop-i-test.true c.in-None.ensures c.loop-i.invariant.so_far
+returns-in-None c =
+    ends text_at c.loop-i.names c.args.count c.loop-i.i c.loop-i.rest.now
+    (times text_at c.args.count c.args.bytes.now) c.loop-i-test.true c.in-None.ensures
+    c.loop-i.invariant.so_far
 
 pub loop-i-preserved : goal.loop-i-preserved
 loop-i-preserved c = record {
-  so_far = rw c.push.ensures (goes_on text_at c.loop-i.names c.args.count c.loop-i.i c.loop-i.rest.now c.in-Some.name.now c.in-Some.after.now (times text_at c.args.count c.args.bytes.now) c.loop-i-test.true c.in-Some.ensures c.loop-i.invariant.so_far);
-  filled = rw c.push.ensures (length_push c.loop-i.names c.in-Some.name.now ∙ ap (λ (n : ℕ). n + 1) c.loop-i.invariant.filled);
+  so_far =
+      rw c.push.ensures
+      (goes_on text_at c.loop-i.names c.args.count c.loop-i.i c.loop-i.rest.now c.in-Some.name.now
+      c.in-Some.after.now (times text_at c.args.count c.args.bytes.now) c.loop-i-test.true
+      c.in-Some.ensures c.loop-i.invariant.so_far);
+  filled =
+      rw c.push.ensures (length_push c.loop-i.names c.in-Some.name.now
+      ∙ ap (λ (n : ℕ). n + 1) c.loop-i.invariant.filled);
 }
 
 pub returns : goal.returns
-returns c = is_done text_at c.loop-i.names c.args.count c.loop-i.i c.loop-i.rest.now (times text_at c.args.count c.args.bytes.now) c.loop-i-test.false c.loop-i.invariant.so_far
+returns c =
+    is_done text_at c.loop-i.names c.args.count c.loop-i.i c.loop-i.rest.now
+    (times text_at c.args.count c.args.bytes.now) c.loop-i-test.false c.loop-i.invariant.so_far

@@ -5,6 +5,7 @@ use Rattle.p9_wire.proofs.fields.some_qids.Given as goal
 
 abbrev pub invariant-loop-i : goal.invariant-loop-i
 invariant-loop-i l = record {
-  so_far : with_front qid_at l.qids (times qid_at (l.count - l.i) l.rest) ≡ times qid_at l.count l.bytes;
+  so_far : with_front qid_at l.qids (times qid_at (l.count - l.i) l.rest)
+      ≡ times qid_at l.count l.bytes;
   filled : length l.qids ≡ l.i;
 }

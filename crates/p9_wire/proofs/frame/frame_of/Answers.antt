@@ -13,4 +13,5 @@ pub returns-then-bytes-size-clause-frames : goal.returns-then-bytes-size-clause-
 returns-then-bytes-size-clause-frames c = begins_frames_as Need c.args.bytes.now (search rules)
 
 pub returns-else-bytes-size-clause-frames : goal.returns-else-bytes-size-clause-frames
-returns-else-bytes-size-clause-frames c = begins_frames_as (Whole c.read_u32-size.result) c.args.bytes.now (search rules)
+returns-else-bytes-size-clause-frames c =
+    begins_frames_as (Whole c.read_u32-size.result) c.args.bytes.now (search rules)

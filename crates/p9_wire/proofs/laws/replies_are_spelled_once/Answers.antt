@@ -13,11 +13,14 @@ pub returns-clause-complete : goal.returns-clause-complete
 returns-clause-complete c = λ bytes tag m spelled. r-decides.complete bytes tag m spelled
 
 pub returns-clause-one_message : goal.returns-clause-one_message
-returns-clause-one_message c = λ bytes s t m n p q. (one_tag r-decides bytes s t m n p q, one_message r-decides bytes s t m n p q)
+returns-clause-one_message c =
+    λ bytes s t m n p q.
+    (one_tag r-decides bytes s t m n p q, one_message r-decides bytes s t m n p q)
 
 pub returns-clause-one_spelling : goal.returns-clause-one_spelling
 returns-clause-one_spelling c = λ bytes others tag m p q. p.whole ∙ sym q.whole
 
 pub returns-clause-len : goal.returns-clause-len
 unfolding r_spelling
-returns-clause-len c = λ tag m. length-frame (r_type m) tag (r_body m) ∙ ap (λ (n : ℕ). 7 + n) (length-r_body m)
+returns-clause-len c =
+    λ tag m. length-frame (r_type m) tag (r_body m) ∙ ap (λ (n : ℕ). 7 + n) (length-r_body m)

@@ -9,5 +9,6 @@ abbrev pub invariant-loop-i : goal.invariant-loop-i
 invariant-loop-i l = record {
   counted : l.count ≡ length l.names;
   next : l.end ≡ l.fn.at + 2 + sum_by (λ n. 2 + length n) (take l.i l.names);
-  puts : Puts (number 2 (length l.names) ++ flat_map text (take l.i l.names)) l.fn.at l.end l.fn.out l.out;
+  puts : Puts (number 2 (length l.names) ++ flat_map text (take l.i l.names)) l.fn.at l.end l.fn.out
+      l.out;
 }

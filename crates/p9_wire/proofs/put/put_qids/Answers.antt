@@ -15,5 +15,8 @@ loop-qid-preserved c =
     let i = c.loop-qid.qid-index in
     record {
       next = omega (arith, c.loop-qid.invariant.next, c.put_qid-end.ensures.next);
-      puts = puts_more qid_bytes (number 2 (length items)) items i (get_or items i none) _ _ _ _ _ _ (slice_get-get_or items i none c.loop-qid-test.true) c.loop-qid.invariant.puts c.put_qid-end.ensures.bytes;
+      puts =
+          puts_more qid_bytes (number 2 (length items)) items i (get_or items i none) _ _ _ _ _ _
+          (slice_get-get_or items i none c.loop-qid-test.true) c.loop-qid.invariant.puts
+          c.put_qid-end.ensures.bytes;
     }

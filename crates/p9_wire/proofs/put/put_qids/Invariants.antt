@@ -7,5 +7,6 @@ use Rattle.p9_wire.proofs.put.put_qids.Given as goal
 abbrev pub invariant-loop-qid : goal.invariant-loop-qid
 invariant-loop-qid l = record {
   next : l.end ≡ l.fn.at + 2 + 13 * l.qid-index;
-  puts : Puts (number 2 (length l.items) ++ flat_map qid_bytes (take l.qid-index l.items)) l.fn.at l.end l.fn.out l.out;
+  puts : Puts (number 2 (length l.items) ++ flat_map qid_bytes (take l.qid-index l.items)) l.fn.at
+      l.end l.fn.out l.out;
 }

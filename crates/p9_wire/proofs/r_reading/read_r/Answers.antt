@@ -5,7 +5,10 @@ use Rattle.p9_wire.proofs.RGrammar.{r-decides}
 use Rattle.p9_wire.proofs.r_reading.read_r.Goals as goal
 
 pub returns-clause-found : goal.returns-clause-found
-returns-clause-found c = is_found r-decides (λ x. (x.0, r_view x.1)) c.whole.result c.args.bytes.now (λ i. omega (arith, c.type_inv.bytes i)) c.whole.ensures
+returns-clause-found c =
+    is_found r-decides (λ x. (x.0, r_view x.1)) c.whole.result c.args.bytes.now
+    (λ i. omega (arith, c.type_inv.bytes i)) c.whole.ensures
 
 pub returns-clause-none : goal.returns-clause-none
-returns-clause-none c = is_none r-decides (λ x. (x.0, r_view x.1)) c.whole.result c.args.bytes.now c.whole.ensures
+returns-clause-none c =
+    is_none r-decides (λ x. (x.0, r_view x.1)) c.whole.result c.args.bytes.now c.whole.ensures

@@ -5,7 +5,10 @@ use Rattle.p9_wire.proofs.TGrammar.{t-decides}
 use Rattle.p9_wire.proofs.t_reading.read_t.Goals as goal
 
 pub returns-clause-found : goal.returns-clause-found
-returns-clause-found c = is_found t-decides (λ x. (x.0, t_view x.1)) c.whole.result c.args.bytes.now (λ i. omega (arith, c.type_inv.bytes i)) c.whole.ensures
+returns-clause-found c =
+    is_found t-decides (λ x. (x.0, t_view x.1)) c.whole.result c.args.bytes.now
+    (λ i. omega (arith, c.type_inv.bytes i)) c.whole.ensures
 
 pub returns-clause-none : goal.returns-clause-none
-returns-clause-none c = is_none t-decides (λ x. (x.0, t_view x.1)) c.whole.result c.args.bytes.now c.whole.ensures
+returns-clause-none c =
+    is_none t-decides (λ x. (x.0, t_view x.1)) c.whole.result c.args.bytes.now c.whole.ensures

@@ -6,11 +6,21 @@ use Rattle.p9_wire.proofs.Puts.{framed}
 use Rattle.p9_wire.proofs.t_writing.write_t.Goals as goal
 
 pub returns-clause-len : goal.returns-clause-len
-returns-clause-len c = omega (arith, length-t_body (t_view c.args.m.now), c.put_body-end.ensures.ends)
+returns-clause-len c =
+    omega (arith, length-t_body (t_view c.args.m.now), c.put_body-end.ensures.ends)
 
 pub returns-clause-bytes : goal.returns-clause-bytes
 unfolding t_spelling
-returns-clause-bytes c = framed _ _ _ _ _ _ _ (omega (arith, c.requires.room)) c.put_body-end.ensures (rw c.kind_of.ensures at c.put_header.ensures)
+returns-clause-bytes c =
+    framed _ _ _ _ _ _ _ (omega (arith, c.requires.room)) c.put_body-end.ensures
+    (rw c.kind_of.ensures at c.put_header.ensures)
 
 pub overflow_cast-end : goal.overflow_cast-end
-overflow_cast-end c = omega (arith, length-t_body (t_view c.args.m.now), c.put_body-end.ensures.ends, t_len-fits (t_view c.args.m.now) c.requires.fits)
+overflow_cast-end c =
+    omega (
+      arith,
+      length-t_body (t_view c.args.m.now),
+      c.put_body-end.ensures.ends,
+      t_len-fits
+          (t_view c.args.m.now) c.requires.fits,
+    )

@@ -11,32 +11,68 @@ use Rattle.p9_world.proofs.Readings.{Tells-world_of, world_of-none, world_of-ok}
 use Rattle.p9_world.proofs.read.read_world.Goals as goal
 
 pub loop-statement-init : goal.loop-statement-init
-loop-statement-init g c = ap (λ w. try_fold read_statement w (statements_of c.args.text.now)) c.new-world.ensures
+loop-statement-init g c =
+    ap (λ w. try_fold read_statement w (statements_of c.args.text.now)) c.new-world.ensures
 
 pub returns-in_err-read_statement-clause-err : goal.returns-in_err-read_statement-clause-err
 returns-in_err-read_statement-clause-err g c =
-    let same = ap (map statement_value) c.deref-statement-items.ensures.value ∙ c.in_ok-statements.ensures in
-    let told = Tells-world_of c.in_err-read_statement.field-0.0 c.args.text.now _ c.in_err-read_statement.ensures (λ e bad. sym c.loop-statement.invariant ∙ try_fold-err read_statement statement_value c.deref-statement-items.result.now (statements_of c.args.text.now) same c.loop-statement.world c.loop-statement.statement-index e c.statement-item.result c.statement-item.result c.loop-statement-test.true c.statement-item.is bad) in
-    let p = err_from_is_err_and c.from_residual-in_err-read_statement.result c.from_residual-in_err-read_statement.ensures.1 in
+    let same =
+    ap (map statement_value) c.deref-statement-items.ensures.value
+    ∙ c.in_ok-statements.ensures in
+    let told =
+    Tells-world_of c.in_err-read_statement.field-0.0 c.args.text.now _
+    c.in_err-read_statement.ensures
+    (λ e bad. sym c.loop-statement.invariant
+    ∙ try_fold-err read_statement statement_value c.deref-statement-items.result.now
+    (statements_of c.args.text.now) same c.loop-statement.world c.loop-statement.statement-index
+    e c.statement-item.result c.statement-item.result c.loop-statement-test.true
+    c.statement-item.is bad) in
+    let p =
+    err_from_is_err_and c.from_residual-in_err-read_statement.result
+    c.from_residual-in_err-read_statement.ensures.1 in
     rw (p.1, p.2) told
 
 pub loop-statement-preserved : goal.loop-statement-preserved
 loop-statement-preserved g c =
-    let same = ap (map statement_value) c.deref-statement-items.ensures.value ∙ c.in_ok-statements.ensures in
-    try_fold-ok read_statement statement_value c.deref-statement-items.result.now (statements_of c.args.text.now) same c.loop-statement.world c.loop-statement.statement-index c.read_statement.new.world c.statement-item.result c.statement-item.result c.loop-statement-test.true c.statement-item.is c.in_ok-read_statement.ensures ∙ c.loop-statement.invariant
+    let same =
+    ap (map statement_value) c.deref-statement-items.ensures.value
+    ∙ c.in_ok-statements.ensures in
+    try_fold-ok read_statement statement_value c.deref-statement-items.result.now
+    (statements_of c.args.text.now) same c.loop-statement.world c.loop-statement.statement-index
+    c.read_statement.new.world c.statement-item.result c.statement-item.result
+    c.loop-statement-test.true c.statement-item.is c.in_ok-read_statement.ensures
+    ∙ c.loop-statement.invariant
 
 pub returns-then-is_empty-clause-err : goal.returns-then-is_empty-clause-err
 returns-then-is_empty-clause-err g c =
-    let same = ap (map statement_value) c.deref-statement-items.ensures.value ∙ c.in_ok-statements.ensures in
-    let made = sym c.loop-statement.invariant ∙ try_fold-end read_statement statement_value c.deref-statement-items.result.now (statements_of c.args.text.now) same c.loop-statement.world c.loop-statement.statement-index c.loop-statement-test.false in
-    let count : length c.loop-statement.world.servers ≡ length c.world-2.inside.servers.items = sym (ap (λ (w : World). length w.servers) c.world-2.view_is) ∙ length-map c.world-2.inside.servers.items string_bytes in
-    let none : length c.loop-statement.world.servers ≡ 0 = grind (arith, nat_tests, c.world-2.inside.servers.ok.0) in
+    let same =
+    ap (map statement_value) c.deref-statement-items.ensures.value
+    ∙ c.in_ok-statements.ensures in
+    let made =
+    sym c.loop-statement.invariant
+    ∙ try_fold-end read_statement statement_value c.deref-statement-items.result.now
+    (statements_of c.args.text.now) same c.loop-statement.world c.loop-statement.statement-index
+    c.loop-statement-test.false in
+    let count : length c.loop-statement.world.servers ≡ length c.world-2.inside.servers.items =
+    sym (ap (λ (w : World). length w.servers) c.world-2.view_is)
+    ∙ length-map c.world-2.inside.servers.items string_bytes in
+    let none : length c.loop-statement.world.servers ≡ 0 =
+    grind (arith, nat_tests, c.world-2.inside.servers.ok.0) in
     world_of-none c.args.text.now c.loop-statement.world made none
 
 pub returns-clause-ok : goal.returns-clause-ok
 returns-clause-ok g c =
-    let same = ap (map statement_value) c.deref-statement-items.ensures.value ∙ c.in_ok-statements.ensures in
-    let made = sym c.loop-statement.invariant ∙ try_fold-end read_statement statement_value c.deref-statement-items.result.now (statements_of c.args.text.now) same c.loop-statement.world c.loop-statement.statement-index c.loop-statement-test.false in
-    let count : length c.loop-statement.world.servers ≡ length c.world-2.inside.servers.items = sym (ap (λ (w : World). length w.servers) c.world-2.view_is) ∙ length-map c.world-2.inside.servers.items string_bytes in
-    let some : 0 < length c.loop-statement.world.servers = grind (arith, nat_tests, c.world-2.inside.servers.ok.0) in
+    let same =
+    ap (map statement_value) c.deref-statement-items.ensures.value
+    ∙ c.in_ok-statements.ensures in
+    let made =
+    sym c.loop-statement.invariant
+    ∙ try_fold-end read_statement statement_value c.deref-statement-items.result.now
+    (statements_of c.args.text.now) same c.loop-statement.world c.loop-statement.statement-index
+    c.loop-statement-test.false in
+    let count : length c.loop-statement.world.servers ≡ length c.world-2.inside.servers.items =
+    sym (ap (λ (w : World). length w.servers) c.world-2.view_is)
+    ∙ length-map c.world-2.inside.servers.items string_bytes in
+    let some : 0 < length c.loop-statement.world.servers =
+    grind (arith, nat_tests, c.world-2.inside.servers.ok.0) in
     world_of-ok c.args.text.now c.loop-statement.world made some

@@ -7,4 +7,6 @@ use Rattle.p9_world.proofs.read.read_world.Given as goal
 
 -- the statements that are left make of the world what all of them make of the empty one
 abbrev pub invariant-loop-statement : goal.invariant-loop-statement
-invariant-loop-statement g l = try_fold read_statement l.world (drop l.statement-index (statements_of l.fn.text)) ≡ try_fold read_statement empty_world (statements_of l.fn.text)
+invariant-loop-statement g l =
+    try_fold read_statement l.world (drop l.statement-index (statements_of l.fn.text))
+    ≡ try_fold read_statement empty_world (statements_of l.fn.text)

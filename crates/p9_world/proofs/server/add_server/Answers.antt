@@ -1,4 +1,5 @@
-use Rattle.std.proofs.Common.{◌≡◌, ◌<◌, ◌^◌, ◌++◌, ◌∷◌, [], false, true, map, ap, ◌∙◌, sym, string_bytes, arith, length, is_some}
+use Rattle.std.proofs.Common.{◌≡◌, ◌<◌, ◌^◌, ◌++◌, ◌∷◌, [], false, true, map, ap, ◌∙◌, sym}
+use Rattle.std.proofs.Common.{string_bytes, arith, length, is_some}
 use Rattle.std.proofs.lemmas.List.{map_push, length-map}
 use Rattle.p9_tree.specs.Server.{rooted}
 use Rattle.p9_world.specs.Server.{is_server_name, server_number}
@@ -9,19 +10,52 @@ pub invariant_of-world-2 : goal.invariant_of-world-2
 invariant_of-world-2 g c =
     let trees = rw (c.unwrap.ensures, c.reserve.ensures.items) at c.push-2.ensures.items in
     let names = rw (c.in_ok-push.was) at c.push.ensures.items in
-    let forest : map g.T.Tree.state c.push-2.new.self.items ≡ map g.T.Tree.state c.world.inside.forest.trees.items ++ rooted ∷ [] = ap (map g.T.Tree.state) trees ∙ map_push g.T.Tree.state _ _ ∙ ap (λ s. map g.T.Tree.state c.world.inside.forest.trees.items ++ s ∷ []) c.in_ok-tree.ensures in
-    let servers : map string_bytes c.push.new.self.items ≡ map string_bytes c.world.inside.servers.items ++ c.args.name.now ∷ [] = ap (map string_bytes) names ∙ map_push string_bytes _ _ ∙ ap (λ s. map string_bytes c.world.inside.servers.items ++ s ∷ []) c.in_ok-name.ensures.ok in
-    let absent : is_some (server_number c.args.name.now (map string_bytes c.world.inside.servers.items)) ≡ false = rw (← c.as_slice.ensures.value, ← c.server_number.ensures, ← c.is_some.ensures) c.if-is_some.false in
-    let room : length (map string_bytes c.world.inside.servers.items) < 2 ^ 16 = omega (arith, length-map c.world.inside.servers.items string_bytes, c.world.inside.servers.ok.0) in
+    let forest : map g.T.Tree.state c.push-2.new.self.items
+    ≡ map g.T.Tree.state c.world.inside.forest.trees.items ++ rooted
+    ∷ [] = ap (map g.T.Tree.state) trees ∙ map_push g.T.Tree.state _ _
+    ∙ ap (λ s. map g.T.Tree.state c.world.inside.forest.trees.items ++ s ∷ [])
+    c.in_ok-tree.ensures in
+    let servers : map string_bytes c.push.new.self.items
+    ≡ map string_bytes c.world.inside.servers.items ++ c.args.name.now
+    ∷ [] = ap (map string_bytes) names ∙ map_push string_bytes _ _
+    ∙ ap (λ s. map string_bytes c.world.inside.servers.items ++ s ∷ [])
+    c.in_ok-name.ensures.ok in
+    let absent : is_some
+    (server_number c.args.name.now (map string_bytes c.world.inside.servers.items))
+    ≡ false = rw (← c.as_slice.ensures.value, ← c.server_number.ensures, ← c.is_some.ensures)
+    c.if-is_some.false in
+    let room : length (map string_bytes c.world.inside.servers.items) < 2 ^ 16 =
+    omega (
+      arith,
+      length-map c.world.inside.servers.items string_bytes,
+      c.world.inside.servers.ok.0,
+    ) in
     rw (forest, servers) (IsWorld-with_server c.args.name.now _ c.world.invariant absent room)
 
 pub returns : goal.returns
 returns g c =
     let trees = rw (c.unwrap.ensures, c.reserve.ensures.items) at c.push-2.ensures.items in
     let names = rw (c.in_ok-push.was) at c.push.ensures.items in
-    let forest : map g.T.Tree.state c.push-2.new.self.items ≡ map g.T.Tree.state c.world.inside.forest.trees.items ++ rooted ∷ [] = ap (map g.T.Tree.state) trees ∙ map_push g.T.Tree.state _ _ ∙ ap (λ s. map g.T.Tree.state c.world.inside.forest.trees.items ++ s ∷ []) c.in_ok-tree.ensures in
-    let servers : map string_bytes c.push.new.self.items ≡ map string_bytes c.world.inside.servers.items ++ c.args.name.now ∷ [] = ap (map string_bytes) names ∙ map_push string_bytes _ _ ∙ ap (λ s. map string_bytes c.world.inside.servers.items ++ s ∷ []) c.in_ok-name.ensures.ok in
-    let absent : is_some (server_number c.args.name.now (map string_bytes c.world.inside.servers.items)) ≡ false = rw (← c.as_slice.ensures.value, ← c.server_number.ensures, ← c.is_some.ensures) c.if-is_some.false in
-    let room : length (map string_bytes c.world.inside.servers.items) < 2 ^ 16 = omega (arith, length-map c.world.inside.servers.items string_bytes, c.world.inside.servers.ok.0) in
-    let valid : is_server_name c.args.name.now ≡ true = sym c.is_server_name.ensures ∙ c.if-not-is_server_name.false in
+    let forest : map g.T.Tree.state c.push-2.new.self.items
+    ≡ map g.T.Tree.state c.world.inside.forest.trees.items ++ rooted
+    ∷ [] = ap (map g.T.Tree.state) trees ∙ map_push g.T.Tree.state _ _
+    ∙ ap (λ s. map g.T.Tree.state c.world.inside.forest.trees.items ++ s ∷ [])
+    c.in_ok-tree.ensures in
+    let servers : map string_bytes c.push.new.self.items
+    ≡ map string_bytes c.world.inside.servers.items ++ c.args.name.now
+    ∷ [] = ap (map string_bytes) names ∙ map_push string_bytes _ _
+    ∙ ap (λ s. map string_bytes c.world.inside.servers.items ++ s ∷ [])
+    c.in_ok-name.ensures.ok in
+    let absent : is_some
+    (server_number c.args.name.now (map string_bytes c.world.inside.servers.items))
+    ≡ false = rw (← c.as_slice.ensures.value, ← c.server_number.ensures, ← c.is_some.ensures)
+    c.if-is_some.false in
+    let room : length (map string_bytes c.world.inside.servers.items) < 2 ^ 16 =
+    omega (
+      arith,
+      length-map c.world.inside.servers.items string_bytes,
+      c.world.inside.servers.ok.0,
+    ) in
+    let valid : is_server_name c.args.name.now ≡ true =
+    sym c.is_server_name.ensures ∙ c.if-not-is_server_name.false in
     rw (← c.world.view_is, forest, servers) (server_line-ok c.args.name.now _ valid absent room)

@@ -7,5 +7,8 @@ use Rattle.p9_world.proofs.server.server_number.Goals as goal
 
 pub returns : goal.returns
 returns g c =
-    position_from_yields_List (λ other. bytes_eq (string_bytes other) c.args.name.now) _ _ c.position.result c.position.ensures.ran (YieldsList-from_slice c.args.servers.now c.iter.ensures.rest) (λ x b q k. search (rules, tests))
+    position_from_yields_List (λ other. bytes_eq (string_bytes other) c.args.name.now) _ _
+    c.position.result c.position.ensures.ran
+    (YieldsList-from_slice c.args.servers.now c.iter.ensures.rest)
+    (λ x b q k. search (rules, tests))
     ∙ sym (position-map (λ other. bytes_eq other c.args.name.now) string_bytes c.args.servers.now)

@@ -7,5 +7,8 @@ use Rattle.p9_world.proofs.variable.is_set.Goals as goal
 
 pub returns : goal.returns
 returns g c =
-    any_from_yields_List (λ var. bytes_eq (string_bytes var.0) c.args.name.now) _ _ c.any.result c.any.ensures.ran (YieldsList-from_slice c.args.vars.now c.iter.ensures.rest) (λ x b q k. search (rules, tests))
-    ∙ sym (list_any-map (λ var. bytes_eq var.0 c.args.name.now) (λ var. (string_bytes var.0, string_bytes var.1)) c.args.vars.now)
+    any_from_yields_List (λ var. bytes_eq (string_bytes var.0) c.args.name.now) _ _ c.any.result
+    c.any.ensures.ran (YieldsList-from_slice c.args.vars.now c.iter.ensures.rest)
+    (λ x b q k. search (rules, tests))
+    ∙ sym (list_any-map (λ var. bytes_eq var.0 c.args.name.now)
+    (λ var. (string_bytes var.0, string_bytes var.1)) c.args.vars.now)

@@ -9,13 +9,21 @@ use Rattle.p9_nsfile.proofs.setting.Setting.walk.Goals as goal
 pub returns-in-Err : goal.returns-in-Err
 returns-in-Err g c =
     let names = map (λ n. n.now) c.args.names.now in
-    let walked = λ (s : Setting). path_fault (walk s.forest c.args.table.now None c.args.start.now names) in
+    let walked =
+    λ (s : Setting). path_fault (walk s.forest c.args.table.now None c.args.start.now names) in
     subst (λ s. Gives (walked s) (Err c.walk_stop.result)) c.self.view_is
-    (subst (λ stop. Gives (path_fault (walk (map g.T.Tree.state c.self.inside.forest.now.trees.items) c.args.table.now None c.args.start.now names)) (Err stop)) (sym c.walk_stop.ensures)
-    (Gives-walk_stop (walk (map g.T.Tree.state c.self.inside.forest.now.trees.items) c.args.table.now None c.args.start.now names) c.in-Err.fault c.in-Err.ensures.err))
+    (subst
+    (λ stop. Gives
+    (path_fault
+    (walk (map g.T.Tree.state c.self.inside.forest.now.trees.items) c.args.table.now None
+    c.args.start.now names)) (Err stop)) (sym c.walk_stop.ensures)
+    (Gives-walk_stop
+    (walk (map g.T.Tree.state c.self.inside.forest.now.trees.items) c.args.table.now None
+    c.args.start.now names) c.in-Err.fault c.in-Err.ensures.err))
 
 pub returns-in-Ok : goal.returns-in-Ok
 returns-in-Ok g c =
     let names = map (λ n. n.now) c.args.names.now in
-    let walked = λ (s : Setting). path_fault (walk s.forest c.args.table.now None c.args.start.now names) in
+    let walked =
+    λ (s : Setting). path_fault (walk s.forest c.args.table.now None c.args.start.now names) in
     subst (λ s. walked s ≡ Ok c.in-Ok.trail) c.self.view_is (ap path_fault c.in-Ok.ensures.ok)

@@ -4,5 +4,8 @@ use Rattle.p9_space.proofs.table.MountTable.bind.Goals as goal
 
 pub invariant_of-self-2 : goal.invariant_of-self-2
 invariant_of-self-2 g c =
-    let some = joined-some c.args.order c.args.nodes.now c.args.create (standing c.args.key c.args.self.now) c.requires in
-    IsTable-with_row _ _ _ _ c.in_ok-insert.ensures.entries (rw c.in_ok-row.ensures some) c.in_ok-insert.ensures.unique c.self.invariant
+    let some =
+    joined-some c.args.order c.args.nodes.now c.args.create
+    (standing c.args.key c.args.self.now) c.requires in
+    IsTable-with_row _ _ _ _ c.in_ok-insert.ensures.entries (rw c.in_ok-row.ensures some)
+    c.in_ok-insert.ensures.unique c.self.invariant

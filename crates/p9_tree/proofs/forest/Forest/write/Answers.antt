@@ -8,11 +8,17 @@ use Rattle.p9_tree.proofs.forest.Forest.write.Goals as goal
 
 pub returns-in_err-write-clause-err : goal.returns-in_err-write-clause-err
 returns-in_err-write-clause-err g c =
-    let within : c.args.at.server < length c.args.self.now.trees.items = omega (arith, c.in-Some.ensures.variant.0 refl, c.args.self.now.trees.ok.0) in
+    let within : c.args.at.server < length c.args.self.now.trees.items =
+    omega (arith, c.in-Some.ensures.variant.0 refl, c.args.self.now.trees.ok.0) in
     let p = err_from_is_err_and c.from_residual.result c.from_residual.ensures.1 in
-    rw p.1 (map-set_same g.T.Tree.state _ c.args.at.server c.in-Some.tree.now c.write.new.self within c.in-Some.ensures.value c.in_err-write.ensures.err)
+    rw p.1 (map-set_same g.T.Tree.state _ c.args.at.server c.in-Some.tree.now c.write.new.self
+    within c.in-Some.ensures.value c.in_err-write.ensures.err)
 
 pub returns-in_ok-write-clause-ok : goal.returns-in_ok-write-clause-ok
 returns-in_ok-write-clause-ok g c =
-    let within : c.args.at.server < length c.args.self.now.trees.items = omega (arith, c.in-Some.ensures.variant.0 refl, c.args.self.now.trees.ok.0) in
-    map-tree_changed_at g.T.Tree.state (with_changed c.args.at.number (with_bytes (overwritten c.args.offset c.args.bytes.now))) _ c.args.at.server c.in-Some.tree.now c.write.new.self within c.in-Some.ensures.value c.in_ok-write.ensures.ok
+    let within : c.args.at.server < length c.args.self.now.trees.items =
+    omega (arith, c.in-Some.ensures.variant.0 refl, c.args.self.now.trees.ok.0) in
+    map-tree_changed_at g.T.Tree.state
+    (with_changed c.args.at.number (with_bytes (overwritten c.args.offset c.args.bytes.now))) _
+    c.args.at.server c.in-Some.tree.now c.write.new.self within c.in-Some.ensures.value
+    c.in_ok-write.ensures.ok

@@ -8,6 +8,9 @@ use Rattle.p9_tree.proofs.node.Node.name.Goals as goal
 
 pub returns-in-None-clause-text : goal.returns-in-None-clause-text
 returns-in-None-clause-text g c =
-    let seen : c.args.self.now.name ≡ option_map_or (λ (e : Entry). e.name) c.self.inside.entry root_name = ap (λ (n : Node). n.name) (sym c.self.view_is) in
-    let root : c.args.self.now.name ≡ root_name = seen ∙ ap (λ e. option_map_or (λ (e : Entry). e.name) e root_name) c.in-None.is in
+    let seen : c.args.self.now.name
+    ≡ option_map_or (λ (e : Entry). e.name) c.self.inside.entry root_name = ap
+    (λ (n : Node). n.name) (sym c.self.view_is) in
+    let root : c.args.self.now.name ≡ root_name =
+    seen ∙ ap (λ e. option_map_or (λ (e : Entry). e.name) e root_name) c.in-None.is in
     subst (λ (s : List ℕ). IsTrue (is_text s)) (sym root) is_text-root_name
