@@ -1,7 +1,6 @@
 -- A mode's bits determine the mode.
-use Rattle.std.proofs.Common.{◌≡◌, ℕ, ◌+◌, ◌-◌, ◌*◌, ◌/◌, ◌%◌, ◌<◌, ◌^◌, Bool, true, false, arith}
+use Rattle.std.proofs.Common.{◌≡◌, ℕ, ◌-◌, ◌%◌, ◌<◌, ◌^◌, Bool, true, false, arith}
 use Rattle.std.proofs.Common.{refl, sym, ap, ◌∙◌, lit<}
-use Rattle.std.specs.Prelude.{◌==◌}
 use Rattle.p9_base.specs.declared.mode.Rights.{Rights}
 use Rattle.p9_base.specs.declared.mode.Permissions.{Permissions}
 use Rattle.p9_base.specs.declared.mode.FileFlags.{FileFlags}

@@ -6,6 +6,7 @@ pub mod User
 pub mod Fault
 pub mod Mode
 pub mod Rights
+pub mod NodeRef
 pub mod Line
 pub mod Decimal
 pub mod Statement

@@ -1,10 +1,19 @@
--- What a list does, one item after another, until one is refused.
-use Rattle.std.specs.Prelude.{List, [], ◌∷◌, Result, Ok, Err}
+-- Values that may be refused, and what a list does, one item after another, until one is refused.
+use Rattle.std.specs.Prelude.{Bool, List, [], ◌∷◌, Option, None, Some, Result, Ok, Err, if◌then◌else◌}
 
 -- what comes of a value, unless it is an error
 abbrev pub and_then : {S T E : Type 0} → Result S E → (S → Result T E) → Result T E
 and_then (Ok value) continue = continue value
 and_then (Err error) continue = Err error
+
+-- goes on where the test passes
+abbrev pub need : {X E : Type 0} → Bool → E → Result X E → Result X E
+need test error rest = if test then rest else Err error
+
+-- goes on with the value, where there is one
+abbrev pub given : {X Y E : Type 0} → Option X → E → (X → Result Y E) → Result Y E
+given None error rest = Err error
+given (Some x) error rest = rest x
 
 -- what the items make of a start, in their order: the last value, or the first error
 abbrev pub try_fold : {S X E : Type 0} → (S → X → Result S E) → S → List X → Result S E

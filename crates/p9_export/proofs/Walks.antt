@@ -7,13 +7,14 @@ use Rattle.p9_base.specs.declared.fault.Fault.{Fault}
 use Rattle.p9_base.specs.declared.fault.Fault.TheVariants.{PhaseError}
 use Rattle.p9_base.specs.declared.node_ref.NodeRef.{NodeRef}
 use Rattle.p9_base.specs.declared.qid.Qid.{Qid}
+use Rattle.p9_base.specs.TryFold.{and_then}
 use Rattle.p9_tree.specs.Node.{Node}
 use Rattle.p9_tree.specs.Server.{Server}
 use Rattle.p9_space.specs.declared.trail.Step.{Step}
 use Rattle.p9_space.specs.Place.{file_of}
 use Rattle.p9_space.specs.Table.{MountRow, members_of}
 use Rattle.p9_space.specs.Trail.{here, stepped}
-use Rattle.p9_space.specs.Walk.{and_then, arrived, step_among, step_of}
+use Rattle.p9_space.specs.Walk.{arrived, step_among, step_of}
 use Rattle.p9_fids.specs.declared.opened.Opened.{Opened}
 use Rattle.p9_fids.specs.Fid.{Fid, fid_at}
 use Rattle.p9_export.specs.State.{Setting, Session}

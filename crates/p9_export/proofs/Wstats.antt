@@ -2,7 +2,7 @@
 use Rattle.std.proofs.Common.{◌≡◌, ◌≢◌, ℕ, ◌≤◌, Bool, true, false, List, [], ◌∷◌, Option, Some}
 use Rattle.std.proofs.Common.{None, Ok, is_some, option_and_then, refl, sym, ap, ◌∙◌, subst, arith}
 use Rattle.std.specs.Prelude.{is_none, nat_lt, not, if◌then◌else◌}
-use Rattle.std.specs.Option.{option_map_or}
+use Rattle.std.specs.Option.{option_map_or, option_or}
 use Rattle.std.specs.Str.{bytes_eq}
 use Rattle.std.proofs.lemmas.Bool.{and_parts}
 use Rattle.std.proofs.lemmas.Bool.Decides.{nat_tests}
@@ -21,7 +21,6 @@ use Rattle.p9_tree.specs.Server.{Server}
 use Rattle.p9_tree.specs.Forest.{IsForest, child_in, forest_changed_at, node_of, server_at}
 use Rattle.p9_tree.proofs.Lookups.{number-node_at}
 use Rattle.p9_space.specs.Rights.{may, rules, to_write}
-use Rattle.p9_space.specs.Walk.{or_else}
 use Rattle.p9_wire.specs.Message.{Rwstat, StatFields}
 use Rattle.p9_fids.specs.Fid.{Fid, fid_at}
 use Rattle.p9_export.specs.State.{Setting, Session}
@@ -40,9 +39,9 @@ use Rattle.p9_export.proofs.Removals.{node_of-inner}
 use Rattle.p9_tree.specs.Bytes.{file_max}
 
 -- where there is no fault in a chain, there is none in its parts
-or_else-none : {X : Type 0} (a b : Option X) → or_else a b ≡ None → (a ≡ None) × (b ≡ None)
-or_else-none None b e = (refl, e)
-or_else-none (Some x) b e = let no : Some x ≡ None = e in absurd (cc)
+option_or-none : {X : Type 0} (a b : Option X) → option_or a b ≡ None → (a ≡ None) × (b ≡ None)
+option_or-none None b e = (refl, e)
+option_or-none (Some x) b e = let no : Some x ≡ None = e in absurd (cc)
 
 -- the same of a chain of tests
 no_if : {X : Type 0} (fault : X) (test : Bool) → (if test then None else Some fault) ≡ None
@@ -108,11 +107,11 @@ module _ (user : List ℕ) (forest : List Server) (at : NodeRef) (n : Node) (t :
 
   pub nothing_refuses : wstat_fault user forest at n t ≡ None → Permits
   nothing_refuses none =
-      let first = or_else-none (option_and_then (mode_fault n) t.mode) _ none in
-      let second = or_else-none (option_and_then (name_fault user forest at n) t.name) _ first.1 in
-      let third = or_else-none (option_and_then (length_fault user n) t.length) _ second.1 in
-      let fourth = or_else-none (option_and_then (ruling_fault user n) t.mode) _ third.1 in
-      let fifth = or_else-none (option_and_then (ruling_fault user n) t.mtime) _ fourth.1 in
+      let first = option_or-none (option_and_then (mode_fault n) t.mode) _ none in
+      let second = option_or-none (option_and_then (name_fault user forest at n) t.name) _ first.1 in
+      let third = option_or-none (option_and_then (length_fault user n) t.length) _ second.1 in
+      let fourth = option_or-none (option_and_then (ruling_fault user n) t.mode) _ third.1 in
+      let fifth = option_or-none (option_and_then (ruling_fault user n) t.mtime) _ fourth.1 in
       record { mode = first.0; name = second.0; length = third.0; gid = fifth.1 }
 
   module _ (permits : Permits) where

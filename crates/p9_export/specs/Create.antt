@@ -16,6 +16,7 @@ use Rattle.p9_base.specs.declared.node_ref.NodeRef.{NodeRef}
 use Rattle.p9_base.specs.declared.qid.Qid.{Qid}
 use Rattle.p9_base.specs.Mode.{is_dir as is_dir_mode, mode_of}
 use Rattle.p9_base.specs.Name.{is_name}
+use Rattle.p9_base.specs.TryFold.{and_then}
 use Rattle.p9_tree.specs.Node.{Node, is_dir}
 use Rattle.p9_tree.specs.Server.{Server, next_max}
 use Rattle.p9_tree.specs.Forest.{child_in, next_of, node_of}
@@ -24,7 +25,7 @@ use Rattle.p9_space.specs.declared.row.Member.{Member}
 use Rattle.p9_space.specs.Rights.{may, to_write}
 use Rattle.p9_space.specs.Table.{members_of}
 use Rattle.p9_space.specs.Trail.{here, places_max}
-use Rattle.p9_space.specs.Walk.{and_then, is_alive, is_alive_dir}
+use Rattle.p9_space.specs.Walk.{is_alive, is_alive_dir}
 use Rattle.p9_wire.specs.Message.{RMessage, Rcreate}
 use Rattle.p9_fids.specs.Fid.{Fid, changed_fid, fid_at}
 use Rattle.p9_export.specs.declared.opening.Opening.{Opening}

@@ -6,10 +6,11 @@ use Rattle.p9_base.specs.declared.fault.Fault.{Fault}
 use Rattle.p9_base.specs.declared.fault.Fault.TheVariants.{FidOpen, PhaseError, UnknownFid}
 use Rattle.p9_base.specs.declared.node_ref.NodeRef.{NodeRef}
 use Rattle.p9_base.specs.declared.qid.Qid.{Qid}
+use Rattle.p9_base.specs.TryFold.{and_then}
 use Rattle.p9_tree.specs.Server.{Server}
 use Rattle.p9_space.specs.declared.trail.Step.{Step}
 use Rattle.p9_space.specs.Trail.{here, stepped}
-use Rattle.p9_space.specs.Walk.{and_then, step_of}
+use Rattle.p9_space.specs.Walk.{step_of}
 use Rattle.p9_wire.specs.Message.{Rwalk}
 use Rattle.p9_fids.specs.Fid.{Fid, FidRow, changed_fid, fid_at, put_fault, trailed, with_fid, nofid}
 use Rattle.p9_export.specs.State.{Setting, Session}

@@ -2,7 +2,7 @@
 use Rattle.std.specs.Prelude.{ℕ, ◌-◌, ◌^◌, ◌==◌, ◌&&◌, ◌||◌, Bool, false, not, nat_lt, List, []}
 use Rattle.std.specs.Prelude.{◌∷◌, Option, Some, None, Ok, is_none, is_some, option_and_then}
 use Rattle.std.specs.Prelude.{if◌then◌else◌}
-use Rattle.std.specs.Option.{option_copied, option_map_or}
+use Rattle.std.specs.Option.{option_copied, option_map_or, option_or}
 use Rattle.std.specs.Str.{bytes_eq}
 use Rattle.p9_base.specs.declared.fault.Fault.{Fault}
 use Rattle.p9_base.specs.declared.fault.Fault.TheVariants.{BadFileName, FileExists, FileTooLarge}
@@ -19,7 +19,6 @@ use Rattle.p9_tree.specs.Forest.{child_in}
 use Rattle.p9_tree.specs.Inside.{beside}
 use Rattle.p9_tree.specs.declared.change.Change.{Change as NodeChange}
 use Rattle.p9_space.specs.Rights.{may, rules, to_write}
-use Rattle.p9_space.specs.Walk.{or_else}
 use Rattle.p9_wire.specs.Message.{Rwstat, StatFields}
 use Rattle.p9_fids.specs.Fid.{fid_at}
 use Rattle.p9_export.specs.declared.wstat.Touched.{Touched as TouchedParts}
@@ -138,11 +137,11 @@ gid_fault user n gid = if may_give user n gid then None else Some PermissionDeni
 
 abbrev pub wstat_fault : List ℕ → List Server → NodeRef → Node → Touched → Option Fault
 wstat_fault user forest at n t =
-    or_else (option_and_then (mode_fault n) t.mode) (
-    or_else (option_and_then (name_fault user forest at n) t.name) (
-    or_else (option_and_then (length_fault user n) t.length) (
-    or_else (option_and_then (ruling_fault user n) t.mode) (
-    or_else (option_and_then (ruling_fault user n) t.mtime) (
+    option_or (option_and_then (mode_fault n) t.mode) (
+    option_or (option_and_then (name_fault user forest at n) t.name) (
+    option_or (option_and_then (length_fault user n) t.length) (
+    option_or (option_and_then (ruling_fault user n) t.mode) (
+    option_or (option_and_then (ruling_fault user n) t.mtime) (
     option_and_then (gid_fault user n) t.gid)))))
 
 -- What is changed, all at once.

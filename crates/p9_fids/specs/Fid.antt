@@ -8,8 +8,8 @@ use Rattle.std.specs.BTreeMap.{insert_entry, is_at}
 use Rattle.p9_base.specs.declared.fault.Fault.{Fault}
 use Rattle.p9_base.specs.declared.fault.Fault.TheVariants.{FidInUse, TooManyFids, UnknownFid}
 use Rattle.p9_base.specs.declared.node_ref.NodeRef.{NodeRef}
+use Rattle.p9_base.specs.NodeRef.{same_node}
 use Rattle.p9_space.specs.Place.{file_ref}
-use Rattle.p9_space.specs.Row.{same_node}
 use Rattle.p9_space.specs.Table.{MountRow}
 use Rattle.p9_space.specs.Trail.{here}
 use Rattle.p9_fids.specs.declared.opened.Opened.{Opened}

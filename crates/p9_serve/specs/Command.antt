@@ -3,13 +3,13 @@ use Rattle.std.specs.Prelude.{◌≡◌, ℕ, List, [], ◌∷◌, ◌++◌, Opt
 use Rattle.std.specs.Prelude.{codes, unwrap_or, if◌then◌else◌}
 use Rattle.std.specs.Option.{option_map_or}
 use Rattle.std.specs.Str.{bytes_eq, is_utf8}
-use Rattle.p9_base.specs.TryFold.{and_then}
+use Rattle.p9_base.specs.TryFold.{and_then, need}
 use Rattle.p9_export.specs.Event.{Event}
 use Rattle.p9_serve.specs.Bundle.{Texts, bundle_of}
 use Rattle.p9_serve.specs.Listing.{table_text}
 use Rattle.p9_serve.specs.NameSpace.{NameSpace, exported, space_in}
 use Rattle.p9_serve.specs.Play.{PlaysAll}
-use Rattle.p9_serve.specs.Refusal.{need, or_refused, refusal_text, status_of}
+use Rattle.p9_serve.specs.Refusal.{or_refused, refusal_text, status_of}
 use Rattle.p9_serve.specs.Report.{reports_text}
 use Rattle.p9_serve.specs.Script.{script_of}
 use Rattle.p9_serve.specs.declared.command.Command.{Command}

@@ -9,10 +9,6 @@ use Rattle.p9_serve.specs.declared.refusal.Refusal.TheVariants.{BadWorld, BadOpe
 use Rattle.p9_serve.specs.declared.refusal.Stop.{Stop}
 use Rattle.p9_serve.specs.declared.refusal.Stop.TheVariants.{Refused, NoMemory}
 
--- goes on where the test passes
-abbrev pub need : {X : Type 0} → Bool → Refusal → Result X Refusal → Result X Refusal
-need test refusal rest = if test then rest else Err refusal
-
 -- what is bad is refused under this name
 abbrev pub or_refused : {X E : Type 0} → (E → Refusal) → Result X E → Result X Refusal
 or_refused refusal (Ok value) = Ok value

@@ -7,6 +7,7 @@ use Rattle.std.specs.Option.{option_map_or}
 use Rattle.std.specs.Result.{IfOk}
 use Rattle.std.proofs.lemmas.Bool.{and_parts}
 use Rattle.p9_base.specs.declared.node_ref.NodeRef.{NodeRef}
+use Rattle.p9_base.specs.NodeRef.{same_node}
 use Rattle.p9_tree.specs.Server.{Server}
 use Rattle.p9_space.specs.declared.row.Member.{Member}
 use Rattle.p9_space.specs.declared.row.Order.{Order}
@@ -14,7 +15,7 @@ use Rattle.p9_space.specs.declared.row.Order.TheVariants.{Replace, Before, After
 use Rattle.p9_space.specs.declared.table.UnmountError.TheVariants.{NotMounted, NotMember}
 use Rattle.p9_space.specs.Given.{is_given, is_row_given, is_table_given}
 use Rattle.p9_space.specs.Place.{file_ref, first_node}
-use Rattle.p9_space.specs.Row.{brought, is_of, joined, member, same_node}
+use Rattle.p9_space.specs.Row.{brought, is_of, joined, member}
 use Rattle.p9_space.specs.Table.{MountRow, bound, members_of, row_of, standing, unmounted}
 use Rattle.p9_space.specs.Table.{with_members, with_row, without_member, without_row}
 use Rattle.p9_space.proofs.GivenLists.{all-append, all-cons, all-insert_entry, all-lookup}

@@ -4,7 +4,7 @@ use Rattle.std.proofs.Common.{Some, None, Result, Ok, Err, length, not, take, is
 use Rattle.std.proofs.Common.{unwrap_or, refl, sym, subst}
 use Rattle.std.specs.Prelude.{◌==◌, if◌then◌else◌, nat_lt, slice_get}
 use Rattle.std.specs.List.{list_all, list_any}
-use Rattle.std.specs.Option.{option_map, option_map_or}
+use Rattle.std.specs.Option.{option_map, option_map_or, option_or}
 use Rattle.std.specs.Result.{IfOk}
 use Rattle.std.specs.Str.{bytes_eq}
 use Rattle.std.proofs.lemmas.Bool.{lt-ltb}
@@ -12,6 +12,7 @@ use Rattle.p9_base.specs.declared.fault.Fault.{Fault}
 use Rattle.p9_base.specs.declared.fault.Fault.TheVariants.{NotDirectory, NotFound, PermissionDenied}
 use Rattle.p9_base.specs.declared.fault.Fault.TheVariants.{PhaseError, PathTooDeep}
 use Rattle.p9_base.specs.declared.node_ref.NodeRef.{NodeRef}
+use Rattle.p9_base.specs.TryFold.{and_then}
 use Rattle.p9_tree.specs.Node.{Node, is_child}
 use Rattle.p9_tree.specs.Server.{Server, child_of}
 use Rattle.p9_tree.specs.Forest.{IsForest, child_in, no_server}
@@ -23,8 +24,8 @@ use Rattle.p9_space.specs.Given.{is_given}
 use Rattle.p9_space.specs.Place.{file_of}
 use Rattle.p9_space.specs.Table.{MountRow, members_of}
 use Rattle.p9_space.specs.Trail.{here, stepped, upward, places_max}
-use Rattle.p9_space.specs.Walk.{and_then, arrived, child_among, child_ref, is_alive, is_alive_dir}
-use Rattle.p9_space.specs.Walk.{is_searched, or_else, step_among, step_down, step_of, walk}
+use Rattle.p9_space.specs.Walk.{arrived, child_among, child_ref, is_alive, is_alive_dir}
+use Rattle.p9_space.specs.Walk.{is_searched, step_among, step_down, step_of, walk}
 use Rattle.p9_space.proofs.GivenLists.{all-append, all-cons, all-index_or, all-take}
 
 module _ (forest : List Server) (sound : IsForest forest) where
@@ -72,7 +73,7 @@ module _ (forest : List Server) (sound : IsForest forest) where
       where
         by : (b : Bool) (place : Option NodeRef) → IsMade place
             → IsMade (child_among forest user name ms)
-            → IsMade (or_else (if b then place else None) (child_among forest user name ms))
+            → IsMade (option_or (if b then place else None) (child_among forest user name ms))
         by true None made rest = rest
         by true (Some place) made rest = made
         by false place made rest = rest

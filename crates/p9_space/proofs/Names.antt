@@ -2,7 +2,7 @@
 use Rattle.std.proofs.Common.{◌≡◌, ℕ, suc, ◌<◌, ◌==◌, ◌&&◌, Bool, true, false, IsTrue, cond, List}
 use Rattle.std.proofs.Common.{[], ◌∷◌, Option, Some, None, slice_get, unwrap_or, refl, sym, subst}
 use Rattle.std.proofs.Common.{true≢false, arith, All, AllPairs}
-use Rattle.std.specs.Option.{option_map_or}
+use Rattle.std.specs.Option.{option_map_or, option_or}
 use Rattle.std.specs.Str.{bytes_eq}
 use Rattle.std.proofs.lemmas.Bool.Decides.{nat_tests}
 use Rattle.std.proofs.lemmas.Slice.Eq.{bytes_eq-Decides}
@@ -13,7 +13,7 @@ use Rattle.p9_tree.specs.Node.{Node, has_number, is_child}
 use Rattle.p9_tree.specs.Server.{Server, IsSound, node_at, child_of}
 use Rattle.p9_tree.specs.Forest.{IsForest, no_server, child_in}
 use Rattle.p9_space.specs.declared.row.Member.{Member}
-use Rattle.p9_space.specs.Walk.{or_else, is_searched, child_ref, child_among}
+use Rattle.p9_space.specs.Walk.{is_searched, child_ref, child_among}
 
 -- no node has a number below all
 node_at-below : (k : ℕ) (xs : List Node) → All (λ n. k < n.number) xs → node_at k xs ≡ None
@@ -101,7 +101,7 @@ child_among-invalid forest user name sound bad (m ∷ ms) =
     (child_among-invalid forest user name sound bad ms)
   where
     by : (b : Bool) → child_in m.node name forest ≡ None → child_among forest user name ms ≡ None
-        → or_else (cond b (child_ref forest m.node name) None) (child_among forest user name ms)
+        → option_or (cond b (child_ref forest m.node name) None) (child_among forest user name ms)
         ≡ None
     by true none rest = rw (none, rest)
     by false none rest = rest

@@ -9,10 +9,11 @@ use Rattle.std.proofs.lemmas.Map.Entries.{All-lookup}
 use Rattle.std.proofs.lemmas.List.Edits.{length-remove}
 use Rattle.indexmap.specs.IndexMap.{insert_entry}
 use Rattle.p9_base.specs.declared.node_ref.NodeRef.{NodeRef}
+use Rattle.p9_base.specs.NodeRef.{same_node}
 use Rattle.p9_space.specs.declared.row.Member.{Member}
 use Rattle.p9_space.specs.declared.row.Order.{Order}
 use Rattle.p9_space.specs.declared.row.Order.TheVariants.{Replace, Before, After}
-use Rattle.p9_space.specs.Row.{same_node, is_of, member, brought, joined}
+use Rattle.p9_space.specs.Row.{is_of, member, brought, joined}
 use Rattle.p9_space.specs.Table.{MountRow, IsTable, members_of, row_of, unmounted, with_members}
 use Rattle.p9_space.specs.Table.{with_row, without_row}
 

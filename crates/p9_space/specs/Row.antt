@@ -1,12 +1,10 @@
 -- The members of a row, as bind(1).
-use Rattle.std.specs.Prelude.{◌==◌, ◌&&◌, Bool, false, List, [], ◌∷◌, ◌++◌, map}
+use Rattle.std.specs.Prelude.{Bool, false, List, [], ◌∷◌, ◌++◌, map}
 use Rattle.p9_base.specs.declared.node_ref.NodeRef.{NodeRef}
+use Rattle.p9_base.specs.NodeRef.{same_node}
 use Rattle.p9_space.specs.declared.row.Member.{Member}
 use Rattle.p9_space.specs.declared.row.Order.{Order}
 use Rattle.p9_space.specs.declared.row.Order.TheVariants.{Replace, Before, After}
-
-abbrev pub same_node : NodeRef → NodeRef → Bool
-same_node a b = a.server == b.server && a.number == b.number
 
 abbrev pub member : Bool → NodeRef → Member
 member create node = record { node = node; create = create }

@@ -6,11 +6,12 @@ use Rattle.std.specs.Map.{lookup, remove_entry, keys_of}
 use Rattle.std.specs.Option.{option_map_or}
 use Rattle.indexmap.specs.IndexMap.{insert_entry}
 use Rattle.p9_base.specs.declared.node_ref.NodeRef.{NodeRef}
+use Rattle.p9_base.specs.NodeRef.{same_node}
 use Rattle.p9_space.specs.declared.row.Member.{Member}
 use Rattle.p9_space.specs.declared.row.Order.{Order}
 use Rattle.p9_space.specs.declared.table.UnmountError.{UnmountError}
 use Rattle.p9_space.specs.declared.table.UnmountError.TheVariants.{NotMounted, NotMember}
-use Rattle.p9_space.specs.Row.{same_node, is_of, member, brought, joined}
+use Rattle.p9_space.specs.Row.{is_of, member, brought, joined}
 
 abbrev pub MountRow : Type 0
 MountRow = NodeRef × List Member

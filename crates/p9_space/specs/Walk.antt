@@ -1,13 +1,14 @@
 -- Walks over the servers and the mount table, as walk(5).
-use Rattle.std.specs.Prelude.{ℕ, ◌==◌, ◌&&◌, Bool, true, false, not, List, [], ◌∷◌, Option, Some}
+use Rattle.std.specs.Prelude.{ℕ, ◌==◌, ◌&&◌, Bool, true, false, not, List, [], ◌∷◌, Option}
 use Rattle.std.specs.Prelude.{None, Result, Ok, Err, is_some, codes, length, if◌then◌else◌}
-use Rattle.std.specs.Option.{option_map, option_map_or}
+use Rattle.std.specs.Option.{option_map, option_map_or, option_or}
 use Rattle.std.specs.List.{list_any}
 use Rattle.std.specs.Str.{bytes_eq}
 use Rattle.p9_base.specs.declared.node_ref.NodeRef.{NodeRef}
 use Rattle.p9_base.specs.declared.fault.Fault.{Fault}
 use Rattle.p9_base.specs.declared.fault.Fault.TheVariants.{NotDirectory, NotFound, PermissionDenied}
 use Rattle.p9_base.specs.declared.fault.Fault.TheVariants.{PhaseError, PathTooDeep}
+use Rattle.p9_base.specs.TryFold.{and_then}
 use Rattle.p9_tree.specs.Node.{Node, is_dir}
 use Rattle.p9_tree.specs.Server.{Server}
 use Rattle.p9_tree.specs.Forest.{node_of, child_in}
@@ -22,16 +23,6 @@ use Rattle.p9_space.specs.Trail.{here, places_max, stepped}
 -- the user may search the directory; without a user everybody may
 abbrev pub may_search : Option (List ℕ) → Node → Bool
 may_search user n = option_map_or (λ u. may u n to_execute) user true
-
--- the first that there is
-abbrev pub or_else : {X : Type 0} → Option X → Option X → Option X
-or_else None other = other
-or_else (Some x) other = Some x
-
--- goes on with the value, or ends with the fault
-abbrev pub and_then : {X Y : Type 0} → Result X Fault → (X → Result Y Fault) → Result Y Fault
-and_then (Ok x) next = next x
-and_then (Err fault) next = Err fault
 
 module _ (forest : List Server) where
   -- a member is alive while its node exists
@@ -55,7 +46,7 @@ module _ (forest : List Server) where
     abbrev pub child_among : List ℕ → List Member → Option NodeRef
     child_among name [] = None
     child_among name (m ∷ ms) =
-        or_else (if is_searched m then child_ref m.node name else None) (child_among name ms)
+        option_or (if is_searched m then child_ref m.node name else None) (child_among name ms)
 
     -- where a name other than `..` leads from the members of the last place
     abbrev pub step_down : List NodeRef → List ℕ → List Member → Result Step Fault

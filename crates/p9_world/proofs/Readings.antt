@@ -1,13 +1,13 @@
 -- The world of a text, once its statements are read.
-use Rattle.std.proofs.Common.{◌≡◌, ℕ, ◌<◌, ◌≤◌, List, length, Result, Ok, Err, refl, ap, ◌∙◌, arith}
-use Rattle.std.proofs.lemmas.Bool.{lt-ltb, le-ltb}
+use Rattle.std.proofs.Common.{◌≡◌, ℕ, ◌<◌, List, length, Result, Ok, Err, refl}
+use Rattle.std.proofs.lemmas.Bool.{lt-ltb}
 use Rattle.p9_base.specs.Statement.{statements_of}
-use Rattle.p9_base.specs.TryFold.{and_then, try_fold}
+use Rattle.p9_base.specs.TryFold.{try_fold}
 use Rattle.p9_world.specs.declared.error.LineFault.{LineFault}
 use Rattle.p9_world.specs.declared.error.LineFault.TheVariants.{NoServer}
 use Rattle.p9_world.specs.declared.error.WorldError.{WorldError}
 use Rattle.p9_world.specs.declared.error.WorldError.TheVariants.{BadWorld, NoMemory}
-use Rattle.p9_world.specs.Reading.{Tells, read_statement, with_a_server, world_of}
+use Rattle.p9_world.specs.Reading.{Tells, read_statement, world_of}
 use Rattle.p9_world.specs.World.{World, empty_world}
 
 -- a text whose statements make a world with a server

@@ -1,18 +1,16 @@
 -- A line 'hide SERVER PATH'.
-use Rattle.std.specs.Prelude.{ℕ, ◌==◌, ◌&&◌, Bool, not, List, [], ◌∷◌, ◌++◌, Result, Ok}
+use Rattle.std.specs.Prelude.{ℕ, Bool, not, List, [], ◌∷◌, ◌++◌, Result, Ok}
 use Rattle.std.specs.List.{list_any}
 use Rattle.p9_base.specs.declared.node_ref.NodeRef.{NodeRef}
+use Rattle.p9_base.specs.NodeRef.{same_node}
+use Rattle.p9_base.specs.TryFold.{given, need}
 use Rattle.p9_tree.specs.Forest.{server_at}
 use Rattle.p9_world.specs.declared.error.LineFault.{LineFault}
 use Rattle.p9_world.specs.declared.error.LineFault.TheVariants.{NoServer, BadPath, NoParent}
 use Rattle.p9_world.specs.declared.error.LineFault.TheVariants.{Duplicate}
-use Rattle.p9_world.specs.Meaning.{given, need}
 use Rattle.p9_world.specs.Path.{dir_of, names_of}
 use Rattle.p9_world.specs.Server.{server_number}
 use Rattle.p9_world.specs.World.{World}
-
-abbrev pub same_node : NodeRef → NodeRef → Bool
-same_node a b = a.server == b.server && a.number == b.number
 
 abbrev pub is_hidden_by : List NodeRef → NodeRef → Bool
 is_hidden_by hidden node = list_any (λ other. same_node other node) hidden

@@ -1,6 +1,5 @@
 -- What a line means: a value, or what is wrong with the line.
-use Rattle.std.specs.Prelude.{◌≡◌, Bool, Option, Some, None, List, Result, Ok, Err, codes, ℕ}
-use Rattle.std.specs.Prelude.{if◌then◌else◌}
+use Rattle.std.specs.Prelude.{◌≡◌, List, Result, Ok, Err, codes, ℕ}
 use Rattle.p9_world.specs.declared.error.LineFault.{LineFault}
 use Rattle.p9_world.specs.declared.error.LineFault.TheVariants.{UnknownWord, WordCount, NoServer}
 use Rattle.p9_world.specs.declared.error.LineFault.TheVariants.{BadName, BadPath, BadMode, BadUser}
@@ -23,16 +22,6 @@ text_of TooLarge = codes "file too large"
 text_of NoParent = codes "no such directory"
 text_of Duplicate = codes "already there"
 text_of TooMany = codes "too many"
-
--- goes on where the test passes
-abbrev pub need : {X : Type 0} → Bool → LineFault → Result X LineFault → Result X LineFault
-need test fault rest = if test then rest else Err fault
-
--- goes on with the value, where there is one
-abbrev pub given : {X Y : Type 0} → Option X → LineFault → (X → Result Y LineFault)
-    → Result Y LineFault
-given None fault rest = Err fault
-given (Some x) fault rest = rest x
 
 -- What a function that reads a line has to do: what it makes of the old value is the line's
 -- meaning, and a fault or want of memory leaves the value.

@@ -3,14 +3,13 @@ use Rattle.std.specs.Prelude.{◌≡◌, ℕ, nat_lt, List, [], ◌∷◌, Optio
 use Rattle.std.specs.Prelude.{length, codes, if◌then◌else◌}
 use Rattle.std.specs.Str.{bytes_eq}
 use Rattle.p9_base.specs.Statement.{statements_of}
-use Rattle.p9_base.specs.TryFold.{and_then, try_fold}
+use Rattle.p9_base.specs.TryFold.{and_then, given, try_fold}
 use Rattle.p9_world.specs.declared.error.LineFault.{LineFault}
 use Rattle.p9_world.specs.declared.error.LineFault.TheVariants.{UnknownWord, WordCount, NoServer}
 use Rattle.p9_world.specs.declared.error.WorldError.{WorldError}
 use Rattle.p9_world.specs.declared.error.WorldError.TheVariants.{BadWorld, NoMemory}
 use Rattle.p9_world.specs.declared.read.Operation.{Operation}
 use Rattle.p9_world.specs.declared.read.Operation.TheVariants.{Server, Dir, File, User, Hide, Set}
-use Rattle.p9_world.specs.Meaning.{given}
 use Rattle.p9_world.specs.World.{World, empty_world}
 use Rattle.p9_world.specs.Server.{server_line}
 use Rattle.p9_world.specs.Entry.{dir_line, file_line, in_last_server}

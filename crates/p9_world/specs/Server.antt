@@ -6,7 +6,7 @@ use Rattle.std.specs.Str.{bytes_eq}
 use Rattle.p9_tree.specs.Server.{rooted}
 use Rattle.p9_world.specs.declared.error.LineFault.{LineFault}
 use Rattle.p9_world.specs.declared.error.LineFault.TheVariants.{BadName, Duplicate, TooMany}
-use Rattle.p9_world.specs.Meaning.{need}
+use Rattle.p9_base.specs.TryFold.{need}
 use Rattle.p9_world.specs.World.{World}
 
 -- '/', '#', '$' or NUL

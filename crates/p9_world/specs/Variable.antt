@@ -5,7 +5,7 @@ use Rattle.std.specs.List.{list_any}
 use Rattle.std.specs.Str.{bytes_eq}
 use Rattle.p9_world.specs.declared.error.LineFault.{LineFault}
 use Rattle.p9_world.specs.declared.error.LineFault.TheVariants.{BadName, Duplicate}
-use Rattle.p9_world.specs.Meaning.{need}
+use Rattle.p9_base.specs.TryFold.{need}
 use Rattle.p9_world.specs.World.{World}
 
 -- not empty, without '/' and '$'

@@ -2,7 +2,8 @@
 
 ghost use Rattle.std.specs.Prelude.{◌≡◌, ◌<◌, Ok};
 ghost use Rattle.p9_tree.specs.Forest.{next_of};
-ghost use Rattle.p9_world.specs.Hide.{hide_line, is_hidden_by, same_node, with_hidden};
+ghost use Rattle.p9_world.specs.Hide.{hide_line, is_hidden_by, with_hidden};
+ghost use Rattle.p9_base.specs.NodeRef.{same_node};
 ghost use Rattle.p9_world.specs.Meaning.{Makes};
 
 use crate::error::{LineError, LineFault};

@@ -1,7 +1,5 @@
-use Rattle.std.proofs.Common.{◌≡◌, ◌<◌, ◌≤◌, [], length, map, refl, sym, arith, string_bytes}
-use Rattle.std.proofs.lemmas.List.{length-map}
+use Rattle.std.proofs.Common.{◌<◌, [], length, map, refl, arith, string_bytes}
 use Rattle.p9_world.specs.Entry.{dir_line}
-use Rattle.p9_world.specs.World.{World}
 use Rattle.p9_world.proofs.Worlds.{IsWorld-last, Makes-last}
 use Rattle.p9_world.proofs.entry.add_dir.Goals as goal
 

@@ -1,4 +1,4 @@
-use Rattle.std.proofs.Common.{ap, ◌∙◌, ◌+◌, arith}
+use Rattle.std.proofs.Common.{arith}
 use Rattle.p9_base.proofs.Modes.{mode_bits-injective}
 use Rattle.p9_base.proofs.mode.Mode.bits.Goals as goal
 
