@@ -1,5 +1,5 @@
 -- Lines 'dir PATH MODE UID GID' and 'file PATH MODE UID GID HEX', which belong to the last server.
-use Rattle.std.specs.Prelude.{ℕ, ◌+◌, ◌-◌, ◌^◌, ◌&&◌, Bool, not, nat_le, nat_lt, List, [], ◌∷◌}
+use Rattle.std.specs.Prelude.{ℕ, ◌+◌, ◌-◌, ◌&&◌, Bool, not, nat_le, nat_lt, List, [], ◌∷◌}
 use Rattle.std.specs.Prelude.{Option, Some, None, Result, Ok, is_some, length, codes, if◌then◌else◌}
 use Rattle.std.specs.Result.{result_ok}
 use Rattle.std.specs.Str.{bytes_eq}
@@ -9,8 +9,9 @@ use Rattle.p9_base.specs.declared.mode.Permissions.{Permissions}
 use Rattle.p9_base.specs.TryFold.{and_then}
 use Rattle.p9_base.specs.User.{is_user}
 use Rattle.p9_clean.specs.Path.{Word}
+use Rattle.p9_tree.specs.Bytes.{file_max}
 use Rattle.p9_tree.specs.Node.{Node, with_owner}
-use Rattle.p9_tree.specs.Server.{Server, added, child_of, with_changed}
+use Rattle.p9_tree.specs.Server.{Server, added, child_of, next_max, with_changed}
 use Rattle.p9_tree.specs.Forest.{server_at, tree_changed_at}
 use Rattle.p9_world.specs.declared.error.LineFault.{LineFault}
 use Rattle.p9_world.specs.declared.error.LineFault.TheVariants.{NoServer, BadPath, BadMode, BadUser}
@@ -34,14 +35,6 @@ in_last_server change w =
     Ok (record w { forest = tree_changed_at (last_number w) (λ old. server) w.forest })))
 
 -- New nodes.
-
--- the most bytes of a file
-abbrev pub file_max : ℕ
-file_max = 2 ^ 20
-
--- a server gives the numbers below this one
-abbrev pub next_max : ℕ
-next_max = 2 ^ 48
 
 -- what a line says of a node: its owner is its last changer too
 pub record Entry : Type 0 where

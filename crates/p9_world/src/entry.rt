@@ -16,7 +16,7 @@ use p9_tree::{FILE_MAX, NEXT_MAX, New, Tree};
 use std::alloc::Allocator;
 
 /// A directory joins the last server, or the root of that server is changed.
-pub fn add_dir<T: Tree>(
+pub(crate) fn add_dir<T: Tree>(
     alloc: T::Alloc,
     world: &mut World<T>,
     path: &str,
@@ -34,7 +34,7 @@ pub fn add_dir<T: Tree>(
 }
 
 /// A file joins the last server.
-pub fn add_file<T: Tree>(
+pub(crate) fn add_file<T: Tree>(
     alloc: T::Alloc,
     world: &mut World<T>,
     path: &str,
