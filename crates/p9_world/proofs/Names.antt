@@ -1,5 +1,5 @@
 -- Names along a path, read one after another.
-use Rattle.std.proofs.Common.{◌≡◌, ℕ, ◌+◌, List, [], ◌∷◌, ◌++◌, Option, Some, None, if◌then◌else◌}
+use Rattle.std.proofs.Common.{◌≡◌, List, [], ◌∷◌, ◌++◌, Option, Some, None, if◌then◌else◌}
 use Rattle.std.proofs.Common.{length, refl, sym, ap, ◌∙◌, arith, option_map}
 use Rattle.std.specs.List.{list_all, IsLastAndRest}
 use Rattle.std.specs.Option.{option_map_or, MatchOption}

@@ -1,5 +1,5 @@
 -- The modes that words write.
-use Rattle.std.specs.Prelude.{ℕ, ◌+◌, ◌-◌, ◌*◌, ◌==◌, ◌&&◌, Bool, true, false, nat_le, List, []}
+use Rattle.std.specs.Prelude.{ℕ, ◌+◌, ◌-◌, ◌*◌, ◌==◌, ◌&&◌, Bool, false, nat_le, List, []}
 use Rattle.std.specs.Prelude.{◌∷◌, Option, Some, None, drop, if◌then◌else◌}
 use Rattle.std.specs.Option.{option_map}
 use Rattle.p9_base.specs.declared.mode.Mode.{Mode}
