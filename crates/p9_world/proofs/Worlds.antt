@@ -216,7 +216,7 @@ dir_of-below names s k well found = go (number_from 0 names s.nodes) refl
 -- the line of a directory that is found
 pub hide_line-found : (server path : List ℕ) (w : World) (number dir : ℕ) (names : List Word)
     → server_number server w.servers ≡ Some number → names_of path ≡ Some names
-    → dir_of names (server_at number w.forest) ≡ Some dir
+    → Some dir ≡ dir_of names (server_at number w.forest)
     → hide_line server path w ≡ with_hidden (record { server = number; number = dir }) w
 hide_line-found server path w number dir names at_server at_path at_dir =
-    rw (at_server, at_path, at_dir) refl
+    rw (at_server, at_path, ← at_dir) refl

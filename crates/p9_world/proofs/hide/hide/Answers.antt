@@ -33,8 +33,8 @@ returns g c =
     sym (rw c.in-Some-2.is at c.in_ok-names.ensures) in
     let at_world : server_number c.args.server.now c.args.world.now.servers
     ≡ Some c.in-Some.server = rw (← c.world.view_is) at in
-    let dir : dir_of c.in-Some-2.names.items (server_at c.in-Some.server c.args.world.now.forest)
-    ≡ Some c.in-Some-dir_of.number = rw (← c.world.view_is, here, ← c.as_slice-2.ensures.value)
-    (sym c.in-Some-dir_of.ensures) in
+    let dir : Some c.in-Some-dir_of.number
+    ≡ dir_of c.in-Some-2.names.items (server_at c.in-Some.server c.args.world.now.forest) =
+    rw (← c.world.view_is, here, ← c.as_slice-2.ensures.value) c.in-Some-dir_of.ensures in
     rw (hide_line-found c.args.server.now c.args.path.now c.args.world.now c.in-Some.server
     c.in-Some-dir_of.number c.in-Some-2.names.items at_world names dir) c.add_hidden.ensures
