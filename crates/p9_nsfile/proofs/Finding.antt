@@ -25,7 +25,7 @@ use Rattle.p9_nsfile.specs.declared.fault.Stop.TheVariants as stops
 use Rattle.p9_nsfile.specs.declared.setting.TheConstants.{SERVERS_MAX}
 use Rattle.p9_nsfile.specs.Answer.{Gives, is_memory, walk_stop}
 use Rattle.p9_nsfile.specs.Find.{behind_hash, found_on_server, path_fault, server_root, walked}
-use Rattle.p9_nsfile.specs.Space.{Setting, Space, names_of}
+use Rattle.p9_nsfile.specs.Space.{Setting, Space}
 use Rattle.p9_nsfile.specs.Variable.{is_slash}
 use Rattle.p9_nsfile.proofs.Words.{position-map}
 
@@ -86,7 +86,7 @@ pub server_root-some : {A : Type 0} (servers numbered : List (String A)) (name :
     numbered ≡ take SERVERS_MAX servers
     → found ≡ position (λ s. bytes_eq (string_bytes s) name) numbered →
     option_map_or (λ number. Ok (record { server = number; number = 0 })) found (Err UnknownServer)
-    ≡ server_root (names_of servers) name
+    ≡ server_root (map string_bytes servers) name
 server_root-some servers numbered name found is e =
     ap (λ o. option_map_or (λ number. Ok (record { server = number; number = 0 })) o
     (Err UnknownServer))

@@ -34,9 +34,15 @@ root_place = record { server = 0; number = 0 }
 abbrev pub beginning : List MountRow → Space
 beginning table = record { table = table; current = root_place ∷ []; reports = [] }
 
--- the variables and the names, from the code's texts
+-- the variables, from the code's texts
 abbrev pub variables_of : {A : Type 0} → List (String A × String A) → List Variable
 variables_of vars = map (λ var. (string_bytes var.0, string_bytes var.1)) vars
 
-abbrev pub names_of : {A : Type 0} → List (String A) → List (List ℕ)
-names_of names = map string_bytes names
+-- a setting of the code, as it is seen
+abbrev pub setting_value : {T A : Type 0} → (T → Server) → List T → List (String A × String A)
+    → List (String A) → Setting
+setting_value state trees vars servers = record {
+  forest = map state trees;
+  vars = variables_of vars;
+  servers = map string_bytes servers;
+}

@@ -97,14 +97,3 @@ impl<T: Drop> From<AllocFailed<T>> for Stop {
         Stop::NoMemory
     }
 }
-
-impl From<OpFault> for Stop {
-    ghost use Rattle.std.specs.Prelude.{◌≡◌};
-    ghost use Rattle.p9_nsfile.specs.declared.fault.Stop.TheVariants as stops;
-
-    ghost from_gives = { λ fault stop. stop ≡ stops.Fault fault };
-
-    fn from(fault: OpFault) -> Stop {
-        Stop::Fault(fault)
-    }
-}

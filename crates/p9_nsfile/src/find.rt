@@ -11,18 +11,12 @@ ghost use Rattle.p9_nsfile.specs.Variable.{is_slash};
 
 use crate::fault::Stop;
 use crate::setting::Setting;
-use crate::space::Space;
+use crate::space::{ROOT_PLACE, Space};
 use p9_base::{NoMemory, NodeRef};
 use p9_clean::{clean, elements};
 use p9_space::Trail;
 use p9_tree::Tree;
 use std::alloc::Allocator;
-
-/// Where a path that begins with `/` starts, and the first current directory: the root of server 0.
-pub(crate) const ROOT_PLACE: NodeRef = NodeRef {
-    server: 0,
-    number: 0,
-};
 
 /// The trail to the file that a word names, with its variables put in.
 ///

@@ -7,7 +7,7 @@ ghost use Rattle.p9_nsfile.specs.Line.{IsNsFault, line_value, lines_in};
 ghost use Rattle.p9_nsfile.specs.Operation.{operation_value};
 ghost use Rattle.p9_nsfile.specs.Run.{acted, entered, file_lines, included, included_lines};
 ghost use Rattle.p9_nsfile.specs.Run.{line_done, lines_done, or_bad_include, run_of};
-ghost use Rattle.p9_nsfile.specs.Space.{names_of, variables_of};
+ghost use Rattle.p9_nsfile.specs.Space.{setting_value};
 
 use crate::bind::{bind, mount, unmount};
 use crate::error::NsError;
@@ -44,24 +44,15 @@ pub fn run_file<T: Tree>(
     forest: &Forest<T>,
     table: &mut MountTable<T::Alloc>,
 ) -> Result<Vec<(u64, OpFault), T::Alloc>, NsError>
-    ensures ok { IfOk result (λ reports. run_of
-        (record {
-          forest = map T.state forest.now.trees.items;
-          vars = variables_of vars.now;
-          servers = names_of servers.now;
-        }) text.now table.old ≡ Ok (table.new, reports.items)) }
-    ensures err { IfErr result (IsNsFault (run_of
-        (record {
-          forest = map T.state forest.now.trees.items;
-          vars = variables_of vars.now;
-          servers = names_of servers.now;
-        }) text.now table.old)) }
+    ensures ok { IfOk result (λ reports.
+        run_of (setting_value T.state forest.now.trees.items vars.now servers.now) text.now table.old
+        ≡ Ok (table.new, reports.items)) }
+    ensures err { IfErr result (IsNsFault
+        (run_of (setting_value T.state forest.now.trees.items vars.now servers.now)
+        text.now table.old)) }
     ensures unchanged { OnErr result (table.new ≡ table.old) }
-    ensures given { OnOk result (KeepsGiven (record {
-      forest = map T.state forest.now.trees.items;
-      vars = variables_of vars.now;
-      servers = names_of servers.now;
-    }) table.old table.new) }
+    ensures given { OnOk result (KeepsGiven (setting_value T.state forest.now.trees.items
+        vars.now servers.now) table.old table.new) }
 {
     forest.well_formed();
     let lines = read_lines(alloc, text)?;

@@ -8,7 +8,7 @@ ghost use Rattle.p9_tree.specs.Forest.{is_dir_of, node_of};
 ghost use Rattle.p9_space.specs.Walk.{walk};
 ghost use Rattle.p9_nsfile.specs.Answer.{Gives, walk_stop};
 ghost use Rattle.p9_nsfile.specs.Find.{path_fault, server_root};
-ghost use Rattle.p9_nsfile.specs.Space.{names_of, variables_of};
+ghost use Rattle.p9_nsfile.specs.Space.{setting_value};
 ghost use Rattle.p9_nsfile.specs.Variable.{expanded};
 
 use crate::fault::{OpFault, Stop};
@@ -32,12 +32,11 @@ pub(crate) struct Setting<'a, T: Tree> {
 }
 
 impl<'a, T: Tree> Model for Setting<'a, T> {
-    ghost use Rattle.std.specs.Prelude.{map};
-    ghost use Rattle.p9_nsfile.specs.Space.{Setting as SettingOf, names_of, variables_of};
+    ghost use Rattle.p9_nsfile.specs.Space.{Setting as SettingOf, setting_value};
 
     ghost Value = { SettingOf };
 
-    ghost view = { λ s. record { forest = map T.state s.forest.now.trees.items; vars = variables_of s.vars.now; servers = names_of s.servers.now } };
+    ghost view = { λ s. setting_value T.state s.forest.now.trees.items s.vars.now s.servers.now };
 }
 
 impl<'a, T: Tree> Setting<'a, T> {
@@ -48,12 +47,7 @@ impl<'a, T: Tree> Setting<'a, T> {
         vars: &'a [(String<T::Alloc>, String<T::Alloc>)],
         servers: &'a [String<T::Alloc>],
     ) -> Setting<'a, T>
-        ensures { result ≡ record {
-          forest = map T.state forest.now.trees.items;
-          vars = variables_of
-              vars.now;
-          servers = names_of servers.now;
-        } }
+        ensures { result ≡ setting_value T.state forest.now.trees.items vars.now servers.now }
     {
         Setting {
             alloc,
@@ -134,7 +128,7 @@ fn walk_stop(fault: Fault) -> Stop
 }
 
 fn server_root<A: Allocator>(servers: &[String<A>], name: &str) -> Result<NodeRef, OpFault>
-    ensures { result ≡ server_root (names_of servers.now) name.now }
+    ensures { result ≡ server_root (map string_bytes servers.now) name.now }
 {
     let numbered = &servers[..servers.len().min(SERVERS_MAX)];
     match server_number(numbered, name) {

@@ -8,12 +8,17 @@ ghost use Rattle.p9_nsfile.specs.Space.{beginning};
 ghost use Rattle.p9_nsfile.specs.Bind.{member_nodes, taken_away, unmount_fault, with_table};
 
 use crate::fault::{OpFault, Stop};
-use crate::find::ROOT_PLACE;
 use crate::flags::Flags;
 use p9_base::{NoMemory, NodeRef};
 use p9_space::{Member, MountTable, Trail, UnmountError};
 use std::alloc::Allocator;
 use std::marker::Model;
+
+/// Where a path that begins with `/` starts, and the first current directory: the root of server 0.
+pub(crate) const ROOT_PLACE: NodeRef = NodeRef {
+    server: 0,
+    number: 0,
+};
 
 /// The mount table and the current directory, with the reports of what failed so far: the line and
 /// the fault.
@@ -29,7 +34,11 @@ impl<A: Allocator + Copy> Model for Space<A> {
 
     ghost Value = { SpaceOf };
 
-    ghost view = { λ s. record { table = s.table; current = s.current; reports = s.reports.items } };
+    ghost view = { λ s. record {
+      table = s.table;
+      current = s.current;
+      reports = s.reports.items;
+    } };
 }
 
 impl<A: Allocator + Copy> Space<A> {
@@ -125,8 +134,7 @@ impl<A: Allocator + Copy> Space<A> {
     /// Reports the fault of a line.
     pub fn report(&mut self, line: u64, fault: OpFault) -> Result<(), NoMemory>
         ensures { OnOk result (self.new ≡ record self.old {
-          reports = self.old.reports ++
-              (line, fault) ∷ [];
+          reports = self.old.reports ++ (line, fault) ∷ [];
         }) }
     {
         self.reports.push((line, fault))?;

@@ -9,7 +9,7 @@ use Rattle.hex.specs.Hex.{encode_lower}
 use Rattle.p9_export.specs.State.{State, session_at}
 use Rattle.p9_export.specs.Event.{Event, Request, is_frame}
 use Rattle.p9_export.specs.Step.{Stepped, step}
-use Rattle.p9_serve.specs.Play.{Played, Plays, PlaysAll, play_text, played, skipped, told}
+use Rattle.p9_serve.specs.Play.{Played, Plays, PlaysAll, play_text, played, replied, skipped}
 
 -- some events were played, with some marks: what is printed for the others, whatever their marks,
 -- is the rest of the play text
@@ -79,9 +79,9 @@ on_ok (Err e) follows holds = holds
 
 -- Each event, as the exporter's calls tell of it. What a step does is not looked into.
 
-told-if : (fits : Bool) (after : Stepped) (otherwise : Played) → fits ≡ true
-    → (if fits then told after else otherwise) ≡ told after
-told-if fits after otherwise is = ap (λ test. if test then told after else otherwise) is
+replied-if : (fits : Bool) (after : Stepped) (otherwise : Played) → fits ≡ true
+    → (if fits then replied after else otherwise) ≡ replied after
+replied-if fits after otherwise is = ap (λ test. if test then replied after else otherwise) is
 
 -- a frame that fits, and its reply
 pub plays-request : (name now : ℕ) (frame : List ℕ) (old new : State) (before after reply : List ℕ)
@@ -94,8 +94,8 @@ pub plays-request : (name now : ℕ) (frame : List ℕ) (old new : State) (befor
 plays-request name now frame old new before after reply refused whole live state_is reply_is
     text_is =
     let fits : played old (Request name frame now) refused
-    ≡ told (step old (Request name frame now) refused) =
-    told-if (is_frame frame && is_some (session_at name old.sessions))
+    ≡ replied (step old (Request name frame now) refused) =
+    replied-if (is_frame frame && is_some (session_at name old.sessions))
     (step old (Request name frame now) refused) (skipped old)
     (and_from (is_frame frame) (is_some (session_at name old.sessions)) whole live) in
     record {

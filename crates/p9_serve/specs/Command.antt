@@ -56,8 +56,8 @@ job_in command input =
 
 -- the same for a word and its input
 abbrev pub job_of : List ℕ → List ℕ → Result Job Refusal
-job_of cmd input =
-    option_map_or (λ command. job_in command input) (command_of cmd) (Err BadCommandLine)
+job_of word input =
+    option_map_or (λ command. job_in command input) (command_of word) (Err BadCommandLine)
 
 -- What is printed.
 

@@ -20,8 +20,8 @@ abbrev pub silent : Stepped → Played
 silent after = record { state = after.state; text = [] }
 
 -- a reply is printed as a line of hexadecimal digits
-abbrev pub told : Stepped → Played
-told after = record { state = after.state; text = encode_lower after.reply ++ 10 ∷ [] }
+abbrev pub replied : Stepped → Played
+replied after = record { state = after.state; text = encode_lower after.reply ++ 10 ∷ [] }
 
 -- an event is played; refused says that memory was refused to a request, and counts for no other
 -- event
@@ -31,7 +31,7 @@ played state (Opening name) refused =
     else silent (step state (Opening name) false)
 played state (Request name frame now) refused =
     if is_frame frame && is_some (session_at name state.sessions)
-    then told (step state (Request name frame now) refused)
+    then replied (step state (Request name frame now) refused)
     else skipped state
 played state (Closing name now) refused =
     if is_some (session_at name state.sessions) then silent (step state (Closing name now) false)

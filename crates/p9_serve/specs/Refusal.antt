@@ -1,7 +1,7 @@
 -- Why a command does nothing, and how it is told.
 use Rattle.std.specs.Prelude.{◌≡◌, ℕ, List, ◌++◌, Bool, Result, Ok, Err, codes, if◌then◌else◌}
 use Rattle.std.specs.Fmt.{decimal}
-use Rattle.p9_world.specs.Meaning.{text_of as world_text}
+use Rattle.p9_world.specs.Text.{line_fault_text}
 use Rattle.p9_nsfile.specs.Text.{form_text}
 use Rattle.p9_serve.specs.declared.refusal.Refusal.{Refusal}
 use Rattle.p9_serve.specs.declared.refusal.Refusal.TheVariants.{BadCommandLine, NotUtf8, BadSection}
@@ -28,7 +28,7 @@ abbrev pub refusal_text : Refusal → List ℕ
 refusal_text BadCommandLine = codes "p9: bad command line"
 refusal_text NotUtf8 = codes "input: not UTF-8"
 refusal_text (BadSection line) = at_line (codes "bundle") line (codes "bad section")
-refusal_text (BadWorld line kind) = at_line (codes "world") line (world_text kind)
+refusal_text (BadWorld line kind) = at_line (codes "world") line (line_fault_text kind)
 refusal_text (BadOperation line kind) = at_line (codes "ns") line (form_text kind)
 refusal_text (BadEvent line) = at_line (codes "script") line (codes "bad line")
 

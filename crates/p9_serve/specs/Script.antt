@@ -24,39 +24,39 @@ event_value (Close name now) = Closing name now
 abbrev pub short_number : List ℕ → Option ℕ
 short_number word = number_of (2 ^ 32) word
 
--- hexadecimal digits of one byte or more, in either case
-abbrev pub bytes_in : List ℕ → Option (List ℕ)
-bytes_in [] = None
-bytes_in (digit ∷ digits) = result_ok (decode_of (digit ∷ digits))
+-- the frame that hexadecimal digits of either case write: one byte or more
+abbrev pub frame_in : List ℕ → Option (List ℕ)
+frame_in [] = None
+frame_in (digit ∷ digits) = result_ok (decode_of (digit ∷ digits))
 
-abbrev pub opening_of : List ℕ → List ℕ → Option Event
-opening_of verb name =
+abbrev pub opening_event_of : List ℕ → List ℕ → Option Event
+opening_event_of verb name =
     if bytes_eq verb (codes "open") then option_map Opening (short_number name) else None
 
-abbrev pub closing_at : Option ℕ → Option ℕ → Option Event
-closing_at (Some name) (Some now) = Some (Closing name now)
-closing_at name now = None
+abbrev pub message_event_at : Option ℕ → Option (List ℕ) → Option ℕ → Option Event
+message_event_at (Some name) (Some frame) (Some now) = Some (Request name frame now)
+message_event_at name frame now = None
 
-abbrev pub closing_of : List ℕ → List ℕ → List ℕ → Option Event
-closing_of verb name now =
-    if bytes_eq verb (codes "close") then closing_at (short_number name) (short_number now)
-    else None
-
-abbrev pub request_at : Option ℕ → Option (List ℕ) → Option ℕ → Option Event
-request_at (Some name) (Some frame) (Some now) = Some (Request name frame now)
-request_at name frame now = None
-
-abbrev pub request_of : List ℕ → List ℕ → List ℕ → List ℕ → Option Event
-request_of verb name now hex =
+abbrev pub message_event_of : List ℕ → List ℕ → List ℕ → List ℕ → Option Event
+message_event_of verb name now hex =
     if bytes_eq verb (codes "msg")
-    then request_at (short_number name) (bytes_in hex) (short_number now)
+    then message_event_at (short_number name) (frame_in hex) (short_number now)
     else None
 
--- the event that the words of a line say: `open S`, `close S NOW` or `msg S NOW HEX`
+abbrev pub closing_event_at : Option ℕ → Option ℕ → Option Event
+closing_event_at (Some name) (Some now) = Some (Closing name now)
+closing_event_at name now = None
+
+abbrev pub closing_event_of : List ℕ → List ℕ → List ℕ → Option Event
+closing_event_of verb name now =
+    if bytes_eq verb (codes "close") then closing_event_at (short_number name) (short_number now)
+    else None
+
+-- the event that the words of a line say: `open S`, `msg S NOW HEX` or `close S NOW`
 abbrev pub event_of : List (List ℕ) → Option Event
-event_of (verb ∷ name ∷ []) = opening_of verb name
-event_of (verb ∷ name ∷ now ∷ []) = closing_of verb name now
-event_of (verb ∷ name ∷ now ∷ hex ∷ []) = request_of verb name now hex
+event_of (verb ∷ name ∷ []) = opening_event_of verb name
+event_of (verb ∷ name ∷ now ∷ hex ∷ []) = message_event_of verb name now hex
+event_of (verb ∷ name ∷ now ∷ []) = closing_event_of verb name now
 event_of words = None
 
 -- the event joins the others; a line that says none is bad

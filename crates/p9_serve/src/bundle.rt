@@ -96,7 +96,8 @@ impl<A: Allocator + Copy> Reader<A> {
     // Reads the line of this number.
     fn read_line(&mut self, alloc: A, number: u64, line: &str) -> Result<(), BundleError>
         ensures ok { OnOk result
-            (with_numbered_line (reader_value self.old) (number, line.now) ≡ Ok (reader_value self.new)) }
+            (with_numbered_line (reader_value self.old) (number, line.now)
+            ≡ Ok (reader_value self.new)) }
         ensures bad { IfErr result
             (IsBundleFault (with_numbered_line (reader_value self.old) (number, line.now))) }
     {
@@ -126,7 +127,8 @@ impl<A: Allocator + Copy> Reader<A> {
     // Adds a line to the section that was begun last.
     fn go_on(&mut self, number: u64, line: &str) -> Result<(), BundleError>
         ensures ok { OnOk result
-            (continued (reader_value self.old) number line.now self.old.last ≡ Ok (reader_value self.new)) }
+            (continued (reader_value self.old) number line.now self.old.last
+            ≡ Ok (reader_value self.new)) }
         ensures bad { IfErr result
             (IsBundleFault (continued (reader_value self.old) number line.now self.old.last)) }
     {
@@ -169,7 +171,8 @@ impl<A: Allocator + Copy> Bundle<A> {
 // Adds a line to a section's text, if the section is there.
 fn push_line<A: Allocator + Copy>(text: &mut Option<String<A>>, line: &str) -> Result<(), NoMemory>
     ensures { OnOk result
-        (option_map string_bytes text.new ≡ option_map (with_line line.now) (option_map string_bytes text.old)) }
+        (option_map string_bytes text.new
+        ≡ option_map (with_line line.now) (option_map string_bytes text.old)) }
 {
     if let Some(text) = text {
         text.push_str(line)?;

@@ -39,19 +39,19 @@ enum Command {
 /// file and its script, in this order, ends with status 1, and any other command with status 2;
 /// nothing is printed on `out` then. Want of memory may have printed a part.
 pub fn run_command<A: Allocator + Copy>(
-    cmd: &str,
+    word: &str,
     input: &[u8],
     out: &mut Vec<u8, A>,
     err: &mut Vec<u8, A>,
 ) -> Result<u8, NoMemory>
-    ensures { IfOk result (λ status. Ends (job_of cmd.now input.now) status (record {
+    ensures { IfOk result (λ status. Ends (job_of word.now input.now) status (record {
       out_before = out.old.items;
       out = out.new.items;
       err_before = err.old.items;
       err = err.new.items;
     })) }
 {
-    match run(cmd, input, out, err) {
+    match run(word, input, out, err) {
         Ok(()) => Ok(0),
         Err(Stop::Refused(refusal)) => {
             let text = refusal.text(*err.allocator())?;
@@ -64,19 +64,19 @@ pub fn run_command<A: Allocator + Copy>(
 
 // Does what a command is asked, up to the reason that stops it.
 fn run<A: Allocator + Copy>(
-    cmd: &str,
+    word: &str,
     input: &[u8],
     out: &mut Vec<u8, A>,
     err: &mut Vec<u8, A>,
 ) -> Result<(), Stop>
-    ensures { Runs (job_of cmd.now input.now) (record {
+    ensures { Runs (job_of word.now input.now) (record {
       out_before = out.old.items;
       out = out.new.items;
       err_before = err.old.items;
       err = err.new.items;
     }) result }
 {
-    match command_of(cmd) {
+    match command_of(word) {
         Some(command) => run_in(command, input, out, err),
         None => Err(Stop::Refused(Refusal::BadCommandLine)),
     }

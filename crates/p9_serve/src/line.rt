@@ -7,7 +7,10 @@ use p9_base::NoMemory;
 use std::alloc::Allocator;
 
 /// Prints a line. Where memory is refused, a part of it may stand there.
-pub fn print_line<A: Allocator + Copy>(line: &str, out: &mut Vec<u8, A>) -> Result<(), NoMemory>
+pub(crate) fn print_line<A: Allocator + Copy>(
+    line: &str,
+    out: &mut Vec<u8, A>,
+) -> Result<(), NoMemory>
     ensures { OnOk result (out.new.items ≡ out.old.items ++ (line.now ++ 10 ∷ [])) }
 {
     out.extend_from_slice(line.as_bytes())?;
@@ -17,7 +20,10 @@ pub fn print_line<A: Allocator + Copy>(line: &str, out: &mut Vec<u8, A>) -> Resu
 
 /// Prints bytes as a line of lower case hexadecimal digits. Where memory is refused, a part of it
 /// may stand there.
-pub fn print_hex<A: Allocator + Copy>(bytes: &[u8], out: &mut Vec<u8, A>) -> Result<(), NoMemory>
+pub(crate) fn print_hex<A: Allocator + Copy>(
+    bytes: &[u8],
+    out: &mut Vec<u8, A>,
+) -> Result<(), NoMemory>
     ensures { OnOk result (out.new.items ≡ out.old.items ++ (encode_lower bytes.now ++ 10 ∷ [])) }
 {
     let text = hex::encode(*out.allocator(), bytes)?;

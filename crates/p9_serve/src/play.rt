@@ -17,7 +17,7 @@ use std::alloc::Allocator;
 /// hexadecimal, and for each event that doesn't fit the line `skip`.
 ///
 /// Want of memory ends it, also where it is met in opening a session; the events before are done.
-pub fn play_events<T: Tree, A: Allocator + Copy>(
+pub(crate) fn play_events<T: Tree, A: Allocator + Copy>(
     export: &mut Export<T>,
     events: &[Event<A>],
     out: &mut Vec<u8, A>,

@@ -2,8 +2,9 @@
 
 ghost use Rattle.std.specs.Prelude.{◌≡◌, [], IfErr, IfOk, Ok, Some, map};
 ghost use Rattle.std.specs.Option.{option_map};
-ghost use Rattle.p9_serve.specs.Script.{IsScriptFault, bytes_in, closing_of, event_of, event_value};
-ghost use Rattle.p9_serve.specs.Script.{joined, opening_of, request_of, script_of, short_number};
+ghost use Rattle.p9_serve.specs.Script.{IsScriptFault, closing_event_of, event_of, event_value};
+ghost use Rattle.p9_serve.specs.Script.{frame_in, joined, message_event_of, opening_event_of};
+ghost use Rattle.p9_serve.specs.Script.{script_of, short_number};
 ghost use Rattle.p9_base.specs.Statement.{statement_value};
 
 use hex::FromHexError;
@@ -51,8 +52,8 @@ fn stated<A: Allocator + Copy>(
 ) -> Result<Event<A>, ScriptError>
     ensures ok { IfOk result (λ event.
         event_of (statement_value statement.now).1 ≡ Some (event_value event)) }
-    ensures bad { IfErr result
-        (IsScriptFault (joined [] statement.now.line (event_of (statement_value statement.now).1))) }
+    ensures bad { IfErr result (IsScriptFault
+        (joined [] statement.now.line (event_of (statement_value statement.now).1))) }
 {
     match event(alloc, statement.words.as_slice())? {
         Some(event) => Ok(event),
@@ -71,15 +72,15 @@ fn event<A: Allocator + Copy>(alloc: A, words: &[&str]) -> Result<Option<Event<A
         return Ok(None);
     };
     match rest {
-        [name] => Ok(opening(verb, name)),
-        [name, now] => Ok(closing(verb, name, now)),
-        [name, now, hex] => request(alloc, verb, name, now, hex),
+        [name] => Ok(opening_event(verb, name)),
+        [name, now, hex] => message_event(alloc, verb, name, now, hex),
+        [name, now] => Ok(closing_event(verb, name, now)),
         _ => Ok(None),
     }
 }
 
-fn opening<A: Allocator + Copy>(verb: &str, name: &str) -> Option<Event<A>>
-    ensures { option_map event_value result ≡ opening_of verb.now name.now }
+fn opening_event<A: Allocator + Copy>(verb: &str, name: &str) -> Option<Event<A>>
+    ensures { option_map event_value result ≡ opening_event_of verb.now name.now }
 {
     if verb != "open" {
         return None;
@@ -87,18 +88,7 @@ fn opening<A: Allocator + Copy>(verb: &str, name: &str) -> Option<Event<A>>
     Some(Event::Open(short_number(name)?))
 }
 
-fn closing<A: Allocator + Copy>(verb: &str, name: &str, now: &str) -> Option<Event<A>>
-    ensures { option_map event_value result ≡ closing_of verb.now name.now now.now }
-{
-    if verb != "close" {
-        return None;
-    }
-    let name = short_number(name)?;
-    let now = short_number(now)?;
-    Some(Event::Close(name, now))
-}
-
-fn request<A: Allocator + Copy>(
+fn message_event<A: Allocator + Copy>(
     alloc: A,
     verb: &str,
     name: &str,
@@ -106,7 +96,7 @@ fn request<A: Allocator + Copy>(
     hex: &str,
 ) -> Result<Option<Event<A>>, NoMemory>
     ensures { IfOk result (λ event.
-        option_map event_value event ≡ request_of verb.now name.now now.now hex.now) }
+        option_map event_value event ≡ message_event_of verb.now name.now now.now hex.now) }
 {
     if verb != "msg" {
         return Ok(None);
@@ -114,10 +104,21 @@ fn request<A: Allocator + Copy>(
     let (Some(name), Some(now)) = (short_number(name), short_number(now)) else {
         return Ok(None);
     };
-    match bytes(alloc, hex)? {
+    match frame_in(alloc, hex)? {
         Some(frame) => Ok(Some(Event::Message(name, frame, now))),
         None => Ok(None),
     }
+}
+
+fn closing_event<A: Allocator + Copy>(verb: &str, name: &str, now: &str) -> Option<Event<A>>
+    ensures { option_map event_value result ≡ closing_event_of verb.now name.now now.now }
+{
+    if verb != "close" {
+        return None;
+    }
+    let name = short_number(name)?;
+    let now = short_number(now)?;
+    Some(Event::Close(name, now))
 }
 
 // A session's name or a reading of the clock: a decimal number below 2^32.
@@ -128,15 +129,15 @@ fn short_number(word: &str) -> Option<u32>
     Some(number as u32)
 }
 
-// The bytes that hexadecimal digits write: one or more.
-fn bytes<A: Allocator + Copy>(alloc: A, digits: &str) -> Result<Option<Vec<u8, A>>, NoMemory>
-    ensures { IfOk result (λ bytes. option_map (λ b. b.items) bytes ≡ bytes_in digits.now) }
+// The frame that hexadecimal digits write: one byte or more.
+fn frame_in<A: Allocator + Copy>(alloc: A, digits: &str) -> Result<Option<Vec<u8, A>>, NoMemory>
+    ensures { IfOk result (λ frame. option_map (λ f. f.items) frame ≡ frame_in digits.now) }
 {
     if digits.is_empty() {
         return Ok(None);
     }
     match hex::decode(alloc, digits) {
-        Ok(bytes) => Ok(Some(bytes)),
+        Ok(frame) => Ok(Some(frame)),
         Err(FromHexError::OutOfMemory) => Err(NoMemory),
         Err(_) => Ok(None),
     }

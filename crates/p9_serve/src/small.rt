@@ -11,7 +11,7 @@ use p9_world::World;
 
 /// The world `small`: one server, `main`, with the directories `/a` and `/a/b` and the file `/a/f`,
 /// which are glenda's, and she is the one user.
-pub fn small_world<T: Tree>(alloc: T::Alloc) -> Result<World<T>, NoMemory>
+pub(crate) fn small_world<T: Tree>(alloc: T::Alloc) -> Result<World<T>, NoMemory>
     ensures { IfOk result (λ world. world ≡ small_world) }
 {
     let mut trees = Vec::new(alloc);

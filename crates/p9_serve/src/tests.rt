@@ -14,20 +14,20 @@ use p9_export::Event;
 use std::alloc::Global;
 use std::process::Abort;
 use std::test::Fail;
-use worlds::SMALL;
+use worlds::{BEGIN, Begin, SMALL};
 
 // What a command is to print, and its exit status.
 #[derive(Clone, Copy)]
-struct Expected {
+struct Expected<'a> {
     status: u8,
-    out: &'static str,
-    err: &'static str,
+    out: &'a str,
+    err: &'a str,
 }
 
-fn ends(rt: &impl Abort, alloc: Global, cmd: &str, input: &[u8], expected: Expected) {
+fn ends(rt: &impl Abort, alloc: Global, word: &str, input: &[u8], expected: Expected<'_>) {
     let mut out = Vec::new(alloc);
     let mut err = Vec::new(alloc);
-    let status = run_command(cmd, input, &mut out, &mut err).expect(rt, "memory");
+    let status = run_command(word, input, &mut out, &mut err).expect(rt, "memory");
     assert_eq!(rt; str::from_utf8(out.as_slice()), Ok(expected.out), "output");
     assert_eq!(rt; str::from_utf8(err.as_slice()), Ok(expected.err), "errors");
     assert_eq!(rt; status, expected.status);
@@ -35,7 +35,7 @@ fn ends(rt: &impl Abort, alloc: Global, cmd: &str, input: &[u8], expected: Expec
 
 // The input is played over the sample world, and it is played so where the world is given and the
 // namespace file is empty.
-fn plays(rt: &impl Abort, alloc: Global, input: &str, out: &'static str) {
+fn plays(rt: &impl Abort, alloc: Global, input: &str, out: &str) {
     let expected = Expected {
         status: 0,
         out,
@@ -47,6 +47,14 @@ fn plays(rt: &impl Abort, alloc: Global, input: &str, out: &'static str) {
     ends(rt, alloc, "play", given.as_bytes(), expected);
 }
 
+// The lines of a script are played so, behind its beginning.
+fn plays_on(rt: &impl Abort, alloc: Global, begin: Begin, lines: &str, out: &str) {
+    let parts = ["%% script\n", begin.script, lines];
+    let input = parts.join(alloc, "").expect(rt, "memory");
+    let output = [begin.out, out].join(alloc, "").expect(rt, "memory");
+    plays(rt, alloc, input.as_str(), output.as_str());
+}
+
 fn is_refused(rt: &impl Abort, alloc: Global, input: &str, err: &'static str) {
     let expected = Expected {
         status: 1,
@@ -56,20 +64,9 @@ fn is_refused(rt: &impl Abort, alloc: Global, input: &str, err: &'static str) {
     ends(rt, alloc, "play", input.as_bytes(), expected);
 }
 
-// A session's version and attach, and their replies.
-const FIRST_ATTACH: &str = "%% script
-open 1
-msg 1 0 1300000064ffff002000000600395032303030
-msg 1 0 1900000068010000000000ffffffff0600676c656e64610000
-";
-
-const FIRST_ATTACH_OUT: &str = "1300000065ffff002000000600395032303030
-1400000069010080000000000000000000000000
-";
-
 #[test]
 fn first_attach(rt: HostRuntime) {
-    plays(&rt, rt.alloc(), FIRST_ATTACH, FIRST_ATTACH_OUT);
+    plays_on(&rt, rt.alloc(), BEGIN, "", "");
     plays(&rt, rt.alloc(), "", "");
     plays(&rt, rt.alloc(), "%% script", "");
 }

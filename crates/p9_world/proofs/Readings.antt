@@ -1,8 +1,10 @@
 -- The world of a text, once its statements are read.
-use Rattle.std.proofs.Common.{◌≡◌, ℕ, ◌<◌, List, length, Result, Ok, Err, refl}
+use Rattle.std.proofs.Common.{◌≡◌, ℕ, ◌<◌, ◌≤◌, List, length, drop, map, Result, Ok, Err, refl, sym}
+use Rattle.std.proofs.Common.{◌∙◌}
 use Rattle.std.proofs.lemmas.Bool.{lt-ltb}
 use Rattle.p9_base.specs.Statement.{statements_of}
 use Rattle.p9_base.specs.TryFold.{try_fold}
+use Rattle.p9_base.proofs.TryFold.{try_fold-end}
 use Rattle.p9_world.specs.declared.error.LineFault.{LineFault}
 use Rattle.p9_world.specs.declared.error.LineFault.TheVariants.{NoServer}
 use Rattle.p9_world.specs.declared.error.WorldError.{WorldError}
@@ -10,21 +12,25 @@ use Rattle.p9_world.specs.declared.error.WorldError.TheVariants.{BadWorld, NoMem
 use Rattle.p9_world.specs.Reading.{Tells, read_statement, world_of}
 use Rattle.p9_world.specs.World.{World, empty_world}
 
--- a text whose statements make a world with a server
-pub world_of-ok : (text : List ℕ) (w : World)
-    → try_fold read_statement empty_world (statements_of text) ≡ Ok w → 0 < length w.servers
-    → world_of text ≡ Ok w
-unfolding world_of
-world_of-ok text w made some =
-    let test = lt-ltb 0 (length w.servers) some in
-    rw (made, test) refl
+-- a text of which all statements are read
+module _ {X : Type 0} (view : X → ℕ × List (List ℕ)) (items : List X) (text : List ℕ)
+    (same : map view items ≡ statements_of text) (w : World) (i : ℕ) (all : length items ≤ i)
+    (kept : try_fold read_statement w (drop i (statements_of text))
+    ≡ try_fold read_statement empty_world (statements_of text)) where
+  made : try_fold read_statement empty_world (statements_of text) ≡ Ok w
+  made = sym kept ∙ try_fold-end read_statement view items (statements_of text) same w i all
 
--- a text whose statements make no server
-pub world_of-none : (text : List ℕ) (w : World)
-    → try_fold read_statement empty_world (statements_of text) ≡ Ok w → length w.servers ≡ 0
-    → world_of text ≡ Err (0, NoServer)
-unfolding world_of
-world_of-none text w made none = rw (made, none) refl
+  -- they make a world with a server
+  pub world_of-ok : 0 < length w.servers → world_of text ≡ Ok w
+  unfolding world_of
+  world_of-ok some =
+      let test = lt-ltb 0 (length w.servers) some in
+      rw (made, test) refl
+
+  -- they make no server
+  pub world_of-none : length w.servers ≡ 0 → world_of text ≡ Err (0, NoServer)
+  unfolding world_of
+  world_of-none none = rw (made, none) refl
 
 -- a text with a bad statement
 world_of-err : (text : List ℕ) (e : ℕ × LineFault)

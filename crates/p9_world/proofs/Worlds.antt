@@ -1,8 +1,9 @@
 -- What keeps a world's trees, names and hidden numbers together.
-use Rattle.std.proofs.Common.{◌≡◌, ◌≢◌, ℕ, zero, suc, ◌-◌, ◌<◌, ◌≤◌, ◌^◌, Bool, true, false}
+use Rattle.std.proofs.Common.{◌≡◌, ◌≢◌, ℕ, zero, suc, ◌-◌, ◌<◌, ◌≤◌, Bool, true, false}
 use Rattle.std.proofs.Common.{List, [], ◌∷◌, ◌++◌, length, get_or, set, Option, Some, None, refl}
 use Rattle.std.proofs.Common.{sym, ap, ◌∙◌, subst, arith, length-append, is_some}
-use Rattle.std.proofs.Common.{map, Result, Ok, Err}
+use Rattle.std.proofs.Common.{map, string_bytes, Result, Ok, Err}
+use Rattle.std.specs.declared.string.String.{String}
 use Rattle.std.specs.List.{position_or_len}
 use Rattle.std.specs.Str.{bytes_eq}
 use Rattle.std.proofs.lemmas.Bool.{lt-ltb}
@@ -10,7 +11,8 @@ use Rattle.std.proofs.lemmas.Bool.Decides.{nat_tests}
 use Rattle.std.proofs.lemmas.Slice.Eq.{bytes_eq-Decides}
 use Rattle.std.proofs.lemmas.List.{length-set, length-map}
 use Rattle.std.proofs.lemmas.List.Elements.{All-weaker}
-use Rattle.std.proofs.lemmas.List.Quantifiers.{all_pairs_push}
+use Rattle.std.proofs.lemmas.List.Quantifiers.{all_pairs_push, position-Some}
+use Rattle.p9_base.specs.declared.node_ref.NodeRef.{NodeRef}
 use Rattle.p9_tree.specs.Node.{Node}
 use Rattle.p9_tree.specs.Server.{Server, WellFormed, is_dir_at, node_at, rooted}
 use Rattle.p9_tree.proofs.ForestLemmas.{map-tree_changed_at, server_at-map}
@@ -18,7 +20,7 @@ use Rattle.p9_tree.proofs.Lookups.{All-node_at, number-node_at}
 use Rattle.p9_clean.specs.Path.{Word}
 use Rattle.p9_tree.specs.Forest.{next_of, server_at, tree_changed_at}
 use Rattle.p9_world.specs.Server.{is_server_name, server_line, server_number, with_server}
-use Rattle.p9_world.specs.World.{World, IsWorld}
+use Rattle.p9_world.specs.World.{World, IsWorld, servers_max, world_value}
 use Rattle.p9_world.specs.Entry.{in_last_server, last_number}
 use Rattle.p9_world.specs.Hide.{hide_line, with_hidden}
 use Rattle.p9_world.specs.Meaning.{Makes}
@@ -63,7 +65,7 @@ next_of-changed zero (suc k) (x ∷ xs) s le = omega arith
 next_of-changed (suc i) (suc k) (x ∷ xs) s le = next_of-changed i k xs s le
 
 pub IsWorld-with_server : (name : List ℕ) (w : World) → IsWorld w
-    → is_some (server_number name w.servers) ≡ false → length w.servers < 2 ^ 16
+    → is_some (server_number name w.servers) ≡ false → length w.servers < servers_max
     → IsWorld (with_server name w)
 IsWorld-with_server name w ok absent room = record {
   named =
@@ -86,7 +88,7 @@ IsWorld-with_server name w ok absent room = record {
 
 -- a line that passes each test
 pub server_line-ok : (name : List ℕ) (w : World) → is_server_name name ≡ true
-    → is_some (server_number name w.servers) ≡ false → length w.servers < 2 ^ 16
+    → is_some (server_number name w.servers) ≡ false → length w.servers < servers_max
     → server_line name w ≡ Ok (with_server name w)
 server_line-ok name w valid absent room =
     let test = lt-ltb _ _ room in
@@ -152,31 +154,43 @@ module _ {T : Type 0} (state : T → Server) (ts : List T) (t u : T) (n : ℕ) (
       map-tree_changed_at state (λ old. state u) ts (n - 1) t u (omega arith) read refl
       ∙ ap (λ i. tree_changed_at i (λ old. state u) (map state ts)) last_is
 
-  -- the world stays one where the server's next number doesn't fall
-  pub IsWorld-last : (w : World) → IsWorld (record w { forest = map state ts })
-      → (state t).next ≤ (state u).next
-      → IsWorld (record w { forest = map state (set ts (n - 1) u) })
-  IsWorld-last w ok rises =
-      let same : next_of (length (map state ts) - 1) (map state ts) ≡ (state t).next =
-      ap (λ (s : Server). s.next) state-last in
-      rw map-last (IsWorld-changed (length (map state ts) - 1) (state u) (record w {
-        forest = map state ts;
-      }) ok (omega arith))
+  module _ {A : Type 0} (users : List (List ℕ)) (hidden : List NodeRef)
+      (vars : List (String A × String A)) (servers : List (String A)) where
+    -- the world with these trees
+    abbrev with_trees : List T → World
+    with_trees trees = world_value state trees users hidden vars servers
 
-  -- and its line is that of the last server
-  pub Makes-last : {D : Type 0} (change : Server → Result Server LineFault) (w : World)
-      (r : Result D LineError) → Makes (change (state t)) (state t) (state u) r
-      → Makes (in_last_server change (record w { forest = map state ts })) (record w {
-        forest = map state ts;
-      }) (record w { forest = map state (set ts (n - 1) u) }) r
-  Makes-last change w r made =
-      let here : 0 < length (map state ts) = omega (arith, length-map ts state) in
-      rw map-last
-      (Makes-in_last_server change (record w { forest = map state ts }) (state t) (state u) r
-      here state-last made)
+    -- it stays one where the server's next number doesn't fall
+    pub IsWorld-last : IsWorld (with_trees ts) → (state t).next ≤ (state u).next
+        → IsWorld (with_trees (set ts (n - 1) u))
+    IsWorld-last ok rises =
+        let same : next_of (length (map state ts) - 1) (map state ts) ≡ (state t).next =
+        ap (λ (s : Server). s.next) state-last in
+        rw map-last
+        (IsWorld-changed (length (map state ts) - 1) (state u) (with_trees ts) ok (omega arith))
+
+    -- and its line is that of the last server
+    pub Makes-last : {D : Type 0} (change : Server → Result Server LineFault)
+        (r : Result D LineError) → Makes (change (state t)) (state t) (state u) r →
+        Makes (in_last_server change (with_trees ts)) (with_trees ts)
+        (with_trees (set ts (n - 1) u)) r
+    Makes-last change r made =
+        let here : 0 < length (map state ts) = omega (arith, length-map ts state) in
+        rw map-last
+        (Makes-in_last_server change (with_trees ts) (state t) (state u) r here state-last made)
+
+-- the tree of a server that is found by its name
+pub server_at-named : {T A : Type 0} (state : T → Server) (name : List ℕ) (trees : List T)
+    (servers : List (String A)) (k : ℕ) (t : T) → length (map string_bytes servers)
+    ≡ length (map state trees) → server_number name (map string_bytes servers) ≡ Some k
+    → t ≡ get_or trees k t → server_at k (map state trees) ≡ state t
+server_at-named state name trees servers k t named at read =
+    let few : k < length (map string_bytes servers) =
+    (position-Some (λ other. bytes_eq other name) (map string_bytes servers) k [] at).0 in
+    server_at-map state trees k t (omega (arith, length-map trees state)) read
 
 -- the directory that some names lead to has a number of its server
-pub dir_of-below : (names : List Word) (s : Server) (k : ℕ) → WellFormed s → dir_of names s ≡ Some k
+pub dir_of-below : (names : List Word) (s : Server) (k : ℕ) → WellFormed s → Some k ≡ dir_of names s
     → k < s.next
 dir_of-below names s k well found = go (number_from 0 names s.nodes) refl
   where
@@ -196,13 +210,13 @@ dir_of-below names s k well found = go (number_from 0 names s.nodes) refl
     test j false e at = absurd (grind (arith))
 
     go : (o : Option ℕ) → number_from 0 names s.nodes ≡ o → k < s.next
-    go None e = absurd (let none : None ≡ Some k = rw e at found in cc)
-    go (Some j) e = test j (is_dir_at j s.nodes) refl (rw e at found)
+    go None e = absurd (let none : Some k ≡ None = rw e at found in cc)
+    go (Some j) e = test j (is_dir_at j s.nodes) refl (sym (rw e at found))
 
 -- the line of a directory that is found
 pub hide_line-found : (server path : List ℕ) (w : World) (number dir : ℕ) (names : List Word)
     → server_number server w.servers ≡ Some number → names_of path ≡ Some names
-    → dir_of names (server_at number w.forest) ≡ Some dir
+    → Some dir ≡ dir_of names (server_at number w.forest)
     → hide_line server path w ≡ with_hidden (record { server = number; number = dir }) w
 hide_line-found server path w number dir names at_server at_path at_dir =
-    rw (at_server, at_path, at_dir) refl
+    rw (at_server, at_path, ← at_dir) refl

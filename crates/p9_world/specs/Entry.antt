@@ -9,8 +9,8 @@ use Rattle.p9_base.specs.declared.mode.Permissions.{Permissions}
 use Rattle.p9_base.specs.TryFold.{and_then, given, need}
 use Rattle.p9_base.specs.User.{is_user}
 use Rattle.p9_clean.specs.Path.{Word}
-use Rattle.p9_tree.specs.Node.{Node, with_owner}
 use Rattle.p9_tree.specs.Bytes.{file_max}
+use Rattle.p9_tree.specs.Node.{Node, with_owner}
 use Rattle.p9_tree.specs.Server.{Server, added, child_of, next_max, with_changed}
 use Rattle.p9_tree.specs.Forest.{server_at, tree_changed_at}
 use Rattle.p9_world.specs.declared.error.LineFault.{LineFault}

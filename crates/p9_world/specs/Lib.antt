@@ -1,3 +1,4 @@
+pub mod Text
 pub mod Meaning
 pub mod World
 pub mod Path

@@ -1,13 +1,13 @@
 -- A line 'server NAME'.
-use Rattle.std.specs.Prelude.{ℕ, ◌^◌, ◌==◌, ◌&&◌, ◌||◌, Bool, not, nat_le, nat_lt, List, [], ◌∷◌}
+use Rattle.std.specs.Prelude.{ℕ, ◌==◌, ◌&&◌, ◌||◌, Bool, not, nat_le, nat_lt, List, [], ◌∷◌}
 use Rattle.std.specs.Prelude.{◌++◌, Option, Result, Ok, is_some, length, position}
 use Rattle.std.specs.List.{list_any}
 use Rattle.std.specs.Str.{bytes_eq}
+use Rattle.p9_base.specs.TryFold.{need}
 use Rattle.p9_tree.specs.Server.{rooted}
 use Rattle.p9_world.specs.declared.error.LineFault.{LineFault}
 use Rattle.p9_world.specs.declared.error.LineFault.TheVariants.{BadName, Duplicate, TooMany}
-use Rattle.p9_base.specs.TryFold.{need}
-use Rattle.p9_world.specs.World.{World}
+use Rattle.p9_world.specs.World.{World, servers_max}
 
 -- '/', '#', '$' or NUL
 abbrev pub is_reserved : ℕ → Bool
@@ -30,5 +30,5 @@ abbrev pub server_line : List ℕ → World → Result World LineFault
 server_line name w =
     need (is_server_name name) BadName (
     need (not (is_some (server_number name w.servers))) Duplicate (
-    need (nat_lt (length w.servers) (2 ^ 16)) TooMany (
+    need (nat_lt (length w.servers) servers_max) TooMany (
     Ok (with_server name w))))

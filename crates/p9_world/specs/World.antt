@@ -1,8 +1,14 @@
 -- A world: what its lines have made so far.
-use Rattle.std.specs.Prelude.{◌≡◌, ◌≢◌, ℕ, ◌<◌, ◌≤◌, ◌^◌, List, [], length, All, AllPairs}
+use Rattle.std.specs.Prelude.{◌≡◌, ◌≢◌, ℕ, ◌<◌, ◌≤◌, ◌^◌, List, [], length, map, string_bytes, All}
+use Rattle.std.specs.Prelude.{AllPairs}
+use Rattle.std.specs.declared.string.String.{String}
 use Rattle.p9_base.specs.declared.node_ref.NodeRef.{NodeRef}
 use Rattle.p9_tree.specs.Server.{Server}
 use Rattle.p9_tree.specs.Forest.{next_of}
+
+-- the most servers of a world: a server's number has 16 bits
+abbrev pub servers_max : ℕ
+servers_max = 2 ^ 16
 
 -- the servers' trees and names, both by number, the users, the hidden directories, and the
 -- variables with their values
@@ -16,10 +22,25 @@ pub record World : Type 0 where
 -- each tree has one name, which no other has, and each hidden number was given by its server
 pub record IsWorld (w : World) : Type 0 where
   pub named : length w.servers ≡ length w.forest
-  pub few : length w.forest ≤ 2 ^ 16
+  pub few : length w.forest ≤ servers_max
   pub distinct : AllPairs (λ a b. a ≢ b) w.servers
   pub below : All (λ r. r.number < next_of r.server w.forest) w.hidden
 
 -- the world of no lines
 abbrev pub empty_world : World
 empty_world = record { forest = []; users = []; hidden = []; vars = []; servers = [] }
+
+-- the variables, from the code's texts
+abbrev pub variables_of : {A : Type 0} → List (String A × String A) → List (List ℕ × List ℕ)
+variables_of vars = map (λ var. (string_bytes var.0, string_bytes var.1)) vars
+
+-- a world of the code, as it is seen
+abbrev pub world_value : {T A : Type 0} → (T → Server) → List T → List (List ℕ) → List NodeRef
+    → List (String A × String A) → List (String A) → World
+world_value state trees users hidden vars servers = record {
+  forest = map state trees;
+  users = users;
+  hidden = hidden;
+  vars = variables_of vars;
+  servers = map string_bytes servers;
+}

@@ -1,9 +1,10 @@
 //! Lines `dir PATH MODE UID GID` and `file PATH MODE UID GID HEX`, which belong to the last server.
 
-ghost use Rattle.std.specs.Prelude.{◌≡◌, ◌≤◌, ◌∷◌, [], IfOk, IfSome, IsTrue, length, option_map};
+ghost use Rattle.std.specs.Prelude.{◌≡◌, ◌≤◌, ◌∷◌, [], IfNone, IfOk, IfSome, IsTrue, false, length};
+ghost use Rattle.std.specs.Prelude.{option_map, true};
 ghost use Rattle.p9_base.specs.Mode.{is_dir};
-ghost use Rattle.p9_world.specs.Entry.{bytes_in, dir_line, file_line, in_last_server, with_dir};
-ghost use Rattle.p9_world.specs.Entry.{with_entry};
+ghost use Rattle.p9_world.specs.Entry.{bytes_in, dir_line, file_line, in_last_server, is_owned};
+ghost use Rattle.p9_world.specs.Entry.{with_dir, with_entry};
 ghost use Rattle.p9_world.specs.Meaning.{Makes};
 ghost use Rattle.p9_world.specs.Path.{last_and_rest};
 
@@ -16,7 +17,7 @@ use p9_tree::{FILE_MAX, NEXT_MAX, New, Tree};
 use std::alloc::Allocator;
 
 /// A directory joins the last server, or the root of that server is changed.
-pub fn add_dir<T: Tree>(
+pub(crate) fn add_dir<T: Tree>(
     alloc: T::Alloc,
     world: &mut World<T>,
     path: &str,
@@ -34,7 +35,7 @@ pub fn add_dir<T: Tree>(
 }
 
 /// A file joins the last server.
-pub fn add_file<T: Tree>(
+pub(crate) fn add_file<T: Tree>(
     alloc: T::Alloc,
     world: &mut World<T>,
     path: &str,
@@ -71,10 +72,7 @@ fn add_dir_to<T: Tree>(
     let Some(permissions) = permissions_in(mode.as_bytes()) else {
         return Err(LineError::Bad(LineFault::BadMode));
     };
-    let Some(uid) = User::new(uid) else {
-        return Err(LineError::Bad(LineFault::BadUser));
-    };
-    let Some(gid) = User::new(gid) else {
+    let Some((uid, gid)) = owners(uid, gid) else {
         return Err(LineError::Bad(LineFault::BadUser));
     };
     make_dir(tree, names.as_slice(), permissions, uid, gid)
@@ -131,10 +129,7 @@ fn add_file_to<T: Tree>(
     let Some(mode) = file_mode_in(mode.as_bytes()) else {
         return Err(LineError::Bad(LineFault::BadMode));
     };
-    let Some(uid) = User::new(uid) else {
-        return Err(LineError::Bad(LineFault::BadUser));
-    };
-    let Some(gid) = User::new(gid) else {
+    let Some((uid, gid)) = owners(uid, gid) else {
         return Err(LineError::Bad(LineFault::BadUser));
     };
     let Some(bytes) = bytes_in(alloc, hex)? else {
@@ -150,6 +145,15 @@ fn add_file_to<T: Tree>(
         bytes: bytes.as_slice(),
     };
     add_entry(tree, *name, names, &entry)
+}
+
+// The owner and the group that two words name.
+fn owners(uid: &str, gid: &str) -> Option<(User, User)>
+    ensures some { IfSome result (λ owners.
+        (owners ≡ (uid.now, gid.now)) × (is_owned uid.now gid.now ≡ true)) }
+    ensures none { IfNone result (is_owned uid.now gid.now ≡ false) }
+{
+    Some((User::new(uid)?, User::new(gid)?))
 }
 
 // What a line says of a node.
@@ -175,8 +179,7 @@ fn add_entry<T: Tree>(
           mode = entry.now.mode;
           uid = entry.now.uid;
           gid = entry.now.gid;
-          bytes =
-              entry.now.bytes.now;
+          bytes = entry.now.bytes.now;
         }) (T.state tree.old)) (T.state tree.old) (T.state tree.new) result }
     ensures next { (T.state tree.old).next ≤ (T.state tree.new).next }
 {

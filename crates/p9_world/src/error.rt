@@ -1,7 +1,7 @@
 //! What may be wrong with a world's text.
 
 ghost use Rattle.std.specs.Prelude.{◌≡◌};
-ghost use Rattle.p9_world.specs.Meaning.{text_of};
+ghost use Rattle.p9_world.specs.Text.{line_fault_text};
 
 use p9_base::NoMemory;
 use std::alloc::{AllocError, AllocFailed};
@@ -55,7 +55,7 @@ pub enum LineFault {
 impl LineFault {
     /// The text that a report carries.
     pub fn text(self) -> &'static str
-        ensures { result.now ≡ text_of self }
+        ensures { result.now ≡ line_fault_text self }
     {
         match self {
             LineFault::UnknownWord => "unknown word",
@@ -113,17 +113,6 @@ impl From<AllocError> for WorldError {
 pub(crate) enum LineError {
     Bad(LineFault),
     NoMemory,
-}
-
-impl From<LineFault> for LineError {
-    ghost use Rattle.std.specs.Prelude.{◌≡◌};
-    ghost use Rattle.p9_world.specs.declared.error.LineError.TheVariants.{Bad};
-
-    ghost from_gives = { λ fault error. error ≡ Bad fault };
-
-    fn from(fault: LineFault) -> LineError {
-        LineError::Bad(fault)
-    }
 }
 
 impl From<NoMemory> for LineError {

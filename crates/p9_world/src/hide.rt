@@ -14,7 +14,7 @@ use p9_base::NodeRef;
 use p9_tree::Tree;
 
 /// The directory joins those that are hidden.
-pub fn hide<T: Tree>(
+pub(crate) fn hide<T: Tree>(
     alloc: T::Alloc,
     world: &mut World<T>,
     server: &str,

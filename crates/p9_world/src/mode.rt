@@ -7,7 +7,7 @@ ghost use Rattle.p9_world.specs.Mode.{permissions_in};
 use p9_base::{FileFlags, Kind, Mode, Permissions};
 
 /// The permissions that three octal digits write: the owner's, the group's, the others'.
-pub fn permissions_in(word: &[u8]) -> Option<Permissions>
+pub(crate) fn permissions_in(word: &[u8]) -> Option<Permissions>
     ensures { result ≡ permissions_in word.now }
 {
     let [owner, group, others] = word else {
@@ -30,7 +30,7 @@ fn is_octal_digit(byte: u8) -> bool
 
 /// The mode of a file: the letters `a` for append-only, `l` for exclusive use and `t` for
 /// temporary, in this order and each once or not at all, and then three octal digits.
-pub fn file_mode_in(word: &[u8]) -> Option<Mode>
+pub(crate) fn file_mode_in(word: &[u8]) -> Option<Mode>
     ensures { result ≡ file_mode_in word.now }
 {
     let (append_only, word) = take_letter(b'a', word);

@@ -10,7 +10,10 @@ use std::alloc::Allocator;
 
 /// The names along a cleaned path, or `None` where it doesn't begin with a slash or has a name that
 /// no file may have. The root has none. The only error is want of memory.
-pub fn names_of<A: Allocator + Copy>(alloc: A, path: &str) -> Result<Option<Vec<Name, A>>, NoMemory>
+pub(crate) fn names_of<A: Allocator + Copy>(
+    alloc: A,
+    path: &str,
+) -> Result<Option<Vec<Name, A>>, NoMemory>
     ensures { IfOk result (λ found. option_map (λ names. names.items) found ≡ names_of path.now) }
 {
     if !path.starts_with('/') {
@@ -40,14 +43,14 @@ fn names_among<A: Allocator + Copy>(
 }
 
 /// The last of some names, and those before it.
-pub fn last_and_rest(names: &[Name]) -> Option<(&Name, &[Name])>
+pub(crate) fn last_and_rest(names: &[Name]) -> Option<(&Name, &[Name])>
     ensures { option_map (λ place. (place.0.now, place.1.now)) result ≡ last_and_rest names.now }
 {
     names.split_last()
 }
 
 /// The number of the directory that the names lead to, from the root on.
-pub fn dir_of<T: Tree>(tree: &T, names: &[Name]) -> Option<u64>
+pub(crate) fn dir_of<T: Tree>(tree: &T, names: &[Name]) -> Option<u64>
     ensures { result ≡ dir_of names.now (T.state tree.now) }
 {
     let mut number = 0;

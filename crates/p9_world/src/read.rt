@@ -5,8 +5,6 @@ ghost use Rattle.p9_base.specs.Statement.{statement_value};
 ghost use Rattle.p9_world.specs.Meaning.{Makes};
 ghost use Rattle.p9_world.specs.Reading.{Steps, Tells, line_meaning, operated, operation_of};
 ghost use Rattle.p9_world.specs.Reading.{read_statement, world_of};
-ghost use Rattle.p9_world.specs.declared.read.Operation.TheVariants.{Dir, File, Hide, Server, Set};
-ghost use Rattle.p9_world.specs.declared.read.Operation.TheVariants.{User};
 
 use crate::entry::{add_dir, add_file};
 use crate::error::{LineError, LineFault, WorldError};
@@ -90,14 +88,7 @@ fn read_line<T: Tree>(
     let Some(operation) = operation_of(word) else {
         return Err(LineError::Bad(LineFault::UnknownWord));
     };
-    match operation {
-        Operation::Server => server_line(alloc, world, words),
-        Operation::Dir => dir_line(alloc, world, words),
-        Operation::File => file_line(alloc, world, words),
-        Operation::User => user_line(world, words),
-        Operation::Hide => hide_line(alloc, world, words),
-        Operation::Set => set_line(alloc, world, words),
-    }
+    operate(alloc, world, operation, words)
 }
 
 fn operation_of(word: &str) -> Option<Operation>
@@ -120,74 +111,25 @@ fn operation_of(word: &str) -> Option<Operation>
     }
 }
 
-fn server_line<T: Tree>(
+// Does an operation on the words that follow.
+fn operate<T: Tree>(
     alloc: T::Alloc,
     world: &mut World<T>,
+    operation: Operation,
     words: &[&str],
 ) -> Result<(), LineError>
-    ensures { Makes (operated Server (map (λ w. w.now) words.now) world.old) world.old world.new
+    ensures { Makes (operated operation (map (λ w. w.now) words.now) world.old) world.old world.new
         result }
 {
-    match words {
-        [name] => add_server(alloc, world, name),
-        _ => Err(LineError::Bad(LineFault::WordCount)),
-    }
-}
-
-fn dir_line<T: Tree>(alloc: T::Alloc, world: &mut World<T>, words: &[&str]) -> Result<(), LineError>
-    ensures { Makes (operated Dir (map (λ w. w.now) words.now) world.old) world.old world.new
-        result }
-{
-    match words {
-        [path, mode, uid, gid] => add_dir(alloc, world, path, mode, uid, gid),
-        _ => Err(LineError::Bad(LineFault::WordCount)),
-    }
-}
-
-fn file_line<T: Tree>(
-    alloc: T::Alloc,
-    world: &mut World<T>,
-    words: &[&str],
-) -> Result<(), LineError>
-    ensures { Makes (operated File (map (λ w. w.now) words.now) world.old) world.old world.new
-        result }
-{
-    match words {
-        [path, mode, uid, gid, hex] => add_file(alloc, world, path, mode, uid, gid, hex),
-        _ => Err(LineError::Bad(LineFault::WordCount)),
-    }
-}
-
-fn user_line<T: Tree>(world: &mut World<T>, words: &[&str]) -> Result<(), LineError>
-    ensures { Makes (operated User (map (λ w. w.now) words.now) world.old) world.old world.new
-        result }
-{
-    match words {
-        [name] => add_user(world, name),
-        _ => Err(LineError::Bad(LineFault::WordCount)),
-    }
-}
-
-fn hide_line<T: Tree>(
-    alloc: T::Alloc,
-    world: &mut World<T>,
-    words: &[&str],
-) -> Result<(), LineError>
-    ensures { Makes (operated Hide (map (λ w. w.now) words.now) world.old) world.old world.new
-        result }
-{
-    match words {
-        [server, path] => hide(alloc, world, server, path),
-        _ => Err(LineError::Bad(LineFault::WordCount)),
-    }
-}
-
-fn set_line<T: Tree>(alloc: T::Alloc, world: &mut World<T>, words: &[&str]) -> Result<(), LineError>
-    ensures { Makes (operated Set (map (λ w. w.now) words.now) world.old) world.old world.new
-        result }
-{
-    match words {
-        [name, value] => set_variable(alloc, world, name, value),
+    match (operation, words) {
+        (Operation::Server, [name]) => add_server(alloc, world, name),
+        (Operation::Dir, [path, mode, uid, gid]) => add_dir(alloc, world, path, mode, uid, gid),
+        (Operation::File, [path, mode, uid, gid, hex]) => {
+            add_file(alloc, world, path, mode, uid, gid, hex)
+        }
+        (Operation::User, [name]) => add_user(world, name),
+        (Operation::Hide, [server, path]) => hide(alloc, world, server, path),
+        (Operation::Set, [name, value]) => set_variable(alloc, world, name, value),
         _ => Err(LineError::Bad(LineFault::WordCount)),
     }
 }

@@ -11,7 +11,7 @@ use p9_tree::Tree;
 use std::alloc::Allocator;
 
 /// A server of this name, with a root of mode 755 that belongs to `sys`, joins behind the others.
-pub fn add_server<T: Tree>(
+pub(crate) fn add_server<T: Tree>(
     alloc: T::Alloc,
     world: &mut World<T>,
     name: &str,
@@ -36,7 +36,7 @@ pub fn add_server<T: Tree>(
 }
 
 /// The number of the server of this name.
-pub fn server_number<A: Allocator>(name: &str, servers: &[String<A>]) -> Option<usize>
+pub(crate) fn server_number<A: Allocator>(name: &str, servers: &[String<A>]) -> Option<usize>
     ensures { result ≡ server_number name.now (map string_bytes servers.now) }
 {
     servers.iter().position(|other| other.as_str() == name)

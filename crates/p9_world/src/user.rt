@@ -11,7 +11,7 @@ use p9_base::User;
 use p9_tree::Tree;
 
 /// A user of this name joins those that are listed.
-pub fn add_user<T: Tree>(world: &mut World<T>, name: &str) -> Result<(), LineError>
+pub(crate) fn add_user<T: Tree>(world: &mut World<T>, name: &str) -> Result<(), LineError>
     ensures { Makes (user_line name.now world.old) world.old world.new result }
 {
     let Some(user) = User::new(name) else {

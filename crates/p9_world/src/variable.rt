@@ -1,9 +1,10 @@
 //! Lines `set NAME VALUE`.
 
-ghost use Rattle.std.specs.Prelude.{◌≡◌, ◌==◌, ◌||◌, map, string_bytes};
+ghost use Rattle.std.specs.Prelude.{◌≡◌, ◌==◌, ◌||◌};
 ghost use Rattle.std.specs.List.{list_any};
 ghost use Rattle.p9_world.specs.Meaning.{Makes};
 ghost use Rattle.p9_world.specs.Variable.{is_set, is_variable_name, set_line};
+ghost use Rattle.p9_world.specs.World.{variables_of};
 
 use crate::error::{LineError, LineFault};
 use crate::world::World;
@@ -11,7 +12,7 @@ use p9_tree::Tree;
 use std::alloc::Allocator;
 
 /// A variable of this name and value joins the others.
-pub fn set_variable<T: Tree>(
+pub(crate) fn set_variable<T: Tree>(
     alloc: T::Alloc,
     world: &mut World<T>,
     name: &str,
@@ -32,8 +33,7 @@ pub fn set_variable<T: Tree>(
 }
 
 fn is_set<A: Allocator>(name: &str, vars: &[(String<A>, String<A>)]) -> bool
-    ensures { result ≡ is_set name.now (map (λ var.
-        (string_bytes var.0, string_bytes var.1)) vars.now) }
+    ensures { result ≡ is_set name.now (variables_of vars.now) }
 {
     vars.iter().any(|var| var.0.as_str() == name)
 }

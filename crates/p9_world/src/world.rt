@@ -8,7 +8,7 @@ use p9_tree::{Forest, Tree};
 use std::marker::Model;
 
 /// The most servers that a world has.
-pub const SERVERS_MAX: usize = 65_536;
+pub const SERVERS_MAX: usize = 1 << 16;
 
 /// What a user describes: servers with their trees and names, users, hidden directories and
 /// variables.
@@ -31,14 +31,15 @@ pub struct World<T: Tree> {
 }
 
 impl<T: Tree> Model for World<T> {
-    ghost use Rattle.std.specs.Prelude.{map, string_bytes};
-    ghost use Rattle.p9_world.specs.World.{IsWorld, World as WorldOf};
+    ghost use Rattle.p9_world.specs.World.{IsWorld, World as WorldOf, world_value};
 
     ghost Value = { WorldOf };
 
-    ghost view = { λ w. record { forest = map T.state w.forest.trees.items; users = w.users.items; hidden = w.hidden.items; vars = map (λ var. (string_bytes var.0, string_bytes var.1)) w.vars.items; servers = map string_bytes w.servers.items } };
+    ghost view = { λ w. world_value T.state w.forest.trees.items w.users.items w.hidden.items
+        w.vars.items w.servers.items };
 
-    ghost invariant = { λ w. IsWorld (record { forest = map T.state w.forest.trees.items; users = w.users.items; hidden = w.hidden.items; vars = map (λ var. (string_bytes var.0, string_bytes var.1)) w.vars.items; servers = map string_bytes w.servers.items }) };
+    ghost invariant = { λ w. IsWorld (world_value T.state w.forest.trees.items w.users.items
+        w.hidden.items w.vars.items w.servers.items) };
 }
 
 impl<T: Tree> World<T> {

@@ -159,7 +159,7 @@ fn the_first_bad_line(rt: HostRuntime) {
         out: "",
         err: "ns:1: wrong number of words\n",
     };
-    for cmd in ["play", "ns"] {
-        ends(&rt, rt.alloc(), cmd, BAD.as_bytes(), refused);
+    for word in ["play", "ns"] {
+        ends(&rt, rt.alloc(), word, BAD.as_bytes(), refused);
     }
 }

@@ -4,7 +4,7 @@ use super::{Expected, ends};
 use std::alloc::Global;
 use std::process::Abort;
 
-fn refused(err: &'static str) -> Expected {
+fn refused(err: &str) -> Expected<'_> {
     Expected {
         status: 1,
         out: "",
@@ -13,10 +13,10 @@ fn refused(err: &'static str) -> Expected {
 }
 
 // Both commands read every section.
-fn all_refused(rt: &impl Abort, alloc: Global, rows: &[(&'static str, &'static str)]) {
+fn all_refused(rt: &impl Abort, alloc: Global, rows: &[(&str, &str)]) {
     for (input, err) in rows {
-        for cmd in ["play", "ns"] {
-            ends(rt, alloc, cmd, input.as_bytes(), refused(err));
+        for word in ["play", "ns"] {
+            ends(rt, alloc, word, input.as_bytes(), refused(err));
         }
     }
 }
@@ -113,8 +113,8 @@ fn faults_in_their_order(rt: HostRuntime) {
         out: "",
         err: "p9: bad command line\n",
     };
-    for cmd in ["", "Play", "play ", "NS", "check", "verify", "serve"] {
-        ends(&rt, rt.alloc(), cmd, b"\xff", bad_command);
+    for word in ["", "Play", "play ", "NS", "check", "verify", "serve"] {
+        ends(&rt, rt.alloc(), word, b"\xff", bad_command);
     }
     let not_utf8 = refused("input: not UTF-8\n");
     ends(&rt, rt.alloc(), "play", b"%% cert\n\xff", not_utf8);

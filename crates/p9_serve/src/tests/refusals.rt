@@ -1,23 +1,24 @@
 //! Refused memory: a command says so, and run again it does all that it has to.
 
-use super::{FIRST_ATTACH, FIRST_ATTACH_OUT};
+use super::worlds::BEGIN;
 use crate::run_command;
 use p9_base::NoMemory;
 use p9_refusing::{Refusing, refuse_each};
 use std::alloc::Allocator;
 use std::process::Abort;
+use std::test::Fail;
 
 // Plays the first attach. Where memory is refused, the command says so, or the attach's reply does.
-fn play_again<A: Allocator + Copy>(rt: &impl Abort, alloc: A) {
+fn play_again<A: Allocator + Copy>(rt: &impl Abort, alloc: A, input: &[u8]) {
     let mut out = Vec::new(alloc);
     let mut err = Vec::new(alloc);
-    let outcome = run_command("play", FIRST_ATTACH.as_bytes(), &mut out, &mut err);
+    let outcome = run_command("play", input, &mut out, &mut err);
     assert_eq!(rt; err.len(), 0);
     if outcome == Err(NoMemory) {
         out.clear();
-        let again = run_command("play", FIRST_ATTACH.as_bytes(), &mut out, &mut err);
+        let again = run_command("play", input, &mut out, &mut err);
         assert_eq!(rt; again, Ok(0));
-        assert_eq!(rt; str::from_utf8(out.as_slice()), Ok(FIRST_ATTACH_OUT));
+        assert_eq!(rt; str::from_utf8(out.as_slice()), Ok(BEGIN.out));
         return;
     }
     assert_eq!(rt; outcome, Ok(0));
@@ -25,14 +26,20 @@ fn play_again<A: Allocator + Copy>(rt: &impl Abort, alloc: A) {
 160000006b01000d006f7574206f66206d656d6f7279
 ";
     let text = str::from_utf8(out.as_slice());
-    assert!(rt; text == Ok(FIRST_ATTACH_OUT) || text == Ok(refused));
+    assert!(rt; text == Ok(BEGIN.out) || text == Ok(refused));
 }
 
 #[test]
-fn a_play_is_run_again_at_each_refusal(rt: HostRuntime) {
+fn a_play_is_run_again_at_each_refusal(rt: HostRuntime) -> Result<(), Fail> {
+    let input = ["%% script\n", BEGIN.script].join(rt.alloc(), "")?;
     let memory = Refusing::new(rt.alloc());
-    let refusals = refuse_each(&memory, || (), |()| play_again(&rt, &memory));
+    let refusals = refuse_each(
+        &memory,
+        || (),
+        |()| play_again(&rt, &memory, input.as_bytes()),
+    );
     assert!(rt; refusals > 20);
+    Ok(())
 }
 
 // A world of one's own, a namespace file with an operation that fails, and a script that isn't

@@ -71,8 +71,8 @@ set home /usr/glenda
 /// Lines of a script, and the replies to them.
 #[derive(Clone, Copy)]
 pub struct Begin {
-    script: &'static str,
-    out: &'static str,
+    pub script: &'static str,
+    pub out: &'static str,
 }
 
 /// No lines.

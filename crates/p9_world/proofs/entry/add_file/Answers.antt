@@ -1,4 +1,4 @@
-use Rattle.std.proofs.Common.{◌<◌, [], length, map, refl, arith, string_bytes}
+use Rattle.std.proofs.Common.{◌<◌, length, refl, arith}
 use Rattle.p9_world.specs.Entry.{file_line}
 use Rattle.p9_world.proofs.Worlds.{IsWorld-last, Makes-last}
 use Rattle.p9_world.proofs.entry.add_file.Goals as goal
@@ -8,14 +8,9 @@ invariant_of-world-2 g c =
     let some : 0 < length c.world.inside.forest.trees.items =
     omega (arith, c.in-Some.ensures.variant.0 refl, c.world.inside.forest.trees.ok.0) in
     IsWorld-last g.T.Tree.state c.world.inside.forest.trees.items c.in-Some.tree.now
-    c.add_file_to.new.tree _ c.world.inside.forest.trees.ok.0 some
-    c.in-Some.ensures.value (record {
-      forest = [];
-      users = c.world.inside.users.items;
-      hidden = c.world.inside.hidden.items;
-      vars = map (λ var. (string_bytes var.0, string_bytes var.1)) c.world.inside.vars.items;
-      servers = map string_bytes c.world.inside.servers.items;
-    }) c.world.invariant c.add_file_to.ensures.next
+    c.add_file_to.new.tree _ c.world.inside.forest.trees.ok.0 some c.in-Some.ensures.value
+    _ _ _ _
+    c.world.invariant c.add_file_to.ensures.next
 
 pub returns : goal.returns
 returns g c =
@@ -24,11 +19,6 @@ returns g c =
     rw (← c.world.view_is)
     (Makes-last g.T.Tree.state c.world.inside.forest.trees.items c.in-Some.tree.now
     c.add_file_to.new.tree _ c.world.inside.forest.trees.ok.0 some c.in-Some.ensures.value
-    (file_line c.args.path.now c.args.mode.now c.args.uid.now c.args.gid.now
-    c.args.hex.now) (record {
-      forest = [];
-      users = c.world.inside.users.items;
-      hidden = c.world.inside.hidden.items;
-      vars = map (λ var. (string_bytes var.0, string_bytes var.1)) c.world.inside.vars.items;
-      servers = map string_bytes c.world.inside.servers.items;
-    }) c.add_file_to.result c.add_file_to.ensures.made)
+    _ _ _ _
+    (file_line c.args.path.now c.args.mode.now c.args.uid.now c.args.gid.now c.args.hex.now)
+    c.add_file_to.result c.add_file_to.ensures.made)

@@ -4,7 +4,7 @@ use Rattle.std.proofs.lemmas.List.{length-map}
 use Rattle.std.proofs.lemmas.Result.{err_from_is_err_and}
 use Rattle.p9_base.specs.Statement.{statement_value, statements_of}
 use Rattle.p9_base.specs.TryFold.{try_fold}
-use Rattle.p9_base.proofs.TryFold.{try_fold-end, try_fold-err, try_fold-ok}
+use Rattle.p9_base.proofs.TryFold.{try_fold-err, try_fold-ok}
 use Rattle.p9_world.specs.Reading.{read_statement}
 use Rattle.p9_world.specs.World.{World}
 use Rattle.p9_world.proofs.Readings.{Tells-world_of, world_of-none, world_of-ok}
@@ -48,31 +48,25 @@ returns-then-is_empty-clause-err g c =
     let same =
     ap (map statement_value) c.deref-statement-items.ensures.value
     ∙ c.in_ok-statements.ensures in
-    let made =
-    sym c.loop-statement.invariant
-    ∙ try_fold-end read_statement statement_value c.deref-statement-items.result.now
-    (statements_of c.args.text.now) same c.loop-statement.world c.loop-statement.statement-index
-    c.loop-statement-test.false in
     let count : length c.loop-statement.world.servers ≡ length c.world-2.inside.servers.items =
     sym (ap (λ (w : World). length w.servers) c.world-2.view_is)
     ∙ length-map c.world-2.inside.servers.items string_bytes in
     let none : length c.loop-statement.world.servers ≡ 0 =
     grind (arith, nat_tests, c.world-2.inside.servers.ok.0) in
-    world_of-none c.args.text.now c.loop-statement.world made none
+    world_of-none statement_value c.deref-statement-items.result.now c.args.text.now same
+    c.loop-statement.world c.loop-statement.statement-index c.loop-statement-test.false
+    c.loop-statement.invariant none
 
 pub returns-clause-ok : goal.returns-clause-ok
 returns-clause-ok g c =
     let same =
     ap (map statement_value) c.deref-statement-items.ensures.value
     ∙ c.in_ok-statements.ensures in
-    let made =
-    sym c.loop-statement.invariant
-    ∙ try_fold-end read_statement statement_value c.deref-statement-items.result.now
-    (statements_of c.args.text.now) same c.loop-statement.world c.loop-statement.statement-index
-    c.loop-statement-test.false in
     let count : length c.loop-statement.world.servers ≡ length c.world-2.inside.servers.items =
     sym (ap (λ (w : World). length w.servers) c.world-2.view_is)
     ∙ length-map c.world-2.inside.servers.items string_bytes in
     let some : 0 < length c.loop-statement.world.servers =
     grind (arith, nat_tests, c.world-2.inside.servers.ok.0) in
-    world_of-ok c.args.text.now c.loop-statement.world made some
+    world_of-ok statement_value c.deref-statement-items.result.now c.args.text.now same
+    c.loop-statement.world c.loop-statement.statement-index c.loop-statement-test.false
+    c.loop-statement.invariant some

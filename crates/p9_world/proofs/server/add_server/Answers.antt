@@ -1,8 +1,10 @@
-use Rattle.std.proofs.Common.{◌≡◌, ◌<◌, ◌^◌, ◌++◌, ◌∷◌, [], false, true, map, ap, ◌∙◌, sym}
+use Rattle.std.proofs.Common.{◌≡◌, ◌<◌, false, true, map, ◌∙◌, sym}
 use Rattle.std.proofs.Common.{string_bytes, arith, length, is_some}
-use Rattle.std.proofs.lemmas.List.{map_push, length-map}
+use Rattle.std.proofs.lemmas.List.{length-map}
 use Rattle.p9_tree.specs.Server.{rooted}
 use Rattle.p9_world.specs.Server.{is_server_name, server_number}
+use Rattle.p9_world.specs.World.{servers_max}
+use Rattle.p9_world.proofs.Lists.{map-joined}
 use Rattle.p9_world.proofs.Worlds.{IsWorld-with_server, server_line-ok}
 use Rattle.p9_world.proofs.server.add_server.Goals as goal
 
@@ -10,21 +12,13 @@ pub invariant_of-world-2 : goal.invariant_of-world-2
 invariant_of-world-2 g c =
     let trees = rw (c.unwrap.ensures, c.reserve.ensures.items) at c.push-2.ensures.items in
     let names = rw (c.in_ok-push.was) at c.push.ensures.items in
-    let forest : map g.T.Tree.state c.push-2.new.self.items
-    ≡ map g.T.Tree.state c.world.inside.forest.trees.items ++ rooted
-    ∷ [] = ap (map g.T.Tree.state) trees ∙ map_push g.T.Tree.state _ _
-    ∙ ap (λ s. map g.T.Tree.state c.world.inside.forest.trees.items ++ s ∷ [])
-    c.in_ok-tree.ensures in
-    let servers : map string_bytes c.push.new.self.items
-    ≡ map string_bytes c.world.inside.servers.items ++ c.args.name.now
-    ∷ [] = ap (map string_bytes) names ∙ map_push string_bytes _ _
-    ∙ ap (λ s. map string_bytes c.world.inside.servers.items ++ s ∷ [])
-    c.in_ok-name.ensures.ok in
+    let forest = map-joined g.T.Tree.state _ _ _ rooted trees c.in_ok-tree.ensures in
+    let servers = map-joined string_bytes _ _ _ c.args.name.now names c.in_ok-name.ensures.ok in
     let absent : is_some
     (server_number c.args.name.now (map string_bytes c.world.inside.servers.items))
     ≡ false = rw (← c.as_slice.ensures.value, ← c.server_number.ensures, ← c.is_some.ensures)
     c.if-is_some.false in
-    let room : length (map string_bytes c.world.inside.servers.items) < 2 ^ 16 =
+    let room : length (map string_bytes c.world.inside.servers.items) < servers_max =
     omega (
       arith,
       length-map c.world.inside.servers.items string_bytes,
@@ -36,21 +30,13 @@ pub returns : goal.returns
 returns g c =
     let trees = rw (c.unwrap.ensures, c.reserve.ensures.items) at c.push-2.ensures.items in
     let names = rw (c.in_ok-push.was) at c.push.ensures.items in
-    let forest : map g.T.Tree.state c.push-2.new.self.items
-    ≡ map g.T.Tree.state c.world.inside.forest.trees.items ++ rooted
-    ∷ [] = ap (map g.T.Tree.state) trees ∙ map_push g.T.Tree.state _ _
-    ∙ ap (λ s. map g.T.Tree.state c.world.inside.forest.trees.items ++ s ∷ [])
-    c.in_ok-tree.ensures in
-    let servers : map string_bytes c.push.new.self.items
-    ≡ map string_bytes c.world.inside.servers.items ++ c.args.name.now
-    ∷ [] = ap (map string_bytes) names ∙ map_push string_bytes _ _
-    ∙ ap (λ s. map string_bytes c.world.inside.servers.items ++ s ∷ [])
-    c.in_ok-name.ensures.ok in
+    let forest = map-joined g.T.Tree.state _ _ _ rooted trees c.in_ok-tree.ensures in
+    let servers = map-joined string_bytes _ _ _ c.args.name.now names c.in_ok-name.ensures.ok in
     let absent : is_some
     (server_number c.args.name.now (map string_bytes c.world.inside.servers.items))
     ≡ false = rw (← c.as_slice.ensures.value, ← c.server_number.ensures, ← c.is_some.ensures)
     c.if-is_some.false in
-    let room : length (map string_bytes c.world.inside.servers.items) < 2 ^ 16 =
+    let room : length (map string_bytes c.world.inside.servers.items) < servers_max =
     omega (
       arith,
       length-map c.world.inside.servers.items string_bytes,
