@@ -45,6 +45,12 @@ if_not true x y e = absurd cc
 pub some_is : {A : Type 0} (x y : A) → Some x ≡ Some y → x ≡ y
 some_is x y e = cc
 
+-- a test that let it go on
+pub when_passed : {A : Type 0} (b : Bool) (r : Option A) (y : A) → cond b r None ≡ Some y
+    → (b ≡ true) × (r ≡ Some y)
+when_passed true r y e = (refl, e)
+when_passed false r y e = absurd cc
+
 -- a test that did not end it
 unless_passed : {A : Type 0} (b : Bool) (r : Option A) (y : A) → cond b None r ≡ Some y
     → (b ≡ false) × (r ≡ Some y)
