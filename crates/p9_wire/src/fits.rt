@@ -15,7 +15,7 @@ use p9_base::is_text;
 /// The most bytes of a text, whose length stands in two.
 const TEXT_MAX: usize = 65_535;
 
-/// The most bytes of a frame as its size can say: more than `MSIZE_MAX`, and so without a session.
+/// The most bytes of a frame that its size can tell. A session's frames are shorter: `MSIZE_MAX`.
 const FRAME_MAX: usize = 0xFFFF_FFFF;
 
 fn text_fits(text: &str) -> bool
@@ -72,7 +72,7 @@ impl TMsg<'_> {
             TMsg::Open { .. } => true,
             TMsg::Create { name, .. } => text_fits(name),
             TMsg::Read { .. } => true,
-            TMsg::Write { bytes, .. } => bytes.len() <= FRAME_MAX - 23,
+            TMsg::Write { bytes, .. } => bytes.len() <= FRAME_MAX - HEADER - 4 - 8 - 4,
             TMsg::Clunk { .. } => true,
             TMsg::Remove { .. } => true,
             TMsg::Stat { .. } => true,
@@ -117,7 +117,7 @@ impl RMsg<'_> {
             RMsg::Walk { qids } => qids.len() <= MAXWELEM,
             RMsg::Open { .. } => true,
             RMsg::Create { .. } => true,
-            RMsg::Read { bytes } => bytes.len() <= FRAME_MAX - 11,
+            RMsg::Read { bytes } => bytes.len() <= FRAME_MAX - HEADER - 4,
             RMsg::Write { .. } => true,
             RMsg::Clunk => true,
             RMsg::Remove => true,
