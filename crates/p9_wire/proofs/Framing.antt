@@ -3,15 +3,17 @@ use Rattle.std.proofs.Common.{◌≡◌, ℕ, ◌+◌, ◌^◌, ◌<◌, Bool, t
 use Rattle.std.proofs.Common.{length, Option, Some, None, refl, sym, ap, subst, ◌∙◌, arith}
 use Rattle.std.proofs.lemmas.Bool.{eqb-true, eq-eqb}
 use Rattle.std.proofs.lemmas.List.{append-nil, nil_from_length}
+use Rattle.std.proofs.lemmas.Option.{cond_some, same_Some}
 use Rattle.p9_wire.specs.Fields.{number}
 use Rattle.p9_wire.specs.Spelling.{frame}
 use Rattle.std.specs.Prelude.{IfSome, IfNone}
 use Rattle.p9_wire.specs.FieldReading.{◌and_then◌, Gives, Reader, number_at, ◌then◌, made}
 use Rattle.p9_wire.specs.Reading.{header_at, message_at}
-use Rattle.p9_wire.proofs.Bytes.{IsBytes, IsBytes-back}
+use Rattle.p9_wire.specs.Laws.{IsBytes}
+use Rattle.p9_wire.proofs.Bytes.{IsBytes-back}
 use Rattle.p9_wire.proofs.Lengths.{length-parts, length-frame}
-use Rattle.p9_wire.proofs.Codes.{bind_some, if_passed, when_passed, some_is, Codes, number-codes}
-use Rattle.p9_wire.proofs.Codes.{then-codes, made-sound}
+use Rattle.p9_wire.proofs.Codes.{bind_some, when_passed, Codes, number-codes, then-codes}
+use Rattle.p9_wire.proofs.Codes.{made-sound}
 
 -- type and tag are read as they are spelled
 kind_tag : Codes (λ (x : ℕ × ℕ). number 1 x.0 ++ number 2 x.1)
@@ -46,7 +48,7 @@ header-sound bytes x fits e =
     let parts : bytes ≡ number 4 (length bytes) ++ (number 1 b.0.0.0 ++ number 2 b.0.0.1 ++ b.0.1) =
     t0.0 ∙ ap (λ (back : List ℕ). number 4 a.0.0 ++ back) t1.0
     ∙ ap (λ (n : ℕ). number 4 n ++ (number 1 b.0.0.0 ++ number 2 b.0.0.1 ++ b.0.1)) size-is in
-    subst (λ (y : ℕ × ℕ × List ℕ). Opened bytes y.0 y.1 y.2) (some_is _ x b.2) (record {
+    subst (λ (y : ℕ × ℕ × List ℕ). Opened bytes y.0 y.1 y.2) (same_Some _ x b.2) (record {
       whole = parts;
       size_fits = omega (arith, size-is, t0.1);
       tag_fits = t1.1.1;
@@ -154,7 +156,7 @@ module _ {M : Type 0} (g : Grammar M) where
       let b =
       bind_some (g.body_at a.0.0 a.0.2) (λ m. cond (eqb (length m.1) 0) (Some (a.0.1, m.0)) None)
       x a.2 in
-      let g = if_passed (eqb (length b.0.1) 0) (a.0.1, b.0.0) x b.2 in
+      let g = cond_some (eqb (length b.0.1) 0) (a.0.1, b.0.0) x b.2 in
       let opened = header-sound bytes a.0 fits a.1 in
       let in_body : IsBytes a.0.2 =
       IsBytes-back (number 1 a.0.0 ++ number 2 a.0.1) a.0.2
@@ -204,7 +206,7 @@ module _ {M : Type 0} {message_of : List ℕ → Option (ℕ × M)} {Spells : Li
   pub one_tag : (bytes : List ℕ) (s t : ℕ) (m n : M) → Spells bytes s m → Spells bytes t n → s ≡ t
   one_tag bytes s t m n p q =
       let same : (s, m) ≡ (t, n) =
-      some_is (s, m) (t, n) (sym (decides.complete bytes s m p)
+      same_Some (s, m) (t, n) (sym (decides.complete bytes s m p)
       ∙ decides.complete bytes t n q) in
       ap (λ (x : ℕ × M). x.0) same
 
@@ -213,6 +215,6 @@ module _ {M : Type 0} {message_of : List ℕ → Option (ℕ × M)} {Spells : Li
       → m ≡ n
   one_message bytes s t m n p q =
       let same : (s, m) ≡ (t, n) =
-      some_is (s, m) (t, n) (sym (decides.complete bytes s m p)
+      same_Some (s, m) (t, n) (sym (decides.complete bytes s m p)
       ∙ decides.complete bytes t n q) in
       ap (λ (x : ℕ × M). x.1) same
