@@ -10,35 +10,33 @@ use Rattle.p9_base.specs.declared.mode.Mode.{Mode}
 use Rattle.p9_base.specs.Mode.{rights_bits, permissions_bits, flags_bits, flags_among, kind_bits}
 use Rattle.p9_base.specs.Mode.{mode_bits, rights_of}
 
+-- what holds of three bits in each of their eight cases
+of_three : (P : Bool → Bool → Bool → Type 0)
+    → P true true true → P true true false → P true false true → P true false false
+    → P false true true → P false true false → P false false true → P false false false
+    → (a b c : Bool) → P a b c
+of_three P p q r s t u v w true true true = p
+of_three P p q r s t u v w true true false = q
+of_three P p q r s t u v w true false true = r
+of_three P p q r s t u v w true false false = s
+of_three P p q r s t u v w false true true = t
+of_three P p q r s t u v w false true false = u
+of_three P p q r s t u v w false false true = v
+of_three P p q r s t u v w false false false = w
+
+abbrev of_bits : Bool → Bool → Bool → Rights
+of_bits a b c = record { read = a; write = b; execute = c }
+
 -- three bits give the rights back
 rights_of-rights_bits : (r : Rights) → rights_of (rights_bits r) ≡ r
-rights_of-rights_bits r = go r.read r.write r.execute where
-  go : (a b c : Bool)
-      → rights_of (rights_bits (record { read = a; write = b; execute = c })) ≡ record {
-        read = a;
-        write = b;
-        execute = c;
-      }
-  go true true true = refl
-  go true true false = refl
-  go true false true = refl
-  go true false false = refl
-  go false true true = refl
-  go false true false = refl
-  go false false true = refl
-  go false false false = refl
+rights_of-rights_bits r =
+    of_three (λ a b c. rights_of (rights_bits (of_bits a b c)) ≡ of_bits a b c) refl refl refl refl
+    refl refl refl refl r.read r.write r.execute
 
 rights_bits_lt : (r : Rights) → rights_bits r < 8
-rights_bits_lt r = go r.read r.write r.execute where
-  go : (a b c : Bool) → rights_bits (record { read = a; write = b; execute = c }) < 8
-  go true true true = lit< tt
-  go true true false = lit< tt
-  go true false true = lit< tt
-  go true false false = lit< tt
-  go false true true = lit< tt
-  go false true false = lit< tt
-  go false false true = lit< tt
-  go false false false = lit< tt
+rights_bits_lt r =
+    of_three (λ a b c. rights_bits (of_bits a b c) < 8) (lit< tt) (lit< tt) (lit< tt) (lit< tt)
+    (lit< tt) (lit< tt) (lit< tt) (lit< tt) r.read r.write r.execute
 
 -- three bits determine the rights
 rights_bits-injective : (r s : Rights) → rights_bits r ≡ rights_bits s → r ≡ s
@@ -71,42 +69,27 @@ permissions_bits_lt p =
     let c = rights_bits_lt p.others in
     omega arith
 
+abbrev of_flags : Bool → Bool → Bool → FileFlags
+of_flags a e t = record { append_only = a; exclusive = e; temporary = t }
+
 -- a file's bits give its flags back
 flags_among-flags_bits : (f : FileFlags) → flags_among (flags_bits f) ≡ f
-flags_among-flags_bits f = go f.append_only f.exclusive f.temporary where
-  go : (a e t : Bool) → flags_among (flags_bits (record {
-    append_only = a;
-    exclusive = e;
-    temporary = t;
-  })) ≡ record { append_only = a; exclusive = e; temporary = t }
-  go true true true = refl
-  go true true false = refl
-  go true false true = refl
-  go true false false = refl
-  go false true true = refl
-  go false true false = refl
-  go false false true = refl
-  go false false false = refl
+flags_among-flags_bits f =
+    of_three (λ a e t. flags_among (flags_bits (of_flags a e t)) ≡ of_flags a e t) refl refl refl
+    refl refl refl refl refl f.append_only f.exclusive f.temporary
 
 record IsFlagBits (n : ℕ) : Type 0 where
   below : n < 2 ^ 31
   whole : n % 512 ≡ 0
 
 flag_bits : (f : FileFlags) → IsFlagBits (flags_bits f)
-flag_bits f = go f.append_only f.exclusive f.temporary where
-  go : (a e t : Bool) → IsFlagBits (flags_bits (record {
-    append_only = a;
-    exclusive = e;
-    temporary = t;
-  }))
-  go true true true = record { below = lit< tt; whole = refl }
-  go true true false = record { below = lit< tt; whole = refl }
-  go true false true = record { below = lit< tt; whole = refl }
-  go true false false = record { below = lit< tt; whole = refl }
-  go false true true = record { below = lit< tt; whole = refl }
-  go false true false = record { below = lit< tt; whole = refl }
-  go false false true = record { below = lit< tt; whole = refl }
-  go false false false = record { below = lit< tt; whole = refl }
+flag_bits f =
+    of_three (λ a e t. IsFlagBits (flags_bits (of_flags a e t)))
+    (record { below = lit< tt; whole = refl }) (record { below = lit< tt; whole = refl })
+    (record { below = lit< tt; whole = refl }) (record { below = lit< tt; whole = refl })
+    (record { below = lit< tt; whole = refl }) (record { below = lit< tt; whole = refl })
+    (record { below = lit< tt; whole = refl }) (record { below = lit< tt; whole = refl })
+    f.append_only f.exclusive f.temporary
 
 kind_bits_whole : (k : Kind) → kind_bits k % 512 ≡ 0
 kind_bits_whole Directory = refl

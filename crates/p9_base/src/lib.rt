@@ -31,4 +31,5 @@ pub use node_ref::NodeRef;
 pub use qid::Qid;
 pub use rights::granted;
 pub use statement::{Statement, statements};
+pub use text::is_text;
 pub use user::User;

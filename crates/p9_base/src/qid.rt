@@ -4,7 +4,7 @@
 /// are, and its version grows with each change of its contents.
 #[derive(Clone, Copy, Debug, PartialEq, Eq)]
 pub struct Qid {
-    /// The high byte of the file's mode: `0x80` for a directory.
+    /// The manual's `type`, the high byte of the file's mode: `0x80` for a directory.
     pub kind: u8,
     /// How often the file was changed, modulo 2^32.
     pub version: u32,

@@ -26,7 +26,8 @@ impl<const N: usize> Model for Text<N> {
 
     ghost view = { λ t. take t.len t.bytes };
 
-    ghost invariant = { λ t. (t.len ≤ N) × (t.bytes ≡ padded N (take t.len t.bytes)) × IsTrue (is_text (take t.len t.bytes)) };
+    ghost invariant = { λ t. (t.len ≤ N) × (t.bytes ≡ padded N (take t.len t.bytes))
+        × IsTrue (is_text (take t.len t.bytes)) };
 
     ghost inverse = { λ xs. record { len = length xs; bytes = padded N xs } };
 
@@ -122,7 +123,8 @@ impl<const N: usize> PartialOrd for Text<N> {
 
     ghost partial_cmp = { as_partial_cmp (slice_cmp nat_cmp) };
 
-    ghost laws = { partial_order_from_own_ties (Prim.search (comparing, rules)) (Prim.search (comparing, rules)) };
+    ghost laws = { partial_order_from_own_ties (Prim.search (comparing, rules))
+        (Prim.search (comparing, rules)) };
 
     fn partial_cmp(&self, other: &Text<N>) -> Option<Ordering> {
         Some(self.cmp(other))

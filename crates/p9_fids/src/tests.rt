@@ -4,7 +4,7 @@ use crate::{Cursor, FIDS_MAX, Fid, FidTable, OpenMode, Opened};
 use p9_base::{Fault, NOFID, NodeRef, User};
 use p9_refusing::{Refusing, refuse_each};
 use p9_space::{MountTable, Order, Trail};
-use std::alloc::Allocator;
+use std::alloc::{Allocator, Global};
 use std::process::Abort;
 use std::test::Fail;
 
@@ -12,13 +12,18 @@ fn node(number: u64) -> NodeRef {
     NodeRef { server: 0, number }
 }
 
-// A fid of glenda's at a place, not open.
-fn fid_at<A: Allocator + Copy>(rt: &impl Abort, alloc: A, place: u64) -> Fid<A> {
+// A fid of glenda's where the trail leads, not open.
+fn fid_on<A: Allocator + Copy>(rt: &impl Abort, trail: Trail<A>) -> Fid<A> {
     Fid {
         user: User::new("glenda").expect(rt, "a user"),
-        trail: Trail::at(alloc, node(place)).expect(rt, "a trail"),
+        trail,
         opened: None,
     }
+}
+
+// The same at a place.
+fn fid_at<A: Allocator + Copy>(rt: &impl Abort, alloc: A, place: u64) -> Fid<A> {
+    fid_on(rt, Trail::at(alloc, node(place)).expect(rt, "a trail"))
 }
 
 const TO_READ: Opened = Opened {
@@ -123,7 +128,7 @@ fn what_may_be_executed_may_be_read(rt: HostRuntime) {
 }
 
 // Adds fids, each again where it was refused.
-fn put_all(rt: &impl Abort, memory: &Refusing<std::alloc::Global>) {
+fn put_all(rt: &impl Abort, memory: &Refusing<Global>) {
     let mut fids = FidTable::new(memory);
     for number in 0..40u32 {
         let fid = make_again(rt, memory);
@@ -143,11 +148,7 @@ fn make_again<A: Allocator + Copy>(rt: &impl Abort, memory: A) -> Fid<A> {
         Ok(trail) => trail,
         Err(_) => Trail::at(memory, node(1)).expect(rt, "a trail"),
     };
-    Fid {
-        user: User::new("glenda").expect(rt, "a user"),
-        trail,
-        opened: None,
-    }
+    fid_on(rt, trail)
 }
 
 #[test]

@@ -1,3 +1,5 @@
+//! The allocator that refuses a request.
+
 ghost use Rattle.std.specs.Prelude.{◌≡◌};
 
 use crate::count::Requests;

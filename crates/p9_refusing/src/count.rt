@@ -1,4 +1,5 @@
-// What the allocator counts, as a plain value: its rules are proved here, where no cell hides it.
+//! What the allocator counts, as a plain value: its rules are proved here, where no cell hides it.
+
 ghost use Rattle.std.specs.Prelude.{◌≡◌, ◌+◌, ◌-◌, ◌<◌, ◌^◌, ◌↔◌, ℕ, min, None, IsTrue};
 
 /// How many requests were made, and the number of the one that is refused, the first being 1.

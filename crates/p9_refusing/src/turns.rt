@@ -1,3 +1,5 @@
+//! A value run again and again, each time with the next of its requests refused.
+
 ghost use Rattle.std.specs.Prelude.{◌+◌};
 ghost use Rattle.p9_refusing.specs.TakesTurns.{TakesTurns};
 

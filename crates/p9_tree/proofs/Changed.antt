@@ -170,11 +170,14 @@ WellFormed-set k f s i n y place read new keeps sound w =
     WellFormed-set_apart k f s i n y place read new keeps.in_dir sound
     (apart-kept k f s keeps.name w) w
 
-pub keeps-same : KeepsPlace (λ n. n)
-keeps-same = record { in_dir = record { number = λ n. refl; parent = λ n. refl }; name = λ n. refl }
-
-pub sound-same : (n : Node) → KeepsSound (λ n. n) n
-sound-same n = record { sound = λ s. s; dir = λ s. refl }
+-- and of a node that is written over as it is
+pub WellFormed-set_same : (k : ℕ) (s : Server) (i : ℕ) (n y : Node)
+    → position (has_number k) s.nodes ≡ Some i → n ≡ get_or s.nodes i n → y ≡ n → WellFormed s
+    → WellFormed (with_nodes s (set s.nodes i y))
+WellFormed-set_same k s i n y place read same w =
+    WellFormed-set k (λ n. n) s i n y place read same
+    (record { in_dir = record { number = λ n. refl; parent = λ n. refl }; name = λ n. refl })
+    (record { sound = λ s. s; dir = λ s. refl }) w
 
 pub keeps-marked : (user : List ℕ) (now : ℕ) → KeepsPlace (marked user now)
 keeps-marked user now = record {

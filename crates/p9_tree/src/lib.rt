@@ -11,6 +11,8 @@ mod forest;
 mod new;
 mod node;
 mod plain;
+#[cfg(test)]
+mod tests;
 mod tree;
 
 pub use bytes::FILE_MAX;
@@ -20,6 +22,3 @@ pub use new::New;
 pub use node::Node;
 pub use plain::PlainTree;
 pub use tree::{NEXT_MAX, Tree};
-
-#[cfg(test)]
-mod tests;

@@ -319,7 +319,7 @@ impl<A: Allocator> Node<A> {
         }
     }
 
-    /// Copies of the file's bytes into the buffer, as [`Bytes::read_into`].
+    /// Copies from the file's bytes into the buffer, as [`Bytes::read_into`].
     pub(crate) fn read_into(&self, offset: u64, buffer: &mut [u8]) -> usize
         ensures count { result ≡ length (read_from offset (length buffer.old) self.now.bytes) }
         ensures filled { buffer.new

@@ -3,38 +3,36 @@ use Rattle.std.proofs.Common.{◌≡◌, ℕ, zero, suc, ◌+◌, ◌*◌, ◌/�
 use Rattle.std.proofs.Common.{◌++◌, length, take, get_or, refl, sym, ap, ◌∙◌, inl, inr, arith}
 use Rattle.std.proofs.Math.Nat.{div-div-eq-div-mul, div-one, pow-succ'}
 use Rattle.std.proofs.lemmas.List.{get_or-append-add, get_or_append_left, get_or_past}
+use Rattle.std.proofs.lemmas.List.{length-append}
 use Rattle.std.proofs.lemmas.Bool.{cases_lt}
 use Rattle.std.specs.Int.{byte_at, bytes_low_first}
 use Rattle.byteorder.specs.Endian.{little_from, little_number, little_bytes}
 use Rattle.byteorder.specs.Numbers.{little_from-cons, length-bytes_low_first}
 use Rattle.p9_wire.specs.Fields.{number}
+use Rattle.p9_wire.specs.Laws.{IsBytes}
 
--- each item is a byte
-abbrev pub IsBytes : List ℕ → Type 0
-IsBytes bytes = (i : ℕ) → get_or bytes i 0 < 256
-
--- a list whose items are bytes
-pub each_fits : (bytes : List ℕ) → ((k : ℕ) (d : ℕ) → k < length bytes → get_or bytes k d < 256)
-    → IsBytes bytes
-each_fits bytes fits i = elim (cases_lt i (length bytes)) [
+-- each place of bytes is below 256, where those behind the last are 0
+pub each_below : (bytes : List ℕ) → IsBytes bytes → (i : ℕ) → get_or bytes i 0 < 256
+each_below bytes fits i = elim (cases_lt i (length bytes)) [
   | inl lt ↦ fits i 0 lt
   | inr le ↦ rw (get_or_past bytes i 0 le) (omega arith)
 ]
 
 -- what stands behind bytes is bytes
 pub IsBytes-back : (front back : List ℕ) → IsBytes (front ++ back) → IsBytes back
-IsBytes-back front back h i = rw (← get_or-append-add front back i 0) (h (length front + i))
+IsBytes-back front back h i d lt =
+    rw (← get_or-append-add front back i d)
+    (h (length front + i) d (omega (arith, lt, length-append front back)))
 
 -- and what stands in front
 pub IsBytes-front : (front back : List ℕ) → IsBytes (front ++ back) → IsBytes front
-IsBytes-front front back h i = elim (cases_lt i (length front)) [
-  | inl lt ↦ rw (← get_or_append_left front back 0 i lt) (h i)
-  | inr le ↦ rw (get_or_past front i 0 le) (omega arith)
-]
+IsBytes-front front back h i d lt =
+    rw (← get_or_append_left front back d i lt)
+    (h i d (omega (arith, lt, length-append front back)))
 
 -- all but the first of bytes are bytes
 IsBytes-rest : (b : ℕ) (bytes : List ℕ) → IsBytes (b ∷ bytes) → IsBytes bytes
-IsBytes-rest b bytes h i = h (suc i)
+IsBytes-rest b bytes h i d lt = h (suc i) d (omega (arith, lt))
 
 -- a byte of a number, by its place
 byte_at-pow : (k x : ℕ) → byte_at k x ≡ x / 256 ^ k % 256
@@ -60,7 +58,7 @@ number-back zero bytes fits long = refl
 number-back (suc n) [] fits long = absurd (omega arith)
 number-back (suc n) (a ∷ bytes) fits long =
     let rest = little_from 0 n bytes in
-    let low : a < 256 = fits 0 in
+    let low : a < 256 = fits 0 0 (omega arith) in
     let value : little_from 0 (suc n) (a ∷ bytes) ≡ a + 256 * rest =
     ap (λ (r : ℕ). a + 256 * r) (little_from-cons 0 n a bytes) in
     let first : (a + 256 * rest) % 256 ≡ a = omega arith in

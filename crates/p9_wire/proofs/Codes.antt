@@ -7,6 +7,7 @@ use Rattle.std.specs.List.{flat_map, AllByRecursion}
 use Rattle.std.proofs.lemmas.Bool.{eqb-true}
 use Rattle.std.proofs.lemmas.List.{append-nil, nil_from_length}
 use Rattle.std.proofs.lemmas.List.Concat.{flat_map-cons}
+use Rattle.std.proofs.lemmas.Option.{cond_some, same_Some}
 use Rattle.std.proofs.lemmas.Bool.{ltb-false, le-ltb}
 use Rattle.std.proofs.lemmas.List.{take_at, drop_at, take-append-drop, length-append}
 use Rattle.std.proofs.lemmas.List.{length-take-le}
@@ -20,7 +21,8 @@ use Rattle.p9_wire.specs.Fields.{stat_bytes, FitsText, FitsStat, QidNumbersFit, 
 use Rattle.p9_wire.specs.FieldReading.{◌and_then◌, Reader, number_at, bytes_at, ◌then◌, made}
 use Rattle.p9_wire.specs.FieldReading.{text_at, nothing_at, qid_at, counted_at, times, several_at}
 use Rattle.p9_wire.specs.FieldReading.{sized_at, stat_fields_at, stat_at}
-use Rattle.p9_wire.proofs.Bytes.{IsBytes, IsBytes-back, IsBytes-front, number-back}
+use Rattle.p9_wire.specs.Laws.{IsBytes}
+use Rattle.p9_wire.proofs.Bytes.{IsBytes-back, IsBytes-front, each_below, number-back}
 use Rattle.p9_wire.proofs.Lengths.{length-stat_bytes, length-stat_fields}
 
 -- the value of a step that did not fail
@@ -29,21 +31,17 @@ pub bind_some : {A B : Type 0} (r : Option A) (f : A → Option B) (y : B) → (
 bind_some (Some x) f y e = (x, refl, e)
 bind_some None f y e = absurd cc
 
--- a test that passed
-pub if_passed : {A : Type 0} (b : Bool) (x y : A) → cond b (Some x) None ≡ Some y
-    → (b ≡ true) × (x ≡ y)
-if_passed true x y e = (refl, cc)
-if_passed false x y e = absurd cc
-
 -- a test that did not fail
 pub if_not : {A : Type 0} (b : Bool) (x y : A) → cond b None (Some x) ≡ Some y
     → (b ≡ false) × (x ≡ y)
 if_not false x y e = (refl, cc)
 if_not true x y e = absurd cc
 
--- what is in a Some
-pub some_is : {A : Type 0} (x y : A) → Some x ≡ Some y → x ≡ y
-some_is x y e = cc
+-- a test that let it go on
+pub when_passed : {A : Type 0} (b : Bool) (r : Option A) (y : A) → cond b r None ≡ Some y
+    → (b ≡ true) × (r ≡ Some y)
+when_passed true r y e = (refl, e)
+when_passed false r y e = absurd cc
 
 -- a test that did not end it
 unless_passed : {A : Type 0} (b : Bool) (r : Option A) (y : A) → cond b None r ≡ Some y
@@ -76,7 +74,7 @@ number-sound n bytes x fits e =
     let parts : bytes ≡ number n (little_number n bytes) ++ drop n bytes =
     rw (number-back n bytes fits long) (sym (take-append-drop n bytes)) in
     subst (λ (y : ℕ × List ℕ). (bytes ≡ number n y.0 ++ y.1) × (y.0 < 256 ^ n)) g.1
-    (parts, little_from-lt 0 n bytes fits)
+    (parts, little_from-lt 0 n bytes (each_below bytes fits))
 
 -- and a number that is spelled is read
 number-complete : (n x : ℕ) (rest : List ℕ) → x < 256 ^ n
@@ -117,7 +115,7 @@ text-sound bytes x fits e =
     bind_some (number_at 2 bytes)
     (λ n. bytes_at n.0 n.1 and_then λ s. cond (is_text s.0) (Some s) None) x e in
     let b = bind_some (bytes_at a.0.0 a.0.1) (λ s. cond (is_text s.0) (Some s) None) x a.2 in
-    let g = if_passed (is_text b.0.0) b.0 x b.2 in
+    let g = cond_some (is_text b.0.0) b.0 x b.2 in
     let t0 = number-sound 2 bytes a.0 fits a.1 in
     let t1 = bytes-sound a.0.0 a.0.1 b.0 b.1 in
     let whole : bytes ≡ text b.0.0 ++ b.0.1 =
@@ -155,7 +153,7 @@ then-codes {A} {B} {f} {F} {r} {g} {G} {s} c d = record {
       t0.0 ∙ ap (λ (back : List ℕ). f a.0.0 ++ back) t1.0
       ∙ sym (append_assoc (f a.0.0) (g b.0.0) b.0.1) in
       subst (λ (y : (A × B) × List ℕ). (bytes ≡ (f y.0.0 ++ g y.0.1) ++ y.1) × (F y.0.0 × G y.0.1))
-      (some_is _ x b.2) (parts, (t0.1, t1.1));
+      (same_Some _ x b.2) (parts, (t0.1, t1.1));
   complete = λ x rest h.
       ap (r then s) (append_assoc (f x.0) (g x.1) rest)
       ∙ rw (c.complete x.0 (g x.1 ++ rest) h.0, d.complete x.1 rest h.1) refl;
@@ -169,7 +167,7 @@ pub made-sound : {A B : Type 0} {f : A → List ℕ} {F : A → Type 0} {r : Rea
 made-sound {A} {B} {f} {F} {r} c make bytes x fits e =
     let a = bind_some (r bytes) (λ a. Some (make a.0, a.1)) x e in
     let t = c.sound bytes a.0 fits a.1 in
-    let same = some_is _ x a.2 in (
+    let same = same_Some _ x a.2 in (
       a.0.0,
       ap (λ (y : B × List ℕ). y.0) same,
       subst (λ (y : B × List ℕ). bytes ≡ f a.0.0 ++ y.1)
@@ -244,7 +242,7 @@ module _ {A : Type 0} {f : A → List ℕ} {F : A → Type 0} {r : Reader A} (c 
   unfolding times
   times-sound zero bytes x fits e =
       subst (λ (y : List A × List ℕ). (bytes ≡ flat_map f y.0 ++ y.1) × (length y.0 ≡ 0)
-      × AllByRecursion F y.0) (some_is _ x e) (refl, refl, tt)
+      × AllByRecursion F y.0) (same_Some _ x e) (refl, refl, tt)
   times-sound (suc n) bytes x fits e =
       let a = bind_some (r bytes) (λ x. times r n x.1 and_then λ xs. Some (x.0 ∷ xs.0, xs.1)) x e in
       let b = bind_some (times r n a.0.1) (λ xs. Some (a.0.0 ∷ xs.0, xs.1)) x a.2 in
@@ -256,7 +254,7 @@ module _ {A : Type 0} {f : A → List ℕ} {F : A → Type 0} {r : Reader A} (c 
       ∙ sym (append_assoc (f a.0.0) (flat_map f b.0.0) b.0.1)
       ∙ ap (λ (s : List ℕ). s ++ b.0.1) (sym (flat_map-cons f a.0.0 b.0.0)) in
       subst (λ (y : List A × List ℕ). (bytes ≡ flat_map f y.0 ++ y.1) × (length y.0 ≡ suc n)
-      × AllByRecursion F y.0) (some_is _ x b.2) (parts, ap suc t1.1, (t0.1, t1.2))
+      × AllByRecursion F y.0) (same_Some _ x b.2) (parts, ap suc t1.1, (t0.1, t1.2))
 
   -- and so many that are spelled are read
   times-complete : (xs : List A) (rest : List ℕ) → AllByRecursion F xs
@@ -316,7 +314,7 @@ module _ {A : Type 0} {f : A → List ℕ} {F : A → Type 0} {r : Reader A} (c 
       bind_some (bytes_at a.0.0 a.0.1)
       (λ s. r s.0 and_then λ y. cond (eqb (length y.1) 0) (Some (y.0, s.1)) None) x a.2 in
       let d = bind_some (r b.0.0) (λ y. cond (eqb (length y.1) 0) (Some (y.0, b.0.1)) None) x b.2 in
-      let g = if_passed (eqb (length d.0.1) 0) (d.0.0, b.0.1) x d.2 in
+      let g = cond_some (eqb (length d.0.1) 0) (d.0.0, b.0.1) x d.2 in
       let t0 = number-sound 2 bytes a.0 fits a.1 in
       let t1 = bytes-sound a.0.0 a.0.1 b.0 b.1 in
       let in_front : IsBytes b.0.0 =
@@ -454,6 +452,6 @@ stat-codes = refit (sized-codes (sized-codes stat_fields-codes))
 -- no field is read as it is spelled
 pub nothing-codes : Codes (λ (x : Unit {0}). []) (λ (x : Unit {0}). Unit {0}) nothing_at
 nothing-codes = record {
-  sound = λ bytes x fits e. (ap (λ (y : Unit {0} × List ℕ). y.1) (some_is _ x e), tt);
+  sound = λ bytes x fits e. (ap (λ (y : Unit {0} × List ℕ). y.1) (same_Some _ x e), tt);
   complete = λ x rest h. refl;
 }

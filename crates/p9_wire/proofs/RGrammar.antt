@@ -7,12 +7,11 @@ use Rattle.p9_wire.specs.Spelling.{r_type, r_body, r_len, RNumbersFit, RFits, r_
 use Rattle.p9_wire.specs.Reading.{r_version_at, r_attach_at, r_error_at, r_flush_at, r_walk_at}
 use Rattle.p9_wire.specs.Reading.{r_open_at, r_create_at, r_read_at, r_write_at, r_clunk_at}
 use Rattle.p9_wire.specs.Reading.{r_remove_at, r_stat_at, r_wstat_at, r_body_at, r_message_of}
-use Rattle.p9_wire.proofs.Bytes.{IsBytes}
 use Rattle.p9_wire.proofs.Lengths.{length-r_body, r_len-fits}
 use Rattle.p9_wire.proofs.Codes.{number-codes, text-codes, counted-codes, several-codes, qid-codes}
 use Rattle.p9_wire.proofs.Codes.{stat-codes, then-codes, FitsSeveral, nothing-codes, made-complete}
-use Rattle.p9_wire.proofs.Framing.{Taken, Reads, Framed, Decides, taken, chosen, message-sound}
-use Rattle.p9_wire.proofs.Framing.{message-complete}
+use Rattle.p9_wire.proofs.Framing.{Grammar, IsReader, Reads, Framed, Decides, taken, chosen}
+use Rattle.p9_wire.proofs.Framing.{message-sound, message-complete}
 
 -- each field fits, in the order of the fields
 abbrev RFieldsFit : RMessage → Type 0
@@ -62,128 +61,83 @@ fields-joined Rremove n f = tt
 fields-joined (Rstat stat) n f = (n, f)
 fields-joined Rwstat n f = tt
 
--- a reply of this type was read
-abbrev Read : ℕ → List ℕ → RMessage × List ℕ → Type 0
-Read = Taken r_type r_body RFieldsFit r_body_at
+abbrev replies : Grammar RMessage
+replies = record { kind = r_type; body = r_body; Fits = RFieldsFit; body_at = r_body_at }
 
--- version: a body that was read is a Rversion and spelled so
-read-version : (bytes : List ℕ) (x : RMessage × List ℕ) → IsBytes bytes
-    → r_version_at bytes ≡ Some x → Read 101 bytes x
+-- a body that was read is that of its message, and spelled so
+
+read-version : IsReader replies 101 r_version_at
 unfolding r_version_at
 read-version =
-    taken r_type r_body RFieldsFit r_body_at (then-codes (number-codes 4) text-codes)
-    (λ x. Rversion x.0 x.1) 101 (λ a. refl) (λ a. refl) (λ a h. h)
-
--- attach: a body that was read is a Rattach and spelled so
-read-attach : (bytes : List ℕ) (x : RMessage × List ℕ) → IsBytes bytes → r_attach_at bytes ≡ Some x
-    → Read 105 bytes x
-unfolding r_attach_at
-read-attach =
-    taken r_type r_body RFieldsFit r_body_at qid-codes Rattach 105 (λ a. refl) (λ a. refl)
-    (λ a h. h)
-
--- error: a body that was read is a Rerror and spelled so
-read-error : (bytes : List ℕ) (x : RMessage × List ℕ) → IsBytes bytes → r_error_at bytes ≡ Some x
-    → Read 107 bytes x
-unfolding r_error_at
-read-error =
-    taken r_type r_body RFieldsFit r_body_at text-codes Rerror 107 (λ a. refl) (λ a. refl)
-    (λ a h. h)
-
--- flush: a body that was read is a Rflush and spelled so
-read-flush : (bytes : List ℕ) (x : RMessage × List ℕ) → IsBytes bytes → r_flush_at bytes ≡ Some x
-    → Read 109 bytes x
-read-flush =
-    taken r_type r_body RFieldsFit r_body_at nothing-codes (λ x. Rflush) 109 (λ a. refl) (λ a. refl)
-    (λ a h. h)
-
--- walk: a body that was read is a Rwalk and spelled so
-read-walk : (bytes : List ℕ) (x : RMessage × List ℕ) → IsBytes bytes → r_walk_at bytes ≡ Some x
-    → Read 111 bytes x
-unfolding r_walk_at
-read-walk =
-    taken r_type r_body RFieldsFit r_body_at (several-codes qid-codes) Rwalk 111 (λ a. refl)
+    taken replies (then-codes (number-codes 4) text-codes) (λ x. Rversion x.0 x.1) (λ a. refl)
     (λ a. refl) (λ a h. h)
 
--- open: a body that was read is a Ropen and spelled so
-read-open : (bytes : List ℕ) (x : RMessage × List ℕ) → IsBytes bytes → r_open_at bytes ≡ Some x
-    → Read 113 bytes x
+read-attach : IsReader replies 105 r_attach_at
+unfolding r_attach_at
+read-attach = taken replies qid-codes Rattach (λ a. refl) (λ a. refl) (λ a h. h)
+
+read-error : IsReader replies 107 r_error_at
+unfolding r_error_at
+read-error = taken replies text-codes Rerror (λ a. refl) (λ a. refl) (λ a h. h)
+
+read-flush : IsReader replies 109 r_flush_at
+read-flush = taken replies nothing-codes (λ x. Rflush) (λ a. refl) (λ a. refl) (λ a h. h)
+
+read-walk : IsReader replies 111 r_walk_at
+unfolding r_walk_at
+read-walk = taken replies (several-codes qid-codes) Rwalk (λ a. refl) (λ a. refl) (λ a h. h)
+
+read-open : IsReader replies 113 r_open_at
 unfolding r_open_at
 read-open =
-    taken r_type r_body RFieldsFit r_body_at (then-codes qid-codes (number-codes 4))
-    (λ x. Ropen x.0 x.1) 113 (λ a. refl) (λ a. refl) (λ a h. h)
-
--- create: a body that was read is a Rcreate and spelled so
-read-create : (bytes : List ℕ) (x : RMessage × List ℕ) → IsBytes bytes → r_create_at bytes ≡ Some x
-    → Read 115 bytes x
-unfolding r_create_at
-read-create =
-    taken r_type r_body RFieldsFit r_body_at (then-codes qid-codes (number-codes 4))
-    (λ x. Rcreate x.0 x.1) 115 (λ a. refl) (λ a. refl) (λ a h. h)
-
--- read: a body that was read is a Rread and spelled so
-read-read : (bytes : List ℕ) (x : RMessage × List ℕ) → IsBytes bytes → r_read_at bytes ≡ Some x
-    → Read 117 bytes x
-unfolding r_read_at
-read-read =
-    taken r_type r_body RFieldsFit r_body_at counted-codes Rread 117 (λ a. refl) (λ a. refl)
-    (λ a h. h)
-
--- write: a body that was read is a Rwrite and spelled so
-read-write : (bytes : List ℕ) (x : RMessage × List ℕ) → IsBytes bytes → r_write_at bytes ≡ Some x
-    → Read 119 bytes x
-unfolding r_write_at
-read-write =
-    taken r_type r_body RFieldsFit r_body_at (number-codes 4) Rwrite 119 (λ a. refl) (λ a. refl)
-    (λ a h. h)
-
--- clunk: a body that was read is a Rclunk and spelled so
-read-clunk : (bytes : List ℕ) (x : RMessage × List ℕ) → IsBytes bytes → r_clunk_at bytes ≡ Some x
-    → Read 121 bytes x
-read-clunk =
-    taken r_type r_body RFieldsFit r_body_at nothing-codes (λ x. Rclunk) 121 (λ a. refl) (λ a. refl)
-    (λ a h. h)
-
--- remove: a body that was read is a Rremove and spelled so
-read-remove : (bytes : List ℕ) (x : RMessage × List ℕ) → IsBytes bytes → r_remove_at bytes ≡ Some x
-    → Read 123 bytes x
-read-remove =
-    taken r_type r_body RFieldsFit r_body_at nothing-codes (λ x. Rremove) 123 (λ a. refl)
+    taken replies (then-codes qid-codes (number-codes 4)) (λ x. Ropen x.0 x.1) (λ a. refl)
     (λ a. refl) (λ a h. h)
 
--- stat: a body that was read is a Rstat and spelled so
-read-stat : (bytes : List ℕ) (x : RMessage × List ℕ) → IsBytes bytes → r_stat_at bytes ≡ Some x
-    → Read 125 bytes x
-unfolding r_stat_at
-read-stat =
-    taken r_type r_body RFieldsFit r_body_at stat-codes Rstat 125 (λ a. refl) (λ a. refl) (λ a h. h)
+read-create : IsReader replies 115 r_create_at
+unfolding r_create_at
+read-create =
+    taken replies (then-codes qid-codes (number-codes 4)) (λ x. Rcreate x.0 x.1) (λ a. refl)
+    (λ a. refl) (λ a h. h)
 
--- wstat: a body that was read is a Rwstat and spelled so
-read-wstat : (bytes : List ℕ) (x : RMessage × List ℕ) → IsBytes bytes → r_wstat_at bytes ≡ Some x
-    → Read 127 bytes x
-read-wstat =
-    taken r_type r_body RFieldsFit r_body_at nothing-codes (λ x. Rwstat) 127 (λ a. refl) (λ a. refl)
-    (λ a h. h)
+read-read : IsReader replies 117 r_read_at
+unfolding r_read_at
+read-read = taken replies counted-codes Rread (λ a. refl) (λ a. refl) (λ a h. h)
+
+read-write : IsReader replies 119 r_write_at
+unfolding r_write_at
+read-write = taken replies (number-codes 4) Rwrite (λ a. refl) (λ a. refl) (λ a h. h)
+
+read-clunk : IsReader replies 121 r_clunk_at
+read-clunk = taken replies nothing-codes (λ x. Rclunk) (λ a. refl) (λ a. refl) (λ a h. h)
+
+read-remove : IsReader replies 123 r_remove_at
+read-remove = taken replies nothing-codes (λ x. Rremove) (λ a. refl) (λ a. refl) (λ a h. h)
+
+read-stat : IsReader replies 125 r_stat_at
+unfolding r_stat_at
+read-stat = taken replies stat-codes Rstat (λ a. refl) (λ a. refl) (λ a h. h)
+
+read-wstat : IsReader replies 127 r_wstat_at
+read-wstat = taken replies nothing-codes (λ x. Rwstat) (λ a. refl) (λ a. refl) (λ a h. h)
 
 -- a reply that was read has its type, its fields and its spelling
-sound : (k : ℕ) (bytes : List ℕ) (x : RMessage × List ℕ) → IsBytes bytes
-    → r_body_at k bytes ≡ Some x → Read k bytes x
+sound : (k : ℕ) → IsReader replies k (r_body_at k)
 unfolding r_body_at
-sound k bytes x fits e =
-    chosen r_type r_body RFieldsFit r_body_at k 101 _ _ bytes x e (read-version bytes x fits)
-    (λ e. chosen r_type r_body RFieldsFit r_body_at k 105 _ _ bytes x e (read-attach bytes x fits)
-    (λ e. chosen r_type r_body RFieldsFit r_body_at k 107 _ _ bytes x e (read-error bytes x fits)
-    (λ e. chosen r_type r_body RFieldsFit r_body_at k 109 _ _ bytes x e (read-flush bytes x fits)
-    (λ e. chosen r_type r_body RFieldsFit r_body_at k 111 _ _ bytes x e (read-walk bytes x fits)
-    (λ e. chosen r_type r_body RFieldsFit r_body_at k 113 _ _ bytes x e (read-open bytes x fits)
-    (λ e. chosen r_type r_body RFieldsFit r_body_at k 115 _ _ bytes x e (read-create bytes x fits)
-    (λ e. chosen r_type r_body RFieldsFit r_body_at k 117 _ _ bytes x e (read-read bytes x fits)
-    (λ e. chosen r_type r_body RFieldsFit r_body_at k 119 _ _ bytes x e (read-write bytes x fits)
-    (λ e. chosen r_type r_body RFieldsFit r_body_at k 121 _ _ bytes x e (read-clunk bytes x fits)
-    (λ e. chosen r_type r_body RFieldsFit r_body_at k 123 _ _ bytes x e (read-remove bytes x fits)
-    (λ e. chosen r_type r_body RFieldsFit r_body_at k 125 _ _ bytes x e (read-stat bytes x fits)
-    (λ e. chosen r_type r_body RFieldsFit r_body_at k 127 _ _ bytes x e (read-wstat bytes x fits)
-    (λ e. absurd cc)))))))))))))
+sound k =
+    chosen replies k read-version
+    (chosen replies k read-attach
+    (chosen replies k read-error
+    (chosen replies k read-flush
+    (chosen replies k read-walk
+    (chosen replies k read-open
+    (chosen replies k read-create
+    (chosen replies k read-read
+    (chosen replies k read-write
+    (chosen replies k read-clunk
+    (chosen replies k read-remove
+    (chosen replies k read-stat
+    (chosen replies k read-wstat
+    (λ bytes x fits e. absurd cc)))))))))))))
 
 -- a reply that is spelled is read
 complete : (m : RMessage) (rest : List ℕ) → RFieldsFit m
@@ -226,7 +180,7 @@ small (Rstat stat) = omega arith
 small Rwstat = omega arith
 
 -- so the bodies of replies are read as they are spelled
-reads : Reads r_type r_body RFieldsFit r_body_at
+reads : Reads replies
 reads = record { small = small; sound = sound; complete = complete }
 
 -- the function that reads a reply answers exactly what the grammar spells
@@ -234,7 +188,7 @@ pub r-decides : Decides r_message_of RSpells
 unfolding r_message_of r_spelling
 r-decides = record {
   sound = λ bytes tag m fits e.
-      let framed = message-sound r_type r_body RFieldsFit r_body_at reads bytes (tag, m) fits e in
+      let framed = message-sound replies reads bytes (tag, m) fits e in
       let apart = fields-apart m framed.fits (omega (arith, length-r_body m, framed.size_fits)) in
       record {
         whole = framed.whole;
@@ -244,11 +198,11 @@ r-decides = record {
             framed.tag_fits;
       };
   complete = λ bytes tag m spelled.
-      let framed : Framed r_type r_body RFieldsFit r_body_at bytes tag m = record {
+      let framed : Framed replies bytes tag m = record {
         whole = spelled.whole;
         fits = fields-joined m spelled.numbers spelled.fits;
         tag_fits = spelled.tag_fits;
         size_fits = omega (arith, length-r_body m, r_len-fits m spelled.fits);
       } in
-      message-complete r_type r_body RFieldsFit r_body_at reads bytes tag m framed;
+      message-complete replies reads bytes tag m framed;
 }

@@ -7,12 +7,11 @@ use Rattle.p9_wire.specs.Spelling.{t_type, t_body, t_len, TNumbersFit, TFits, t_
 use Rattle.p9_wire.specs.Reading.{t_version_at, t_auth_at, t_attach_at, t_flush_at, t_walk_at}
 use Rattle.p9_wire.specs.Reading.{t_open_at, t_create_at, t_read_at, t_write_at, t_clunk_at}
 use Rattle.p9_wire.specs.Reading.{t_remove_at, t_stat_at, t_wstat_at, t_body_at, t_message_of}
-use Rattle.p9_wire.proofs.Bytes.{IsBytes}
 use Rattle.p9_wire.proofs.Lengths.{length-t_body, t_len-fits}
 use Rattle.p9_wire.proofs.Codes.{number-codes, text-codes, counted-codes, several-codes, stat-codes}
 use Rattle.p9_wire.proofs.Codes.{then-codes, FitsSeveral, made-complete}
-use Rattle.p9_wire.proofs.Framing.{Taken, Reads, Framed, Decides, taken, chosen, message-sound}
-use Rattle.p9_wire.proofs.Framing.{message-complete}
+use Rattle.p9_wire.proofs.Framing.{Grammar, IsReader, Reads, Framed, Decides, taken, chosen}
+use Rattle.p9_wire.proofs.Framing.{message-sound, message-complete}
 
 -- each field fits, in the order of the fields
 abbrev TFieldsFit : TMessage → Type 0
@@ -65,141 +64,104 @@ fields-joined (Tremove fid) n f = n
 fields-joined (Tstat fid) n f = n
 fields-joined (Twstat fid stat) n f = (n.0, (n.1, f))
 
--- a request of this type was read
-abbrev Read : ℕ → List ℕ → TMessage × List ℕ → Type 0
-Read = Taken t_type t_body TFieldsFit t_body_at
+abbrev requests : Grammar TMessage
+requests = record { kind = t_type; body = t_body; Fits = TFieldsFit; body_at = t_body_at }
 
--- version: a body that was read is a Tversion and spelled so
-read-version : (bytes : List ℕ) (x : TMessage × List ℕ) → IsBytes bytes
-    → t_version_at bytes ≡ Some x → Read 100 bytes x
+-- a body that was read is that of its message, and spelled so
+
+read-version : IsReader requests 100 t_version_at
 unfolding t_version_at
 read-version =
-    taken t_type t_body TFieldsFit t_body_at (then-codes (number-codes 4) text-codes)
-    (λ x. Tversion x.0 x.1) 100 (λ a. refl) (λ a. refl) (λ a h. h)
+    taken requests (then-codes (number-codes 4) text-codes) (λ x. Tversion x.0 x.1) (λ a. refl)
+    (λ a. refl) (λ a h. h)
 
--- auth: a body that was read is a Tauth and spelled so
-read-auth : (bytes : List ℕ) (x : TMessage × List ℕ) → IsBytes bytes → t_auth_at bytes ≡ Some x
-    → Read 102 bytes x
+read-auth : IsReader requests 102 t_auth_at
 unfolding t_auth_at
 read-auth =
-    taken t_type t_body TFieldsFit t_body_at
-    (then-codes (then-codes (number-codes 4) text-codes) text-codes) (λ x. Tauth x.0.0 x.0.1 x.1)
-    102 (λ a. refl) (λ a. refl) (λ a h. (h.0.0, h.0.1, h.1))
+    taken requests (then-codes (then-codes (number-codes 4) text-codes) text-codes)
+    (λ x. Tauth x.0.0 x.0.1 x.1) (λ a. refl) (λ a. refl) (λ a h. (h.0.0, h.0.1, h.1))
 
--- attach: a body that was read is a Tattach and spelled so
-read-attach : (bytes : List ℕ) (x : TMessage × List ℕ) → IsBytes bytes → t_attach_at bytes ≡ Some x
-    → Read 104 bytes x
+read-attach : IsReader requests 104 t_attach_at
 unfolding t_attach_at
 read-attach =
-    taken t_type t_body TFieldsFit t_body_at
+    taken requests
     (then-codes (then-codes (then-codes (number-codes 4) (number-codes 4)) text-codes) text-codes)
-    (λ x. Tattach x.0.0.0 x.0.0.1 x.0.1 x.1) 104 (λ a. refl) (λ a. refl)
+    (λ x. Tattach x.0.0.0 x.0.0.1 x.0.1 x.1) (λ a. refl) (λ a. refl)
     (λ a h. (h.0.0.0, h.0.0.1, h.0.1, h.1))
 
--- flush: a body that was read is a Tflush and spelled so
-read-flush : (bytes : List ℕ) (x : TMessage × List ℕ) → IsBytes bytes → t_flush_at bytes ≡ Some x
-    → Read 108 bytes x
+read-flush : IsReader requests 108 t_flush_at
 unfolding t_flush_at
-read-flush =
-    taken t_type t_body TFieldsFit t_body_at (number-codes 2) Tflush 108 (λ a. refl) (λ a. refl)
-    (λ a h. h)
+read-flush = taken requests (number-codes 2) Tflush (λ a. refl) (λ a. refl) (λ a h. h)
 
--- walk: a body that was read is a Twalk and spelled so
-read-walk : (bytes : List ℕ) (x : TMessage × List ℕ) → IsBytes bytes → t_walk_at bytes ≡ Some x
-    → Read 110 bytes x
+read-walk : IsReader requests 110 t_walk_at
 unfolding t_walk_at
 read-walk =
-    taken t_type t_body TFieldsFit t_body_at
+    taken requests
     (then-codes (then-codes (number-codes 4) (number-codes 4)) (several-codes text-codes))
-    (λ x. Twalk x.0.0 x.0.1 x.1) 110 (λ a. refl) (λ a. refl) (λ a h. (h.0.0, h.0.1, h.1))
+    (λ x. Twalk x.0.0 x.0.1 x.1) (λ a. refl) (λ a. refl) (λ a h. (h.0.0, h.0.1, h.1))
 
--- open: a body that was read is a Topen and spelled so
-read-open : (bytes : List ℕ) (x : TMessage × List ℕ) → IsBytes bytes → t_open_at bytes ≡ Some x
-    → Read 112 bytes x
+read-open : IsReader requests 112 t_open_at
 unfolding t_open_at
 read-open =
-    taken t_type t_body TFieldsFit t_body_at (then-codes (number-codes 4) (number-codes 1))
-    (λ x. Topen x.0 x.1) 112 (λ a. refl) (λ a. refl) (λ a h. h)
+    taken requests (then-codes (number-codes 4) (number-codes 1)) (λ x. Topen x.0 x.1) (λ a. refl)
+    (λ a. refl) (λ a h. h)
 
--- create: a body that was read is a Tcreate and spelled so
-read-create : (bytes : List ℕ) (x : TMessage × List ℕ) → IsBytes bytes → t_create_at bytes ≡ Some x
-    → Read 114 bytes x
+read-create : IsReader requests 114 t_create_at
 unfolding t_create_at
 read-create =
-    taken t_type t_body TFieldsFit t_body_at
+    taken requests
     (then-codes (then-codes (then-codes (number-codes 4) text-codes) (number-codes 4))
-    (number-codes 1)) (λ x. Tcreate x.0.0.0 x.0.0.1 x.0.1 x.1) 114 (λ a. refl) (λ a. refl)
+    (number-codes 1)) (λ x. Tcreate x.0.0.0 x.0.0.1 x.0.1 x.1) (λ a. refl) (λ a. refl)
     (λ a h. (h.0.0.0, h.0.0.1, h.0.1, h.1))
 
--- read: a body that was read is a Tread and spelled so
-read-read : (bytes : List ℕ) (x : TMessage × List ℕ) → IsBytes bytes → t_read_at bytes ≡ Some x
-    → Read 116 bytes x
+read-read : IsReader requests 116 t_read_at
 unfolding t_read_at
 read-read =
-    taken t_type t_body TFieldsFit t_body_at
-    (then-codes (then-codes (number-codes 4) (number-codes 8)) (number-codes 4))
-    (λ x. Tread x.0.0 x.0.1 x.1) 116 (λ a. refl) (λ a. refl) (λ a h. (h.0.0, h.0.1, h.1))
+    taken requests (then-codes (then-codes (number-codes 4) (number-codes 8)) (number-codes 4))
+    (λ x. Tread x.0.0 x.0.1 x.1) (λ a. refl) (λ a. refl) (λ a h. (h.0.0, h.0.1, h.1))
 
--- write: a body that was read is a Twrite and spelled so
-read-write : (bytes : List ℕ) (x : TMessage × List ℕ) → IsBytes bytes → t_write_at bytes ≡ Some x
-    → Read 118 bytes x
+read-write : IsReader requests 118 t_write_at
 unfolding t_write_at
 read-write =
-    taken t_type t_body TFieldsFit t_body_at
-    (then-codes (then-codes (number-codes 4) (number-codes 8)) counted-codes)
-    (λ x. Twrite x.0.0 x.0.1 x.1) 118 (λ a. refl) (λ a. refl) (λ a h. (h.0.0, h.0.1, h.1))
+    taken requests (then-codes (then-codes (number-codes 4) (number-codes 8)) counted-codes)
+    (λ x. Twrite x.0.0 x.0.1 x.1) (λ a. refl) (λ a. refl) (λ a h. (h.0.0, h.0.1, h.1))
 
--- clunk: a body that was read is a Tclunk and spelled so
-read-clunk : (bytes : List ℕ) (x : TMessage × List ℕ) → IsBytes bytes → t_clunk_at bytes ≡ Some x
-    → Read 120 bytes x
+read-clunk : IsReader requests 120 t_clunk_at
 unfolding t_clunk_at
-read-clunk =
-    taken t_type t_body TFieldsFit t_body_at (number-codes 4) Tclunk 120 (λ a. refl) (λ a. refl)
-    (λ a h. h)
+read-clunk = taken requests (number-codes 4) Tclunk (λ a. refl) (λ a. refl) (λ a h. h)
 
--- remove: a body that was read is a Tremove and spelled so
-read-remove : (bytes : List ℕ) (x : TMessage × List ℕ) → IsBytes bytes → t_remove_at bytes ≡ Some x
-    → Read 122 bytes x
+read-remove : IsReader requests 122 t_remove_at
 unfolding t_remove_at
-read-remove =
-    taken t_type t_body TFieldsFit t_body_at (number-codes 4) Tremove 122 (λ a. refl) (λ a. refl)
-    (λ a h. h)
+read-remove = taken requests (number-codes 4) Tremove (λ a. refl) (λ a. refl) (λ a h. h)
 
--- stat: a body that was read is a Tstat and spelled so
-read-stat : (bytes : List ℕ) (x : TMessage × List ℕ) → IsBytes bytes → t_stat_at bytes ≡ Some x
-    → Read 124 bytes x
+read-stat : IsReader requests 124 t_stat_at
 unfolding t_stat_at
-read-stat =
-    taken t_type t_body TFieldsFit t_body_at (number-codes 4) Tstat 124 (λ a. refl) (λ a. refl)
-    (λ a h. h)
+read-stat = taken requests (number-codes 4) Tstat (λ a. refl) (λ a. refl) (λ a h. h)
 
--- wstat: a body that was read is a Twstat and spelled so
-read-wstat : (bytes : List ℕ) (x : TMessage × List ℕ) → IsBytes bytes → t_wstat_at bytes ≡ Some x
-    → Read 126 bytes x
+read-wstat : IsReader requests 126 t_wstat_at
 unfolding t_wstat_at
 read-wstat =
-    taken t_type t_body TFieldsFit t_body_at (then-codes (number-codes 4) stat-codes)
-    (λ x. Twstat x.0 x.1) 126 (λ a. refl) (λ a. refl) (λ a h. h)
+    taken requests (then-codes (number-codes 4) stat-codes) (λ x. Twstat x.0 x.1) (λ a. refl)
+    (λ a. refl) (λ a h. h)
 
 -- a request that was read has its type, its fields and its spelling
-sound : (k : ℕ) (bytes : List ℕ) (x : TMessage × List ℕ) → IsBytes bytes
-    → t_body_at k bytes ≡ Some x → Read k bytes x
+sound : (k : ℕ) → IsReader requests k (t_body_at k)
 unfolding t_body_at
-sound k bytes x fits e =
-    chosen t_type t_body TFieldsFit t_body_at k 100 _ _ bytes x e (read-version bytes x fits)
-    (λ e. chosen t_type t_body TFieldsFit t_body_at k 102 _ _ bytes x e (read-auth bytes x fits)
-    (λ e. chosen t_type t_body TFieldsFit t_body_at k 104 _ _ bytes x e (read-attach bytes x fits)
-    (λ e. chosen t_type t_body TFieldsFit t_body_at k 108 _ _ bytes x e (read-flush bytes x fits)
-    (λ e. chosen t_type t_body TFieldsFit t_body_at k 110 _ _ bytes x e (read-walk bytes x fits)
-    (λ e. chosen t_type t_body TFieldsFit t_body_at k 112 _ _ bytes x e (read-open bytes x fits)
-    (λ e. chosen t_type t_body TFieldsFit t_body_at k 114 _ _ bytes x e (read-create bytes x fits)
-    (λ e. chosen t_type t_body TFieldsFit t_body_at k 116 _ _ bytes x e (read-read bytes x fits)
-    (λ e. chosen t_type t_body TFieldsFit t_body_at k 118 _ _ bytes x e (read-write bytes x fits)
-    (λ e. chosen t_type t_body TFieldsFit t_body_at k 120 _ _ bytes x e (read-clunk bytes x fits)
-    (λ e. chosen t_type t_body TFieldsFit t_body_at k 122 _ _ bytes x e (read-remove bytes x fits)
-    (λ e. chosen t_type t_body TFieldsFit t_body_at k 124 _ _ bytes x e (read-stat bytes x fits)
-    (λ e. chosen t_type t_body TFieldsFit t_body_at k 126 _ _ bytes x e (read-wstat bytes x fits)
-    (λ e. absurd cc)))))))))))))
+sound k =
+    chosen requests k read-version
+    (chosen requests k read-auth
+    (chosen requests k read-attach
+    (chosen requests k read-flush
+    (chosen requests k read-walk
+    (chosen requests k read-open
+    (chosen requests k read-create
+    (chosen requests k read-read
+    (chosen requests k read-write
+    (chosen requests k read-clunk
+    (chosen requests k read-remove
+    (chosen requests k read-stat
+    (chosen requests k read-wstat
+    (λ bytes x fits e. absurd cc)))))))))))))
 
 -- a request that is spelled is read
 complete : (m : TMessage) (rest : List ℕ) → TFieldsFit m
@@ -259,7 +221,7 @@ small (Tstat fid) = omega arith
 small (Twstat fid stat) = omega arith
 
 -- so the bodies of requests are read as they are spelled
-reads : Reads t_type t_body TFieldsFit t_body_at
+reads : Reads requests
 reads = record { small = small; sound = sound; complete = complete }
 
 -- the function that reads a request answers exactly what the grammar spells
@@ -267,7 +229,7 @@ pub t-decides : Decides t_message_of TSpells
 unfolding t_message_of t_spelling
 t-decides = record {
   sound = λ bytes tag m fits e.
-      let framed = message-sound t_type t_body TFieldsFit t_body_at reads bytes (tag, m) fits e in
+      let framed = message-sound requests reads bytes (tag, m) fits e in
       let apart = fields-apart m framed.fits (omega (arith, length-t_body m, framed.size_fits)) in
       record {
         whole = framed.whole;
@@ -277,11 +239,11 @@ t-decides = record {
             framed.tag_fits;
       };
   complete = λ bytes tag m spelled.
-      let framed : Framed t_type t_body TFieldsFit t_body_at bytes tag m = record {
+      let framed : Framed requests bytes tag m = record {
         whole = spelled.whole;
         fits = fields-joined m spelled.numbers spelled.fits;
         tag_fits = spelled.tag_fits;
         size_fits = omega (arith, length-t_body m, t_len-fits m spelled.fits);
       } in
-      message-complete t_type t_body TFieldsFit t_body_at reads bytes tag m framed;
+      message-complete requests reads bytes tag m framed;
 }

@@ -1,13 +1,12 @@
 //! Fields taken from the front of bytes. Each answers its value and the bytes behind it, or None
 //! where the bytes begin with no such field.
 
-ghost use Rattle.std.specs.Prelude.{◌≡◌, ◌≤◌, ◌==◌, Some, None, if◌then◌else◌};
-ghost use Rattle.std.specs.List.{list_any};
-ghost use Rattle.p9_base.specs.Text.{is_text};
+ghost use Rattle.std.specs.Prelude.{◌≡◌, ◌≤◌, ◌==◌, Some, None, nat_lt, if◌then◌else◌};
+ghost use Rattle.p9_base.specs.Text.{is_text as text_test};
 ghost use Rattle.p9_wire.specs.Message.{stat_view};
-ghost use Rattle.p9_wire.specs.FieldReading.{Gives, number_at, bytes_at, sized_bytes_at, text_at};
-ghost use Rattle.p9_wire.specs.FieldReading.{qid_at, counted_at, times, several_at, sized_at};
-ghost use Rattle.p9_wire.specs.FieldReading.{stat_fields_at, stat_at};
+ghost use Rattle.p9_wire.specs.FieldReading.{◌and_then◌, Gives, number_at, bytes_at, text_at};
+ghost use Rattle.p9_wire.specs.FieldReading.{sized_bytes_at, qid_at, counted_at, times};
+ghost use Rattle.p9_wire.specs.FieldReading.{several_at, sized_at, stat_fields_at, stat_at};
 ghost use Rattle.p9_wire.specs.Reading.{header_at};
 
 use crate::constants::MAXWELEM;
@@ -15,7 +14,7 @@ use crate::message::Stat;
 use crate::names::Names;
 use crate::qids::Qids;
 use byteorder::{ByteOrder, LittleEndian};
-use p9_base::Qid;
+use p9_base::{Qid, is_text};
 use std::str::from_utf8;
 
 pub fn take_u8(bytes: &[u8]) -> Option<(u8, &[u8])>
@@ -71,19 +70,13 @@ fn take_sized(bytes: &[u8]) -> Option<(&[u8], &[u8])>
     take_bytes(len as usize, rest)
 }
 
-pub fn has_nul(bytes: &[u8]) -> bool
-    ensures { result ≡ list_any (λ b. b == 0) bytes.now }
-{
-    bytes.contains(&0)
-}
-
 /// The text that these bytes are: UTF-8 without NUL.
-#[tactic(auto, using(crate::proofs::Texts::text_rules))]
+#[tactic(auto, using(crate::proofs::Texts::no_text_without_utf8))]
 fn text_from(bytes: &[u8]) -> Option<&str>
-    ensures { Gives (λ s. s.now) result (if is_text bytes.now then Some bytes.now else None) }
+    ensures { Gives (λ s. s.now) result (if text_test bytes.now then Some bytes.now else None) }
 {
     match from_utf8(bytes) {
-        Ok(text) => { if has_nul(bytes) { None } else { Some(text) } }
+        Ok(text) => { if is_text(text) { Some(text) } else { None } }
         Err(_) => None,
     }
 }
@@ -123,6 +116,19 @@ pub fn take_counted(bytes: &[u8]) -> Option<(&[u8], &[u8])>
     take_bytes(count as usize, rest)
 }
 
+/// The number of at most sixteen names or qids, in two bytes.
+fn take_count(bytes: &[u8]) -> Option<(usize, &[u8])>
+    ensures { Gives (λ x. (x.0, x.1.now)) result
+        (number_at 2 bytes.now and_then λ n. if nat_lt MAXWELEM n.0 then None else Some n) }
+{
+    let (count, rest) = take_u16(bytes)?;
+    let count = count as usize;
+    if count > MAXWELEM {
+        return None;
+    }
+    Some((count, rest))
+}
+
 fn some_names(count: usize, bytes: &[u8]) -> Option<(Names<'_>, &[u8])>
     requires { count ≤ 16 }
     ensures { Gives (λ x. (x.0, x.1.now)) result (times text_at count bytes.now) }
@@ -146,12 +152,8 @@ fn some_names(count: usize, bytes: &[u8]) -> Option<(Names<'_>, &[u8])>
 pub fn take_names(bytes: &[u8]) -> Option<(Names<'_>, &[u8])>
     ensures { Gives (λ x. (x.0, x.1.now)) result (several_at text_at bytes.now) }
 {
-    let (nwname, rest) = take_u16(bytes)?;
-    let nwname = nwname as usize;
-    if nwname > MAXWELEM {
-        return None;
-    }
-    some_names(nwname, rest)
+    let (count, rest) = take_count(bytes)?;
+    some_names(count, rest)
 }
 
 fn some_qids(count: usize, bytes: &[u8]) -> Option<(Qids, &[u8])>
@@ -177,12 +179,8 @@ fn some_qids(count: usize, bytes: &[u8]) -> Option<(Qids, &[u8])>
 pub fn take_qids(bytes: &[u8]) -> Option<(Qids, &[u8])>
     ensures { Gives (λ x. (x.0, x.1.now)) result (several_at qid_at bytes.now) }
 {
-    let (nwqid, rest) = take_u16(bytes)?;
-    let nwqid = nwqid as usize;
-    if nwqid > MAXWELEM {
-        return None;
-    }
-    some_qids(nwqid, rest)
+    let (count, rest) = take_count(bytes)?;
+    some_qids(count, rest)
 }
 
 /// A stat without its size.

@@ -2,28 +2,21 @@
 //! that is. A number fits by its type, so only texts and lengths are looked at.
 
 ghost use Rattle.std.specs.Prelude.{◌≡◌, ◌<◌, ◌+◌, ◌^◌, ◌↔◌, IsTrue, length, sum_by};
-ghost use Rattle.p9_base.specs.Text.{is_text as text_test};
 ghost use Rattle.p9_wire.specs.Fields.{FitsText, FitsNames, FitsStat};
 ghost use Rattle.p9_wire.specs.Message.{stat_view, t_view, r_view};
 ghost use Rattle.p9_wire.specs.Spelling.{t_len, TFits, r_len, RFits};
 
 use crate::constants::{HEADER, MAXWELEM, QID};
-use crate::fields::has_nul;
 use crate::message::{RMsg, Stat, TMsg};
 use crate::names::Names;
 use crate::put::stat_size;
+use p9_base::is_text;
 
 /// The most bytes of a text, whose length stands in two.
 const TEXT_MAX: usize = 65_535;
 
-/// The most bytes of a frame as its size can say: more than `MSIZE_MAX`, and so without a session.
+/// The most bytes of a frame that its size can tell. A session's frames are shorter: `MSIZE_MAX`.
 const FRAME_MAX: usize = 0xFFFF_FFFF;
-
-fn is_text(text: &str) -> bool
-    ensures { result ≡ text_test text.now }
-{
-    !has_nul(text.as_bytes())
-}
 
 fn text_fits(text: &str) -> bool
     ensures { IsTrue result ↔ FitsText text.now }
@@ -79,7 +72,7 @@ impl TMsg<'_> {
             TMsg::Open { .. } => true,
             TMsg::Create { name, .. } => text_fits(name),
             TMsg::Read { .. } => true,
-            TMsg::Write { bytes, .. } => bytes.len() <= FRAME_MAX - 23,
+            TMsg::Write { bytes, .. } => bytes.len() <= FRAME_MAX - HEADER - 4 - 8 - 4,
             TMsg::Clunk { .. } => true,
             TMsg::Remove { .. } => true,
             TMsg::Stat { .. } => true,
@@ -124,7 +117,7 @@ impl RMsg<'_> {
             RMsg::Walk { qids } => qids.len() <= MAXWELEM,
             RMsg::Open { .. } => true,
             RMsg::Create { .. } => true,
-            RMsg::Read { bytes } => bytes.len() <= FRAME_MAX - 11,
+            RMsg::Read { bytes } => bytes.len() <= FRAME_MAX - HEADER - 4,
             RMsg::Write { .. } => true,
             RMsg::Clunk => true,
             RMsg::Remove => true,

@@ -19,6 +19,8 @@ mod r_reading;
 mod r_writing;
 mod t_reading;
 mod t_writing;
+#[cfg(test)]
+mod tests;
 
 pub use constants::{HEADER, IOHDRSZ, MAXWELEM, MSIZE_MAX, NOTAG, STAT_FIXED};
 pub use frame::{Frame, frame_of};
@@ -30,6 +32,3 @@ pub use r_reading::read_r;
 pub use r_writing::{finish_read, write_r};
 pub use t_reading::read_t;
 pub use t_writing::write_t;
-
-#[cfg(test)]
-mod tests;

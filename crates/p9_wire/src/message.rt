@@ -8,7 +8,7 @@ use p9_base::Qid;
 /// order of their bytes.
 #[derive(Clone, Copy, Debug)]
 pub struct Stat<'a> {
-    /// The type of the server's device, for the kernel's use.
+    /// The manual's `type`, that of the server's device, for the kernel's use.
     pub kind: u16,
     /// The server's number among those of its type, for the kernel's use.
     pub dev: u32,

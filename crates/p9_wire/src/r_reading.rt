@@ -1,4 +1,4 @@
-//! Replies from bytes.
+//! Replies from bytes: a function for each body with fields, and the frame around it.
 
 ghost use Rattle.std.specs.Prelude.{◌≡◌, ℕ, IfSome, IfNone};
 ghost use Rattle.p9_wire.specs.Message.{RMessage, r_view};
@@ -115,6 +115,7 @@ fn body_of(kind: u8, body: &[u8]) -> Option<(RMsg<'_>, &[u8])>
     }
 }
 
+/// The reply that takes up all of these bytes, with its tag.
 #[tactic(auto, unfolding(crate::specs::Reading::r_message_of))]
 fn whole(bytes: &[u8]) -> Option<(u16, RMsg<'_>)>
     ensures { Gives (λ x. (x.0, r_view x.1)) result (r_message_of bytes.now) }

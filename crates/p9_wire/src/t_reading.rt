@@ -1,4 +1,4 @@
-//! Requests from bytes.
+//! Requests from bytes: a function for each body with fields, and the frame around it.
 
 ghost use Rattle.std.specs.Prelude.{◌≡◌, ℕ, IfSome, IfNone};
 ghost use Rattle.p9_wire.specs.Message.{TMessage, t_view};
@@ -179,6 +179,7 @@ fn body_of(kind: u8, body: &[u8]) -> Option<(TMsg<'_>, &[u8])>
     }
 }
 
+/// The request that takes up all of these bytes, with its tag.
 #[tactic(auto, unfolding(crate::specs::Reading::t_message_of))]
 fn whole(bytes: &[u8]) -> Option<(u16, TMsg<'_>)>
     ensures { Gives (λ x. (x.0, t_view x.1)) result (t_message_of bytes.now) }

@@ -1,15 +1,15 @@
 //! The codec against bytes from outside: each message is written from its fields and compared with
 //! the vector, and the vector is read and written back.
 
-use crate::{Frame, RMsg, TMsg, frame_of, read_r, read_t, write_r, write_t};
-use std::alloc::{AllocError, Global};
-use std::process::Abort;
-
 mod frames;
 mod hostile;
 mod replies;
 mod requests;
 mod vectors;
+
+use crate::{Frame, RMsg, TMsg, frame_of, read_r, read_t, write_r, write_t};
+use std::alloc::{AllocError, Global};
+use std::process::Abort;
 
 /// More bytes than any vector has.
 const ROOM: usize = 512;

@@ -69,6 +69,14 @@ fn vector_versions(rt: HostRuntime) -> Result<(), Fail> {
 }
 
 #[test]
+fn vector_attach(rt: HostRuntime) -> Result<(), Fail> {
+    let attach = RMsg::Attach { qid: directory(0) };
+    let digits = "14000000 69 0100 80 00000000 0000000000000000";
+    reply(&rt, 1, &attach, &bytes_of(rt.alloc(), digits)?);
+    Ok(())
+}
+
+#[test]
 fn vector_errors(rt: HostRuntime) -> Result<(), Fail> {
     // version_not_set, smallest_msize, clunk, dot_dots, listing_reads (twice).
     let cases = [
@@ -117,41 +125,18 @@ fn vector_errors(rt: HostRuntime) -> Result<(), Fail> {
     Ok(())
 }
 
-#[test]
-fn vector_attach(rt: HostRuntime) -> Result<(), Fail> {
-    let attach = RMsg::Attach { qid: directory(0) };
-    let digits = "14000000 69 0100 80 00000000 0000000000000000";
-    reply(&rt, 1, &attach, &bytes_of(rt.alloc(), digits)?);
-    Ok(())
-}
-
 /// The replies without a body.
 #[test]
 fn vector_clunk(rt: HostRuntime) -> Result<(), Fail> {
-    reply(
-        &rt,
-        3,
-        &RMsg::Flush,
-        &bytes_of(rt.alloc(), "07000000 6d 0300")?,
-    );
-    reply(
-        &rt,
-        1,
-        &RMsg::Clunk,
-        &bytes_of(rt.alloc(), "07000000 79 0100")?,
-    );
-    reply(
-        &rt,
-        3,
-        &RMsg::Remove,
-        &bytes_of(rt.alloc(), "07000000 7b 0300")?,
-    );
-    reply(
-        &rt,
-        10,
-        &RMsg::Wstat,
-        &bytes_of(rt.alloc(), "07000000 7f 0a00")?,
-    );
+    let cases = [
+        (3, RMsg::Flush, "07000000 6d 0300"),
+        (1, RMsg::Clunk, "07000000 79 0100"),
+        (3, RMsg::Remove, "07000000 7b 0300"),
+        (10, RMsg::Wstat, "07000000 7f 0a00"),
+    ];
+    for (tag, message, digits) in &cases {
+        reply(&rt, *tag, message, &bytes_of(rt.alloc(), digits)?);
+    }
     Ok(())
 }
 
@@ -193,13 +178,6 @@ fn vector_open_read(rt: HostRuntime) -> Result<(), Fail> {
     };
     let digits = "18000000 71 0900 00 00000000 0300000000000000 e81f0000";
     reply(&rt, 9, &open, &bytes_of(rt.alloc(), digits)?);
-    let read = RMsg::Read { bytes: b"hi" };
-    reply(
-        &rt,
-        10,
-        &read,
-        &bytes_of(rt.alloc(), "0d000000 75 0a00 02000000 6869")?,
-    );
     // union_create
     let create = RMsg::Create {
         qid: file(5),
@@ -207,13 +185,13 @@ fn vector_open_read(rt: HostRuntime) -> Result<(), Fail> {
     };
     let digits = "18000000 73 0600 00 00000000 0500000000000000 e81f0000";
     reply(&rt, 6, &create, &bytes_of(rt.alloc(), digits)?);
+    let read = RMsg::Read { bytes: b"hi" };
+    let digits = "0d000000 75 0a00 02000000 6869";
+    reply(&rt, 10, &read, &bytes_of(rt.alloc(), digits)?);
+    // union_create
     let write = RMsg::Write { count: 2 };
-    reply(
-        &rt,
-        7,
-        &write,
-        &bytes_of(rt.alloc(), "0b000000 77 0700 02000000")?,
-    );
+    let digits = "0b000000 77 0700 02000000";
+    reply(&rt, 7, &write, &bytes_of(rt.alloc(), digits)?);
     Ok(())
 }
 

@@ -41,6 +41,13 @@ fn vector_versions(rt: HostRuntime) -> Result<(), Fail> {
 
 #[test]
 fn vector_attach(rt: HostRuntime) -> Result<(), Fail> {
+    let auth = TMsg::Auth {
+        afid: 3,
+        uname: "glenda",
+        aname: "",
+    };
+    let digits = "15000000 66 0200 03000000 0600 676c656e6461 0000";
+    request(&rt, 2, &auth, &bytes_of(rt.alloc(), digits)?);
     let attach = TMsg::Attach {
         fid: 0,
         afid: NOFID,
@@ -49,47 +56,21 @@ fn vector_attach(rt: HostRuntime) -> Result<(), Fail> {
     };
     let digits = "19000000 68 0100 00000000 ffffffff 0600 676c656e6461 0000";
     request(&rt, 1, &attach, &bytes_of(rt.alloc(), digits)?);
-
-    let auth = TMsg::Auth {
-        afid: 3,
-        uname: "glenda",
-        aname: "",
-    };
-    let digits = "15000000 66 0200 03000000 0600 676c656e6461 0000";
-    request(&rt, 2, &auth, &bytes_of(rt.alloc(), digits)?);
     Ok(())
 }
 
+/// The requests of one number.
 #[test]
 fn vector_clunk(rt: HostRuntime) -> Result<(), Fail> {
-    let flush = TMsg::Flush { oldtag: 1 };
-    request(
-        &rt,
-        3,
-        &flush,
-        &bytes_of(rt.alloc(), "09000000 6c 0300 0100")?,
-    );
-    let unused = TMsg::Clunk { fid: 5 };
-    request(
-        &rt,
-        1,
-        &unused,
-        &bytes_of(rt.alloc(), "0b000000 78 0100 05000000")?,
-    );
-    let remove = TMsg::Remove { fid: 1 };
-    request(
-        &rt,
-        3,
-        &remove,
-        &bytes_of(rt.alloc(), "0b000000 7a 0300 01000000")?,
-    );
-    let stat = TMsg::Stat { fid: 9 };
-    request(
-        &rt,
-        6,
-        &stat,
-        &bytes_of(rt.alloc(), "0b000000 7c 0600 09000000")?,
-    );
+    let cases = [
+        (3, TMsg::Flush { oldtag: 1 }, "09000000 6c 0300 0100"),
+        (1, TMsg::Clunk { fid: 5 }, "0b000000 78 0100 05000000"),
+        (3, TMsg::Remove { fid: 1 }, "0b000000 7a 0300 01000000"),
+        (6, TMsg::Stat { fid: 9 }, "0b000000 7c 0600 09000000"),
+    ];
+    for (tag, message, digits) in &cases {
+        request(&rt, *tag, message, &bytes_of(rt.alloc(), digits)?);
+    }
     Ok(())
 }
 

@@ -1,13 +1,12 @@
 use Rattle.std.proofs.Common.{ℕ, ◌+◌, ap, sym, ◌∙◌}
 use Rattle.p9_wire.specs.Spelling.{r_type, r_body, r_spelling}
-use Rattle.p9_wire.proofs.Bytes.{each_fits}
 use Rattle.p9_wire.proofs.Lengths.{length-frame, length-r_body}
 use Rattle.p9_wire.proofs.Framing.{one_tag, one_message}
 use Rattle.p9_wire.proofs.RGrammar.{r-decides}
 use Rattle.p9_wire.proofs.laws.replies_are_spelled_once.Goals as goal
 
 pub returns-clause-sound : goal.returns-clause-sound
-returns-clause-sound c = λ bytes tag m fits e. r-decides.sound bytes tag m (each_fits bytes fits) e
+returns-clause-sound c = λ bytes tag m fits e. r-decides.sound bytes tag m fits e
 
 pub returns-clause-complete : goal.returns-clause-complete
 returns-clause-complete c = λ bytes tag m spelled. r-decides.complete bytes tag m spelled

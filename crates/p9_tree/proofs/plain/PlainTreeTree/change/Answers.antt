@@ -3,8 +3,8 @@ use Rattle.p9_tree.specs.Change.{changed}
 use Rattle.p9_tree.specs.Node.{Node, IsTellable}
 use Rattle.p9_tree.specs.Server.{Server, node_at, with_nodes}
 use Rattle.p9_tree.proofs.Lookups.{absent-changed_at, node_at-position, set-changed_at}
-use Rattle.p9_tree.proofs.Changed.{WellFormed-set, WellFormed-set_apart, both_done, both_or_kept}
-use Rattle.p9_tree.proofs.Changed.{keeps-same, sound-same}
+use Rattle.p9_tree.proofs.Changed.{WellFormed-set_apart, WellFormed-set_same, both_done}
+use Rattle.p9_tree.proofs.Changed.{both_or_kept}
 use Rattle.p9_tree.proofs.Renewed.{apart-changed, keeps-changed, named, sound-changed}
 use Rattle.p9_tree.proofs.plain.PlainTreeTree.change.Goals as goal
 
@@ -46,8 +46,8 @@ invariant_of-self g c =
       }
       | inr same ↦ record {
         well_formed =
-            WellFormed-set c.args.number (λ n. n) s _ _ _ (sym c.place.ensures ∙ c.in-Some.is)
-            c.index_mut.ensures.value same keeps-same (sound-same _) c.args.self.now.well_formed;
+            WellFormed-set_same c.args.number s _ _ _ (sym c.place.ensures ∙ c.in-Some.is)
+            c.index_mut.ensures.value same c.args.self.now.well_formed;
       }
     ]
 

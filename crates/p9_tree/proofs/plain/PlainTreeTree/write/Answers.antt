@@ -3,8 +3,8 @@ use Rattle.p9_tree.specs.Bytes.{overwritten}
 use Rattle.p9_tree.specs.Node.{with_bytes}
 use Rattle.p9_tree.specs.Server.{Server, with_nodes}
 use Rattle.p9_tree.proofs.Lookups.{absent-changed_at, set-changed_at}
-use Rattle.p9_tree.proofs.Changed.{WellFormed-set, done_or_kept, keeps-same, keeps-with_bytes}
-use Rattle.p9_tree.proofs.Changed.{sound-overwritten, sound-same}
+use Rattle.p9_tree.proofs.Changed.{WellFormed-set, WellFormed-set_same, done_or_kept}
+use Rattle.p9_tree.proofs.Changed.{keeps-with_bytes, sound-overwritten}
 use Rattle.p9_tree.proofs.plain.PlainTreeTree.write.Goals as goal
 
 pub invariant_of-self : goal.invariant_of-self
@@ -22,8 +22,8 @@ invariant_of-self g c =
       }
       | inr same ↦ record {
         well_formed =
-            WellFormed-set c.args.number (λ n. n) s _ _ _ (sym c.place.ensures ∙ c.in-Some.is)
-            c.index_mut.ensures.value same keeps-same (sound-same _) c.args.self.now.well_formed;
+            WellFormed-set_same c.args.number s _ _ _ (sym c.place.ensures ∙ c.in-Some.is)
+            c.index_mut.ensures.value same c.args.self.now.well_formed;
       }
     ]
 
