@@ -1,5 +1,6 @@
 //! Versions and attaches, as bytes from outside.
 
+mod again;
 mod close;
 mod create;
 mod list;
@@ -16,13 +17,12 @@ mod wstat;
 mod wstat_fields;
 mod wstat_refused;
 
-use crate::{Export, OpenError, is_frame, is_table_given};
-use p9_base::User;
-use p9_refusing::{Refusing, refuse_each};
-use p9_space::MountTable;
-use p9_tree::{Forest, PlainTree, Tree};
-use std::alloc::{Allocator, Global};
+use crate::{Export, OpenError, is_frame};
+use again::play_refused;
+use p9_tree::{PlainTree, Tree};
+use std::alloc::Global;
 use std::process::Abort;
+use worlds::{exchange_all, exchange_in, world};
 
 // A client asks for an msize of 8,192.
 const VERSION: &str = "1300000064ffff002000000600395032303030";
@@ -37,18 +37,40 @@ const ATTACH_REPLY: &str = "1400000069010080000000000000000000000000";
 // A request and its reply.
 type Exchange = (&'static str, &'static str);
 
-// An exporter of one server, whose root is all, to glenda.
-fn exporter<A: Allocator + Copy>(rt: &impl Abort, alloc: A) -> Export<PlainTree<A>> {
-    let mut trees = Vec::new(alloc);
-    let tree = PlainTree::with_root(alloc).expect(rt, "a tree");
-    assert!(rt; trees.push(tree).is_ok());
-    let mut users = Vec::new(alloc);
-    let glenda = User::new("glenda").expect(rt, "a user");
-    assert!(rt; users.push(glenda).is_ok());
-    let forest = Forest { trees };
-    let table = MountTable::new(alloc);
-    assert!(rt; is_table_given(&forest, &table));
-    Export::new(forest, users, table)
+// An exporter of one server, whose root is all, to glenda, with session 1.
+fn opened(rt: &impl Abort, alloc: Global) -> Export<PlainTree<Global>> {
+    let mut export = world(rt, alloc, &[], &[]);
+    assert_eq!(rt; export.open(1), Ok(()));
+    export
+}
+
+// Plays frames in session 1 of such an exporter.
+fn converses(rt: &impl Abort, alloc: Global, rows: &[Exchange]) {
+    let mut export = opened(rt, alloc);
+    exchange_all(rt, alloc, &mut export, rows);
+}
+
+// Sends a frame, and gives the reply.
+fn reply_to<T: Tree>(
+    rt: &impl Abort,
+    alloc: Global,
+    export: &mut Export<T>,
+    session: u32,
+    now: u32,
+    frame: &[u8],
+) -> Vec<u8, Global> {
+    let mut buffer = vec![in alloc; 0u8; 65_536].expect(rt, "a buffer");
+    assert!(rt; is_frame(frame));
+    assert!(rt; export.live(session));
+    let size = export.message(session, frame, now, buffer.as_mut_slice());
+    buffer.truncate(size);
+    buffer
+}
+
+// Compares a reply with hexadecimal digits.
+fn is_reply(rt: &impl Abort, alloc: Global, reply: &[u8], wanted: &str) {
+    let text = hex::encode(alloc, reply).expect(rt, "a text");
+    assert_eq!(rt; text.as_str(), wanted);
 }
 
 // Sends a frame in a session at the time 0, and compares the reply.
@@ -73,20 +95,15 @@ fn exchange_at<T: Tree>(
 ) {
     let (request, reply) = exchange;
     let frame = hex::decode(alloc, request).expect(rt, "hexadecimal digits");
-    let mut buffer = vec![in alloc; 0u8; 65_536].expect(rt, "a buffer");
-    assert!(rt; is_frame(frame.as_slice()));
-    assert!(rt; export.live(session));
-    let size = export.message(session, frame.as_slice(), now, buffer.as_mut_slice());
-    let text = hex::encode(alloc, &buffer[..size]).expect(rt, "a text");
-    assert_eq!(rt; text.as_str(), reply);
+    let answer = reply_to(rt, alloc, export, session, now, frame.as_slice());
+    is_reply(rt, alloc, answer.as_slice(), reply);
 }
 
 #[test]
 fn first_attach(rt: HostRuntime) {
-    let mut export = exporter(&rt, rt.alloc());
-    assert_eq!(rt; export.open(1), Ok(()));
-    exchange(&rt, rt.alloc(), &mut export, 1, (VERSION, VERSION_REPLY));
-    exchange(&rt, rt.alloc(), &mut export, 1, (ATTACH, ATTACH_REPLY));
+    let mut export = opened(&rt, rt.alloc());
+    let rows = &[(VERSION, VERSION_REPLY), (ATTACH, ATTACH_REPLY)];
+    exchange_all(&rt, rt.alloc(), &mut export, rows);
     assert!(rt; export.live(1));
     export.close(1, 0);
     assert!(rt; !export.live(1));
@@ -94,9 +111,7 @@ fn first_attach(rt: HostRuntime) {
 
 #[test]
 fn unknown_version(rt: HostRuntime) {
-    let mut export = exporter(&rt, rt.alloc());
-    assert_eq!(rt; export.open(1), Ok(()));
-    let rows = [
+    let rows = &[
         // 9P3000
         (
             "1300000064ffff002000000600395033303030",
@@ -106,17 +121,13 @@ fn unknown_version(rt: HostRuntime) {
         // 9P2000.u
         ("1500000064ffff0020000008003950323030302e75", VERSION_REPLY),
     ];
-    for row in rows {
-        exchange(&rt, rt.alloc(), &mut export, 1, row);
-    }
+    converses(&rt, rt.alloc(), rows);
 }
 
 // An msize of 511 and of 512, and the greatest number.
 #[test]
 fn msize_bounds(rt: HostRuntime) {
-    let mut export = exporter(&rt, rt.alloc());
-    assert_eq!(rt; export.open(1), Ok(()));
-    let rows = [
+    let rows = &[
         (
             "1300000064ffffff0100000600395032303030",
             "180000006bffff0f006d73697a6520746f6f20736d616c6c",
@@ -130,41 +141,31 @@ fn msize_bounds(rt: HostRuntime) {
             "1300000065ffff000001000600395032303030",
         ),
     ];
-    for row in rows {
-        exchange(&rt, rt.alloc(), &mut export, 1, row);
-    }
+    converses(&rt, rt.alloc(), rows);
 }
 
 // A frame of 513 bytes in a session of msize 512.
 #[test]
 fn frame_longer_than_msize(rt: HostRuntime) {
-    let mut export = exporter(&rt, rt.alloc());
-    assert_eq!(rt; export.open(1), Ok(()));
+    let mut export = opened(&rt, rt.alloc());
     let version = (
         "1300000064ffff000200000600395032303030",
         "1300000065ffff000200000600395032303030",
     );
     exchange(&rt, rt.alloc(), &mut export, 1, version);
-    let mut frame = vec![in rt.alloc(); 0u8; 513].expect(&rt, "a frame");
-    let mut reply = vec![in rt.alloc(); 0u8; 65_536].expect(&rt, "a buffer");
+    let mut frame = [0u8; 513];
     frame[..7].copy_from_slice(&[0x01, 0x02, 0, 0, 100, 0xff, 0xff]);
-    assert!(rt; is_frame(frame.as_slice()));
-    assert!(rt; export.live(1));
-    let size = export.message(1, frame.as_slice(), 0, reply.as_mut_slice());
-    let text = hex::encode(rt.alloc(), &reply[..size]).expect(&rt, "a text");
-    assert_eq!(rt;
-        text.as_str(),
-        "1a0000006bffff11006d616c666f726d6564206d657373616765"
-    );
+    let reply = reply_to(&rt, rt.alloc(), &mut export, 1, 0, &frame);
+    let malformed = "1a0000006bffff11006d616c666f726d6564206d657373616765";
+    is_reply(&rt, rt.alloc(), reply.as_slice(), malformed);
 }
 
 #[test]
 fn two_sessions(rt: HostRuntime) {
-    let mut export = exporter(&rt, rt.alloc());
-    assert_eq!(rt; export.open(1), Ok(()));
+    let mut export = opened(&rt, rt.alloc());
     assert_eq!(rt; export.open(1), Err(OpenError::Live));
     assert_eq!(rt; export.open(2), Ok(()));
-    let rows = [
+    let rows = &[
         (1, (VERSION, VERSION_REPLY)),
         (1, (ATTACH, ATTACH_REPLY)),
         (
@@ -178,16 +179,12 @@ fn two_sessions(rt: HostRuntime) {
         (1, (VERSION, VERSION_REPLY)),
         (1, (ATTACH, ATTACH_REPLY)),
     ];
-    for (session, row) in rows {
-        exchange(&rt, rt.alloc(), &mut export, session, row);
-    }
+    exchange_in(&rt, rt.alloc(), &mut export, rows);
 }
 
 #[test]
 fn attach_is_refused_for_the_first_reason(rt: HostRuntime) {
-    let mut export = exporter(&rt, rt.alloc());
-    assert_eq!(rt; export.open(1), Ok(()));
-    let rows = [
+    let rows = &[
         (VERSION, VERSION_REPLY),
         // No fid, and an afid.
         (
@@ -215,40 +212,11 @@ fn attach_is_refused_for_the_first_reason(rt: HostRuntime) {
             ATTACH_REPLY,
         ),
     ];
-    for row in rows {
-        exchange(&rt, rt.alloc(), &mut export, 1, row);
-    }
-}
-
-// Opens a session, sets its version and attaches, each again where memory was refused.
-fn attach_again(rt: &impl Abort, alloc: Global, mut export: Export<PlainTree<&Refusing<Global>>>) {
-    if export.open(1) == Err(OpenError::NoMemory) {
-        assert!(rt; !export.live(1));
-        assert_eq!(rt; export.open(1), Ok(()));
-    }
-    exchange(rt, alloc, &mut export, 1, (VERSION, VERSION_REPLY));
-    let frame = hex::decode(alloc, ATTACH).expect(rt, "hexadecimal digits");
-    let mut reply = vec![in alloc; 0u8; 65_536].expect(rt, "a buffer");
-    assert!(rt; is_frame(frame.as_slice()));
-    assert!(rt; export.live(1));
-    let size = export.message(1, frame.as_slice(), 0, reply.as_mut_slice());
-    let text = hex::encode(alloc, &reply[..size]).expect(rt, "a text");
-    if text.as_str() != ATTACH_REPLY {
-        assert_eq!(rt;
-            text.as_str(),
-            "160000006b01000d006f7574206f66206d656d6f7279"
-        );
-        exchange(rt, alloc, &mut export, 1, (ATTACH, ATTACH_REPLY));
-    }
+    converses(&rt, rt.alloc(), rows);
 }
 
 #[test]
 fn the_exporter_is_as_before_at_each_refusal(rt: HostRuntime) {
-    let memory = Refusing::new(rt.alloc());
-    let refusals = refuse_each(
-        &memory,
-        || exporter(&rt, &memory),
-        |export| attach_again(&rt, rt.alloc(), export),
-    );
+    let refusals = play_refused(&rt, rt.alloc(), &[], 0, &[]);
     assert!(rt; refusals > 1);
 }

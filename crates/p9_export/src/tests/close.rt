@@ -1,13 +1,13 @@
 //! Removal on close, as bytes from outside.
 
 use super::walk::small;
-use super::worlds::{begin, begin_two, exchange_all, exchange_in, world};
+use super::worlds::{exchange_in, played_in, plays};
 use super::{Exchange, VERSION, VERSION_REPLY, exchange};
 
 // Two fids have a/f open, to be removed on close.
 #[test]
 fn a_file_goes_with_the_first_fid(rt: HostRuntime) {
-    let rows = [
+    let rows = &[
         (
             "170000006e020000000000010000000200010061010066",
             "230000006f020002008000000000010000000000000000000000000300000000000000",
@@ -49,9 +49,7 @@ fn a_file_goes_with_the_first_fid(rt: HostRuntime) {
             "4d0000007d0c004400420000000000000080010000000100000000000000ed010080000000000000000000000000000000000100610600676c656e64610600676c656e64610600676c656e6461",
         ),
     ];
-    let mut export = world(&rt, rt.alloc(), &small(), &[]);
-    begin(&rt, rt.alloc(), &mut export);
-    exchange_all(&rt, rt.alloc(), &mut export, &rows);
+    plays(&rt, rt.alloc(), &small(), &[], rows);
 }
 
 // Session 1 has a/f and a/g open, to be removed on close. Session 2 finds both.
@@ -134,18 +132,14 @@ const GONE: [(u32, Exchange); 4] = [
 
 #[test]
 fn a_version_removes_what_is_held(rt: HostRuntime) {
-    let mut export = world(&rt, rt.alloc(), &small(), &[]);
-    begin_two(&rt, rt.alloc(), &mut export);
-    exchange_in(&rt, rt.alloc(), &mut export, &HELD);
+    let mut export = played_in(&rt, rt.alloc(), &small(), &[], &HELD);
     exchange(&rt, rt.alloc(), &mut export, 1, (VERSION, VERSION_REPLY));
     exchange_in(&rt, rt.alloc(), &mut export, &GONE);
 }
 
 #[test]
 fn the_end_of_a_session_removes_what_is_held(rt: HostRuntime) {
-    let mut export = world(&rt, rt.alloc(), &small(), &[]);
-    begin_two(&rt, rt.alloc(), &mut export);
-    exchange_in(&rt, rt.alloc(), &mut export, &HELD);
+    let mut export = played_in(&rt, rt.alloc(), &small(), &[], &HELD);
     assert!(rt; export.live(1));
     export.close(1, 0);
     exchange_in(&rt, rt.alloc(), &mut export, &GONE);
@@ -155,7 +149,7 @@ fn the_end_of_a_session_removes_what_is_held(rt: HostRuntime) {
 // opens it so again, yet the file goes with fid 1, and the directory is marked.
 #[test]
 fn a_file_goes_from_a_directory_that_may_not_be_written(rt: HostRuntime) {
-    let rows = [
+    let rows = &[
         (
             "170000006e020000000000010000000200010061010066",
             "230000006f020002008000000000010000000000000000000000000300000000000000",
@@ -194,7 +188,5 @@ fn a_file_goes_from_a_directory_that_may_not_be_written(rt: HostRuntime) {
             "140000006b0b000b007068617365206572726f72",
         ),
     ];
-    let mut export = world(&rt, rt.alloc(), &small(), &[]);
-    begin(&rt, rt.alloc(), &mut export);
-    exchange_all(&rt, rt.alloc(), &mut export, &rows);
+    plays(&rt, rt.alloc(), &small(), &[], rows);
 }

@@ -1,19 +1,15 @@
 //! Creates, as bytes from outside.
 
-use super::walk::{exchange_again, small, two_unions};
-use super::worlds::{begin, exchange_all, node, serve, world};
-use super::{ATTACH, ATTACH_REPLY, VERSION, VERSION_REPLY};
-use crate::Export;
-use p9_refusing::{Refusing, refuse_each};
+use super::Exchange;
+use super::again::play_refused;
+use super::walk::{small, two_unions};
+use super::worlds::{begin, exchange_all, node, plays, serve};
 use p9_space::{MountTable, Order};
-use p9_tree::PlainTree;
-use std::alloc::Global;
-use std::process::Abort;
 
 // No member of /x permits creation.
 #[test]
 fn row_union_create_forbidden(rt: HostRuntime) {
-    let rows = [
+    let rows = &[
         (
             "140000006e020000000000030000000100010078",
             "160000006f0200010080000000000300000000000000",
@@ -23,44 +19,50 @@ fn row_union_create_forbidden(rt: HostRuntime) {
             "2b0000006b060022006d6f756e746564206469726563746f727920666f7262696473206372656174696f6e",
         ),
     ];
-    let mut export = world(&rt, rt.alloc(), &two_unions(), &[(3, 1, Order::After)]);
-    begin(&rt, rt.alloc(), &mut export);
-    exchange_all(&rt, rt.alloc(), &mut export, &rows);
+    plays(
+        &rt,
+        rt.alloc(),
+        &two_unions(),
+        &[(3, 1, Order::After)],
+        rows,
+    );
 }
 
-// The second member of /x permits creation.
+// A file is made in /x, whose second member permits creation.
+pub const UNION_CREATE: [Exchange; 3] = [
+    (
+        "140000006e020000000000030000000100010078",
+        "160000006f0200010080000000000300000000000000",
+    ),
+    (
+        "150000007206000300000003006e6577a401000001",
+        "1800000073060000000000000500000000000000e81f0000",
+    ),
+    (
+        "190000006e07000000000004000000020001007503006e6577",
+        "230000006f070002008001000000010000000000000000000000000500000000000000",
+    ),
+];
+
 #[test]
 fn row_union_create(rt: HostRuntime) {
-    let rows = [
-        (
-            "140000006e020000000000030000000100010078",
-            "160000006f0200010080000000000300000000000000",
-        ),
-        (
-            "150000007206000300000003006e6577a401000001",
-            "1800000073060000000000000500000000000000e81f0000",
-        ),
-        (
-            "190000006e07000000000004000000020001007503006e6577",
-            "230000006f070002008001000000010000000000000000000000000500000000000000",
-        ),
-        // The new place is the created file.
-        (
-            "0b0000007c080003000000",
-            "4f0000007d08004600440000000000000000000000000500000000000000a40100000000000000000000000000000000000003006e65770600676c656e64610600676c656e64610600676c656e6461",
-        ),
-    ];
     let mut table = MountTable::new(rt.alloc());
     assert!(rt; table.bind(node(3), &[node(1)], Order::After, true).is_ok());
     let mut export = serve(&rt, rt.alloc(), &two_unions(), table);
     begin(&rt, rt.alloc(), &mut export);
-    exchange_all(&rt, rt.alloc(), &mut export, &rows);
+    exchange_all(&rt, rt.alloc(), &mut export, &UNION_CREATE);
+    // The new place is the created file.
+    let rows = &[(
+        "0b0000007c080003000000",
+        "4f0000007d08004600440000000000000000000000000500000000000000a40100000000000000000000000000000000000003006e65770600676c656e64610600676c656e64610600676c656e6461",
+    )];
+    exchange_all(&rt, rt.alloc(), &mut export, rows);
 }
 
 // A directory of mode 755 gives no right to write to its group and the others.
 #[test]
 fn permissions_come_from_the_directory(rt: HostRuntime) {
-    let rows = [
+    let rows = &[
         (
             "140000006e020000000000010000000100010061",
             "160000006f0200010080000000000100000000000000",
@@ -113,14 +115,12 @@ fn permissions_come_from_the_directory(rt: HostRuntime) {
             "160000006f0e00010080050000000100000000000000",
         ),
     ];
-    let mut export = world(&rt, rt.alloc(), &small(), &[]);
-    begin(&rt, rt.alloc(), &mut export);
-    exchange_all(&rt, rt.alloc(), &mut export, &rows);
+    plays(&rt, rt.alloc(), &small(), &[], rows);
 }
 
 #[test]
 fn a_create_is_refused_for_the_first_reason(rt: HostRuntime) {
-    let rows = [
+    let rows = &[
         (
             "120000007202000500000000000000000080",
             "140000006b02000b00756e6b6e6f776e20666964",
@@ -185,58 +185,41 @@ fn a_create_is_refused_for_the_first_reason(rt: HostRuntime) {
             "4d0000007d0f004400420000000000000080000000000100000000000000ed010080000000000000000000000000000000000100610600676c656e64610600676c656e64610600676c656e6461",
         ),
     ];
-    let mut export = world(&rt, rt.alloc(), &small(), &[]);
-    begin(&rt, rt.alloc(), &mut export);
-    exchange_all(&rt, rt.alloc(), &mut export, &rows);
+    plays(&rt, rt.alloc(), &small(), &[], rows);
 }
 
-// Creates in a, each again where memory was refused.
-fn create_again(rt: &impl Abort, alloc: Global, mut export: Export<PlainTree<&Refusing<Global>>>) {
-    if export.open(1).is_err() {
-        assert!(rt; export.open(1).is_ok());
-    }
-    let rows = [
-        (VERSION, VERSION_REPLY),
-        (ATTACH, ATTACH_REPLY),
-        (
-            "140000006e010000000000010000000100010061",
-            "160000006f0100010080000000000100000000000000",
-        ),
-        // A refusal is the same where memory would run out.
-        (
-            "1300000072010001000000010066a401000000",
-            "1c0000006b0100130066696c6520616c726561647920657869737473",
-        ),
-        (
-            "130000007201000100000001006ea401000002",
-            "1800000073010000000000000400000000000000e81f0000",
-        ),
-        (
-            "140000006e010000000000020000000100010061",
-            "160000006f0100010080010000000100000000000000",
-        ),
-        (
-            "1300000072010002000000010064ed01008000",
-            "1800000073010080000000000500000000000000e81f0000",
-        ),
-        (
-            "0b0000007c010002000000",
-            "4d0000007d01004400420000000000000080000000000500000000000000ed010080000000000000000000000000000000000100640600676c656e64610600676c656e64610600676c656e6461",
-        ),
-        ("0b00000078010001000000", "07000000790100"),
-    ];
-    for row in rows {
-        exchange_again(rt, alloc, &mut export, row);
-    }
-}
+// Creates in a.
+const CREATES: [Exchange; 7] = [
+    (
+        "140000006e010000000000010000000100010061",
+        "160000006f0100010080000000000100000000000000",
+    ),
+    // A refusal is the same where memory would run out.
+    (
+        "1300000072010001000000010066a401000000",
+        "1c0000006b0100130066696c6520616c726561647920657869737473",
+    ),
+    (
+        "130000007201000100000001006ea401000002",
+        "1800000073010000000000000400000000000000e81f0000",
+    ),
+    (
+        "140000006e010000000000020000000100010061",
+        "160000006f0100010080010000000100000000000000",
+    ),
+    (
+        "1300000072010002000000010064ed01008000",
+        "1800000073010080000000000500000000000000e81f0000",
+    ),
+    (
+        "0b0000007c010002000000",
+        "4d0000007d01004400420000000000000080000000000500000000000000ed010080000000000000000000000000000000000100640600676c656e64610600676c656e64610600676c656e6461",
+    ),
+    ("0b00000078010001000000", "07000000790100"),
+];
 
 #[test]
 fn a_create_is_done_again_at_each_refusal(rt: HostRuntime) {
-    let memory = Refusing::new(rt.alloc());
-    let refusals = refuse_each(
-        &memory,
-        || world(&rt, &memory, &small(), &[]),
-        |export| create_again(&rt, rt.alloc(), export),
-    );
+    let refusals = play_refused(&rt, rt.alloc(), &small(), 0, &CREATES);
     assert!(rt; refusals > 8);
 }

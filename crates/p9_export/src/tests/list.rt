@@ -1,13 +1,13 @@
 //! Listings, as bytes from outside.
 
 use super::walk::two_unions;
-use super::worlds::{begin, begin_two, exchange_all, exchange_in, world};
+use super::worlds::{plays, plays_in};
 use p9_space::Order;
 
 // Both members have an n.
 #[test]
 fn row_union_listing(rt: HostRuntime) {
-    let rows = [
+    let rows = &[
         (
             "170000006e02000000000001000000020001007801006e",
             "230000006f020002008000000000030000000000000000000000000400000000000000",
@@ -25,14 +25,18 @@ fn row_union_listing(rt: HostRuntime) {
             "9300000075050088000000420000000000000000000000000400000000000000a40100000000000000000000010000000000000001006e0600676c656e64610600676c656e64610600676c656e6461420000000000000000000000000200000000000000a40100000000000000000000010000000000000001006e0600676c656e64610600676c656e64610600676c656e6461",
         ),
     ];
-    let mut export = world(&rt, rt.alloc(), &two_unions(), &[(3, 1, Order::After)]);
-    begin(&rt, rt.alloc(), &mut export);
-    exchange_all(&rt, rt.alloc(), &mut export, &rows);
+    plays(
+        &rt,
+        rt.alloc(),
+        &two_unions(),
+        &[(3, 1, Order::After)],
+        rows,
+    );
 }
 
 #[test]
 fn row_listing_reads(rt: HostRuntime) {
-    let rows = [
+    let rows = &[
         (
             "170000006e02000000000001000000020001007801006e",
             "230000006f020002008000000000030000000000000000000000000400000000000000",
@@ -66,15 +70,19 @@ fn row_listing_reads(rt: HostRuntime) {
             "0b000000750b0000000000",
         ),
     ];
-    let mut export = world(&rt, rt.alloc(), &two_unions(), &[(3, 1, Order::After)]);
-    begin(&rt, rt.alloc(), &mut export);
-    exchange_all(&rt, rt.alloc(), &mut export, &rows);
+    plays(
+        &rt,
+        rt.alloc(),
+        &two_unions(),
+        &[(3, 1, Order::After)],
+        rows,
+    );
 }
 
 // Session 2 removes the entry that was given, and makes one that is still to be given.
 #[test]
 fn a_listing_goes_on_while_another_session_works(rt: HostRuntime) {
-    let rows = [
+    let rows = &[
         (
             1,
             (
@@ -140,7 +148,11 @@ fn a_listing_goes_on_while_another_session_works(rt: HostRuntime) {
             ),
         ),
     ];
-    let mut export = world(&rt, rt.alloc(), &two_unions(), &[(3, 1, Order::After)]);
-    begin_two(&rt, rt.alloc(), &mut export);
-    exchange_in(&rt, rt.alloc(), &mut export, &rows);
+    plays_in(
+        &rt,
+        rt.alloc(),
+        &two_unions(),
+        &[(3, 1, Order::After)],
+        rows,
+    );
 }

@@ -1,11 +1,13 @@
 //! A directory of many files, listed whole while another session removes and makes files.
 
-use super::worlds::{begin_two, dir, exchange_all, read_at, send, tree_of};
-use crate::{Export, is_table_given};
+use super::worlds::{
+    add, begin_two, dir, empty_file, exchange_all, forest_with, read_at, send, serve_forest,
+    tree_of,
+};
+use crate::Export;
 use byteorder::{ByteOrder, LittleEndian};
-use p9_base::{Mode, Name, User};
 use p9_space::MountTable;
-use p9_tree::{FILE_MAX, Forest, NEXT_MAX, New, PlainTree, Tree};
+use p9_tree::{PlainTree, Tree};
 use std::alloc::Global;
 use std::process::Abort;
 use std::str;
@@ -26,43 +28,24 @@ fn name_of(number: u32) -> [u8; 4] {
 }
 
 // Adds the file of this number to /a.
-fn add<T: Tree>(rt: &impl Abort, tree: &mut T, number: u32) {
-    let glenda = User::new("glenda").expect(rt, "a user");
+fn add_file<T: Tree>(rt: &impl Abort, tree: &mut T, number: u32) {
     let digits = name_of(number);
     let name = str::from_utf8(&digits).expect(rt, "a text");
-    let new = New {
-        name: Name::new(name).expect(rt, "a name"),
-        mode: Mode::from_bits(0x1a4).expect(rt, "a mode"),
-        uid: glenda,
-        gid: glenda,
-        muid: glenda,
-        atime: 0,
-        mtime: 0,
-        bytes: b"",
-    };
-    assert!(rt; tree.next() < NEXT_MAX);
-    assert!(rt; tree.node(1).is_some_and(|n| n.is_dir()));
-    assert!(rt; tree.child(1, &new.name).is_none());
-    assert!(rt; new.bytes.len() <= FILE_MAX);
-    assert!(rt; !new.mode.is_dir() || new.bytes.is_empty());
-    assert!(rt; tree.add(1, &new).is_ok());
+    add(rt, tree, 1, &empty_file(rt, name));
 }
 
 // An exporter to glenda, whose /a is her directory of so many files, with the numbers from 2 on.
 fn many(rt: &impl Abort, alloc: Global, count: u32) -> Export<PlainTree<Global>> {
     let mut tree = tree_of(rt, alloc, &[dir(0, "a", "glenda")]);
     for position in 0..count {
-        add(rt, &mut tree, position.saturating_add(2));
+        add_file(rt, &mut tree, position.saturating_add(2));
     }
-    let mut trees = Vec::new(alloc);
-    assert!(rt; trees.push(tree).is_ok());
-    let mut users = Vec::new(alloc);
-    let glenda = User::new("glenda").expect(rt, "a user");
-    assert!(rt; users.push(glenda).is_ok());
-    let forest = Forest { trees };
-    let table = MountTable::new(alloc);
-    assert!(rt; is_table_given(&forest, &table));
-    Export::new(forest, users, table)
+    serve_forest(
+        rt,
+        alloc,
+        forest_with(rt, alloc, tree),
+        MountTable::new(alloc),
+    )
 }
 
 // Session 2 removes the file of this number.
@@ -156,7 +139,7 @@ fn push_range(rt: &impl Abort, from: u32, to: u32, numbers: &mut Vec<u64, Global
 // A file that was given before it was removed is listed, one that was removed before isn't, and
 // each that was made is.
 fn lists_all(rt: &impl Abort, alloc: Global, count: u32) {
-    let rows = [
+    let rows = &[
         (
             "140000006e020000000000020000000100010061",
             "160000006f0200010080000000000100000000000000",
@@ -168,7 +151,7 @@ fn lists_all(rt: &impl Abort, alloc: Global, count: u32) {
     ];
     let mut export = many(rt, alloc, count);
     begin_two(rt, alloc, &mut export);
-    exchange_all(rt, alloc, &mut export, &rows);
+    exchange_all(rt, alloc, &mut export, rows);
     let numbers = listed(rt, alloc, &mut export, count);
     let mut wanted = Vec::new(alloc);
     push_range(rt, 2, count.saturating_sub(23), &mut wanted);

@@ -1,16 +1,15 @@
 //! Opens, as bytes from outside.
 
 use super::walk::small;
-use super::worlds::{Made, begin, dir, exchange_all, file, world};
-use super::{ATTACH, ATTACH_REPLY, Exchange, VERSION, VERSION_REPLY, exchange};
-use crate::is_frame;
+use super::worlds::{Made, dir, file, played, plays, plays_in};
+use super::{Exchange, is_reply, reply_to};
 use std::alloc::Global;
 use std::process::Abort;
 
 // Glenda opens a/f to read, and reads it.
 #[test]
 fn row_open_read(rt: HostRuntime) {
-    let rows = [
+    let rows = &[
         (
             "170000006e070000000000010000000200010061010066",
             "230000006f070002008000000000010000000000000000000000000300000000000000",
@@ -24,14 +23,12 @@ fn row_open_read(rt: HostRuntime) {
             "0d000000750a00020000006869",
         ),
     ];
-    let mut export = world(&rt, rt.alloc(), &small(), &[]);
-    begin(&rt, rt.alloc(), &mut export);
-    exchange_all(&rt, rt.alloc(), &mut export, &rows);
+    plays(&rt, rt.alloc(), &small(), &[], rows);
 }
 
 #[test]
 fn an_open_is_refused_for_the_first_reason(rt: HostRuntime) {
-    let rows = [
+    let rows = &[
         // No fid.
         (
             "0c0000007002000500000080",
@@ -81,9 +78,7 @@ fn an_open_is_refused_for_the_first_reason(rt: HostRuntime) {
             "18000000710b0080000000000000000000000000e81f0000",
         ),
     ];
-    let mut export = world(&rt, rt.alloc(), &small(), &[]);
-    begin(&rt, rt.alloc(), &mut export);
-    exchange_all(&rt, rt.alloc(), &mut export, &rows);
+    plays(&rt, rt.alloc(), &small(), &[], rows);
 }
 
 // Nodes 1 and 2: /own, which the others may read and its owner write, and /theirs, of sys.
@@ -104,7 +99,7 @@ fn by_bits() -> [Made; 2] {
 // Glenda reads by the bits of the others, and writes by those of the owner.
 #[test]
 fn each_right_is_asked_by_itself(rt: HostRuntime) {
-    let rows = [
+    let rows = &[
         (
             "160000006e02000000000001000000010003006f776e",
             "160000006f0200010000000000000100000000000000",
@@ -131,9 +126,7 @@ fn each_right_is_asked_by_itself(rt: HostRuntime) {
             "1800000071070000000000000200000000000000e81f0000",
         ),
     ];
-    let mut export = world(&rt, rt.alloc(), &by_bits(), &[]);
-    begin(&rt, rt.alloc(), &mut export);
-    exchange_all(&rt, rt.alloc(), &mut export, &rows);
+    plays(&rt, rt.alloc(), &by_bits(), &[], rows);
 }
 
 // Nodes 1 and 2: /a and /a/f, of which the file is for one fid at a time.
@@ -150,12 +143,7 @@ fn exclusive() -> [Made; 2] {
 // Two sessions open the file of one fid at a time.
 #[test]
 fn row_exclusive_use(rt: HostRuntime) {
-    let mut export = world(&rt, rt.alloc(), &exclusive(), &[]);
-    begin(&rt, rt.alloc(), &mut export);
-    assert!(rt; export.open(2).is_ok());
-    let rows = [
-        (2, (VERSION, VERSION_REPLY)),
-        (2, (ATTACH, ATTACH_REPLY)),
+    let rows = &[
         (
             1,
             (
@@ -193,9 +181,7 @@ fn row_exclusive_use(rt: HostRuntime) {
             ),
         ),
     ];
-    for (session, row) in rows {
-        exchange(&rt, rt.alloc(), &mut export, session, row);
-    }
+    plays_in(&rt, rt.alloc(), &exclusive(), &[], rows);
 }
 
 // Node 1: /log, which each write makes longer.
@@ -208,7 +194,7 @@ fn append_only() -> [Made; 1] {
 
 #[test]
 fn truncation_leaves_an_append_only_file(rt: HostRuntime) {
-    let rows = [
+    let rows = &[
         (
             "160000006e02000000000001000000010003006c6f67",
             "160000006f0200010040000000000100000000000000",
@@ -222,15 +208,13 @@ fn truncation_leaves_an_append_only_file(rt: HostRuntime) {
             "4f0000007d04004600440000000000000040000000000100000000000000a40100400000000000000000020000000000000003006c6f670600676c656e64610600676c656e64610600676c656e6461",
         ),
     ];
-    let mut export = world(&rt, rt.alloc(), &append_only(), &[]);
-    begin(&rt, rt.alloc(), &mut export);
-    exchange_all(&rt, rt.alloc(), &mut export, &rows);
+    plays(&rt, rt.alloc(), &append_only(), &[], rows);
 }
 
 // Also a file that is empty already.
 #[test]
 fn truncation_cuts_and_marks(rt: HostRuntime) {
-    let rows = [
+    let rows = &[
         (
             "170000006e070000000000010000000200010061010066",
             "230000006f070002008000000000010000000000000000000000000300000000000000",
@@ -252,23 +236,15 @@ fn truncation_cuts_and_marks(rt: HostRuntime) {
             "1800000071060000020000000300000000000000e81f0000",
         ),
     ];
-    let mut export = world(&rt, rt.alloc(), &small(), &[]);
-    begin(&rt, rt.alloc(), &mut export);
-    exchange_all(&rt, rt.alloc(), &mut export, &rows);
+    plays(&rt, rt.alloc(), &small(), &[], rows);
 }
 
 // Opens fid 1, where a walk took it, by a mode.
 fn open_by(rt: &impl Abort, alloc: Global, walk: Exchange, mode: u8, reply: &str) {
-    let mut export = world(rt, alloc, &small(), &[]);
-    begin(rt, alloc, &mut export);
-    exchange(rt, alloc, &mut export, 1, walk);
+    let mut export = played(rt, alloc, &small(), &[], &[walk]);
     let frame = [12, 0, 0, 0, 112, 2, 0, 1, 0, 0, 0, mode];
-    let mut buffer = vec![in alloc; 0u8; 65_536].expect(rt, "a buffer");
-    assert!(rt; is_frame(&frame));
-    assert!(rt; export.live(1));
-    let size = export.message(1, &frame, 0, buffer.as_mut_slice());
-    let text = hex::encode(alloc, &buffer[..size]).expect(rt, "a text");
-    assert_eq!(rt; text.as_str(), reply);
+    let answer = reply_to(rt, alloc, &mut export, 1, 0, &frame);
+    is_reply(rt, alloc, answer.as_slice(), reply);
 }
 
 const TO_FILE: Exchange = (

@@ -1,13 +1,14 @@
 //! Reads of files, and of directories over unions, as bytes from outside.
 
-use super::worlds::{Made, dir, file, forest_of, node};
+use super::walk::two_unions;
+use super::worlds::{Made, add, dir, empty_file, file, forest_of, node};
 use crate::read::read;
 use crate::session::Session;
 use crate::setting::Setting;
-use p9_base::{Fault, Mode, Name, NodeRef, User};
+use p9_base::{Fault, NodeRef, User};
 use p9_fids::{Fid, OpenMode, Opened};
 use p9_space::{MountTable, Order, Trail};
-use p9_tree::{FILE_MAX, Forest, NEXT_MAX, New, Tree};
+use p9_tree::{Forest, Tree};
 use std::alloc::{Allocator, Global};
 use std::process::Abort;
 
@@ -24,16 +25,6 @@ const M5: &str =
 // The first two of them.
 const N4_N2: &str =
     "420000000000000000000000000400000000000000a40100000000000000000000010000000000000001006e0600676c656e64610600676c656e64610600676c656e6461420000000000000000000000000200000000000000a40100000000000000000000010000000000000001006e0600676c656e64610600676c656e64610600676c656e6461";
-
-// Nodes 1 to 4: /u, /u/n, /x and /x/n.
-fn two_unions() -> [Made; 4] {
-    [
-        dir(0, "u", "glenda"),
-        file(1, "n", b"u"),
-        dir(0, "x", "glenda"),
-        file(3, "n", b"x"),
-    ]
-}
 
 // A directory of mode 700 of the system's.
 fn shut_dir(parent: u64, name: &'static str) -> Made {
@@ -92,6 +83,9 @@ fn session_at<A: Allocator + Copy>(
     session
 }
 
+// An offset and a count, and what is answered, in hexadecimal digits.
+type Reading<'a> = ((u64, u32), Result<&'a str, Fault>);
+
 // Reads fid 2, at the time 7, and compares what is answered, in hexadecimal digits.
 fn reads<T: Tree>(
     rt: &impl Abort,
@@ -125,30 +119,28 @@ fn reads<T: Tree>(
     }
 }
 
+// Reads one after the other.
+fn reads_all<T: Tree>(
+    rt: &impl Abort,
+    alloc: Global,
+    setting: &Setting<T::Alloc>,
+    forest: &mut Forest<T>,
+    session: &mut Session<T::Alloc>,
+    rows: &[Reading<'_>],
+) {
+    for (range, answer) in rows {
+        reads(rt, alloc, setting, forest, session, *range, *answer);
+    }
+}
+
 #[test]
 fn a_union_is_listed_with_repeated_names(rt: HostRuntime) {
     let alloc = rt.alloc();
     let mut forest = forest_of(&rt, alloc, &two_unions());
     let setting = union_setting(&rt, alloc, 3, 1);
     let mut session = session_at(&rt, alloc, 3, OpenMode::Read);
-    reads(
-        &rt,
-        alloc,
-        &setting,
-        &mut forest,
-        &mut session,
-        (0, 1_024),
-        Ok(N4_N2),
-    );
-    reads(
-        &rt,
-        alloc,
-        &setting,
-        &mut forest,
-        &mut session,
-        (136, 1_024),
-        Ok(""),
-    );
+    let rows = &[((0, 1_024), Ok(N4_N2)), ((136, 1_024), Ok(""))];
+    reads_all(&rt, alloc, &setting, &mut forest, &mut session, rows);
     // A read of a directory doesn't move its times.
     assert!(rt; forest.node(node(3)).is_some_and(|x| x.atime() == 0));
 }
@@ -159,7 +151,7 @@ fn only_whole_entries_are_given(rt: HostRuntime) {
     let mut forest = forest_of(&rt, alloc, &two_unions());
     let setting = union_setting(&rt, alloc, 3, 1);
     let mut session = session_at(&rt, alloc, 3, OpenMode::Read);
-    let rows: [((u64, u32), Result<&str, Fault>); 11] = [
+    let rows: &[Reading<'_>] = &[
         ((0, 67), Err(Fault::SmallReadCount)),
         ((1, 1_024), Err(Fault::BadDirectoryOffset)),
         ((0, 68), Ok(N4)),
@@ -174,39 +166,7 @@ fn only_whole_entries_are_given(rt: HostRuntime) {
         ((0, 102), Ok(N4)),
         ((68, 8_168), Ok(N2)),
     ];
-    for (range, answer) in rows {
-        reads(
-            &rt,
-            alloc,
-            &setting,
-            &mut forest,
-            &mut session,
-            range,
-            answer,
-        );
-    }
-}
-
-// Adds a file to the directory, where the look-ups say that it may be added.
-fn add<T: Tree>(rt: &impl Abort, forest: &mut Forest<T>, parent: u64, name: &str) {
-    let glenda = User::new("glenda").expect(rt, "a user");
-    let new = New {
-        name: Name::new(name).expect(rt, "a name"),
-        mode: Mode::from_bits(0x1a4).expect(rt, "a mode"),
-        uid: glenda,
-        gid: glenda,
-        muid: glenda,
-        atime: 0,
-        mtime: 0,
-        bytes: b"",
-    };
-    let dir = node(parent);
-    assert!(rt; forest.next_of(dir.server) < NEXT_MAX);
-    assert!(rt; forest.node(dir).is_some_and(|n| n.is_dir()));
-    assert!(rt; forest.child(dir, &new.name).is_none());
-    assert!(rt; new.bytes.len() <= FILE_MAX);
-    assert!(rt; !new.mode.is_dir() || new.bytes.is_empty());
-    assert!(rt; forest.add(dir, &new).is_ok());
+    reads_all(&rt, alloc, &setting, &mut forest, &mut session, rows);
 }
 
 // Takes a file out.
@@ -232,18 +192,11 @@ fn others_create_and_remove_between_reads(rt: HostRuntime) {
         Ok(N4),
     );
     remove(&rt, &mut forest, node(4));
-    add(&rt, &mut forest, 1, "m");
-    for (range, answer) in [((68, 68), Ok(N2)), ((136, 68), Ok(M5)), ((204, 68), Ok(""))] {
-        reads(
-            &rt,
-            alloc,
-            &setting,
-            &mut forest,
-            &mut session,
-            range,
-            answer,
-        );
+    for tree in forest.trees.iter_mut() {
+        add(&rt, tree, 1, &empty_file(&rt, "m"));
     }
+    let rows = &[((68, 68), Ok(N2)), ((136, 68), Ok(M5)), ((204, 68), Ok(""))];
+    reads_all(&rt, alloc, &setting, &mut forest, &mut session, rows);
 }
 
 // Both members may be read by the system alone: the first is listed all the same.

@@ -1,7 +1,8 @@
 //! Removes, as bytes from outside.
 
+use super::Exchange;
 use super::walk::small;
-use super::worlds::{Made, begin, begin_two, dir, exchange_all, exchange_in, file, world};
+use super::worlds::{Made, dir, file, plays, plays_in};
 
 // Nodes 1 to 4: /a, /a/b, /a/f and /a/b/g.
 fn nested() -> [Made; 4] {
@@ -15,7 +16,7 @@ fn nested() -> [Made; 4] {
 
 #[test]
 fn a_removed_file_is_gone(rt: HostRuntime) {
-    let rows = [
+    let rows = &[
         (
             "170000006e020000000000010000000200010061010066",
             "230000006f020002008000000000010000000000000000000000000300000000000000",
@@ -48,14 +49,12 @@ fn a_removed_file_is_gone(rt: HostRuntime) {
             "140000006b09000b00756e6b6e6f776e20666964",
         ),
     ];
-    let mut export = world(&rt, rt.alloc(), &nested(), &[]);
-    begin(&rt, rt.alloc(), &mut export);
-    exchange_all(&rt, rt.alloc(), &mut export, &rows);
+    plays(&rt, rt.alloc(), &nested(), &[], rows);
 }
 
 #[test]
 fn a_refused_remove_ends_its_fid(rt: HostRuntime) {
-    let rows = [
+    let rows = &[
         // a is not empty, and its directory isn't glenda's.
         (
             "140000006e020000000000010000000100010061",
@@ -107,54 +106,51 @@ fn a_refused_remove_ends_its_fid(rt: HostRuntime) {
             "140000006b0e000b00756e6b6e6f776e20666964",
         ),
     ];
-    let mut export = world(&rt, rt.alloc(), &nested(), &[]);
-    begin(&rt, rt.alloc(), &mut export);
-    exchange_all(&rt, rt.alloc(), &mut export, &rows);
+    plays(&rt, rt.alloc(), &nested(), &[], rows);
 }
 
 // One session removes the file that another one has open.
+pub const REMOVED_UNDER_A_FID: [(u32, Exchange); 7] = [
+    (
+        2,
+        (
+            "170000006e020000000000010000000200010061010066",
+            "230000006f020002008000000000010000000000000000000000000300000000000000",
+        ),
+    ),
+    (
+        2,
+        (
+            "0c0000007003000100000000",
+            "1800000071030000000000000300000000000000e81f0000",
+        ),
+    ),
+    (
+        1,
+        (
+            "170000006e020000000000010000000200010061010066",
+            "230000006f020002008000000000010000000000000000000000000300000000000000",
+        ),
+    ),
+    (1, ("0b0000007a030001000000", "070000007b0300")),
+    (
+        2,
+        (
+            "170000007404000100000000000000000000000a000000",
+            "140000006b04000b007068617365206572726f72",
+        ),
+    ),
+    (2, ("0b00000078050001000000", "07000000790500")),
+    (
+        2,
+        (
+            "170000006e060000000000010000000200010061010066",
+            "160000006f0600010080010000000100000000000000",
+        ),
+    ),
+];
+
 #[test]
 fn row_removed_under_a_fid(rt: HostRuntime) {
-    let rows = [
-        (
-            2,
-            (
-                "170000006e020000000000010000000200010061010066",
-                "230000006f020002008000000000010000000000000000000000000300000000000000",
-            ),
-        ),
-        (
-            2,
-            (
-                "0c0000007003000100000000",
-                "1800000071030000000000000300000000000000e81f0000",
-            ),
-        ),
-        (
-            1,
-            (
-                "170000006e020000000000010000000200010061010066",
-                "230000006f020002008000000000010000000000000000000000000300000000000000",
-            ),
-        ),
-        (1, ("0b0000007a030001000000", "070000007b0300")),
-        (
-            2,
-            (
-                "170000007404000100000000000000000000000a000000",
-                "140000006b04000b007068617365206572726f72",
-            ),
-        ),
-        (2, ("0b00000078050001000000", "07000000790500")),
-        (
-            2,
-            (
-                "170000006e060000000000010000000200010061010066",
-                "160000006f0600010080010000000100000000000000",
-            ),
-        ),
-    ];
-    let mut export = world(&rt, rt.alloc(), &small(), &[]);
-    begin_two(&rt, rt.alloc(), &mut export);
-    exchange_in(&rt, rt.alloc(), &mut export, &rows);
+    plays_in(&rt, rt.alloc(), &small(), &[], &REMOVED_UNDER_A_FID);
 }

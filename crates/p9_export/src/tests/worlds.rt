@@ -1,6 +1,6 @@
 //! The sample worlds, and a session on one of them.
 
-use super::{ATTACH, ATTACH_REPLY, Exchange, VERSION, VERSION_REPLY, exchange};
+use super::{ATTACH, ATTACH_REPLY, Exchange, VERSION, VERSION_REPLY, exchange, exchange_at};
 use crate::{Export, is_frame, is_table_given};
 use p9_base::{Mode, Name, NodeRef, User};
 use p9_space::{MountTable, Order};
@@ -69,45 +69,70 @@ fn new_of(rt: &impl Abort, made: &Made) -> New<'static> {
     }
 }
 
-// Adds the node where the tree's look-ups say that it may be added.
-fn add<T: Tree>(rt: &impl Abort, tree: &mut T, made: &Made) {
-    let new = new_of(rt, made);
+/// An empty file of mode 644, of glenda's.
+pub fn empty_file(rt: &impl Abort, name: &str) -> New<'static> {
+    let glenda = user(rt, "glenda");
+    New {
+        name: Name::new(name).expect(rt, "a name"),
+        mode: Mode::from_bits(0x1a4).expect(rt, "a mode"),
+        uid: glenda,
+        gid: glenda,
+        muid: glenda,
+        atime: 0,
+        mtime: 0,
+        bytes: b"",
+    }
+}
+
+/// Adds a node to a directory, where the tree's look-ups say that it may be added.
+pub fn add<T: Tree>(rt: &impl Abort, tree: &mut T, parent: u64, new: &New<'_>) {
     assert!(rt; tree.next() < NEXT_MAX);
-    assert!(rt; tree.node(made.parent).is_some_and(|n| n.is_dir()));
-    assert!(rt; tree.child(made.parent, &new.name).is_none());
+    assert!(rt; tree.node(parent).is_some_and(|n| n.is_dir()));
+    assert!(rt; tree.child(parent, &new.name).is_none());
     assert!(rt; new.bytes.len() <= FILE_MAX);
     assert!(rt; !new.mode.is_dir() || new.bytes.is_empty());
-    assert!(rt; tree.add(made.parent, &new).is_ok());
+    assert!(rt; tree.add(parent, new).is_ok());
 }
 
 /// A tree of a root and these nodes, which have the numbers from 1 on.
 pub fn tree_of<A: Allocator + Copy>(rt: &impl Abort, alloc: A, nodes: &[Made]) -> PlainTree<A> {
     let mut tree = PlainTree::with_root(alloc).expect(rt, "a tree");
     for made in nodes {
-        add(rt, &mut tree, made);
+        add(rt, &mut tree, made.parent, &new_of(rt, made));
     }
     tree
 }
 
-/// One server of such a tree.
+/// The forest of one server.
+pub fn forest_with<A: Allocator + Copy>(
+    rt: &impl Abort,
+    alloc: A,
+    tree: PlainTree<A>,
+) -> Forest<PlainTree<A>> {
+    let mut trees = Vec::new(alloc);
+    assert!(rt; trees.push(tree).is_ok());
+    Forest { trees }
+}
+
+/// One server of a root and these nodes.
 pub fn forest_of<A: Allocator + Copy>(
     rt: &impl Abort,
     alloc: A,
     nodes: &[Made],
 ) -> Forest<PlainTree<A>> {
-    let mut trees = Vec::new(alloc);
-    let tree = tree_of(rt, alloc, nodes);
-    assert!(rt; trees.push(tree).is_ok());
-    Forest { trees }
+    forest_with(rt, alloc, tree_of(rt, alloc, nodes))
 }
 
+/// A place, the node that is bound there, and where among what is bound there already.
+pub type Bind = (u64, u64, Order);
+
 /// An exporter to glenda of one server, of a root and these nodes, which have the numbers from 1
-/// on, where the binds stand: each a place, and the node that is bound there.
+/// on, where these binds stand.
 pub fn world<A: Allocator + Copy>(
     rt: &impl Abort,
     alloc: A,
     nodes: &[Made],
-    binds: &[(u64, u64, Order)],
+    binds: &[Bind],
 ) -> Export<PlainTree<A>> {
     let mut table = MountTable::new(alloc);
     for (place, bound, order) in binds {
@@ -159,6 +184,48 @@ pub fn begin_two<T: Tree>(rt: &impl Abort, alloc: Global, export: &mut Export<T>
     exchange(rt, alloc, export, 2, (ATTACH, ATTACH_REPLY));
 }
 
+/// Sends frames in session 1 at the time 0, and compares the replies.
+pub fn exchange_all<T: Tree>(
+    rt: &impl Abort,
+    alloc: Global,
+    export: &mut Export<T>,
+    rows: &[Exchange],
+) {
+    exchange_all_at(rt, alloc, export, 0, rows);
+}
+
+/// The same at another time.
+pub fn exchange_all_at<T: Tree>(
+    rt: &impl Abort,
+    alloc: Global,
+    export: &mut Export<T>,
+    now: u32,
+    rows: &[Exchange],
+) {
+    for row in rows {
+        exchange_at(rt, alloc, export, 1, now, *row);
+    }
+}
+
+/// A world where session 1 has begun and sent these frames.
+pub fn played(
+    rt: &impl Abort,
+    alloc: Global,
+    nodes: &[Made],
+    binds: &[Bind],
+    rows: &[Exchange],
+) -> Export<PlainTree<Global>> {
+    let mut export = world(rt, alloc, nodes, binds);
+    begin(rt, alloc, &mut export);
+    exchange_all(rt, alloc, &mut export, rows);
+    export
+}
+
+/// Plays frames in session 1 of a world of their own.
+pub fn plays(rt: &impl Abort, alloc: Global, nodes: &[Made], binds: &[Bind], rows: &[Exchange]) {
+    let _ = played(rt, alloc, nodes, binds, rows);
+}
+
 /// Sends frames, each in its session, and compares the replies.
 pub fn exchange_in<T: Tree>(
     rt: &impl Abort,
@@ -169,6 +236,31 @@ pub fn exchange_in<T: Tree>(
     for row in rows {
         exchange(rt, alloc, export, row.0, row.1);
     }
+}
+
+/// A world where two sessions have begun and sent these frames.
+pub fn played_in(
+    rt: &impl Abort,
+    alloc: Global,
+    nodes: &[Made],
+    binds: &[Bind],
+    rows: &[(u32, Exchange)],
+) -> Export<PlainTree<Global>> {
+    let mut export = world(rt, alloc, nodes, binds);
+    begin_two(rt, alloc, &mut export);
+    exchange_in(rt, alloc, &mut export, rows);
+    export
+}
+
+/// Plays frames in two sessions of a world of their own.
+pub fn plays_in(
+    rt: &impl Abort,
+    alloc: Global,
+    nodes: &[Made],
+    binds: &[Bind],
+    rows: &[(u32, Exchange)],
+) {
+    let _ = played_in(rt, alloc, nodes, binds, rows);
 }
 
 /// Sends a frame at the time 0, and gives the length of the reply.
@@ -210,16 +302,4 @@ pub fn read_at<T: Tree>(
     frame[11..15].copy_from_slice(&offset.to_le_bytes());
     frame[19..].copy_from_slice(&count.to_le_bytes());
     send(rt, export, 1, &frame, reply)
-}
-
-/// Sends frames in session 1, and compares the replies.
-pub fn exchange_all<T: Tree>(
-    rt: &impl Abort,
-    alloc: Global,
-    export: &mut Export<T>,
-    rows: &[(&'static str, &'static str)],
-) {
-    for row in rows {
-        exchange(rt, alloc, export, 1, *row);
-    }
 }

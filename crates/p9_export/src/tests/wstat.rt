@@ -1,9 +1,8 @@
 //! Wstats, as bytes from outside, and what they leave.
 
-use super::exchange_at;
 use super::stats::{FILE, UNTOUCHED, dir_of, tells, wstat};
 use super::walk::{small, two_unions};
-use super::worlds::{begin, exchange_all, forest_of, read_at, serve_forest, world};
+use super::worlds::{begin, exchange_all_at, forest_of, played, read_at, serve_forest};
 use crate::Export;
 use p9_base::{Permissions, Qid, User};
 use p9_space::{MountTable, Order};
@@ -15,7 +14,7 @@ use std::process::Abort;
 // At the time 7 glenda changes what is told of /a/f.
 #[test]
 fn row_wstat(rt: HostRuntime) {
-    let rows = [
+    let rows = &[
         (
             "170000006e070000000000010000000200010061010066",
             "230000006f070002008000000000010000000000000000000000000300000000000000",
@@ -74,16 +73,13 @@ fn row_wstat(rt: HostRuntime) {
             "160000006f1300010080010000000100000000000000",
         ),
     ];
-    let mut export = world(&rt, rt.alloc(), &small(), &[]);
-    begin(&rt, rt.alloc(), &mut export);
-    for row in rows {
-        exchange_at(&rt, rt.alloc(), &mut export, 1, 7, row);
-    }
+    let mut export = played(&rt, rt.alloc(), &small(), &[], &[]);
+    exchange_all_at(&rt, rt.alloc(), &mut export, 7, rows);
 }
 
 // Fid 1 is the file, open for reading, fid 2 its directory, and fid 3 the directory beside it.
 fn ready(rt: &impl Abort, alloc: Global) -> Export<PlainTree<Global>> {
-    let rows = [
+    let rows = &[
         (
             "170000006e020000000000010000000200010061010066",
             "230000006f020002008000000000010000000000000000000000000300000000000000",
@@ -101,10 +97,7 @@ fn ready(rt: &impl Abort, alloc: Global) -> Export<PlainTree<Global>> {
             "230000006f050002008000000000010000000000000080000000000200000000000000",
         ),
     ];
-    let mut export = world(rt, alloc, &small(), &[]);
-    begin(rt, alloc, &mut export);
-    exchange_all(rt, alloc, &mut export, &rows);
-    export
+    played(rt, alloc, &small(), &[], rows)
 }
 
 // What a read of fid 1 gives.
@@ -269,7 +262,7 @@ fn the_root_is_changed(rt: HostRuntime) {
 // The file of a place is its first member: /u, which stands at /x too. Fid 1 is /x, and fid 2 /u.
 #[test]
 fn the_first_member_is_changed(rt: HostRuntime) {
-    let rows = [
+    let rows = &[
         (
             "140000006e020000000000010000000100010078",
             "160000006f0200010080000000000100000000000000",
@@ -279,9 +272,13 @@ fn the_first_member_is_changed(rt: HostRuntime) {
             "160000006f0300010080000000000100000000000000",
         ),
     ];
-    let mut export = world(&rt, rt.alloc(), &two_unions(), &[(3, 1, Order::Before)]);
-    begin(&rt, rt.alloc(), &mut export);
-    exchange_all(&rt, rt.alloc(), &mut export, &rows);
+    let mut export = played(
+        &rt,
+        rt.alloc(),
+        &two_unions(),
+        &[(3, 1, Order::Before)],
+        rows,
+    );
     let wanted = Stat {
         mode: 0x8000_01c0,
         ..UNTOUCHED

@@ -1,7 +1,7 @@
 //! Wstats of each field, alone and in pairs.
 
 use super::stats::{UNTOUCHED, tells, wstat};
-use super::worlds::{Made, begin, dir, exchange_all, file, read_at, world};
+use super::worlds::{Made, dir, file, played, read_at};
 use crate::Export;
 use p9_base::Qid;
 use p9_tree::PlainTree;
@@ -278,7 +278,7 @@ fn the_others() -> [Case; 4] {
 
 // Fid 1 is the file, open for reading, and fid 2 its directory.
 fn ready(rt: &impl Abort, alloc: Global) -> Export<PlainTree<Global>> {
-    let rows = [
+    let rows = &[
         (
             "170000006e020000000000010000000200010061010066",
             "230000006f020002008000000000010000000000000000000000000200000000000000",
@@ -292,10 +292,7 @@ fn ready(rt: &impl Abort, alloc: Global) -> Export<PlainTree<Global>> {
             "160000006f0400010080000000000100000000000000",
         ),
     ];
-    let mut export = world(rt, alloc, &hers(), &[]);
-    begin(rt, alloc, &mut export);
-    exchange_all(rt, alloc, &mut export, &rows);
-    export
+    played(rt, alloc, &hers(), &[], rows)
 }
 
 // The file's bytes, which are as many as its length says: `hi`, and zeros.

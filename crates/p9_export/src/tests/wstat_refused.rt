@@ -2,7 +2,7 @@
 
 use super::stats::{FILE, UNTOUCHED, dir_of, is_changed, tells, wstat};
 use super::walk::small;
-use super::worlds::{Made, begin, dir, exchange_all, file, world};
+use super::worlds::{Made, begin, dir, exchange_all, file, played, world};
 use crate::Export;
 use p9_base::Qid;
 use p9_refusing::{Refusing, refuse_each};
@@ -282,9 +282,7 @@ fn refuses(rt: &impl Abort, export: &mut Export<PlainTree<Global>>, cases: &[Cas
 
 #[test]
 fn a_wstat_is_refused_for_the_first_reason(rt: HostRuntime) {
-    let mut export = world(&rt, rt.alloc(), &hers_and_others(), &[]);
-    begin(&rt, rt.alloc(), &mut export);
-    exchange_all(&rt, rt.alloc(), &mut export, &WALKS);
+    let mut export = played(&rt, rt.alloc(), &hers_and_others(), &[], &WALKS);
     refuses(&rt, &mut export, &fixed());
     refuses(&rt, &mut export, &names());
     refuses(&rt, &mut export, &lengths());
@@ -311,7 +309,7 @@ fn a_wstat_is_refused_for_the_first_reason(rt: HostRuntime) {
 // An unknown fid, and a file that is gone: these come before a fixed field.
 #[test]
 fn a_wstat_of_no_file_is_refused(rt: HostRuntime) {
-    let rows = [
+    let rows = &[
         (
             "170000006e020000000000010000000200010061010066",
             "230000006f020002008000000000010000000000000000000000000300000000000000",
@@ -322,9 +320,7 @@ fn a_wstat_of_no_file_is_refused(rt: HostRuntime) {
         ),
         ("0b0000007a040002000000", "070000007b0400"),
     ];
-    let mut export = world(&rt, rt.alloc(), &small(), &[]);
-    begin(&rt, rt.alloc(), &mut export);
-    exchange_all(&rt, rt.alloc(), &mut export, &rows);
+    let mut export = played(&rt, rt.alloc(), &small(), &[], rows);
     let fixed = Stat {
         atime: 5,
         ..UNTOUCHED
@@ -358,7 +354,7 @@ fn shared() -> [Made; 3] {
 // Each test is of the file as it is, also where the mode changes.
 #[test]
 fn each_field_asks_for_its_own_right(rt: HostRuntime) {
-    let walks = [
+    let walks = &[
         (
             "170000006e020000000000020000000200010061010073",
             "230000006f020002008000000000010000000000000000000000000200000000000000",
@@ -368,9 +364,7 @@ fn each_field_asks_for_its_own_right(rt: HostRuntime) {
             "230000006f030002008000000000010000000000000000000000000300000000000000",
         ),
     ];
-    let mut export = world(&rt, rt.alloc(), &shared(), &[]);
-    begin(&rt, rt.alloc(), &mut export);
-    exchange_all(&rt, rt.alloc(), &mut export, &walks);
+    let mut export = played(&rt, rt.alloc(), &shared(), &[], walks);
     let long = Stat {
         length: 5,
         ..UNTOUCHED
@@ -419,7 +413,7 @@ fn each_field_asks_for_its_own_right(rt: HostRuntime) {
 
 // Fid 1 is /a, and fid 2 its file.
 fn ready<A: Allocator + Copy>(rt: &impl Abort, alloc: Global, memory: A) -> Export<PlainTree<A>> {
-    let rows = [
+    let rows = &[
         (
             "140000006e020000000000010000000100010061",
             "160000006f0200010080000000000100000000000000",
@@ -431,7 +425,7 @@ fn ready<A: Allocator + Copy>(rt: &impl Abort, alloc: Global, memory: A) -> Expo
     ];
     let mut export = world(rt, memory, &small(), &[]);
     begin(rt, alloc, &mut export);
-    exchange_all(rt, alloc, &mut export, &rows);
+    exchange_all(rt, alloc, &mut export, rows);
     export
 }
 
