@@ -4,7 +4,6 @@ use Rattle.p9_world.specs.declared.error.LineFault.{LineFault}
 use Rattle.p9_world.specs.declared.error.LineError.{LineError}
 use Rattle.p9_world.specs.declared.error.LineError.TheVariants.{Bad, NoMemory}
 
-
 -- What a function that reads a line has to do: what it makes of the old value is the line's
 -- meaning, and a fault or want of memory leaves the value.
 abbrev pub Makes : {D X : Type 0} → Result X LineFault → X → X → Result D LineError → Type 0
