@@ -18,6 +18,13 @@ const FILE: NodeRef = NodeRef {
     number: 3,
 };
 
+// No node has its number yet.
+const UNMADE: NodeRef = NodeRef {
+    server: 1,
+    number: 4,
+};
+
+// There is no such server.
 const ABSENT: NodeRef = NodeRef {
     server: 2,
     number: 0,
@@ -81,6 +88,19 @@ fn forest_grows_and_shrinks<T: Tree>(rt: &impl Abort, alloc: T::Alloc) -> Result
     assert!(rt; made.number != 0 && forest.after(made, None).is_none());
     forest.drop_leaf(made);
     assert!(rt; forest.node(made).is_none());
+    write_nowhere(rt, &mut forest, made)?;
+    write_nowhere(rt, &mut forest, ABSENT)
+}
+
+// A write where there is no file does nothing.
+fn write_nowhere<T: Tree>(
+    rt: &impl Abort,
+    forest: &mut Forest<T>,
+    at: NodeRef,
+) -> Result<(), NoMemory> {
+    assert!(rt; !forest.node(at).is_some_and(|n| n.is_dir()));
+    forest.write(at, 0, b"!")?;
+    assert!(rt; forest.node(at).is_none());
     Ok(())
 }
 
@@ -99,9 +119,20 @@ fn forest_changes_a_standing<T: Tree>(rt: &impl Abort, alloc: T::Alloc) -> Resul
         ..MARKED
     };
     stands(rt, forest.node(FILE), &after);
-    assert!(rt; forest.node(ABSENT).is_none());
-    forest.change(ABSENT, &wanted)?;
-    assert!(rt; forest.node(ABSENT).is_none());
+    change_nowhere(rt, &mut forest, UNMADE, &wanted)?;
+    change_nowhere(rt, &mut forest, ABSENT, &wanted)
+}
+
+// A change where there is no node does nothing.
+fn change_nowhere<T: Tree>(
+    rt: &impl Abort,
+    forest: &mut Forest<T>,
+    at: NodeRef,
+    change: &Change,
+) -> Result<(), NoMemory> {
+    assert!(rt; forest.node(at).is_none());
+    forest.change(at, change)?;
+    assert!(rt; forest.node(at).is_none());
     Ok(())
 }
 
