@@ -2,6 +2,7 @@
 use Rattle.std.proofs.Common.{◌≡◌, ℕ, suc, ◌+◌, ◌<◌, ◌≤◌, Bool, true, false, cond, eqb, List, []}
 use Rattle.std.proofs.Common.{◌∷◌, length, get_or, set, Some, None, refl, sym, ap, ◌∙◌, subst, inl}
 use Rattle.std.proofs.Common.{inr, one-add, arith, All, AllPairs}
+use Rattle.std.specs.Prelude.{IsTrue}
 use Rattle.std.specs.List.{find, slice_get, position, position_or_len, remove}
 use Rattle.std.proofs.lemmas.Bool.{lt-ltb, le-ltb, cases_lt}
 use Rattle.std.proofs.lemmas.List.Folds.{find_at}
@@ -9,7 +10,7 @@ use Rattle.std.proofs.lemmas.Option.{slice_get_read}
 use Rattle.std.proofs.lemmas.Bool.Decides.{nat_tests}
 use Rattle.std.proofs.lemmas.List.Elements.{All-head, All-tail}
 use Rattle.p9_tree.specs.Node.{Node, has_number}
-use Rattle.p9_tree.specs.Server.{node_at, changed_at, dropped_at}
+use Rattle.p9_tree.specs.Server.{exists_at, node_at, changed_at, dropped_at}
 
 -- a node that is found has the number
 pub number-node_at : (k : ℕ) (xs : List Node) (n : Node) → node_at k xs ≡ Some n → n.number ≡ k
@@ -99,6 +100,10 @@ module _ (k : ℕ) (xs : List Node) where
       let at = place_within i e in
       find_at (has_number k) xs ∙ ap (λ q. slice_get xs q) (sym at.0)
       ∙ slice_get_read xs (length xs) i n refl at.1 read
+
+  pub exists-position : (i : ℕ) (n : Node) → position (has_number k) xs ≡ Some i
+      → n ≡ get_or xs i n → IsTrue (exists_at k xs)
+  exists-position i n e read = rw (node_at-position i n e read) refl
 
 -- a write over the node of a number changes it
 set-changed_here : (k : ℕ) (f : Node → Node) (xs : List Node) (n : Node)

@@ -1,6 +1,7 @@
 //! The trees of all servers.
 
-ghost use Rattle.std.specs.Prelude.{◌≡◌, ◌≢◌, ◌+◌, ◌≤◌, IfOk, IsFalse, OnErr, OnOk, length, map};
+ghost use Rattle.std.specs.Prelude.{◌≡◌, ◌≢◌, ◌+◌, ◌≤◌, IfOk, IsFalse, IsTrue, OnErr, OnOk};
+ghost use Rattle.std.specs.Prelude.{length, map};
 ghost use Rattle.std.specs.Option.{option_copied};
 ghost use Rattle.p9_tree.specs.Bytes.{cut_to, overwritten, put_front, read_from};
 ghost use Rattle.p9_tree.specs.Change.{CanChange, changed};
@@ -9,7 +10,7 @@ ghost use Rattle.p9_tree.specs.Forest.{forest_changed_at, has_children_of, is_di
 ghost use Rattle.p9_tree.specs.Forest.{node_of, server_at, tree_changed_at};
 ghost use Rattle.p9_tree.specs.New.{CanAddNew, added_new};
 ghost use Rattle.p9_tree.specs.Node.{marked, touched, with_bytes};
-ghost use Rattle.p9_tree.specs.Server.{with_dropped};
+ghost use Rattle.p9_tree.specs.Server.{exists_at, with_dropped};
 
 use crate::bytes::FILE_MAX;
 use crate::change::Change;
@@ -106,7 +107,7 @@ impl<T: Tree> Forest<T> {
     }
 
     /// Makes all of the change in the node at once, as [`Tree::change`]. Where memory is refused,
-    /// the forest is as before.
+    /// which it may be only where there is a node, the forest is as before.
     pub fn change(&mut self, at: NodeRef, change: &Change) -> Result<(), NoMemory>
         requires { let server = server_at at.server (map T.state self.old.trees.items) in
             CanChange server at.number change.now }
@@ -114,6 +115,8 @@ impl<T: Tree> Forest<T> {
             ≡ forest_changed_at at (changed change.entry.now) (map T.state self.old.trees.items)) }
         ensures err { OnErr result (map T.state self.new.trees.items
             ≡ map T.state self.old.trees.items) }
+        ensures there { OnErr result (let forest = map T.state self.old.trees.items in
+            IsTrue (exists_at at.number (server_at at.server forest).nodes)) }
     {
         if let Some(tree) = self.trees.get_mut(at.server as usize) {
             tree.change(at.number, change)?;
@@ -142,7 +145,7 @@ impl<T: Tree> Forest<T> {
     }
 
     /// Writes into a file at the offset, and fills a gap before it with zeros. It isn't marked.
-    /// Where memory is refused, the forest is as before.
+    /// Where memory is refused, which it may be only where there is a node, the forest is as before.
     pub fn write(&mut self, at: NodeRef, offset: u64, bytes: &[u8]) -> Result<(), NoMemory>
         requires file { IsFalse (is_dir_of at (map T.state self.old.trees.items)) }
         requires fits { offset + length bytes.now ≤ FILE_MAX }
@@ -151,6 +154,8 @@ impl<T: Tree> Forest<T> {
             (map T.state self.old.trees.items)) }
         ensures err { OnErr result (map T.state self.new.trees.items
             ≡ map T.state self.old.trees.items) }
+        ensures there { OnErr result (let forest = map T.state self.old.trees.items in
+            IsTrue (exists_at at.number (server_at at.server forest).nodes)) }
     {
         if let Some(tree) = self.trees.get_mut(at.server as usize) {
             tree.write(at.number, offset, bytes)?;

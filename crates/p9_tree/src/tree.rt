@@ -1,6 +1,7 @@
 //! What a server's tree does, however it is kept.
 
-ghost use Rattle.std.specs.Prelude.{◌≡◌, ◌≢◌, ◌+◌, ◌≤◌, IfOk, IsFalse, OnErr, OnOk, length};
+ghost use Rattle.std.specs.Prelude.{◌≡◌, ◌≢◌, ◌+◌, ◌≤◌, IfOk, IsFalse, IsTrue, OnErr, OnOk};
+ghost use Rattle.std.specs.Prelude.{length};
 ghost use Rattle.std.specs.Option.{option_copied};
 ghost use Rattle.p9_tree.specs.Bytes.{cut_to, overwritten, put_front, read_from};
 ghost use Rattle.p9_tree.specs.Change.{CanChange, changed};
@@ -8,7 +9,7 @@ ghost use Rattle.p9_tree.specs.New.{CanAddNew, added_new};
 ghost use Rattle.p9_tree.specs.Node.{marked, touched, with_bytes, with_owner};
 ghost use Rattle.p9_tree.specs.Server.{Server, WellFormed, bytes_at, child_after, child_of};
 ghost use Rattle.p9_tree.specs.Server.{has_children, is_dir_at, node_at, rooted, with_changed};
-ghost use Rattle.p9_tree.specs.Server.{with_dropped};
+ghost use Rattle.p9_tree.specs.Server.{exists_at, with_dropped};
 
 use crate::bytes::FILE_MAX;
 use crate::change::Change;
@@ -77,12 +78,13 @@ pub trait Tree: Sized + Drop {
 
     /// Makes all of the change in the node at once: a new length cuts a file or adds zeros to it,
     /// and marks it; a new time of change wins over the mark's, and makes the user the last to have
-    /// changed the node. The parent isn't marked.
+    /// changed the node. The parent isn't marked. Memory may be refused only where there is a node.
     fn change(&mut self, number: u64, change: &Change) -> Result<(), NoMemory>
         requires { CanChange (state self.old) number change.now }
         ensures ok { OnOk result (state self.new
             ≡ with_changed number (changed change.entry.now) (state self.old)) }
-        ensures err { OnErr result (state self.new ≡ state self.old) };
+        ensures err { OnErr result (state self.new ≡ state self.old) }
+        ensures there { OnErr result (IsTrue (exists_at number (state self.old).nodes)) };
 
     /// Marks the node: the user changed the file, or an entry of the directory, now. Its version
     /// grows by 1 modulo 2^32, and both its times become the clock reading.
@@ -94,12 +96,14 @@ pub trait Tree: Sized + Drop {
         ensures { state self.new ≡ with_changed number (touched now) (state self.old) };
 
     /// Writes into a file at the offset, and fills a gap before it with zeros. It isn't marked.
+    /// Memory may be refused only where there is a node.
     fn write(&mut self, number: u64, offset: u64, bytes: &[u8]) -> Result<(), NoMemory>
         requires file { IsFalse (is_dir_at number (state self.old).nodes) }
         requires fits { offset + length bytes.now ≤ FILE_MAX }
         ensures ok { OnOk result (state self.new
             ≡ with_changed number (with_bytes (overwritten offset bytes.now)) (state self.old)) }
-        ensures err { OnErr result (state self.new ≡ state self.old) };
+        ensures err { OnErr result (state self.new ≡ state self.old) }
+        ensures there { OnErr result (IsTrue (exists_at number (state self.old).nodes)) };
 
     /// Keeps at most the first bytes of a file. It isn't marked.
     fn cut(&mut self, number: u64, size: u64)

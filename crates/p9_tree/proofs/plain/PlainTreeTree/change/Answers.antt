@@ -1,8 +1,9 @@
 use Rattle.std.proofs.Common.{ap, ◌∙◌, subst, sym, inl, inr, ◌≡◌, Some}
+use Rattle.std.proofs.lemmas.Result.{err_from_is_err_and}
 use Rattle.p9_tree.specs.Change.{changed}
 use Rattle.p9_tree.specs.Node.{Node, IsTellable}
 use Rattle.p9_tree.specs.Server.{Server, node_at, with_nodes}
-use Rattle.p9_tree.proofs.Lookups.{absent-changed_at, node_at-position, set-changed_at}
+use Rattle.p9_tree.proofs.Lookups.{absent-changed_at, exists-position, node_at-position, set-changed_at}
 use Rattle.p9_tree.proofs.Changed.{WellFormed-set_apart, WellFormed-set_same, both_done}
 use Rattle.p9_tree.proofs.Changed.{both_or_kept}
 use Rattle.p9_tree.proofs.Renewed.{apart-changed, keeps-changed, named, sound-changed}
@@ -64,3 +65,10 @@ returns-in_default-clause-ok g c =
     ap (with_nodes s)
     (absent-changed_at c.args.number (changed c.args.change.now) _
     (sym c.place.ensures ∙ c.in_default.is))
+
+pub returns-in_err-change-clause-there : goal.returns-in_err-change-clause-there
+returns-in_err-change-clause-there g c =
+    let p = err_from_is_err_and c.from_residual.result c.from_residual.ensures.1 in
+    rw p.1
+    (exists-position c.args.number _ _ _ (sym c.place.ensures ∙ c.in-Some.is)
+    c.index_mut.ensures.value)

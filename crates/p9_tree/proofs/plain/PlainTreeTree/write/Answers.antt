@@ -1,8 +1,9 @@
 use Rattle.std.proofs.Common.{ap, ◌∙◌, sym, inl, inr}
+use Rattle.std.proofs.lemmas.Result.{err_from_is_err_and}
 use Rattle.p9_tree.specs.Bytes.{overwritten}
 use Rattle.p9_tree.specs.Node.{with_bytes}
 use Rattle.p9_tree.specs.Server.{Server, with_nodes}
-use Rattle.p9_tree.proofs.Lookups.{absent-changed_at, set-changed_at}
+use Rattle.p9_tree.proofs.Lookups.{absent-changed_at, exists-position, set-changed_at}
 use Rattle.p9_tree.proofs.Changed.{WellFormed-set, WellFormed-set_same, done_or_kept}
 use Rattle.p9_tree.proofs.Changed.{keeps-with_bytes, sound-overwritten}
 use Rattle.p9_tree.proofs.plain.PlainTreeTree.write.Goals as goal
@@ -40,3 +41,10 @@ returns-in_default-clause-ok g c =
     ap (with_nodes s)
     (absent-changed_at c.args.number (with_bytes (overwritten c.args.offset c.args.bytes.now)) _
     (sym c.place.ensures ∙ c.in_default.is))
+
+pub returns-in_err-write-clause-there : goal.returns-in_err-write-clause-there
+returns-in_err-write-clause-there g c =
+    let p = err_from_is_err_and c.from_residual.result c.from_residual.ensures.1 in
+    rw p.1
+    (exists-position c.args.number _ _ _ (sym c.place.ensures ∙ c.in-Some.is)
+    c.index_mut.ensures.value)
