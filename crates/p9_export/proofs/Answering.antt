@@ -29,7 +29,6 @@ use Rattle.p9_wire.specs.Message.{RMessage, Rerror, TMessage, Tversion, Tauth, T
 use Rattle.p9_wire.specs.Message.{Twalk, Topen, Tcreate, Tread, Twrite, Tclunk, Tremove, Tstat}
 use Rattle.p9_wire.specs.Message.{Twstat}
 use Rattle.p9_wire.specs.Spelling.{TSpells, r_body, r_len, r_spelling, r_type}
-use Rattle.p9_wire.proofs.Bytes.{each_fits}
 use Rattle.p9_wire.proofs.Lengths.{length-frame, length-r_body}
 use Rattle.p9_wire.proofs.TGrammar.{t-decides}
 use Rattle.p9_fids.specs.Fid.{Fid, fid_at, without_fid}
@@ -274,7 +273,7 @@ module _ (state : State) (name : ℕ) (session : Session) (frame : List ℕ) (no
   few_names fid newfid names is =
       let r = request-is session frame (Twalk fid newfid names) is in
       let spelled : TSpells frame r.tag (Twalk fid newfid names) =
-      t-decides.sound frame r.tag (Twalk fid newfid names) (each_fits frame bytes) r.read in
+      t-decides.sound frame r.tag (Twalk fid newfid names) bytes r.read in
       spelled.fits.few
 
   by_message : (m : TMessage) → request_of session frame ≡ Ok m
