@@ -1,7 +1,7 @@
 -- One text put behind another.
-use Rattle.std.proofs.Common.{◌≡◌, ℕ, ◌+◌, ◌-◌, ◌≤◌, List, [], ◌++◌, length, take, drop, refl, sym}
+use Rattle.std.proofs.Common.{◌≡◌, ℕ, ◌+◌, ◌-◌, ◌≤◌, List, ◌++◌, length, take, drop, refl, sym}
 use Rattle.std.proofs.Common.{ap, subst, ◌∙◌, append_assoc, arith}
-use Rattle.std.proofs.lemmas.List.{length-append, append-nil, drop-drop, drop-take, take-take}
+use Rattle.std.proofs.lemmas.List.{length-append, drop-drop, drop-take, take-take}
 use Rattle.std.proofs.lemmas.List.{length-drop, length-take-le}
 use Rattle.std.proofs.lemmas.Slice.{take-put_mid, drop-put_mid}
 use borrow.Rule.Slice.PartMut.{put_mid}
@@ -73,14 +73,6 @@ pub puts_sized : {A : Type 0} (f : A → List ℕ) (x : A) (size : ℕ) {a b c :
     → Puts (number 2 (length (f x)) ++ f x) a c old new
 puts_sized f x size {a} {b} {c} {old} {mid} {new} e p q =
     puts_then (subst (λ (n : ℕ). Puts (number 2 n) a b old mid) e p) q
-
--- nothing put
-pub puts_nothing : {a : ℕ} {old : List ℕ} → Puts [] a a old old
-puts_nothing {a} {old} = record {
-  ends = omega arith;
-  front = sym (append-nil (take a old));
-  back = refl;
-}
 
 -- what stands behind a text may be counted to it
 pub puts_kept : (x : List ℕ) (a n k : ℕ) (old new : List ℕ) → n + k ≤ length old

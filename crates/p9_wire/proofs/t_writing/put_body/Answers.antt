@@ -11,9 +11,6 @@ returns-in-Auth c = rw c.in-Auth.is (search (rules, puts_then))
 pub returns-in-Attach : goal.returns-in-Attach
 returns-in-Attach c = rw c.in-Attach.is (search (rules, puts_then))
 
-pub returns-in-Flush : goal.returns-in-Flush
-returns-in-Flush c = rw c.in-Flush.is (search (rules, puts_then))
-
 pub returns-in-Walk : goal.returns-in-Walk
 returns-in-Walk c = rw c.in-Walk.is (search (rules, puts_then))
 
@@ -28,15 +25,6 @@ returns-in-Read c = rw c.in-Read.is (search (rules, puts_then))
 
 pub returns-in-Write : goal.returns-in-Write
 returns-in-Write c = rw c.in-Write.is (search (rules, puts_then))
-
-pub returns-in-Clunk : goal.returns-in-Clunk
-returns-in-Clunk c = rw c.in-Clunk.is (search (rules, puts_then))
-
-pub returns-in-Remove : goal.returns-in-Remove
-returns-in-Remove c = rw c.in-Remove.is (search (rules, puts_then))
-
-pub returns-in-Stat : goal.returns-in-Stat
-returns-in-Stat c = rw c.in-Stat.is (search (rules, puts_then))
 
 pub returns-in-Wstat : goal.returns-in-Wstat
 returns-in-Wstat c = rw c.in-Wstat.is (search (rules, puts_then))
