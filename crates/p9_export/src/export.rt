@@ -47,9 +47,14 @@ impl<T: Tree> Model for Export<T> {
 
     ghost Value = { State };
 
-    ghost view = { λ e. record { setting = e.setting; forest = map T.state e.forest.trees.items; sessions = e.sessions.entries } };
+    ghost view = { λ e. record {
+      setting = e.setting;
+      forest = map T.state e.forest.trees.items;
+      sessions = e.sessions.entries;
+    } };
 
-    ghost invariant = { λ e. IsSound e.setting.table (map T.state e.forest.trees.items) e.sessions.entries };
+    ghost invariant = { λ e. IsSound e.setting.table (map T.state e.forest.trees.items)
+        e.sessions.entries };
 }
 
 impl<T: Tree> Export<T> {

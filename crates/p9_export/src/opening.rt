@@ -17,9 +17,12 @@ pub struct Opening {
     pub remove_on_close: bool,
 }
 
+// The bit that asks for truncation.
 const OTRUNC: u8 = 0x10;
 
+// The bit that asks for remove-on-close.
 const ORCLOSE: u8 = 0x40;
+
 // Every bit but those of the four modes, truncation, close on exec (0x20), which means nothing
 // here and is dropped, and remove-on-close.
 const UNKNOWN: u8 = 0x8C;

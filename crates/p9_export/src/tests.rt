@@ -17,12 +17,12 @@ mod wstat;
 mod wstat_fields;
 mod wstat_refused;
 
-use crate::{Export, OpenError, is_frame};
+use crate::{Export, OpenError};
 use again::play_refused;
 use p9_tree::{PlainTree, Tree};
 use std::alloc::Global;
 use std::process::Abort;
-use worlds::{exchange_all, exchange_in, world};
+use worlds::{exchange_all, exchange_in, send, send_at, world};
 
 // A client asks for an msize of 8,192.
 const VERSION: &str = "1300000064ffff002000000600395032303030";
@@ -48,23 +48,6 @@ fn opened(rt: &impl Abort, alloc: Global) -> Export<PlainTree<Global>> {
 fn converses(rt: &impl Abort, alloc: Global, rows: &[Exchange]) {
     let mut export = opened(rt, alloc);
     exchange_all(rt, alloc, &mut export, rows);
-}
-
-// Sends a frame, and gives the reply.
-fn reply_to<T: Tree>(
-    rt: &impl Abort,
-    alloc: Global,
-    export: &mut Export<T>,
-    session: u32,
-    now: u32,
-    frame: &[u8],
-) -> Vec<u8, Global> {
-    let mut buffer = vec![in alloc; 0u8; 65_536].expect(rt, "a buffer");
-    assert!(rt; is_frame(frame));
-    assert!(rt; export.live(session));
-    let size = export.message(session, frame, now, buffer.as_mut_slice());
-    buffer.truncate(size);
-    buffer
 }
 
 // Compares a reply with hexadecimal digits.
@@ -95,8 +78,9 @@ fn exchange_at<T: Tree>(
 ) {
     let (request, reply) = exchange;
     let frame = hex::decode(alloc, request).expect(rt, "hexadecimal digits");
-    let answer = reply_to(rt, alloc, export, session, now, frame.as_slice());
-    is_reply(rt, alloc, answer.as_slice(), reply);
+    let mut buffer = [0u8; 65_536];
+    let size = send_at(rt, export, session, now, frame.as_slice(), &mut buffer);
+    is_reply(rt, alloc, buffer.get(..size).expect(rt, "bytes"), reply);
 }
 
 #[test]
@@ -155,9 +139,11 @@ fn frame_longer_than_msize(rt: HostRuntime) {
     exchange(&rt, rt.alloc(), &mut export, 1, version);
     let mut frame = [0u8; 513];
     frame[..7].copy_from_slice(&[0x01, 0x02, 0, 0, 100, 0xff, 0xff]);
-    let reply = reply_to(&rt, rt.alloc(), &mut export, 1, 0, &frame);
+    let mut buffer = [0u8; 65_536];
+    let size = send(&rt, &mut export, 1, &frame, &mut buffer);
     let malformed = "1a0000006bffff11006d616c666f726d6564206d657373616765";
-    is_reply(&rt, rt.alloc(), reply.as_slice(), malformed);
+    let answer = buffer.get(..size).expect(&rt, "bytes");
+    is_reply(&rt, rt.alloc(), answer, malformed);
 }
 
 #[test]

@@ -1,10 +1,8 @@
 //! Messages in a world whose memory is refused: one that was answered by want of memory is sent
 //! again.
 
-use super::worlds::{Made, world};
-use super::{
-    ATTACH, ATTACH_REPLY, Exchange, VERSION, VERSION_REPLY, exchange_at, is_reply, reply_to,
-};
+use super::worlds::{Made, send_at, world};
+use super::{ATTACH, ATTACH_REPLY, Exchange, VERSION, VERSION_REPLY, exchange_at, is_reply};
 use crate::{Export, OpenError};
 use p9_refusing::{Refusing, refuse_each};
 use p9_tree::Tree;
@@ -42,12 +40,14 @@ pub fn exchange_again<T: Tree>(
     row: Exchange,
 ) {
     let frame = hex::decode(alloc, row.0).expect(rt, "hexadecimal digits");
-    let reply = reply_to(rt, alloc, export, session, now, frame.as_slice());
-    if is_refusal(frame.as_slice(), reply.as_slice()) {
+    let mut buffer = [0u8; 65_536];
+    let size = send_at(rt, export, session, now, frame.as_slice(), &mut buffer);
+    let reply = buffer.get(..size).expect(rt, "bytes");
+    if is_refusal(frame.as_slice(), reply) {
         assert!(rt; frame.get(4).is_some_and(|kind| may_run_out(*kind)));
         exchange_at(rt, alloc, export, session, now, row);
     } else {
-        is_reply(rt, alloc, reply.as_slice(), row.1);
+        is_reply(rt, alloc, reply, row.1);
     }
 }
 

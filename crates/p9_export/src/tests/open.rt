@@ -1,8 +1,8 @@
 //! Opens, as bytes from outside.
 
 use super::walk::small;
-use super::worlds::{Made, dir, file, played, plays, plays_in};
-use super::{Exchange, is_reply, reply_to};
+use super::worlds::{Made, dir, file, played, plays, plays_in, send};
+use super::{Exchange, is_reply};
 use std::alloc::Global;
 use std::process::Abort;
 
@@ -205,7 +205,8 @@ fn truncation_leaves_an_append_only_file(rt: HostRuntime) {
         ),
         (
             "0b0000007c040001000000",
-            "4f0000007d04004600440000000000000040000000000100000000000000a40100400000000000000000020000000000000003006c6f670600676c656e64610600676c656e64610600676c656e6461",
+            "4f0000007d04004600440000000000000040000000000100000000000000a4010040000000000000\
+             0000020000000000000003006c6f670600676c656e64610600676c656e64610600676c656e6461",
         ),
     ];
     plays(&rt, rt.alloc(), &append_only(), &[], rows);
@@ -225,7 +226,8 @@ fn truncation_cuts_and_marks(rt: HostRuntime) {
         ),
         (
             "0b0000007c040001000000",
-            "4d0000007d04004400420000000000000000010000000300000000000000a4010000000000000000000000000000000000000100660600676c656e64610600676c656e64610600676c656e6461",
+            "4d0000007d04004400420000000000000000010000000300000000000000a4010000000000000000\
+             000000000000000000000100660600676c656e64610600676c656e64610600676c656e6461",
         ),
         (
             "170000006e050000000000020000000200010061010066",
@@ -243,8 +245,9 @@ fn truncation_cuts_and_marks(rt: HostRuntime) {
 fn open_by(rt: &impl Abort, alloc: Global, walk: Exchange, mode: u8, reply: &str) {
     let mut export = played(rt, alloc, &small(), &[], &[walk]);
     let frame = [12, 0, 0, 0, 112, 2, 0, 1, 0, 0, 0, mode];
-    let answer = reply_to(rt, alloc, &mut export, 1, 0, &frame);
-    is_reply(rt, alloc, answer.as_slice(), reply);
+    let mut buffer = [0u8; 65_536];
+    let size = send(rt, &mut export, 1, &frame, &mut buffer);
+    is_reply(rt, alloc, buffer.get(..size).expect(rt, "bytes"), reply);
 }
 
 const TO_FILE: Exchange = (
