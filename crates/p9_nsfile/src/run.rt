@@ -45,8 +45,8 @@ pub fn run_file<T: Tree>(
     table: &mut MountTable<T::Alloc>,
 ) -> Result<Vec<(u64, OpFault), T::Alloc>, NsError>
     ensures ok { IfOk result (λ reports.
-        run_of (setting_value T.state forest.now.trees.items vars.now servers.now) text.now table.old
-        ≡ Ok (table.new, reports.items)) }
+        run_of (setting_value T.state forest.now.trees.items vars.now servers.now)
+        text.now table.old ≡ Ok (table.new, reports.items)) }
     ensures err { IfErr result (IsNsFault
         (run_of (setting_value T.state forest.now.trees.items vars.now servers.now)
         text.now table.old)) }

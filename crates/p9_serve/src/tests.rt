@@ -48,7 +48,7 @@ fn plays(rt: &impl Abort, alloc: Global, input: &str, out: &str) {
 }
 
 // The lines of a script are played so, behind its beginning.
-fn plays_on(rt: &impl Abort, alloc: Global, begin: Begin, lines: &str, out: &str) {
+fn plays_on(rt: &impl Abort, alloc: Global, begin: Begin, lines: &'static str, out: &'static str) {
     let parts = ["%% script\n", begin.script, lines];
     let input = parts.join(alloc, "").expect(rt, "memory");
     let output = [begin.out, out].join(alloc, "").expect(rt, "memory");
