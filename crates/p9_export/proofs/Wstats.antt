@@ -108,7 +108,8 @@ module _ (user : List ℕ) (forest : List Server) (at : NodeRef) (n : Node) (t :
   pub nothing_refuses : wstat_fault user forest at n t ≡ None → Permits
   nothing_refuses none =
       let first = option_or-none (option_and_then (mode_fault n) t.mode) _ none in
-      let second = option_or-none (option_and_then (name_fault user forest at n) t.name) _ first.1 in
+      let second =
+      option_or-none (option_and_then (name_fault user forest at n) t.name) _ first.1 in
       let third = option_or-none (option_and_then (length_fault user n) t.length) _ second.1 in
       let fourth = option_or-none (option_and_then (ruling_fault user n) t.mode) _ third.1 in
       let fifth = option_or-none (option_and_then (ruling_fault user n) t.mtime) _ fourth.1 in

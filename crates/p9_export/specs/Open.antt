@@ -81,7 +81,8 @@ opened_session fid o session = record session {
 abbrev pub is_taken : Setting → List Server → List SessionRow → Session → ℕ → Bool
 is_taken setting forest sessions session fid =
     option_map_or (λ v.
-    option_map_or (λ n. is_exclusive n && is_in_use setting.table (fid_ref setting.table v) sessions)
+    option_map_or
+    (λ n. is_exclusive n && is_in_use setting.table (fid_ref setting.table v) sessions)
     (fid_file setting.table forest v) false)
     (fid_at fid session.fids) false
 

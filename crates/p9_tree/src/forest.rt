@@ -145,7 +145,8 @@ impl<T: Tree> Forest<T> {
     }
 
     /// Writes into a file at the offset, and fills a gap before it with zeros. It isn't marked.
-    /// Where memory is refused, which it may be only where there is a node, the forest is as before.
+    /// Where memory is refused, which it may be only where there is a node, the forest is as
+    /// before.
     pub fn write(&mut self, at: NodeRef, offset: u64, bytes: &[u8]) -> Result<(), NoMemory>
         requires file { IsFalse (is_dir_of at (map T.state self.old.trees.items)) }
         requires fits { offset + length bytes.now ≤ FILE_MAX }
