@@ -61,82 +61,82 @@ fields-joined Rremove n f = tt
 fields-joined (Rstat stat) n f = (n, f)
 fields-joined Rwstat n f = tt
 
-abbrev replies : Grammar RMessage
-replies = record { kind = r_type; body = r_body; Fits = RFieldsFit; body_at = r_body_at }
+abbrev r_grammar : Grammar RMessage
+r_grammar = record { kind = r_type; body = r_body; Fits = RFieldsFit; body_at = r_body_at }
 
 -- a body that was read is that of its message, and spelled so
 
-read-version : IsReader replies 101 r_version_at
+read-version : IsReader r_grammar 101 r_version_at
 unfolding r_version_at
 read-version =
-    taken replies (then-codes (number-codes 4) text-codes) (λ x. Rversion x.0 x.1) (λ a. refl)
+    taken r_grammar (then-codes (number-codes 4) text-codes) (λ x. Rversion x.0 x.1) (λ a. refl)
     (λ a. refl) (λ a h. h)
 
-read-attach : IsReader replies 105 r_attach_at
+read-attach : IsReader r_grammar 105 r_attach_at
 unfolding r_attach_at
-read-attach = taken replies qid-codes Rattach (λ a. refl) (λ a. refl) (λ a h. h)
+read-attach = taken r_grammar qid-codes Rattach (λ a. refl) (λ a. refl) (λ a h. h)
 
-read-error : IsReader replies 107 r_error_at
+read-error : IsReader r_grammar 107 r_error_at
 unfolding r_error_at
-read-error = taken replies text-codes Rerror (λ a. refl) (λ a. refl) (λ a h. h)
+read-error = taken r_grammar text-codes Rerror (λ a. refl) (λ a. refl) (λ a h. h)
 
-read-flush : IsReader replies 109 r_flush_at
-read-flush = taken replies nothing-codes (λ x. Rflush) (λ a. refl) (λ a. refl) (λ a h. h)
+read-flush : IsReader r_grammar 109 r_flush_at
+read-flush = taken r_grammar nothing-codes (λ x. Rflush) (λ a. refl) (λ a. refl) (λ a h. h)
 
-read-walk : IsReader replies 111 r_walk_at
+read-walk : IsReader r_grammar 111 r_walk_at
 unfolding r_walk_at
-read-walk = taken replies (several-codes qid-codes) Rwalk (λ a. refl) (λ a. refl) (λ a h. h)
+read-walk = taken r_grammar (several-codes qid-codes) Rwalk (λ a. refl) (λ a. refl) (λ a h. h)
 
-read-open : IsReader replies 113 r_open_at
+read-open : IsReader r_grammar 113 r_open_at
 unfolding r_open_at
 read-open =
-    taken replies (then-codes qid-codes (number-codes 4)) (λ x. Ropen x.0 x.1) (λ a. refl)
+    taken r_grammar (then-codes qid-codes (number-codes 4)) (λ x. Ropen x.0 x.1) (λ a. refl)
     (λ a. refl) (λ a h. h)
 
-read-create : IsReader replies 115 r_create_at
+read-create : IsReader r_grammar 115 r_create_at
 unfolding r_create_at
 read-create =
-    taken replies (then-codes qid-codes (number-codes 4)) (λ x. Rcreate x.0 x.1) (λ a. refl)
+    taken r_grammar (then-codes qid-codes (number-codes 4)) (λ x. Rcreate x.0 x.1) (λ a. refl)
     (λ a. refl) (λ a h. h)
 
-read-read : IsReader replies 117 r_read_at
+read-read : IsReader r_grammar 117 r_read_at
 unfolding r_read_at
-read-read = taken replies counted-codes Rread (λ a. refl) (λ a. refl) (λ a h. h)
+read-read = taken r_grammar counted-codes Rread (λ a. refl) (λ a. refl) (λ a h. h)
 
-read-write : IsReader replies 119 r_write_at
+read-write : IsReader r_grammar 119 r_write_at
 unfolding r_write_at
-read-write = taken replies (number-codes 4) Rwrite (λ a. refl) (λ a. refl) (λ a h. h)
+read-write = taken r_grammar (number-codes 4) Rwrite (λ a. refl) (λ a. refl) (λ a h. h)
 
-read-clunk : IsReader replies 121 r_clunk_at
-read-clunk = taken replies nothing-codes (λ x. Rclunk) (λ a. refl) (λ a. refl) (λ a h. h)
+read-clunk : IsReader r_grammar 121 r_clunk_at
+read-clunk = taken r_grammar nothing-codes (λ x. Rclunk) (λ a. refl) (λ a. refl) (λ a h. h)
 
-read-remove : IsReader replies 123 r_remove_at
-read-remove = taken replies nothing-codes (λ x. Rremove) (λ a. refl) (λ a. refl) (λ a h. h)
+read-remove : IsReader r_grammar 123 r_remove_at
+read-remove = taken r_grammar nothing-codes (λ x. Rremove) (λ a. refl) (λ a. refl) (λ a h. h)
 
-read-stat : IsReader replies 125 r_stat_at
+read-stat : IsReader r_grammar 125 r_stat_at
 unfolding r_stat_at
-read-stat = taken replies stat-codes Rstat (λ a. refl) (λ a. refl) (λ a h. h)
+read-stat = taken r_grammar stat-codes Rstat (λ a. refl) (λ a. refl) (λ a h. h)
 
-read-wstat : IsReader replies 127 r_wstat_at
-read-wstat = taken replies nothing-codes (λ x. Rwstat) (λ a. refl) (λ a. refl) (λ a h. h)
+read-wstat : IsReader r_grammar 127 r_wstat_at
+read-wstat = taken r_grammar nothing-codes (λ x. Rwstat) (λ a. refl) (λ a. refl) (λ a h. h)
 
 -- a reply that was read has its type, its fields and its spelling
-sound : (k : ℕ) → IsReader replies k (r_body_at k)
+sound : (k : ℕ) → IsReader r_grammar k (r_body_at k)
 unfolding r_body_at
 sound k =
-    chosen replies k read-version
-    (chosen replies k read-attach
-    (chosen replies k read-error
-    (chosen replies k read-flush
-    (chosen replies k read-walk
-    (chosen replies k read-open
-    (chosen replies k read-create
-    (chosen replies k read-read
-    (chosen replies k read-write
-    (chosen replies k read-clunk
-    (chosen replies k read-remove
-    (chosen replies k read-stat
-    (chosen replies k read-wstat
+    chosen r_grammar k read-version
+    (chosen r_grammar k read-attach
+    (chosen r_grammar k read-error
+    (chosen r_grammar k read-flush
+    (chosen r_grammar k read-walk
+    (chosen r_grammar k read-open
+    (chosen r_grammar k read-create
+    (chosen r_grammar k read-read
+    (chosen r_grammar k read-write
+    (chosen r_grammar k read-clunk
+    (chosen r_grammar k read-remove
+    (chosen r_grammar k read-stat
+    (chosen r_grammar k read-wstat
     (λ bytes x fits e. absurd cc)))))))))))))
 
 -- a reply that is spelled is read
@@ -180,7 +180,7 @@ small (Rstat stat) = omega arith
 small Rwstat = omega arith
 
 -- so the bodies of replies are read as they are spelled
-reads : Reads replies
+reads : Reads r_grammar
 reads = record { small = small; sound = sound; complete = complete }
 
 -- the function that reads a reply answers exactly what the grammar spells
@@ -188,7 +188,7 @@ pub r-decides : Decides r_message_of RSpells
 unfolding r_message_of r_spelling
 r-decides = record {
   sound = λ bytes tag m fits e.
-      let framed = message-sound replies reads bytes (tag, m) fits e in
+      let framed = message-sound r_grammar reads bytes (tag, m) fits e in
       let apart = fields-apart m framed.fits (omega (arith, length-r_body m, framed.size_fits)) in
       record {
         whole = framed.whole;
@@ -198,11 +198,11 @@ r-decides = record {
             framed.tag_fits;
       };
   complete = λ bytes tag m spelled.
-      let framed : Framed replies bytes tag m = record {
+      let framed : Framed r_grammar bytes tag m = record {
         whole = spelled.whole;
         fits = fields-joined m spelled.numbers spelled.fits;
         tag_fits = spelled.tag_fits;
         size_fits = omega (arith, length-r_body m, r_len-fits m spelled.fits);
       } in
-      message-complete replies reads bytes tag m framed;
+      message-complete r_grammar reads bytes tag m framed;
 }

@@ -64,103 +64,103 @@ fields-joined (Tremove fid) n f = n
 fields-joined (Tstat fid) n f = n
 fields-joined (Twstat fid stat) n f = (n.0, (n.1, f))
 
-abbrev requests : Grammar TMessage
-requests = record { kind = t_type; body = t_body; Fits = TFieldsFit; body_at = t_body_at }
+abbrev t_grammar : Grammar TMessage
+t_grammar = record { kind = t_type; body = t_body; Fits = TFieldsFit; body_at = t_body_at }
 
 -- a body that was read is that of its message, and spelled so
 
-read-version : IsReader requests 100 t_version_at
+read-version : IsReader t_grammar 100 t_version_at
 unfolding t_version_at
 read-version =
-    taken requests (then-codes (number-codes 4) text-codes) (λ x. Tversion x.0 x.1) (λ a. refl)
+    taken t_grammar (then-codes (number-codes 4) text-codes) (λ x. Tversion x.0 x.1) (λ a. refl)
     (λ a. refl) (λ a h. h)
 
-read-auth : IsReader requests 102 t_auth_at
+read-auth : IsReader t_grammar 102 t_auth_at
 unfolding t_auth_at
 read-auth =
-    taken requests (then-codes (then-codes (number-codes 4) text-codes) text-codes)
+    taken t_grammar (then-codes (then-codes (number-codes 4) text-codes) text-codes)
     (λ x. Tauth x.0.0 x.0.1 x.1) (λ a. refl) (λ a. refl) (λ a h. (h.0.0, h.0.1, h.1))
 
-read-attach : IsReader requests 104 t_attach_at
+read-attach : IsReader t_grammar 104 t_attach_at
 unfolding t_attach_at
 read-attach =
-    taken requests
+    taken t_grammar
     (then-codes (then-codes (then-codes (number-codes 4) (number-codes 4)) text-codes) text-codes)
     (λ x. Tattach x.0.0.0 x.0.0.1 x.0.1 x.1) (λ a. refl) (λ a. refl)
     (λ a h. (h.0.0.0, h.0.0.1, h.0.1, h.1))
 
-read-flush : IsReader requests 108 t_flush_at
+read-flush : IsReader t_grammar 108 t_flush_at
 unfolding t_flush_at
-read-flush = taken requests (number-codes 2) Tflush (λ a. refl) (λ a. refl) (λ a h. h)
+read-flush = taken t_grammar (number-codes 2) Tflush (λ a. refl) (λ a. refl) (λ a h. h)
 
-read-walk : IsReader requests 110 t_walk_at
+read-walk : IsReader t_grammar 110 t_walk_at
 unfolding t_walk_at
 read-walk =
-    taken requests
+    taken t_grammar
     (then-codes (then-codes (number-codes 4) (number-codes 4)) (several-codes text-codes))
     (λ x. Twalk x.0.0 x.0.1 x.1) (λ a. refl) (λ a. refl) (λ a h. (h.0.0, h.0.1, h.1))
 
-read-open : IsReader requests 112 t_open_at
+read-open : IsReader t_grammar 112 t_open_at
 unfolding t_open_at
 read-open =
-    taken requests (then-codes (number-codes 4) (number-codes 1)) (λ x. Topen x.0 x.1) (λ a. refl)
+    taken t_grammar (then-codes (number-codes 4) (number-codes 1)) (λ x. Topen x.0 x.1) (λ a. refl)
     (λ a. refl) (λ a h. h)
 
-read-create : IsReader requests 114 t_create_at
+read-create : IsReader t_grammar 114 t_create_at
 unfolding t_create_at
 read-create =
-    taken requests
+    taken t_grammar
     (then-codes (then-codes (then-codes (number-codes 4) text-codes) (number-codes 4))
     (number-codes 1)) (λ x. Tcreate x.0.0.0 x.0.0.1 x.0.1 x.1) (λ a. refl) (λ a. refl)
     (λ a h. (h.0.0.0, h.0.0.1, h.0.1, h.1))
 
-read-read : IsReader requests 116 t_read_at
+read-read : IsReader t_grammar 116 t_read_at
 unfolding t_read_at
 read-read =
-    taken requests (then-codes (then-codes (number-codes 4) (number-codes 8)) (number-codes 4))
+    taken t_grammar (then-codes (then-codes (number-codes 4) (number-codes 8)) (number-codes 4))
     (λ x. Tread x.0.0 x.0.1 x.1) (λ a. refl) (λ a. refl) (λ a h. (h.0.0, h.0.1, h.1))
 
-read-write : IsReader requests 118 t_write_at
+read-write : IsReader t_grammar 118 t_write_at
 unfolding t_write_at
 read-write =
-    taken requests (then-codes (then-codes (number-codes 4) (number-codes 8)) counted-codes)
+    taken t_grammar (then-codes (then-codes (number-codes 4) (number-codes 8)) counted-codes)
     (λ x. Twrite x.0.0 x.0.1 x.1) (λ a. refl) (λ a. refl) (λ a h. (h.0.0, h.0.1, h.1))
 
-read-clunk : IsReader requests 120 t_clunk_at
+read-clunk : IsReader t_grammar 120 t_clunk_at
 unfolding t_clunk_at
-read-clunk = taken requests (number-codes 4) Tclunk (λ a. refl) (λ a. refl) (λ a h. h)
+read-clunk = taken t_grammar (number-codes 4) Tclunk (λ a. refl) (λ a. refl) (λ a h. h)
 
-read-remove : IsReader requests 122 t_remove_at
+read-remove : IsReader t_grammar 122 t_remove_at
 unfolding t_remove_at
-read-remove = taken requests (number-codes 4) Tremove (λ a. refl) (λ a. refl) (λ a h. h)
+read-remove = taken t_grammar (number-codes 4) Tremove (λ a. refl) (λ a. refl) (λ a h. h)
 
-read-stat : IsReader requests 124 t_stat_at
+read-stat : IsReader t_grammar 124 t_stat_at
 unfolding t_stat_at
-read-stat = taken requests (number-codes 4) Tstat (λ a. refl) (λ a. refl) (λ a h. h)
+read-stat = taken t_grammar (number-codes 4) Tstat (λ a. refl) (λ a. refl) (λ a h. h)
 
-read-wstat : IsReader requests 126 t_wstat_at
+read-wstat : IsReader t_grammar 126 t_wstat_at
 unfolding t_wstat_at
 read-wstat =
-    taken requests (then-codes (number-codes 4) stat-codes) (λ x. Twstat x.0 x.1) (λ a. refl)
+    taken t_grammar (then-codes (number-codes 4) stat-codes) (λ x. Twstat x.0 x.1) (λ a. refl)
     (λ a. refl) (λ a h. h)
 
 -- a request that was read has its type, its fields and its spelling
-sound : (k : ℕ) → IsReader requests k (t_body_at k)
+sound : (k : ℕ) → IsReader t_grammar k (t_body_at k)
 unfolding t_body_at
 sound k =
-    chosen requests k read-version
-    (chosen requests k read-auth
-    (chosen requests k read-attach
-    (chosen requests k read-flush
-    (chosen requests k read-walk
-    (chosen requests k read-open
-    (chosen requests k read-create
-    (chosen requests k read-read
-    (chosen requests k read-write
-    (chosen requests k read-clunk
-    (chosen requests k read-remove
-    (chosen requests k read-stat
-    (chosen requests k read-wstat
+    chosen t_grammar k read-version
+    (chosen t_grammar k read-auth
+    (chosen t_grammar k read-attach
+    (chosen t_grammar k read-flush
+    (chosen t_grammar k read-walk
+    (chosen t_grammar k read-open
+    (chosen t_grammar k read-create
+    (chosen t_grammar k read-read
+    (chosen t_grammar k read-write
+    (chosen t_grammar k read-clunk
+    (chosen t_grammar k read-remove
+    (chosen t_grammar k read-stat
+    (chosen t_grammar k read-wstat
     (λ bytes x fits e. absurd cc)))))))))))))
 
 -- a request that is spelled is read
@@ -221,7 +221,7 @@ small (Tstat fid) = omega arith
 small (Twstat fid stat) = omega arith
 
 -- so the bodies of requests are read as they are spelled
-reads : Reads requests
+reads : Reads t_grammar
 reads = record { small = small; sound = sound; complete = complete }
 
 -- the function that reads a request answers exactly what the grammar spells
@@ -229,7 +229,7 @@ pub t-decides : Decides t_message_of TSpells
 unfolding t_message_of t_spelling
 t-decides = record {
   sound = λ bytes tag m fits e.
-      let framed = message-sound requests reads bytes (tag, m) fits e in
+      let framed = message-sound t_grammar reads bytes (tag, m) fits e in
       let apart = fields-apart m framed.fits (omega (arith, length-t_body m, framed.size_fits)) in
       record {
         whole = framed.whole;
@@ -239,11 +239,11 @@ t-decides = record {
             framed.tag_fits;
       };
   complete = λ bytes tag m spelled.
-      let framed : Framed requests bytes tag m = record {
+      let framed : Framed t_grammar bytes tag m = record {
         whole = spelled.whole;
         fits = fields-joined m spelled.numbers spelled.fits;
         tag_fits = spelled.tag_fits;
         size_fits = omega (arith, length-t_body m, t_len-fits m spelled.fits);
       } in
-      message-complete requests reads bytes tag m framed;
+      message-complete t_grammar reads bytes tag m framed;
 }
