@@ -1,5 +1,6 @@
 -- Values that may be refused, and what a list does, one item after another, until one is refused.
-use Rattle.std.specs.Prelude.{Bool, List, [], ◌∷◌, Option, None, Some, Result, Ok, Err, if◌then◌else◌}
+use Rattle.std.specs.Prelude.{Bool, List, [], ◌∷◌, Option, None, Some, Result, Ok, Err}
+use Rattle.std.specs.Prelude.{if◌then◌else◌}
 
 -- what comes of a value, unless it is an error
 abbrev pub and_then : {S T E : Type 0} → Result S E → (S → Result T E) → Result T E

@@ -3,7 +3,8 @@ use Rattle.std.proofs.lemmas.Result.{err_from_is_err_and}
 use Rattle.p9_tree.specs.Change.{changed}
 use Rattle.p9_tree.specs.Node.{Node, IsTellable}
 use Rattle.p9_tree.specs.Server.{Server, node_at, with_nodes}
-use Rattle.p9_tree.proofs.Lookups.{absent-changed_at, exists-position, node_at-position, set-changed_at}
+use Rattle.p9_tree.proofs.Lookups.{absent-changed_at, exists-position, node_at-position}
+use Rattle.p9_tree.proofs.Lookups.{set-changed_at}
 use Rattle.p9_tree.proofs.Changed.{WellFormed-set_apart, WellFormed-set_same, both_done}
 use Rattle.p9_tree.proofs.Changed.{both_or_kept}
 use Rattle.p9_tree.proofs.Renewed.{apart-changed, keeps-changed, named, sound-changed}
