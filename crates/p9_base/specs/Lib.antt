@@ -7,7 +7,8 @@ pub mod Fault
 pub mod Mode
 pub mod Rights
 pub mod NodeRef
+pub mod Variable
 pub mod Line
 pub mod Decimal
 pub mod Statement
-pub mod TryFold
+pub mod Results

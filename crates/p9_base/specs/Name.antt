@@ -4,8 +4,15 @@ use Rattle.std.specs.List.{list_any}
 use Rattle.std.specs.Str.{bytes_eq}
 use Rattle.p9_base.specs.Text.{is_text}
 
+-- the byte '/', which stands between the names of a path
+abbrev pub slash : ℕ
+slash = 47
+
+abbrev pub is_slash : ℕ → Bool
+is_slash b = b == slash
+
 -- 1 to 255 bytes of text, without '/', and neither "." nor ".."
 abbrev pub is_name : List ℕ → Bool
 is_name s =
-    nat_le 1 (length s) && nat_le (length s) 255 && is_text s && not (list_any (λ b. b == 47) s)
+    nat_le 1 (length s) && nat_le (length s) 255 && is_text s && not (list_any is_slash s)
     && not (bytes_eq s (codes ".") || bytes_eq s (codes ".."))

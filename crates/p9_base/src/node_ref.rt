@@ -1,5 +1,8 @@
 //! Which file of which server.
 
+ghost use Rattle.std.specs.Prelude.{◌≡◌};
+ghost use Rattle.p9_base.specs.NodeRef.{beside};
+
 /// A file or directory, by its server's number and its own number there.
 ///
 /// The order is by server, then number. A number is never given twice, so a reference to a file
@@ -10,4 +13,16 @@ pub struct NodeRef {
     pub server: u16,
     /// The file's number at its server: 0 for the root, below 2^48.
     pub number: u64,
+}
+
+impl NodeRef {
+    /// The file of this number at the same server.
+    pub fn beside(self, number: u64) -> NodeRef
+        ensures { result ≡ beside self number }
+    {
+        NodeRef {
+            server: self.server,
+            number,
+        }
+    }
 }

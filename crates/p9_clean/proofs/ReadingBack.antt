@@ -6,7 +6,8 @@ use Rattle.std.specs.List.{All, slice_split, onto_first, join_with_byte}
 use Rattle.std.proofs.lemmas.Bool.{false≢true}
 use Rattle.std.proofs.lemmas.List.Elements.{All-nil, All-cons}
 use Rattle.std.proofs.lemmas.List.Splits.{slice_split_none, slice_split_at}
-use Rattle.p9_clean.specs.Path.{slash, is_rooted, words_of, is_dot_dot, is_element, elements_of}
+use Rattle.p9_base.specs.Name.{slash}
+use Rattle.p9_clean.specs.Path.{is_rooted, words_of, is_dot_dot, is_element, elements_of}
 use Rattle.p9_clean.specs.Path.{in_front, reduced, below_root, shortened, path_of, cleaned_elements}
 use Rattle.p9_clean.specs.Path.{cleaned}
 use Rattle.p9_clean.proofs.RuleLemmas.{left_of-left_of}

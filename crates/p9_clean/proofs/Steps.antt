@@ -6,7 +6,8 @@ use Rattle.std.specs.List.{slice_get, join_with_byte}
 use Rattle.std.proofs.lemmas.List.{take_more, map-append}
 use Rattle.std.proofs.lemmas.Bool.{not-true, not-false}
 use Rattle.std.proofs.lemmas.Option.{slice_get-get_or}
-use Rattle.p9_clean.specs.Path.{slash, is_dot_dot, shortened}
+use Rattle.p9_base.specs.Name.{slash}
+use Rattle.p9_clean.specs.Path.{is_dot_dot, shortened}
 use Rattle.p9_clean.proofs.Joined.{join_with_byte-append}
 use Rattle.p9_clean.proofs.Reduction.{left_with, shortened-append, left_with-name}
 use Rattle.p9_clean.proofs.Reduction.{left_with-taken_back, left_with-behind, left_with-at_root}

@@ -3,14 +3,11 @@ use Rattle.std.specs.Prelude.{ℕ, ◌==◌, ◌&&◌, Bool, true, false, not, n
 use Rattle.std.specs.Prelude.{filter, codes, if◌then◌else◌}
 use Rattle.std.specs.List.{slice_split, join_with_byte}
 use Rattle.std.specs.Str.{bytes_eq}
+use Rattle.p9_base.specs.Name.{is_slash, slash}
 
 -- the bytes of what stands between two slashes
 abbrev pub Word : Type 0
 Word = List ℕ
-
--- the byte '/'
-abbrev pub slash : ℕ
-slash = 47
 
 -- a path is rooted where it begins with a slash
 abbrev pub is_rooted : List ℕ → Bool
@@ -19,7 +16,7 @@ is_rooted (b ∷ bs) = b == slash
 
 -- what stands between the slashes of a path
 abbrev pub words_of : List ℕ → List Word
-words_of path = slice_split (λ b. b == slash) path
+words_of path = slice_split is_slash path
 
 abbrev pub is_dot : Word → Bool
 is_dot word = bytes_eq word (codes ".")

@@ -21,7 +21,7 @@ use Rattle.p9_base.specs.declared.fault.Fault.TheVariants.{IsRoot, FixedField, T
 use Rattle.p9_base.specs.declared.fault.Fault.TheVariants.{QidsUsedUp, OutOfMemory, PathTooDeep}
 use Rattle.p9_base.specs.Fault.{text_of}
 use Rattle.p9_base.proofs.Faults.{fault_text_is_text}
-use Rattle.p9_base.specs.TryFold.{and_then}
+use Rattle.p9_base.specs.Results.{and_then}
 use Rattle.p9_wire.specs.Fields.{FitsText}
 use Rattle.p9_wire.specs.Laws.{IsBytes}
 use Rattle.p9_wire.specs.Frame.{msize_max}

@@ -8,8 +8,8 @@ use Rattle.p9_base.specs.declared.fault.Fault.TheVariants.{PermissionDenied, Qid
 use Rattle.p9_base.specs.declared.mode.Mode.{Mode}
 use Rattle.p9_base.specs.declared.node_ref.NodeRef.{NodeRef}
 use Rattle.p9_base.specs.declared.qid.Qid.{Qid}
+use Rattle.p9_base.specs.NodeRef.{beside}
 use Rattle.p9_tree.specs.declared.new.New.{New}
-use Rattle.p9_tree.specs.Inside.{beside}
 use Rattle.p9_tree.specs.New.{new_node}
 use Rattle.p9_tree.specs.Node.{Node, is_dir, marked}
 use Rattle.p9_tree.specs.Server.{CanAdd, Server, added, next_max}

@@ -10,8 +10,7 @@ use Rattle.std.proofs.lemmas.Bool.Decides.{nat_tests}
 use Rattle.p9_base.specs.declared.mode.Mode.{Mode}
 use Rattle.p9_base.specs.declared.node_ref.NodeRef.{NodeRef}
 use Rattle.p9_base.specs.Mode.{is_dir as is_dir_mode}
-use Rattle.p9_base.specs.NodeRef.{same_node}
-use Rattle.p9_tree.specs.Inside.{beside}
+use Rattle.p9_base.specs.NodeRef.{same_node, beside}
 use Rattle.p9_tree.specs.Node.{Node, has_number, is_dir}
 use Rattle.p9_tree.specs.Server.{Server, added, node_at}
 use Rattle.p9_tree.specs.Forest.{IsForest, next_of, no_server, node_of, server_at}

@@ -14,10 +14,10 @@ use Rattle.std.proofs.lemmas.List.Elements.{All-nil, All-head, All-tail, All-app
 use Rattle.std.proofs.lemmas.List.Elements.{All-filter, All-weaker, filter-append}
 use Rattle.std.proofs.lemmas.List.Kept.{AllPairs-filter}
 use Rattle.p9_base.specs.declared.node_ref.NodeRef.{NodeRef}
+use Rattle.p9_base.specs.NodeRef.{beside}
 use Rattle.p9_tree.specs.Bytes.{put_front}
 use Rattle.p9_tree.specs.Node.{Node, is_in, is_above}
 use Rattle.p9_tree.specs.Server.{Server}
-use Rattle.p9_tree.specs.Inside.{beside}
 use Rattle.p9_tree.specs.Forest.{IsForest, child_in_after, no_server, server_at}
 use Rattle.p9_space.specs.declared.row.Member.{Member}
 use Rattle.p9_fids.specs.declared.opened.Cursor.{Cursor}

@@ -14,8 +14,8 @@ use Rattle.p9_base.specs.declared.mode.Mode.{Mode}
 use Rattle.p9_base.specs.declared.node_ref.NodeRef.{NodeRef}
 use Rattle.p9_base.specs.Mode.{is_dir as is_dir_mode, mode_of}
 use Rattle.p9_base.specs.Name.{is_name}
+use Rattle.p9_base.specs.NodeRef.{beside}
 use Rattle.p9_tree.specs.Change.{CanChange, CanChangeNode, changed}
-use Rattle.p9_tree.specs.Inside.{beside}
 use Rattle.p9_tree.specs.Node.{Node, is_dir}
 use Rattle.p9_tree.specs.Server.{Server}
 use Rattle.p9_tree.specs.Forest.{IsForest, child_in, forest_changed_at, node_of, server_at}

@@ -5,16 +5,12 @@ use Rattle.p9_base.specs.declared.node_ref.NodeRef.{NodeRef}
 use Rattle.p9_base.specs.declared.fault.Fault.TheVariants.{NoAuthentication, UnknownUser}
 use Rattle.p9_base.specs.declared.fault.Fault.TheVariants.{UnknownAttachName, PhaseError}
 use Rattle.p9_tree.specs.Server.{Server}
-use Rattle.p9_space.specs.Place.{file_of, file_ref}
+use Rattle.p9_space.specs.Place.{file_of, file_ref, root_place}
 use Rattle.p9_wire.specs.Message.{Rattach}
 use Rattle.p9_fids.specs.Fid.{put_fault, with_fid, nofid}
 use Rattle.p9_export.specs.State.{Setting, Session}
 use Rattle.p9_export.specs.Answer.{Answer, need, given, unless}
 use Rattle.p9_export.specs.Qid.{qid_of}
-
--- the root of server 0
-abbrev pub root_place : NodeRef
-root_place = record { server = 0; number = 0 }
 
 -- the listed user of the name
 abbrev pub listed_user : List ℕ → List (List ℕ) → Option (List ℕ)

@@ -16,11 +16,11 @@ use Rattle.p9_base.specs.declared.node_ref.NodeRef.{NodeRef}
 use Rattle.p9_base.specs.declared.qid.Qid.{Qid}
 use Rattle.p9_base.specs.Mode.{is_dir as is_dir_mode, mode_of}
 use Rattle.p9_base.specs.Name.{is_name}
-use Rattle.p9_base.specs.TryFold.{and_then}
+use Rattle.p9_base.specs.Results.{and_then}
+use Rattle.p9_base.specs.NodeRef.{beside}
 use Rattle.p9_tree.specs.Node.{Node, is_dir}
 use Rattle.p9_tree.specs.Server.{Server, next_max}
 use Rattle.p9_tree.specs.Forest.{child_in, next_of, node_of}
-use Rattle.p9_tree.specs.Inside.{beside}
 use Rattle.p9_space.specs.declared.row.Member.{Member}
 use Rattle.p9_space.specs.Rights.{may, to_write}
 use Rattle.p9_space.specs.Table.{members_of}

@@ -5,10 +5,10 @@ use Rattle.std.specs.List.{flat_map}
 use Rattle.p9_base.specs.declared.fault.Fault.TheVariants.{BadDirectoryOffset, FidNotOpen}
 use Rattle.p9_base.specs.declared.fault.Fault.TheVariants.{PhaseError, SmallReadCount, UnknownFid}
 use Rattle.p9_base.specs.declared.node_ref.NodeRef.{NodeRef}
+use Rattle.p9_base.specs.NodeRef.{beside}
 use Rattle.p9_tree.specs.Bytes.{read_from}
 use Rattle.p9_tree.specs.Node.{Node, is_dir}
 use Rattle.p9_tree.specs.Server.{Server}
-use Rattle.p9_tree.specs.Inside.{beside}
 use Rattle.p9_space.specs.Trail.{here}
 use Rattle.p9_wire.specs.Fields.{stat_bytes}
 use Rattle.p9_wire.specs.Message.{Rread}

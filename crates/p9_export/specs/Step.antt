@@ -8,7 +8,7 @@ use Rattle.p9_base.specs.declared.fault.Fault.TheVariants.{Malformed, NoAuthenti
 use Rattle.p9_base.specs.declared.fault.Fault.TheVariants.{VersionNotSet}
 use Rattle.p9_base.specs.declared.fault.Fault.{Fault}
 use Rattle.p9_base.specs.Fault.{text_of}
-use Rattle.p9_base.specs.TryFold.{and_then}
+use Rattle.p9_base.specs.Results.{and_then}
 use Rattle.p9_tree.specs.Server.{Server}
 use Rattle.p9_wire.specs.Message.{TMessage, Tversion, Tauth, Tattach, Tflush, Twalk, Topen, Tcreate}
 use Rattle.p9_wire.specs.Message.{Tread, Twrite, Tclunk, Tremove, Tstat, Twstat, Rerror, Rflush}

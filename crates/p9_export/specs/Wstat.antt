@@ -13,10 +13,10 @@ use Rattle.p9_base.specs.declared.node_ref.NodeRef.{NodeRef}
 use Rattle.p9_base.specs.declared.qid.Qid.{Qid}
 use Rattle.p9_base.specs.Mode.{is_dir as is_dir_mode, mode_of}
 use Rattle.p9_base.specs.Name.{is_name}
+use Rattle.p9_base.specs.NodeRef.{beside}
 use Rattle.p9_tree.specs.Node.{Node, is_dir}
 use Rattle.p9_tree.specs.Server.{Server}
 use Rattle.p9_tree.specs.Forest.{child_in}
-use Rattle.p9_tree.specs.Inside.{beside}
 use Rattle.p9_tree.specs.declared.change.Change.{Change as NodeChange}
 use Rattle.p9_space.specs.Rights.{may, rules, to_write}
 use Rattle.p9_wire.specs.Message.{Rwstat, StatFields}

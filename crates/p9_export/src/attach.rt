@@ -12,14 +12,8 @@ use crate::session::Session;
 use crate::setting::Setting;
 use p9_base::{Fault, NOFID, NodeRef, Qid, User};
 use p9_fids::Fid;
-use p9_space::Trail;
+use p9_space::{ROOT_PLACE, Trail};
 use p9_tree::{Forest, Tree};
-
-/// Where a fid is attached: the root of server 0.
-const ROOT_PLACE: NodeRef = NodeRef {
-    server: 0,
-    number: 0,
-};
 
 /// Makes a fid for the root of the name space, held by a listed user.
 ///

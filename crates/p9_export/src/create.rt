@@ -5,7 +5,7 @@ ghost use Rattle.std.specs.Prelude.{length, map};
 ghost use Rattle.std.specs.List.{list_any};
 ghost use Rattle.std.specs.Option.{option_copied};
 ghost use Rattle.p9_tree.specs.Forest.{forest_changed_at, next_of, server_at, tree_changed_at};
-ghost use Rattle.p9_tree.specs.Inside.{beside};
+ghost use Rattle.p9_base.specs.NodeRef.{beside};
 ghost use Rattle.p9_tree.specs.New.{new_node};
 ghost use Rattle.p9_tree.specs.Node.{marked};
 ghost use Rattle.p9_tree.specs.Server.{CanAdd, added};
@@ -164,10 +164,7 @@ fn create_in<T: Tree>(
         return Err(fault);
     }
     let new = new_in(dir, name, asked, holder.user, now);
-    let place = NodeRef {
-        server: target.server,
-        number: forest.next_of(target.server),
-    };
+    let place = target.beside(forest.next_of(target.server));
     let trail = trail_to(&holder.trail, place)?;
     let qid = add_to(forest, target, &new)?;
     enter(session, fid, trail, opening);

@@ -61,14 +61,7 @@ pub fn mark_parent<T: Tree>(
         map T.state forest.new.trees.items ≡ all_applied (parent_marked user now at parent) old }
 {
     if let Some(number) = parent {
-        forest.bump(
-            NodeRef {
-                server: at.server,
-                number,
-            },
-            user,
-            now,
-        );
+        forest.bump(at.beside(number), user, now);
     }
 }
 

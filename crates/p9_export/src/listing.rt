@@ -123,10 +123,7 @@ fn give<T: Tree>(
         members.now)))) buffer.old }
 {
     let entry = first_left(forest, members, user, cursor)?;
-    let at = NodeRef {
-        server: entry.member.server,
-        number: entry.node.number(),
-    };
+    let at = entry.member.beside(entry.node.number());
     if stat_size(at, entry.node) > buffer.len() {
         return None;
     }

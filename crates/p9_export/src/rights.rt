@@ -28,14 +28,7 @@ pub fn may_write_parent<T: Tree>(
     ensures { result ≡ may_write_parent user.now (map T.state forest.now.trees.items) at file.now }
 {
     match file.parent() {
-        Some(number) => may_write(
-            user,
-            forest,
-            NodeRef {
-                server: at.server,
-                number,
-            },
-        ),
+        Some(number) => may_write(user, forest, at.beside(number)),
         None => false,
     }
 }

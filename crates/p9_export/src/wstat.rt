@@ -248,11 +248,7 @@ fn has_sibling<T: Tree>(forest: &Forest<T>, at: NodeRef, file: &Node<T::Alloc>, 
     let Some(number) = file.parent() else {
         return false;
     };
-    let dir = NodeRef {
-        server: at.server,
-        number,
-    };
-    forest.child(dir, name).is_some()
+    forest.child(at.beside(number), name).is_some()
 }
 
 fn length_fault<A: Allocator>(user: &User, file: &Node<A>, length: Option<u64>) -> Option<Fault>

@@ -2,6 +2,7 @@
 use Rattle.std.specs.Prelude.{◌≡◌, ◌<◌, ℕ, List, Some, IsTrue, IsFalse}
 use Rattle.p9_base.specs.declared.mode.Permissions.{Permissions}
 use Rattle.p9_base.specs.declared.node_ref.NodeRef.{NodeRef}
+use Rattle.p9_base.specs.NodeRef.{beside}
 use Rattle.p9_tree.specs.Bytes.{cut_to, overwritten}
 use Rattle.p9_tree.specs.Change.{changed}
 use Rattle.p9_tree.specs.declared.change.Change.{Change}
@@ -10,7 +11,7 @@ use Rattle.p9_tree.specs.New.{new_node}
 use Rattle.p9_tree.specs.Node.{Node, marked, touched, with_owner, with_bytes}
 use Rattle.p9_tree.specs.Server.{Server, WellFormed, added, with_changed, with_dropped}
 use Rattle.p9_tree.specs.Forest.{IsForest, forest_changed_at, is_dir_of, next_of, tree_changed_at}
-use Rattle.p9_tree.specs.Inside.{beside, inner_nodes, is_among, is_barred_at, is_inside_at}
+use Rattle.p9_tree.specs.Inside.{inner_nodes, is_among, is_barred_at, is_inside_at}
 use Rattle.p9_tree.specs.Inside.{outer_server, is_hidden, is_barred, is_inside, inner, outer}
 
 -- the change of a node leaves it where it stands

@@ -3,10 +3,11 @@ use Rattle.std.specs.Prelude.{◌≡◌, ◌≢◌, ◌||◌, ◌↔◌, ◌<◌
 use Rattle.std.specs.Prelude.{if◌then◌else◌, slice_get, unwrap_or}
 use Rattle.std.specs.Option.{option_map_or}
 use Rattle.p9_base.specs.declared.node_ref.NodeRef.{NodeRef}
+use Rattle.p9_base.specs.NodeRef.{beside}
 use Rattle.p9_tree.specs.Node.{Node}
 use Rattle.p9_tree.specs.Server.{Server, WellFormed, node_at}
 use Rattle.p9_tree.specs.Forest.{IsForest, node_of, server_at}
-use Rattle.p9_tree.specs.Inside.{IsInside, IsInsideAny, beside, hidden_on, is_inner, is_among}
+use Rattle.p9_tree.specs.Inside.{IsInside, IsInsideAny, hidden_on, is_inner, is_among}
 use Rattle.p9_tree.specs.Inside.{barred_from, is_barred_at, is_inside_at, inner_nodes, outer_nodes}
 use Rattle.p9_tree.specs.Inside.{outer_server, is_hidden, is_barred, is_inside, inner, outer}
 

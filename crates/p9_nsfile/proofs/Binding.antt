@@ -2,7 +2,7 @@
 use Rattle.std.proofs.Common.{◌≡◌, ℕ, Bool, false, List, Option, Ok, Err, sym, ap, ◌∙◌}
 use Rattle.std.specs.Prelude.{if◌then◌else◌}
 use Rattle.p9_base.specs.declared.node_ref.NodeRef.{NodeRef}
-use Rattle.p9_base.specs.TryFold.{and_then}
+use Rattle.p9_base.specs.Results.{and_then}
 use Rattle.p9_nsfile.specs.declared.fault.OpFault.TheVariants.{SpecGiven}
 use Rattle.p9_nsfile.specs.declared.flags.Flags.{Flags}
 use Rattle.p9_nsfile.specs.Bind.{has_spec, mounted_by, root_mounted}

@@ -13,11 +13,13 @@ use Rattle.std.proofs.Math.Nat.{min_comm}
 use Rattle.p9_base.specs.declared.node_ref.NodeRef.{NodeRef}
 use Rattle.p9_base.specs.declared.fault.Fault.{Fault}
 use Rattle.p9_base.specs.declared.fault.Fault.TheVariants.{OutOfMemory}
-use Rattle.p9_base.specs.TryFold.{and_then}
+use Rattle.p9_base.specs.Name.{is_slash, slash}
+use Rattle.p9_base.proofs.Views.{position-map}
+use Rattle.p9_base.specs.Results.{and_then}
 use Rattle.p9_tree.specs.Server.{Server}
 use Rattle.p9_space.specs.Table.{MountRow}
 use Rattle.p9_space.specs.Walk.{walk}
-use Rattle.p9_clean.specs.Path.{cleaned, cleaned_elements, elements_of, slash}
+use Rattle.p9_clean.specs.Path.{cleaned, cleaned_elements, elements_of}
 use Rattle.p9_clean.proofs.ReadingBack.{elements_of-cleaned}
 use Rattle.p9_nsfile.specs.declared.fault.OpFault.{OpFault}
 use Rattle.p9_nsfile.specs.declared.fault.OpFault.TheVariants.{Path, UnknownServer}
@@ -26,8 +28,6 @@ use Rattle.p9_nsfile.specs.declared.setting.TheConstants.{SERVERS_MAX}
 use Rattle.p9_nsfile.specs.Answer.{Gives, is_memory, walk_stop}
 use Rattle.p9_nsfile.specs.Find.{behind_hash, found_on_server, path_fault, server_root, walked}
 use Rattle.p9_nsfile.specs.Space.{Setting, Space}
-use Rattle.p9_nsfile.specs.Variable.{is_slash}
-use Rattle.p9_nsfile.proofs.Words.{position-map}
 
 -- a walk along the elements of a cleaned path
 pub walk-cleaned : (forest : List Server) (table : List MountRow) (start : List NodeRef)

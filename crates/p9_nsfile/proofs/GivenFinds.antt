@@ -11,14 +11,15 @@ use Rattle.std.proofs.lemmas.Bool.{lt-ltb}
 use Rattle.std.proofs.lemmas.Bool.Decides.{nat_tests}
 use Rattle.p9_base.specs.declared.fault.Fault.{Fault}
 use Rattle.p9_base.specs.declared.node_ref.NodeRef.{NodeRef}
-use Rattle.p9_base.specs.TryFold.{and_then}
-use Rattle.p9_clean.specs.Path.{cleaned_elements, is_rooted, slash}
+use Rattle.p9_base.specs.Results.{and_then}
+use Rattle.p9_base.specs.Name.{slash, is_slash}
+use Rattle.p9_clean.specs.Path.{cleaned_elements, is_rooted}
 use Rattle.p9_tree.specs.Node.{Node, is_dir}
 use Rattle.p9_tree.specs.Server.{Server, node_at}
 use Rattle.p9_tree.specs.Forest.{IsForest, no_server}
 use Rattle.p9_tree.proofs.Lookups.{All-node_at, number-node_at}
 use Rattle.p9_space.specs.Given.{is_given, is_table_given}
-use Rattle.p9_space.specs.Place.{file_ref}
+use Rattle.p9_space.specs.Place.{file_ref, root_place}
 use Rattle.p9_space.specs.Trail.{here}
 use Rattle.p9_space.specs.Walk.{walk}
 use Rattle.p9_space.proofs.GivenTables.{file-given}
@@ -28,8 +29,8 @@ use Rattle.p9_nsfile.specs.declared.setting.TheConstants.{SERVERS_MAX}
 use Rattle.p9_nsfile.specs.Find.{behind_hash, found, found_at, found_file, found_from}
 use Rattle.p9_nsfile.specs.Find.{found_on_server, path_fault, server_root, walked}
 use Rattle.p9_nsfile.specs.Flags.{Word}
-use Rattle.p9_nsfile.specs.Space.{Setting, Space, root_place}
-use Rattle.p9_nsfile.specs.Variable.{expanded, is_slash}
+use Rattle.p9_nsfile.specs.Space.{Setting, Space}
+use Rattle.p9_nsfile.specs.Variable.{expanded}
 
 -- what comes of a value of which something holds
 pub holds-then : {X Y E : Type 0} (P : X → Type 0) (Q : Y → Type 0) (r : Result X E)

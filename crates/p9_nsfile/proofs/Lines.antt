@@ -1,8 +1,8 @@
 -- A line of bad form ends a text.
 use Rattle.std.proofs.Common.{◌≡◌, ℕ, ◌<◌, List, [], ◌∷◌, ◌++◌, length, get_or, drop, map, Result}
 use Rattle.std.proofs.Common.{Ok, sym, ap, ◌∙◌}
-use Rattle.p9_base.specs.TryFold.{and_then, try_fold}
-use Rattle.p9_base.proofs.TryFold.{try_fold-err}
+use Rattle.p9_base.specs.Results.{and_then, try_fold}
+use Rattle.p9_base.proofs.Results.{try_fold-err}
 use Rattle.p9_nsfile.specs.declared.error.NsError.{NsError}
 use Rattle.p9_nsfile.specs.declared.error.NsError.TheVariants.{BadLine, NoMemory}
 use Rattle.p9_nsfile.specs.Flags.{Word}

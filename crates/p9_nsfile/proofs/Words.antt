@@ -9,31 +9,12 @@ use Rattle.std.specs.Result.{IfErr, IsErrAnd}
 use Rattle.std.specs.List.{flat_map, list_any, position_or_len, prefix_len}
 use Rattle.std.specs.Str.{bytes_eq}
 use Rattle.std.specs.declared.string.String.{String}
+use Rattle.p9_base.specs.Variable.{variables_of}
+use Rattle.p9_base.proofs.Views.{find-map}
 use Rattle.p9_nsfile.specs.declared.flags.Flags.{Flags}
 use Rattle.p9_nsfile.specs.Flags.{Word, flags_of, is_flag}
 use Rattle.p9_nsfile.specs.Operation.{Form, behind_flags, leading_flags}
-use Rattle.p9_nsfile.specs.Space.{variables_of}
 use Rattle.p9_nsfile.specs.Variable.{value_of}
-
-module _ {X Y : Type 0} (view : X → Y) (test : Y → Bool) where
-  pub list_any-map : (xs : List X) → list_any (λ x. test (view x)) xs ≡ list_any test (map view xs)
-  list_any-map [] = refl
-  list_any-map (x ∷ xs) = ap (λ b. test (view x) || b) (list_any-map xs)
-
-  pub prefix_len-map : (xs : List X)
-      → prefix_len (λ x. test (view x)) xs ≡ prefix_len test (map view xs)
-  prefix_len-map [] = refl
-  prefix_len-map (x ∷ xs) = ap (λ n. cond (test (view x)) (1 + n) 0) (prefix_len-map xs)
-
-  pub find-map : (xs : List X)
-      → option_map view (find (λ x. test (view x)) xs) ≡ find test (map view xs)
-  find-map [] = refl
-  find-map (x ∷ xs) = found (test (view x)) (find-map xs) where
-    found : (b : Bool) → option_map view (find (λ x. test (view x)) xs) ≡ find test (map view xs)
-        → option_map view (cond b (Some x) (find (λ x. test (view x)) xs))
-        ≡ cond b (Some (view x)) (find test (map view xs))
-    found true same = refl
-    found false same = same
 
 -- the value of a variable, from the texts of the code
 pub value_of-texts : {A : Type 0} (vars : List (String A × String A)) (name : List ℕ)
@@ -83,11 +64,3 @@ pub IfErr-same : {T E : Type 0} (r : Result T E) (x : E) (P : E → Type 0) → 
     → P x → IfErr r P
 IfErr-same (Ok value) x P is holds = tt
 IfErr-same (Err e) x P is holds = subst P (sym is) holds
-
--- the first place that passes
-pub position-map : {X Y : Type 0} (view : X → Y) (test : Y → Bool) (xs : List X)
-    → position (λ x. test (view x)) xs ≡ position test (map view xs)
-position-map view test xs =
-    let place : position_or_len (λ x. test (view x)) xs ≡ position_or_len test (map view xs) =
-    prefix_len-map view (λ y. not (test y)) xs in
-    rw (place, length-map xs view) refl

@@ -3,7 +3,7 @@ use Rattle.std.specs.Prelude.{◌&&◌, Bool, true, false, not, nat_lt, List, []
 use Rattle.std.specs.Prelude.{Option, Some, None, Result, Ok, Err, if◌then◌else◌}
 use Rattle.std.specs.Option.{option_map_or}
 use Rattle.p9_base.specs.declared.node_ref.NodeRef.{NodeRef}
-use Rattle.p9_base.specs.TryFold.{and_then}
+use Rattle.p9_base.specs.Results.{and_then}
 use Rattle.p9_tree.specs.Server.{Server}
 use Rattle.p9_tree.specs.Forest.{is_dir_of}
 use Rattle.p9_space.specs.declared.row.Order.{Order}

@@ -1,30 +1,28 @@
 -- The file that a word of a namespace file names.
-use Rattle.std.specs.Prelude.{ℕ, ◌^◌, ◌==◌, List, [], ◌∷◌, Option, Some, None, Result, Ok, Err}
+use Rattle.std.specs.Prelude.{ℕ, ◌==◌, List, [], ◌∷◌, Option, Some, None, Result, Ok, Err}
 use Rattle.std.specs.Prelude.{take, position, if◌then◌else◌}
 use Rattle.std.specs.Option.{option_map_or}
 use Rattle.std.specs.List.{before_first, after_first}
 use Rattle.std.specs.Str.{bytes_eq}
 use Rattle.p9_base.specs.declared.node_ref.NodeRef.{NodeRef}
 use Rattle.p9_base.specs.declared.fault.Fault.{Fault}
-use Rattle.p9_base.specs.TryFold.{and_then}
-use Rattle.p9_clean.specs.Path.{cleaned_elements, is_rooted, slash}
-use Rattle.p9_space.specs.Place.{file_ref}
+use Rattle.p9_base.specs.Name.{is_slash, slash}
+use Rattle.p9_base.specs.NodeRef.{servers_max}
+use Rattle.p9_base.specs.Results.{and_then}
+use Rattle.p9_clean.specs.Path.{cleaned_elements, is_rooted}
+use Rattle.p9_space.specs.Place.{file_ref, root_place}
 use Rattle.p9_space.specs.Trail.{here}
 use Rattle.p9_space.specs.Walk.{walk}
 use Rattle.p9_nsfile.specs.declared.fault.OpFault.{OpFault}
 use Rattle.p9_nsfile.specs.declared.fault.OpFault.TheVariants.{Path, UnknownServer}
 use Rattle.p9_nsfile.specs.Flags.{Word}
-use Rattle.p9_nsfile.specs.Space.{Setting, Space, root_place}
-use Rattle.p9_nsfile.specs.Variable.{expanded, is_slash}
+use Rattle.p9_nsfile.specs.Space.{Setting, Space}
+use Rattle.p9_nsfile.specs.Variable.{expanded}
 
 -- a walk's fault is the path's
 abbrev pub path_fault : {X : Type 0} → Result X Fault → Result X OpFault
 path_fault (Ok value) = Ok value
 path_fault (Err fault) = Err (Path fault)
-
--- a server's number has 16 bits
-abbrev pub servers_max : ℕ
-servers_max = 2 ^ 16
 
 -- the root of the server of this name
 abbrev pub server_root : List (List ℕ) → Word → Result NodeRef OpFault

@@ -1,7 +1,7 @@
 -- The lines of a namespace file, or the first of bad form.
 use Rattle.std.specs.Prelude.{◌≡◌, ℕ, List, [], ◌∷◌, ◌++◌, Result, Ok, Err}
 use Rattle.p9_base.specs.Statement.{statements_of}
-use Rattle.p9_base.specs.TryFold.{and_then, try_fold}
+use Rattle.p9_base.specs.Results.{and_then, try_fold}
 use Rattle.p9_nsfile.specs.declared.error.BadForm.{BadForm}
 use Rattle.p9_nsfile.specs.declared.error.NsError.{NsError}
 use Rattle.p9_nsfile.specs.declared.error.NsError.TheVariants.{BadLine, NoMemory}

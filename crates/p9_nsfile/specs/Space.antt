@@ -2,13 +2,11 @@
 use Rattle.std.specs.Prelude.{ℕ, List, [], ◌∷◌, map, string_bytes}
 use Rattle.std.specs.declared.string.String.{String}
 use Rattle.p9_base.specs.declared.node_ref.NodeRef.{NodeRef}
+use Rattle.p9_base.specs.Variable.{Variable, variables_of}
 use Rattle.p9_tree.specs.Server.{Server}
+use Rattle.p9_space.specs.Place.{root_place}
 use Rattle.p9_space.specs.Table.{MountRow}
 use Rattle.p9_nsfile.specs.declared.fault.OpFault.{OpFault}
-
--- a name and its value
-abbrev pub Variable : Type 0
-Variable = List ℕ × List ℕ
 
 -- what no operation changes: the trees, the variables, and the servers' names by number
 pub record Setting : Type 0 where
@@ -26,17 +24,9 @@ pub record Space : Type 0 where
   pub current : List NodeRef
   pub reports : List Report
 
--- the root of server 0
-abbrev pub root_place : NodeRef
-root_place = record { server = 0; number = 0 }
-
 -- a file begins at the root place, with nothing reported
 abbrev pub beginning : List MountRow → Space
 beginning table = record { table = table; current = root_place ∷ []; reports = [] }
-
--- the variables, from the code's texts
-abbrev pub variables_of : {A : Type 0} → List (String A × String A) → List Variable
-variables_of vars = map (λ var. (string_bytes var.0, string_bytes var.1)) vars
 
 -- a setting of the code, as it is seen
 abbrev pub setting_value : {T A : Type 0} → (T → Server) → List T → List (String A × String A)

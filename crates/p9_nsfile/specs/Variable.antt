@@ -3,16 +3,13 @@ use Rattle.std.specs.Prelude.{ℕ, ◌==◌, Bool, List, [], ◌∷◌, ◌++◌
 use Rattle.std.specs.Option.{option_map_or}
 use Rattle.std.specs.List.{before_first, flat_map, position_or_len, slice_split}
 use Rattle.std.specs.Str.{bytes_eq}
+use Rattle.p9_base.specs.Name.{is_slash}
+use Rattle.p9_base.specs.Variable.{Variable}
 use Rattle.p9_nsfile.specs.Flags.{Word}
-use Rattle.p9_nsfile.specs.Space.{Variable}
 
 -- the byte '$'
 abbrev pub dollar : ℕ
 dollar = 36
-
--- the byte '/'
-abbrev pub is_slash : ℕ → Bool
-is_slash b = b == 47
 
 -- the value of the first variable of the name; nothing where there is none
 abbrev pub value_of : List Variable → Word → Word

@@ -3,18 +3,17 @@
 ghost use Rattle.std.specs.Prelude.{◌≡◌, ◌∷◌, [], IfOk, string_bytes};
 ghost use Rattle.std.specs.List.{after_first, before_first};
 ghost use Rattle.std.specs.Option.{option_copied};
-ghost use Rattle.p9_clean.specs.Path.{slash};
+ghost use Rattle.p9_base.specs.Name.{slash, is_slash};
 ghost use Rattle.p9_nsfile.specs.Answer.{Gives};
 ghost use Rattle.p9_nsfile.specs.Find.{behind_hash, found, found_at, found_file, found_from};
 ghost use Rattle.p9_nsfile.specs.Find.{found_on_server, walked};
-ghost use Rattle.p9_nsfile.specs.Variable.{is_slash};
 
 use crate::fault::Stop;
 use crate::setting::Setting;
-use crate::space::{ROOT_PLACE, Space};
+use crate::space::Space;
 use p9_base::{NoMemory, NodeRef};
 use p9_clean::{clean, elements};
-use p9_space::Trail;
+use p9_space::{ROOT_PLACE, Trail};
 use p9_tree::Tree;
 use std::alloc::Allocator;
 

@@ -10,15 +10,9 @@ ghost use Rattle.p9_nsfile.specs.Bind.{member_nodes, taken_away, unmount_fault, 
 use crate::fault::{OpFault, Stop};
 use crate::flags::Flags;
 use p9_base::{NoMemory, NodeRef};
-use p9_space::{Member, MountTable, Trail, UnmountError};
+use p9_space::{Member, MountTable, ROOT_PLACE, Trail, UnmountError};
 use std::alloc::Allocator;
 use std::marker::Model;
-
-/// Where a path that begins with `/` starts, and the first current directory: the root of server 0.
-pub(crate) const ROOT_PLACE: NodeRef = NodeRef {
-    server: 0,
-    number: 0,
-};
 
 /// The mount table and the current directory, with the reports of what failed so far: the line and
 /// the fault.

@@ -4,7 +4,7 @@ ghost use Rattle.std.specs.Prelude.{◌≡◌, ◌==◌, IfOk, OnOk, ◌++◌, f
 ghost use Rattle.std.specs.List.{slice_split};
 ghost use Rattle.std.specs.Option.{option_copied};
 ghost use Rattle.std.specs.Str.{bytes_eq};
-ghost use Rattle.p9_nsfile.specs.Space.{variables_of};
+ghost use Rattle.p9_base.specs.Variable.{variables_of};
 ghost use Rattle.p9_nsfile.specs.Variable.{dollar, expanded, value_of, with_value};
 
 use p9_base::NoMemory;

@@ -3,8 +3,8 @@ use Rattle.std.proofs.Common.{◌≡◌, ℕ, ◌+◌, ◌<◌, ◌≤◌, Bor, 
 use Rattle.std.proofs.Common.{Result, Ok, refl, sym, ap, ◌∙◌, arith}
 use Rattle.std.specs.List.{enumerate_from}
 use Rattle.std.proofs.lemmas.List.FromFn.{length-enumerate_from, get_or-enumerate_from}
-use Rattle.p9_base.specs.TryFold.{and_then, try_fold}
-use Rattle.p9_base.proofs.TryFold.{try_fold-ok, try_fold-err, try_fold-end}
+use Rattle.p9_base.specs.Results.{and_then, try_fold}
+use Rattle.p9_base.proofs.Results.{try_fold-ok, try_fold-err, try_fold-end}
 use Rattle.p9_serve.specs.Bundle.{IsBundleFault, Reading, Texts, with_numbered_line}
 use Rattle.p9_serve.specs.declared.bundle.BundleError.{BundleError}
 use Rattle.p9_serve.specs.declared.bundle.BundleError.TheVariants.{BadBundle, NoMemory}

@@ -4,7 +4,7 @@ use Rattle.std.proofs.Common.{subst, arith}
 use Rattle.std.specs.Prelude.{if◌then◌else◌, nat_lt}
 use Rattle.std.proofs.lemmas.Bool.Decides.{nat_tests}
 use Rattle.p9_base.specs.Statement.{statements_of}
-use Rattle.p9_base.specs.TryFold.{and_then, try_fold}
+use Rattle.p9_base.specs.Results.{and_then, try_fold}
 use Rattle.p9_world.specs.declared.error.LineFault.{LineFault}
 use Rattle.p9_world.specs.declared.error.LineFault.TheVariants.{NoServer}
 use Rattle.p9_world.specs.Reading.{read_statement, with_a_server, world_of}

@@ -6,7 +6,7 @@ use Rattle.std.specs.Option.{option_map}
 use Rattle.std.specs.Str.{bytes_eq}
 use Rattle.std.specs.String.{string_bytes}
 use Rattle.p9_base.specs.Line.{is_blank, lines_of}
-use Rattle.p9_base.specs.TryFold.{and_then, try_fold}
+use Rattle.p9_base.specs.Results.{and_then, try_fold}
 use Rattle.p9_serve.specs.declared.bundle.Section.{Section}
 use Rattle.p9_serve.specs.declared.bundle.Section.TheVariants.{World, Ns, Script}
 use Rattle.p9_serve.specs.declared.bundle.Bundle.{Bundle}

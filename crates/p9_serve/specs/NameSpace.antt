@@ -1,6 +1,6 @@
 -- The name space of an input: its world, and the mount table that its namespace file makes.
 use Rattle.std.specs.Prelude.{ℕ, List, [], Option, Some, None, Result, Ok, unwrap_or}
-use Rattle.p9_base.specs.TryFold.{and_then}
+use Rattle.p9_base.specs.Results.{and_then}
 use Rattle.p9_space.specs.Table.{MountRow}
 use Rattle.p9_world.specs.World.{World}
 use Rattle.p9_world.specs.Reading.{world_of}

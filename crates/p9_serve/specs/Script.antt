@@ -7,7 +7,7 @@ use Rattle.std.specs.Str.{bytes_eq}
 use Rattle.hex.specs.Hex.{decode_of}
 use Rattle.p9_base.specs.Decimal.{number_of}
 use Rattle.p9_base.specs.Statement.{statements_of}
-use Rattle.p9_base.specs.TryFold.{try_fold}
+use Rattle.p9_base.specs.Results.{try_fold}
 use Rattle.p9_export.specs.Event.{Event, Opening, Request, Closing}
 use Rattle.p9_export.specs.declared.event.Event.{Event as EventOf}
 use Rattle.p9_export.specs.declared.event.Event.TheVariants.{Open, Message, Close}

@@ -7,6 +7,10 @@ use Rattle.p9_tree.specs.Forest.{node_of}
 use Rattle.p9_space.specs.declared.row.Member.{Member}
 use Rattle.p9_space.specs.Table.{MountRow, members_of}
 
+-- the root of the name space: the root of server 0
+abbrev pub root_place : NodeRef
+root_place = record { server = 0; number = 0 }
+
 -- the first member's node; the other case never comes, since each place has members
 abbrev pub first_node : NodeRef → List Member → NodeRef
 first_node place [] = place

@@ -15,5 +15,5 @@ mod walk;
 pub use rights::{TO_EXECUTE, TO_READ, TO_WRITE, may, rules};
 pub use row::{Member, Members, Order};
 pub use table::{MountTable, UnmountError};
-pub use trail::{PLACES_MAX, Step, Trail};
+pub use trail::{PLACES_MAX, ROOT_PLACE, Step, Trail};
 pub use walk::{find_step, resolve};

@@ -8,6 +8,12 @@ use p9_base::{NoMemory, NodeRef};
 use std::alloc::Allocator;
 use std::marker::Model;
 
+/// The root of the name space: the root of server 0.
+pub const ROOT_PLACE: NodeRef = NodeRef {
+    server: 0,
+    number: 0,
+};
+
 /// The most places of a trail.
 pub const PLACES_MAX: usize = 64;
 

@@ -63,10 +63,6 @@ outer_server hidden s = with_nodes s (outer_nodes hidden s.nodes)
 
 -- Forests.
 
--- the number at the same server
-abbrev pub beside : NodeRef → ℕ → NodeRef
-beside r k = record { server = r.server; number = k }
-
 -- the numbers of the server's hidden directories
 abbrev pub hidden_on : ℕ → List NodeRef → List ℕ
 hidden_on server hidden = map (λ r. r.number) (filter (λ r. r.server == server) hidden)

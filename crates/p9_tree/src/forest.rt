@@ -87,10 +87,7 @@ impl<T: Tree> Forest<T> {
             ≡ map T.state self.old.trees.items) }
     {
         let number = self.trees[dir.server as usize].add(dir.number, new)?;
-        Ok(NodeRef {
-            server: dir.server,
-            number,
-        })
+        Ok(dir.beside(number))
     }
 
     /// Takes out a file or an empty directory. Its parent isn't marked.

@@ -20,7 +20,8 @@ use Rattle.p9_tree.proofs.Lookups.{All-node_at, number-node_at}
 use Rattle.p9_clean.specs.Path.{Word}
 use Rattle.p9_tree.specs.Forest.{next_of, server_at, tree_changed_at}
 use Rattle.p9_world.specs.Server.{is_server_name, server_line, server_number, with_server}
-use Rattle.p9_world.specs.World.{World, IsWorld, servers_max, world_value}
+use Rattle.p9_base.specs.NodeRef.{servers_max}
+use Rattle.p9_world.specs.World.{World, IsWorld, world_value}
 use Rattle.p9_world.specs.Entry.{in_last_server, last_number}
 use Rattle.p9_world.specs.Hide.{hide_line, with_hidden}
 use Rattle.p9_world.specs.Meaning.{Makes}

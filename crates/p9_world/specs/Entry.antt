@@ -6,7 +6,7 @@ use Rattle.std.specs.Str.{bytes_eq}
 use Rattle.hex.specs.Hex.{decode_of}
 use Rattle.p9_base.specs.declared.mode.Mode.{Mode}
 use Rattle.p9_base.specs.declared.mode.Permissions.{Permissions}
-use Rattle.p9_base.specs.TryFold.{and_then, given, need}
+use Rattle.p9_base.specs.Results.{and_then, given, need}
 use Rattle.p9_base.specs.User.{is_user}
 use Rattle.p9_clean.specs.Path.{Word}
 use Rattle.p9_tree.specs.Bytes.{file_max}

@@ -3,7 +3,7 @@ use Rattle.std.specs.Prelude.{ℕ, Bool, not, List, [], ◌∷◌, ◌++◌, Res
 use Rattle.std.specs.List.{list_any}
 use Rattle.p9_base.specs.declared.node_ref.NodeRef.{NodeRef}
 use Rattle.p9_base.specs.NodeRef.{same_node}
-use Rattle.p9_base.specs.TryFold.{given, need}
+use Rattle.p9_base.specs.Results.{given, need}
 use Rattle.p9_tree.specs.Forest.{server_at}
 use Rattle.p9_world.specs.declared.error.LineFault.{LineFault}
 use Rattle.p9_world.specs.declared.error.LineFault.TheVariants.{NoServer, BadPath, NoParent}

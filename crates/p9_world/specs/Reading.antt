@@ -3,7 +3,7 @@ use Rattle.std.specs.Prelude.{◌≡◌, ℕ, nat_lt, List, [], ◌∷◌, Optio
 use Rattle.std.specs.Prelude.{length, codes, if◌then◌else◌}
 use Rattle.std.specs.Str.{bytes_eq}
 use Rattle.p9_base.specs.Statement.{statements_of}
-use Rattle.p9_base.specs.TryFold.{and_then, given, try_fold}
+use Rattle.p9_base.specs.Results.{and_then, given, try_fold}
 use Rattle.p9_world.specs.declared.error.LineFault.{LineFault}
 use Rattle.p9_world.specs.declared.error.LineFault.TheVariants.{UnknownWord, WordCount, NoServer}
 use Rattle.p9_world.specs.declared.error.WorldError.{WorldError}

@@ -3,15 +3,17 @@ use Rattle.std.specs.Prelude.{ℕ, ◌==◌, ◌&&◌, ◌||◌, Bool, not, nat_
 use Rattle.std.specs.Prelude.{◌++◌, Option, Result, Ok, is_some, length, position}
 use Rattle.std.specs.List.{list_any}
 use Rattle.std.specs.Str.{bytes_eq}
-use Rattle.p9_base.specs.TryFold.{need}
+use Rattle.p9_base.specs.Name.{is_slash}
+use Rattle.p9_base.specs.NodeRef.{servers_max}
+use Rattle.p9_base.specs.Results.{need}
 use Rattle.p9_tree.specs.Server.{rooted}
 use Rattle.p9_world.specs.declared.error.LineFault.{LineFault}
 use Rattle.p9_world.specs.declared.error.LineFault.TheVariants.{BadName, Duplicate, TooMany}
-use Rattle.p9_world.specs.World.{World, servers_max}
+use Rattle.p9_world.specs.World.{World}
 
 -- '/', '#', '$' or NUL
 abbrev pub is_reserved : ℕ → Bool
-is_reserved b = b == 47 || b == 35 || b == 36 || b == 0
+is_reserved b = is_slash b || b == 35 || b == 36 || b == 0
 
 -- 1 to 63 bytes, none of them reserved
 abbrev pub is_server_name : List ℕ → Bool

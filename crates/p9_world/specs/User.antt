@@ -3,7 +3,7 @@ use Rattle.std.specs.Prelude.{ℕ, Bool, not, List, [], ◌∷◌, ◌++◌, Res
 use Rattle.std.specs.List.{list_any}
 use Rattle.std.specs.Str.{bytes_eq}
 use Rattle.p9_base.specs.User.{is_user}
-use Rattle.p9_base.specs.TryFold.{need}
+use Rattle.p9_base.specs.Results.{need}
 use Rattle.p9_world.specs.declared.error.LineFault.{LineFault}
 use Rattle.p9_world.specs.declared.error.LineFault.TheVariants.{BadUser, Duplicate}
 use Rattle.p9_world.specs.World.{World}

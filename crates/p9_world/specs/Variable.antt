@@ -5,14 +5,16 @@ use Rattle.std.specs.List.{list_any}
 use Rattle.std.specs.Str.{bytes_eq}
 use Rattle.p9_world.specs.declared.error.LineFault.{LineFault}
 use Rattle.p9_world.specs.declared.error.LineFault.TheVariants.{BadName, Duplicate}
-use Rattle.p9_base.specs.TryFold.{need}
+use Rattle.p9_base.specs.Name.{is_slash}
+use Rattle.p9_base.specs.Results.{need}
+use Rattle.p9_base.specs.Variable.{Variable}
 use Rattle.p9_world.specs.World.{World}
 
 -- not empty, without '/' and '$'
 abbrev pub is_variable_name : List ℕ → Bool
-is_variable_name name = nat_le 1 (length name) && not (list_any (λ b. b == 47 || b == 36) name)
+is_variable_name name = nat_le 1 (length name) && not (list_any (λ b. is_slash b || b == 36) name)
 
-abbrev pub is_set : List ℕ → List (List ℕ × List ℕ) → Bool
+abbrev pub is_set : List ℕ → List Variable → Bool
 is_set name vars = list_any (λ var. bytes_eq var.0 name) vars
 
 abbrev pub set_line : List ℕ → List ℕ → World → Result World LineFault

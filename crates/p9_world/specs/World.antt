@@ -1,14 +1,12 @@
 -- A world: what its lines have made so far.
-use Rattle.std.specs.Prelude.{◌≡◌, ◌≢◌, ℕ, ◌<◌, ◌≤◌, ◌^◌, List, [], length, map, string_bytes, All}
+use Rattle.std.specs.Prelude.{◌≡◌, ◌≢◌, ℕ, ◌<◌, ◌≤◌, List, [], length, map, string_bytes, All}
 use Rattle.std.specs.Prelude.{AllPairs}
 use Rattle.std.specs.declared.string.String.{String}
 use Rattle.p9_base.specs.declared.node_ref.NodeRef.{NodeRef}
+use Rattle.p9_base.specs.NodeRef.{servers_max}
+use Rattle.p9_base.specs.Variable.{Variable, variables_of}
 use Rattle.p9_tree.specs.Server.{Server}
 use Rattle.p9_tree.specs.Forest.{next_of}
-
--- the most servers of a world: a server's number has 16 bits
-abbrev pub servers_max : ℕ
-servers_max = 2 ^ 16
 
 -- the servers' trees and names, both by number, the users, the hidden directories, and the
 -- variables with their values
@@ -16,7 +14,7 @@ pub record World : Type 0 where
   pub forest : List Server
   pub users : List (List ℕ)
   pub hidden : List NodeRef
-  pub vars : List (List ℕ × List ℕ)
+  pub vars : List Variable
   pub servers : List (List ℕ)
 
 -- each tree has one name, which no other has, and each hidden number was given by its server
@@ -29,10 +27,6 @@ pub record IsWorld (w : World) : Type 0 where
 -- the world of no lines
 abbrev pub empty_world : World
 empty_world = record { forest = []; users = []; hidden = []; vars = []; servers = [] }
-
--- the variables, from the code's texts
-abbrev pub variables_of : {A : Type 0} → List (String A × String A) → List (List ℕ × List ℕ)
-variables_of vars = map (λ var. (string_bytes var.0, string_bytes var.1)) vars
 
 -- a world of the code, as it is seen
 abbrev pub world_value : {T A : Type 0} → (T → Server) → List T → List (List ℕ) → List NodeRef

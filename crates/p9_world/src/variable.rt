@@ -4,7 +4,7 @@ ghost use Rattle.std.specs.Prelude.{◌≡◌, ◌==◌, ◌||◌};
 ghost use Rattle.std.specs.List.{list_any};
 ghost use Rattle.p9_world.specs.Meaning.{Makes};
 ghost use Rattle.p9_world.specs.Variable.{is_set, is_variable_name, set_line};
-ghost use Rattle.p9_world.specs.World.{variables_of};
+ghost use Rattle.p9_base.specs.Variable.{variables_of};
 
 use crate::error::{LineError, LineFault};
 use crate::world::World;

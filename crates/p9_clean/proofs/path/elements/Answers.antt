@@ -2,7 +2,8 @@ use Rattle.std.proofs.Common.{rules, tests, lit<, Ok}
 use Rattle.std.proofs.lemmas.Iterator.Consumers.{map_from_collect, YieldsList-from_filter}
 use Rattle.std.proofs.lemmas.Iterator.Consumers.{YieldsList-at}
 use Rattle.std.proofs.lemmas.Iterator.Splits.{YieldsList-from_str_split}
-use Rattle.p9_clean.specs.Path.{slash, is_element}
+use Rattle.p9_base.specs.Name.{slash}
+use Rattle.p9_clean.specs.Path.{is_element}
 use Rattle.p9_clean.proofs.path.elements.Goals as goal
 
 pub returns : goal.returns

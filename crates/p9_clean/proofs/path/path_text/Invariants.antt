@@ -1,7 +1,7 @@
 use Rattle.std.proofs.Common.{◌≡◌, map, string_bytes, ◌+◌, [], ◌++◌, take}
 use Rattle.std.specs.Prelude.{if◌then◌else◌, codes}
 use Rattle.std.specs.List.{join_with_byte}
-use Rattle.p9_clean.specs.Path.{slash}
+use Rattle.p9_base.specs.Name.{slash}
 use Rattle.p9_clean.proofs.path.path_text.Given as goal
 
 abbrev pub invariant-loop-element : goal.invariant-loop-element

@@ -1,7 +1,7 @@
 use Rattle.std.proofs.Common.{◌≡◌, ◌++◌, ◌∷◌, [], None, Some, map, refl, sym, ap, ◌∙◌}
 use Rattle.std.specs.Option.{option_copied}
 use Rattle.p9_tree.specs.Forest.{next_of}
-use Rattle.p9_tree.specs.Inside.{beside}
+use Rattle.p9_base.specs.NodeRef.{beside}
 use Rattle.p9_fids.specs.Fid.{fid_at}
 use Rattle.p9_tree.specs.New.{new_node}
 use Rattle.p9_export.specs.Create.{created, entered, fault_in}

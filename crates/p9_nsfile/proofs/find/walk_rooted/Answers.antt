@@ -1,5 +1,5 @@
 use Rattle.std.proofs.Common.{◌∙◌, ◌∷◌, subst}
-use Rattle.p9_clean.specs.Path.{slash}
+use Rattle.p9_base.specs.Name.{slash}
 use Rattle.p9_nsfile.specs.Answer.{Gives}
 use Rattle.p9_nsfile.specs.Find.{walked}
 use Rattle.p9_nsfile.proofs.find.walk_rooted.Goals as goal

@@ -4,7 +4,7 @@ use Rattle.std.proofs.lemmas.Iterator.Consumers.{YieldsList-at, count_from_yield
 use Rattle.std.proofs.lemmas.Iterator.Search.{YieldsList-from_take_while}
 use Rattle.std.proofs.lemmas.List.Folds.{length-prefix_len}
 use Rattle.p9_nsfile.specs.Flags.{is_flag}
-use Rattle.p9_nsfile.proofs.Words.{prefix_len-map}
+use Rattle.p9_base.proofs.Views.{prefix_len-map}
 use Rattle.p9_nsfile.proofs.flags.flag_count.Goals as goal
 
 pub returns-clause-count : goal.returns-clause-count

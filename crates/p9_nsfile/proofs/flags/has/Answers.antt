@@ -2,7 +2,7 @@ use Rattle.std.proofs.Common.{◌∙◌, rules, tests}
 use Rattle.std.proofs.lemmas.Iterator.{YieldsList-from_slice}
 use Rattle.std.proofs.lemmas.Iterator.Search.{any_from_yields_List}
 use Rattle.p9_nsfile.specs.Flags.{contains}
-use Rattle.p9_nsfile.proofs.Words.{list_any-map}
+use Rattle.p9_base.proofs.Views.{list_any-map}
 use Rattle.p9_nsfile.proofs.flags.has.Goals as goal
 
 pub returns : goal.returns

@@ -1,8 +1,8 @@
 use Rattle.std.proofs.Common.{◌≡◌, ◌+◌, [], ◌∷◌, ◌++◌, Ok, map, drop, ap, ◌∙◌}
 use Rattle.std.proofs.lemmas.List.{map_push}
 use Rattle.p9_base.specs.Statement.{statement_value, statements_of}
-use Rattle.p9_base.specs.TryFold.{and_then, try_fold}
-use Rattle.p9_base.proofs.TryFold.{try_fold-ok}
+use Rattle.p9_base.specs.Results.{and_then, try_fold}
+use Rattle.p9_base.proofs.Results.{try_fold-ok}
 use Rattle.p9_nsfile.specs.Line.{line_value, lines_in, with_line}
 use Rattle.p9_nsfile.proofs.Words.{IfErr-same}
 use Rattle.p9_nsfile.proofs.Lines.{lines-fault}

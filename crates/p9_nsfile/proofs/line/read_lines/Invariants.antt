@@ -1,6 +1,6 @@
 use Rattle.std.proofs.Common.{◌≡◌, drop, map}
 use Rattle.p9_base.specs.Statement.{statements_of}
-use Rattle.p9_base.specs.TryFold.{try_fold}
+use Rattle.p9_base.specs.Results.{try_fold}
 use Rattle.p9_nsfile.specs.Line.{line_value, lines_in, with_line}
 use Rattle.p9_nsfile.proofs.line.read_lines.Given as goal
 

@@ -1,5 +1,5 @@
 use Rattle.std.proofs.Common.{◌-◌, ◌<◌, List, Some, Ok, map, refl, sym, ap, subst, ◌∙◌, arith}
-use Rattle.p9_base.specs.TryFold.{and_then}
+use Rattle.p9_base.specs.Results.{and_then}
 use Rattle.p9_nsfile.specs.Answer.{Acts}
 use Rattle.p9_nsfile.specs.Line.{NumberedLine, line_value}
 use Rattle.p9_nsfile.specs.Operation.{operation_value}

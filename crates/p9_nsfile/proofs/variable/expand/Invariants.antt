@@ -1,6 +1,6 @@
 use Rattle.std.proofs.Common.{◌≡◌, ◌++◌, drop, map, string_bytes}
 use Rattle.std.specs.List.{flat_map}
-use Rattle.p9_nsfile.specs.Space.{variables_of}
+use Rattle.p9_base.specs.Variable.{variables_of}
 use Rattle.p9_nsfile.specs.Variable.{expanded, with_value}
 use Rattle.p9_nsfile.proofs.variable.expand.Given as goal
 

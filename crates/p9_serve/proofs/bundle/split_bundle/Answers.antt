@@ -1,7 +1,7 @@
 use Rattle.std.proofs.Common.{Result, Ok, map, ap, ◌∙◌, arith}
 use Rattle.std.proofs.lemmas.Result.{err_from_is_err_and}
 use Rattle.p9_base.specs.Line.{lines_of}
-use Rattle.p9_base.specs.TryFold.{and_then}
+use Rattle.p9_base.specs.Results.{and_then}
 use Rattle.p9_serve.specs.Bundle.{Reading, Texts, reader_value}
 use Rattle.p9_serve.proofs.Bundles.{line-read, line-fault, lines-end}
 use Rattle.p9_serve.proofs.bundle.split_bundle.Goals as goal

@@ -1,7 +1,7 @@
 use Rattle.std.proofs.Common.{◌≡◌, drop}
 use Rattle.std.specs.List.{enumerate_from}
 use Rattle.p9_base.specs.Line.{lines_of}
-use Rattle.p9_base.specs.TryFold.{try_fold}
+use Rattle.p9_base.specs.Results.{try_fold}
 use Rattle.p9_serve.specs.Bundle.{reader_value, unread, with_numbered_line}
 use Rattle.p9_serve.proofs.bundle.split_bundle.Given as goal
 

@@ -1,6 +1,6 @@
 use Rattle.std.proofs.Common.{◌≡◌, drop, map}
 use Rattle.p9_base.specs.Statement.{statements_of}
-use Rattle.p9_base.specs.TryFold.{try_fold}
+use Rattle.p9_base.specs.Results.{try_fold}
 use Rattle.p9_serve.specs.Script.{event_value, script_of, with_statement}
 use Rattle.p9_serve.proofs.script.read_script.Given as goal
 

@@ -3,7 +3,7 @@ use Rattle.std.proofs.Common.{string_bytes, arith, length, is_some}
 use Rattle.std.proofs.lemmas.List.{length-map}
 use Rattle.p9_tree.specs.Server.{rooted}
 use Rattle.p9_world.specs.Server.{is_server_name, server_number}
-use Rattle.p9_world.specs.World.{servers_max}
+use Rattle.p9_base.specs.NodeRef.{servers_max}
 use Rattle.p9_world.proofs.Lists.{map-joined}
 use Rattle.p9_world.proofs.Worlds.{IsWorld-with_server, server_line-ok}
 use Rattle.p9_world.proofs.server.add_server.Goals as goal

@@ -3,7 +3,7 @@
 use Rattle.std.proofs.Common.{◌≡◌, ℕ, ◌+◌, ◌<◌, ◌≤◌, List, length, drop, get_or, map, Result, Ok}
 use Rattle.std.proofs.Common.{Err, sym, ap, ◌∙◌, arith}
 use Rattle.std.proofs.lemmas.List.{get_or-map, length-map, drop_more, drop_all}
-use Rattle.p9_base.specs.TryFold.{and_then, try_fold}
+use Rattle.p9_base.specs.Results.{and_then, try_fold}
 
 module _ {S X Y E : Type 0} (step : S → Y → Result S E) (view : X → Y) (items : List X)
     (ys : List Y) (same : map view items ≡ ys) (state : S) (i : ℕ) where
