@@ -10,7 +10,7 @@ ghost use Rattle.p9_export.specs.Answers.{Answers, replied};
 use crate::qid::qid_of;
 use crate::session::Session;
 use crate::setting::Setting;
-use p9_base::{Fault, NOFID, NodeRef, Qid, User};
+use p9_base::{Fault, NOFID, Qid, User};
 use p9_fids::Fid;
 use p9_space::{ROOT_PLACE, Trail};
 use p9_tree::{Forest, Tree};
