@@ -22,7 +22,8 @@ returns-clause-made g c =
     let was : server_at c.args.dir.server (map g.T.Tree.state c.args.self.now.trees.items)
     ≡ g.T.Tree.state c.index_mut.result.now = server_at-map g.T.Tree.state _ _ _ within
     c.index_mut.ensures.value in
-    ap (λ number. record { server = c.args.dir.server; number = number })
+    c.beside.ensures
+    ∙ ap (λ number. record { server = c.args.dir.server; number = number })
     (c.in_ok-number.ensures.number ∙ ap (λ (s : Server). s.next) (sym was))
 
 pub returns-clause-ok : goal.returns-clause-ok
