@@ -1,38 +1,19 @@
 -- Removing files.
-use Rattle.std.proofs.Common.{◌≡◌, ◌≢◌, ℕ, ◌<◌, true, false, List, Option, Some, None, Ok, is_some}
-use Rattle.std.proofs.Common.{refl, arith}
-use Rattle.std.specs.Prelude.{slice_get}
+use Rattle.std.proofs.Common.{◌≡◌, ℕ, true, false, List, Option, Some, None, Ok, is_some}
+use Rattle.std.proofs.Common.{refl}
 use Rattle.p9_base.specs.declared.node_ref.NodeRef.{NodeRef}
 use Rattle.p9_tree.specs.Node.{Node}
-use Rattle.p9_tree.specs.Server.{Server, node_at, with_dropped}
-use Rattle.p9_tree.specs.Forest.{IsForest, has_children_of, node_of, tree_changed_at}
+use Rattle.p9_tree.specs.Server.{Server, with_dropped}
+use Rattle.p9_tree.specs.Forest.{has_children_of, node_of, tree_changed_at}
 use Rattle.p9_fids.specs.Fid.{Fid}
 use Rattle.p9_wire.specs.Message.{Rremove}
-use Rattle.p9_export.specs.State.{Setting, Session}
-use Rattle.p9_export.specs.Answer.{given, need}
+use Rattle.p9_step.specs.State.{Setting, Session}
+use Rattle.p9_step.specs.Answer.{given, need}
 use Rattle.p9_export.specs.Answers.{Answers}
-use Rattle.p9_export.specs.Change.{all_applied, applied}
-use Rattle.p9_export.specs.End.{fid_ref, parent_marked, taken_out}
-use Rattle.p9_export.specs.Remove.{removal}
-use Rattle.p9_export.specs.Rights.{may_write_parent}
-
--- a node that stands in a directory is no root
-pub node_of-inner : (forest : List Server) (at : NodeRef) (n : Node) → IsForest forest
-    → node_of at forest ≡ Some n → is_some n.parent ≡ true → at.number ≢ 0
-node_of-inner forest at n sound found inner = by n.parent refl
-  where
-    go : (o : Option Server) → slice_get forest at.server ≡ o → (parent : ℕ)
-        → n.parent ≡ Some parent → at.number ≡ 0 → ⊥
-    go None e parent in_dir root = let none : None ≡ Some n = rw e at found in cc
-    go (Some s) e parent in_dir root =
-        let here : node_at at.number s.nodes ≡ Some n = rw e at found in
-        let below : parent < at.number =
-        (sound.servers at.server s e).parent_below at.number parent n here in_dir in
-        omega arith
-
-    by : (o : Option ℕ) → n.parent ≡ o → at.number ≡ 0 → ⊥
-    by None e root = let no : false ≡ true = rw e at inner in cc
-    by (Some parent) e root = go (slice_get forest at.server) refl parent e root
+use Rattle.p9_step.specs.Change.{all_applied, applied}
+use Rattle.p9_step.specs.End.{fid_ref, parent_marked, taken_out}
+use Rattle.p9_step.specs.Remove.{removal}
+use Rattle.p9_step.specs.Rights.{may_write_parent}
 
 -- a test that finds nothing
 pub absent : {X : Type 0} (o : Option X) → is_some o ≡ false → o ≡ None

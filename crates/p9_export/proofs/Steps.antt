@@ -1,46 +1,31 @@
 -- A request that was answered made the step.
-use Rattle.std.proofs.Common.{◌≡◌, ℕ, List, [], ◌∷◌, Bool, true, false, Option, Some, None, IsSome}
-use Rattle.std.proofs.Common.{Result, Ok, Err, ◌⊎◌, inl, inr, refl, ap, sym, ◌∙◌, subst}
-use Rattle.std.specs.Prelude.{◌&&◌, ◌||◌, is_some}
+use Rattle.std.proofs.Common.{◌≡◌, ℕ, List, Bool, true, false, Option, Some, None, IsSome}
+use Rattle.std.proofs.Common.{Result, Ok, Err, ◌⊎◌, inl, inr, refl, ap, sym, ◌∙◌}
+use Rattle.std.specs.Prelude.{◌&&◌}
 use Rattle.std.specs.Cmp.Lexicographic.{bytes_decides}
 use Rattle.std.proofs.lemmas.Bool.{and_parts}
-use Rattle.std.specs.Map.{lookup, set_value}
 use Rattle.std.specs.Ordering.{nat_cmp}
 use Rattle.std.specs.BTreeMap.{is_at}
 use Rattle.p9_base.specs.declared.fault.Fault.{Fault}
-use Rattle.p9_base.specs.declared.fault.Fault.TheVariants.{Malformed, OutOfMemory, VersionNotSet}
+use Rattle.p9_base.specs.declared.fault.Fault.TheVariants.{OutOfMemory}
 use Rattle.p9_base.specs.Fault.{text_of}
 use Rattle.p9_tree.specs.Server.{Server}
 use Rattle.p9_wire.specs.Message.{RMessage, Rerror, TMessage}
-use Rattle.p9_wire.specs.Reading.{t_message_of}
 use Rattle.p9_wire.specs.Spelling.{r_spelling}
-use Rattle.p9_export.specs.State.{Session, SessionRow, State, changed_session, session_at}
-use Rattle.p9_export.specs.Change.{Change, all_applied}
-use Rattle.p9_export.specs.Answer.{Answer}
-use Rattle.p9_export.specs.Answers.{AnswersAmong, changes_of, frame_among, is_error, message_of}
+use Rattle.p9_step.specs.State.{Session, SessionRow, State, changed_session, session_at}
+use Rattle.p9_step.specs.Change.{Change, all_applied}
+use Rattle.p9_step.specs.Answer.{Answer, is_error}
+use Rattle.p9_export.specs.Answers.{AnswersAmong, changes_of, frame_among, message_of}
 use Rattle.p9_export.specs.Answers.{session_of}
-use Rattle.p9_export.specs.Step.{answered, finds_taken, fits_msize, frame_answer}
-use Rattle.p9_export.specs.Step.{is_no_memory_reply, is_version, may_run_out, message_answer}
-use Rattle.p9_export.specs.Step.{no_memory_reply, ran_out, request_of, step, tag_of, Stepped}
-use Rattle.p9_export.specs.Event.{Request, is_frame}
-use Rattle.p9_export.proofs.Done.{done-is}
-use Rattle.p9_export.proofs.Plain.{IsPlainIf, plain-session_answer}
-use Rattle.p9_export.proofs.Replies.{not_an_error}
-
--- to put a session where it stands changes nothing
-pub set_value-same : {X : Type 0} (t : ℕ → Bool) (rows : List (ℕ × X)) (x : X)
-    → lookup t rows ≡ Some x → set_value t rows x ≡ rows
-set_value-same t [] x found = refl
-set_value-same t (row ∷ rows) x found = go (t row.0) refl (set_value-same t rows x)
-  where
-    go : (b : Bool) → t row.0 ≡ b → (lookup t rows ≡ Some x → set_value t rows x ≡ rows)
-        → set_value t (row ∷ rows) x ≡ row ∷ rows
-    go true e later =
-        let is : Some row.1 ≡ Some x = rw e at found in let same : x ≡ row.1 = cc in
-        rw e (ap (λ v. (row.0, v) ∷ rows) same)
-    go false e later =
-        let further : lookup t rows ≡ Some x = rw e at found in
-        rw e (ap (λ r. row ∷ r) (later further))
+use Rattle.p9_step.specs.Step.{answered, finds_taken, frame_answer}
+use Rattle.p9_step.specs.Step.{is_no_memory_reply, may_run_out, message_answer}
+use Rattle.p9_step.specs.Step.{no_memory_reply, ran_out, request_of, step, tag_of, Stepped}
+use Rattle.p9_step.specs.Event.{Request, is_frame}
+use Rattle.p9_step.proofs.Done.{done-is}
+use Rattle.p9_step.proofs.Plain.{IsPlainIf, plain-session_answer}
+use Rattle.p9_step.proofs.Replies.{not_an_error}
+use Rattle.p9_step.proofs.Requests.{ran_out-is}
+use Rattle.p9_step.proofs.Rows.{set_value-same}
 
 -- the forest and the sessions afterwards, and the reply
 pub record MakesStep (state : State) (forest : List Server) (rows : List SessionRow)
@@ -140,45 +125,6 @@ module _ (state : State) (name : ℕ) (forest : List Server) (rows : List Sessio
           written ∙ ap (λ f. r_spelling (tag_of frame) (Rerror (text_of f))) memory.0 in
           without_memory answer (is_no_memory_reply frame bytes) did.1 did.2
           ((bytes_decides bytes (no_memory_reply frame)).1 reply) memory.1 reply
-
--- The request of a frame.
-
-module _ (session : Session) (frame : List ℕ) where
-  -- it is spelled by the frame, and it is a version, or the msize is set
-  pub record IsRequest (m : TMessage) : Type 0 where
-    pub tag : ℕ
-    pub read : t_message_of frame ≡ Some (tag, m)
-    pub allowed : (is_version m || is_some session.msize) ≡ true
-
-  pub request-is : (m : TMessage) → request_of session frame ≡ Ok m → IsRequest m
-  request-is m is = by_msize (fits_msize session frame) refl
-    where
-      by_test : (r : ℕ × TMessage) → t_message_of frame ≡ Some r → fits_msize session frame ≡ true
-          → (b : Bool) → (is_version r.1 || is_some session.msize) ≡ b → IsRequest m
-      by_test r found fits true e =
-          let same : Ok r.1 ≡ Ok m = rw (fits, found, e) at is in
-          let its : r.1 ≡ m = cc in
-          record {
-            tag = r.0;
-            read = subst (λ x. t_message_of frame ≡ Some (r.0, x)) its found;
-            allowed = subst (λ x. (is_version x || is_some session.msize) ≡ true) its e;
-          }
-      by_test r found fits false e =
-          let no : Err VersionNotSet ≡ Ok m = rw (fits, found, e) at is in absurd (cc)
-
-      by_message : fits_msize session frame ≡ true → (o : Option (ℕ × TMessage))
-          → t_message_of frame ≡ o → IsRequest m
-      by_message fits None e = let no : Err Malformed ≡ Ok m = rw (fits, e) at is in absurd (cc)
-      by_message fits (Some r) e = by_test r e fits (is_version r.1 || is_some session.msize) refl
-
-      by_msize : (b : Bool) → fits_msize session frame ≡ b → IsRequest m
-      by_msize true e = by_message e (t_message_of frame) refl
-      by_msize false e = let no : Err Malformed ≡ Ok m = rw e at is in absurd (cc)
-
-  -- so whether its answer may be want of memory is the request's
-  pub ran_out-is : (m : TMessage) (a : Answer) → request_of session frame ≡ Ok m
-      → ran_out frame a ≡ may_run_out m a
-  ran_out-is m a is = let r = request-is m is in rw r.read refl
 
 module _ (state : State) (name now : ℕ) (forest : List Server) (rows : List SessionRow)
     (session : Session) (frame bytes : List ℕ)

@@ -9,11 +9,11 @@ use Rattle.p9_tree.specs.Node.{Node, marked, with_bytes}
 use Rattle.p9_tree.specs.Server.{Server}
 use Rattle.p9_tree.specs.Forest.{forest_changed_at, node_of}
 use Rattle.p9_tree.proofs.Changed.{keeps-marked, keeps-with_bytes}
-use Rattle.p9_export.specs.declared.opening.Opening.{Opening}
-use Rattle.p9_export.specs.Change.{all_applied, applied, edited}
-use Rattle.p9_export.specs.Open.{is_cut, truncated, truncation}
-use Rattle.p9_export.specs.Qid.{qid_of}
-use Rattle.p9_export.proofs.Found.{node_of-changed}
+use Rattle.p9_step.specs.declared.opening.Opening.{Opening}
+use Rattle.p9_step.specs.Change.{all_applied, applied, edited}
+use Rattle.p9_step.specs.Open.{is_cut, truncated, truncation}
+use Rattle.p9_step.specs.Qid.{qid_of}
+use Rattle.p9_step.proofs.Found.{node_of-changed}
 
 module _ (user : List ℕ) (now : ℕ) (at : NodeRef) (forest : List Server) (n : Node)
     (o : Opening) where

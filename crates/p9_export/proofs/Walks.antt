@@ -17,11 +17,11 @@ use Rattle.p9_space.specs.Trail.{here, stepped}
 use Rattle.p9_space.specs.Walk.{arrived, step_among, step_of}
 use Rattle.p9_fids.specs.declared.opened.Opened.{Opened}
 use Rattle.p9_fids.specs.Fid.{Fid, fid_at}
-use Rattle.p9_export.specs.State.{Setting, Session}
-use Rattle.p9_export.specs.Qid.{qid_at}
-use Rattle.p9_export.specs.Answer.{given, need, unless}
-use Rattle.p9_export.specs.Walk.{Walked, ended_walk, newfid_fault, walk_answer, walk_outcome}
-use Rattle.p9_export.specs.Walk.{walked}
+use Rattle.p9_step.specs.State.{Setting, Session}
+use Rattle.p9_step.specs.Qid.{qid_at}
+use Rattle.p9_step.specs.Answer.{given, need, unless}
+use Rattle.p9_step.specs.Walk.{Walked, ended_walk, newfid_fault, walk_answer, walk_outcome}
+use Rattle.p9_step.specs.Walk.{walked}
 
 -- a walk that gave these qids before
 abbrev pub so_far : List Qid → Walked → Walked

@@ -1,5 +1,5 @@
 -- What a function that answers a request has to do.
-use Rattle.std.specs.Prelude.{◌≡◌, ℕ, ◌+◌, ◌≤◌, ◌⊎◌, Bool, true, false, List, [], Result, Ok, Err}
+use Rattle.std.specs.Prelude.{◌≡◌, ℕ, ◌+◌, ◌≤◌, ◌⊎◌, Bool, true, List, [], Result, Ok, Err}
 use Rattle.std.specs.Prelude.{take}
 use Rattle.std.specs.Option.{option_map_or}
 use Rattle.p9_base.specs.declared.fault.Fault.{Fault}
@@ -14,11 +14,11 @@ use Rattle.p9_wire.specs.Spelling.{RFits, r_len}
 use Rattle.p9_wire.specs.declared.message.TMsg.{TMsg}
 use Rattle.p9_export.specs.declared.reply.Reply.{Reply}
 use Rattle.p9_export.specs.declared.reply.Reply.TheVariants.{Message, Data, StatOf}
-use Rattle.p9_export.specs.State.{Setting, Session, SessionRow, changed_session, fresh, session_at}
-use Rattle.p9_export.specs.Change.{Change, all_applied}
-use Rattle.p9_export.specs.Answer.{Answer}
-use Rattle.p9_export.specs.Qid.{stat_of}
-use Rattle.p9_export.specs.Step.{frame_answer}
+use Rattle.p9_step.specs.State.{Setting, Session, SessionRow, changed_session, fresh, session_at}
+use Rattle.p9_step.specs.Change.{Change, all_applied}
+use Rattle.p9_step.specs.Answer.{Answer}
+use Rattle.p9_step.specs.Qid.{stat_of}
+use Rattle.p9_step.specs.Step.{frame_answer}
 
 abbrev pub changes_of : Answer → List Change
 changes_of (Ok outcome) = outcome.changes
@@ -80,10 +80,6 @@ message_of (Err fault) = Rerror (text_of fault)
 abbrev pub request_view : Result TMsg Fault → Result TMessage Fault
 request_view (Ok request) = Ok (t_view request)
 request_view (Err fault) = Err fault
-
-abbrev pub is_error : RMessage → Bool
-is_error (Rerror ename) = true
-is_error other = false
 
 -- a reply that has a spelling, which is no longer than a frame
 pub record ReplyFits (reply : RMessage) : Type 0 where

@@ -4,7 +4,7 @@ ghost use Rattle.std.specs.Prelude.{◌≡◌, map, true};
 ghost use Rattle.std.specs.Option.{option_copied};
 ghost use Rattle.std.specs.Str.{bytes_eq};
 ghost use Rattle.p9_wire.specs.Message.{Rattach};
-ghost use Rattle.p9_export.specs.Attach.{attach_answer, listed_user};
+ghost use Rattle.p9_step.specs.Attach.{attach_answer, listed_user};
 ghost use Rattle.p9_export.specs.Answers.{Answers, replied};
 
 use crate::qid::qid_of;

@@ -12,13 +12,13 @@ ghost use Rattle.p9_tree.specs.Server.{CanAdd, added};
 ghost use Rattle.p9_fids.specs.Fid.{fid_at};
 ghost use Rattle.p9_space.specs.Walk.{is_alive, is_alive_dir};
 ghost use Rattle.p9_export.specs.Answers.{Answers, replied};
-ghost use Rattle.p9_export.specs.Create.{create_answer, create_reply, created, created_in, entered};
-ghost use Rattle.p9_export.specs.Create.{fault_in, permitting, target_among};
-ghost use Rattle.p9_export.specs.Qid.{qid_of};
-ghost use Rattle.p9_export.specs.Step.{is_done};
+ghost use Rattle.p9_step.specs.Create.{create_answer, create_reply, created, created_in, entered};
+ghost use Rattle.p9_step.specs.Create.{fault_in, permitting, target_among};
+ghost use Rattle.p9_step.specs.Qid.{qid_of};
+ghost use Rattle.p9_step.specs.Step.{is_done};
 
 use crate::inherit::inherited;
-use crate::opening::Opening;
+use p9_step::Opening;
 use crate::qid::qid_of;
 use crate::session::Session;
 use crate::setting::Setting;

@@ -1,9 +1,9 @@
 //! The end of fids, and removal on close, as clunk(5).
 
 ghost use Rattle.std.specs.Prelude.{◌≡◌, [], map};
-ghost use Rattle.p9_export.specs.Change.{all_applied};
-ghost use Rattle.p9_export.specs.End.{FidFits, FidsFit, on_end, on_ends, parent_marked};
-ghost use Rattle.p9_export.specs.End.{removes_on_close, taken_out};
+ghost use Rattle.p9_step.specs.Change.{all_applied};
+ghost use Rattle.p9_step.specs.End.{FidFits, FidsFit, on_end, on_ends, parent_marked};
+ghost use Rattle.p9_step.specs.End.{removes_on_close, taken_out};
 
 use crate::setting::Setting;
 use p9_base::{NodeRef, User};
@@ -13,7 +13,7 @@ use std::alloc::Allocator;
 
 /// What the end of a fid does: a file that it holds open with remove-on-close goes, and its
 /// directory is marked. Nothing is tested any more, and it takes no memory.
-#[tactic(auto, unfolding(crate::specs::Change::applied, crate::specs::Change::edited))]
+#[tactic(auto, unfolding(p9_step::specs::Change::applied, p9_step::specs::Change::edited))]
 pub fn end_fid<T: Tree>(
     setting: &Setting<T::Alloc>,
     forest: &mut Forest<T>,
@@ -49,7 +49,7 @@ fn removes_on_close<A: Allocator + Copy>(fid: &Fid<A>) -> bool
 
 /// Marks the directory that a node stands in, by its number at the same server, if it stands in
 /// one.
-#[tactic(auto, unfolding(crate::specs::Change::applied, crate::specs::Change::edited))]
+#[tactic(auto, unfolding(p9_step::specs::Change::applied, p9_step::specs::Change::edited))]
 pub fn mark_parent<T: Tree>(
     forest: &mut Forest<T>,
     at: NodeRef,

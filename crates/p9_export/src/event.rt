@@ -1,7 +1,7 @@
 //! What happens to the exporter.
 
 ghost use Rattle.std.specs.Prelude.{◌≡◌};
-ghost use Rattle.p9_export.specs.Event.{is_frame};
+ghost use Rattle.p9_step.specs.Event.{is_frame};
 
 use byteorder::{ByteOrder, LittleEndian};
 use p9_wire::{HEADER, MSIZE_MAX};

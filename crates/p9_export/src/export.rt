@@ -2,9 +2,9 @@
 
 ghost use Rattle.std.specs.Prelude.{◌≡◌, ◌≤◌, ◌↔◌, [], Err, None, false, IsSome, IsTrue, OnErr};
 ghost use Rattle.std.specs.Prelude.{OnOk, length, map, take};
-ghost use Rattle.p9_export.specs.Event.{Closing, Opening, Request, is_frame};
-ghost use Rattle.p9_export.specs.State.{session_at};
-ghost use Rattle.p9_export.specs.Step.{is_no_memory_reply, step};
+ghost use Rattle.p9_step.specs.Event.{Closing, Opening, Request, is_frame};
+ghost use Rattle.p9_step.specs.State.{session_at};
+ghost use Rattle.p9_step.specs.Step.{is_no_memory_reply, step};
 ghost use Rattle.p9_space.specs.Given.{is_table_given};
 ghost use Rattle.p9_wire.specs.Frame.{msize_max};
 ghost use Rattle.p9_export.specs.declared.export.OpenError.TheVariants.{Live};
@@ -42,8 +42,8 @@ pub struct Export<T: Tree> {
 
 impl<T: Tree> Model for Export<T> {
     ghost use Rattle.std.specs.Prelude.{map};
-    ghost use Rattle.p9_export.specs.Sound.{IsSound};
-    ghost use Rattle.p9_export.specs.State.{State};
+    ghost use Rattle.p9_step.specs.Sound.{IsSound};
+    ghost use Rattle.p9_step.specs.State.{State};
 
     ghost Value = { State };
 

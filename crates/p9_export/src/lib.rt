@@ -1,6 +1,6 @@
 //! The machine that answers 9P2000 over the trees and the mount table: one state, and one whole
 //! event after another.
-#![tactic(auto, unfolding(crate::specs::Answer::need, crate::specs::Answer::given, crate::specs::Answer::unless))]
+#![tactic(auto, unfolding(p9_step::specs::Answer::need, p9_step::specs::Answer::given, p9_step::specs::Answer::unless))]
 
 mod answer;
 mod attach;
@@ -12,11 +12,9 @@ mod export;
 mod frame;
 mod given;
 mod inherit;
-pub mod laws;
 mod listing;
 mod message;
 mod open;
-mod opening;
 mod qid;
 mod read;
 mod remove;

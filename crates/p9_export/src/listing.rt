@@ -9,9 +9,9 @@ ghost use Rattle.p9_base.specs.declared.fault.Fault.TheVariants.{SmallReadCount}
 ghost use Rattle.p9_tree.specs.Bytes.{put_front};
 ghost use Rattle.p9_tree.specs.Forest.{child_in_after};
 ghost use Rattle.p9_wire.specs.Fields.{FitsStat, stat_len};
-ghost use Rattle.p9_export.specs.Listing.{entries_of, entry_at, is_behind, is_listed, left_of};
-ghost use Rattle.p9_export.specs.Read.{cursor_after, end_of, entry_bytes, fitting};
-ghost use Rattle.p9_export.specs.Qid.{stat_of};
+ghost use Rattle.p9_step.specs.Listing.{entries_of, entry_at, is_behind, is_listed, left_of};
+ghost use Rattle.p9_step.specs.Read.{cursor_after, end_of, entry_bytes, fitting};
+ghost use Rattle.p9_step.specs.Qid.{stat_of};
 
 use crate::qid::stat_of;
 use p9_base::{Fault, NodeRef, User};
@@ -31,7 +31,7 @@ pub struct Entry<'a, A: Allocator> {
 }
 
 impl<'a, A: Allocator> Model for Entry<'a, A> {
-    ghost use Rattle.p9_export.specs.Listing.{Entry as EntryOf};
+    ghost use Rattle.p9_step.specs.Listing.{Entry as EntryOf};
 
     ghost Value = { EntryOf };
 

@@ -3,12 +3,12 @@
 ghost use Rattle.std.specs.Prelude.{◌≡◌, map, false, IfSome, IsSome};
 ghost use Rattle.p9_tree.specs.Forest.{node_of};
 ghost use Rattle.p9_export.specs.Answers.{Answers, replied};
-ghost use Rattle.p9_export.specs.Change.{all_applied};
-ghost use Rattle.p9_export.specs.Open.{is_append_only, is_cut, is_exclusive, is_in_use, is_taken};
-ghost use Rattle.p9_export.specs.Open.{may_open, open_answer, open_reply, truncated, truncation};
-ghost use Rattle.p9_export.specs.Qid.{qid_of};
+ghost use Rattle.p9_step.specs.Change.{all_applied};
+ghost use Rattle.p9_step.specs.Open.{is_append_only, is_cut, is_exclusive, is_in_use, is_taken};
+ghost use Rattle.p9_step.specs.Open.{may_open, open_answer, open_reply, truncated, truncation};
+ghost use Rattle.p9_step.specs.Qid.{qid_of};
 
-use crate::opening::Opening;
+use p9_step::Opening;
 use crate::qid::qid_of;
 use crate::rights::may_write_parent;
 use crate::session::Session;

@@ -1,7 +1,7 @@
 //! The qids of files, and what is told of them, as intro(5) and stat(5).
 
 ghost use Rattle.std.specs.Prelude.{◌≡◌, ◌<◌, ◌≤◌, ◌^◌};
-ghost use Rattle.p9_export.specs.Qid.{qid_of, stat_of};
+ghost use Rattle.p9_step.specs.Qid.{qid_of, stat_of};
 ghost use Rattle.p9_wire.specs.Fields.{FitsStat, stat_len};
 ghost use Rattle.p9_wire.specs.Message.{stat_view};
 

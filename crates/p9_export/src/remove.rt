@@ -3,8 +3,8 @@
 ghost use Rattle.std.specs.Prelude.{◌≡◌, IfOk, false, map};
 ghost use Rattle.p9_wire.specs.Message.{Rremove, r_view};
 ghost use Rattle.p9_export.specs.Answers.{Answers, ReplyFits, replied};
-ghost use Rattle.p9_export.specs.Remove.{remove_answer, removal};
-ghost use Rattle.p9_export.specs.State.{Session as SessionOf};
+ghost use Rattle.p9_step.specs.Remove.{remove_answer, removal};
+ghost use Rattle.p9_step.specs.State.{Session as SessionOf};
 
 use crate::end::mark_parent;
 use crate::rights::may_write_parent;

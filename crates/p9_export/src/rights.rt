@@ -1,7 +1,7 @@
 //! Rights in the directory that a file stands in, as intro(5).
 
 ghost use Rattle.std.specs.Prelude.{◌≡◌, map};
-ghost use Rattle.p9_export.specs.Rights.{may_write, may_write_parent};
+ghost use Rattle.p9_step.specs.Rights.{may_write, may_write_parent};
 
 use p9_base::{NodeRef, User};
 use p9_space::{TO_WRITE, may};

@@ -1,8 +1,8 @@
 //! A session: what one client and the exporter have agreed on, and the client's fids.
 
 ghost use Rattle.std.specs.Prelude.{◌≡◌};
-ghost use Rattle.p9_export.specs.Open.{room_of};
-ghost use Rattle.p9_export.specs.State.{fresh};
+ghost use Rattle.p9_step.specs.Open.{room_of};
+ghost use Rattle.p9_step.specs.State.{fresh};
 
 use p9_fids::FidTable;
 use p9_wire::IOHDRSZ;
@@ -18,7 +18,7 @@ pub struct Session<A: Allocator + Copy> {
 }
 
 impl<A: Allocator + Copy> Model for Session<A> {
-    ghost use Rattle.p9_export.specs.State.{Session as SessionOf};
+    ghost use Rattle.p9_step.specs.State.{Session as SessionOf};
 
     ghost Value = { SessionOf };
 

@@ -1,8 +1,8 @@
 //! What no event changes.
 
 ghost use Rattle.std.specs.Prelude.{◌≡◌};
-ghost use Rattle.p9_export.specs.End.{fid_ref};
-ghost use Rattle.p9_export.specs.State.{fresh};
+ghost use Rattle.p9_step.specs.End.{fid_ref};
+ghost use Rattle.p9_step.specs.State.{fresh};
 
 use crate::session::Session;
 use p9_base::{NodeRef, User};
@@ -22,7 +22,7 @@ pub struct Setting<A: Allocator + Copy> {
 }
 
 impl<A: Allocator + Copy> Model for Setting<A> {
-    ghost use Rattle.p9_export.specs.State.{Setting as SettingOf};
+    ghost use Rattle.p9_step.specs.State.{Setting as SettingOf};
 
     ghost Value = { SettingOf };
 

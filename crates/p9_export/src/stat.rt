@@ -2,7 +2,7 @@
 
 ghost use Rattle.std.specs.Prelude.{◌≡◌, false, map};
 ghost use Rattle.p9_export.specs.Answers.{Answers, replied, stat_reply};
-ghost use Rattle.p9_export.specs.Stat.{stat_answer};
+ghost use Rattle.p9_step.specs.Stat.{stat_answer};
 
 use crate::session::Session;
 use crate::setting::Setting;

@@ -9,8 +9,8 @@ ghost use Rattle.p9_space.specs.Trail.{here, stepped};
 ghost use Rattle.p9_tree.specs.Server.{Server};
 ghost use Rattle.p9_wire.specs.Message.{Rwalk};
 ghost use Rattle.p9_export.specs.Answers.{Answers, replied};
-ghost use Rattle.p9_export.specs.Qid.{qid_at};
-ghost use Rattle.p9_export.specs.Walk.{moved, newfid_fault, walk_answer, walk_outcome, walked};
+ghost use Rattle.p9_step.specs.Qid.{qid_at};
+ghost use Rattle.p9_step.specs.Walk.{moved, newfid_fault, walk_answer, walk_outcome, walked};
 
 use crate::qid::qid_of;
 use crate::session::Session;
@@ -81,7 +81,7 @@ struct Walked<A: Allocator + Copy> {
 }
 
 impl<A: Allocator + Copy> Model for Walked<A> {
-    ghost use Rattle.p9_export.specs.Walk.{Walked as WalkedOf};
+    ghost use Rattle.p9_step.specs.Walk.{Walked as WalkedOf};
 
     ghost Value = { WalkedOf };
 

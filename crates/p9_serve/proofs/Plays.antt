@@ -6,9 +6,9 @@ use Rattle.std.specs.Prelude.{◌&&◌, OnOk, Result, Ok, Err, is_some, if◌the
 use Rattle.std.proofs.lemmas.Bool.{and_from}
 use Rattle.std.proofs.lemmas.List.{get_or-map, length-map, drop_more, drop_all}
 use Rattle.hex.specs.Hex.{encode_lower}
-use Rattle.p9_export.specs.State.{State, session_at}
-use Rattle.p9_export.specs.Event.{Event, Request, is_frame}
-use Rattle.p9_export.specs.Step.{Stepped, step}
+use Rattle.p9_step.specs.State.{State, session_at}
+use Rattle.p9_step.specs.Event.{Event, Request, is_frame}
+use Rattle.p9_step.specs.Step.{Stepped, step}
 use Rattle.p9_serve.specs.Play.{Played, Plays, PlaysAll, play_text, played, replied, skipped}
 
 -- some events were played, with some marks: what is printed for the others, whatever their marks,

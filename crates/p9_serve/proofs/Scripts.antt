@@ -3,7 +3,7 @@ use Rattle.std.proofs.Common.{◌≡◌, ℕ, ◌+◌, ◌<◌, List, [], ◌∷
 use Rattle.std.proofs.Common.{Option, None, Some, Result, Err, sym, ap, ◌∙◌}
 use Rattle.p9_base.specs.Results.{try_fold}
 use Rattle.p9_base.proofs.Results.{try_fold-ok, try_fold-err}
-use Rattle.p9_export.specs.Event.{Event}
+use Rattle.p9_step.specs.Event.{Event}
 use Rattle.p9_serve.specs.Script.{IsScriptFault, event_of, joined, with_statement}
 use Rattle.p9_serve.specs.declared.script.ScriptError.{ScriptError}
 use Rattle.p9_serve.specs.declared.script.ScriptError.TheVariants.{BadScript, NoMemory}

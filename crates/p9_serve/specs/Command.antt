@@ -4,7 +4,7 @@ use Rattle.std.specs.Prelude.{codes, unwrap_or, if◌then◌else◌}
 use Rattle.std.specs.Option.{option_map_or}
 use Rattle.std.specs.Str.{bytes_eq, is_utf8}
 use Rattle.p9_base.specs.Results.{and_then, need}
-use Rattle.p9_export.specs.Event.{Event}
+use Rattle.p9_step.specs.Event.{Event}
 use Rattle.p9_serve.specs.Bundle.{Texts, bundle_of}
 use Rattle.p9_serve.specs.Listing.{table_text}
 use Rattle.p9_serve.specs.NameSpace.{NameSpace, exported, space_in}

@@ -2,9 +2,9 @@
 use Rattle.std.specs.Prelude.{◌≡◌, ℕ, ◌&&◌, Bool, false, List, [], ◌∷◌, ◌++◌, is_some, codes}
 use Rattle.std.specs.Prelude.{if◌then◌else◌}
 use Rattle.hex.specs.Hex.{encode_lower}
-use Rattle.p9_export.specs.State.{State, session_at}
-use Rattle.p9_export.specs.Event.{Event, Opening, Request, Closing, is_frame}
-use Rattle.p9_export.specs.Step.{Stepped, step}
+use Rattle.p9_step.specs.State.{State, session_at}
+use Rattle.p9_step.specs.Event.{Event, Opening, Request, Closing, is_frame}
+use Rattle.p9_step.specs.Step.{Stepped, step}
 
 -- the state after an event, and what is printed for it
 pub record Played : Type 0 where

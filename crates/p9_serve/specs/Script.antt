@@ -8,7 +8,7 @@ use Rattle.hex.specs.Hex.{decode_of}
 use Rattle.p9_base.specs.Decimal.{number_of}
 use Rattle.p9_base.specs.Statement.{statements_of}
 use Rattle.p9_base.specs.Results.{try_fold}
-use Rattle.p9_export.specs.Event.{Event, Opening, Request, Closing}
+use Rattle.p9_step.specs.Event.{Event, Opening, Request, Closing}
 use Rattle.p9_export.specs.declared.event.Event.{Event as EventOf}
 use Rattle.p9_export.specs.declared.event.Event.TheVariants.{Open, Message, Close}
 use Rattle.p9_serve.specs.declared.script.ScriptError.{ScriptError}

@@ -1,7 +1,7 @@
 //! Playing events over an exporter.
 
 ghost use Rattle.std.specs.Prelude.{◌≡◌, ◌≤◌, ◌++◌, IfOk, OnOk, codes, length, map};
-ghost use Rattle.p9_export.specs.Event.{Opening, Request, Closing};
+ghost use Rattle.p9_step.specs.Event.{Opening, Request, Closing};
 ghost use Rattle.p9_serve.specs.Play.{Plays, PlaysAll};
 ghost use Rattle.p9_serve.specs.Script.{event_value};
 ghost use Rattle.p9_wire.specs.Frame.{msize_max};

@@ -32,23 +32,23 @@ use Rattle.p9_wire.specs.Spelling.{TSpells, r_body, r_len, r_spelling, r_type}
 use Rattle.p9_wire.proofs.Lengths.{length-frame, length-r_body}
 use Rattle.p9_wire.proofs.TGrammar.{t-decides}
 use Rattle.p9_fids.specs.Fid.{Fid, fid_at, without_fid}
-use Rattle.p9_export.specs.State.{Session, State, changed_session, session_at}
-use Rattle.p9_export.specs.Answer.{Answer, Outcome, given, outcome_of}
-use Rattle.p9_export.specs.Answers.{is_error}
-use Rattle.p9_export.specs.Clunk.{without}
-use Rattle.p9_export.specs.Laws.{EveryFrameIsAnswered, IsAnswered, IsState, after_refusal}
-use Rattle.p9_export.specs.Laws.{reply_max, without_fid_of}
-use Rattle.p9_export.specs.Open.{room_of}
-use Rattle.p9_export.specs.Remove.{removal, remove_answer}
-use Rattle.p9_export.specs.Sound.{IsMsize}
-use Rattle.p9_export.specs.Step.{Stepped, answered, is_version, message_answer, no_memory_reply}
-use Rattle.p9_export.specs.Step.{ran_out, request_of, tag_of, with_outcome}
-use Rattle.p9_export.proofs.Done.{OnDone, done-err, done-is, done-ok}
-use Rattle.p9_export.proofs.Fitting.{Replies, fitting-attach, fitting-clunk, fitting-create}
-use Rattle.p9_export.proofs.Fitting.{fitting-open, fitting-read, fitting-removal, fitting-stat}
-use Rattle.p9_export.proofs.Fitting.{fitting-version, fitting-walk, fitting-write, fitting-wstat}
-use Rattle.p9_export.proofs.Sounds.{session-sound}
-use Rattle.p9_export.proofs.Steps.{ran_out-is, request-is, set_value-same}
+use Rattle.p9_step.specs.State.{Session, State, changed_session, session_at}
+use Rattle.p9_step.specs.Answer.{Answer, Outcome, given, outcome_of, is_error}
+use Rattle.p9_step.specs.Clunk.{without}
+use Rattle.p9_step.specs.Laws.{EveryFrameIsAnswered, IsAnswered, IsState, after_refusal}
+use Rattle.p9_step.specs.Laws.{reply_max, without_fid_of}
+use Rattle.p9_step.specs.Open.{room_of}
+use Rattle.p9_step.specs.Remove.{removal, remove_answer}
+use Rattle.p9_step.specs.Sound.{IsMsize}
+use Rattle.p9_step.specs.Step.{Stepped, answered, is_version, message_answer, no_memory_reply}
+use Rattle.p9_step.specs.Step.{ran_out, request_of, tag_of, with_outcome}
+use Rattle.p9_step.proofs.Done.{OnDone, done-err, done-is, done-ok}
+use Rattle.p9_step.proofs.Fitting.{Replies, fitting-attach, fitting-clunk, fitting-create}
+use Rattle.p9_step.proofs.Fitting.{fitting-open, fitting-read, fitting-removal, fitting-stat}
+use Rattle.p9_step.proofs.Fitting.{fitting-version, fitting-walk, fitting-write, fitting-wstat}
+use Rattle.p9_step.proofs.Sounds.{session-sound}
+use Rattle.p9_step.proofs.Rows.{set_value-same}
+use Rattle.p9_step.proofs.Requests.{ran_out-is, request-is}
 
 -- The texts of the faults are short.
 

@@ -3,10 +3,10 @@ use Rattle.std.proofs.Common.{◌≡◌, ℕ, List, [], ◌∷◌, inl, inr, Som
 use Rattle.p9_tree.specs.Node.{Node, is_dir}
 use Rattle.p9_tree.specs.Server.{Server, added, node_at, with_changed, with_dropped}
 use Rattle.p9_tree.specs.Forest.{next_of, node_of, server_at}
-use Rattle.p9_export.specs.Change.{Change, EditNode, AddNode, DropNode, Edit, Mark, Touch}
-use Rattle.p9_export.specs.Change.{Overwrite, Cut, applied, all_applied, edited}
-use Rattle.p9_export.proofs.Members.{member-changed_at, member-dropped_at, member-joined}
-use Rattle.p9_export.proofs.Evolves.{Evolved, Evolves, evolves-same, evolves-tree, evolves-twice}
+use Rattle.p9_step.specs.Change.{Change, EditNode, AddNode, DropNode, Edit, Mark, Touch}
+use Rattle.p9_step.specs.Change.{Overwrite, Cut, applied, all_applied, edited}
+use Rattle.p9_step.proofs.Members.{member-changed_at, member-dropped_at, member-joined}
+use Rattle.p9_step.proofs.Evolves.{Evolved, Evolves, evolves-same, evolves-tree, evolves-twice}
 
 -- an edit leaves the node's number, and what it is
 pub record Keeps (edit : Edit) (n : Node) : Type 0 where

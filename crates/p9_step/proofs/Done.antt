@@ -3,7 +3,7 @@ use Rattle.std.proofs.Common.{◌≡◌, Bool, true, false, Option, Some, None, 
 use Rattle.std.proofs.Common.{subst}
 use Rattle.p9_base.specs.declared.fault.Fault.{Fault}
 use Rattle.p9_base.specs.Results.{and_then}
-use Rattle.p9_export.specs.Answer.{Answer, Outcome, given, need, unless}
+use Rattle.p9_step.specs.Answer.{Answer, Outcome, given, need, unless}
 
 unfoldable pub OnDone : (Outcome → Type 0) → Answer → Type 0
 OnDone P (Ok outcome) = P outcome

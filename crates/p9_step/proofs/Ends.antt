@@ -15,17 +15,35 @@ use Rattle.p9_tree.specs.Forest.{IsForest, has_children_of, node_of}
 use Rattle.p9_space.specs.Table.{MountRow}
 use Rattle.p9_fids.specs.declared.opened.Opened.{Opened}
 use Rattle.p9_fids.specs.Fid.{Fid, FidRow, fid_at, without_fid}
-use Rattle.p9_export.specs.Change.{Change, DropNode, all_applied, applied}
-use Rattle.p9_export.specs.End.{FidFits, FidsFit, fid_file, fid_ref, on_end, on_ends, parent_marked}
-use Rattle.p9_export.specs.End.{removes_on_close, taken_out}
-use Rattle.p9_export.proofs.Members.{found-member, member-node_at}
-use Rattle.p9_export.proofs.Changes.{AllLawful, evolves-all, keeps-mark}
-use Rattle.p9_export.proofs.OpenFids.{fits-evolved}
+use Rattle.p9_step.specs.Change.{Change, DropNode, all_applied, applied}
+use Rattle.p9_step.specs.End.{FidFits, FidsFit, fid_file, fid_ref, on_end, on_ends, parent_marked}
+use Rattle.p9_step.specs.End.{removes_on_close, taken_out}
+use Rattle.p9_step.proofs.Members.{found-member, member-node_at}
+use Rattle.p9_step.proofs.Changes.{AllLawful, evolves-all, keeps-mark}
+use Rattle.p9_step.proofs.OpenFids.{fits-evolved}
 
 -- what is found in a server that is well-formed or isn't there
 pub record IsLeaf (at : NodeRef) (forest : List Server) : Type 0 where
   pub not_root : at.number ≢ 0
   pub empty : has_children_of at forest ≡ false
+
+-- a node that stands in a directory is no root
+pub node_of-inner : (forest : List Server) (at : NodeRef) (n : Node) → IsForest forest
+    → node_of at forest ≡ Some n → is_some n.parent ≡ true → at.number ≢ 0
+node_of-inner forest at n sound found inner = by n.parent refl
+  where
+    go : (o : Option Server) → slice_get forest at.server ≡ o → (parent : ℕ)
+        → n.parent ≡ Some parent → at.number ≡ 0 → ⊥
+    go None e parent in_dir root = let none : None ≡ Some n = rw e at found in cc
+    go (Some s) e parent in_dir root =
+        let here : node_at at.number s.nodes ≡ Some n = rw e at found in
+        let below : parent < at.number =
+        (sound.servers at.server s e).parent_below at.number parent n here in_dir in
+        omega arith
+
+    by : (o : Option ℕ) → n.parent ≡ o → at.number ≡ 0 → ⊥
+    by None e root = let no : false ≡ true = rw e at inner in cc
+    by (Some parent) e root = go (slice_get forest at.server) refl parent e root
 
 -- a node stands in the directory that is its parent
 in-parent : (k : ℕ) (m : Node) → is_in k m ≡ true → m.parent ≡ Some k

@@ -7,7 +7,7 @@ use Rattle.p9_tree.specs.Node.{Node, has_number, is_dir}
 use Rattle.p9_tree.specs.Server.{Server, WellFormed, node_at}
 use Rattle.p9_tree.specs.Forest.{IsForest, next_of, no_server, node_of, server_at, tree_changed_at}
 use Rattle.p9_tree.proofs.Lookups.{number-node_at}
-use Rattle.p9_export.proofs.Members.{IsMember, found-member, member-node_at, no_member}
+use Rattle.p9_step.proofs.Members.{IsMember, found-member, member-node_at, no_member}
 
 -- a node of an old number was there, of the same kind
 pub record Evolved (s t : Server) : Type 0 where

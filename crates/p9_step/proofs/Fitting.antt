@@ -30,26 +30,25 @@ use Rattle.p9_space.specs.Trail.{here}
 use Rattle.p9_fids.specs.declared.opened.Cursor.{Cursor}
 use Rattle.p9_fids.specs.declared.opened.Opened.{Opened}
 use Rattle.p9_fids.specs.Fid.{Fid}
-use Rattle.p9_export.specs.State.{Setting, Session}
-use Rattle.p9_export.specs.Answer.{Outcome}
-use Rattle.p9_export.specs.Answers.{is_error}
-use Rattle.p9_export.specs.Attach.{attach_answer}
-use Rattle.p9_export.specs.Clunk.{clunk_answer}
-use Rattle.p9_export.specs.Create.{create_answer, created_in, target_among}
-use Rattle.p9_export.specs.End.{fid_ref}
-use Rattle.p9_export.specs.Listing.{Entry}
-use Rattle.p9_export.specs.Open.{open_answer, room_of}
-use Rattle.p9_export.specs.Qid.{stat_of}
-use Rattle.p9_export.specs.Read.{entry_bytes, fitting, given_of, read_answer, read_dir, read_file}
-use Rattle.p9_export.specs.Remove.{removal}
-use Rattle.p9_export.specs.Stat.{stat_answer}
-use Rattle.p9_export.specs.Version.{begun, is_known, not_spoken, version_answer}
-use Rattle.p9_export.specs.Walk.{ended_walk, going_on, walk_answer, walked, arrived_by, Arrival}
-use Rattle.p9_export.specs.Write.{write_answer, write_file}
-use Rattle.p9_export.specs.Wstat.{wstat_answer}
-use Rattle.p9_export.proofs.Done.{OnDone, done-err, done-given, done-need, done-ok, done-then}
-use Rattle.p9_export.proofs.Done.{done-unless}
-use Rattle.p9_export.proofs.Kept.{done-if}
+use Rattle.p9_step.specs.State.{Setting, Session}
+use Rattle.p9_step.specs.Answer.{Outcome, is_error}
+use Rattle.p9_step.specs.Attach.{attach_answer}
+use Rattle.p9_step.specs.Clunk.{clunk_answer}
+use Rattle.p9_step.specs.Create.{create_answer, created_in, target_among}
+use Rattle.p9_step.specs.End.{fid_ref}
+use Rattle.p9_step.specs.Listing.{Entry}
+use Rattle.p9_step.specs.Open.{open_answer, room_of}
+use Rattle.p9_step.specs.Qid.{stat_of}
+use Rattle.p9_step.specs.Read.{entry_bytes, fitting, given_of, read_answer, read_dir, read_file}
+use Rattle.p9_step.specs.Remove.{removal}
+use Rattle.p9_step.specs.Stat.{stat_answer}
+use Rattle.p9_step.specs.Version.{begun, is_known, not_spoken, version_answer}
+use Rattle.p9_step.specs.Walk.{ended_walk, going_on, walk_answer, walked, arrived_by, Arrival}
+use Rattle.p9_step.specs.Write.{write_answer, write_file}
+use Rattle.p9_step.specs.Wstat.{wstat_answer}
+use Rattle.p9_step.proofs.Done.{OnDone, done-err, done-given, done-need, done-ok, done-then}
+use Rattle.p9_step.proofs.Done.{done-unless}
+use Rattle.p9_step.proofs.Kept.{done-if}
 
 pub record Replies (most : ℕ) (outcome : Outcome) : Type 0 where
   pub fits : RFits outcome.reply

@@ -14,24 +14,24 @@ use Rattle.p9_tree.specs.Forest.{IsForest}
 use Rattle.p9_space.specs.Table.{MountRow}
 use Rattle.p9_wire.specs.Message.{RMessage, Rerror}
 use Rattle.p9_fids.specs.Fid.{Fid, FidRow, changed_fid, fid_at, trailed}
-use Rattle.p9_export.specs.State.{Setting, Session}
-use Rattle.p9_export.specs.Change.{Change, all_applied}
-use Rattle.p9_export.specs.Answer.{Answer, Outcome, outcome_of}
-use Rattle.p9_export.specs.End.{FidFits, FidsFit, fid_ref, on_end}
-use Rattle.p9_export.specs.Sound.{IsMsize}
-use Rattle.p9_export.specs.Version.{begun, is_known, msize_min, not_spoken, version_answer}
+use Rattle.p9_step.specs.State.{Setting, Session}
+use Rattle.p9_step.specs.Change.{Change, all_applied}
+use Rattle.p9_step.specs.Answer.{Answer, Outcome, outcome_of}
+use Rattle.p9_step.specs.End.{FidFits, FidsFit, fid_ref, on_end}
+use Rattle.p9_step.specs.Sound.{IsMsize}
+use Rattle.p9_step.specs.Version.{begun, is_known, msize_min, not_spoken, version_answer}
 use Rattle.p9_wire.specs.Frame.{msize_max}
-use Rattle.p9_export.specs.Attach.{attach_answer}
-use Rattle.p9_export.specs.Walk.{ended_walk, moved, walk_answer}
-use Rattle.p9_export.specs.Clunk.{clunk_answer, without}
-use Rattle.p9_export.specs.Remove.{removal, remove_answer}
-use Rattle.p9_export.specs.Stat.{stat_answer}
-use Rattle.p9_export.proofs.Done.{OnDone, done-err, done-given, done-is, done-need, done-ok}
-use Rattle.p9_export.proofs.Done.{done-unless}
-use Rattle.p9_export.proofs.Changes.{AllLawful, evolves-all}
-use Rattle.p9_export.proofs.Ends.{lawful-on_end, lawful-on_ends, lawful-taken_out}
-use Rattle.p9_export.proofs.OpenFids.{fits-evolved, fits-shut}
-use Rattle.p9_export.proofs.Rows.{each-insert, each-remove, each-set}
+use Rattle.p9_step.specs.Attach.{attach_answer}
+use Rattle.p9_step.specs.Walk.{ended_walk, moved, walk_answer}
+use Rattle.p9_step.specs.Clunk.{clunk_answer, without}
+use Rattle.p9_step.specs.Remove.{removal, remove_answer}
+use Rattle.p9_step.specs.Stat.{stat_answer}
+use Rattle.p9_step.proofs.Done.{OnDone, done-err, done-given, done-is, done-need, done-ok}
+use Rattle.p9_step.proofs.Done.{done-unless}
+use Rattle.p9_step.proofs.Changes.{AllLawful, evolves-all}
+use Rattle.p9_step.proofs.Ends.{lawful-on_end, lawful-on_ends, lawful-taken_out}
+use Rattle.p9_step.proofs.OpenFids.{fits-evolved, fits-shut}
+use Rattle.p9_step.proofs.Rows.{each-insert, each-remove, each-set}
 
 pub record Kept (table : List MountRow) (forest : List Server) (outcome : Outcome) : Type 0 where
   pub lawful : AllLawful forest outcome.changes

@@ -25,29 +25,29 @@ use Rattle.p9_fids.specs.declared.opened.OpenMode.TheVariants.{Read, Write, Read
 use Rattle.p9_wire.specs.Message.{RMessage}
 use Rattle.p9_fids.specs.Fid.{Fid, fid_at, opened_as}
 use Rattle.p9_fids.specs.Opened.{reads}
-use Rattle.p9_export.specs.declared.opening.Opening.{Opening}
-use Rattle.p9_export.specs.State.{Setting, Session}
-use Rattle.p9_export.specs.Change.{Change, AddNode, EditNode, Mark, Touch, all_applied, applied}
-use Rattle.p9_export.specs.Create.{create_answer, created, created_in, creation, target_among}
-use Rattle.p9_export.specs.End.{FidFits, FidsFit, IsOpenOn, fid_file, fid_ref}
-use Rattle.p9_export.specs.Listing.{Entry}
-use Rattle.p9_export.specs.Open.{is_cut, open_answer, opened_session, room_of, truncation}
-use Rattle.p9_export.specs.Opening.{is_plain_read, is_read, newly_opened}
-use Rattle.p9_export.specs.Read.{cursor_at, given_of, listed_session, read_answer, read_dir}
-use Rattle.p9_export.specs.Read.{read_file, readable}
+use Rattle.p9_step.specs.declared.opening.Opening.{Opening}
+use Rattle.p9_step.specs.State.{Setting, Session}
+use Rattle.p9_step.specs.Change.{Change, AddNode, EditNode, Mark, Touch, all_applied, applied}
+use Rattle.p9_step.specs.Create.{create_answer, created, created_in, creation, target_among}
+use Rattle.p9_step.specs.End.{FidFits, FidsFit, IsOpenOn, fid_file, fid_ref}
+use Rattle.p9_step.specs.Listing.{Entry}
+use Rattle.p9_step.specs.Open.{is_cut, open_answer, opened_session, room_of, truncation}
+use Rattle.p9_step.specs.Opening.{is_plain_read, is_read, newly_opened}
+use Rattle.p9_step.specs.Read.{cursor_at, given_of, listed_session, read_answer, read_dir}
+use Rattle.p9_step.specs.Read.{read_file, readable}
 use Rattle.p9_space.specs.Given.{is_given, is_row_given, is_table_given}
-use Rattle.p9_export.specs.Sound.{IsMsize}
-use Rattle.p9_export.specs.Write.{write_answer, write_file}
-use Rattle.p9_export.proofs.Changes.{AllLawful, evolves-all, keeps-cut, keeps-mark, keeps-overwrite}
-use Rattle.p9_export.proofs.Changes.{keeps-touch}
-use Rattle.p9_export.proofs.Done.{OnDone, done-err, done-given, done-need, done-ok, done-then}
-use Rattle.p9_export.proofs.Done.{done-unless}
-use Rattle.p9_export.proofs.Evolves.{Evolves, found-evolved, server_well}
-use Rattle.p9_export.proofs.Fids.{FidsFit-fid_at}
-use Rattle.p9_export.proofs.Found.{server_at-tree_changed_at}
-use Rattle.p9_export.proofs.Kept.{Kept, done-if, fits-changed, kept-changes, kept-quiet}
-use Rattle.p9_export.proofs.Members.{IsMember, found-member, member-joined, member-node_at}
-use Rattle.p9_export.proofs.OpenFids.{fits-evolved}
+use Rattle.p9_step.specs.Sound.{IsMsize}
+use Rattle.p9_step.specs.Write.{write_answer, write_file}
+use Rattle.p9_step.proofs.Changes.{AllLawful, evolves-all, keeps-cut, keeps-mark, keeps-overwrite}
+use Rattle.p9_step.proofs.Changes.{keeps-touch}
+use Rattle.p9_step.proofs.Done.{OnDone, done-err, done-given, done-need, done-ok, done-then}
+use Rattle.p9_step.proofs.Done.{done-unless}
+use Rattle.p9_step.proofs.Evolves.{Evolves, found-evolved, server_well}
+use Rattle.p9_step.proofs.Fids.{FidsFit-fid_at}
+use Rattle.p9_step.proofs.Found.{server_at-tree_changed_at}
+use Rattle.p9_step.proofs.Kept.{Kept, done-if, fits-changed, kept-changes, kept-quiet}
+use Rattle.p9_step.proofs.Members.{IsMember, found-member, member-joined, member-node_at}
+use Rattle.p9_step.proofs.OpenFids.{fits-evolved}
 
 -- what asks to read, and for nothing else
 pub record ReadsAlone (o : Opening) : Type 0 where

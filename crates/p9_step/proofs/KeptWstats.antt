@@ -11,18 +11,18 @@ use Rattle.p9_tree.specs.Node.{Node, is_dir}
 use Rattle.p9_tree.specs.Server.{Server}
 use Rattle.p9_tree.specs.Forest.{IsForest, node_of}
 use Rattle.p9_wire.specs.Message.{StatFields}
-use Rattle.p9_export.specs.State.{Setting, Session}
-use Rattle.p9_export.specs.Change.{EditNode, Rewrite, applied, edited}
-use Rattle.p9_export.specs.End.{FidsFit, fid_ref}
-use Rattle.p9_export.specs.Qid.{stat_of}
-use Rattle.p9_export.specs.Sound.{IsMsize}
-use Rattle.p9_export.specs.Wstat.{Touched, is_any, node_change, rewriting, touched_of, wstat_answer}
-use Rattle.p9_export.specs.Wstat.{wstat_fault}
-use Rattle.p9_export.proofs.Changes.{AllLawful, Keeps}
-use Rattle.p9_export.proofs.Done.{OnDone, done-given, done-need, done-ok, done-unless}
-use Rattle.p9_export.proofs.Ends.{lawful-parent_marked}
-use Rattle.p9_export.proofs.Kept.{Kept, kept-changes}
-use Rattle.p9_export.proofs.Wstats.{kind_kept, nothing_refuses}
+use Rattle.p9_step.specs.State.{Setting, Session}
+use Rattle.p9_step.specs.Change.{EditNode, Rewrite, applied, edited}
+use Rattle.p9_step.specs.End.{FidsFit, fid_ref}
+use Rattle.p9_step.specs.Qid.{stat_of}
+use Rattle.p9_step.specs.Sound.{IsMsize}
+use Rattle.p9_step.specs.Wstat.{Touched, is_any, node_change, rewriting, touched_of, wstat_answer}
+use Rattle.p9_step.specs.Wstat.{wstat_fault}
+use Rattle.p9_step.proofs.Changes.{AllLawful, Keeps}
+use Rattle.p9_step.proofs.Done.{OnDone, done-given, done-need, done-ok, done-unless}
+use Rattle.p9_step.proofs.Ends.{lawful-parent_marked}
+use Rattle.p9_step.proofs.Kept.{Kept, kept-changes}
+use Rattle.p9_step.proofs.Permits.{kind_kept, nothing_refuses}
 
 new_kind : (mode : Option Mode) (n : Node) → ForSome mode (λ m. is_dir_mode m ≡ is_dir n)
     → is_dir_mode (unwrap_or mode n.mode) ≡ is_dir n

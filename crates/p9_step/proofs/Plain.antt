@@ -11,17 +11,16 @@ use Rattle.p9_wire.specs.Message.{Topen, Tcreate, Tread, Twrite, Tclunk, Tremove
 use Rattle.p9_space.specs.Table.{members_of}
 use Rattle.p9_space.specs.Trail.{here}
 use Rattle.p9_fids.specs.Fid.{Fid}
-use Rattle.p9_export.specs.State.{Setting, Session}
-use Rattle.p9_export.specs.Answer.{Answer, Outcome}
-use Rattle.p9_export.specs.Answers.{is_error}
-use Rattle.p9_export.specs.Attach.{attach_answer}
-use Rattle.p9_export.specs.Walk.{ended_walk, walk_answer}
-use Rattle.p9_export.specs.Create.{create_answer, created_in, target_among}
-use Rattle.p9_export.specs.Write.{write_answer, write_file}
-use Rattle.p9_export.specs.Wstat.{wstat_answer}
-use Rattle.p9_export.specs.Step.{may_run_out, session_answer}
-use Rattle.p9_export.proofs.Done.{OnDone, done-err, done-given, done-is, done-need, done-ok}
-use Rattle.p9_export.proofs.Done.{done-then, done-unless}
+use Rattle.p9_step.specs.State.{Setting, Session}
+use Rattle.p9_step.specs.Answer.{Answer, Outcome, is_error}
+use Rattle.p9_step.specs.Attach.{attach_answer}
+use Rattle.p9_step.specs.Walk.{ended_walk, walk_answer}
+use Rattle.p9_step.specs.Create.{create_answer, created_in, target_among}
+use Rattle.p9_step.specs.Write.{write_answer, write_file}
+use Rattle.p9_step.specs.Wstat.{wstat_answer}
+use Rattle.p9_step.specs.Step.{may_run_out, session_answer}
+use Rattle.p9_step.proofs.Done.{OnDone, done-err, done-given, done-is, done-need, done-ok}
+use Rattle.p9_step.proofs.Done.{done-then, done-unless}
 
 abbrev pub IsPlain : Outcome → Type 0
 IsPlain outcome = is_error outcome.reply ≡ false

@@ -4,7 +4,7 @@ use Rattle.p9_wire.specs.Fields.{number}
 use Rattle.p9_wire.specs.Message.{RMessage, Rversion, Rattach, Rerror, Rflush, Rwalk, Ropen}
 use Rattle.p9_wire.specs.Message.{Rcreate, Rread, Rwrite, Rclunk, Rremove, Rstat, Rwstat}
 use Rattle.p9_wire.specs.Spelling.{r_spelling, r_type}
-use Rattle.p9_export.specs.Answers.{is_error}
+use Rattle.p9_step.specs.Answer.{is_error}
 
 -- the fifth byte is the type
 kind-r_spelling : (tag : ℕ) (m : RMessage) → get_or (r_spelling tag m) 4 0 ≡ r_type m

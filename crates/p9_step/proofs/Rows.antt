@@ -1,5 +1,5 @@
 -- What holds of each row of a map holds after a row is put in, changed or taken out.
-use Rattle.std.proofs.Common.{◌≡◌, ℕ, Bool, true, false, List, [], ◌∷◌, Some, None, refl, subst}
+use Rattle.std.proofs.Common.{◌≡◌, ℕ, Bool, true, false, List, [], ◌∷◌, Some, None, refl, ap, subst}
 use Rattle.std.proofs.Common.{Ordering, Less, Equal, Greater}
 use Rattle.std.specs.List.{AllByRecursion}
 use Rattle.std.specs.Map.{lookup, remove_entry, set_value}
@@ -51,3 +51,18 @@ module _ {X : Type 0} (P : X → Type 0) where
           let here : Some row.1 ≡ Some x = rw e at found in let same : row.1 ≡ x = cc in
           subst P same each.0
       go false e later = let there : lookup test rows ≡ Some x = rw e at found in later there
+
+-- to put a session where it stands changes nothing
+pub set_value-same : {X : Type 0} (t : ℕ → Bool) (rows : List (ℕ × X)) (x : X)
+    → lookup t rows ≡ Some x → set_value t rows x ≡ rows
+set_value-same t [] x found = refl
+set_value-same t (row ∷ rows) x found = go (t row.0) refl (set_value-same t rows x)
+  where
+    go : (b : Bool) → t row.0 ≡ b → (lookup t rows ≡ Some x → set_value t rows x ≡ rows)
+        → set_value t (row ∷ rows) x ≡ row ∷ rows
+    go true e later =
+        let is : Some row.1 ≡ Some x = rw e at found in let same : x ≡ row.1 = cc in
+        rw e (ap (λ v. (row.0, v) ∷ rows) same)
+    go false e later =
+        let further : lookup t rows ≡ Some x = rw e at found in
+        rw e (ap (λ r. row ∷ r) (later further))

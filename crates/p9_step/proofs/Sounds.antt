@@ -1,5 +1,5 @@
--- The machine keeps its state sound.
-use Rattle.std.proofs.Common.{◌≡◌, ℕ, Bool, true, false, List, [], ◌∷◌, Option, Some, None, IsSome}
+-- A step keeps its state sound.
+use Rattle.std.proofs.Common.{◌≡◌, ℕ, Bool, true, List, [], ◌∷◌, Option, Some, None}
 use Rattle.std.proofs.Common.{Result, Ok, Err, refl, arith}
 use Rattle.std.specs.List.{AllByRecursion, list_all}
 use Rattle.std.proofs.lemmas.Bool.{and_parts}
@@ -8,34 +8,33 @@ use Rattle.std.specs.Option.{IfSome}
 use Rattle.std.specs.Result.{OnErr, OnOk}
 use Rattle.std.specs.Ordering.{nat_cmp}
 use Rattle.std.specs.BTreeMap.{is_at}
-use Rattle.p9_base.specs.declared.fault.Fault.{Fault}
 use Rattle.p9_base.specs.declared.node_ref.NodeRef.{NodeRef}
 use Rattle.p9_tree.specs.Server.{Server}
 use Rattle.p9_tree.specs.Forest.{IsForest}
 use Rattle.p9_space.specs.declared.row.Member.{Member}
 use Rattle.p9_space.specs.Table.{MountRow}
-use Rattle.p9_wire.specs.Message.{RMessage, TMessage, Tversion, Tauth, Tattach, Tflush, Twalk}
+use Rattle.p9_wire.specs.Message.{TMessage, Tversion, Tauth, Tattach, Tflush, Twalk}
 use Rattle.p9_wire.specs.Message.{Topen, Tcreate, Tread, Twrite, Tclunk, Tremove, Tstat, Twstat}
-use Rattle.p9_export.specs.State.{Setting, Session, SessionRow, changed_session, fresh, session_at}
-use Rattle.p9_export.specs.State.{with_session, without_session}
-use Rattle.p9_export.specs.Change.{Change, all_applied}
-use Rattle.p9_export.specs.Answer.{Outcome}
-use Rattle.p9_export.specs.Answers.{AnswersAmong, changes_of, frame_among, session_of}
-use Rattle.p9_export.specs.End.{FidsFit, on_ends}
+use Rattle.p9_step.specs.State.{Setting, Session, SessionRow, changed_session, fresh, session_at}
+use Rattle.p9_step.specs.State.{with_session, without_session}
+use Rattle.p9_step.specs.Change.{Change, all_applied}
+use Rattle.p9_step.specs.Answer.{Outcome}
+
+use Rattle.p9_step.specs.End.{FidsFit, on_ends}
 use Rattle.p9_space.specs.Given.{is_given, is_row_given, is_table_given}
-use Rattle.p9_export.specs.Sound.{IsMsize, IsSessionSound, IsSound}
-use Rattle.p9_export.specs.Step.{finds_taken, frame_answer, message_answer, ran_out, request_of}
-use Rattle.p9_export.specs.Step.{session_answer}
-use Rattle.p9_export.proofs.Changes.{AllLawful, evolves-all}
-use Rattle.p9_export.proofs.Done.{OnDone, done-err, done-is, done-ok, done-then}
-use Rattle.p9_export.proofs.Ends.{lawful-on_ends}
-use Rattle.p9_export.proofs.Evolves.{Evolves}
-use Rattle.p9_export.proofs.Kept.{Kept, kept-attach, kept-clunk, kept-quiet, kept-remove, kept-stat}
-use Rattle.p9_export.proofs.Kept.{kept-version, kept-walk}
-use Rattle.p9_export.proofs.KeptFiles.{kept-create, kept-open, kept-read, kept-write}
-use Rattle.p9_export.proofs.KeptWstats.{kept-wstat}
-use Rattle.p9_export.proofs.OpenFids.{fits-evolved}
-use Rattle.p9_export.proofs.Rows.{each-insert, each-lookup, each-remove, each-set}
+use Rattle.p9_step.specs.Sound.{IsMsize, IsSessionSound, IsSound}
+use Rattle.p9_step.specs.Step.{finds_taken, frame_answer, message_answer, request_of}
+use Rattle.p9_step.specs.Step.{session_answer}
+use Rattle.p9_step.proofs.Changes.{AllLawful, evolves-all}
+use Rattle.p9_step.proofs.Done.{OnDone, done-err, done-ok, done-then}
+use Rattle.p9_step.proofs.Ends.{lawful-on_ends}
+use Rattle.p9_step.proofs.Evolves.{Evolves}
+use Rattle.p9_step.proofs.Kept.{Kept, kept-attach, kept-clunk, kept-quiet, kept-remove, kept-stat}
+use Rattle.p9_step.proofs.Kept.{kept-version, kept-walk}
+use Rattle.p9_step.proofs.KeptFiles.{kept-create, kept-open, kept-read, kept-write}
+use Rattle.p9_step.proofs.KeptWstats.{kept-wstat}
+use Rattle.p9_step.proofs.OpenFids.{fits-evolved}
+use Rattle.p9_step.proofs.Rows.{each-insert, each-lookup, each-remove, each-set}
 
 -- every request's outcome
 kept-answer : (setting : Setting) (forest : List Server) (taken : Bool) (session : Session)
@@ -120,7 +119,7 @@ module _ (table : List MountRow) (forest : List Server) (rows : List SessionRow)
       kept.sessions there
 
   -- after an outcome
-  sound-outcome : (name : ℕ) (outcome : Outcome) → Kept table forest outcome
+  pub sound-outcome : (name : ℕ) (outcome : Outcome) → Kept table forest outcome
       → IsSound table (all_applied outcome.changes forest)
       (changed_session name outcome.session rows)
   sound-outcome name outcome done =
@@ -149,7 +148,7 @@ module _ (table : List MountRow) (forest : List Server) (rows : List SessionRow)
       }
 
 -- the answer to a frame
-kept-frame : (setting : Setting) (forest : List Server) (rows : List SessionRow) (session : Session)
+pub kept-frame : (setting : Setting) (forest : List Server) (rows : List SessionRow) (session : Session)
     (now : ℕ) (frame : List ℕ) → IsForest forest → is_table_given forest setting.table ≡ true
     → IsSessionSound setting.table forest session
     → OnDone (Kept setting.table forest) (frame_answer setting forest rows session now frame)
@@ -158,30 +157,6 @@ kept-frame setting forest rows session now frame sound given its =
     (message_answer setting forest rows session now)
     (λ m is. kept-answer setting forest (finds_taken setting forest rows session m) session now
     m sound given its.0 its.1)
-
--- after a frame
-pub sound-answered : (setting : Setting) (forest forest' : List Server)
-    (rows rows' : List SessionRow) (name now : ℕ) (session : Session) (frame : List ℕ)
-    (result : Result RMessage Fault) →
-    IsForest forest → IsSound setting.table forest rows → session_at name rows ≡ Some session →
-    AnswersAmong name (frame_answer setting forest rows session now frame)
-    (ran_out frame (frame_answer setting forest rows session now frame)) forest forest' rows
-    rows' result →
-    IsSound setting.table forest' rows'
-sound-answered setting forest forest' rows rows' name now session frame (Ok reply) sound kept there
-    did =
-    let a = frame_answer setting forest rows session now frame in
-    let its = session-sound setting.table forest rows sound kept name session there in
-    let done =
-    done-is (Kept setting.table forest) a _
-    (kept-frame setting forest rows session now frame sound kept.given its) did.0 in
-    rw (did.1, did.2) (sound-outcome setting.table forest rows sound kept name (record {
-      changes = changes_of a;
-      session = session_of a;
-      reply = reply;
-    }) done)
-sound-answered setting forest forest' rows rows' name now session frame (Err fault) sound kept there
-    did = rw (did.1, did.2) kept
 
 -- without sessions
 pub sound-new : (table : List MountRow) (forest : List Server) → is_table_given forest table ≡ true
@@ -200,23 +175,6 @@ each-session-sound table forest rows name kept = go (session_at name rows) refl
     go (Some session) e =
         rw e (each-lookup (λ s. IsSessionSound table forest s) (is_at (nat_cmp name)) rows session
         kept.sessions e)
-
--- the same of the session of this name, which is open
-pub sound-among : (setting : Setting) (forest forest' : List Server) (rows rows' : List SessionRow)
-    (name now : ℕ) (frame : List ℕ) (result : Result RMessage Fault) →
-    IsForest forest → IsSound setting.table forest rows → IsSome (session_at name rows) →
-    AnswersAmong name (frame_among setting forest rows name now frame)
-    (ran_out frame (frame_among setting forest rows name now frame)) forest forest' rows rows'
-    result →
-    IsSound setting.table forest' rows'
-sound-among setting forest forest' rows rows' name now frame result sound kept live did =
-    go (session_at name rows) refl
-  where
-    go : (o : Option Session) → session_at name rows ≡ o → IsSound setting.table forest' rows'
-    go None e = let no : false ≡ true = rw e at live in absurd (cc)
-    go (Some session) e =
-        sound-answered setting forest forest' rows rows' name now session frame result sound kept e
-        (rw e at did)
 
 -- after an opening, or one for which there was no memory
 pub sound-put : {T E : Type 0} (table : List MountRow) (forest : List Server)

@@ -1,10 +1,10 @@
 -- What comes of a request: an outcome, or the fault that refuses it.
-use Rattle.std.specs.Prelude.{Bool, List, [], Option, Some, None, Result, Ok, Err, if◌then◌else◌}
+use Rattle.std.specs.Prelude.{Bool, true, false, List, [], Option, Some, None, Result, Ok, Err, if◌then◌else◌}
 use Rattle.p9_base.specs.declared.fault.Fault.{Fault}
 use Rattle.p9_base.specs.Fault.{text_of}
 use Rattle.p9_wire.specs.Message.{RMessage, Rerror}
-use Rattle.p9_export.specs.State.{Session}
-use Rattle.p9_export.specs.Change.{Change}
+use Rattle.p9_step.specs.State.{Session}
+use Rattle.p9_step.specs.Change.{Change}
 
 -- the changes of the forest, one after another, the session after the request, and the reply
 pub record Outcome : Type 0 where
@@ -37,3 +37,7 @@ outcome_of session (Err fault) = record {
   session = session;
   reply = Rerror (text_of fault);
 }
+
+abbrev pub is_error : RMessage → Bool
+is_error (Rerror ename) = true
+is_error other = false

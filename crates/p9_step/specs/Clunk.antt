@@ -4,9 +4,9 @@ use Rattle.p9_base.specs.declared.fault.Fault.TheVariants.{UnknownFid}
 use Rattle.p9_tree.specs.Server.{Server}
 use Rattle.p9_wire.specs.Message.{Rclunk}
 use Rattle.p9_fids.specs.Fid.{fid_at, without_fid}
-use Rattle.p9_export.specs.State.{Setting, Session}
-use Rattle.p9_export.specs.Answer.{Answer, given}
-use Rattle.p9_export.specs.End.{on_end}
+use Rattle.p9_step.specs.State.{Setting, Session}
+use Rattle.p9_step.specs.Answer.{Answer, given}
+use Rattle.p9_step.specs.End.{on_end}
 
 abbrev pub without : ℕ → Session → Session
 without fid session = record session { fids = without_fid fid session.fids }

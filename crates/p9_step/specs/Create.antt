@@ -28,13 +28,13 @@ use Rattle.p9_space.specs.Trail.{here, places_max}
 use Rattle.p9_space.specs.Walk.{is_alive, is_alive_dir}
 use Rattle.p9_wire.specs.Message.{RMessage, Rcreate}
 use Rattle.p9_fids.specs.Fid.{Fid, changed_fid, fid_at}
-use Rattle.p9_export.specs.declared.opening.Opening.{Opening}
-use Rattle.p9_export.specs.State.{Setting, Session}
-use Rattle.p9_export.specs.Answer.{Answer, given, need, unless}
-use Rattle.p9_export.specs.Change.{AddNode, EditNode, Mark}
-use Rattle.p9_export.specs.Open.{room_of}
-use Rattle.p9_export.specs.Opening.{is_plain_read, newly_opened, opening_of}
-use Rattle.p9_export.specs.Qid.{qid_of}
+use Rattle.p9_step.specs.declared.opening.Opening.{Opening}
+use Rattle.p9_step.specs.State.{Setting, Session}
+use Rattle.p9_step.specs.Answer.{Answer, given, need, unless}
+use Rattle.p9_step.specs.Change.{AddNode, EditNode, Mark}
+use Rattle.p9_step.specs.Open.{room_of}
+use Rattle.p9_step.specs.Opening.{is_plain_read, newly_opened, opening_of}
+use Rattle.p9_step.specs.Qid.{qid_of}
 
 -- a right to read or write is given only where the directory gives it; to execute, in a file, as
 -- asked

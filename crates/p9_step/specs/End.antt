@@ -14,7 +14,7 @@ use Rattle.p9_space.specs.Trail.{here}
 use Rattle.p9_fids.specs.declared.opened.Opened.{Opened}
 use Rattle.p9_fids.specs.declared.opened.OpenMode.TheVariants.{Read}
 use Rattle.p9_fids.specs.Fid.{Fid, FidRow}
-use Rattle.p9_export.specs.Change.{Change, EditNode, DropNode, Mark, all_applied}
+use Rattle.p9_step.specs.Change.{Change, EditNode, DropNode, Mark, all_applied}
 
 -- the node in whose place a fid stands
 abbrev pub fid_ref : List MountRow → Fid → NodeRef

@@ -6,11 +6,11 @@ use Rattle.p9_tree.specs.Forest.{IsForest}
 use Rattle.p9_wire.specs.Laws.{IsBytes}
 use Rattle.p9_wire.specs.Message.{RMessage, Rerror, TMessage, Tremove}
 use Rattle.p9_wire.specs.Spelling.{RFits, r_spelling}
-use Rattle.p9_export.specs.State.{Session, State, changed_session, session_at}
-use Rattle.p9_export.specs.Clunk.{without}
-use Rattle.p9_export.specs.Event.{Request, is_frame}
-use Rattle.p9_export.specs.Sound.{IsSound}
-use Rattle.p9_export.specs.Step.{Stepped, request_of, step, tag_of}
+use Rattle.p9_step.specs.State.{Session, State, changed_session, session_at}
+use Rattle.p9_step.specs.Clunk.{without}
+use Rattle.p9_step.specs.Event.{Request, is_frame}
+use Rattle.p9_step.specs.Sound.{IsSound}
+use Rattle.p9_step.specs.Step.{Stepped, request_of, step, tag_of}
 
 -- a state that an exporter can have: its servers are well-formed, and what it keeps of its sessions
 -- holds

@@ -17,14 +17,14 @@ use Rattle.p9_space.specs.Rights.{may}
 use Rattle.p9_space.specs.Table.{MountRow}
 use Rattle.p9_wire.specs.Message.{RMessage, Ropen}
 use Rattle.p9_fids.specs.Fid.{changed_fid, fid_at, open_count, opened_as}
-use Rattle.p9_export.specs.declared.opening.Opening.{Opening}
-use Rattle.p9_export.specs.State.{Setting, Session, SessionRow}
-use Rattle.p9_export.specs.Answer.{Answer, given, need}
-use Rattle.p9_export.specs.Change.{Change, Cut, EditNode, Mark, edited}
-use Rattle.p9_export.specs.End.{fid_file, fid_ref}
-use Rattle.p9_export.specs.Opening.{is_plain_read, newly_opened, opening_of, wanted_by}
-use Rattle.p9_export.specs.Qid.{qid_of}
-use Rattle.p9_export.specs.Rights.{may_write_parent}
+use Rattle.p9_step.specs.declared.opening.Opening.{Opening}
+use Rattle.p9_step.specs.State.{Setting, Session, SessionRow}
+use Rattle.p9_step.specs.Answer.{Answer, given, need}
+use Rattle.p9_step.specs.Change.{Change, Cut, EditNode, Mark, edited}
+use Rattle.p9_step.specs.End.{fid_file, fid_ref}
+use Rattle.p9_step.specs.Opening.{is_plain_read, newly_opened, opening_of, wanted_by}
+use Rattle.p9_step.specs.Qid.{qid_of}
+use Rattle.p9_step.specs.Rights.{may_write_parent}
 
 -- what stands around the data of a read or a write takes so many bytes at most
 abbrev pub io_header : ℕ

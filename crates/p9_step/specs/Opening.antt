@@ -5,7 +5,7 @@ use Rattle.p9_base.specs.declared.mode.Rights.{Rights}
 use Rattle.p9_fids.specs.declared.opened.OpenMode.{OpenMode}
 use Rattle.p9_fids.specs.declared.opened.OpenMode.TheVariants.{Read, Write, ReadWrite, Execute}
 use Rattle.p9_fids.specs.declared.opened.Opened.{Opened}
-use Rattle.p9_export.specs.declared.opening.Opening.{Opening}
+use Rattle.p9_step.specs.declared.opening.Opening.{Opening}
 
 -- the low two bits
 abbrev pub open_mode_of : ℕ → OpenMode

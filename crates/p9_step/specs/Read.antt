@@ -16,13 +16,13 @@ use Rattle.p9_fids.specs.declared.opened.Cursor.{Cursor}
 use Rattle.p9_fids.specs.declared.opened.Opened.{Opened}
 use Rattle.p9_fids.specs.Fid.{Fid, changed_fid, fid_at, opened_as}
 use Rattle.p9_fids.specs.Opened.{reads}
-use Rattle.p9_export.specs.State.{Setting, Session}
-use Rattle.p9_export.specs.Answer.{Answer, given, need}
-use Rattle.p9_export.specs.Change.{EditNode, Touch}
-use Rattle.p9_export.specs.End.{fid_file, fid_ref}
-use Rattle.p9_export.specs.Listing.{Entry, cursor_of, listing_behind}
-use Rattle.p9_export.specs.Open.{room_of}
-use Rattle.p9_export.specs.Qid.{stat_of}
+use Rattle.p9_step.specs.State.{Setting, Session}
+use Rattle.p9_step.specs.Answer.{Answer, given, need}
+use Rattle.p9_step.specs.Change.{EditNode, Touch}
+use Rattle.p9_step.specs.End.{fid_file, fid_ref}
+use Rattle.p9_step.specs.Listing.{Entry, cursor_of, listing_behind}
+use Rattle.p9_step.specs.Open.{room_of}
+use Rattle.p9_step.specs.Qid.{stat_of}
 
 -- A file.
 

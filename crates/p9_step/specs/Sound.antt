@@ -4,10 +4,10 @@ use Rattle.std.specs.List.{AllByRecursion}
 use Rattle.p9_tree.specs.Server.{Server}
 use Rattle.p9_space.specs.Given.{is_table_given}
 use Rattle.p9_space.specs.Table.{MountRow}
-use Rattle.p9_export.specs.End.{FidsFit}
+use Rattle.p9_step.specs.End.{FidsFit}
 use Rattle.p9_wire.specs.Frame.{msize_max}
-use Rattle.p9_export.specs.State.{Session, SessionRow}
-use Rattle.p9_export.specs.Version.{msize_min}
+use Rattle.p9_step.specs.State.{Session, SessionRow}
+use Rattle.p9_step.specs.Version.{msize_min}
 
 -- an msize that a version can set
 abbrev pub IsMsize : Option ℕ → Type 0

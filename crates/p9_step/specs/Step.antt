@@ -14,23 +14,23 @@ use Rattle.p9_wire.specs.Message.{TMessage, Tversion, Tauth, Tattach, Tflush, Tw
 use Rattle.p9_wire.specs.Message.{Tread, Twrite, Tclunk, Tremove, Tstat, Twstat, Rerror, Rflush}
 use Rattle.p9_wire.specs.Spelling.{r_spelling}
 use Rattle.p9_wire.specs.Reading.{t_message_of}
-use Rattle.p9_export.specs.State.{Setting, Session, SessionRow, State, changed_session, fresh}
-use Rattle.p9_export.specs.State.{session_at, with_session, without_session}
-use Rattle.p9_export.specs.Change.{all_applied}
-use Rattle.p9_export.specs.Answer.{Answer, Outcome, outcome_of}
-use Rattle.p9_export.specs.End.{on_ends}
-use Rattle.p9_export.specs.Version.{version_answer}
-use Rattle.p9_export.specs.Attach.{attach_answer}
-use Rattle.p9_export.specs.Walk.{walk_answer}
-use Rattle.p9_export.specs.Open.{is_taken, open_answer}
-use Rattle.p9_export.specs.Create.{create_answer}
-use Rattle.p9_export.specs.Read.{read_answer}
-use Rattle.p9_export.specs.Write.{write_answer}
-use Rattle.p9_export.specs.Clunk.{clunk_answer}
-use Rattle.p9_export.specs.Remove.{remove_answer}
-use Rattle.p9_export.specs.Stat.{stat_answer}
-use Rattle.p9_export.specs.Wstat.{wstat_answer}
-use Rattle.p9_export.specs.Event.{Event, Opening, Request, Closing, is_frame}
+use Rattle.p9_step.specs.State.{Setting, Session, SessionRow, State, changed_session, fresh}
+use Rattle.p9_step.specs.State.{session_at, with_session, without_session}
+use Rattle.p9_step.specs.Change.{all_applied}
+use Rattle.p9_step.specs.Answer.{Answer, Outcome, outcome_of}
+use Rattle.p9_step.specs.End.{on_ends}
+use Rattle.p9_step.specs.Version.{version_answer}
+use Rattle.p9_step.specs.Attach.{attach_answer}
+use Rattle.p9_step.specs.Walk.{walk_answer}
+use Rattle.p9_step.specs.Open.{is_taken, open_answer}
+use Rattle.p9_step.specs.Create.{create_answer}
+use Rattle.p9_step.specs.Read.{read_answer}
+use Rattle.p9_step.specs.Write.{write_answer}
+use Rattle.p9_step.specs.Clunk.{clunk_answer}
+use Rattle.p9_step.specs.Remove.{remove_answer}
+use Rattle.p9_step.specs.Stat.{stat_answer}
+use Rattle.p9_step.specs.Wstat.{wstat_answer}
+use Rattle.p9_step.specs.Event.{Event, Opening, Request, Closing, is_frame}
 
 -- Requests.
 

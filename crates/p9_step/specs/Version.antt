@@ -7,9 +7,9 @@ use Rattle.p9_base.specs.declared.fault.Fault.TheVariants.{SmallMsize}
 use Rattle.p9_tree.specs.Server.{Server}
 use Rattle.p9_wire.specs.Frame.{msize_max}
 use Rattle.p9_wire.specs.Message.{Rversion}
-use Rattle.p9_export.specs.State.{Setting, Session}
-use Rattle.p9_export.specs.Answer.{Answer, need}
-use Rattle.p9_export.specs.End.{on_ends}
+use Rattle.p9_step.specs.State.{Setting, Session}
+use Rattle.p9_step.specs.Answer.{Answer, need}
+use Rattle.p9_step.specs.End.{on_ends}
 
 -- the least msize
 abbrev pub msize_min : ℕ

@@ -13,9 +13,9 @@ use Rattle.p9_space.specs.Trail.{here, stepped}
 use Rattle.p9_space.specs.Walk.{step_of}
 use Rattle.p9_wire.specs.Message.{Rwalk}
 use Rattle.p9_fids.specs.Fid.{Fid, FidRow, changed_fid, fid_at, put_fault, trailed, with_fid, nofid}
-use Rattle.p9_export.specs.State.{Setting, Session}
-use Rattle.p9_export.specs.Answer.{Answer, given, need, unless}
-use Rattle.p9_export.specs.Qid.{qid_at}
+use Rattle.p9_step.specs.State.{Setting, Session}
+use Rattle.p9_step.specs.Answer.{Answer, given, need, unless}
+use Rattle.p9_step.specs.Qid.{qid_at}
 
 -- how far names lead: the qid of each file where a step arrives, the trail there, and the fault of
 -- the step that is refused, if one is

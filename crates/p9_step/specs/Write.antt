@@ -9,11 +9,11 @@ use Rattle.p9_wire.specs.Message.{Rwrite}
 use Rattle.std.specs.Option.{option_map_or}
 use Rattle.p9_fids.specs.Fid.{Fid, fid_at}
 use Rattle.p9_fids.specs.Opened.{writes}
-use Rattle.p9_export.specs.State.{Setting, Session}
-use Rattle.p9_export.specs.Answer.{Answer, given, need}
-use Rattle.p9_export.specs.Change.{EditNode, Mark, Overwrite}
-use Rattle.p9_export.specs.End.{fid_file, fid_ref}
-use Rattle.p9_export.specs.Open.{is_append_only}
+use Rattle.p9_step.specs.State.{Setting, Session}
+use Rattle.p9_step.specs.Answer.{Answer, given, need}
+use Rattle.p9_step.specs.Change.{EditNode, Mark, Overwrite}
+use Rattle.p9_step.specs.End.{fid_file, fid_ref}
+use Rattle.p9_step.specs.Open.{is_append_only}
 use Rattle.p9_tree.specs.Bytes.{file_max}
 
 -- open for writing

@@ -2,7 +2,7 @@
 use Rattle.std.specs.Prelude.{ℕ, ◌-◌, ◌^◌, ◌==◌, ◌&&◌, ◌||◌, Bool, false, not, nat_lt, List, []}
 use Rattle.std.specs.Prelude.{◌∷◌, Option, Some, None, Ok, is_none, is_some, option_and_then}
 use Rattle.std.specs.Prelude.{if◌then◌else◌}
-use Rattle.std.specs.Option.{option_copied, option_map_or, option_or}
+use Rattle.std.specs.Option.{option_map_or, option_or}
 use Rattle.std.specs.Str.{bytes_eq}
 use Rattle.p9_base.specs.declared.fault.Fault.{Fault}
 use Rattle.p9_base.specs.declared.fault.Fault.TheVariants.{BadFileName, FileExists, FileTooLarge}
@@ -21,13 +21,12 @@ use Rattle.p9_tree.specs.declared.change.Change.{Change as NodeChange}
 use Rattle.p9_space.specs.Rights.{may, rules, to_write}
 use Rattle.p9_wire.specs.Message.{Rwstat, StatFields}
 use Rattle.p9_fids.specs.Fid.{fid_at}
-use Rattle.p9_export.specs.declared.wstat.Touched.{Touched as TouchedParts}
-use Rattle.p9_export.specs.State.{Setting, Session}
-use Rattle.p9_export.specs.Answer.{Answer, given, need, unless}
-use Rattle.p9_export.specs.Change.{Change, EditNode, Rewrite}
-use Rattle.p9_export.specs.End.{fid_file, fid_ref, parent_marked}
-use Rattle.p9_export.specs.Qid.{stat_of}
-use Rattle.p9_export.specs.Rights.{may_write_parent}
+use Rattle.p9_step.specs.State.{Setting, Session}
+use Rattle.p9_step.specs.Answer.{Answer, given, need, unless}
+use Rattle.p9_step.specs.Change.{Change, EditNode, Rewrite}
+use Rattle.p9_step.specs.End.{fid_file, fid_ref, parent_marked}
+use Rattle.p9_step.specs.Qid.{stat_of}
+use Rattle.p9_step.specs.Rights.{may_write_parent}
 use Rattle.p9_tree.specs.Bytes.{file_max}
 
 -- What is touched: all but a field that holds its greatest number, or is empty, or holds what
@@ -78,16 +77,6 @@ touched_of there wanted = record {
   length = touched_number (2 ^ 64 - 1) there.length wanted.length;
   mtime = touched_number (2 ^ 32 - 1) there.mtime wanted.mtime;
   gid = touched_text there.gid wanted.gid;
-}
-
--- the same of the code's type, whose texts are slices
-abbrev pub touched_view : TouchedParts → Touched
-touched_view t = record {
-  mode = t.mode;
-  name = option_copied t.name;
-  length = t.length;
-  mtime = t.mtime;
-  gid = option_copied t.gid;
 }
 
 abbrev pub is_any : Touched → Bool

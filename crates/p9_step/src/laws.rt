@@ -1,6 +1,6 @@
 //! What follows from the step alone. Each function does nothing: its clauses are the laws.
 
-ghost use Rattle.p9_export.specs.Laws.{EveryFrameIsAnswered};
+ghost use Rattle.p9_step.specs.Laws.{EveryFrameIsAnswered};
 
 /// Every frame of an open session gets one reply, which fits the session's msize, and before a
 /// version 43 bytes. A refusal is one of the thirty faults and leaves the state, but that a refused

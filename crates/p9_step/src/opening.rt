@@ -1,8 +1,8 @@
 //! What the mode of an open or a create asks for, as open(5).
 
 ghost use Rattle.std.specs.Prelude.{◌≡◌};
-ghost use Rattle.p9_export.specs.Opening.{is_plain_read, newly_opened, open_mode_of, opening_of};
-ghost use Rattle.p9_export.specs.Opening.{wanted_by};
+ghost use Rattle.p9_step.specs.Opening.{is_plain_read, newly_opened, open_mode_of, opening_of};
+ghost use Rattle.p9_step.specs.Opening.{wanted_by};
 
 use p9_base::Rights;
 use p9_fids::{OpenMode, Opened};

@@ -2,9 +2,9 @@ use Rattle.std.proofs.Common.{◌≡◌, ◌∙◌, ◌++◌, sym, ap, subst, ma
 use Rattle.std.proofs.Math.Seq.{drop-append_seam}
 use Rattle.std.specs.Option.{option_copied, option_copied_mut}
 use Rattle.p9_wire.specs.Message.{t_view}
-use Rattle.p9_export.specs.State.{session_at}
+use Rattle.p9_step.specs.State.{session_at}
 use Rattle.p9_export.specs.Answers.{request_view}
-use Rattle.p9_export.specs.Step.{request_of}
+use Rattle.p9_step.specs.Step.{request_of}
 use Rattle.p9_export.proofs.Among.{among-request}
 use Rattle.p9_export.proofs.answer.answer.Goals as goal
 

@@ -3,8 +3,8 @@ use Rattle.std.specs.Option.{option_copied}
 use Rattle.p9_tree.specs.Forest.{next_of, node_of}
 use Rattle.p9_base.specs.NodeRef.{beside}
 use Rattle.p9_tree.specs.New.{new_node}
-use Rattle.p9_export.specs.Qid.{qid_of}
-use Rattle.p9_export.proofs.Found.{node_of-added}
+use Rattle.p9_step.specs.Qid.{qid_of}
+use Rattle.p9_step.proofs.Found.{node_of-added}
 use Rattle.p9_export.proofs.Truncation.{copied-some}
 use Rattle.p9_export.proofs.create.add_to.Goals as goal
 

@@ -4,7 +4,7 @@ use Rattle.p9_tree.specs.Forest.{next_of}
 use Rattle.p9_base.specs.NodeRef.{beside}
 use Rattle.p9_fids.specs.Fid.{fid_at}
 use Rattle.p9_tree.specs.New.{new_node}
-use Rattle.p9_export.specs.Create.{created, entered, fault_in}
+use Rattle.p9_step.specs.Create.{created, entered, fault_in}
 use Rattle.p9_export.proofs.Creates.{can_add, creation-did, if_some, nothing_refuses}
 use Rattle.p9_export.proofs.create.create_in.Goals as goal
 
@@ -44,7 +44,8 @@ returns g c =
     c.new_in-new.ensures in
     let next = next_of c.args.target.server forest in
     let longer : c.in_ok-trail.trail ≡ c.holder.inside.trail
-    ++ beside c.args.target c.next_of.result ∷ [] = c.in_ok-trail.ensures in
+    ++ beside c.args.target c.next_of.result ∷ [] =
+    rw (← c.beside-place.ensures) c.in_ok-trail.ensures in
     let trail : c.in_ok-trail.trail ≡ v.trail ++ beside c.args.target next ∷ [] =
     rw (← c.holder.view_is, ← c.next_of.ensures) longer in
     let entering : c.enter.new.session

@@ -1,7 +1,7 @@
 use Rattle.std.proofs.Common.{◌≡◌, Some, IsSome, refl, ap, ◌∙◌}
 use Rattle.p9_fids.specs.Fid.{changed_fid, fid_at, opened_as, trailed}
-use Rattle.p9_export.specs.Opening.{newly_opened}
-use Rattle.p9_export.proofs.Found.{changed_fid-twice, fid_at-still}
+use Rattle.p9_step.specs.Opening.{newly_opened}
+use Rattle.p9_step.proofs.Found.{changed_fid-twice, fid_at-still}
 use Rattle.p9_export.proofs.create.enter.Goals as goal
 
 pub set_opened-requires : goal.set_opened-requires

@@ -1,5 +1,5 @@
 use Rattle.std.proofs.Common.{◌∙◌, sym}
-use Rattle.p9_export.proofs.Ends.{removed_leaf}
+use Rattle.p9_step.proofs.Ends.{removed_leaf}
 use Rattle.p9_export.proofs.end.end_fid.Goals as goal
 
 pub drop_leaf-requires-clause-not_root : goal.drop_leaf-requires-clause-not_root

@@ -1,6 +1,6 @@
 use Rattle.std.proofs.Common.{◌∙◌, sym}
-use Rattle.p9_export.proofs.Ends.{ended-first, first-there, no-first}
-use Rattle.p9_export.proofs.Fids.{FidsFit-fid_at}
+use Rattle.p9_step.proofs.Ends.{ended-first, first-there, no-first}
+use Rattle.p9_step.proofs.Fids.{FidsFit-fid_at}
 use Rattle.p9_export.proofs.end.end_fids.Goals as goal
 
 pub end_fid-requires : goal.end_fid-requires

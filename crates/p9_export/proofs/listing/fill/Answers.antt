@@ -1,5 +1,5 @@
 use Rattle.std.proofs.Common.{map, length}
-use Rattle.p9_export.specs.Listing.{left_of}
+use Rattle.p9_step.specs.Listing.{left_of}
 use Rattle.p9_export.proofs.Listings.{filled-bytes, filled-cursor, filling-next, filling-smaller}
 use Rattle.p9_export.proofs.Listings.{filling-start}
 use Rattle.p9_export.proofs.listing.fill.Goals as goal

@@ -1,5 +1,5 @@
 use Rattle.std.proofs.Common.{◌-◌, map, length}
-use Rattle.p9_export.specs.Listing.{left_of}
+use Rattle.p9_step.specs.Listing.{left_of}
 use Rattle.p9_export.proofs.Listings.{Filling}
 use Rattle.p9_export.proofs.listing.fill.Given as goal
 

@@ -1,6 +1,6 @@
 use Rattle.std.proofs.Common.{ap, sym}
 use Rattle.std.specs.Option.{option_map}
-use Rattle.p9_export.specs.Listing.{entry_at}
+use Rattle.p9_step.specs.Listing.{entry_at}
 use Rattle.p9_export.proofs.Places.{child_in_after-below}
 use Rattle.p9_export.proofs.listing.first_above.Goals as goal
 

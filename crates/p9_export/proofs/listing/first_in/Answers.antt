@@ -1,5 +1,5 @@
 use Rattle.std.proofs.Common.{sym, ◌∙◌, ◌≡◌, true, arith, Some, None, map}
-use Rattle.p9_export.specs.Listing.{is_listed}
+use Rattle.p9_step.specs.Listing.{is_listed}
 use Rattle.p9_export.proofs.Listings.{first_in_listed, first_in_earlier, floor-none, floor-later}
 use Rattle.p9_export.proofs.Listings.{floor-here}
 use Rattle.p9_export.proofs.listing.first_in.Goals as goal

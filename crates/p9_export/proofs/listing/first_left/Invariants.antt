@@ -1,5 +1,5 @@
 use Rattle.std.proofs.Common.{◌≡◌, map, drop, filter}
-use Rattle.p9_export.specs.Listing.{entries_from, is_behind, left_of}
+use Rattle.p9_step.specs.Listing.{entries_from, is_behind, left_of}
 use Rattle.p9_export.proofs.listing.first_left.Given as goal
 
 abbrev pub invariant-loop-position : goal.invariant-loop-position

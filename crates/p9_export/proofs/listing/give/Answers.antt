@@ -1,6 +1,7 @@
 use Rattle.std.proofs.Common.{arith, ap, sym, ◌∙◌, map, ◌≡◌, ◌++◌, drop, length, slice_get, Some}
 use Rattle.p9_wire.specs.Fields.{stat_bytes, stat_len}
-use Rattle.p9_export.specs.Listing.{Entry, left_of}
+use Rattle.p9_step.specs.Listing.{Entry, left_of}
+use Rattle.p9_step.specs.Qid.{stat_of}
 use Rattle.p9_export.proofs.Listings.{fitting-none, gives_bytes, gives_end, no_end, no_room}
 use Rattle.p9_export.proofs.Listings.{nothing_put}
 use Rattle.p9_export.proofs.listing.give.Goals as goal
@@ -67,7 +68,9 @@ returns-clause-last g c =
     let size = c.write_stat-size.ensures.len ∙ ap stat_len c.stat_of.ensures.value in
     let same : c.stat_size.result ≡ c.write_stat-size.result =
     c.stat_size.ensures.size ∙ sym size in
-    gives_end (length c.args.buffer.now) left e c.number.result c.write_stat-size.result first
+    ap (λ at. Some (record { member = c.entry.inside.position; number = at.number },
+    c.write_stat-size.result)) c.beside-at.ensures
+    ∙ gives_end (length c.args.buffer.now) left e c.number.result c.write_stat-size.result first
     c.number.ensures size (omega (arith, same, c.if-stat_size-buffer.false))
 
 pub returns-clause-bytes : goal.returns-clause-bytes
@@ -90,4 +93,4 @@ returns-clause-bytes g c =
     (omega (arith, same, c.if-stat_size-buffer.false))
     (c.write_stat-size.ensures.bytes.bytes
     ∙ ap (λ s. stat_bytes s ++ drop c.write_stat-size.result c.args.buffer.now)
-    c.stat_of.ensures.value)
+    (c.stat_of.ensures.value ∙ ap (λ at. stat_of at c.entry.inside.node.now) c.beside-at.ensures))

@@ -1,7 +1,7 @@
 use Rattle.std.proofs.Common.{arith, map, length, sym, ap, ◌∙◌, ◌≡◌, refl, true}
 use Rattle.std.specs.Prelude.{is_some, slice_get}
-use Rattle.p9_export.specs.Listing.{left_of}
-use Rattle.p9_export.specs.Read.{fitting}
+use Rattle.p9_step.specs.Listing.{left_of}
+use Rattle.p9_step.specs.Read.{fitting}
 use Rattle.p9_export.proofs.Listings.{none_left, nothing_given, some_left, something_given}
 use Rattle.p9_export.proofs.listing.list.Goals as goal
 use Rattle.p9_export.proofs.listing.list.Goals.{else-given-eq0-via-then-given-eq0+else-is_some}

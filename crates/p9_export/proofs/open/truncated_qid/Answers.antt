@@ -1,7 +1,7 @@
 use Rattle.std.proofs.Common.{map, sym, ap, ◌∙◌}
 use Rattle.std.specs.Option.{option_copied}
 use Rattle.p9_tree.specs.Forest.{node_of}
-use Rattle.p9_export.specs.Open.{truncated}
+use Rattle.p9_step.specs.Open.{truncated}
 use Rattle.p9_export.proofs.Places.{node_of-below}
 use Rattle.p9_export.proofs.Truncation.{copied-some, qid-after, still_there, truncated-there}
 use Rattle.p9_export.proofs.open.truncated_qid.Goals as goal

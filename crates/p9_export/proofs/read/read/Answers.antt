@@ -7,10 +7,10 @@ use Rattle.p9_tree.specs.Bytes.{read_from}
 use Rattle.p9_tree.specs.Forest.{bytes_of, forest_changed_at, node_of}
 use Rattle.p9_tree.specs.Node.{touched}
 use Rattle.p9_fids.specs.Fid.{fid_at}
-use Rattle.p9_export.specs.Answer.{Answer}
+use Rattle.p9_step.specs.Answer.{Answer}
 use Rattle.p9_export.specs.Answers.{Answers, data_reply, replied}
-use Rattle.p9_export.specs.Open.{room_of}
-use Rattle.p9_export.specs.Read.{read_answer, readable}
+use Rattle.p9_step.specs.Open.{room_of}
+use Rattle.p9_step.specs.Read.{read_answer, readable}
 use Rattle.p9_export.proofs.DirectoryReads.{IsReadable, data_kept, reads_dir, reads_file}
 use Rattle.p9_export.proofs.read.read.Goals as goal
 

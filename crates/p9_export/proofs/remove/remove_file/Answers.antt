@@ -1,8 +1,9 @@
 use Rattle.std.proofs.Common.{◌≡◌, true, false, Some, None, not, is_some, map, sym, ap, refl, ◌∙◌}
 use Rattle.std.specs.Option.{option_copied}
 use Rattle.p9_tree.specs.Forest.{has_children_of, node_of}
-use Rattle.p9_export.specs.Rights.{may_write_parent}
-use Rattle.p9_export.proofs.Removals.{absent, node_of-inner, removal-made}
+use Rattle.p9_step.specs.Rights.{may_write_parent}
+use Rattle.p9_step.proofs.Ends.{node_of-inner}
+use Rattle.p9_export.proofs.Removals.{absent, removal-made}
 use Rattle.p9_export.proofs.remove.remove_file.Goals as goal
 
 pub drop_leaf-requires-clause-not_root : goal.drop_leaf-requires-clause-not_root

@@ -2,8 +2,8 @@ use Rattle.std.proofs.Common.{◌≡◌, false, Some, None, is_some, map, sym, a
 use Rattle.std.specs.Option.{option_copied}
 use Rattle.p9_fids.specs.Fid.{Fid, fid_at}
 use Rattle.p9_export.proofs.Walks.{walk_answer-goes}
-use Rattle.p9_export.specs.State.{Session}
-use Rattle.p9_export.specs.Walk.{newfid_fault}
+use Rattle.p9_step.specs.State.{Session}
+use Rattle.p9_step.specs.Walk.{newfid_fault}
 use Rattle.p9_export.proofs.walk.walk.Goals as goal
 
 pub returns : goal.returns

@@ -1,7 +1,7 @@
 use Rattle.std.proofs.Common.{ℕ, ◌∙◌, List, [], Some, Bor, map, get_or, refl, sym, arith}
 use Rattle.std.proofs.Common.{length-append}
 use Rattle.p9_export.proofs.Walks.{file-step_of, walked-all, walked-end, walked-turn}
-use Rattle.p9_export.specs.State.{Setting}
+use Rattle.p9_step.specs.State.{Setting}
 use Rattle.p9_export.proofs.walk.walk_along.Goals as goal
 
 -- what stands for a name past the last

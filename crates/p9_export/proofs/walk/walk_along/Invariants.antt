@@ -1,5 +1,5 @@
 use Rattle.std.proofs.Common.{◌≡◌, drop, length, map}
-use Rattle.p9_export.specs.Walk.{walked}
+use Rattle.p9_step.specs.Walk.{walked}
 use Rattle.p9_export.proofs.Walks.{so_far}
 use Rattle.p9_export.proofs.walk.walk_along.Given as goal
 

@@ -5,14 +5,16 @@ use Rattle.p9_tree.specs.Change.{changed}
 use Rattle.p9_tree.specs.Forest.{forest_changed_at}
 use Rattle.p9_wire.specs.Message.{Rwstat, StatFields, stat_view}
 use Rattle.p9_fids.specs.Fid.{fid_at}
-use Rattle.p9_export.specs.Change.{all_applied}
-use Rattle.p9_export.specs.End.{parent_marked}
-use Rattle.p9_export.specs.Qid.{stat_of}
-use Rattle.p9_export.specs.Wstat.{Touched, is_any, node_change, touched_of, touched_view}
-use Rattle.p9_export.specs.Wstat.{touches_fixed, wstat_fault}
+use Rattle.p9_step.specs.Change.{all_applied}
+use Rattle.p9_step.specs.End.{parent_marked}
+use Rattle.p9_step.specs.Qid.{stat_of}
+use Rattle.p9_export.specs.Wstat.{touched_view}
+use Rattle.p9_step.specs.Wstat.{Touched, is_any, node_change, touched_of}
+use Rattle.p9_step.specs.Wstat.{touches_fixed, wstat_fault}
 use Rattle.p9_export.proofs.Places.{node_of-below}
 use Rattle.p9_export.proofs.Writes.{memory_refused}
-use Rattle.p9_export.proofs.Wstats.{can_change, nothing_refuses, own_group, valid_name, wstat-did}
+use Rattle.p9_step.proofs.Permits.{can_change, nothing_refuses, own_group, valid_name}
+use Rattle.p9_export.proofs.Wstats.{wstat-did}
 use Rattle.p9_export.proofs.Wstats.{wstat_answer-done}
 use Rattle.p9_export.proofs.wstat.wstat.Goals as goal
 

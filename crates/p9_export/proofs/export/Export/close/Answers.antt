@@ -1,7 +1,7 @@
 use Rattle.std.proofs.Common.{map, sym, ap, subst, ◌∙◌}
-use Rattle.p9_export.specs.End.{FidsFit}
-use Rattle.p9_export.specs.State.{Session}
-use Rattle.p9_export.proofs.Sounds.{session-sound, sound-closed}
+use Rattle.p9_step.specs.End.{FidsFit}
+use Rattle.p9_step.specs.State.{Session}
+use Rattle.p9_step.proofs.Sounds.{session-sound, sound-closed}
 use Rattle.p9_export.proofs.export.Export.close.Goals as goal
 
 pub end_fids-requires : goal.end_fids-requires

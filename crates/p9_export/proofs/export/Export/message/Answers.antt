@@ -1,6 +1,7 @@
 use Rattle.std.proofs.Common.{map, take}
-use Rattle.p9_export.specs.State.{State}
-use Rattle.p9_export.proofs.Sounds.{each-session-sound, sound-among}
+use Rattle.p9_step.specs.State.{State}
+use Rattle.p9_export.proofs.Sounds.{sound-among}
+use Rattle.p9_step.proofs.Sounds.{each-session-sound}
 use Rattle.p9_export.proofs.Steps.{among-makes}
 use Rattle.p9_export.proofs.export.Export.message.Goals as goal
 

@@ -1,5 +1,5 @@
 use Rattle.std.proofs.Common.{map}
-use Rattle.p9_export.proofs.Sounds.{sound-put}
+use Rattle.p9_step.proofs.Sounds.{sound-put}
 use Rattle.p9_export.proofs.export.Export.open.Goals as goal
 
 pub invariant_of-self : goal.invariant_of-self
