@@ -7,12 +7,13 @@ use Rattle.p9_base.specs.declared.fault.Fault.{Fault}
 use Rattle.p9_tree.specs.Server.{Server}
 use Rattle.p9_wire.specs.Frame.{msize_max}
 use Rattle.p9_wire.specs.Message.{RMessage, TMessage}
-use Rattle.p9_step.specs.State.{Setting, Session, SessionRow, changed_session, session_at}
+use Rattle.p9_step.specs.State.{Setting, Session, SessionRow, changed_session, session_at, room_of}
 use Rattle.p9_step.specs.Answer.{Answer}
 use Rattle.p9_export.specs.Answers.{Answers, AnswersAmong, changes_of, frame_among, session_of}
-use Rattle.p9_step.specs.Open.{room_of}
 use Rattle.p9_step.specs.Sound.{IsMsize}
-use Rattle.p9_step.specs.Step.{finds_taken, may_run_out, message_answer, ran_out, request_of}
+use Rattle.p9_step.specs.Request.{request_of}
+use Rattle.p9_step.specs.Memory.{may_run_out, ran_out}
+use Rattle.p9_step.specs.Step.{finds_taken, message_answer}
 use Rattle.p9_step.specs.Step.{session_answer}
 use Rattle.p9_step.proofs.Rows.{set_value-same}
 use Rattle.p9_step.proofs.Requests.{ran_out-is}

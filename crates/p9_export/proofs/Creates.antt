@@ -19,14 +19,13 @@ use Rattle.p9_tree.proofs.Lookups.{number-node_at}
 use Rattle.p9_space.specs.Rights.{may, to_write}
 use Rattle.p9_fids.specs.Fid.{Fid}
 use Rattle.p9_step.specs.declared.opening.Opening.{Opening}
-use Rattle.p9_step.specs.State.{Session}
+use Rattle.p9_step.specs.State.{Session, room_of}
 use Rattle.p9_step.specs.Answer.{Answer, given, unless}
 use Rattle.p9_export.specs.Answers.{Answers}
 use Rattle.p9_step.specs.Change.{applied, edited}
 use Rattle.p9_step.specs.Create.{create_reply, created, created_in, creation, entered, fault_in}
-use Rattle.p9_step.specs.Open.{room_of}
 use Rattle.p9_step.specs.Qid.{qid_of}
-use Rattle.p9_step.specs.Step.{is_done}
+use Rattle.p9_step.specs.Memory.{is_done}
 use Rattle.p9_space.specs.Trail.{places_max}
 
 -- what a directory that refuses nothing is

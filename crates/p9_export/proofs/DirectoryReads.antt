@@ -19,12 +19,10 @@ use Rattle.p9_wire.specs.Message.{RMessage, Rread}
 use Rattle.p9_fids.specs.declared.opened.Cursor.{Cursor}
 use Rattle.p9_fids.specs.declared.opened.Opened.{Opened}
 use Rattle.p9_fids.specs.Fid.{Fid, FidRow, changed_fid, fid_at, opened_as}
-use Rattle.p9_step.specs.State.{Setting, Session}
+use Rattle.p9_step.specs.State.{Setting, Session, fid_file, fid_ref, room_of}
 use Rattle.p9_step.specs.Answer.{Answer, given, need}
 use Rattle.p9_export.specs.Answers.{Answers, data_reply, replied}
 use Rattle.p9_step.specs.Change.{EditNode, Touch, applied, edited}
-use Rattle.p9_step.specs.End.{fid_file, fid_ref}
-use Rattle.p9_step.specs.Open.{room_of}
 use Rattle.p9_step.specs.Listing.{Entry, left_of}
 use Rattle.p9_step.specs.Read.{cursor_after, cursor_at, entry_bytes, fitting, given_of, listed}
 use Rattle.p9_step.specs.Read.{read_answer, read_dir, read_file, readable}

@@ -7,11 +7,11 @@ use Rattle.p9_tree.specs.Server.{Server, with_dropped}
 use Rattle.p9_tree.specs.Forest.{has_children_of, node_of, tree_changed_at}
 use Rattle.p9_fids.specs.Fid.{Fid}
 use Rattle.p9_wire.specs.Message.{Rremove}
-use Rattle.p9_step.specs.State.{Setting, Session}
+use Rattle.p9_step.specs.State.{Setting, Session, fid_ref}
 use Rattle.p9_step.specs.Answer.{given, need}
 use Rattle.p9_export.specs.Answers.{Answers}
 use Rattle.p9_step.specs.Change.{all_applied, applied}
-use Rattle.p9_step.specs.End.{fid_ref, parent_marked, taken_out}
+use Rattle.p9_step.specs.End.{parent_marked, taken_out}
 use Rattle.p9_step.specs.Remove.{removal}
 use Rattle.p9_step.specs.Rights.{may_write_parent}
 

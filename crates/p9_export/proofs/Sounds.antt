@@ -8,7 +8,8 @@ use Rattle.p9_wire.specs.Message.{RMessage}
 use Rattle.p9_step.specs.State.{Setting, Session, SessionRow, session_at}
 use Rattle.p9_export.specs.Answers.{AnswersAmong, changes_of, frame_among, session_of}
 use Rattle.p9_step.specs.Sound.{IsSound}
-use Rattle.p9_step.specs.Step.{frame_answer, ran_out}
+use Rattle.p9_step.specs.Memory.{ran_out}
+use Rattle.p9_step.specs.Step.{frame_answer}
 use Rattle.p9_step.proofs.Done.{done-is}
 use Rattle.p9_step.proofs.Kept.{Kept}
 use Rattle.p9_step.proofs.Sounds.{kept-frame, session-sound, sound-outcome}

@@ -18,8 +18,10 @@ use Rattle.p9_step.specs.Answer.{Answer, is_error}
 use Rattle.p9_export.specs.Answers.{AnswersAmong, changes_of, frame_among, message_of}
 use Rattle.p9_export.specs.Answers.{session_of}
 use Rattle.p9_step.specs.Step.{answered, finds_taken, frame_answer}
-use Rattle.p9_step.specs.Step.{is_no_memory_reply, may_run_out, message_answer}
-use Rattle.p9_step.specs.Step.{no_memory_reply, ran_out, request_of, step, tag_of, Stepped}
+use Rattle.p9_step.specs.Memory.{is_no_memory_reply, may_run_out, no_memory_reply, ran_out}
+use Rattle.p9_step.specs.Step.{message_answer}
+use Rattle.p9_step.specs.Request.{request_of, tag_of}
+use Rattle.p9_step.specs.Step.{step, Stepped}
 use Rattle.p9_step.specs.Event.{Request, is_frame}
 use Rattle.p9_step.proofs.Done.{done-is}
 use Rattle.p9_step.proofs.Plain.{IsPlainIf, plain-session_answer}

@@ -14,12 +14,12 @@ use Rattle.p9_wire.specs.Message.{RMessage, Rwrite}
 use Rattle.p9_fids.specs.declared.opened.Opened.{Opened}
 use Rattle.p9_fids.specs.Opened.{writes}
 use Rattle.p9_fids.specs.Fid.{Fid, fid_at}
-use Rattle.p9_step.specs.State.{Setting, Session}
+use Rattle.p9_step.specs.State.{Setting, Session, fid_ref}
 use Rattle.p9_step.specs.Answer.{Answer, Outcome, given, need}
 use Rattle.p9_step.specs.Change.{applied, edited}
 use Rattle.p9_export.specs.Answers.{Answers, replied}
-use Rattle.p9_step.specs.Step.{is_done}
-use Rattle.p9_step.specs.End.{FidFits, IsOpenOn, fid_ref}
+use Rattle.p9_step.specs.Memory.{is_done}
+use Rattle.p9_step.specs.Sound.{FidFits, IsOpenOn}
 use Rattle.p9_step.specs.Write.{is_writable, write_answer, write_place, written}
 
 module _ (table : List MountRow) (forest : List Server) (v : Fid) (n : Node)

@@ -12,13 +12,13 @@ use Rattle.p9_tree.specs.Server.{Server}
 use Rattle.p9_tree.specs.Forest.{forest_changed_at, node_of}
 use Rattle.p9_wire.specs.Message.{Rwstat, StatFields}
 use Rattle.p9_fids.specs.Fid.{Fid, fid_at}
-use Rattle.p9_step.specs.State.{Setting, Session}
+use Rattle.p9_step.specs.State.{Setting, Session, fid_file, fid_ref}
 use Rattle.p9_step.specs.Answer.{Answer, given, need, unless}
 use Rattle.p9_export.specs.Answers.{Answers}
 use Rattle.p9_step.specs.Change.{Change, EditNode, Rewrite, all_applied, applied, edited}
-use Rattle.p9_step.specs.End.{fid_file, fid_ref, parent_marked}
+use Rattle.p9_step.specs.End.{parent_marked}
 use Rattle.p9_step.specs.Qid.{stat_of}
-use Rattle.p9_step.specs.Step.{is_done}
+use Rattle.p9_step.specs.Memory.{is_done}
 use Rattle.p9_step.specs.Wstat.{Touched, is_any}
 use Rattle.p9_step.specs.Wstat.{node_change}
 use Rattle.p9_step.specs.Wstat.{rewriting, touched_of, touches_fixed, wstat_answer}

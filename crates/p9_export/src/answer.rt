@@ -6,7 +6,8 @@ ghost use Rattle.p9_wire.specs.Message.{t_view};
 ghost use Rattle.p9_export.specs.Answers.{AnswersAmong, CanWrite, frame_among, replied, reply_view};
 ghost use Rattle.p9_step.specs.Sound.{IsSessionSound};
 ghost use Rattle.p9_step.specs.State.{session_at};
-ghost use Rattle.p9_step.specs.Step.{finds_taken, ran_out};
+ghost use Rattle.p9_step.specs.Memory.{ran_out};
+ghost use Rattle.p9_step.specs.Step.{finds_taken};
 
 use crate::frame::request_of;
 use crate::message::message;

@@ -4,7 +4,7 @@ ghost use Rattle.std.specs.Prelude.{◌≡◌, false, map};
 ghost use Rattle.p9_wire.specs.Message.{Rclunk};
 ghost use Rattle.p9_export.specs.Answers.{Answers, replied};
 ghost use Rattle.p9_step.specs.Clunk.{clunk_answer};
-ghost use Rattle.p9_step.specs.End.{FidsFit};
+ghost use Rattle.p9_step.specs.Sound.{FidsFit};
 
 use crate::end::end_fid;
 use crate::session::Session;

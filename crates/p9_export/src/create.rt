@@ -15,7 +15,7 @@ ghost use Rattle.p9_export.specs.Answers.{Answers, replied};
 ghost use Rattle.p9_step.specs.Create.{create_answer, create_reply, created, created_in, entered};
 ghost use Rattle.p9_step.specs.Create.{fault_in, permitting, target_among};
 ghost use Rattle.p9_step.specs.Qid.{qid_of};
-ghost use Rattle.p9_step.specs.Step.{is_done};
+ghost use Rattle.p9_step.specs.Memory.{is_done};
 
 use crate::inherit::inherited;
 use p9_step::Opening;

@@ -4,7 +4,8 @@ ghost use Rattle.std.specs.Prelude.{◌≡◌, ◌≤◌, ◌↔◌, [], Err, No
 ghost use Rattle.std.specs.Prelude.{OnOk, length, map, take};
 ghost use Rattle.p9_step.specs.Event.{Closing, Opening, Request, is_frame};
 ghost use Rattle.p9_step.specs.State.{session_at};
-ghost use Rattle.p9_step.specs.Step.{is_no_memory_reply, step};
+ghost use Rattle.p9_step.specs.Memory.{is_no_memory_reply};
+ghost use Rattle.p9_step.specs.Step.{step};
 ghost use Rattle.p9_space.specs.Given.{is_table_given};
 ghost use Rattle.p9_wire.specs.Frame.{msize_max};
 ghost use Rattle.p9_export.specs.declared.export.OpenError.TheVariants.{Live};

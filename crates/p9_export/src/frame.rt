@@ -5,7 +5,7 @@ ghost use Rattle.p9_wire.specs.Frame.{msize_max};
 ghost use Rattle.p9_base.specs.Fault.{text_of};
 ghost use Rattle.p9_wire.specs.Message.{Rerror};
 ghost use Rattle.p9_wire.specs.Spelling.{r_spelling};
-ghost use Rattle.p9_step.specs.Step.{request_of, tag_of};
+ghost use Rattle.p9_step.specs.Request.{request_of, tag_of};
 ghost use Rattle.p9_export.specs.Answers.{CanWrite, message_of, replied, reply_view, request_view};
 ghost use Rattle.p9_export.specs.Answers.{stat_reply};
 

@@ -1,7 +1,7 @@
 //! The permissions that a new file takes over from its directory, as open(5).
 
 ghost use Rattle.std.specs.Prelude.{◌≡◌, if◌then◌else◌};
-ghost use Rattle.p9_step.specs.Create.{dir_rights, file_rights, inherited};
+ghost use Rattle.p9_step.specs.Inherit.{dir_rights, file_rights, inherited};
 
 use p9_base::{Mode, Permissions, Rights};
 

@@ -4,9 +4,10 @@ ghost use Rattle.std.specs.Prelude.{◌≡◌, ◌≤◌, ◌+◌, length, map};
 ghost use Rattle.p9_wire.specs.Frame.{msize_max};
 ghost use Rattle.p9_wire.specs.Message.{t_view};
 ghost use Rattle.p9_export.specs.Answers.{Answers, CanWrite, replied, reply_view};
-ghost use Rattle.p9_step.specs.End.{FidsFit};
-ghost use Rattle.p9_step.specs.Open.{room_of};
-ghost use Rattle.p9_step.specs.Step.{may_run_out, session_answer};
+ghost use Rattle.p9_step.specs.Sound.{FidsFit};
+ghost use Rattle.p9_step.specs.State.{room_of};
+ghost use Rattle.p9_step.specs.Memory.{may_run_out};
+ghost use Rattle.p9_step.specs.Step.{session_answer};
 
 use crate::attach::attach;
 use crate::clunk::clunk;

@@ -9,7 +9,7 @@ ghost use Rattle.p9_tree.specs.Forest.{bytes_of, forest_changed_at};
 ghost use Rattle.p9_tree.specs.Node.{touched};
 ghost use Rattle.p9_step.specs.Answer.{given};
 ghost use Rattle.p9_export.specs.Answers.{Answers, data_reply, replied};
-ghost use Rattle.p9_step.specs.Open.{room_of};
+ghost use Rattle.p9_step.specs.State.{room_of};
 ghost use Rattle.p9_step.specs.Read.{cursor_at, read_answer, read_dir, readable};
 
 use crate::listing::list;

@@ -1,8 +1,7 @@
 //! A session: what one client and the exporter have agreed on, and the client's fids.
 
 ghost use Rattle.std.specs.Prelude.{◌≡◌};
-ghost use Rattle.p9_step.specs.Open.{room_of};
-ghost use Rattle.p9_step.specs.State.{fresh};
+ghost use Rattle.p9_step.specs.State.{fresh, room_of};
 
 use p9_fids::FidTable;
 use p9_wire::IOHDRSZ;

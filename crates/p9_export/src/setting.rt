@@ -1,8 +1,7 @@
 //! What no event changes.
 
 ghost use Rattle.std.specs.Prelude.{◌≡◌};
-ghost use Rattle.p9_step.specs.End.{fid_ref};
-ghost use Rattle.p9_step.specs.State.{fresh};
+ghost use Rattle.p9_step.specs.State.{fresh, fid_ref};
 
 use crate::session::Session;
 use p9_base::{NodeRef, User};

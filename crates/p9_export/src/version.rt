@@ -2,7 +2,7 @@
 
 ghost use Rattle.std.specs.Prelude.{◌≡◌, IfOk, false, map};
 ghost use Rattle.p9_wire.specs.Message.{r_view};
-ghost use Rattle.p9_step.specs.End.{FidsFit};
+ghost use Rattle.p9_step.specs.Sound.{FidsFit};
 ghost use Rattle.p9_step.specs.Version.{is_known, version_answer};
 ghost use Rattle.p9_export.specs.Answers.{Answers, ReplyFits, replied};
 

@@ -4,8 +4,8 @@ ghost use Rattle.std.specs.Prelude.{◌≡◌, ◌+◌, length, map, nat_le};
 ghost use Rattle.p9_fids.specs.Opened.{writes};
 ghost use Rattle.p9_wire.specs.Message.{Rwrite};
 ghost use Rattle.p9_export.specs.Answers.{Answers, replied};
-ghost use Rattle.p9_step.specs.End.{FidsFit};
-ghost use Rattle.p9_step.specs.Step.{is_done};
+ghost use Rattle.p9_step.specs.Sound.{FidsFit};
+ghost use Rattle.p9_step.specs.Memory.{is_done};
 ghost use Rattle.p9_step.specs.Write.{is_writable, write_answer, write_place};
 ghost use Rattle.p9_tree.specs.declared.bytes.TheConstants.{FILE_MAX};
 

@@ -6,7 +6,7 @@ ghost use Rattle.p9_base.specs.Mode.{mode_of};
 ghost use Rattle.p9_base.specs.Name.{is_name};
 ghost use Rattle.p9_wire.specs.Message.{Rwstat, stat_view};
 ghost use Rattle.p9_export.specs.Answers.{Answers, replied};
-ghost use Rattle.p9_step.specs.Step.{is_done};
+ghost use Rattle.p9_step.specs.Memory.{is_done};
 ghost use Rattle.p9_step.specs.Wstat.{gid_fault, has_sibling, is_any, is_number_touched};
 ghost use Rattle.p9_step.specs.Wstat.{is_text_touched, length_fault, may_give, mode_fault};
 ghost use Rattle.p9_step.specs.Wstat.{name_fault, node_change, ruling_fault, touched_number};

@@ -32,16 +32,17 @@ use Rattle.p9_wire.specs.Spelling.{TSpells, r_body, r_len, r_spelling, r_type}
 use Rattle.p9_wire.proofs.Lengths.{length-frame, length-r_body}
 use Rattle.p9_wire.proofs.TGrammar.{t-decides}
 use Rattle.p9_fids.specs.Fid.{Fid, fid_at, without_fid}
-use Rattle.p9_step.specs.State.{Session, State, changed_session, session_at}
+use Rattle.p9_step.specs.State.{Session, State, changed_session, session_at, room_of}
 use Rattle.p9_step.specs.Answer.{Answer, Outcome, given, outcome_of, is_error}
 use Rattle.p9_step.specs.Clunk.{without}
 use Rattle.p9_step.specs.Laws.{EveryFrameIsAnswered, IsAnswered, IsState, after_refusal}
 use Rattle.p9_step.specs.Laws.{reply_max, without_fid_of}
-use Rattle.p9_step.specs.Open.{room_of}
 use Rattle.p9_step.specs.Remove.{removal, remove_answer}
 use Rattle.p9_step.specs.Sound.{IsMsize}
-use Rattle.p9_step.specs.Step.{Stepped, answered, is_version, message_answer, no_memory_reply}
-use Rattle.p9_step.specs.Step.{ran_out, request_of, tag_of, with_outcome}
+use Rattle.p9_step.specs.Request.{is_version, request_of, tag_of}
+use Rattle.p9_step.specs.Memory.{no_memory_reply, ran_out}
+use Rattle.p9_step.specs.Step.{Stepped, answered, message_answer}
+use Rattle.p9_step.specs.Step.{with_outcome}
 use Rattle.p9_step.proofs.Done.{OnDone, done-err, done-is, done-ok}
 use Rattle.p9_step.proofs.Fitting.{Replies, fitting-attach, fitting-clunk, fitting-create}
 use Rattle.p9_step.proofs.Fitting.{fitting-open, fitting-read, fitting-removal, fitting-stat}

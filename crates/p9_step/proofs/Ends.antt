@@ -16,7 +16,9 @@ use Rattle.p9_space.specs.Table.{MountRow}
 use Rattle.p9_fids.specs.declared.opened.Opened.{Opened}
 use Rattle.p9_fids.specs.Fid.{Fid, FidRow, fid_at, without_fid}
 use Rattle.p9_step.specs.Change.{Change, DropNode, all_applied, applied}
-use Rattle.p9_step.specs.End.{FidFits, FidsFit, fid_file, fid_ref, on_end, on_ends, parent_marked}
+use Rattle.p9_step.specs.Sound.{FidFits, FidsFit}
+use Rattle.p9_step.specs.State.{fid_file, fid_ref}
+use Rattle.p9_step.specs.End.{on_end, on_ends, parent_marked}
 use Rattle.p9_step.specs.End.{removes_on_close, taken_out}
 use Rattle.p9_step.proofs.Members.{found-member, member-node_at}
 use Rattle.p9_step.proofs.Changes.{AllLawful, evolves-all, keeps-mark}

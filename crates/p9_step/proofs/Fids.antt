@@ -6,7 +6,7 @@ use Rattle.std.specs.BTreeMap.{is_at}
 use Rattle.p9_tree.specs.Server.{Server}
 use Rattle.p9_space.specs.Table.{MountRow}
 use Rattle.p9_fids.specs.Fid.{Fid, FidRow, fid_at, without_fid}
-use Rattle.p9_step.specs.End.{FidFits, FidsFit}
+use Rattle.p9_step.specs.Sound.{FidFits, FidsFit}
 
 -- what is kept of all fids is kept of the one that is found
 pub FidsFit-fid_at : (table : List MountRow) (forest : List Server) (fids : List FidRow) (fid : ℕ)

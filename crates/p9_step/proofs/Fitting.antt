@@ -30,14 +30,13 @@ use Rattle.p9_space.specs.Trail.{here}
 use Rattle.p9_fids.specs.declared.opened.Cursor.{Cursor}
 use Rattle.p9_fids.specs.declared.opened.Opened.{Opened}
 use Rattle.p9_fids.specs.Fid.{Fid}
-use Rattle.p9_step.specs.State.{Setting, Session}
+use Rattle.p9_step.specs.State.{Setting, Session, fid_ref, room_of}
 use Rattle.p9_step.specs.Answer.{Outcome, is_error}
 use Rattle.p9_step.specs.Attach.{attach_answer}
 use Rattle.p9_step.specs.Clunk.{clunk_answer}
 use Rattle.p9_step.specs.Create.{create_answer, created_in, target_among}
-use Rattle.p9_step.specs.End.{fid_ref}
 use Rattle.p9_step.specs.Listing.{Entry}
-use Rattle.p9_step.specs.Open.{open_answer, room_of}
+use Rattle.p9_step.specs.Open.{open_answer}
 use Rattle.p9_step.specs.Qid.{stat_of}
 use Rattle.p9_step.specs.Read.{entry_bytes, fitting, given_of, read_answer, read_dir, read_file}
 use Rattle.p9_step.specs.Remove.{removal}

@@ -14,11 +14,11 @@ use Rattle.p9_tree.specs.Forest.{IsForest}
 use Rattle.p9_space.specs.Table.{MountRow}
 use Rattle.p9_wire.specs.Message.{RMessage, Rerror}
 use Rattle.p9_fids.specs.Fid.{Fid, FidRow, changed_fid, fid_at, trailed}
-use Rattle.p9_step.specs.State.{Setting, Session}
+use Rattle.p9_step.specs.State.{Setting, Session, fid_ref}
 use Rattle.p9_step.specs.Change.{Change, all_applied}
 use Rattle.p9_step.specs.Answer.{Answer, Outcome, outcome_of}
-use Rattle.p9_step.specs.End.{FidFits, FidsFit, fid_ref, on_end}
-use Rattle.p9_step.specs.Sound.{IsMsize}
+use Rattle.p9_step.specs.End.{on_end}
+use Rattle.p9_step.specs.Sound.{IsMsize, FidFits, FidsFit}
 use Rattle.p9_step.specs.Version.{begun, is_known, msize_min, not_spoken, version_answer}
 use Rattle.p9_wire.specs.Frame.{msize_max}
 use Rattle.p9_step.specs.Attach.{attach_answer}

@@ -26,17 +26,16 @@ use Rattle.p9_wire.specs.Message.{RMessage}
 use Rattle.p9_fids.specs.Fid.{Fid, fid_at, opened_as}
 use Rattle.p9_fids.specs.Opened.{reads}
 use Rattle.p9_step.specs.declared.opening.Opening.{Opening}
-use Rattle.p9_step.specs.State.{Setting, Session}
+use Rattle.p9_step.specs.State.{Setting, Session, fid_file, fid_ref, room_of}
 use Rattle.p9_step.specs.Change.{Change, AddNode, EditNode, Mark, Touch, all_applied, applied}
 use Rattle.p9_step.specs.Create.{create_answer, created, created_in, creation, target_among}
-use Rattle.p9_step.specs.End.{FidFits, FidsFit, IsOpenOn, fid_file, fid_ref}
 use Rattle.p9_step.specs.Listing.{Entry}
-use Rattle.p9_step.specs.Open.{is_cut, open_answer, opened_session, room_of, truncation}
+use Rattle.p9_step.specs.Open.{is_cut, open_answer, opened_session, truncation}
 use Rattle.p9_step.specs.Opening.{is_plain_read, is_read, newly_opened}
 use Rattle.p9_step.specs.Read.{cursor_at, given_of, listed_session, read_answer, read_dir}
 use Rattle.p9_step.specs.Read.{read_file, readable}
 use Rattle.p9_space.specs.Given.{is_given, is_row_given, is_table_given}
-use Rattle.p9_step.specs.Sound.{IsMsize}
+use Rattle.p9_step.specs.Sound.{IsMsize, FidFits, FidsFit, IsOpenOn}
 use Rattle.p9_step.specs.Write.{write_answer, write_file}
 use Rattle.p9_step.proofs.Changes.{AllLawful, evolves-all, keeps-cut, keeps-mark, keeps-overwrite}
 use Rattle.p9_step.proofs.Changes.{keeps-touch}

@@ -11,11 +11,10 @@ use Rattle.p9_tree.specs.Node.{Node, is_dir}
 use Rattle.p9_tree.specs.Server.{Server}
 use Rattle.p9_tree.specs.Forest.{IsForest, node_of}
 use Rattle.p9_wire.specs.Message.{StatFields}
-use Rattle.p9_step.specs.State.{Setting, Session}
+use Rattle.p9_step.specs.State.{Setting, Session, fid_ref}
 use Rattle.p9_step.specs.Change.{EditNode, Rewrite, applied, edited}
-use Rattle.p9_step.specs.End.{FidsFit, fid_ref}
 use Rattle.p9_step.specs.Qid.{stat_of}
-use Rattle.p9_step.specs.Sound.{IsMsize}
+use Rattle.p9_step.specs.Sound.{IsMsize, FidsFit}
 use Rattle.p9_step.specs.Wstat.{Touched, is_any, node_change, rewriting, touched_of, wstat_answer}
 use Rattle.p9_step.specs.Wstat.{wstat_fault}
 use Rattle.p9_step.proofs.Changes.{AllLawful, Keeps}

@@ -4,7 +4,8 @@ use Rattle.p9_tree.specs.Server.{Server}
 use Rattle.p9_tree.specs.Forest.{IsForest}
 use Rattle.p9_space.specs.Table.{MountRow}
 use Rattle.p9_fids.specs.Fid.{Fid, FidRow}
-use Rattle.p9_step.specs.End.{FidFits, FidsFit, fid_ref}
+use Rattle.p9_step.specs.Sound.{FidFits, FidsFit}
+use Rattle.p9_step.specs.State.{fid_ref}
 use Rattle.p9_step.proofs.Evolves.{Evolves, found-evolved}
 
 module _ (table : List MountRow) (f g : List Server) (sound : IsForest f)

@@ -18,7 +18,8 @@ use Rattle.p9_step.specs.Walk.{ended_walk, walk_answer}
 use Rattle.p9_step.specs.Create.{create_answer, created_in, target_among}
 use Rattle.p9_step.specs.Write.{write_answer, write_file}
 use Rattle.p9_step.specs.Wstat.{wstat_answer}
-use Rattle.p9_step.specs.Step.{may_run_out, session_answer}
+use Rattle.p9_step.specs.Memory.{may_run_out}
+use Rattle.p9_step.specs.Step.{session_answer}
 use Rattle.p9_step.proofs.Done.{OnDone, done-err, done-given, done-is, done-need, done-ok}
 use Rattle.p9_step.proofs.Done.{done-then, done-unless}
 

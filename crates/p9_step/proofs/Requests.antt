@@ -7,9 +7,8 @@ use Rattle.p9_wire.specs.Message.{TMessage}
 use Rattle.p9_wire.specs.Reading.{t_message_of}
 use Rattle.p9_step.specs.State.{Session}
 use Rattle.p9_step.specs.Answer.{Answer}
-use Rattle.p9_step.specs.Step.{fits_msize}
-use Rattle.p9_step.specs.Step.{is_version, may_run_out}
-use Rattle.p9_step.specs.Step.{ran_out, request_of}
+use Rattle.p9_step.specs.Request.{fits_msize, is_version, request_of}
+use Rattle.p9_step.specs.Memory.{may_run_out, ran_out}
 
 module _ (session : Session) (frame : List ℕ) where
   -- it is spelled by the frame, and it is a version, or the msize is set

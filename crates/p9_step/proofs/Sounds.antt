@@ -20,10 +20,11 @@ use Rattle.p9_step.specs.State.{with_session, without_session}
 use Rattle.p9_step.specs.Change.{Change, all_applied}
 use Rattle.p9_step.specs.Answer.{Outcome}
 
-use Rattle.p9_step.specs.End.{FidsFit, on_ends}
+use Rattle.p9_step.specs.End.{on_ends}
 use Rattle.p9_space.specs.Given.{is_given, is_row_given, is_table_given}
-use Rattle.p9_step.specs.Sound.{IsMsize, IsSessionSound, IsSound}
-use Rattle.p9_step.specs.Step.{finds_taken, frame_answer, message_answer, request_of}
+use Rattle.p9_step.specs.Sound.{IsMsize, IsSessionSound, IsSound, FidsFit}
+use Rattle.p9_step.specs.Request.{request_of}
+use Rattle.p9_step.specs.Step.{finds_taken, frame_answer, message_answer}
 use Rattle.p9_step.specs.Step.{session_answer}
 use Rattle.p9_step.proofs.Changes.{AllLawful, evolves-all}
 use Rattle.p9_step.proofs.Done.{OnDone, done-err, done-ok, done-then}
@@ -148,8 +149,8 @@ module _ (table : List MountRow) (forest : List Server) (rows : List SessionRow)
       }
 
 -- the answer to a frame
-pub kept-frame : (setting : Setting) (forest : List Server) (rows : List SessionRow) (session : Session)
-    (now : ℕ) (frame : List ℕ) → IsForest forest → is_table_given forest setting.table ≡ true
+pub kept-frame : (setting : Setting) (forest : List Server) (rows : List SessionRow)
+    (session : Session) (now : ℕ) (frame : List ℕ) → IsForest forest → is_table_given forest setting.table ≡ true
     → IsSessionSound setting.table forest session
     → OnDone (Kept setting.table forest) (frame_answer setting forest rows session now frame)
 kept-frame setting forest rows session now frame sound given its =

@@ -1,5 +1,6 @@
 -- What comes of a request: an outcome, or the fault that refuses it.
-use Rattle.std.specs.Prelude.{Bool, true, false, List, [], Option, Some, None, Result, Ok, Err, if◌then◌else◌}
+use Rattle.std.specs.Prelude.{Bool, true, false, List, [], Option, Some, None, Result, Ok, Err}
+use Rattle.std.specs.Prelude.{if◌then◌else◌}
 use Rattle.p9_base.specs.declared.fault.Fault.{Fault}
 use Rattle.p9_base.specs.Fault.{text_of}
 use Rattle.p9_wire.specs.Message.{RMessage, Rerror}
@@ -12,8 +13,12 @@ pub record Outcome : Type 0 where
   pub session : Session
   pub reply : RMessage
 
+-- what is answered, or the fault that refuses
 abbrev pub Answer : Type 0
 Answer = Result Outcome Fault
+
+-- The tests of a request, one after another. They are shut in proofs, unlike those of p9_base for
+-- any result, so that a proof takes one test at a time.
 
 -- goes on where the test passes
 unfoldable pub need : Bool → Fault → Answer → Answer
@@ -38,6 +43,7 @@ outcome_of session (Err fault) = record {
   reply = Rerror (text_of fault);
 }
 
+-- the reply is a refusal
 abbrev pub is_error : RMessage → Bool
 is_error (Rerror ename) = true
 is_error other = false

@@ -19,11 +19,13 @@ listed_user uname users = find (λ user. bytes_eq user uname) users
 abbrev pub is_root_name : List ℕ → Bool
 is_root_name aname = bytes_eq aname [] || bytes_eq aname (codes "/")
 
+-- the session with the new fid, which is not open
 abbrev pub attached : ℕ → List ℕ → Session → Session
 attached fid user session = record session {
   fids = with_fid fid (record { user = user; trail = root_place ∷ []; opened = None }) session.fids;
 }
 
+-- the tests in their order, and the fid
 abbrev pub attach_answer : Setting → List Server → Session → ℕ → ℕ → List ℕ → List ℕ → Answer
 attach_answer setting forest session fid afid uname aname =
     unless (put_fault fid session.fids) (

@@ -16,6 +16,7 @@ pub data Edit : Type 0 where
   Cut : (size : ℕ) → Edit
   Rewrite : (change : NodeChange) → Edit
 
+-- the node after an edit
 unfoldable pub edited : Edit → Node → Node
 edited (Mark user now) = marked user now
 edited (Touch now) = touched now
@@ -23,11 +24,13 @@ edited (Overwrite offset bytes) = with_bytes (overwritten offset bytes)
 edited (Cut size) = with_bytes (cut_to size)
 edited (Rewrite change) = changed change
 
+-- what is changed in the forest: a node, or that there is one
 pub data Change : Type 0 where
   EditNode : (at : NodeRef) (edit : Edit) → Change
   AddNode : (server : ℕ) (node : Node) → Change
   DropNode : (at : NodeRef) → Change
 
+-- the forest after a change
 unfoldable pub applied : Change → List Server → List Server
 applied (EditNode at edit) forest = forest_changed_at at (edited edit) forest
 applied (AddNode server node) forest = tree_changed_at server (λ s. added s node) forest

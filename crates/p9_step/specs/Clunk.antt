@@ -8,9 +8,11 @@ use Rattle.p9_step.specs.State.{Setting, Session}
 use Rattle.p9_step.specs.Answer.{Answer, given}
 use Rattle.p9_step.specs.End.{on_end}
 
+-- the session without the fid
 abbrev pub without : ℕ → Session → Session
 without fid session = record session { fids = without_fid fid session.fids }
 
+-- the fid goes, with what its end changes
 abbrev pub clunk_answer : Setting → List Server → Session → ℕ → ℕ → Answer
 clunk_answer setting forest session now fid =
     given (fid_at fid session.fids) UnknownFid (λ v.

@@ -1,5 +1,5 @@
 -- The making of a file or directory: open(5).
-use Rattle.std.specs.Prelude.{ℕ, ◌&&◌, ◌||◌, not, nat_le, List, [], ◌∷◌, ◌++◌, Option, Some, None}
+use Rattle.std.specs.Prelude.{ℕ, ◌||◌, not, nat_le, List, [], ◌∷◌, ◌++◌, Option, Some, None}
 use Rattle.std.specs.Prelude.{Result, Ok, Err, find, is_none, is_some, length, if◌then◌else◌}
 use Rattle.std.specs.List.{list_any}
 use Rattle.std.specs.Option.{option_map_or}
@@ -10,8 +10,6 @@ use Rattle.p9_base.specs.declared.fault.Fault.TheVariants.{IsDirectory, NotDirec
 use Rattle.p9_base.specs.declared.fault.Fault.TheVariants.{PermissionDenied, PhaseError, QidsUsedUp}
 use Rattle.p9_base.specs.declared.fault.Fault.TheVariants.{UnknownFid}
 use Rattle.p9_base.specs.declared.mode.Mode.{Mode}
-use Rattle.p9_base.specs.declared.mode.Permissions.{Permissions}
-use Rattle.p9_base.specs.declared.mode.Rights.{Rights}
 use Rattle.p9_base.specs.declared.node_ref.NodeRef.{NodeRef}
 use Rattle.p9_base.specs.declared.qid.Qid.{Qid}
 use Rattle.p9_base.specs.Mode.{is_dir as is_dir_mode, mode_of}
@@ -29,43 +27,12 @@ use Rattle.p9_space.specs.Walk.{is_alive, is_alive_dir}
 use Rattle.p9_wire.specs.Message.{RMessage, Rcreate}
 use Rattle.p9_fids.specs.Fid.{Fid, changed_fid, fid_at}
 use Rattle.p9_step.specs.declared.opening.Opening.{Opening}
-use Rattle.p9_step.specs.State.{Setting, Session}
+use Rattle.p9_step.specs.State.{Setting, Session, room_of}
 use Rattle.p9_step.specs.Answer.{Answer, given, need, unless}
 use Rattle.p9_step.specs.Change.{AddNode, EditNode, Mark}
-use Rattle.p9_step.specs.Open.{room_of}
+use Rattle.p9_step.specs.Inherit.{inherited}
 use Rattle.p9_step.specs.Opening.{is_plain_read, newly_opened, opening_of}
 use Rattle.p9_step.specs.Qid.{qid_of}
-
--- a right to read or write is given only where the directory gives it; to execute, in a file, as
--- asked
-abbrev pub file_rights : Rights → Rights → Rights
-file_rights dir asked = record {
-  read = asked.read && dir.read;
-  write = asked.write && dir.write;
-  execute = asked.execute;
-}
-
--- in a directory each right only where the directory around gives it
-abbrev pub dir_rights : Rights → Rights → Rights
-dir_rights dir asked = record {
-  read = asked.read && dir.read;
-  write = asked.write && dir.write;
-  execute = asked.execute && dir.execute;
-}
-
-abbrev pub in_each : (Rights → Rights → Rights) → Permissions → Permissions → Permissions
-in_each f dir asked = record {
-  owner = f dir.owner asked.owner;
-  group = f dir.group asked.group;
-  others = f dir.others asked.others;
-}
-
--- the mode that a new node gets in a directory of these permissions
-abbrev pub inherited : Permissions → Mode → Mode
-inherited dir asked = record asked {
-  permissions =
-      in_each (if is_dir_mode asked then dir_rights else file_rights) dir asked.permissions;
-}
 
 -- the node that is made: the user's, of the group of its directory
 abbrev pub created : List ℕ → ℕ → ℕ → Node → List ℕ → Mode → Node
@@ -96,21 +63,21 @@ target_among forest ms =
 
 -- the fid goes on to the end of a trail, where it is open
 abbrev pub entered : ℕ → List NodeRef → Opening → Session → Session
-entered fid trail o session = record session {
+entered fid trail opening session = record session {
   fids =
-      changed_fid fid (λ v. record v { trail = trail; opened = Some (newly_opened o) })
+      changed_fid fid (λ v. record v { trail = trail; opened = Some (newly_opened opening) })
       session.fids;
 }
 
 -- the node is made in the directory, which is marked
 abbrev pub creation : List Server → Session → ℕ → ℕ → Fid → NodeRef → Node → List ℕ → Mode → Opening
     → Answer
-creation forest session now fid v target dir name asked o =
+creation forest session now fid v target dir name asked opening =
     let at = beside target (next_of target.server forest) in
     let n = created v.user now at.number dir name asked in
     Ok (record {
       changes = AddNode target.server n ∷ EditNode target (Mark v.user now) ∷ [];
-      session = entered fid (v.trail ++ at ∷ []) o session;
+      session = entered fid (v.trail ++ at ∷ []) opening session;
       reply = Rcreate (qid_of at n) (room_of session);
     })
 
@@ -124,23 +91,25 @@ fault_in forest v name target dir =
     else if nat_le places_max (length v.trail) then Some PathTooDeep
     else None
 
+-- the node is made in this directory, if nothing there refuses it
 abbrev pub created_in : List Server → Session → ℕ → ℕ → Fid → List ℕ → Mode → Opening → NodeRef
     → Answer
-created_in forest session now fid v name asked o target =
+created_in forest session now fid v name asked opening target =
     given (node_of target forest) PhaseError (λ dir.
     unless (fault_in forest v name target dir) (
-    creation forest session now fid v target dir name asked o))
+    creation forest session now fid v target dir name asked opening))
 
+-- the tests in their order, up to the directory
 abbrev pub create_answer : Setting → List Server → Session → ℕ → ℕ → List ℕ → ℕ → ℕ → Answer
 create_answer setting forest session now fid name perm bits =
     given (fid_at fid session.fids) UnknownFid (λ v.
     need (is_none v.opened) FidOpen (
     need (is_name name) BadFileName (
-    given (opening_of bits) BadOpenMode (λ o.
+    given (opening_of bits) BadOpenMode (λ opening.
     given (mode_of perm) BadOpenMode (λ asked.
-    need (not (is_dir_mode asked) || is_plain_read o) IsDirectory (
+    need (not (is_dir_mode asked) || is_plain_read opening) IsDirectory (
     and_then (target_among forest (members_of (here v.trail) setting.table)) (
-    created_in forest session now fid v name asked o)))))))
+    created_in forest session now fid v name asked opening)))))))
 
 -- what is told of a file that was made
 abbrev pub create_reply : Qid × ℕ → RMessage

@@ -1,27 +1,15 @@
 -- The end of fids, and removal on close: clunk(5), open(5).
-use Rattle.std.specs.Prelude.{◌≡◌, ℕ, ◌<◌, Bool, false, List, [], ◌∷◌, ◌++◌, Option, Some, IsTrue}
+use Rattle.std.specs.Prelude.{ℕ, Bool, false, List, [], ◌∷◌, ◌++◌, Option}
 use Rattle.std.specs.Prelude.{if◌then◌else◌}
-use Rattle.std.specs.List.{AllByRecursion}
 use Rattle.std.specs.Option.{option_map_or}
 use Rattle.p9_base.specs.declared.node_ref.NodeRef.{NodeRef}
 use Rattle.p9_base.specs.NodeRef.{beside}
-use Rattle.p9_tree.specs.Node.{Node, is_dir}
+use Rattle.p9_tree.specs.Node.{Node}
 use Rattle.p9_tree.specs.Server.{Server}
-use Rattle.p9_tree.specs.Forest.{next_of}
-use Rattle.p9_space.specs.Place.{file_of, file_ref}
 use Rattle.p9_space.specs.Table.{MountRow}
-use Rattle.p9_space.specs.Trail.{here}
-use Rattle.p9_fids.specs.declared.opened.Opened.{Opened}
-use Rattle.p9_fids.specs.declared.opened.OpenMode.TheVariants.{Read}
 use Rattle.p9_fids.specs.Fid.{Fid, FidRow}
+use Rattle.p9_step.specs.State.{fid_file, fid_ref}
 use Rattle.p9_step.specs.Change.{Change, EditNode, DropNode, Mark, all_applied}
-
--- the node in whose place a fid stands
-abbrev pub fid_ref : List MountRow → Fid → NodeRef
-fid_ref table v = file_ref (here v.trail) table
-
-abbrev pub fid_file : List MountRow → List Server → Fid → Option Node
-fid_file table forest v = file_of (here v.trail) table forest
 
 -- the directory that a node stands in is marked, where there is one
 abbrev pub parent_marked : List ℕ → ℕ → NodeRef → Option ℕ → List Change
@@ -32,8 +20,9 @@ parent_marked user now at parent =
 abbrev pub taken_out : List ℕ → ℕ → NodeRef → Node → List Change
 taken_out user now at n = DropNode at ∷ parent_marked user now at n.parent
 
+-- the fid is open, with remove-on-close
 abbrev pub removes_on_close : Fid → Bool
-removes_on_close v = option_map_or (λ o. o.remove_on_close) v.opened false
+removes_on_close v = option_map_or (λ opened. opened.remove_on_close) v.opened false
 
 -- what the end of a fid changes: a file that is open with remove-on-close goes, without a further
 -- test
@@ -50,20 +39,3 @@ on_ends table now forest [] = []
 on_ends table now forest (row ∷ rows) =
     let changes = on_end table now forest row.1 in
     changes ++ on_ends table now (all_applied changes forest) rows
-
--- What the machine keeps of fids that are open.
-
--- a directory is open for reading alone, and is not removed on close; and the file's number was
--- given
-pub record IsOpenOn (table : List MountRow) (forest : List Server) (v : Fid) (o : Opened) :
-    Type 0 where
-  pub given : (fid_ref table v).number < next_of (fid_ref table v).server forest
-  pub mode : (n : Node) → fid_file table forest v ≡ Some n → IsTrue (is_dir n) → o.mode ≡ Read
-  pub stays : (n : Node) → fid_file table forest v ≡ Some n → IsTrue (is_dir n)
-      → o.remove_on_close ≡ false
-
-abbrev pub FidFits : List MountRow → List Server → Fid → Type 0
-FidFits table forest v = (o : Opened) → v.opened ≡ Some o → IsOpenOn table forest v o
-
-abbrev pub FidsFit : List MountRow → List Server → List FidRow → Type 0
-FidsFit table forest fids = AllByRecursion (λ row. FidFits table forest row.1) fids

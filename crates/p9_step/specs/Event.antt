@@ -3,6 +3,7 @@ use Rattle.std.specs.Prelude.{ℕ, ◌==◌, ◌&&◌, Bool, nat_le, List, lengt
 use Rattle.byteorder.specs.Endian.{little_number}
 use Rattle.p9_wire.specs.Frame.{msize_max}
 
+-- a session is opened, gets a frame at a reading of the clock, and is closed at one
 pub data Event : Type 0 where
   Opening : (name : ℕ) → Event
   Request : (name : ℕ) (frame : List ℕ) (now : ℕ) → Event

@@ -10,7 +10,8 @@ use Rattle.p9_step.specs.State.{Session, State, changed_session, session_at}
 use Rattle.p9_step.specs.Clunk.{without}
 use Rattle.p9_step.specs.Event.{Request, is_frame}
 use Rattle.p9_step.specs.Sound.{IsSound}
-use Rattle.p9_step.specs.Step.{Stepped, request_of, step, tag_of}
+use Rattle.p9_step.specs.Request.{request_of, tag_of}
+use Rattle.p9_step.specs.Step.{Stepped, step}
 
 -- a state that an exporter can have: its servers are well-formed, and what it keeps of its sessions
 -- holds
@@ -23,6 +24,7 @@ pub record IsState (state : State) : Type 0 where
 abbrev pub reply_max : Session → ℕ
 reply_max session = unwrap_or session.msize 43
 
+-- the state without one fid of a session
 abbrev pub without_fid_of : ℕ → Session → ℕ → State → State
 without_fid_of name session fid state =
     record state { sessions = changed_session name (without fid session) state.sessions }
@@ -32,6 +34,7 @@ abbrev pub after_refusal : State → ℕ → Session → Result TMessage Fault �
 after_refusal state name session (Ok (Tremove fid)) = without_fid_of name session fid state
 after_refusal state name session request = state
 
+-- the text of one of the thirty faults
 abbrev pub IsFaultText : List ℕ → Type 0
 IsFaultText ename = (fault : Fault) × (ename ≡ text_of fault)
 
@@ -47,8 +50,7 @@ pub record IsAnswered (state : State) (name : ℕ) (session : Session) (frame : 
       → IsFaultText ename
       × (after.state ≡ after_refusal state name session (request_of session frame))
 
--- Every frame of a session that is open gets one reply.
-
+-- every frame of a session that is open gets one reply
 abbrev pub EveryFrameIsAnswered : Type 0
 EveryFrameIsAnswered =
     (state : State) (name : ℕ) (session : Session) (frame : List ℕ) (now : ℕ) (refused : Bool)

@@ -3,6 +3,7 @@ pub mod Change
 pub mod Answer
 pub mod Qid
 pub mod Rights
+pub mod Inherit
 pub mod End
 pub mod Version
 pub mod Attach
@@ -19,5 +20,7 @@ pub mod Stat
 pub mod Wstat
 pub mod Sound
 pub mod Event
+pub mod Request
+pub mod Memory
 pub mod Step
 pub mod Laws

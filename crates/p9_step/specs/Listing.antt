@@ -17,6 +17,7 @@ pub record Entry : Type 0 where
   pub member : NodeRef
   pub node : Node
 
+-- the node as an entry of the member at the position
 abbrev pub entry_at : ℕ → NodeRef → Node → Entry
 entry_at position member n = record { position = position; member = member; node = n }
 
@@ -31,6 +32,7 @@ module _ (forest : List Server) (user : List ℕ) where
       option_map_or (λ n. is_dir n && (position == 0 || may user n to_read)) (node_of m.node forest)
       false
 
+  -- the entries of the member at the position
   abbrev pub entries_of : ℕ → Member → List Entry
   entries_of position m =
       if is_listed position m then map (entry_at position m.node) (children_of m.node forest)

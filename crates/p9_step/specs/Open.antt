@@ -1,5 +1,5 @@
 -- The opening of a fid: open(5).
-use Rattle.std.specs.Prelude.{ℕ, ◌-◌, ◌&&◌, ◌||◌, Bool, false, not, nat_lt, List, [], ◌∷◌, Ok}
+use Rattle.std.specs.Prelude.{ℕ, ◌&&◌, ◌||◌, Bool, false, not, nat_lt, List, [], ◌∷◌, Ok}
 use Rattle.std.specs.Prelude.{is_none, if◌then◌else◌}
 use Rattle.std.specs.List.{list_any}
 use Rattle.std.specs.Map.{values_of}
@@ -18,22 +18,14 @@ use Rattle.p9_space.specs.Table.{MountRow}
 use Rattle.p9_wire.specs.Message.{RMessage, Ropen}
 use Rattle.p9_fids.specs.Fid.{changed_fid, fid_at, open_count, opened_as}
 use Rattle.p9_step.specs.declared.opening.Opening.{Opening}
-use Rattle.p9_step.specs.State.{Setting, Session, SessionRow}
+use Rattle.p9_step.specs.State.{Setting, Session, SessionRow, fid_file, fid_ref, room_of}
 use Rattle.p9_step.specs.Answer.{Answer, given, need}
 use Rattle.p9_step.specs.Change.{Change, Cut, EditNode, Mark, edited}
-use Rattle.p9_step.specs.End.{fid_file, fid_ref}
 use Rattle.p9_step.specs.Opening.{is_plain_read, newly_opened, opening_of, wanted_by}
 use Rattle.p9_step.specs.Qid.{qid_of}
 use Rattle.p9_step.specs.Rights.{may_write_parent}
 
--- what stands around the data of a read or a write takes so many bytes at most
-abbrev pub io_header : ℕ
-io_header = 24
-
--- what a read or a write of a session may carry
-abbrev pub room_of : Session → ℕ
-room_of session = option_map_or (λ msize. msize - io_header) session.msize 0
-
+-- a file with this flag; a directory never has it
 abbrev pub is_append_only_kind : Kind → Bool
 is_append_only_kind Directory = false
 is_append_only_kind (File flags) = flags.append_only
@@ -42,6 +34,7 @@ is_append_only_kind (File flags) = flags.append_only
 abbrev pub is_append_only : Node → Bool
 is_append_only n = is_append_only_kind n.mode.kind
 
+-- a file with this flag; a directory never has it
 abbrev pub is_exclusive_kind : Kind → Bool
 is_exclusive_kind Directory = false
 is_exclusive_kind (File flags) = flags.exclusive
@@ -57,24 +50,28 @@ is_in_use table at sessions =
 
 -- each right that the mode asks for, and to remove on close, to change the file's directory
 abbrev pub may_open : List ℕ → List Server → NodeRef → Node → Opening → Bool
-may_open user forest at n o =
-    may user n (wanted_by o) && (not o.remove_on_close || may_write_parent user forest at n)
+may_open user forest at n opening =
+    may user n (wanted_by opening)
+    && (not opening.remove_on_close || may_write_parent user forest at n)
 
+-- the opening truncates the file; one that is append-only stays
 abbrev pub is_cut : Node → Opening → Bool
-is_cut n o = o.truncates && not (is_append_only n)
+is_cut n opening = opening.truncates && not (is_append_only n)
 
 -- truncation cuts the file to nothing, and marks it
 abbrev pub truncation : List ℕ → ℕ → NodeRef → Node → Opening → List Change
-truncation user now at n o =
-    if is_cut n o then EditNode at (Cut 0) ∷ EditNode at (Mark user now) ∷ [] else []
+truncation user now at n opening =
+    if is_cut n opening then EditNode at (Cut 0) ∷ EditNode at (Mark user now) ∷ [] else []
 
 -- the file after it
 abbrev pub truncated : List ℕ → ℕ → Node → Opening → Node
-truncated user now n o = if is_cut n o then edited (Mark user now) (edited (Cut 0) n) else n
+truncated user now n opening =
+    if is_cut n opening then edited (Mark user now) (edited (Cut 0) n) else n
 
+-- the fid is open
 abbrev pub opened_session : ℕ → Opening → Session → Session
-opened_session fid o session = record session {
-  fids = changed_fid fid (opened_as (newly_opened o)) session.fids;
+opened_session fid opening session = record session {
+  fids = changed_fid fid (opened_as (newly_opened opening)) session.fids;
 }
 
 -- the file of the fid is for one fid at a time, and a fid of some session has it open
@@ -86,19 +83,21 @@ is_taken setting forest sessions session fid =
     (fid_file setting.table forest v) false)
     (fid_at fid session.fids) false
 
+-- the tests in their order
 abbrev pub open_answer : Setting → List Server → Bool → Session → ℕ → ℕ → ℕ → Answer
 open_answer setting forest taken session now fid bits =
     given (fid_at fid session.fids) UnknownFid (λ v.
     need (is_none v.opened) FidOpen (
     given (fid_file setting.table forest v) PhaseError (λ n.
-    given (opening_of bits) BadOpenMode (λ o.
-    need (not (is_dir n) || is_plain_read o) IsDirectory (
-    need (may_open v.user forest (fid_ref setting.table v) n o) PermissionDenied (
+    given (opening_of bits) BadOpenMode (λ opening.
+    need (not (is_dir n) || is_plain_read opening) IsDirectory (
+    let at = fid_ref setting.table v in
+    need (may_open v.user forest at n opening) PermissionDenied (
     need (not taken) ExclusiveUse (
     Ok (record {
-      changes = truncation v.user now (fid_ref setting.table v) n o;
-      session = opened_session fid o session;
-      reply = Ropen (qid_of (fid_ref setting.table v) (truncated v.user now n o)) (room_of session);
+      changes = truncation v.user now at n opening;
+      session = opened_session fid opening session;
+      reply = Ropen (qid_of at (truncated v.user now n opening)) (room_of session);
     }))))))))
 
 -- what is told of a file that was opened

@@ -26,6 +26,7 @@ opening_of bits =
     })
     else None
 
+-- the mode reads, and nothing else
 abbrev pub is_read : OpenMode → Bool
 is_read Read = true
 is_read Write = false

@@ -16,12 +16,10 @@ use Rattle.p9_fids.specs.declared.opened.Cursor.{Cursor}
 use Rattle.p9_fids.specs.declared.opened.Opened.{Opened}
 use Rattle.p9_fids.specs.Fid.{Fid, changed_fid, fid_at, opened_as}
 use Rattle.p9_fids.specs.Opened.{reads}
-use Rattle.p9_step.specs.State.{Setting, Session}
+use Rattle.p9_step.specs.State.{Setting, Session, fid_file, fid_ref, room_of}
 use Rattle.p9_step.specs.Answer.{Answer, given, need}
 use Rattle.p9_step.specs.Change.{EditNode, Touch}
-use Rattle.p9_step.specs.End.{fid_file, fid_ref}
 use Rattle.p9_step.specs.Listing.{Entry, cursor_of, listing_behind}
-use Rattle.p9_step.specs.Open.{room_of}
 use Rattle.p9_step.specs.Qid.{stat_of}
 
 -- A file.
@@ -59,12 +57,13 @@ end_of e = (cursor_of e, length (entry_bytes e))
 
 -- offset 0 begins anew
 abbrev pub cursor_at : ℕ → Opened → Option Cursor
-cursor_at offset o = if offset == 0 then None else o.cursor
+cursor_at offset opened = if offset == 0 then None else opened.cursor
 
+-- the next read of the directory goes on behind the entries that were given
 abbrev pub listed_session : ℕ → Opened → ℕ → Option Cursor → List Entry → Session → Session
-listed_session fid o offset cursor given session = record session {
+listed_session fid opened offset cursor given session = record session {
   fids =
-      changed_fid fid (opened_as (record o {
+      changed_fid fid (opened_as (record opened {
         next_offset = offset + length (flat_map entry_bytes given);
         cursor = cursor_after cursor given;
       })) session.fids;
@@ -72,35 +71,37 @@ listed_session fid o offset cursor given session = record session {
 
 -- the entries that are given of those that are left
 abbrev pub listed : Session → ℕ → Opened → ℕ → Option Cursor → List Entry → Answer
-listed session fid o offset cursor given =
+listed session fid opened offset cursor given =
     Ok (record {
       changes = [];
-      session = listed_session fid o offset cursor given session;
+      session = listed_session fid opened offset cursor given session;
       reply = Rread (flat_map entry_bytes given);
     })
 
 -- where entries are left, room for one is needed
 abbrev pub given_of : Session → ℕ → Opened → ℕ → Option Cursor → List Entry → List Entry → Answer
-given_of session fid o offset cursor (e ∷ es) [] = Err SmallReadCount
-given_of session fid o offset cursor left given = listed session fid o offset cursor given
+given_of session fid opened offset cursor (e ∷ es) [] = Err SmallReadCount
+given_of session fid opened offset cursor left given = listed session fid opened offset cursor given
 
+-- a read begins anew, or where the last one ended
 abbrev pub read_dir : Setting → List Server → Session → ℕ → Fid → Opened → ℕ → ℕ → Answer
-read_dir setting forest session fid v o offset room =
-    let cursor = cursor_at offset o in
+read_dir setting forest session fid v opened offset room =
+    let cursor = cursor_at offset opened in
     let left = listing_behind cursor setting.table forest v.user (here v.trail) in
-    need (offset == 0 || offset == o.next_offset) BadDirectoryOffset (
-    given_of session fid o offset cursor left (fitting room left))
+    need (offset == 0 || offset == opened.next_offset) BadDirectoryOffset (
+    given_of session fid opened offset cursor left (fitting room left))
 
 -- open for reading, or not
 abbrev pub readable : Option Opened → Option Opened
 readable None = None
-readable (Some o) = if reads o.mode then Some o else None
+readable (Some opened) = if reads opened.mode then Some opened else None
 
+-- the tests in their order
 abbrev pub read_answer : Setting → List Server → Session → ℕ → ℕ → ℕ → ℕ → Answer
 read_answer setting forest session now fid offset count =
     given (fid_at fid session.fids) UnknownFid (λ v.
-    given (readable v.opened) FidNotOpen (λ o.
+    given (readable v.opened) FidNotOpen (λ opened.
     given (fid_file setting.table forest v) PhaseError (λ n.
     let room = min count (room_of session) in
-    if is_dir n then read_dir setting forest session fid v o offset room
+    if is_dir n then read_dir setting forest session fid v opened offset room
     else read_file session now (fid_ref setting.table v) n offset room)))

@@ -6,10 +6,10 @@ use Rattle.p9_tree.specs.Server.{Server}
 use Rattle.p9_tree.specs.Forest.{has_children_of}
 use Rattle.p9_wire.specs.Message.{Rremove}
 use Rattle.p9_fids.specs.Fid.{Fid, fid_at}
-use Rattle.p9_step.specs.State.{Setting, Session}
+use Rattle.p9_step.specs.State.{Setting, Session, fid_file, fid_ref}
 use Rattle.p9_step.specs.Answer.{Answer, given, need, outcome_of}
 use Rattle.p9_step.specs.Clunk.{without}
-use Rattle.p9_step.specs.End.{fid_file, fid_ref, taken_out}
+use Rattle.p9_step.specs.End.{taken_out}
 use Rattle.p9_step.specs.Rights.{may_write_parent}
 
 -- the removal, in a session that the fid has left

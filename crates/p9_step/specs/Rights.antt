@@ -8,6 +8,7 @@ use Rattle.p9_tree.specs.Server.{Server}
 use Rattle.p9_tree.specs.Forest.{node_of}
 use Rattle.p9_space.specs.Rights.{may, to_write}
 
+-- the user may write the node, which exists
 abbrev pub may_write : List ℕ → List Server → NodeRef → Bool
 may_write user forest at = option_map_or (λ n. may user n to_write) (node_of at forest) false
 

@@ -4,9 +4,8 @@ use Rattle.p9_base.specs.declared.fault.Fault.TheVariants.{PhaseError, UnknownFi
 use Rattle.p9_tree.specs.Server.{Server}
 use Rattle.p9_wire.specs.Message.{Rstat}
 use Rattle.p9_fids.specs.Fid.{fid_at}
-use Rattle.p9_step.specs.State.{Setting, Session}
+use Rattle.p9_step.specs.State.{Setting, Session, fid_file, fid_ref}
 use Rattle.p9_step.specs.Answer.{Answer, given}
-use Rattle.p9_step.specs.End.{fid_file, fid_ref}
 use Rattle.p9_step.specs.Qid.{stat_of}
 
 -- no permission is needed

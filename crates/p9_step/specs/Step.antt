@@ -1,19 +1,13 @@
 -- A step: what one event makes of a state, and the bytes that answer it.
-use Rattle.std.specs.Prelude.{ℕ, ◌&&◌, ◌||◌, Bool, true, false, nat_le, List, [], ◌∷◌, ◌++◌, Result}
-use Rattle.std.specs.Prelude.{Ok, Err, drop, not, is_some, length, if◌then◌else◌}
+use Rattle.std.specs.Prelude.{ℕ, ◌&&◌, ◌||◌, Bool, false, List, [], ◌∷◌, ◌++◌}
+use Rattle.std.specs.Prelude.{Ok, Err, is_some, if◌then◌else◌}
 use Rattle.std.specs.Option.{option_map_or}
-use Rattle.std.specs.Str.{bytes_eq}
-use Rattle.byteorder.specs.Endian.{little_number}
-use Rattle.p9_base.specs.declared.fault.Fault.TheVariants.{Malformed, NoAuthentication, OutOfMemory}
-use Rattle.p9_base.specs.declared.fault.Fault.TheVariants.{VersionNotSet}
-use Rattle.p9_base.specs.declared.fault.Fault.{Fault}
-use Rattle.p9_base.specs.Fault.{text_of}
+use Rattle.p9_base.specs.declared.fault.Fault.TheVariants.{NoAuthentication}
 use Rattle.p9_base.specs.Results.{and_then}
 use Rattle.p9_tree.specs.Server.{Server}
 use Rattle.p9_wire.specs.Message.{TMessage, Tversion, Tauth, Tattach, Tflush, Twalk, Topen, Tcreate}
-use Rattle.p9_wire.specs.Message.{Tread, Twrite, Tclunk, Tremove, Tstat, Twstat, Rerror, Rflush}
+use Rattle.p9_wire.specs.Message.{Tread, Twrite, Tclunk, Tremove, Tstat, Twstat, Rflush}
 use Rattle.p9_wire.specs.Spelling.{r_spelling}
-use Rattle.p9_wire.specs.Reading.{t_message_of}
 use Rattle.p9_step.specs.State.{Setting, Session, SessionRow, State, changed_session, fresh}
 use Rattle.p9_step.specs.State.{session_at, with_session, without_session}
 use Rattle.p9_step.specs.Change.{all_applied}
@@ -30,13 +24,9 @@ use Rattle.p9_step.specs.Clunk.{clunk_answer}
 use Rattle.p9_step.specs.Remove.{remove_answer}
 use Rattle.p9_step.specs.Stat.{stat_answer}
 use Rattle.p9_step.specs.Wstat.{wstat_answer}
+use Rattle.p9_step.specs.Request.{request_of, tag_of}
+use Rattle.p9_step.specs.Memory.{no_memory_reply, ran_out}
 use Rattle.p9_step.specs.Event.{Event, Opening, Request, Closing, is_frame}
-
--- Requests.
-
-abbrev pub is_version : TMessage → Bool
-is_version (Tversion msize version) = true
-is_version other = false
 
 -- each message, in the manual's order; taken says that an open finds its file in use
 abbrev pub session_answer : Setting → List Server → Bool → Session → ℕ → TMessage → Answer
@@ -71,61 +61,18 @@ finds_taken setting forest sessions session (Topen fid mode) =
     is_taken setting forest sessions session fid
 finds_taken setting forest sessions session other = false
 
+-- the same, where all sessions are looked at for files in use
 abbrev pub message_answer : Setting → List Server → List SessionRow → Session → ℕ → TMessage
     → Answer
 message_answer setting forest sessions session now m =
     session_answer setting forest (finds_taken setting forest sessions session m) session now m
 
--- a frame is no longer than the session's msize
-abbrev pub fits_msize : Session → List ℕ → Bool
-fits_msize session frame = option_map_or (λ msize. nat_le (length frame) msize) session.msize true
-
--- the request of a frame: a frame that is too long, or that no request spells, is malformed; before
--- a version only a version is a request
-abbrev pub request_of : Session → List ℕ → Result TMessage Fault
-request_of session frame =
-    if not (fits_msize session frame) then Err Malformed
-    else option_map_or
-    (λ m. if is_version m.1 || is_some session.msize then Ok m.1 else Err VersionNotSet)
-    (t_message_of frame) (Err Malformed)
-
+-- the same of a frame, which may have no request
 abbrev pub frame_answer : Setting → List Server → List SessionRow → Session → ℕ → List ℕ → Answer
 frame_answer setting forest sessions session now frame =
     and_then (request_of session frame) (message_answer setting forest sessions session now)
 
--- the sixth and seventh byte, also where the frame is no message
-abbrev pub tag_of : List ℕ → ℕ
-tag_of frame = little_number 2 (drop 5 frame)
-
--- Want of memory.
-
-abbrev pub is_done : Answer → Bool
-is_done (Ok outcome) = true
-is_done (Err fault) = false
-
--- whether a request may be answered by want of memory, in the place of the answer that it has: an
--- attach or a walk in the place of any, a create, a write or a wstat where no refusal is due
-abbrev pub may_run_out : TMessage → Answer → Bool
-may_run_out (Tattach fid afid uname aname) answer = true
-may_run_out (Twalk fid newfid names) answer = true
-may_run_out (Tcreate fid name perm mode) answer = is_done answer
-may_run_out (Twrite fid offset bytes) answer = is_done answer
-may_run_out (Twstat fid stat) answer = is_done answer
-may_run_out other answer = false
-
-abbrev pub ran_out : List ℕ → Answer → Bool
-ran_out frame answer = option_map_or (λ m. may_run_out m.1 answer) (t_message_of frame) false
-
--- the reply to a frame for which there is no memory
-abbrev pub no_memory_reply : List ℕ → List ℕ
-no_memory_reply frame = r_spelling (tag_of frame) (Rerror (text_of OutOfMemory))
-
--- whether a frame was answered so
-abbrev pub is_no_memory_reply : List ℕ → List ℕ → Bool
-is_no_memory_reply frame reply = bytes_eq reply (no_memory_reply frame)
-
--- Steps.
-
+-- the state after an event, and the bytes that answer it
 pub record Stepped : Type 0 where
   pub state : State
   pub reply : List ℕ
@@ -134,6 +81,7 @@ pub record Stepped : Type 0 where
 abbrev pub unchanged : State → Stepped
 unchanged state = record { state = state; reply = [] }
 
+-- the outcome of a request takes its place in the state, and its reply is spelled
 abbrev pub with_outcome : State → ℕ → List ℕ → Outcome → Stepped
 with_outcome state name frame outcome = record {
   state = record state {
@@ -143,11 +91,13 @@ with_outcome state name frame outcome = record {
   reply = r_spelling (tag_of frame) outcome.reply;
 }
 
+-- the same of an answer; where memory was refused and that may be answered, nothing changes
 abbrev pub answered : State → ℕ → Session → List ℕ → Bool → Answer → Stepped
 answered state name session frame refused answer =
     if refused && ran_out frame answer then record { state = state; reply = no_memory_reply frame }
     else with_outcome state name frame (outcome_of session answer)
 
+-- a frame of a session that is open
 abbrev pub requested : State → ℕ → List ℕ → ℕ → Bool → Session → Stepped
 requested state name frame now refused session =
     answered state name session frame refused

@@ -32,6 +32,7 @@ abbrev pub not_spoken : Session → ℕ → Answer
 not_spoken session msize =
     Ok (record { changes = []; session = session; reply = Rversion msize (codes "unknown") })
 
+-- the tests in their order
 abbrev pub version_answer : Setting → List Server → Session → ℕ → ℕ → List ℕ → Answer
 version_answer setting forest session now msize version =
     need (nat_le msize_min msize) SmallMsize (

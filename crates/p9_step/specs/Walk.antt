@@ -30,6 +30,7 @@ pub record Arrival : Type 0 where
   pub qid : Qid
 
 module _ (setting : Setting) (forest : List Server) where
+  -- a step that is taken, with the qid of the file where it arrives
   abbrev pub arrival : List NodeRef → Step → Result Arrival Fault
   arrival trail step =
       let next = stepped trail step in
@@ -79,9 +80,11 @@ ended_walk fid newfid v session trail (Some fault) [] = Err fault
 ended_walk fid newfid v session trail (Some fault) (qid ∷ qids) =
     Ok (record { changes = []; session = session; reply = Rwalk (qid ∷ qids) })
 
+-- the same, of how far the names led
 abbrev pub walk_outcome : ℕ → ℕ → Fid → Session → Walked → Answer
 walk_outcome fid newfid v session w = ended_walk fid newfid v session w.trail w.stopped w.qids
 
+-- the tests in their order
 abbrev pub walk_answer : Setting → List Server → Session → ℕ → ℕ → List (List ℕ) → Answer
 walk_answer setting forest session fid newfid names =
     given (fid_at fid session.fids) UnknownFid (λ v.

@@ -9,10 +9,9 @@ use Rattle.p9_wire.specs.Message.{Rwrite}
 use Rattle.std.specs.Option.{option_map_or}
 use Rattle.p9_fids.specs.Fid.{Fid, fid_at}
 use Rattle.p9_fids.specs.Opened.{writes}
-use Rattle.p9_step.specs.State.{Setting, Session}
+use Rattle.p9_step.specs.State.{Setting, Session, fid_file, fid_ref}
 use Rattle.p9_step.specs.Answer.{Answer, given, need}
 use Rattle.p9_step.specs.Change.{EditNode, Mark, Overwrite}
-use Rattle.p9_step.specs.End.{fid_file, fid_ref}
 use Rattle.p9_step.specs.Open.{is_append_only}
 use Rattle.p9_tree.specs.Bytes.{file_max}
 
@@ -24,6 +23,7 @@ is_writable v = option_map_or (λ o. writes o.mode) v.opened false
 abbrev pub write_place : ℕ → Node → ℕ
 write_place offset n = if is_append_only n then length n.bytes else offset
 
+-- the bytes stand at the place, and the file is marked
 abbrev pub written : Session → ℕ → Fid → NodeRef → ℕ → List ℕ → Answer
 written session now v at place bytes =
     Ok (record {
@@ -42,6 +42,7 @@ write_file session now v at n offset (b ∷ bs) =
     need (nat_le (place + length bytes) file_max) FileTooLarge (
     written session now v at place bytes)
 
+-- the tests in their order
 abbrev pub write_answer : Setting → List Server → Session → ℕ → ℕ → ℕ → List ℕ → Answer
 write_answer setting forest session now fid offset bytes =
     given (fid_at fid session.fids) UnknownFid (λ v.

@@ -21,10 +21,10 @@ use Rattle.p9_tree.specs.declared.change.Change.{Change as NodeChange}
 use Rattle.p9_space.specs.Rights.{may, rules, to_write}
 use Rattle.p9_wire.specs.Message.{Rwstat, StatFields}
 use Rattle.p9_fids.specs.Fid.{fid_at}
-use Rattle.p9_step.specs.State.{Setting, Session}
+use Rattle.p9_step.specs.State.{Setting, Session, fid_file, fid_ref}
 use Rattle.p9_step.specs.Answer.{Answer, given, need, unless}
 use Rattle.p9_step.specs.Change.{Change, EditNode, Rewrite}
-use Rattle.p9_step.specs.End.{fid_file, fid_ref, parent_marked}
+use Rattle.p9_step.specs.End.{parent_marked}
 use Rattle.p9_step.specs.Qid.{stat_of}
 use Rattle.p9_step.specs.Rights.{may_write_parent}
 use Rattle.p9_tree.specs.Bytes.{file_max}
@@ -32,16 +32,20 @@ use Rattle.p9_tree.specs.Bytes.{file_max}
 -- What is touched: all but a field that holds its greatest number, or is empty, or holds what
 -- stands there.
 
+-- a number
 abbrev pub is_number_touched : ℕ → ℕ → ℕ → Bool
 is_number_touched greatest there wanted = not (wanted == greatest || wanted == there)
 
+-- a text
 abbrev pub is_text_touched : List ℕ → List ℕ → Bool
 is_text_touched there wanted = not (bytes_eq wanted [] || bytes_eq wanted there)
 
+-- what is wanted, where it is touched
 abbrev pub touched_number : ℕ → ℕ → ℕ → Option ℕ
 touched_number greatest there wanted =
     if is_number_touched greatest there wanted then Some wanted else None
 
+-- the same of a text
 abbrev pub touched_text : List ℕ → List ℕ → Option (List ℕ)
 touched_text there wanted = if is_text_touched there wanted then Some wanted else None
 
@@ -70,6 +74,7 @@ pub record Touched : Type 0 where
   pub mtime : Option ℕ
   pub gid : Option (List ℕ)
 
+-- the fields that are touched of what is wanted
 abbrev pub touched_of : StatFields → StatFields → Touched
 touched_of there wanted = record {
   mode = touched_number (2 ^ 32 - 1) there.mode wanted.mode;
@@ -79,6 +84,7 @@ touched_of there wanted = record {
   gid = touched_text there.gid wanted.gid;
 }
 
+-- a field is touched
 abbrev pub is_any : Touched → Bool
 is_any t = is_some t.mode || is_some t.name || is_some t.length || is_some t.mtime || is_some t.gid
 
@@ -88,6 +94,7 @@ is_any t = is_some t.mode || is_some t.name || is_some t.length || is_some t.mti
 abbrev pub is_mode_for : Node → Mode → Bool
 is_mode_for n m = if is_dir n then is_dir_mode m else not (is_dir_mode m)
 
+-- a mode means something, and is for the file's kind
 abbrev pub mode_fault : Node → ℕ → Option Fault
 mode_fault n bits =
     if option_map_or (is_mode_for n) (mode_of bits) false then None else Some FixedField
@@ -97,6 +104,7 @@ abbrev pub has_sibling : List Server → NodeRef → Node → List ℕ → Bool
 has_sibling forest at n name =
     option_map_or (λ parent. is_some (child_in (beside at parent) name forest)) n.parent false
 
+-- a name is not for a root, is valid, and new in a directory that the user may write
 abbrev pub name_fault : List ℕ → List Server → NodeRef → Node → List ℕ → Option Fault
 name_fault user forest at n name =
     if is_none n.parent then Some IsRoot
@@ -105,6 +113,7 @@ name_fault user forest at n name =
     else if has_sibling forest at n name then Some FileExists
     else None
 
+-- a length is for a file that the user may write, and not above the greatest
 abbrev pub length_fault : List ℕ → Node → ℕ → Option Fault
 length_fault user n size =
     if is_dir n then Some IsDirectory
@@ -121,9 +130,11 @@ ruling_fault user n touched = if rules user n then None else Some PermissionDeni
 abbrev pub may_give : List ℕ → Node → List ℕ → Bool
 may_give user n gid = (bytes_eq n.uid user || bytes_eq n.gid user) && bytes_eq gid user
 
+-- a group is one that the user may give the file to
 abbrev pub gid_fault : List ℕ → Node → List ℕ → Option Fault
 gid_fault user n gid = if may_give user n gid then None else Some PermissionDenied
 
+-- the first that forbids it
 abbrev pub wstat_fault : List ℕ → List Server → NodeRef → Node → Touched → Option Fault
 wstat_fault user forest at n t =
     option_or (option_and_then (mode_fault n) t.mode) (
@@ -135,6 +146,7 @@ wstat_fault user forest at n t =
 
 -- What is changed, all at once.
 
+-- the change of the node
 abbrev pub node_change : List ℕ → ℕ → Touched → NodeChange
 node_change user now t = record {
   name = t.name;
@@ -153,6 +165,7 @@ rewriting user now at n t =
     then EditNode at (Rewrite (node_change user now t)) ∷ parent_marked user now at n.parent
     else []
 
+-- the tests in their order
 abbrev pub wstat_answer : Setting → List Server → Session → ℕ → ℕ → StatFields → Answer
 wstat_answer setting forest session now fid wanted =
     given (fid_at fid session.fids) UnknownFid (λ v.

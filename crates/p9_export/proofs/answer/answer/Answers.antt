@@ -4,7 +4,7 @@ use Rattle.std.specs.Option.{option_copied, option_copied_mut}
 use Rattle.p9_wire.specs.Message.{t_view}
 use Rattle.p9_step.specs.State.{session_at}
 use Rattle.p9_export.specs.Answers.{request_view}
-use Rattle.p9_step.specs.Step.{request_of}
+use Rattle.p9_step.specs.Request.{request_of}
 use Rattle.p9_export.proofs.Among.{among-request}
 use Rattle.p9_export.proofs.answer.answer.Goals as goal
 

@@ -9,7 +9,7 @@ use Rattle.p9_tree.specs.Node.{touched}
 use Rattle.p9_fids.specs.Fid.{fid_at}
 use Rattle.p9_step.specs.Answer.{Answer}
 use Rattle.p9_export.specs.Answers.{Answers, data_reply, replied}
-use Rattle.p9_step.specs.Open.{room_of}
+use Rattle.p9_step.specs.State.{room_of}
 use Rattle.p9_step.specs.Read.{read_answer, readable}
 use Rattle.p9_export.proofs.DirectoryReads.{IsReadable, data_kept, reads_dir, reads_file}
 use Rattle.p9_export.proofs.read.read.Goals as goal

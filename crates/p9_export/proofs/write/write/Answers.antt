@@ -5,7 +5,7 @@ use Rattle.p9_tree.specs.Forest.{forest_changed_at, node_of}
 use Rattle.p9_tree.specs.Node.{marked, with_bytes}
 use Rattle.p9_wire.specs.Message.{Rwrite}
 use Rattle.p9_fids.specs.Fid.{fid_at}
-use Rattle.p9_step.specs.End.{fid_ref}
+use Rattle.p9_step.specs.State.{fid_ref}
 use Rattle.p9_step.specs.Write.{is_writable}
 use Rattle.p9_step.proofs.Fids.{FidsFit-fid_at}
 use Rattle.p9_export.proofs.Writes.{memory_refused, writable_file, write-did, write_answer-done}

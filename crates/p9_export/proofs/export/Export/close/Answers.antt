@@ -1,5 +1,5 @@
 use Rattle.std.proofs.Common.{map, sym, ap, subst, ◌∙◌}
-use Rattle.p9_step.specs.End.{FidsFit}
+use Rattle.p9_step.specs.Sound.{FidsFit}
 use Rattle.p9_step.specs.State.{Session}
 use Rattle.p9_step.proofs.Sounds.{session-sound, sound-closed}
 use Rattle.p9_export.proofs.export.Export.close.Goals as goal

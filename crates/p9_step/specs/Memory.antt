@@ -1,0 +1,38 @@
+-- Want of memory: which requests may be answered by it, and how.
+use Rattle.std.specs.Prelude.{ℕ, Bool, true, false, List, Ok, Err}
+use Rattle.std.specs.Option.{option_map_or}
+use Rattle.std.specs.Str.{bytes_eq}
+use Rattle.p9_base.specs.declared.fault.Fault.TheVariants.{OutOfMemory}
+use Rattle.p9_base.specs.Fault.{text_of}
+use Rattle.p9_wire.specs.Message.{TMessage, Tattach, Twalk, Tcreate, Twrite, Twstat, Rerror}
+use Rattle.p9_wire.specs.Reading.{t_message_of}
+use Rattle.p9_wire.specs.Spelling.{r_spelling}
+use Rattle.p9_step.specs.Answer.{Answer}
+use Rattle.p9_step.specs.Request.{tag_of}
+
+-- nothing refuses
+abbrev pub is_done : Answer → Bool
+is_done (Ok outcome) = true
+is_done (Err fault) = false
+
+-- whether a request may be answered by want of memory, in the place of the answer that it has: an
+-- attach or a walk in the place of any, a create, a write or a wstat where no refusal is due
+abbrev pub may_run_out : TMessage → Answer → Bool
+may_run_out (Tattach fid afid uname aname) answer = true
+may_run_out (Twalk fid newfid names) answer = true
+may_run_out (Tcreate fid name perm mode) answer = is_done answer
+may_run_out (Twrite fid offset bytes) answer = is_done answer
+may_run_out (Twstat fid stat) answer = is_done answer
+may_run_out other answer = false
+
+-- the same of a frame
+abbrev pub ran_out : List ℕ → Answer → Bool
+ran_out frame answer = option_map_or (λ m. may_run_out m.1 answer) (t_message_of frame) false
+
+-- the reply to a frame for which there is no memory
+abbrev pub no_memory_reply : List ℕ → List ℕ
+no_memory_reply frame = r_spelling (tag_of frame) (Rerror (text_of OutOfMemory))
+
+-- whether a frame was answered so
+abbrev pub is_no_memory_reply : List ℕ → List ℕ → Bool
+is_no_memory_reply frame reply = bytes_eq reply (no_memory_reply frame)
