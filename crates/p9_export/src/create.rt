@@ -18,13 +18,13 @@ ghost use Rattle.p9_step.specs.Qid.{qid_of};
 ghost use Rattle.p9_step.specs.Memory.{is_done};
 
 use crate::inherit::inherited;
-use p9_step::Opening;
 use crate::qid::qid_of;
 use crate::session::Session;
 use crate::setting::Setting;
 use p9_base::{Fault, Mode, Name, NoMemory, NodeRef, Qid, User};
 use p9_fids::Fid;
 use p9_space::{Member, PLACES_MAX, TO_WRITE, Trail, may};
+use p9_step::Opening;
 use p9_tree::{Forest, NEXT_MAX, New, Node, Tree};
 use std::alloc::Allocator;
 

@@ -8,13 +8,13 @@ ghost use Rattle.p9_step.specs.Open.{is_append_only, is_cut, is_exclusive, is_in
 ghost use Rattle.p9_step.specs.Open.{may_open, open_answer, open_reply, truncated, truncation};
 ghost use Rattle.p9_step.specs.Qid.{qid_of};
 
-use p9_step::Opening;
 use crate::qid::qid_of;
 use crate::rights::may_write_parent;
 use crate::session::Session;
 use crate::setting::Setting;
 use p9_base::{Fault, Kind, NodeRef, Qid, User};
 use p9_space::{MountTable, may};
+use p9_step::Opening;
 use p9_tree::{Forest, Node, Tree};
 use std::alloc::Allocator;
 use std::collections::BTreeMap;

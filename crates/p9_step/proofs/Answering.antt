@@ -111,6 +111,7 @@ length-spelling tag m =
 
 -- The sizes of a session whose msize is set.
 
+-- what a session has whose version is set: room for every reply of the machine
 pub record IsWide (session : Session) : Type 0 where
   pub wide : 512 ≤ reply_max session
   pub room : 24 + room_of session ≤ reply_max session

@@ -19,6 +19,7 @@ IsLawful forest (EditNode at edit) = (n : Node) → node_of at forest ≡ Some n
 IsLawful forest (AddNode server node) = node.number ≡ next_of server forest
 IsLawful forest (DropNode at) = Unit {0}
 
+-- the same of each of them, one after another
 abbrev pub AllLawful : List Server → List Change → Type 0
 AllLawful forest [] = Unit {0}
 AllLawful forest (change ∷ changes) =
@@ -58,6 +59,7 @@ evolved-add s y number = record {
   ];
 }
 
+-- after a lawful change the forest has evolved
 pub evolves-applied : (forest : List Server) (change : Change) → IsLawful forest change
     → Evolves forest (applied change forest)
 unfolding applied
@@ -72,6 +74,7 @@ evolves-applied forest (DropNode at) lawful =
     evolves-tree forest at.server (with_dropped at.number)
     (evolved-drop (server_at at.server forest) at.number)
 
+-- and after all of them
 pub evolves-all : (forest : List Server) (changes : List Change) → AllLawful forest changes
     → Evolves forest (all_applied changes forest)
 evolves-all forest [] lawful = evolves-same forest

@@ -5,6 +5,7 @@ use Rattle.p9_base.specs.declared.fault.Fault.{Fault}
 use Rattle.p9_base.specs.Results.{and_then}
 use Rattle.p9_step.specs.Answer.{Answer, Outcome, given, need, unless}
 
+-- what holds of an outcome; of a refusal there is nothing to say
 unfoldable pub OnDone : (Outcome → Type 0) → Answer → Type 0
 OnDone P (Ok outcome) = P outcome
 OnDone P (Err fault) = Unit {0}

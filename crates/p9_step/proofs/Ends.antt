@@ -120,23 +120,27 @@ pub applied-append : (xs ys : List Change) (forest : List Server)
 applied-append [] ys forest = refl
 applied-append (x ∷ xs) ys forest = applied-append xs ys (applied x forest)
 
+-- lawful changes, one list after another, are lawful
 pub lawful-append : (forest : List Server) (xs ys : List Change) → AllLawful forest xs
     → AllLawful (all_applied xs forest) ys → AllLawful forest (xs ++ ys)
 lawful-append forest [] ys first second = second
 lawful-append forest (x ∷ xs) ys first second =
     (first.0, lawful-append (applied x forest) xs ys first.1 second)
 
+-- to mark a directory is lawful
 pub lawful-parent_marked : (forest : List Server) (user : List ℕ) (now : ℕ) (at : NodeRef)
     (parent : Option ℕ) → AllLawful forest (parent_marked user now at parent)
 lawful-parent_marked forest user now at None = tt
 lawful-parent_marked forest user now at (Some p) = ((λ n found. keeps-mark user now n), tt)
 
+-- to take out a node is lawful
 pub lawful-taken_out : (forest : List Server) (user : List ℕ) (now : ℕ) (at : NodeRef) (n : Node)
     → AllLawful forest (taken_out user now at n)
 lawful-taken_out forest user now at n =
     (tt, lawful-parent_marked (applied (DropNode at) forest) user now at n.parent)
 
 module _ (table : List MountRow) (now : ℕ) where
+  -- what the end of a fid changes is lawful
   pub lawful-on_end : (forest : List Server) (v : Fid)
       → AllLawful forest (on_end table now forest v)
   lawful-on_end forest v = go (removes_on_close v) refl (fid_file table forest v) refl
@@ -147,6 +151,7 @@ module _ (table : List MountRow) (now : ℕ) where
       go true e None is = rw (e, is) tt
       go true e (Some n) is = rw (e, is) (lawful-taken_out forest v.user now (fid_ref table v) n)
 
+  -- and what the end of all of them does
   pub lawful-on_ends : (forest : List Server) (fids : List FidRow)
       → AllLawful forest (on_ends table now forest fids)
   lawful-on_ends forest [] = tt
@@ -205,6 +210,7 @@ first-there (row ∷ rows) number first none =
     let no : Some row.1 ≡ None = rw here at none in
     cc
 
+-- the rest ends as all would have, once the first has
 pub ended-first : (table : List MountRow) (now : ℕ) (f f' : List Server) (fids fids' : List FidRow)
     (number : ℕ) (v : Fid) →
     IsForest f → FidsFit table f fids

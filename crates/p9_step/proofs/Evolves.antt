@@ -15,12 +15,14 @@ pub record Evolved (s t : Server) : Type 0 where
   pub was : (n : Node) → IsMember n t.nodes → n.number < s.next
       → (m : Node) × IsMember m s.nodes × (m.number ≡ n.number) × (is_dir m ≡ is_dir n)
 
+-- the same of each server
 pub record Evolves (f g : List Server) : Type 0 where
   pub server : (k : ℕ) → Evolved (server_at k f) (server_at k g)
 
 pub evolved-same : (s : Server) → Evolved s s
 evolved-same s = record { next = omega arith; was = λ n there below. (n, there, refl, refl) }
 
+-- a forest evolves to itself
 pub evolves-same : (f : List Server) → Evolves f f
 evolves-same f = record { server = λ k. evolved-same (server_at k f) }
 
@@ -34,6 +36,7 @@ evolved-twice s t u first second = record {
       (old.0, old.1, old.2 ∙ middle.2, old.3 ∙ middle.3);
 }
 
+-- one evolution after another is one
 pub evolves-twice : (f g h : List Server) → Evolves f g → Evolves g h → Evolves f h
 evolves-twice f g h first second = record {
   server =
@@ -66,6 +69,7 @@ evolves-tree forest server change evolved = record {
 
 -- Look-ups in a forest that evolved.
 
+-- a server that has a node is well-formed
 pub server_well : (forest : List Server) (k : ℕ) (n : Node) → IsForest forest
     → IsMember n (server_at k forest).nodes → WellFormed (server_at k forest)
 server_well forest k n sound there = go (slice_get forest k) refl

@@ -49,6 +49,7 @@ use Rattle.p9_step.proofs.Done.{OnDone, done-err, done-given, done-need, done-ok
 use Rattle.p9_step.proofs.Done.{done-unless}
 use Rattle.p9_step.proofs.Kept.{done-if}
 
+-- the reply has a spelling, is no longer than so many bytes, and is no refusal
 pub record Replies (most : ℕ) (outcome : Outcome) : Type 0 where
   pub fits : RFits outcome.reply
   pub short : 7 + r_len outcome.reply ≤ most

@@ -33,6 +33,7 @@ use Rattle.p9_step.proofs.Ends.{lawful-on_end, lawful-on_ends, lawful-taken_out}
 use Rattle.p9_step.proofs.OpenFids.{fits-evolved, fits-shut}
 use Rattle.p9_step.proofs.Rows.{each-insert, each-remove, each-set}
 
+-- the forest evolves, and the session that is left is sound
 pub record Kept (table : List MountRow) (forest : List Server) (outcome : Outcome) : Type 0 where
   pub lawful : AllLawful forest outcome.changes
   pub fids : FidsFit table (all_applied outcome.changes forest) outcome.session.fids

@@ -6,6 +6,7 @@ use Rattle.std.proofs.lemmas.Bool.Decides.{nat_tests}
 use Rattle.p9_tree.specs.Node.{Node, has_number}
 use Rattle.p9_tree.specs.Server.{changed_at, dropped_at, node_at}
 
+-- the node stands in the list
 pub IsMember : Node → List Node → Type 0
 IsMember n [] = ⊥
 IsMember n (x ∷ xs) = (n ≡ x) ⊎ IsMember n xs
@@ -14,6 +15,7 @@ pub no_member : (n : Node) → IsMember n [] → ⊥
 unfolding IsMember
 no_member n there = there
 
+-- by rising number, as a server has its nodes
 abbrev pub Rising : List Node → Type 0
 Rising xs = AllPairs (λ m n. m.number < n.number) xs
 

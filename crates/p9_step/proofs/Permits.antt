@@ -94,6 +94,7 @@ module _ (user : List ℕ) (forest : List Server) (at : NodeRef) (n : Node) (t :
     pub length : option_and_then (length_fault user n) t.length ≡ None
     pub gid : option_and_then (gid_fault user n) t.gid ≡ None
 
+  -- it holds where no test refuses
   pub nothing_refuses : wstat_fault user forest at n t ≡ None → Permits
   nothing_refuses none =
       let first = option_or-none (option_and_then (mode_fault n) t.mode) _ none in

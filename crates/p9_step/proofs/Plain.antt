@@ -23,6 +23,7 @@ use Rattle.p9_step.specs.Step.{session_answer}
 use Rattle.p9_step.proofs.Done.{OnDone, done-err, done-given, done-is, done-need, done-ok}
 use Rattle.p9_step.proofs.Done.{done-then, done-unless}
 
+-- the reply is no refusal
 abbrev pub IsPlain : Outcome → Type 0
 IsPlain outcome = is_error outcome.reply ≡ false
 
@@ -98,6 +99,7 @@ never : (answer : Answer) → OnDone (IsPlainIf false) answer
 never (Ok outcome) = done-ok (IsPlainIf false) outcome (λ e. absurd (cc))
 never (Err fault) = done-err (IsPlainIf false) fault
 
+-- of each message, in the manual's order
 pub plain-session_answer : (setting : Setting) (forest : List Server) (taken : Bool)
     (session : Session) (now : ℕ) (m : TMessage)
     → OnDone (IsPlainIf (may_run_out m (session_answer setting forest taken session now m)))

@@ -17,6 +17,7 @@ module _ (session : Session) (frame : List ℕ) where
     pub read : t_message_of frame ≡ Some (tag, m)
     pub allowed : (is_version m || is_some session.msize) ≡ true
 
+  -- the request of a frame is one
   pub request-is : (m : TMessage) → request_of session frame ≡ Ok m → IsRequest m
   request-is m is = by_msize (fits_msize session frame) refl
     where

@@ -6,6 +6,7 @@ use Rattle.std.specs.Map.{lookup, remove_entry, set_value}
 use Rattle.std.specs.BTreeMap.{insert_entry}
 
 module _ {X : Type 0} (P : X → Type 0) where
+  -- it holds of each row
   abbrev pub Each : List (ℕ × X) → Type 0
   Each rows = AllByRecursion (λ row. P row.1) rows
 

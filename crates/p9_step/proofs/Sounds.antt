@@ -150,8 +150,8 @@ module _ (table : List MountRow) (forest : List Server) (rows : List SessionRow)
 
 -- the answer to a frame
 pub kept-frame : (setting : Setting) (forest : List Server) (rows : List SessionRow)
-    (session : Session) (now : ℕ) (frame : List ℕ) → IsForest forest → is_table_given forest setting.table ≡ true
-    → IsSessionSound setting.table forest session
+    (session : Session) (now : ℕ) (frame : List ℕ) → IsForest forest
+    → is_table_given forest setting.table ≡ true → IsSessionSound setting.table forest session
     → OnDone (Kept setting.table forest) (frame_answer setting forest rows session now frame)
 kept-frame setting forest rows session now frame sound given its =
     done-then (Kept setting.table forest) (request_of session frame)

@@ -1,8 +1,10 @@
 //! Messages in a world whose memory is refused: one that was answered by want of memory is sent
 //! again.
 
-use super::worlds::{Made, send_at, world};
-use super::{ATTACH, ATTACH_REPLY, Exchange, VERSION, VERSION_REPLY, exchange_at, is_reply};
+use super::exchange::{
+    ATTACH, ATTACH_REPLY, Exchange, VERSION, VERSION_REPLY, exchange_at, is_reply, send_at,
+};
+use super::worlds::{Made, world};
 use crate::{Export, OpenError};
 use p9_refusing::{Refusing, refuse_each};
 use p9_tree::Tree;

@@ -1,8 +1,8 @@
 //! Removal on close, as bytes from outside.
 
+use super::exchange::{Exchange, VERSION, VERSION_REPLY, exchange, exchange_in};
 use super::walk::small;
-use super::worlds::{exchange_in, played_in, plays};
-use super::{Exchange, VERSION, VERSION_REPLY, exchange};
+use super::worlds::{played_in, plays};
 
 // Two fids have a/f open, to be removed on close.
 #[test]

@@ -1,9 +1,9 @@
 //! Creates, as bytes from outside.
 
-use super::Exchange;
 use super::again::play_refused;
+use super::exchange::{Exchange, exchange_all};
 use super::walk::{small, two_unions};
-use super::worlds::{begin, exchange_all, node, plays, serve};
+use super::worlds::{begin, node, plays, serve};
 use p9_space::{MountTable, Order};
 
 // No member of /x permits creation.

@@ -1,9 +1,7 @@
 //! A directory of many files, listed whole while another session removes and makes files.
 
-use super::worlds::{
-    add, begin_two, dir, empty_file, exchange_all, forest_with, read_at, send, serve_forest,
-    tree_of,
-};
+use super::exchange::{exchange_all, read_at, send};
+use super::worlds::{add, begin_two, dir, empty_file, forest_with, serve_forest, tree_of};
 use crate::Export;
 use byteorder::{ByteOrder, LittleEndian};
 use p9_space::MountTable;

@@ -1,8 +1,8 @@
 //! Opens, as bytes from outside.
 
+use super::exchange::{Exchange, is_reply, send};
 use super::walk::small;
-use super::worlds::{Made, dir, file, played, plays, plays_in, send};
-use super::{Exchange, is_reply};
+use super::worlds::{Made, dir, file, played, plays, plays_in};
 use std::alloc::Global;
 use std::process::Abort;
 

@@ -5,7 +5,7 @@ use super::worlds::{Made, add, dir, empty_file, file, forest_of, node};
 use crate::read::read;
 use crate::session::Session;
 use crate::setting::Setting;
-use p9_base::{Fault, NodeRef, User};
+use p9_base::{DMDIR, Fault, NodeRef, User};
 use p9_fids::{Fid, OpenMode, Opened};
 use p9_space::{MountTable, Order, Trail};
 use p9_tree::{Forest, Tree};
@@ -35,13 +35,8 @@ const N4_N2: &str = "\
 // A directory of mode 700 of the system's.
 fn shut_dir(parent: u64, name: &'static str) -> Made {
     Made {
-        parent,
-        name,
-        mode: 0x8000_01c0,
-        owner: "sys",
-        group: None,
-        changer: None,
-        bytes: b"",
+        mode: DMDIR | 0o700,
+        ..dir(parent, name, "sys")
     }
 }
 

@@ -1,9 +1,9 @@
 //! Whole scripts with each request for memory refused in turn. A message that was answered by want
 //! of memory is sent again, and then every reply is that of a run without refusals.
 
-use super::Exchange;
 use super::again::{begin_again, exchange_again, play_again, play_refused};
 use super::create::UNION_CREATE;
+use super::exchange::Exchange;
 use super::remove::REMOVED_UNDER_A_FID;
 use super::walk::{small, two_unions};
 use super::worlds::{Made, dir, file, forest_with, node, serve, serve_forest, tree_of, world};

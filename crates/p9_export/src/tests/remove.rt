@@ -1,6 +1,6 @@
 //! Removes, as bytes from outside.
 
-use super::Exchange;
+use super::exchange::Exchange;
 use super::walk::small;
 use super::worlds::{Made, dir, file, plays, plays_in};
 

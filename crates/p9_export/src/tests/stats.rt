@@ -1,6 +1,6 @@
 //! Stats and wstats of session 1, from their fields.
 
-use super::worlds::send_at;
+use super::exchange::send_at;
 use crate::Export;
 use p9_base::Qid;
 use p9_tree::Tree;

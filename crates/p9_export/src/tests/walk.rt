@@ -1,8 +1,8 @@
 //! Walks, stats and clunks, as bytes from outside.
 
-use super::Exchange;
 use super::again::play_refused;
-use super::worlds::{Made, dir, exchange_all, file, played, plays, send};
+use super::exchange::{Exchange, exchange_all, send};
+use super::worlds::{Made, dir, file, played, plays};
 use crate::Export;
 use p9_space::Order;
 use p9_tree::Tree;

@@ -1,8 +1,10 @@
-//! The sample worlds, and a session on one of them.
+//! The sample worlds, and sessions on them.
 
-use super::{ATTACH, ATTACH_REPLY, Exchange, VERSION, VERSION_REPLY, exchange, exchange_at};
-use crate::{Export, is_frame, is_table_given};
-use p9_base::{Mode, Name, NodeRef, User};
+use super::exchange::{
+    ATTACH, ATTACH_REPLY, Exchange, VERSION, VERSION_REPLY, exchange, exchange_all, exchange_in,
+};
+use crate::{Export, is_table_given};
+use p9_base::{DMDIR, Mode, Name, NodeRef, User};
 use p9_space::{MountTable, Order};
 use p9_tree::{FILE_MAX, Forest, NEXT_MAX, New, PlainTree, Tree};
 use std::alloc::{Allocator, Global};
@@ -27,7 +29,7 @@ pub fn dir(parent: u64, name: &'static str, owner: &'static str) -> Made {
     Made {
         parent,
         name,
-        mode: 0x8000_01ed,
+        mode: DMDIR | 0o755,
         owner,
         group: None,
         changer: None,
@@ -40,7 +42,7 @@ pub fn file(parent: u64, name: &'static str, bytes: &'static [u8]) -> Made {
     Made {
         parent,
         name,
-        mode: 0x1a4,
+        mode: 0o644,
         owner: "glenda",
         group: None,
         changer: None,
@@ -74,7 +76,7 @@ pub fn empty_file(rt: &impl Abort, name: &str) -> New<'static> {
     let glenda = user(rt, "glenda");
     New {
         name: Name::new(name).expect(rt, "a name"),
-        mode: Mode::from_bits(0x1a4).expect(rt, "a mode"),
+        mode: Mode::from_bits(0o644).expect(rt, "a mode"),
         uid: glenda,
         gid: glenda,
         muid: glenda,
@@ -163,48 +165,33 @@ pub fn serve_forest<A: Allocator + Copy>(
     table: MountTable<A>,
 ) -> Export<PlainTree<A>> {
     let mut users = Vec::new(alloc);
-    let glenda = User::new("glenda").expect(rt, "a user");
-    assert!(rt; users.push(glenda).is_ok());
+    assert!(rt; users.push(user(rt, "glenda")).is_ok());
     assert!(rt; is_table_given(&forest, &table));
     Export::new(forest, users, table)
 }
 
+/// An exporter of one server, whose root is all, to glenda, with session 1.
+pub fn opened(rt: &impl Abort, alloc: Global) -> Export<PlainTree<Global>> {
+    let mut export = world(rt, alloc, &[], &[]);
+    assert_eq!(rt; export.open(1), Ok(()));
+    export
+}
+
 /// Session 1, with its version, and glenda's fid 0 at the root.
 pub fn begin<T: Tree>(rt: &impl Abort, alloc: Global, export: &mut Export<T>) {
-    assert_eq!(rt; export.open(1), Ok(()));
-    exchange(rt, alloc, export, 1, (VERSION, VERSION_REPLY));
-    exchange(rt, alloc, export, 1, (ATTACH, ATTACH_REPLY));
+    begin_session(rt, alloc, export, 1);
 }
 
 /// The same, and session 2 in the same way.
 pub fn begin_two<T: Tree>(rt: &impl Abort, alloc: Global, export: &mut Export<T>) {
-    begin(rt, alloc, export);
-    assert_eq!(rt; export.open(2), Ok(()));
-    exchange(rt, alloc, export, 2, (VERSION, VERSION_REPLY));
-    exchange(rt, alloc, export, 2, (ATTACH, ATTACH_REPLY));
+    begin_session(rt, alloc, export, 1);
+    begin_session(rt, alloc, export, 2);
 }
 
-/// Sends frames in session 1 at the time 0, and compares the replies.
-pub fn exchange_all<T: Tree>(
-    rt: &impl Abort,
-    alloc: Global,
-    export: &mut Export<T>,
-    rows: &[Exchange],
-) {
-    exchange_all_at(rt, alloc, export, 0, rows);
-}
-
-/// The same at another time.
-pub fn exchange_all_at<T: Tree>(
-    rt: &impl Abort,
-    alloc: Global,
-    export: &mut Export<T>,
-    now: u32,
-    rows: &[Exchange],
-) {
-    for row in rows {
-        exchange_at(rt, alloc, export, 1, now, *row);
-    }
+fn begin_session<T: Tree>(rt: &impl Abort, alloc: Global, export: &mut Export<T>, session: u32) {
+    assert_eq!(rt; export.open(session), Ok(()));
+    exchange(rt, alloc, export, session, (VERSION, VERSION_REPLY));
+    exchange(rt, alloc, export, session, (ATTACH, ATTACH_REPLY));
 }
 
 /// A world where session 1 has begun and sent these frames.
@@ -224,18 +211,6 @@ pub fn played(
 /// Plays frames in session 1 of a world of their own.
 pub fn plays(rt: &impl Abort, alloc: Global, nodes: &[Made], binds: &[Bind], rows: &[Exchange]) {
     let _ = played(rt, alloc, nodes, binds, rows);
-}
-
-/// Sends frames, each in its session, and compares the replies.
-pub fn exchange_in<T: Tree>(
-    rt: &impl Abort,
-    alloc: Global,
-    export: &mut Export<T>,
-    rows: &[(u32, Exchange)],
-) {
-    for row in rows {
-        exchange(rt, alloc, export, row.0, row.1);
-    }
 }
 
 /// A world where two sessions have begun and sent these frames.
@@ -263,43 +238,8 @@ pub fn plays_in(
     let _ = played_in(rt, alloc, nodes, binds, rows);
 }
 
-/// Sends a frame at the time 0, and gives the length of the reply.
-pub fn send<T: Tree>(
-    rt: &impl Abort,
-    export: &mut Export<T>,
-    session: u32,
-    frame: &[u8],
-    reply: &mut [u8; 65_536],
-) -> usize {
-    send_at(rt, export, session, 0, frame, reply)
-}
-
-/// The same at another time.
-pub fn send_at<T: Tree>(
-    rt: &impl Abort,
-    export: &mut Export<T>,
-    session: u32,
-    now: u32,
-    frame: &[u8],
-    reply: &mut [u8; 65_536],
-) -> usize {
-    assert!(rt; is_frame(frame));
-    assert!(rt; export.live(session));
-    export.message(session, frame, now, reply)
-}
-
-/// Reads a fid of session 1, and gives the length of the reply.
-pub fn read_at<T: Tree>(
-    rt: &impl Abort,
-    export: &mut Export<T>,
-    fid: u8,
-    offset: u32,
-    count: u32,
-    reply: &mut [u8; 65_536],
-) -> usize {
-    let mut frame = [0u8; 23];
-    frame[..8].copy_from_slice(&[23, 0, 0, 0, 116, 1, 0, fid]);
-    frame[11..15].copy_from_slice(&offset.to_le_bytes());
-    frame[19..].copy_from_slice(&count.to_le_bytes());
-    send(rt, export, 1, &frame, reply)
+/// Plays frames in session 1 of such an exporter.
+pub fn converses(rt: &impl Abort, alloc: Global, rows: &[Exchange]) {
+    let mut export = opened(rt, alloc);
+    exchange_all(rt, alloc, &mut export, rows);
 }

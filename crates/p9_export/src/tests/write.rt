@@ -1,9 +1,9 @@
 //! Writes, as bytes from outside.
 
-use super::Exchange;
 use super::again::play_refused;
+use super::exchange::{Exchange, read_at};
 use super::walk::small;
-use super::worlds::{played, plays, read_at};
+use super::worlds::{played, plays};
 use crate::Export;
 use p9_tree::Tree;
 use std::process::Abort;

@@ -1,8 +1,9 @@
 //! Wstats, as bytes from outside, and what they leave.
 
+use super::exchange::{exchange_all_at, read_at};
 use super::stats::{FILE, UNTOUCHED, dir_of, tells, wstat};
 use super::walk::{small, two_unions};
-use super::worlds::{begin, exchange_all_at, forest_of, played, read_at, serve_forest};
+use super::worlds::{begin, forest_of, played, serve_forest};
 use crate::Export;
 use p9_base::{Permissions, Qid, User};
 use p9_space::{MountTable, Order};

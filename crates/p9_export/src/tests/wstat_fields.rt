@@ -1,7 +1,8 @@
 //! Wstats of each field, alone and in pairs.
 
+use super::exchange::read_at;
 use super::stats::{UNTOUCHED, tells, wstat};
-use super::worlds::{Made, dir, file, played, read_at};
+use super::worlds::{Made, dir, file, played};
 use crate::Export;
 use p9_base::Qid;
 use p9_tree::PlainTree;

@@ -1,8 +1,9 @@
 //! Why wstats are refused.
 
+use super::exchange::exchange_all;
 use super::stats::{FILE, UNTOUCHED, dir_of, is_changed, tells, wstat};
 use super::walk::small;
-use super::worlds::{Made, begin, dir, exchange_all, file, played, world};
+use super::worlds::{Made, begin, dir, file, played, world};
 use crate::Export;
 use p9_base::Qid;
 use p9_refusing::{Refusing, refuse_each};

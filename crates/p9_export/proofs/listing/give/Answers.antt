@@ -68,8 +68,10 @@ returns-clause-last g c =
     let size = c.write_stat-size.ensures.len ∙ ap stat_len c.stat_of.ensures.value in
     let same : c.stat_size.result ≡ c.write_stat-size.result =
     c.stat_size.ensures.size ∙ sym size in
-    ap (λ at. Some (record { member = c.entry.inside.position; number = at.number },
-    c.write_stat-size.result)) c.beside-at.ensures
+    ap (λ at. Some (
+      record { member = c.entry.inside.position; number = at.number },
+      c.write_stat-size.result,
+    )) c.beside-at.ensures
     ∙ gives_end (length c.args.buffer.now) left e c.number.result c.write_stat-size.result first
     c.number.ensures size (omega (arith, same, c.if-stat_size-buffer.false))
 
