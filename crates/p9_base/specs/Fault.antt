@@ -46,8 +46,10 @@ row_of QidsUsedUp = (28, codes "qid numbers used up")
 row_of OutOfMemory = (29, codes "out of memory")
 row_of PathTooDeep = (30, codes "path too deep")
 
+-- the number of a fault
 abbrev pub number_of : Fault → ℕ
 number_of fault = (row_of fault).0
 
+-- the text of a fault
 abbrev pub text_of : Fault → List ℕ
 text_of fault = (row_of fault).1

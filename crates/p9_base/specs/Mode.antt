@@ -42,11 +42,12 @@ kind_bits (File f) = flags_bits f
 abbrev pub mode_bits : Mode → ℕ
 mode_bits m = kind_bits m.kind + permissions_bits m.permissions
 
--- whether a kind is a directory's, and whether a mode is
+-- whether a kind is a directory's
 abbrev pub is_dir_kind : Kind → Bool
 is_dir_kind Directory = true
 is_dir_kind (File f) = false
 
+-- whether a mode is a directory's
 abbrev pub is_dir : Mode → Bool
 is_dir m = is_dir_kind m.kind
 

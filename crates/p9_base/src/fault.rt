@@ -104,7 +104,7 @@ pub enum Fault {
 }
 
 impl Fault {
-    /// The fault's number, 1 to 30, by which the faults stand here.
+    /// The fault's number, from 1 to 30 in the order above.
     pub fn number(self) -> u8
         ensures { result ≡ number_of self }
     {
