@@ -12,7 +12,7 @@ use crate::constants::{
 use crate::message::RMsg;
 use crate::put::{put_counted, put_header, put_qid, put_qids, put_sized_stat, put_text, put_u32};
 
-/// The number of the type.
+/// The number of the message's type.
 fn kind_of(message: &RMsg<'_>) -> u8
     ensures { result ≡ r_type (r_view message.now) }
 {
@@ -33,7 +33,7 @@ fn kind_of(message: &RMsg<'_>) -> u8
     }
 }
 
-/// Puts the body behind the place of the header.
+/// Puts the body behind the bytes of the header, and answers the index behind it.
 fn put_body(message: &RMsg<'_>, out: &mut [u8]) -> usize
     requires fits { RFits (r_view message.now) }
     requires room { 7 + r_len (r_view message.now) ≤ length out.old }

@@ -14,7 +14,7 @@ use crate::put::{
     put_counted, put_header, put_names, put_sized_stat, put_text, put_u8, put_u16, put_u32, put_u64,
 };
 
-/// The number of the type.
+/// The number of the message's type.
 fn kind_of(message: &TMsg<'_>) -> u8
     ensures { result ≡ t_type (t_view message.now) }
 {
@@ -35,7 +35,7 @@ fn kind_of(message: &TMsg<'_>) -> u8
     }
 }
 
-/// Puts the body behind the place of the header.
+/// Puts the body behind the bytes of the header, and answers the index behind it.
 fn put_body(message: &TMsg<'_>, out: &mut [u8]) -> usize
     requires fits { TFits (t_view message.now) }
     requires room { 7 + t_len (t_view message.now) ≤ length out.old }
