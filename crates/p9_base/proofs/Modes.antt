@@ -24,6 +24,7 @@ of_three P p q r s t u v w false true false = u
 of_three P p q r s t u v w false false true = v
 of_three P p q r s t u v w false false false = w
 
+-- the rights to read, to write and to execute
 abbrev of_bits : Bool → Bool → Bool → Rights
 of_bits a b c = record { read = a; write = b; execute = c }
 
@@ -33,6 +34,7 @@ rights_of-rights_bits r =
     of_three (λ a b c. rights_of (rights_bits (of_bits a b c)) ≡ of_bits a b c) refl refl refl refl
     refl refl refl refl r.read r.write r.execute
 
+-- rights have three bits
 rights_bits_lt : (r : Rights) → rights_bits r < 8
 rights_bits_lt r =
     of_three (λ a b c. rights_bits (of_bits a b c) < 8) (lit< tt) (lit< tt) (lit< tt) (lit< tt)
@@ -43,6 +45,7 @@ rights_bits-injective : (r s : Rights) → rights_bits r ≡ rights_bits s → r
 rights_bits-injective r s e =
     sym (rights_of-rights_bits r) ∙ ap rights_of e ∙ rights_of-rights_bits s
 
+-- the permissions of the owner, the group and the others
 abbrev of_classes : Rights → Rights → Rights → Permissions
 of_classes a b c = record { owner = a; group = b; others = c }
 
@@ -62,6 +65,7 @@ permissions_bits-injective p q e =
     ∙ ap (λ r. of_classes q.owner r p.others) (rights_bits-injective p.group q.group group)
     ∙ ap (λ r. of_classes q.owner q.group r) (rights_bits-injective p.others q.others others)
 
+-- permissions have nine bits
 permissions_bits_lt : (p : Permissions) → permissions_bits p < 512
 permissions_bits_lt p =
     let a = rights_bits_lt p.owner in
@@ -69,6 +73,7 @@ permissions_bits_lt p =
     let c = rights_bits_lt p.others in
     omega arith
 
+-- the flags append-only, exclusive use and temporary
 abbrev of_flags : Bool → Bool → Bool → FileFlags
 of_flags a e t = record { append_only = a; exclusive = e; temporary = t }
 
@@ -78,10 +83,12 @@ flags_among-flags_bits f =
     of_three (λ a e t. flags_among (flags_bits (of_flags a e t)) ≡ of_flags a e t) refl refl refl
     refl refl refl refl refl f.append_only f.exclusive f.temporary
 
+-- bits that leave a directory's bit and the low nine clear
 record IsFlagBits (n : ℕ) : Type 0 where
   below : n < 2 ^ 31
   whole : n % 512 ≡ 0
 
+-- as those of a file's flags do
 flag_bits : (f : FileFlags) → IsFlagBits (flags_bits f)
 flag_bits f =
     of_three (λ a e t. IsFlagBits (flags_bits (of_flags a e t)))
@@ -91,10 +98,12 @@ flag_bits f =
     (record { below = lit< tt; whole = refl }) (record { below = lit< tt; whole = refl })
     f.append_only f.exclusive f.temporary
 
+-- a kind's bits leave the low nine clear
 kind_bits_whole : (k : Kind) → kind_bits k % 512 ≡ 0
 kind_bits_whole Directory = refl
 kind_bits_whole (File f) = (flag_bits f).whole
 
+-- a kind's bits determine the kind
 kind_bits-injective : (j k : Kind) → kind_bits j ≡ kind_bits k → j ≡ k
 kind_bits-injective Directory Directory e = refl
 kind_bits-injective Directory (File g) e = let low = (flag_bits g).below in absurd (omega arith)
@@ -110,6 +119,7 @@ kind_bits-mode_bits m bits e =
     let low = permissions_bits_lt m.permissions in
     omega arith
 
+-- the mode of a kind and permissions
 abbrev of_parts : Kind → Permissions → Mode
 of_parts k p = record { kind = k; permissions = p }
 

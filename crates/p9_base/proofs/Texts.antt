@@ -14,6 +14,7 @@ use Rattle.p9_base.specs.Padding.{padded-take}
 pub IsUtf8-from_is_text : (s : List ℕ) → IsTrue (is_text s) → IsUtf8 s
 IsUtf8-from_is_text s h = IsUtf8-from_is_utf8 s (and_parts _ _ h).0
 
+-- bytes below 128 are ASCII
 IsAscii-from_test : (s : List ℕ) → list_all (λ (b : ℕ). nat_lt b 128) s ≡ true → IsAscii s
 IsAscii-from_test [] below i = lit< tt
 IsAscii-from_test (b ∷ bs) below zero = ltb-true b 128 (and_parts _ _ below).0

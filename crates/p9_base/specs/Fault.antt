@@ -1,4 +1,4 @@
--- The faults: for each its number in the documents and the text that a reply carries.
+-- The faults: for each its number and the text that a reply carries.
 use Rattle.std.specs.Prelude.{ℕ, List, codes}
 use Rattle.p9_base.specs.declared.fault.Fault.{Fault}
 use Rattle.p9_base.specs.declared.fault.Fault.TheVariants.{Malformed, VersionNotSet, SmallMsize}
@@ -13,7 +13,7 @@ use Rattle.p9_base.specs.declared.fault.Fault.TheVariants.{SmallReadCount, FileT
 use Rattle.p9_base.specs.declared.fault.Fault.TheVariants.{IsRoot, FixedField, TooManyFids}
 use Rattle.p9_base.specs.declared.fault.Fault.TheVariants.{QidsUsedUp, OutOfMemory, PathTooDeep}
 
--- the table
+-- the number and the text of each
 abbrev pub row_of : Fault → ℕ × List ℕ
 row_of Malformed = (1, codes "malformed message")
 row_of VersionNotSet = (2, codes "version not set")
@@ -46,8 +46,10 @@ row_of QidsUsedUp = (28, codes "qid numbers used up")
 row_of OutOfMemory = (29, codes "out of memory")
 row_of PathTooDeep = (30, codes "path too deep")
 
+-- the number of a fault
 abbrev pub number_of : Fault → ℕ
 number_of fault = (row_of fault).0
 
+-- the text of a fault
 abbrev pub text_of : Fault → List ℕ
 text_of fault = (row_of fault).1

@@ -21,6 +21,7 @@ rights_bits r = bit r.read 4 + bit r.write 2 + bit r.execute 1
 abbrev pub permissions_bits : Permissions → ℕ
 permissions_bits p = 64 * rights_bits p.owner + 8 * rights_bits p.group + rights_bits p.others
 
+-- a file's flags, each the manual's bit of a mode
 abbrev pub flags_bits : FileFlags → ℕ
 flags_bits f = bit f.append_only (2 ^ 30) + bit f.exclusive (2 ^ 29) + bit f.temporary (2 ^ 26)
 
@@ -37,17 +38,20 @@ abbrev pub kind_bits : Kind → ℕ
 kind_bits Directory = 2 ^ 31
 kind_bits (File f) = flags_bits f
 
+-- the number that a message carries for a mode
 abbrev pub mode_bits : Mode → ℕ
 mode_bits m = kind_bits m.kind + permissions_bits m.permissions
 
+-- whether a kind is a directory's
 abbrev pub is_dir_kind : Kind → Bool
 is_dir_kind Directory = true
 is_dir_kind (File f) = false
 
+-- whether a mode is a directory's
 abbrev pub is_dir : Mode → Bool
 is_dir m = is_dir_kind m.kind
 
--- the mode shifted right by 24
+-- the type that a qid has for a mode: the mode shifted right by 24
 abbrev pub qid_kind : Mode → ℕ
 qid_kind m = mode_bits m / 2 ^ 24
 
@@ -69,6 +73,7 @@ permissions_of bits = record {
 abbrev pub kind_among : ℕ → Kind
 kind_among bits = if nat_le (2 ^ 31) bits then Directory else File (flags_among bits)
 
+-- the kind whose bits these are, if they are a kind's
 abbrev pub kind_of : ℕ → Option Kind
 kind_of bits = if kind_bits (kind_among bits) == bits then Some (kind_among bits) else None
 

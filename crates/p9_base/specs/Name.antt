@@ -8,6 +8,7 @@ use Rattle.p9_base.specs.Text.{is_text}
 abbrev pub slash : ℕ
 slash = 47
 
+-- whether a byte is that
 abbrev pub is_slash : ℕ → Bool
 is_slash b = b == slash
 

@@ -9,6 +9,7 @@ use Rattle.p9_base.specs.Padding.{length-take_padded}
 abbrev pub fields_of : (n : ℕ) → List ℕ → Inside n
 fields_of n xs = record { len = length xs; bytes = padded n xs }
 
+-- these are the fields of the text
 pub fields_back : (n : ℕ) (a : Inside n) → a.len ≤ n → a.bytes ≡ padded n (take a.len a.bytes)
     → fields_of n (take a.len a.bytes) ≡ a
 fields_back n a le e = rw (← e, length-take_padded n a.len a.bytes le e) refl

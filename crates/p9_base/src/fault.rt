@@ -1,4 +1,4 @@
-//! The faults that a reply can name, each with the number that documents give it and its text.
+//! The faults that a reply can name, each with its number and its text.
 
 ghost use Rattle.std.specs.Prelude.{◌≡◌, ◌≤◌, IsTrue, length};
 ghost use Rattle.p9_base.specs.Fault.{number_of, text_of};
@@ -8,7 +8,7 @@ use crate::memory::NoMemory;
 use std::alloc::{AllocError, AllocFailed};
 use thiserror::Error;
 
-/// Why a request is refused. The text of each is what error(5)'s reply carries.
+/// Why a request is refused. The text of each is what the reply of error(5) carries.
 #[derive(Clone, Copy, Debug, PartialEq, Eq, Error)]
 pub enum Fault {
     /// The bytes are no message, or more than the session's msize.
@@ -104,7 +104,7 @@ pub enum Fault {
 }
 
 impl Fault {
-    /// The fault's number in the documents, 1 to 30.
+    /// The fault's number, from 1 to 30 in the order above.
     pub fn number(self) -> u8
         ensures { result ≡ number_of self }
     {

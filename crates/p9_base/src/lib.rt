@@ -1,7 +1,8 @@
 //! The words that all layers share: names, users, modes, rights, qids, faults and lines of text.
 //!
-//! Nothing here allocates but the splitting of a text into lines and words. Contracts see a name
-//! as a list of bytes, and every other type as the record or the case that it is.
+//! Nothing here allocates but the splitting of a text into lines and words. Contracts see the name
+//! of a file or a user as a list of bytes, and every other type as the record or the case that it
+//! is.
 #![tactic(auto)]
 
 mod decimal;

@@ -4,7 +4,6 @@ ghost use Rattle.std.specs.Prelude.{◌≡◌, ◌≢◌, ◌<◌, ◌^◌, IfSo
 ghost use Rattle.p9_base.specs.Mode.{flags_among, flags_bits, is_dir, kind_among, kind_bits};
 ghost use Rattle.p9_base.specs.Mode.{kind_of, mode_bits, mode_of, permissions_bits, permissions_of};
 ghost use Rattle.p9_base.specs.Mode.{qid_kind, rights_bits, rights_of};
-ghost use Rattle.p9_base.specs.Rights.{rights_cover, rights_or};
 ghost use Rattle.p9_base.specs.declared.mode.Kind.{Kind};
 ghost use Rattle.p9_base.specs.declared.mode.Mode.{Mode};
 
@@ -66,26 +65,6 @@ impl Rights {
         ensures short { result < 8 }
     {
         4 * u32::from(self.read) + 2 * u32::from(self.write) + u32::from(self.execute)
-    }
-
-    /// The rights that either gives.
-    pub fn or(self, other: Rights) -> Rights
-        ensures { result ≡ rights_or self other }
-    {
-        Rights {
-            read: self.read || other.read,
-            write: self.write || other.write,
-            execute: self.execute || other.execute,
-        }
-    }
-
-    /// Whether each wanted right is among these.
-    pub fn covers(self, wanted: Rights) -> bool
-        ensures { result ≡ rights_cover self wanted }
-    {
-        (self.read || !wanted.read)
-            && (self.write || !wanted.write)
-            && (self.execute || !wanted.execute)
     }
 
     // The rights of these bits, of which there are three.
@@ -194,13 +173,11 @@ impl Mode {
         ensures value { result ≡ mode_of bits }
     {
         let permissions = bits % 0o1000;
-        match Kind::from_bits(bits - permissions) {
-            Some(kind) => Some(Mode {
-                kind,
-                permissions: Permissions::from_bits(permissions),
-            }),
-            None => None,
-        }
+        let kind = Kind::from_bits(bits - permissions)?;
+        Some(Mode {
+            kind,
+            permissions: Permissions::from_bits(permissions),
+        })
     }
 
     /// The bits that a message carries for this mode.

@@ -78,6 +78,7 @@ pub fn valid_name(text: &str) -> bool
     1 <= text.len() && text.len() <= 255 && is_text(text) && !has_slash(text) && !is_dots(text)
 }
 
+// Whether a `/` is among the characters, which separates the names of a path.
 fn has_slash(text: &str) -> bool
     ensures { result ≡ list_any (λ b. b == 47) text.now }
 {

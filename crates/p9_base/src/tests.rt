@@ -98,6 +98,11 @@ fn names_compare_by_their_bytes(rt: HostRuntime) -> Result<(), Fail> {
     assert!(rt; short < long);
     assert!(rt; short != long);
     assert!(rt; Name::new("ab") == Some(short));
+    Ok(())
+}
+
+#[test]
+fn nodes_compare_by_their_servers_first(rt: HostRuntime) {
     let low = NodeRef {
         server: 0,
         number: 9,
@@ -107,7 +112,6 @@ fn names_compare_by_their_bytes(rt: HostRuntime) -> Result<(), Fail> {
         number: 0,
     };
     assert!(rt; low < high);
-    Ok(())
 }
 
 const NONE: Rights = Rights {

@@ -67,6 +67,7 @@ pub fn is_text(text: &str) -> bool
     !has_nul(text)
 }
 
+// Whether a NUL is among the characters.
 fn has_nul(text: &str) -> bool
     ensures { result ≡ list_any (λ b. b == 0) text.now }
 {

@@ -68,6 +68,7 @@ impl fmt::Debug for User {
     }
 }
 
+// Whether the text may name a user or a group: 1 to 63 bytes, no NUL.
 fn valid_user(text: &str) -> bool
     ensures { result ≡ is_user text.now }
 {

@@ -2,7 +2,7 @@
 use Rattle.std.proofs.Common.{◌≡◌, ◌≢◌, ℕ, ◌<◌, ◌≤◌, Bool, true, false, List, [], ◌∷◌, ◌++◌, length}
 use Rattle.std.proofs.Common.{refl, sym, ap, subst, ◌∙◌, arith}
 use Rattle.std.specs.Prelude.{IsTrue, filter, codes}
-use Rattle.std.proofs.lemmas.Bool.{false≢true, lt-ltb}
+use Rattle.std.proofs.lemmas.Bool.{false≢true, false_from_ne_true, lt-ltb}
 use Rattle.std.proofs.lemmas.List.{length-append}
 use Rattle.std.proofs.lemmas.List.Elements.{filter-append}
 use Rattle.std.proofs.lemmas.Slice.Eq.{bytes_eq-Decides}
@@ -60,10 +60,8 @@ left_of-behind rooted before xs ys e =
 
 -- a test of bytes that are others fails
 is_other : (word text : List ℕ) → word ≢ text → bytes_eq word text ≡ false
-is_other word text other = go (bytes_eq word text) refl where
-  go : (b : Bool) → bytes_eq word text ≡ b → b ≡ false
-  go true same = absurd (other ((bytes_eq-Decides word text).0 same))
-  go false same = refl
+is_other word text other =
+    false_from_ne_true _ (λ same. other ((bytes_eq-Decides word text).0 same))
 
 -- a word that has a byte and is not '.' is an element
 is_element-from_false : (b : ℕ) (bs : List ℕ) → is_dot (b ∷ bs) ≡ false → is_element (b ∷ bs) ≡ true

@@ -18,9 +18,11 @@ is_rooted (b ∷ bs) = b == slash
 abbrev pub words_of : List ℕ → List Word
 words_of path = slice_split is_slash path
 
+-- the directory itself
 abbrev pub is_dot : Word → Bool
 is_dot word = bytes_eq word (codes ".")
 
+-- the directory above
 abbrev pub is_dot_dot : Word → Bool
 is_dot_dot word = bytes_eq word (codes "..")
 
@@ -28,6 +30,7 @@ is_dot_dot word = bytes_eq word (codes "..")
 abbrev pub is_element : Word → Bool
 is_element word = nat_lt 0 (length word) && not (is_dot word)
 
+-- the elements of a path, in order
 abbrev pub elements_of : List ℕ → List Word
 elements_of path = filter is_element (words_of path)
 
@@ -57,8 +60,10 @@ path_of true es = slash ∷ join_with_byte slash es
 path_of false [] = codes "."
 path_of false (e ∷ es) = join_with_byte slash (e ∷ es)
 
+-- what cleaning leaves of the elements of a path
 abbrev pub cleaned_elements : List ℕ → List Word
 cleaned_elements path = shortened (is_rooted path) (elements_of path)
 
+-- the path of these
 abbrev pub cleaned : List ℕ → List ℕ
 cleaned path = path_of (is_rooted path) (cleaned_elements path)

@@ -1,7 +1,8 @@
+-- Turns, one after another.
 use Rattle.std.proofs.Common.{◌≡◌, ℕ, ◌+◌, ◌++◌, [], ◌∷◌, ap, ◌∙◌}
 use Rattle.std.proofs.lemmas.Fn.{FoldsTo-push}
 use Rattle.std.proofs.lemmas.List.{length-append}
-use Rattle.p9_refusing.specs.TakesTurns.{TakesTurns}
+use Rattle.p9_refusing.specs.Turns.{TakesTurns}
 
 module _ {M R V : Type 0} (Makes : M → V → M → Type 0) (Runs : R → V → Unit {0} → R → Type 0) where
   -- One more turn.

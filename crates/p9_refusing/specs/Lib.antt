@@ -1,3 +1,3 @@
-pub mod Refusing
-pub mod Requests
-pub mod TakesTurns
+pub mod Allocator
+pub mod Count
+pub mod Turns

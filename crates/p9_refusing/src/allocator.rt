@@ -19,7 +19,7 @@ pub struct Refusing<B: Allocator> {
 }
 
 impl<B: Allocator> Refusing<B> {
-    ghost use Rattle.p9_refusing.specs.Refusing.{inner_of};
+    ghost use Rattle.p9_refusing.specs.Allocator.{inner_of};
 
     /// An allocator that refuses nothing yet, and hands out the memory of `inner`.
     pub fn new(inner: B) -> Refusing<B>
@@ -57,7 +57,7 @@ fn refuses(requests: &Cell<Requests>) -> bool {
 }
 
 unsafe impl<B: Allocator> Allocator for Refusing<B> {
-    ghost use Rattle.p9_refusing.specs.Refusing.{inner_of};
+    ghost use Rattle.p9_refusing.specs.Allocator.{inner_of};
 
     ghost dealloc_token = { λ refusing. B.dealloc_token (inner_of refusing) };
 

@@ -10,7 +10,7 @@ pub struct Requests {
 }
 
 impl Requests {
-    ghost use Rattle.p9_refusing.specs.Requests.{Refuses, HasRefused};
+    ghost use Rattle.p9_refusing.specs.Count.{Refuses, HasRefused};
 
     /// No request yet, and none that is refused.
     pub fn new() -> Requests

@@ -1,7 +1,7 @@
 //! A value run again and again, each time with the next of its requests refused.
 
 ghost use Rattle.std.specs.Prelude.{◌+◌};
-ghost use Rattle.p9_refusing.specs.TakesTurns.{TakesTurns};
+ghost use Rattle.p9_refusing.specs.Turns.{TakesTurns};
 
 use crate::allocator::Refusing;
 use std::alloc::Allocator;

@@ -67,6 +67,6 @@ number-back (suc n) (a ∷ bytes) fits long =
     rw (value, first, low_first-suc 0 n (a + 256 * rest), others, ih) refl
 
 -- a number takes as many bytes as it is said to
-pub length_number : (n x : ℕ) → length (number n x) ≡ n
+pub length-number : (n x : ℕ) → length (number n x) ≡ n
 unfolding number
-length_number n x = length-bytes_low_first 0 n x
+length-number n x = length-bytes_low_first 0 n x

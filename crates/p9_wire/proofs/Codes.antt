@@ -20,7 +20,7 @@ use Rattle.p9_wire.specs.Fields.{number, text, counted, several, sized, qid_byte
 use Rattle.p9_wire.specs.Fields.{stat_bytes, FitsText, FitsStat, QidNumbersFit, StatNumbersFit}
 use Rattle.p9_wire.specs.FieldReading.{◌and_then◌, Reader, number_at, bytes_at, ◌then◌, made}
 use Rattle.p9_wire.specs.FieldReading.{text_at, nothing_at, qid_at, counted_at, times, several_at}
-use Rattle.p9_wire.specs.FieldReading.{sized_at, stat_fields_at, stat_at}
+use Rattle.p9_wire.specs.FieldReading.{sized_bytes_at, sized_at, stat_fields_at, stat_at}
 use Rattle.p9_wire.specs.Laws.{IsBytes}
 use Rattle.p9_wire.proofs.Bytes.{IsBytes-back, IsBytes-front, each_below, number-back}
 use Rattle.p9_wire.proofs.Lengths.{length-stat_bytes, length-stat_fields}
@@ -111,13 +111,11 @@ text-sound : (bytes : List ℕ) (x : List ℕ × List ℕ) → IsBytes bytes →
     → (bytes ≡ text x.0 ++ x.1) × FitsText x.0
 unfolding text_at
 text-sound bytes x fits e =
-    let a =
-    bind_some (number_at 2 bytes)
-    (λ n. bytes_at n.0 n.1 and_then λ s. cond (is_text s.0) (Some s) None) x e in
-    let b = bind_some (bytes_at a.0.0 a.0.1) (λ s. cond (is_text s.0) (Some s) None) x a.2 in
+    let b = bind_some (sized_bytes_at bytes) (λ s. cond (is_text s.0) (Some s) None) x e in
+    let a = bind_some (number_at 2 bytes) (λ n. bytes_at n.0 n.1) b.0 b.1 in
     let g = cond_some (is_text b.0.0) b.0 x b.2 in
     let t0 = number-sound 2 bytes a.0 fits a.1 in
-    let t1 = bytes-sound a.0.0 a.0.1 b.0 b.1 in
+    let t1 = bytes-sound a.0.0 a.0.1 b.0 a.2 in
     let whole : bytes ≡ text b.0.0 ++ b.0.1 =
     t0.0 ∙ ap (λ (back : List ℕ). number 2 a.0.0 ++ back) t1.0
     ∙ sym (append_assoc (number 2 a.0.0) b.0.0 b.0.1)
@@ -306,17 +304,14 @@ module _ {A : Type 0} {f : A → List ℕ} {F : A → Type 0} {r : Reader A} (c 
       → (bytes ≡ sized f x.0 ++ x.1) × FitsSized f F x.0
   unfolding sized_at
   sized-sound bytes x fits e =
-      let a =
-      bind_some (number_at 2 bytes)
-      (λ n. bytes_at n.0 n.1 and_then λ s. r s.0 and_then λ y. cond (eqb (length y.1) 0)
-      (Some (y.0, s.1)) None) x e in
       let b =
-      bind_some (bytes_at a.0.0 a.0.1)
-      (λ s. r s.0 and_then λ y. cond (eqb (length y.1) 0) (Some (y.0, s.1)) None) x a.2 in
+      bind_some (sized_bytes_at bytes)
+      (λ s. r s.0 and_then λ y. cond (eqb (length y.1) 0) (Some (y.0, s.1)) None) x e in
+      let a = bind_some (number_at 2 bytes) (λ n. bytes_at n.0 n.1) b.0 b.1 in
       let d = bind_some (r b.0.0) (λ y. cond (eqb (length y.1) 0) (Some (y.0, b.0.1)) None) x b.2 in
       let g = cond_some (eqb (length d.0.1) 0) (d.0.0, b.0.1) x d.2 in
       let t0 = number-sound 2 bytes a.0 fits a.1 in
-      let t1 = bytes-sound a.0.0 a.0.1 b.0 b.1 in
+      let t1 = bytes-sound a.0.0 a.0.1 b.0 a.2 in
       let in_front : IsBytes b.0.0 =
       IsBytes-front b.0.0 b.0.1
       (subst IsBytes t1.0 (IsBytes-back (number 2 a.0.0) a.0.1 (subst IsBytes t0.0 fits))) in

@@ -14,7 +14,7 @@ use Rattle.p9_wire.specs.Message.{Rcreate, Rread, Rwrite, Rclunk, Rremove, Rstat
 use Rattle.p9_wire.specs.Fields.{number, text, qid_bytes, stat_fields, stat_bytes, stat_len}
 use Rattle.p9_wire.specs.Fields.{FitsText}
 use Rattle.p9_wire.specs.Spelling.{frame, t_body, t_len, TFits, r_body, r_len, RFits}
-use Rattle.p9_wire.proofs.Bytes.{length_number}
+use Rattle.p9_wire.proofs.Bytes.{length-number}
 
 -- texts take two bytes and their own
 length-texts : (names : List (List ℕ))
@@ -23,63 +23,63 @@ length-texts [] = refl
 length-texts (n ∷ ns) =
     let others = length-texts ns in
     rw (flat_map-cons text n ns, sum_by-cons (λ (n : List ℕ). 2 + length n) n ns)
-    (simp (length-append, length_number) (omega arith))
+    (simp (length-append, length-number) (omega arith))
 
 -- a qid takes thirteen bytes
 length-qids : (qids : List Qid) → length (flat_map qid_bytes qids) ≡ 13 * length qids
 length-qids [] = refl
 length-qids (q ∷ qs) =
     let others = length-qids qs in
-    rw (flat_map-cons qid_bytes q qs) (simp (length-append, length_number) (omega arith))
+    rw (flat_map-cons qid_bytes q qs) (simp (length-append, length-number) (omega arith))
 
 -- a stat's fields stand behind two bytes of size
 pub length-stat_fields : (s : StatFields) → 2 + length (stat_fields s) ≡ stat_len s
-length-stat_fields s = simp (length-append, length_number) (omega arith)
+length-stat_fields s = simp (length-append, length-number) (omega arith)
 
 -- a stat takes what is said
 pub length-stat_bytes : (s : StatFields) → length (stat_bytes s) ≡ stat_len s
-length-stat_bytes s = simp (length-append, length_number) (omega (arith, length-stat_fields s))
+length-stat_bytes s = simp (length-append, length-number) (omega (arith, length-stat_fields s))
 
 -- the body of a request takes what is said
 pub length-t_body : (m : TMessage) → length (t_body m) ≡ t_len m
-length-t_body (Tversion msize version) = simp (length-append, length_number) (omega arith)
-length-t_body (Tauth afid uname aname) = simp (length-append, length_number) (omega arith)
-length-t_body (Tattach fid afid uname aname) = simp (length-append, length_number) (omega arith)
-length-t_body (Tflush oldtag) = simp (length-append, length_number) (omega arith)
+length-t_body (Tversion msize version) = simp (length-append, length-number) (omega arith)
+length-t_body (Tauth afid uname aname) = simp (length-append, length-number) (omega arith)
+length-t_body (Tattach fid afid uname aname) = simp (length-append, length-number) (omega arith)
+length-t_body (Tflush oldtag) = simp (length-append, length-number) (omega arith)
 length-t_body (Twalk fid newfid names) =
-    let those = length-texts names in simp (length-append, length_number) (omega arith)
-length-t_body (Topen fid mode) = simp (length-append, length_number) (omega arith)
-length-t_body (Tcreate fid name perm mode) = simp (length-append, length_number) (omega arith)
-length-t_body (Tread fid offset count) = simp (length-append, length_number) (omega arith)
-length-t_body (Twrite fid offset bytes) = simp (length-append, length_number) (omega arith)
-length-t_body (Tclunk fid) = simp (length-append, length_number) (omega arith)
-length-t_body (Tremove fid) = simp (length-append, length_number) (omega arith)
-length-t_body (Tstat fid) = simp (length-append, length_number) (omega arith)
+    let those = length-texts names in simp (length-append, length-number) (omega arith)
+length-t_body (Topen fid mode) = simp (length-append, length-number) (omega arith)
+length-t_body (Tcreate fid name perm mode) = simp (length-append, length-number) (omega arith)
+length-t_body (Tread fid offset count) = simp (length-append, length-number) (omega arith)
+length-t_body (Twrite fid offset bytes) = simp (length-append, length-number) (omega arith)
+length-t_body (Tclunk fid) = simp (length-append, length-number) (omega arith)
+length-t_body (Tremove fid) = simp (length-append, length-number) (omega arith)
+length-t_body (Tstat fid) = simp (length-append, length-number) (omega arith)
 length-t_body (Twstat fid stat) =
-    let those = length-stat_fields stat in simp (length-append, length_number) (omega arith)
+    let those = length-stat_fields stat in simp (length-append, length-number) (omega arith)
 
 -- the body of a reply takes what is said
 pub length-r_body : (m : RMessage) → length (r_body m) ≡ r_len m
-length-r_body (Rversion msize version) = simp (length-append, length_number) (omega arith)
-length-r_body (Rattach qid) = simp (length-append, length_number) (omega arith)
-length-r_body (Rerror ename) = simp (length-append, length_number) (omega arith)
+length-r_body (Rversion msize version) = simp (length-append, length-number) (omega arith)
+length-r_body (Rattach qid) = simp (length-append, length-number) (omega arith)
+length-r_body (Rerror ename) = simp (length-append, length-number) (omega arith)
 length-r_body Rflush = refl
 length-r_body (Rwalk qids) =
-    let those = length-qids qids in simp (length-append, length_number) (omega arith)
-length-r_body (Ropen qid iounit) = simp (length-append, length_number) (omega arith)
-length-r_body (Rcreate qid iounit) = simp (length-append, length_number) (omega arith)
-length-r_body (Rread bytes) = simp (length-append, length_number) (omega arith)
-length-r_body (Rwrite count) = simp (length-append, length_number) (omega arith)
+    let those = length-qids qids in simp (length-append, length-number) (omega arith)
+length-r_body (Ropen qid iounit) = simp (length-append, length-number) (omega arith)
+length-r_body (Rcreate qid iounit) = simp (length-append, length-number) (omega arith)
+length-r_body (Rread bytes) = simp (length-append, length-number) (omega arith)
+length-r_body (Rwrite count) = simp (length-append, length-number) (omega arith)
 length-r_body Rclunk = refl
 length-r_body Rremove = refl
 length-r_body (Rstat stat) =
-    let those = length-stat_fields stat in simp (length-append, length_number) (omega arith)
+    let those = length-stat_fields stat in simp (length-append, length-number) (omega arith)
 length-r_body Rwstat = refl
 
 -- seven bytes stand before a body
 pub length-parts : (size kind tag : ℕ) (body : List ℕ)
     → length (number 4 size ++ (number 1 kind ++ number 2 tag ++ body)) ≡ 7 + length body
-length-parts size kind tag body = simp (length-append, length_number) (omega arith)
+length-parts size kind tag body = simp (length-append, length-number) (omega arith)
 
 -- so a frame has seven bytes more than its body
 pub length-frame : (kind tag : ℕ) (body : List ℕ) → length (frame kind tag body) ≡ 7 + length body

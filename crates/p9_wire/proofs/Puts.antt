@@ -1,4 +1,4 @@
--- One text put behind another.
+-- Bytes put behind others.
 use Rattle.std.proofs.Common.{◌≡◌, ℕ, ◌+◌, ◌-◌, ◌≤◌, List, ◌++◌, length, take, drop, refl, sym}
 use Rattle.std.proofs.Common.{ap, subst, ◌∙◌, append_assoc, arith}
 use Rattle.std.proofs.lemmas.List.{length-append, drop-drop, drop-take, take-take}
@@ -9,20 +9,22 @@ use Rattle.std.proofs.lemmas.List.{take-append-drop, drop_at}
 use Rattle.p9_wire.specs.Fields.{number, counted}
 use Rattle.p9_wire.specs.Spelling.{frame}
 use Rattle.p9_wire.specs.Writing.{Puts, Writes}
-use Rattle.p9_wire.proofs.Bytes.{length_number}
+use Rattle.p9_wire.proofs.Bytes.{length-number}
 
--- a text copied to its place
-pub puts_here : (text now old : List ℕ) (at len : ℕ) → now ≡ text → len ≡ length text
-    → at + length text ≤ length old → Puts text at (at + length text) old (put_mid at len old now)
-puts_here text now old at len same size room =
-    let now_len : length now ≡ length text = ap length same in
+-- bytes copied to their place
+pub puts_here : (bytes now old : List ℕ) (at len : ℕ) → now ≡ bytes → len ≡ length bytes
+    → at + length bytes ≤ length old
+    → Puts bytes at (at + length bytes) old (put_mid at len old now)
+puts_here bytes now old at len same size room =
+    let now_len : length now ≡ length bytes = ap length same in
     record {
       ends = refl;
       front =
-          take-put_mid at len old now (at + length text) (omega arith) (omega arith)
+          take-put_mid at len old now (at + length bytes) (omega arith) (omega arith)
           ∙ ap (λ (s : List ℕ). take at old ++ s) same;
       back =
-          drop-put_mid at len old now (at + length text) (omega arith) (omega arith) (omega arith);
+          drop-put_mid at len old now (at + length bytes) (omega arith) (omega arith)
+          (omega arith);
     }
 
 -- what is put behind another stands there as one
@@ -59,14 +61,14 @@ framed body end kind tag old mid new room p q =
     ≡ (number 4 end ++ (number 1 kind ++ number 2 tag ++ body))
     ++ drop end old = simp append_assoc in
     record {
-      ends = simp (length-append, length_number) (omega (arith, p.ends));
+      ends = simp (length-append, length-number) (omega (arith, p.ends));
       bytes =
           new-is ∙ grouped
           ∙ ap (λ (n : ℕ). (number 4 n ++ (number 1 kind ++ number 2 tag ++ body)) ++ drop end old)
           p.ends;
     }
 
--- a stat's size and its fields
+-- a value behind its length
 pub puts_sized : {A : Type 0} (f : A → List ℕ) (x : A) (size : ℕ) {a b c : ℕ} {old mid new : List ℕ}
     → size ≡ length (f x)
     → Puts (number 2 size) a b old mid → Puts (f x) b c mid new
@@ -74,7 +76,7 @@ pub puts_sized : {A : Type 0} (f : A → List ℕ) (x : A) (size : ℕ) {a b c :
 puts_sized f x size {a} {b} {c} {old} {mid} {new} e p q =
     puts_then (subst (λ (n : ℕ). Puts (number 2 n) a b old mid) e p) q
 
--- what stands behind a text may be counted to it
+-- what stands behind bytes may be counted to them
 pub puts_kept : (x : List ℕ) (a n k : ℕ) (old new : List ℕ) → n + k ≤ length old
     → length new ≡ length old → Puts x a n old new
     → Puts (x ++ take k (drop n old)) a (n + k) old new

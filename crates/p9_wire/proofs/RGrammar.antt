@@ -64,7 +64,7 @@ fields-joined Rwstat n f = tt
 abbrev r_grammar : Grammar RMessage
 r_grammar = record { kind = r_type; body = r_body; Fits = RFieldsFit; body_at = r_body_at }
 
--- a body that was read is that of its message, and spelled so
+-- a body that was read is that of its message, and spelled so: for each message
 
 read-version : IsReader r_grammar 101 r_version_at
 unfolding r_version_at

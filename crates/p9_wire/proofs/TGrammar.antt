@@ -67,7 +67,7 @@ fields-joined (Twstat fid stat) n f = (n.0, (n.1, f))
 abbrev t_grammar : Grammar TMessage
 t_grammar = record { kind = t_type; body = t_body; Fits = TFieldsFit; body_at = t_body_at }
 
--- a body that was read is that of its message, and spelled so
+-- a body that was read is that of its message, and spelled so: for each message
 
 read-version : IsReader t_grammar 100 t_version_at
 unfolding t_version_at

@@ -16,6 +16,7 @@ module _ {A : Type 0} (r : Reader A) where
   regroup front n (Some x) = ap (λ (ns : List A). Some (ns, x.1)) (simp append_assoc)
   regroup front n None = refl
 
+  -- where one more is read, what is still read is one fewer
   pub goes_on : (front : List A) (count i : ℕ) (bytes : List ℕ) (x : A) (after : List ℕ)
       (total : Option (List A × List ℕ)) → i < count → r bytes ≡ Some (x, after)
       → with_front front (times r (count - i) bytes) ≡ total
@@ -28,6 +29,7 @@ module _ {A : Type 0} (r : Reader A) where
       (regroup front x (times r (count - (i + 1)) after)) in
       sym one ∙ so_far
 
+  -- where one is not read, all are not
   pub ends : (front : List A) (count i : ℕ) (bytes : List ℕ) (total : Option (List A × List ℕ))
       → i < count → r bytes ≡ None
       → with_front front (times r (count - i) bytes) ≡ total → total ≡ None

@@ -6,6 +6,7 @@ use Rattle.p9_base.specs.declared.qid.Qid.{Qid}
 use Rattle.p9_base.specs.Text.{is_text}
 use Rattle.p9_wire.specs.Message.{StatFields}
 
+-- goes on with the value, where there is one
 infixl 10 ◌and_then◌
 abbrev pub ◌and_then◌ : {A B : Type 0} → Option A → (A → Option B) → Option B
 None and_then f = None
@@ -46,11 +47,11 @@ bytes_at n bytes = if nat_lt (length bytes) n then None else Some (take n bytes,
 abbrev pub sized_bytes_at : Reader (List ℕ)
 sized_bytes_at bytes = number_at 2 bytes and_then λ n. bytes_at n.0 n.1
 
+-- a text behind its length
 unfoldable pub text_at : Reader (List ℕ)
-text_at bytes =
-    number_at 2 bytes and_then λ n. bytes_at n.0 n.1 and_then λ s.
-    if is_text s.0 then Some s else None
+text_at bytes = sized_bytes_at bytes and_then λ s. if is_text s.0 then Some s else None
 
+-- a count in four bytes, and so many
 unfoldable pub counted_at : Reader (List ℕ)
 counted_at bytes = number_at 4 bytes and_then λ n. bytes_at n.0 n.1
 
@@ -66,14 +67,16 @@ several_at r bytes = number_at 2 bytes and_then λ n. if nat_lt 16 n.0 then None
 -- a length, and what takes up all of so many bytes
 unfoldable pub sized_at : {A : Type 0} → Reader A → Reader A
 sized_at r bytes =
-    number_at 2 bytes and_then λ n. bytes_at n.0 n.1 and_then λ s. r s.0 and_then λ x.
+    sized_bytes_at bytes and_then λ s. r s.0 and_then λ x.
     if length x.1 == 0 then Some (x.0, s.1) else None
 
+-- type, version and path
 unfoldable pub qid_at : Reader Qid
 qid_at =
     made (λ x. record { kind = x.0.0; version = x.0.1; path = x.1 })
     (number_at 1 then number_at 4 then number_at 8)
 
+-- what is told of a file, in the order of its bytes
 unfoldable pub stat_fields_at : Reader StatFields
 stat_fields_at =
     made (λ x. record {

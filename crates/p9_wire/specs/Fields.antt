@@ -63,13 +63,13 @@ pub record FitsStat (s : StatFields) : Type 0 where
   pub muid : FitsText s.muid
   pub short : stat_len s < 2 ^ 16
 
--- each number is in the range of its field
-
+-- each number of a qid is in the range of its field
 pub record QidNumbersFit (q : Qid) : Type 0 where
   pub kind : q.kind < 2 ^ 8
   pub version : q.version < 2 ^ 32
   pub path : q.path < 2 ^ 64
 
+-- and each number of a stat
 pub record StatNumbersFit (s : StatFields) : Type 0 where
   pub kind : s.kind < 2 ^ 16
   pub dev : s.dev < 2 ^ 32

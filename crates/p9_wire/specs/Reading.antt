@@ -20,7 +20,7 @@ message_at body_at bytes =
     header_at bytes and_then λ f. body_at f.0 f.2 and_then λ m.
     if length m.1 == 0 then Some (f.1, m.0) else None
 
--- requests
+-- requests: the fields of each, in order
 
 unfoldable pub t_version_at : Reader TMessage
 t_version_at = made (λ x. Tversion x.0 x.1) (number_at 4 then text_at)
@@ -87,7 +87,7 @@ t_body_at kind =
 unfoldable pub t_message_of : List ℕ → Option (ℕ × TMessage)
 t_message_of bytes = message_at t_body_at bytes
 
--- replies
+-- replies: the fields of each, in order
 
 unfoldable pub r_version_at : Reader RMessage
 r_version_at = made (λ x. Rversion x.0 x.1) (number_at 4 then text_at)

@@ -1,7 +1,8 @@
 -- What a writer leaves in a buffer.
 use Rattle.std.specs.Prelude.{◌≡◌, ℕ, ◌+◌, List, ◌++◌, length, take, drop}
 
--- the bytes stand from a place on; in front of it all is as it was, and from next on too
+-- the bytes stand from one index on and end before the next; all in front of them and behind them
+-- is as it was
 pub record Puts (bytes : List ℕ) (at next : ℕ) (old new : List ℕ) : Type 0 where
   pub ends : next ≡ at + length bytes
   pub front : take next new ≡ take at old ++ bytes

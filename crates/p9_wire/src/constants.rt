@@ -1,4 +1,5 @@
-//! The numbers of the protocol, as intro(5) and its header file name them.
+//! The numbers of the protocol, as intro(5). `NOTAG`, `MAXWELEM`, `IOHDRSZ` and the message types
+//! have their names from the header file of fcall(2).
 
 /// The greatest number of bytes in a frame, its size among them. An msize is at most this.
 pub const MSIZE_MAX: u32 = 65_536;
@@ -22,7 +23,8 @@ pub const QID: usize = 13;
 /// The bytes of a stat whose four texts are empty, its own size among them.
 pub const STAT_FIXED: usize = 49;
 
-// The numbers of the message types.
+// The numbers of the message types. An Rauth (103) is never sent, and a Terror (106) is illegal, so
+// neither stands here.
 pub const TVERSION: u8 = 100;
 
 pub const RVERSION: u8 = 101;

@@ -53,6 +53,7 @@ pub fn take_u64(bytes: &[u8]) -> Option<(u64, &[u8])>
     Some((LittleEndian::read_u64(bytes), &bytes[8..]))
 }
 
+/// So many bytes.
 fn take_bytes(count: usize, bytes: &[u8]) -> Option<(&[u8], &[u8])>
     ensures { Gives (λ x. (x.0.now, x.1.now)) result (bytes_at count bytes.now) }
 {
@@ -129,6 +130,7 @@ fn take_count(bytes: &[u8]) -> Option<(usize, &[u8])>
     Some((count, rest))
 }
 
+/// So many texts, one behind another.
 fn some_names(count: usize, bytes: &[u8]) -> Option<(Names<'_>, &[u8])>
     requires { count ≤ 16 }
     ensures { Gives (λ x. (x.0, x.1.now)) result (times text_at count bytes.now) }
@@ -156,6 +158,7 @@ pub fn take_names(bytes: &[u8]) -> Option<(Names<'_>, &[u8])>
     some_names(count, rest)
 }
 
+/// So many qids, one behind another.
 fn some_qids(count: usize, bytes: &[u8]) -> Option<(Qids, &[u8])>
     requires { count ≤ 16 }
     ensures { Gives (λ x. (x.0, x.1.now)) result (times qid_at count bytes.now) }
@@ -217,7 +220,7 @@ fn take_stat_fields(bytes: &[u8]) -> Option<(Stat<'_>, &[u8])>
 
 /// A stat behind its size, which its fields take up.
 #[tactic(auto, unfolding(crate::specs::FieldReading::sized_at))]
-fn take_plain_stat(bytes: &[u8]) -> Option<(Stat<'_>, &[u8])>
+fn take_stat(bytes: &[u8]) -> Option<(Stat<'_>, &[u8])>
     ensures { Gives (λ x. (stat_view x.0, x.1.now)) result (sized_at stat_fields_at bytes.now) }
 {
     let (front, rest) = take_sized(bytes)?;
@@ -231,11 +234,11 @@ fn take_plain_stat(bytes: &[u8]) -> Option<(Stat<'_>, &[u8])>
 
 /// A stat as a message holds it: behind two bytes of length, which its size and fields take up.
 #[tactic(auto, unfolding(crate::specs::FieldReading::sized_at))]
-pub fn take_stat(bytes: &[u8]) -> Option<(Stat<'_>, &[u8])>
+pub fn take_sized_stat(bytes: &[u8]) -> Option<(Stat<'_>, &[u8])>
     ensures { Gives (λ x. (stat_view x.0, x.1.now)) result (stat_at bytes.now) }
 {
     let (front, rest) = take_sized(bytes)?;
-    let (stat, end) = take_plain_stat(front)?;
+    let (stat, end) = take_stat(front)?;
     if end.is_empty() {
         Some((stat, rest))
     } else {

@@ -18,12 +18,14 @@ const TEXT_MAX: usize = 65_535;
 /// The most bytes of a frame that its size can tell. A session's frames are shorter: `MSIZE_MAX`.
 const FRAME_MAX: usize = 0xFFFF_FFFF;
 
+/// Whether a text has a spelling: two bytes hold its length, and it has no NUL.
 fn text_fits(text: &str) -> bool
     ensures { IsTrue result ↔ FitsText text.now }
 {
     text.len() <= TEXT_MAX && is_text(text)
 }
 
+/// Whether each name has a spelling.
 fn names_fit(names: &Names<'_>) -> bool
     ensures { IsTrue result ↔ FitsNames names.now }
 {
@@ -35,6 +37,7 @@ fn names_fit(names: &Names<'_>) -> bool
     true
 }
 
+/// How many bytes the names take, each with its length.
 fn names_size(names: &Names<'_>) -> usize
     requires { FitsNames names.now }
     ensures sum { result ≡ sum_by (λ n. 2 + length n) names.now }
@@ -47,6 +50,7 @@ fn names_size(names: &Names<'_>) -> usize
     size
 }
 
+/// Whether a stat has a spelling: its texts have one, and two bytes hold its length.
 fn stat_fits(stat: &Stat<'_>) -> bool
     ensures { IsTrue result ↔ FitsStat (stat_view stat.now) }
 {

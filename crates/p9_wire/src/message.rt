@@ -22,7 +22,7 @@ pub struct Stat<'a> {
     pub mtime: u32,
     /// The length of the contents in bytes.
     pub length: u64,
-    /// The last name of the file's path.
+    /// The last name of the file's path, or `/` for the root of its server.
     pub name: &'a str,
     /// The owner's name.
     pub uid: &'a str,
@@ -58,7 +58,8 @@ pub enum TMsg<'a> {
     Flush {
         oldtag: u16,
     },
-    /// Goes down a path of at most sixteen names, as walk(5).
+    /// Makes `newfid` stand for the file to which at most sixteen names lead from `fid`, as
+    /// walk(5).
     Walk {
         fid: u32,
         newfid: u32,

@@ -48,7 +48,7 @@ impl<'a> Names<'a> {
         self.len == 0
     }
 
-    /// The name at place `i`, from 0 on.
+    /// The name of index `i`, from 0 on.
     pub fn get(&self, i: usize) -> &'a str
         requires { i < length self.now }
         ensures { slice_get self.now i ≡ Some result.now }

@@ -13,7 +13,7 @@ use crate::constants::{
     RWRITE, RWSTAT,
 };
 use crate::fields::{
-    take_counted, take_header, take_qid, take_qids, take_stat, take_text, take_u32,
+    take_counted, take_header, take_qid, take_qids, take_sized_stat, take_text, take_u32,
 };
 use crate::message::RMsg;
 
@@ -88,7 +88,7 @@ fn write(body: &[u8]) -> Option<(RMsg<'_>, &[u8])>
 fn stat(body: &[u8]) -> Option<(RMsg<'_>, &[u8])>
     ensures { Gives (λ x. (r_view x.0, x.1.now)) result (r_stat_at body.now) }
 {
-    let (stat, rest) = take_stat(body)?;
+    let (stat, rest) = take_sized_stat(body)?;
     Some((RMsg::Stat { stat }, rest))
 }
 

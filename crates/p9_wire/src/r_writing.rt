@@ -12,10 +12,11 @@ use crate::constants::{
 use crate::message::RMsg;
 use crate::put::{put_counted, put_header, put_qid, put_qids, put_sized_stat, put_text, put_u32};
 
-fn kind_of(m: &RMsg<'_>) -> u8
-    ensures { result ≡ r_type (r_view m.now) }
+/// The number of the message's type.
+fn kind_of(message: &RMsg<'_>) -> u8
+    ensures { result ≡ r_type (r_view message.now) }
 {
-    match m {
+    match message {
         RMsg::Version { .. } => RVERSION,
         RMsg::Attach { .. } => RATTACH,
         RMsg::Error { .. } => RERROR,
@@ -32,13 +33,13 @@ fn kind_of(m: &RMsg<'_>) -> u8
     }
 }
 
-/// Puts the body behind the place of the header.
-fn put_body(m: &RMsg<'_>, out: &mut [u8]) -> usize
-    requires fits { RFits (r_view m.now) }
-    requires room { 7 + r_len (r_view m.now) ≤ length out.old }
-    ensures { Puts (r_body (r_view m.now)) 7 result out.old out.new }
+/// Puts the body behind the bytes of the header, and answers the index behind it.
+fn put_body(message: &RMsg<'_>, out: &mut [u8]) -> usize
+    requires fits { RFits (r_view message.now) }
+    requires room { 7 + r_len (r_view message.now) ≤ length out.old }
+    ensures { Puts (r_body (r_view message.now)) 7 result out.old out.new }
 {
-    match m {
+    match message {
         RMsg::Version { msize, version } => {
             let at = put_u32(out, HEADER, *msize);
             put_text(out, at, version)
@@ -67,14 +68,14 @@ fn put_body(m: &RMsg<'_>, out: &mut [u8]) -> usize
 /// Writes a reply with its tag at the front of the buffer, and answers its length. What stands
 /// behind it stays. The buffer has room for it, and it has a spelling: `size` and `fits` of `RMsg`
 /// tell both.
-pub fn write_r(m: &RMsg<'_>, tag: u16, out: &mut [u8]) -> usize
-    requires fits { RFits (r_view m.now) }
-    requires room { 7 + r_len (r_view m.now) ≤ length out.old }
-    ensures len { result ≡ 7 + r_len (r_view m.now) }
-    ensures bytes { Writes (r_spelling tag (r_view m.now)) result out.old out.new }
+pub fn write_r(message: &RMsg<'_>, tag: u16, out: &mut [u8]) -> usize
+    requires fits { RFits (r_view message.now) }
+    requires room { 7 + r_len (r_view message.now) ≤ length out.old }
+    ensures len { result ≡ 7 + r_len (r_view message.now) }
+    ensures bytes { Writes (r_spelling tag (r_view message.now)) result out.old out.new }
 {
-    let end = put_body(m, out);
-    put_header(out, end as u32, kind_of(m), tag);
+    let end = put_body(message, out);
+    put_header(out, end as u32, kind_of(message), tag);
     end
 }
 

@@ -14,7 +14,7 @@ use crate::constants::{
     TWSTAT,
 };
 use crate::fields::{
-    take_counted, take_header, take_names, take_stat, take_text, take_u8, take_u16, take_u32,
+    take_counted, take_header, take_names, take_sized_stat, take_text, take_u8, take_u16, take_u32,
     take_u64,
 };
 use crate::message::TMsg;
@@ -152,7 +152,7 @@ fn wstat(body: &[u8]) -> Option<(TMsg<'_>, &[u8])>
     ensures { Gives (λ x. (t_view x.0, x.1.now)) result (t_wstat_at body.now) }
 {
     let (fid, rest) = take_u32(body)?;
-    let (stat, rest) = take_stat(rest)?;
+    let (stat, rest) = take_sized_stat(rest)?;
     Some((TMsg::Wstat { fid, stat }, rest))
 }
 

@@ -14,10 +14,11 @@ use crate::put::{
     put_counted, put_header, put_names, put_sized_stat, put_text, put_u8, put_u16, put_u32, put_u64,
 };
 
-fn kind_of(m: &TMsg<'_>) -> u8
-    ensures { result ≡ t_type (t_view m.now) }
+/// The number of the message's type.
+fn kind_of(message: &TMsg<'_>) -> u8
+    ensures { result ≡ t_type (t_view message.now) }
 {
-    match m {
+    match message {
         TMsg::Version { .. } => TVERSION,
         TMsg::Auth { .. } => TAUTH,
         TMsg::Attach { .. } => TATTACH,
@@ -34,13 +35,13 @@ fn kind_of(m: &TMsg<'_>) -> u8
     }
 }
 
-/// Puts the body behind the place of the header.
-fn put_body(m: &TMsg<'_>, out: &mut [u8]) -> usize
-    requires fits { TFits (t_view m.now) }
-    requires room { 7 + t_len (t_view m.now) ≤ length out.old }
-    ensures { Puts (t_body (t_view m.now)) 7 result out.old out.new }
+/// Puts the body behind the bytes of the header, and answers the index behind it.
+fn put_body(message: &TMsg<'_>, out: &mut [u8]) -> usize
+    requires fits { TFits (t_view message.now) }
+    requires room { 7 + t_len (t_view message.now) ≤ length out.old }
+    ensures { Puts (t_body (t_view message.now)) 7 result out.old out.new }
 {
-    match m {
+    match message {
         TMsg::Version { msize, version } => {
             let at = put_u32(out, HEADER, *msize);
             put_text(out, at, version)
@@ -105,13 +106,13 @@ fn put_body(m: &TMsg<'_>, out: &mut [u8]) -> usize
 /// Writes a request with its tag at the front of the buffer, and answers its length. What stands
 /// behind it stays. The buffer has room for it, and it has a spelling: `size` and `fits` of `TMsg`
 /// tell both.
-pub fn write_t(m: &TMsg<'_>, tag: u16, out: &mut [u8]) -> usize
-    requires fits { TFits (t_view m.now) }
-    requires room { 7 + t_len (t_view m.now) ≤ length out.old }
-    ensures len { result ≡ 7 + t_len (t_view m.now) }
-    ensures bytes { Writes (t_spelling tag (t_view m.now)) result out.old out.new }
+pub fn write_t(message: &TMsg<'_>, tag: u16, out: &mut [u8]) -> usize
+    requires fits { TFits (t_view message.now) }
+    requires room { 7 + t_len (t_view message.now) ≤ length out.old }
+    ensures len { result ≡ 7 + t_len (t_view message.now) }
+    ensures bytes { Writes (t_spelling tag (t_view message.now)) result out.old out.new }
 {
-    let end = put_body(m, out);
-    put_header(out, end as u32, kind_of(m), tag);
+    let end = put_body(message, out);
+    put_header(out, end as u32, kind_of(message), tag);
     end
 }

@@ -125,21 +125,6 @@ fn vector_errors(rt: HostRuntime) -> Result<(), Fail> {
     Ok(())
 }
 
-/// The replies without a body.
-#[test]
-fn vector_clunk(rt: HostRuntime) -> Result<(), Fail> {
-    let cases = [
-        (3, RMsg::Flush, "07000000 6d 0300"),
-        (1, RMsg::Clunk, "07000000 79 0100"),
-        (3, RMsg::Remove, "07000000 7b 0300"),
-        (10, RMsg::Wstat, "07000000 7f 0a00"),
-    ];
-    for (tag, message, digits) in &cases {
-        reply(&rt, *tag, message, &bytes_of(rt.alloc(), digits)?);
-    }
-    Ok(())
-}
-
 #[test]
 fn vector_walks(rt: HostRuntime) -> Result<(), Fail> {
     // walk_clones_fid
@@ -195,18 +180,6 @@ fn vector_open_read(rt: HostRuntime) -> Result<(), Fail> {
     Ok(())
 }
 
-#[test]
-fn vector_walk_stat(rt: HostRuntime) -> Result<(), Fail> {
-    let stat = RMsg::Stat {
-        stat: stat_of(3, "f", 2),
-    };
-    let digits = "4d000000 7d 0800 4400 4200 0000 00000000 00 00000000 0300000000000000 \
-        a4010000 00000000 00000000 0200000000000000 0100 66 \
-        0600 676c656e6461 0600 676c656e6461 0600 676c656e6461";
-    reply(&rt, 8, &stat, &bytes_of(rt.alloc(), digits)?);
-    Ok(())
-}
-
 /// Two entries written in place behind the header and the count, and then the reply around them.
 #[test]
 fn vector_union_listing(rt: HostRuntime) -> Result<(), Fail> {
@@ -234,4 +207,31 @@ fn write_entry(rt: &impl Abort, stat: &Stat<'_>, out: &mut [u8]) -> usize {
     assert!(rt; listed.fits());
     assert!(rt; listed.size() <= out.len());
     write_stat(stat, out)
+}
+
+/// The replies without a body.
+#[test]
+fn vector_clunk(rt: HostRuntime) -> Result<(), Fail> {
+    let cases = [
+        (3, RMsg::Flush, "07000000 6d 0300"),
+        (1, RMsg::Clunk, "07000000 79 0100"),
+        (3, RMsg::Remove, "07000000 7b 0300"),
+        (10, RMsg::Wstat, "07000000 7f 0a00"),
+    ];
+    for (tag, message, digits) in &cases {
+        reply(&rt, *tag, message, &bytes_of(rt.alloc(), digits)?);
+    }
+    Ok(())
+}
+
+#[test]
+fn vector_walk_stat(rt: HostRuntime) -> Result<(), Fail> {
+    let stat = RMsg::Stat {
+        stat: stat_of(3, "f", 2),
+    };
+    let digits = "4d000000 7d 0800 4400 4200 0000 00000000 00 00000000 0300000000000000 \
+        a4010000 00000000 00000000 0200000000000000 0100 66 \
+        0600 676c656e6461 0600 676c656e6461 0600 676c656e6461";
+    reply(&rt, 8, &stat, &bytes_of(rt.alloc(), digits)?);
+    Ok(())
 }

@@ -59,18 +59,11 @@ fn vector_attach(rt: HostRuntime) -> Result<(), Fail> {
     Ok(())
 }
 
-/// The requests of one number.
 #[test]
-fn vector_clunk(rt: HostRuntime) -> Result<(), Fail> {
-    let cases = [
-        (3, TMsg::Flush { oldtag: 1 }, "09000000 6c 0300 0100"),
-        (1, TMsg::Clunk { fid: 5 }, "0b000000 78 0100 05000000"),
-        (3, TMsg::Remove { fid: 1 }, "0b000000 7a 0300 01000000"),
-        (6, TMsg::Stat { fid: 9 }, "0b000000 7c 0600 09000000"),
-    ];
-    for (tag, message, digits) in &cases {
-        request(&rt, *tag, message, &bytes_of(rt.alloc(), digits)?);
-    }
+fn flush_of_a_tag(rt: HostRuntime) -> Result<(), Fail> {
+    let flush = TMsg::Flush { oldtag: 1 };
+    let digits = "09000000 6c 0300 0100";
+    request(&rt, 3, &flush, &bytes_of(rt.alloc(), digits)?);
     Ok(())
 }
 
@@ -166,6 +159,20 @@ fn vector_union_create(rt: HostRuntime) -> Result<(), Fail> {
     };
     let digits = "19000000 76 0700 01000000 0200000000000000 02000000 6869";
     request(&rt, 7, &write, &bytes_of(rt.alloc(), digits)?);
+    Ok(())
+}
+
+/// The requests of a fid alone.
+#[test]
+fn vector_clunk(rt: HostRuntime) -> Result<(), Fail> {
+    let cases = [
+        (1, TMsg::Clunk { fid: 5 }, "0b000000 78 0100 05000000"),
+        (3, TMsg::Remove { fid: 1 }, "0b000000 7a 0300 01000000"),
+        (6, TMsg::Stat { fid: 9 }, "0b000000 7c 0600 09000000"),
+    ];
+    for (tag, message, digits) in &cases {
+        request(&rt, *tag, message, &bytes_of(rt.alloc(), digits)?);
+    }
     Ok(())
 }
 

@@ -1,6 +1,6 @@
 use Rattle.std.proofs.Common.{refl, subst, arith}
 use denote.Param.Always.{mut_next}
-use Rattle.p9_refusing.specs.TakesTurns.{TakesTurns}
+use Rattle.p9_refusing.specs.Turns.{TakesTurns}
 use Rattle.p9_refusing.proofs.TakesTurns.{TakesTurns-next}
 use Rattle.p9_refusing.proofs.turns.refuse_each.Goals as goal
 use Rattle.p9_refusing.proofs.turns.refuse_each.Goals.{else-loop-n-test}

@@ -1,5 +1,5 @@
 use Rattle.std.proofs.Common.{◌≡◌, ◌+◌, ◌-◌, ◌≤◌}
-use Rattle.p9_refusing.specs.TakesTurns.{TakesTurns}
+use Rattle.p9_refusing.specs.Turns.{TakesTurns}
 use Rattle.p9_refusing.proofs.turns.refuse_each.Given as goal
 
 abbrev pub invariant-loop-n : goal.invariant-loop-n

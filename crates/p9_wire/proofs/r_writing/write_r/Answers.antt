@@ -7,7 +7,7 @@ use Rattle.p9_wire.proofs.r_writing.write_r.Goals as goal
 
 pub returns-clause-len : goal.returns-clause-len
 returns-clause-len c =
-    omega (arith, length-r_body (r_view c.args.m.now), c.put_body-end.ensures.ends)
+    omega (arith, length-r_body (r_view c.args.message.now), c.put_body-end.ensures.ends)
 
 pub returns-clause-bytes : goal.returns-clause-bytes
 unfolding r_spelling
@@ -19,8 +19,8 @@ pub overflow_cast-end : goal.overflow_cast-end
 overflow_cast-end c =
     omega (
       arith,
-      length-r_body (r_view c.args.m.now),
+      length-r_body (r_view c.args.message.now),
       c.put_body-end.ensures.ends,
       r_len-fits
-          (r_view c.args.m.now) c.requires.fits,
+          (r_view c.args.message.now) c.requires.fits,
     )

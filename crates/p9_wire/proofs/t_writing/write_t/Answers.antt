@@ -7,7 +7,7 @@ use Rattle.p9_wire.proofs.t_writing.write_t.Goals as goal
 
 pub returns-clause-len : goal.returns-clause-len
 returns-clause-len c =
-    omega (arith, length-t_body (t_view c.args.m.now), c.put_body-end.ensures.ends)
+    omega (arith, length-t_body (t_view c.args.message.now), c.put_body-end.ensures.ends)
 
 pub returns-clause-bytes : goal.returns-clause-bytes
 unfolding t_spelling
@@ -19,8 +19,8 @@ pub overflow_cast-end : goal.overflow_cast-end
 overflow_cast-end c =
     omega (
       arith,
-      length-t_body (t_view c.args.m.now),
+      length-t_body (t_view c.args.message.now),
       c.put_body-end.ensures.ends,
       t_len-fits
-          (t_view c.args.m.now) c.requires.fits,
+          (t_view c.args.message.now) c.requires.fits,
     )

@@ -1,3 +1,4 @@
+-- What a count of requests says of them.
 use Rattle.std.specs.Prelude.{◌≡◌, ◌+◌, ◌≤◌, ℕ, Some}
 use Rattle.p9_refusing.specs.declared.count.Requests.{Requests}
 

@@ -1,3 +1,4 @@
+-- A value made and run in each of several turns.
 use Rattle.std.specs.Prelude.{◌≡◌, ℕ, length, List}
 use Rattle.std.specs.List.{FoldsTo}
 

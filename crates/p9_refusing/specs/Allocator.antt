@@ -1,3 +1,4 @@
+-- What is seen of an allocator that refuses a request.
 use Rattle.p9_refusing.specs.declared.allocator.Refusing.{Refusing}
 
 -- The allocator whose memory it hands out.
