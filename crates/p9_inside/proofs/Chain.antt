@@ -7,11 +7,12 @@ use Rattle.std.proofs.lemmas.List.Elements.{All-head, All-tail, All-weaker}
 use Rattle.std.specs.Option.{option_map_or}
 use Rattle.p9_tree.specs.Node.{Node}
 use Rattle.p9_tree.specs.Server.{Server, WellFormed, node_at}
+use Rattle.p9_tree.proofs.Lookups.{each_found}
 use Rattle.p9_tree.specs.Inside.{IsInside, Child, Deeper, IsInsideAny, is_among, is_inner}
 use Rattle.p9_tree.specs.Inside.{barred_from, is_barred_at, is_inside_at}
 use Rattle.p9_inside.specs.Meaning.{NothingInsideItself, ServerPassIsChain}
 use Rattle.p9_inside.specs.Meaning.{ServerBarredIsHiddenOrInside, ServerOnlyNodesHide}
-use Rattle.p9_inside.proofs.Pass.{IsOrdered, barred-is_among, each_found}
+use Rattle.p9_inside.proofs.Pass.{IsOrdered, barred-is_among}
 
 -- a well-formed server's nodes are ordered
 pub ordered : (s : Server) → WellFormed s → IsOrdered s.nodes
@@ -136,7 +137,7 @@ module _ (hidden other : List ℕ) (s : Server) (w : WellFormed s)
   each_inner =
       All-weaker (λ n. node_at n.number s.nodes ≡ Some n)
       (λ n. is_inner (barred_from other s.nodes) n ≡ is_inner (barred_from hidden s.nodes) n)
-      inner-other s.nodes (each_found s.nodes (ordered s w))
+      inner-other s.nodes (each_found s.nodes w.rising)
 
 pub server_only_nodes_hide : ServerOnlyNodesHide
 server_only_nodes_hide hidden other s w agree =

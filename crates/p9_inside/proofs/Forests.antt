@@ -1,32 +1,22 @@
 -- Forests without what is inside, server by server.
-use Rattle.std.proofs.Common.{◌≡◌, ℕ, zero, suc, ◌+◌, List, [], ◌∷◌, Option, Some, None, slice_get}
-use Rattle.std.proofs.Common.{refl, ap, arith, All, ◌<◌}
-use Rattle.std.specs.Prelude.{unwrap_or}
+use Rattle.std.proofs.Common.{◌≡◌, ◌<◌, ℕ, List, [], Option, Some, None, slice_get, refl, ap, ◌∙◌}
+use Rattle.std.proofs.Common.{arith, All}
+use Rattle.std.specs.Prelude.{option_map, unwrap_or}
 use Rattle.p9_base.specs.declared.node_ref.NodeRef.{NodeRef}
-use Rattle.p9_tree.specs.Server.{Server}
+use Rattle.p9_tree.specs.Server.{Server, with_nodes}
 use Rattle.p9_tree.specs.Forest.{server_at, IsForest, no_server}
-use Rattle.p9_tree.specs.Inside.{hidden_on, is_hidden, is_barred, is_inside, outer_server}
-use Rattle.p9_tree.specs.Inside.{outer_from, outer, inner_nodes, outer_nodes, inner_from, inner}
+use Rattle.p9_tree.specs.Inside.{hidden_on, is_hidden, is_barred, is_inside, outer_server, outer}
+use Rattle.p9_tree.specs.Inside.{inner_nodes, inner}
 use Rattle.p9_inside.specs.Lookups.{KeepsNode, KeepsDirTest, KeepsBytes, KeepsChild}
 use Rattle.p9_inside.specs.Lookups.{KeepsChildAfter, KeepsChildren, KeepsNext}
 use Rattle.p9_inside.specs.Meaning.{InsideByParent, InsidesAreSplit, PassIsChain}
 use Rattle.p9_inside.specs.Meaning.{BarredIsHiddenOrInside, OnlyNodesHide, SameAtServer}
+use Rattle.p9_inside.proofs.EachServer.{each_server-agree, slice_get-each_server}
 use Rattle.p9_inside.proofs.Pass.{IsOrdered, barred-is_among}
 use Rattle.p9_inside.proofs.Chain.{ordered, inside_chain, server_only_nodes_hide}
 use Rattle.p9_inside.proofs.Outer.{split_ordered, server_keeps_node, server_keeps_dir_test}
 use Rattle.p9_inside.proofs.Outer.{server_keeps_bytes, server_keeps_child, server_keeps_child_after}
 use Rattle.p9_inside.proofs.Outer.{server_keeps_children}
-
--- a server from the given number on
-server_at-outer_from : (from server at : ℕ) (hidden : List NodeRef) (forest : List Server)
-    → at ≡ from + server
-    → server_at server (outer_from from hidden forest)
-    ≡ outer_server (hidden_on at hidden) (server_at server forest)
-server_at-outer_from from server at hidden [] e = refl
-server_at-outer_from from zero at hidden (s ∷ ss) e =
-    let same : at ≡ from = omega arith in rw same refl
-server_at-outer_from from (suc server) at hidden (s ∷ ss) e =
-    server_at-outer_from (suc from) server at hidden ss (omega arith)
 
 -- a server of the forest without what is inside
 pub server_at-outer : (server : ℕ) (hidden : List NodeRef) (forest : List Server)
@@ -34,7 +24,15 @@ pub server_at-outer : (server : ℕ) (hidden : List NodeRef) (forest : List Serv
     ≡ outer_server (hidden_on server hidden) (server_at server forest)
 unfolding outer
 server_at-outer server hidden forest =
-    server_at-outer_from 0 server server hidden forest (omega arith)
+    ap (λ o. unwrap_or o no_server)
+    (slice_get-each_server (λ k s. outer_server (hidden_on k hidden) s) server forest)
+    ∙ go (slice_get forest server)
+  where
+    go : (o : Option Server)
+        → unwrap_or (option_map (outer_server (hidden_on server hidden)) o) no_server
+        ≡ outer_server (hidden_on server hidden) (unwrap_or o no_server)
+    go None = refl
+    go (Some s) = refl
 
 pub keeps_node : KeepsNode
 unfolding is_inside
@@ -117,24 +115,21 @@ pub inside_by_parent : InsideByParent
 unfolding is_inside is_barred
 inside_by_parent hidden forest r = refl
 
--- the insides of a server from the given number on
-nodes_of-inner_from : (from server at : ℕ) (hidden : List NodeRef) (forest : List Server)
-    → at ≡ from + server
-    → unwrap_or (slice_get (inner_from from hidden forest) server) []
-    ≡ inner_nodes (hidden_on at hidden) (server_at server forest).nodes
-nodes_of-inner_from from server at hidden [] e = refl
-nodes_of-inner_from from zero at hidden (s ∷ ss) e =
-    let same : at ≡ from = omega arith in rw same refl
-nodes_of-inner_from from (suc server) at hidden (s ∷ ss) e =
-    nodes_of-inner_from (suc from) server at hidden ss (omega arith)
-
 -- the insides of one server
 nodes_of-inner : (server : ℕ) (hidden : List NodeRef) (forest : List Server)
     → unwrap_or (slice_get (inner hidden forest) server) []
     ≡ inner_nodes (hidden_on server hidden) (server_at server forest).nodes
 unfolding inner
 nodes_of-inner server hidden forest =
-    nodes_of-inner_from 0 server server hidden forest (omega arith)
+    ap (λ o. unwrap_or o [])
+    (slice_get-each_server (λ k s. inner_nodes (hidden_on k hidden) s.nodes) server forest)
+    ∙ go (slice_get forest server)
+  where
+    go : (o : Option Server)
+        → unwrap_or (option_map (λ s. inner_nodes (hidden_on server hidden) s.nodes) o) []
+        ≡ inner_nodes (hidden_on server hidden) (unwrap_or o no_server).nodes
+    go None = refl
+    go (Some s) = refl
 
 pub insides_are_split : InsidesAreSplit
 unfolding is_inside
@@ -143,44 +138,19 @@ insides_are_split hidden forest r w =
     (split_ordered (hidden_on r.server hidden) (server_at r.server forest).nodes r.number
     (server_ordered forest w r.server))
 
--- hidden lists that agree at each server have the same insides
-inner_from-agree : (from : ℕ) (hidden other : List NodeRef) (ss : List Server)
-    → ((k at : ℕ) (s : Server) → at ≡ from + k → slice_get ss k ≡ Some s
-    → inner_nodes (hidden_on at other) s.nodes ≡ inner_nodes (hidden_on at hidden) s.nodes)
-    → inner_from from other ss ≡ inner_from from hidden ss
-inner_from-agree from hidden other [] h = refl
-inner_from-agree from hidden other (s ∷ ss) h =
-    rw (
-      h 0 from s (omega arith) refl,
-      inner_from-agree (suc from) hidden other ss
-          (λ k at t e found. h (suc k) at t (omega arith) found),
-    ) refl
-
--- and the same others
-outer_from-agree : (from : ℕ) (hidden other : List NodeRef) (ss : List Server)
-    → ((k at : ℕ) (s : Server) → at ≡ from + k → slice_get ss k ≡ Some s
-    → outer_nodes (hidden_on at other) s.nodes ≡ outer_nodes (hidden_on at hidden) s.nodes)
-    → outer_from from other ss ≡ outer_from from hidden ss
-outer_from-agree from hidden other [] h = refl
-outer_from-agree from hidden other (s ∷ ss) h =
-    rw (
-      h 0 from s (omega arith) refl,
-      outer_from-agree (suc from) hidden other ss
-          (λ k at t e found. h (suc k) at t (omega arith) found),
-    ) refl
-
 pub only_nodes_hide : OnlyNodesHide
 unfolding inner outer is_hidden
 only_nodes_hide hidden other forest w agree = record {
-  insides = inner_from-agree 0 hidden other forest (λ k at s e found. (one k at s e found).insides);
-  others = outer_from-agree 0 hidden other forest (λ k at s e found. (one k at s e found).others);
+  insides = each_server-agree _ _ forest (λ server s found. (one server s found).insides);
+  others =
+      each_server-agree _ _ forest
+      (λ server s found. ap (with_nodes s) (one server s found).others);
 }
   where
-    one : (k at : ℕ) (s : Server) → at ≡ 0 + k → slice_get forest k ≡ Some s
-        → SameAtServer (hidden_on at hidden) (hidden_on at other) s
-    one k at s e found =
-        let same : at ≡ k = omega arith in
-        rw same
-        (server_only_nodes_hide (hidden_on k hidden) (hidden_on k other) s (w.servers k s found)
-        (λ j there. agree (record { server = k; number = j })
-        (λ none. there (rw found at none))))
+    one : (server : ℕ) (s : Server) → slice_get forest server ≡ Some s
+        → SameAtServer (hidden_on server hidden) (hidden_on server other) s
+    one server s found =
+        server_only_nodes_hide (hidden_on server hidden) (hidden_on server other) s
+        (w.servers server s found)
+        (λ k there. agree (record { server = server; number = k })
+        (λ none. there (rw found at none)))

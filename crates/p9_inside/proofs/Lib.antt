@@ -1,4 +1,5 @@
 pub mod Chain
+pub mod EachServer
 pub mod Forests
 pub mod Outer
 pub mod Pass

@@ -1,12 +1,12 @@
 -- What one pass over a server's nodes gathers.
-use Rattle.std.proofs.Common.{◌≡◌, ℕ, suc, ◌<◌, ◌≤◌, Bool, true, false, eqb, ◌&&◌, ◌||◌, List, []}
-use Rattle.std.proofs.Common.{◌∷◌, Option, Some, None, refl, arith, All, AllPairs}
+use Rattle.std.proofs.Common.{◌≡◌, ℕ, ◌<◌, ◌≤◌, Bool, true, false, eqb, ◌&&◌, ◌||◌, List, []}
+use Rattle.std.proofs.Common.{◌∷◌, Option, Some, None, refl, arith, AllPairs}
 use Rattle.std.specs.Option.{option_map_or}
 use Rattle.std.proofs.lemmas.Bool.Decides.{nat_tests}
-use Rattle.std.proofs.lemmas.List.Elements.{All-cons, All-weaker}
+use Rattle.std.proofs.lemmas.List.Elements.{All-weaker}
 use Rattle.p9_tree.specs.Node.{Node}
 use Rattle.p9_tree.specs.Server.{node_at}
-use Rattle.p9_tree.proofs.Lookups.{node_at-before}
+use Rattle.p9_tree.proofs.Lookups.{node_at-before, node_at-later, rising_head, rising_tail}
 use Rattle.p9_tree.specs.Inside.{is_among, is_inner, grown_by, barred_from, is_inside_at}
 
 -- numbers rise, and parents have smaller ones than their children
@@ -15,20 +15,11 @@ pub record IsOrdered (nodes : List Node) : Type 0 where
   pub parents : (k p : ℕ) (n : Node) → node_at k nodes ≡ Some n → n.parent ≡ Some p → p < k
 
 module _ (x : Node) (xs : List Node) (o : IsOrdered (x ∷ xs)) where
-  -- the first number is less than all others
-  above : All (λ n. x.number < n.number) xs
-  above j d in_range = o.rising 0 (suc j) d (omega arith) (omega arith)
-
-  -- a node that is found among the others is found among all
-  later : (k : ℕ) (n : Node) → node_at k xs ≡ Some n → node_at k (x ∷ xs) ≡ Some n
-  later k n e =
-      let none : node_at x.number xs ≡ None = node_at-before x.number xs above in
-      grind (arith, nat_tests)
-
   pub tail_ordered : IsOrdered xs
   tail_ordered = record {
-    rising = λ i j d lt in_range. o.rising (suc i) (suc j) d (omega arith) (omega arith);
-    parents = λ k p n e in_p. o.parents k p n (later k n e) in_p;
+    rising = rising_tail x xs o.rising;
+    parents =
+        λ k p n e in_p. o.parents k p n (node_at-later x xs (rising_head x xs o.rising) k n e) in_p;
   }
 
   -- its own parent is below
@@ -39,15 +30,8 @@ module _ (x : Node) (xs : List Node) (o : IsOrdered (x ∷ xs)) where
   pub no_later : (j : ℕ) → j ≤ x.number → node_at j xs ≡ None
   no_later j le =
       node_at-before j xs
-      (All-weaker (λ n. x.number < n.number) (λ n. j < n.number) (λ n lt. omega arith) xs above)
-
--- each node is the one of its number
-pub each_found : (xs : List Node) → IsOrdered xs → All (λ n. node_at n.number xs ≡ Some n) xs
-each_found [] o = λ k d in_range. absurd (omega arith)
-each_found (x ∷ xs) o =
-    All-cons (λ n. node_at n.number (x ∷ xs) ≡ Some n) x xs (grind (arith, nat_tests))
-    (All-weaker (λ n. node_at n.number xs ≡ Some n) (λ n. node_at n.number (x ∷ xs) ≡ Some n)
-    (λ n e. later x xs o n.number n e) xs (each_found xs (tail_ordered x xs o)))
+      (All-weaker (λ n. x.number < n.number) (λ n. j < n.number) (λ n lt. omega arith) xs
+      (rising_head x xs o.rising))
 
 -- the pass gathers no number but those of nodes
 pub barred-absent : (ks : List ℕ) (xs : List Node) (k : ℕ) → node_at k xs ≡ None

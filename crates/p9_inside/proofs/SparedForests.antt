@@ -1,7 +1,6 @@
 -- Changes of a forest outside its insides.
-use Rattle.std.proofs.Common.{◌≡◌, ℕ, zero, suc, ◌+◌, Bool, List, [], ◌∷◌, Option, Some, None}
+use Rattle.std.proofs.Common.{◌≡◌, ℕ, zero, suc, Bool, List, [], ◌∷◌, Option, Some, None}
 use Rattle.std.proofs.Common.{slice_get, set, IsTrue, refl, sym, ap, ◌∙◌, subst, inl, inr, ◌⊎◌}
-use Rattle.std.proofs.Common.{arith}
 use Rattle.std.specs.Prelude.{unwrap_or}
 use Rattle.p9_base.specs.declared.node_ref.NodeRef.{NodeRef}
 use Rattle.p9_tree.specs.Bytes.{cut_to, overwritten}
@@ -11,41 +10,15 @@ use Rattle.p9_tree.specs.Node.{marked, touched, with_owner, with_bytes}
 use Rattle.p9_tree.specs.Server.{Server, is_dir_at, added, with_changed, with_dropped}
 use Rattle.p9_tree.specs.Forest.{no_server, server_at, tree_changed_at, next_of, is_dir_of}
 use Rattle.p9_tree.specs.Inside.{is_among, barred_from, is_inside_at, hidden_on, is_hidden}
-use Rattle.p9_tree.specs.Inside.{is_barred, is_inside, outer_server, outer_from, outer, inner_nodes}
-use Rattle.p9_tree.specs.Inside.{inner_from, inner}
+use Rattle.p9_tree.specs.Inside.{is_barred, is_inside, outer_server, outer, inner_nodes, inner}
 use Rattle.p9_inside.specs.Changes.{KeepsParent, with_new, ServerSpares, Spares, ChangeSpares}
 use Rattle.p9_inside.specs.Changes.{MarkSpares, TouchSpares, OwnerSpares, WriteSpares, CutSpares}
 use Rattle.p9_inside.specs.Changes.{WstatSpares, DropSpares, AddSpares, NewSpares, InTurnSpares}
 use Rattle.p9_inside.specs.Changes.{ParentDecides, NextIsFree}
+use Rattle.p9_inside.proofs.EachServer.{each_server-kept, each_server-set}
 use Rattle.p9_inside.proofs.Forests.{server_at-outer, server_below, server_ordered}
 use Rattle.p9_inside.proofs.Spared.{server_change_spares, drop_spares_ordered, server_add_spares}
 use Rattle.p9_inside.proofs.Spared.{server_parent_decides, next_is_free_ordered}
-
--- a server put in place of another, without insides
-outer_from-set : (from server at : ℕ) (hidden : List NodeRef) (forest : List Server) (new : Server)
-    → at ≡ from + server
-    → outer_from from hidden (set forest server new)
-    ≡ set (outer_from from hidden forest) server (outer_server (hidden_on at hidden) new)
-outer_from-set from server at hidden [] new e = refl
-outer_from-set from zero at hidden (s ∷ ss) new e =
-    let same : at ≡ from = omega arith in rw same refl
-outer_from-set from (suc server) at hidden (s ∷ ss) new e =
-    ap (λ rest. outer_server (hidden_on from hidden) s ∷ rest)
-    (outer_from-set (suc from) server at hidden ss new (omega arith))
-
--- a server with the same insides put in place of another
-inner_from-set : (from server at : ℕ) (hidden : List NodeRef) (forest : List Server) (new : Server)
-    → at ≡ from + server
-    → inner_nodes (hidden_on at hidden) new.nodes
-    ≡ inner_nodes (hidden_on at hidden) (server_at server forest).nodes
-    → inner_from from hidden (set forest server new) ≡ inner_from from hidden forest
-inner_from-set from server at hidden [] new e kept = refl
-inner_from-set from zero at hidden (s ∷ ss) new e kept =
-    let same : at ≡ from = omega arith in
-    ap (λ first. first ∷ inner_from (suc from) hidden ss) (rw same at kept)
-inner_from-set from (suc server) at hidden (s ∷ ss) new e kept =
-    ap (λ rest. inner_nodes (hidden_on from hidden) s.nodes ∷ rest)
-    (inner_from-set (suc from) server at hidden ss new (omega arith) kept)
 
 -- a server after a change of one
 server_at-set : (server t : ℕ) (forest : List Server) (new : Server)
@@ -91,12 +64,13 @@ pub spares-server : (hidden : List NodeRef) (forest : List Server) (server : ℕ
 unfolding outer inner is_barred is_inside
 spares-server hidden forest server change spared = record {
   commutes =
-      outer_from-set 0 server server hidden forest (change (server_at server forest)) (omega arith)
-      ∙ ap (λ s. set (outer_from 0 hidden forest) server s)
+      each_server-set (λ k s. outer_server (hidden_on k hidden) s) server forest
+      (change (server_at server forest))
+      ∙ ap (λ s. set (outer hidden forest) server s)
       (spared.commutes ∙ ap change (sym (server_at-outer server hidden forest)));
   insides =
-      inner_from-set 0 server server hidden forest (change (server_at server forest)) (omega arith)
-      spared.insides;
+      each_server-kept (λ k s. inner_nodes (hidden_on k hidden) s.nodes) server forest
+      (change (server_at server forest)) spared.insides;
   barred =
       λ r. told-set (λ t s. is_among (barred_from (hidden_on t hidden) s.nodes) r.number) server
       r.server forest (change (server_at server forest)) (spared.barred r.number);

@@ -7,7 +7,7 @@ use Rattle.p9_tree.specs.Bytes.{cut_to, overwritten}
 use Rattle.p9_tree.specs.Change.{changed}
 use Rattle.p9_tree.specs.declared.change.Change.{Change}
 use Rattle.p9_tree.specs.declared.new.New.{New}
-use Rattle.p9_tree.specs.New.{new_node}
+use Rattle.p9_tree.specs.New.{added_new}
 use Rattle.p9_tree.specs.Node.{Node, marked, touched, with_owner, with_bytes}
 use Rattle.p9_tree.specs.Server.{Server, WellFormed, added, with_changed, with_dropped}
 use Rattle.p9_tree.specs.Forest.{IsForest, forest_changed_at, is_dir_of, next_of, tree_changed_at}
@@ -96,6 +96,7 @@ DropSpares = (hidden : List NodeRef) (forest : List Server) (r : NodeRef) → Is
 
 -- A node joins a directory that is neither hidden nor inside. The node is made with its number.
 
+-- the server with the node that is made of its next number
 abbrev pub with_new : (ℕ → Node) → Server → Server
 with_new make s = added s (make s.next)
 
@@ -111,10 +112,11 @@ AddSpares = (hidden : List NodeRef) (forest : List Server) (dir : NodeRef) (make
     → IsFalse (is_barred dir hidden forest)
     → Spares hidden (tree_changed_at dir.server (with_new make)) forest
 
+-- the change that `Forest::add` makes
 abbrev pub NewSpares : Type 0
 NewSpares = (hidden : List NodeRef) (forest : List Server) (dir : NodeRef) (new : New)
     → IsFalse (is_barred dir hidden forest)
-    → Spares hidden (tree_changed_at dir.server (with_new (λ k. new_node k dir.number new))) forest
+    → Spares hidden (tree_changed_at dir.server (added_new dir.number new)) forest
 
 -- Two changes, one after the other.
 

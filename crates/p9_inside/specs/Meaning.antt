@@ -35,6 +35,7 @@ ServerInsideByParent = (hidden : List ℕ) (s : Server) (k : ℕ)
     → is_inside_at k hidden s.nodes
     ≡ option_map_or (is_inner (barred_from hidden s.nodes)) (node_at k s.nodes) false
 
+-- its parent is hidden or inside
 abbrev pub has_barred_parent : NodeRef → List NodeRef → List Server → Node → Bool
 has_barred_parent r hidden forest n =
     option_map_or (λ parent. is_barred (beside r parent) hidden forest) n.parent false
@@ -57,6 +58,7 @@ BarredIsHiddenOrInside = (hidden : List NodeRef) (forest : List Server) (r : Nod
 
 -- The insides are the nodes inside, and the others are left.
 
+-- the node of the number is found among the insides if it is inside, else among the others
 pub record IsSplit (k : ℕ) (is_inside : Bool) (all inner outer : List Node) : Type 0 where
   pub insides : node_at k inner ≡ (if is_inside then node_at k all else None)
   pub others : node_at k outer ≡ (if is_inside then None else node_at k all)

@@ -11,15 +11,19 @@ use Rattle.p9_tree.specs.Forest.{tree_changed_at}
 use Rattle.p9_tree.specs.Inside.{inner, outer}
 use Rattle.p9_inside.specs.Changes.{with_new}
 
+-- no right
 abbrev pub no_rights : Rights
 no_rights = record { read = false; write = false; execute = false }
 
+-- rw-
 abbrev pub read_and_write : Rights
 read_and_write = record { read = true; write = true; execute = false }
 
-abbrev pub given : Rights → Rights → Permissions
-given owner others = record { owner = owner; group = others; others = others }
+-- the owner's rights, and those of the group and of all others
+abbrev pub permissions_of : Rights → Rights → Permissions
+permissions_of owner others = record { owner = owner; group = others; others = others }
 
+-- a file without flags
 abbrev pub plain_file : Kind
 plain_file = File (record { append_only = false; exclusive = false; temporary = false })
 
@@ -39,12 +43,15 @@ made number parent name kind permissions bytes = record {
   bytes = bytes;
 }
 
+-- a directory, in the parent
 abbrev pub dir : ℕ → ℕ → List ℕ → Permissions → Node
 dir number parent name permissions = made number (Some parent) name Directory permissions []
 
+-- the root of a server
 abbrev pub root : Permissions → Node
 root permissions = made 0 None root_name Directory permissions []
 
+-- one server, of these nodes
 abbrev pub alone : List Node → ℕ → List Server
 alone nodes next = record { nodes = nodes; next = next } ∷ []
 
@@ -55,16 +62,17 @@ hidden = record { server = 0; number = 2 } ∷ []
 -- A hidden directory with a file in it, beside a public one.
 
 abbrev pub vault_root : Node
-vault_root = root (given all_rights read_and_search)
+vault_root = root (permissions_of all_rights read_and_search)
 
 abbrev pub vault_pub : Node
-vault_pub = dir 1 0 (codes "pub") (given all_rights all_rights)
+vault_pub = dir 1 0 (codes "pub") (permissions_of all_rights all_rights)
 
 abbrev pub vault : Node
-vault = dir 2 0 (codes "vault") (given no_rights no_rights)
+vault = dir 2 0 (codes "vault") (permissions_of no_rights no_rights)
 
 abbrev pub vault_key : Node
-vault_key = made 3 (Some 2) (codes "key") plain_file (given read_and_write no_rights) (1 ∷ [])
+vault_key =
+    made 3 (Some 2) (codes "key") plain_file (permissions_of read_and_write no_rights) (1 ∷ [])
 
 abbrev pub vault_world : List Server
 vault_world = alone (vault_root ∷ vault_pub ∷ vault ∷ vault_key ∷ []) 4
@@ -78,17 +86,17 @@ VaultOthers = outer hidden vault_world ≡ alone (vault_root ∷ vault_pub ∷ v
 -- A hidden directory of all rights, which a bind is to cover.
 
 abbrev pub covered_root : Node
-covered_root = root (given all_rights all_rights)
+covered_root = root (permissions_of all_rights all_rights)
 
 abbrev pub covered_empty : Node
-covered_empty = dir 1 0 (codes "empty") (given all_rights read_and_search)
+covered_empty = dir 1 0 (codes "empty") (permissions_of all_rights read_and_search)
 
 abbrev pub covered_vault : Node
-covered_vault = dir 2 0 (codes "vault") (given all_rights all_rights)
+covered_vault = dir 2 0 (codes "vault") (permissions_of all_rights all_rights)
 
 abbrev pub covered_key : Node
 covered_key =
-    made 3 (Some 2) (codes "key") plain_file (given read_and_write read_and_write) (1 ∷ [])
+    made 3 (Some 2) (codes "key") plain_file (permissions_of read_and_write read_and_write) (1 ∷ [])
 
 abbrev pub covered_vault_world : List Server
 covered_vault_world =
@@ -98,14 +106,14 @@ abbrev pub CoveredVaultInsides : Type 0
 CoveredVaultInsides = inner hidden covered_vault_world ≡ (covered_key ∷ []) ∷ []
 
 -- The same world after its key and its vault were removed, and a directory with a file was made.
--- The node that stands at place 2 of the list is now another.
+-- The node at position 2 of the list is now another.
 
 abbrev pub new_dir : ℕ → Node
-new_dir number = dir number 1 (codes "new") (given all_rights read_and_search)
+new_dir number = dir number 1 (codes "new") (permissions_of all_rights read_and_search)
 
 abbrev pub new_file : ℕ → Node
 new_file number =
-    made number (Some 4) (codes "f") plain_file (given read_and_write read_and_write) []
+    made number (Some 4) (codes "f") plain_file (permissions_of read_and_write read_and_write) []
 
 abbrev pub after_removal : List Server
 after_removal =
@@ -120,10 +128,10 @@ RemovedInsides = inner hidden after_removal ≡ [] ∷ []
 -- A directory inside the hidden one, which a bind is to show elsewhere.
 
 abbrev pub bound_in : Node
-bound_in = dir 3 2 (codes "in") (given all_rights read_and_search)
+bound_in = dir 3 2 (codes "in") (permissions_of all_rights read_and_search)
 
 abbrev pub bound_u : Node
-bound_u = dir 1 0 (codes "u") (given all_rights read_and_search)
+bound_u = dir 1 0 (codes "u") (permissions_of all_rights read_and_search)
 
 abbrev pub bound_inside_world : List Server
 bound_inside_world = alone (vault_root ∷ bound_u ∷ vault ∷ bound_in ∷ []) 4
@@ -134,10 +142,10 @@ BoundInsideInsides = inner hidden bound_inside_world ≡ (bound_in ∷ []) ∷ [
 -- A tree inside, and a server on which nothing is hidden.
 
 abbrev pub deep_file : Node
-deep_file = made 4 (Some 3) (codes "f") plain_file (given read_and_write no_rights) []
+deep_file = made 4 (Some 3) (codes "f") plain_file (permissions_of read_and_write no_rights) []
 
 abbrev pub deep_open : Node
-deep_open = dir 5 0 (codes "open") (given all_rights all_rights)
+deep_open = dir 5 0 (codes "open") (permissions_of all_rights all_rights)
 
 abbrev pub deep_world : List Server
 deep_world =

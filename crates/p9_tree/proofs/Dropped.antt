@@ -8,7 +8,7 @@ use Rattle.std.proofs.lemmas.List.Quantifiers.{all_pairs_remove}
 use Rattle.p9_tree.specs.Node.{Node, has_number}
 use Rattle.p9_tree.specs.Server.{Server, node_at, is_dir_at, has_children, WellFormed, dropped_at}
 use Rattle.p9_tree.specs.Server.{with_nodes, with_dropped}
-use Rattle.p9_tree.proofs.Lookups.{node_at-before, place_within, remove-dropped_at, rising_head}
+use Rattle.p9_tree.proofs.Lookups.{node_at-before, position_within, remove-dropped_at, rising_head}
 use Rattle.p9_tree.proofs.Lookups.{rising_tail}
 
 All-dropped_at : (P : Node → Type 0) (k : ℕ) (xs : List Node) → All P xs → All P (dropped_at k xs)
@@ -39,7 +39,7 @@ no_parent k j p [] n none e in_p same = cc
 no_parent k j p (x ∷ xs) n none e in_p same = grind (arith, nat_tests, no_parent k j p xs n)
 
 module _ (s : Server) (k i : ℕ) (w : WellFormed s)
-    (place : position (has_number k) s.nodes ≡ Some i) (not_root : k ≢ 0)
+    (found : position (has_number k) s.nodes ≡ Some i) (not_root : k ≢ 0)
     (empty : IsFalse (has_children k s.nodes)) where
   stays : (j : ℕ) (n : Node) → node_at j (dropped_at k s.nodes) ≡ Some n
       → node_at j s.nodes ≡ Some n
@@ -52,8 +52,8 @@ module _ (s : Server) (k i : ℕ) (w : WellFormed s)
   rising_stays : AllPairs (λ m n. m.number < n.number) (dropped_at k s.nodes)
   rising_stays =
       subst (AllPairs (λ m n. m.number < n.number))
-      (remove-dropped_at k s.nodes (remove s.nodes i) i place refl)
-      (all_pairs_remove (λ m n. m.number < n.number) s.nodes i (place_within k s.nodes i place).1
+      (remove-dropped_at k s.nodes (remove s.nodes i) i found refl)
+      (all_pairs_remove (λ m n. m.number < n.number) s.nodes i (position_within k s.nodes i found).1
       w.rising)
 
   WellFormed-dropped : WellFormed (with_dropped k s)
@@ -73,4 +73,4 @@ module _ (s : Server) (k i : ℕ) (w : WellFormed s)
 
   pub WellFormed-remove : WellFormed (with_nodes s (remove s.nodes i))
   WellFormed-remove =
-      rw (remove-dropped_at k s.nodes (remove s.nodes i) i place refl) WellFormed-dropped
+      rw (remove-dropped_at k s.nodes (remove s.nodes i) i found refl) WellFormed-dropped

@@ -8,7 +8,7 @@ use Rattle.std.proofs.lemmas.Bool.{lt-ltb, le-ltb, cases_lt}
 use Rattle.std.proofs.lemmas.List.Folds.{find_at}
 use Rattle.std.proofs.lemmas.Option.{slice_get_read}
 use Rattle.std.proofs.lemmas.Bool.Decides.{nat_tests}
-use Rattle.std.proofs.lemmas.List.Elements.{All-head, All-tail}
+use Rattle.std.proofs.lemmas.List.Elements.{All-cons, All-head, All-nil, All-tail, All-weaker}
 use Rattle.p9_tree.specs.Node.{Node, has_number}
 use Rattle.p9_tree.specs.Server.{exists_at, node_at, changed_at, dropped_at}
 
@@ -52,6 +52,23 @@ pub rising_tail : (x : Node) (xs : List Node) → AllPairs (λ m n. m.number < n
     → AllPairs (λ m n. m.number < n.number) xs
 rising_tail x xs rising i j d lt in_range = rising (suc i) (suc j) d (omega arith) (omega arith)
 
+-- a node that is found behind the first is found among all
+pub node_at-later : (x : Node) (xs : List Node) → All (λ n. x.number < n.number) xs → (k : ℕ)
+    (n : Node) → node_at k xs ≡ Some n → node_at k (x ∷ xs) ≡ Some n
+node_at-later x xs above k n e =
+    let none : node_at x.number xs ≡ None = node_at-before x.number xs above in
+    grind (arith, nat_tests)
+
+-- each of the nodes is found by its number
+pub each_found : (xs : List Node) → AllPairs (λ m n. m.number < n.number) xs
+    → All (λ n. node_at n.number xs ≡ Some n) xs
+each_found [] rising = All-nil (λ n. node_at n.number [] ≡ Some n)
+each_found (x ∷ xs) rising =
+    All-cons (λ n. node_at n.number (x ∷ xs) ≡ Some n) x xs (grind (arith, nat_tests))
+    (All-weaker (λ n. node_at n.number xs ≡ Some n) (λ n. node_at n.number (x ∷ xs) ≡ Some n)
+    (λ n e. node_at-later x xs (rising_head x xs rising) n.number n e) xs
+    (each_found xs (rising_tail x xs rising)))
+
 -- a node that a look-up finds is one that it looks for
 pub passes-found : (p : Node → Bool) (xs : List Node) (n : Node) → find p xs ≡ Some n → p n ≡ true
 passes-found p [] n e = absurd (cc)
@@ -77,27 +94,28 @@ node_at-found p (x ∷ xs) n rising e =
     ] e
 
 module _ (k : ℕ) (xs : List Node) where
-  -- the place of the number is within the list
-  pub place_within : (i : ℕ) → position (has_number k) xs ≡ Some i
+  -- the position of the number is within the list
+  pub position_within : (i : ℕ) → position (has_number k) xs ≡ Some i
       → (i ≡ position_or_len (has_number k) xs) × (i < length xs)
-  place_within i e = elim (cases_lt (position_or_len (has_number k) xs) (length xs)) [
+  position_within i e = elim (cases_lt (position_or_len (has_number k) xs) (length xs)) [
     | inl lt ↦ (let t = lt-ltb _ _ lt in let same : i ≡ position_or_len (has_number k) xs = cc in
         (same, omega arith))
     | inr ge ↦ (let t = le-ltb _ _ ge in absurd (cc))
   ]
 
-  -- the number has no place
-  pub place_past : position (has_number k) xs ≡ None → length xs ≤ position_or_len (has_number k) xs
-  place_past e = elim (cases_lt (position_or_len (has_number k) xs) (length xs)) [
+  -- the number has no position
+  pub position_past : position (has_number k) xs ≡ None
+      → length xs ≤ position_or_len (has_number k) xs
+  position_past e = elim (cases_lt (position_or_len (has_number k) xs) (length xs)) [
     | inl lt ↦ (let t = lt-ltb _ _ lt in absurd (cc))
     | inr ge ↦ ge
   ]
 
-  -- the node at the number's place is the one that a look-up finds
+  -- the node at the number's position is the one that a look-up finds
   pub node_at-position : (i : ℕ) (n : Node) → position (has_number k) xs ≡ Some i
       → n ≡ get_or xs i n → node_at k xs ≡ Some n
   node_at-position i n e read =
-      let at = place_within i e in
+      let at = position_within i e in
       find_at (has_number k) xs ∙ ap (λ q. slice_get xs q) (sym at.0)
       ∙ slice_get_read xs (length xs) i n refl at.1 read
 
@@ -117,7 +135,7 @@ pub set-changed_at : (k : ℕ) (f : Node → Node) (xs : List Node) (i : ℕ) (n
     → position (has_number k) xs ≡ Some i → n ≡ get_or xs i n → y ≡ f n
     → set xs i y ≡ changed_at k f xs
 set-changed_at k f xs i n y e read new =
-    let at = place_within k xs i e in
+    let at = position_within k xs i e in
     ap (λ z. set xs i z) new ∙ ap (λ q. set xs q (f n)) at.0
     ∙ set-changed_here k f xs n (subst (λ q. q < length xs) at.0 at.1)
     (read ∙ ap (λ q. get_or xs q n) at.0)
@@ -130,7 +148,7 @@ absent-changed_here k f (x ∷ xs) ge = grind (arith, nat_tests, absent-changed_
 
 pub absent-changed_at : (k : ℕ) (f : Node → Node) (xs : List Node)
     → position (has_number k) xs ≡ None → xs ≡ changed_at k f xs
-absent-changed_at k f xs e = absent-changed_here k f xs (place_past k xs e)
+absent-changed_at k f xs e = absent-changed_here k f xs (position_past k xs e)
 
 -- taking out the node of a number drops it
 remove-dropped_here : (k : ℕ) (xs : List Node) → position_or_len (has_number k) xs < length xs
@@ -144,7 +162,7 @@ remove-dropped_here k (x ∷ xs) lt =
 pub remove-dropped_at : (k : ℕ) (xs ys : List Node) (i : ℕ) → position (has_number k) xs ≡ Some i
     → ys ≡ remove xs i → ys ≡ dropped_at k xs
 remove-dropped_at k xs ys i e rest =
-    let at = place_within k xs i e in
+    let at = position_within k xs i e in
     rest ∙ ap (λ q. remove xs q) at.0
     ∙ remove-dropped_here k xs (subst (λ q. q < length xs) at.0 at.1)
 
@@ -156,4 +174,4 @@ absent-dropped_here k (x ∷ xs) ge = grind (arith, nat_tests, absent-dropped_he
 
 pub absent-dropped_at : (k : ℕ) (xs : List Node) → position (has_number k) xs ≡ None
     → xs ≡ dropped_at k xs
-absent-dropped_at k xs e = absent-dropped_here k xs (place_past k xs e)
+absent-dropped_at k xs e = absent-dropped_here k xs (position_past k xs e)

@@ -15,7 +15,7 @@ abbrev pub overwritten : ℕ → List ℕ → List ℕ → List ℕ
 overwritten offset bytes old =
     take offset (padded offset old) ++ bytes ++ drop (offset + length bytes) old
 
--- at most the first bytes
+-- the first bytes, so many or all where they are fewer
 abbrev pub cut_to : ℕ → List ℕ → List ℕ
 cut_to size old = take size old
 

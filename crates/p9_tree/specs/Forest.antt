@@ -9,12 +9,13 @@ use Rattle.p9_tree.specs.Server.{is_dir_at, node_at, with_changed}
 abbrev pub no_server : Server
 no_server = record { nodes = []; next = 0 }
 
+-- the server of the number, or one without nodes
 abbrev pub server_at : ℕ → List Server → Server
 server_at server forest = unwrap_or (slice_get forest server) no_server
 
 -- the node, by its server's number and its own
 abbrev pub node_of : NodeRef → List Server → Option Node
-node_of r forest = node_at r.number (server_at r.server forest).nodes
+node_of at forest = node_at at.number (server_at at.server forest).nodes
 
 -- the node of the name in the directory
 abbrev pub child_in : NodeRef → List ℕ → List Server → Option Node
@@ -30,14 +31,15 @@ next_of server forest = (server_at server forest).next
 
 -- whether it is a directory that exists
 abbrev pub is_dir_of : NodeRef → List Server → Bool
-is_dir_of r forest = is_dir_at r.number (server_at r.server forest).nodes
+is_dir_of at forest = is_dir_at at.number (server_at at.server forest).nodes
 
+-- whether a node stands in the directory
 abbrev pub has_children_of : NodeRef → List Server → Bool
 has_children_of dir forest = has_children dir.number (server_at dir.server forest).nodes
 
 -- the file's bytes; none where there is no such file
 abbrev pub bytes_of : NodeRef → List Server → List ℕ
-bytes_of r forest = bytes_at r.number (server_at r.server forest).nodes
+bytes_of at forest = bytes_at at.number (server_at at.server forest).nodes
 
 -- one server is changed, if it is there
 abbrev pub tree_changed_at : ℕ → (Server → Server) → List Server → List Server
@@ -45,7 +47,7 @@ tree_changed_at server change forest = slice_set forest server (change (server_a
 
 -- one node is changed, if it is there
 abbrev pub forest_changed_at : NodeRef → (Node → Node) → List Server → List Server
-forest_changed_at r f forest = tree_changed_at r.server (with_changed r.number f) forest
+forest_changed_at at f forest = tree_changed_at at.server (with_changed at.number f) forest
 
 -- each server is well-formed
 pub record IsForest (forest : List Server) : Type 0 where

@@ -27,11 +27,13 @@ pub record Node : Type 0 where
 abbrev pub root_name : List ℕ
 root_name = codes "/"
 
+-- whether it is a directory
 abbrev pub is_dir : Node → Bool
 is_dir n = is_dir_mode n.mode
 
+-- its number is this one
 abbrev pub has_number : ℕ → Node → Bool
-has_number k n = n.number == k
+has_number number n = n.number == number
 
 -- it stands in the directory
 abbrev pub is_in : ℕ → Node → Bool
@@ -47,18 +49,21 @@ is_above floor n = option_map_or (λ k. nat_lt k n.number) floor true
 
 -- What a stat tells of a node has room in it.
 
+-- its owner, its group and who changed it last are users
 abbrev pub HasUsers : Node → Type 0
 HasUsers n = IsTrue (is_user n.uid) × IsTrue (is_user n.gid) × IsTrue (is_user n.muid)
 
+-- its version and its times have 32 bits
 abbrev pub HasNumbers : Node → Type 0
 HasNumbers n = (n.version < 2 ^ 32) × (n.atime < 2 ^ 32) × (n.mtime < 2 ^ 32)
 
+-- a stat can tell them all
 abbrev pub IsTellable : Node → Type 0
 IsTellable n = HasUsers n × HasNumbers n
 
 -- Changes of a node.
 
--- after a change of the file, or of the directory's entries, by the user
+-- marked as changed by the user now, a file's bytes or a directory's entries
 abbrev pub marked : List ℕ → ℕ → Node → Node
 marked user now n = record n {
   muid = user;
@@ -80,5 +85,6 @@ with_owner permissions uid gid n = record n {
   muid = uid;
 }
 
+-- with what the function makes of its bytes
 abbrev pub with_bytes : (List ℕ → List ℕ) → Node → Node
 with_bytes f n = record n { bytes = f n.bytes }

@@ -23,7 +23,7 @@ pub record Server : Type 0 where
 
 -- the node of the number
 abbrev pub node_at : ℕ → List Node → Option Node
-node_at k nodes = find (has_number k) nodes
+node_at number nodes = find (has_number number) nodes
 
 -- the node of the name in the directory
 abbrev pub child_of : ℕ → List ℕ → List Node → Option Node
@@ -33,15 +33,17 @@ child_of dir name nodes = find (is_child dir name) nodes
 abbrev pub child_after : ℕ → Option ℕ → List Node → Option Node
 child_after dir floor nodes = find (λ n. is_in dir n && is_above floor n) nodes
 
+-- whether there is a node of the number
 abbrev pub exists_at : ℕ → List Node → Bool
-exists_at k nodes = is_some (node_at k nodes)
+exists_at number nodes = is_some (node_at number nodes)
 
+-- whether it is a directory that exists
 abbrev pub is_dir_at : ℕ → List Node → Bool
-is_dir_at k nodes = option_map_or is_dir (node_at k nodes) false
+is_dir_at number nodes = option_map_or is_dir (node_at number nodes) false
 
 -- the file's bytes; none where there is no such file
 abbrev pub bytes_at : ℕ → List Node → List ℕ
-bytes_at k nodes = option_map_or (λ n. n.bytes) (node_at k nodes) []
+bytes_at number nodes = option_map_or (λ n. n.bytes) (node_at number nodes) []
 
 -- whether a node stands in the directory
 abbrev pub has_children : ℕ → List Node → Bool
@@ -58,6 +60,8 @@ pub record IsSound (n : Node) : Type 0 where
   pub root_name : n.parent ≡ None → n.name ≡ root_name
   pub tellable : IsTellable n
 
+-- numbers rise, and lie below the next; node 0 is a directory, and the only node without a parent;
+-- each other stands in a directory of smaller number, where no other has its name
 pub record WellFormed (s : Server) : Type 0 where
   pub few : s.next ≤ next_max
   pub rising : AllPairs (λ m n. m.number < n.number) s.nodes
@@ -82,9 +86,11 @@ pub record CanAdd (s : Server) (dir : ℕ) (n : Node) : Type 0 where
 
 -- A new server.
 
+-- rwx
 abbrev pub all_rights : Rights
 all_rights = record { read = true; write = true; execute = true }
 
+-- r-x
 abbrev pub read_and_search : Rights
 read_and_search = record { read = true; write = false; execute = true }
 
@@ -95,6 +101,7 @@ root_mode = record {
   permissions = record { owner = all_rights; group = read_and_search; others = read_and_search };
 }
 
+-- its root belongs to sys
 abbrev pub root_node : Node
 root_node = record {
   number = 0;
@@ -116,24 +123,27 @@ rooted = record { nodes = root_node ∷ []; next = 1 }
 
 -- Changes.
 
+-- these nodes in the place of its own
 abbrev pub with_nodes : Server → List Node → Server
 with_nodes s nodes = record { nodes = nodes; next = s.next }
 
 -- the node of the number is changed
 abbrev pub changed_at : ℕ → (Node → Node) → List Node → List Node
-changed_at k f [] = []
-changed_at k f (n ∷ ns) = if has_number k n then f n ∷ ns else n ∷ changed_at k f ns
+changed_at number f [] = []
+changed_at number f (n ∷ ns) = if has_number number n then f n ∷ ns else n ∷ changed_at number f ns
 
 -- the node of the number is taken out
 abbrev pub dropped_at : ℕ → List Node → List Node
-dropped_at k [] = []
-dropped_at k (n ∷ ns) = if has_number k n then ns else n ∷ dropped_at k ns
+dropped_at number [] = []
+dropped_at number (n ∷ ns) = if has_number number n then ns else n ∷ dropped_at number ns
 
+-- the server with that node changed
 abbrev pub with_changed : ℕ → (Node → Node) → Server → Server
-with_changed k f s = with_nodes s (changed_at k f s.nodes)
+with_changed number f s = with_nodes s (changed_at number f s.nodes)
 
+-- the server without that node
 abbrev pub with_dropped : ℕ → Server → Server
-with_dropped k s = with_nodes s (dropped_at k s.nodes)
+with_dropped number s = with_nodes s (dropped_at number s.nodes)
 
 -- the node, whose number is the next, joins
 abbrev pub added : Server → Node → Server

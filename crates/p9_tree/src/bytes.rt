@@ -84,7 +84,7 @@ impl<A: Allocator> Bytes<A> {
         self.items[start..start + bytes.len()].copy_from_slice(bytes);
     }
 
-    /// Keeps at most the first bytes. This takes no memory.
+    /// Keeps the first `size` bytes, or all where they are fewer. This takes no memory.
     pub fn cut(&mut self, size: u64)
         ensures { self.new ≡ cut_to size self.old }
     {

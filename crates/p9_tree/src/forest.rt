@@ -121,7 +121,7 @@ impl<T: Tree> Forest<T> {
         Ok(())
     }
 
-    /// Marks the node: the user changed the file, or an entry of the directory, now.
+    /// Marks the node, as [`Tree::bump`].
     pub fn bump(&mut self, at: NodeRef, user: User, now: u32)
         ensures { map T.state self.new.trees.items
             ≡ forest_changed_at at (marked user now) (map T.state self.old.trees.items) }
@@ -161,7 +161,7 @@ impl<T: Tree> Forest<T> {
         Ok(())
     }
 
-    /// Keeps at most the first bytes of a file. It isn't marked.
+    /// Keeps the first `size` bytes of a file, or all where they are fewer. It isn't marked.
     pub fn cut(&mut self, at: NodeRef, size: u64)
         ensures { map T.state self.new.trees.items
             ≡ forest_changed_at at (with_bytes (cut_to size)) (map T.state self.old.trees.items) }

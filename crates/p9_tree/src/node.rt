@@ -117,7 +117,7 @@ impl<A: Allocator> Node<A> {
         &self.muid
     }
 
-    /// How often it was changed, modulo 2^32.
+    /// How often it was marked as changed, modulo 2^32: by each change of its bytes or its entries.
     pub fn version(&self) -> u32
         ensures { result ≡ self.now.version }
     {
@@ -202,7 +202,7 @@ impl<A: Allocator> Node<A> {
         Ok(node)
     }
 
-    /// Notes that the user changed the file, or an entry of the directory, now.
+    /// Marks it, as changed by the user now: see [`Tree`](crate::Tree).
     pub(crate) fn mark(&mut self, user: User, now: u32)
         ensures node { self.new ≡ marked user now self.old }
         ensures tellable { IsTellable self.new }
@@ -247,11 +247,20 @@ impl<A: Allocator> Node<A> {
         self.bytes.write(offset, bytes)
     }
 
-    /// Keeps at most the first of the file's bytes.
+    /// Keeps the first `size` of the file's bytes, or all where they are fewer.
     pub(crate) fn cut(&mut self, size: u64)
         ensures { self.new ≡ with_bytes (cut_to size) self.old }
     {
         self.bytes.cut(size);
+    }
+
+    /// Copies from the file's bytes into the buffer, as [`Bytes::read_into`].
+    pub(crate) fn read_into(&self, offset: u64, buffer: &mut [u8]) -> usize
+        ensures count { result ≡ length (read_from offset (length buffer.old) self.now.bytes) }
+        ensures filled { buffer.new
+            ≡ put_front (read_from offset (length buffer.old) self.now.bytes) buffer.old }
+    {
+        self.bytes.read_into(offset, buffer)
     }
 
     /// Makes all of the change. Where memory is refused, the node is as before.
@@ -317,14 +326,5 @@ impl<A: Allocator> Node<A> {
             prove!(valid_name(name.as_str()));
             entry.name = name;
         }
-    }
-
-    /// Copies from the file's bytes into the buffer, as [`Bytes::read_into`].
-    pub(crate) fn read_into(&self, offset: u64, buffer: &mut [u8]) -> usize
-        ensures count { result ≡ length (read_from offset (length buffer.old) self.now.bytes) }
-        ensures filled { buffer.new
-            ≡ put_front (read_from offset (length buffer.old) self.now.bytes) buffer.old }
-    {
-        self.bytes.read_into(offset, buffer)
     }
 }

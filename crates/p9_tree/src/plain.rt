@@ -69,7 +69,7 @@ impl<A: Allocator + Copy> Tree for PlainTree<A> {
     }
 
     fn set_root(&mut self, permissions: Permissions, uid: User, gid: User) {
-        if let Some(at) = self.place(0) {
+        if let Some(at) = self.position(0) {
             self.nodes[at].give(permissions, uid, gid);
         }
     }
@@ -83,39 +83,39 @@ impl<A: Allocator + Copy> Tree for PlainTree<A> {
     }
 
     fn drop_leaf(&mut self, number: u64) {
-        if let Some(at) = self.place(number) {
+        if let Some(at) = self.position(number) {
             let _ = self.nodes.remove(at);
         }
     }
 
     fn change(&mut self, number: u64, change: &Change) -> Result<(), NoMemory> {
-        if let Some(at) = self.place(number) {
+        if let Some(at) = self.position(number) {
             self.nodes[at].change(change)?;
         }
         Ok(())
     }
 
     fn bump(&mut self, number: u64, user: User, now: u32) {
-        if let Some(at) = self.place(number) {
+        if let Some(at) = self.position(number) {
             self.nodes[at].mark(user, now);
         }
     }
 
     fn touch(&mut self, number: u64, now: u32) {
-        if let Some(at) = self.place(number) {
+        if let Some(at) = self.position(number) {
             self.nodes[at].touch(now);
         }
     }
 
     fn write(&mut self, number: u64, offset: u64, bytes: &[u8]) -> Result<(), NoMemory> {
-        if let Some(at) = self.place(number) {
+        if let Some(at) = self.position(number) {
             self.nodes[at].write(offset, bytes)?;
         }
         Ok(())
     }
 
     fn cut(&mut self, number: u64, size: u64) {
-        if let Some(at) = self.place(number) {
+        if let Some(at) = self.position(number) {
             self.nodes[at].cut(size);
         }
     }
@@ -129,8 +129,8 @@ impl<A: Allocator + Copy> Tree for PlainTree<A> {
 }
 
 impl<A: Allocator + Copy> PlainTree<A> {
-    // Where the node of this number stands among all.
-    fn place(&self, number: u64) -> Option<usize>
+    // The position of the node of this number among all.
+    fn position(&self, number: u64) -> Option<usize>
         ensures { result ≡ position (has_number number) self.now.nodes.items }
     {
         self.nodes.iter().position(|n| n.number() == number)

@@ -28,6 +28,10 @@ pub const NEXT_MAX: u64 = 1 << 48;
 /// directory of smaller number for a parent, in which no other has its name; a file has at most
 /// [`FILE_MAX`] bytes, and a directory none.
 ///
+/// To *mark* a node is to note that a user has changed it now, a file's bytes or a directory's
+/// entries, as stat(5): the user becomes the one who changed it last, its version grows by 1 modulo
+/// 2^32, and both its times become the clock reading.
+///
 /// A call that names a number at which there is no node changes nothing. Only `add`, `change` and
 /// `write` take memory; where it is refused they answer so, and the tree is as before.
 pub trait Tree: Sized + Drop {
@@ -86,8 +90,7 @@ pub trait Tree: Sized + Drop {
         ensures err { OnErr result (state self.new ≡ state self.old) }
         ensures there { OnErr result (IsTrue (exists_at number (state self.old).nodes)) };
 
-    /// Marks the node: the user changed the file, or an entry of the directory, now. Its version
-    /// grows by 1 modulo 2^32, and both its times become the clock reading.
+    /// Marks the node, as changed by the user when the clock reads `now`.
     fn bump(&mut self, number: u64, user: User, now: u32)
         ensures { state self.new ≡ with_changed number (marked user now) (state self.old) };
 
@@ -105,7 +108,7 @@ pub trait Tree: Sized + Drop {
         ensures err { OnErr result (state self.new ≡ state self.old) }
         ensures there { OnErr result (IsTrue (exists_at number (state self.old).nodes)) };
 
-    /// Keeps at most the first bytes of a file. It isn't marked.
+    /// Keeps the first `size` bytes of a file, or all where they are fewer. It isn't marked.
     fn cut(&mut self, number: u64, size: u64)
         ensures { state self.new
             ≡ with_changed number (with_bytes (cut_to size)) (state self.old) };

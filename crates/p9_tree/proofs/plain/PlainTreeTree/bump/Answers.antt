@@ -11,7 +11,7 @@ invariant_of-self g c =
     record {
       well_formed =
           WellFormed-set c.args.number (marked c.args.user c.args.now) s _ _ _
-          (sym c.place.ensures ∙ c.in-Some.is) c.index_mut.ensures.value c.mark.ensures.node
+          (sym c.position.ensures ∙ c.in-Some.is) c.index_mut.ensures.value c.mark.ensures.node
           (keeps-marked _ _)
           (sound-marked _ _ _ (subst IsTellable c.mark.ensures.node c.mark.ensures.tellable))
           c.args.self.now.well_formed;
@@ -22,11 +22,11 @@ returns-in-Some g c =
     let s : Server = record { nodes = c.args.self.now.nodes.items; next = c.args.self.now.next } in
     ap (with_nodes s)
     (set-changed_at c.args.number (marked c.args.user c.args.now) _ _ _ _
-    (sym c.place.ensures ∙ c.in-Some.is) c.index_mut.ensures.value c.mark.ensures.node)
+    (sym c.position.ensures ∙ c.in-Some.is) c.index_mut.ensures.value c.mark.ensures.node)
 
 pub returns-in_default : goal.returns-in_default
 returns-in_default g c =
     let s : Server = record { nodes = c.args.self.now.nodes.items; next = c.args.self.now.next } in
     ap (with_nodes s)
     (absent-changed_at c.args.number (marked c.args.user c.args.now) _
-    (sym c.place.ensures ∙ c.in_default.is))
+    (sym c.position.ensures ∙ c.in_default.is))

@@ -15,14 +15,14 @@ change-requires-clause-named g c =
     let s : Server = record { nodes = c.args.self.now.nodes.items; next = c.args.self.now.next } in
     named s c.args.number c.args.change.now c.index_mut.result.now c.args.self.now.well_formed
     c.requires
-    (node_at-position c.args.number s.nodes _ _ (sym c.place.ensures ∙ c.in-Some.is)
+    (node_at-position c.args.number s.nodes _ _ (sym c.position.ensures ∙ c.in-Some.is)
     c.index_mut.ensures.value)
 
 pub change-requires-clause-small : goal.change-requires-clause-small
 change-requires-clause-small g c =
     let s : Server = record { nodes = c.args.self.now.nodes.items; next = c.args.self.now.next } in
     (c.requires c.index_mut.result.now
-    (node_at-position c.args.number s.nodes _ _ (sym c.place.ensures ∙ c.in-Some.is)
+    (node_at-position c.args.number s.nodes _ _ (sym c.position.ensures ∙ c.in-Some.is)
     c.index_mut.ensures.value)).small
 
 pub invariant_of-self : goal.invariant_of-self
@@ -30,7 +30,7 @@ invariant_of-self g c =
     let s : Server = record { nodes = c.args.self.now.nodes.items; next = c.args.self.now.next } in
     let n : Node = c.index_mut.result.now in
     let found : node_at c.args.number s.nodes ≡ Some n =
-    node_at-position c.args.number s.nodes _ _ (sym c.place.ensures ∙ c.in-Some.is)
+    node_at-position c.args.number s.nodes _ _ (sym c.position.ensures ∙ c.in-Some.is)
     c.index_mut.ensures.value in
     elim (both_or_kept c.change.result c.change.ensures.ok
     (both_done c.change.result _ _ c.change.ensures.name c.change.ensures.tellable)
@@ -38,7 +38,7 @@ invariant_of-self g c =
       | inl new ↦ record {
         well_formed =
             WellFormed-set_apart c.args.number (changed c.args.change.now) s _ _ _
-            (sym c.place.ensures ∙ c.in-Some.is) c.index_mut.ensures.value new.0
+            (sym c.position.ensures ∙ c.in-Some.is) c.index_mut.ensures.value new.0
             (keeps-changed c.args.change.now)
             (sound-changed s n c.args.change.now (c.requires n found) new.1.0
             (named s c.args.number c.args.change.now n c.args.self.now.well_formed c.requires found)
@@ -48,7 +48,7 @@ invariant_of-self g c =
       }
       | inr same ↦ record {
         well_formed =
-            WellFormed-set_same c.args.number s _ _ _ (sym c.place.ensures ∙ c.in-Some.is)
+            WellFormed-set_same c.args.number s _ _ _ (sym c.position.ensures ∙ c.in-Some.is)
             c.index_mut.ensures.value same c.args.self.now.well_formed;
       }
     ]
@@ -58,18 +58,18 @@ returns-in_ok-change-clause-ok g c =
     let s : Server = record { nodes = c.args.self.now.nodes.items; next = c.args.self.now.next } in
     ap (with_nodes s)
     (set-changed_at c.args.number (changed c.args.change.now) _ _ _ _
-    (sym c.place.ensures ∙ c.in-Some.is) c.index_mut.ensures.value c.in_ok-change.ensures.ok)
+    (sym c.position.ensures ∙ c.in-Some.is) c.index_mut.ensures.value c.in_ok-change.ensures.ok)
 
 pub returns-in_default-clause-ok : goal.returns-in_default-clause-ok
 returns-in_default-clause-ok g c =
     let s : Server = record { nodes = c.args.self.now.nodes.items; next = c.args.self.now.next } in
     ap (with_nodes s)
     (absent-changed_at c.args.number (changed c.args.change.now) _
-    (sym c.place.ensures ∙ c.in_default.is))
+    (sym c.position.ensures ∙ c.in_default.is))
 
 pub returns-in_err-change-clause-there : goal.returns-in_err-change-clause-there
 returns-in_err-change-clause-there g c =
     let p = err_from_is_err_and c.from_residual.result c.from_residual.ensures.1 in
     rw p.1
-    (exists-position c.args.number _ _ _ (sym c.place.ensures ∙ c.in-Some.is)
+    (exists-position c.args.number _ _ _ (sym c.position.ensures ∙ c.in-Some.is)
     c.index_mut.ensures.value)

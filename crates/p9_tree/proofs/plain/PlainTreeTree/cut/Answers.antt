@@ -12,7 +12,7 @@ invariant_of-self g c =
     record {
       well_formed =
           WellFormed-set c.args.number (with_bytes (cut_to c.args.size)) s _ _ _
-          (sym c.place.ensures ∙ c.in-Some.is) c.index_mut.ensures.value c.cut.ensures
+          (sym c.position.ensures ∙ c.in-Some.is) c.index_mut.ensures.value c.cut.ensures
           (keeps-with_bytes _) (sound-cut_to c.args.size _) c.args.self.now.well_formed;
     }
 
@@ -21,11 +21,11 @@ returns-in-Some g c =
     let s : Server = record { nodes = c.args.self.now.nodes.items; next = c.args.self.now.next } in
     ap (with_nodes s)
     (set-changed_at c.args.number (with_bytes (cut_to c.args.size)) _ _ _ _
-    (sym c.place.ensures ∙ c.in-Some.is) c.index_mut.ensures.value c.cut.ensures)
+    (sym c.position.ensures ∙ c.in-Some.is) c.index_mut.ensures.value c.cut.ensures)
 
 pub returns-in_default : goal.returns-in_default
 returns-in_default g c =
     let s : Server = record { nodes = c.args.self.now.nodes.items; next = c.args.self.now.next } in
     ap (with_nodes s)
     (absent-changed_at c.args.number (with_bytes (cut_to c.args.size)) _
-    (sym c.place.ensures ∙ c.in_default.is))
+    (sym c.position.ensures ∙ c.in_default.is))

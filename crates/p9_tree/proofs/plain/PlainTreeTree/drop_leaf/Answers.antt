@@ -11,7 +11,7 @@ invariant_of-self g c =
       well_formed =
           rw c.remove.ensures.items
           (WellFormed-remove s c.args.number c.in-Some.at c.args.self.now.well_formed
-          (sym c.place.ensures ∙ c.in-Some.is) c.requires.not_root c.requires.empty);
+          (sym c.position.ensures ∙ c.in-Some.is) c.requires.not_root c.requires.empty);
     }
 
 pub returns-in-Some : goal.returns-in-Some
@@ -19,9 +19,9 @@ returns-in-Some g c =
     let s : Server = record { nodes = c.args.self.now.nodes.items; next = c.args.self.now.next } in
     ap (with_nodes s)
     (remove-dropped_at c.args.number s.nodes c.remove.new.self.items c.in-Some.at
-    (sym c.place.ensures ∙ c.in-Some.is) c.remove.ensures.items)
+    (sym c.position.ensures ∙ c.in-Some.is) c.remove.ensures.items)
 
 pub returns-in_default : goal.returns-in_default
 returns-in_default g c =
     let s : Server = record { nodes = c.args.self.now.nodes.items; next = c.args.self.now.next } in
-    ap (with_nodes s) (absent-dropped_at c.args.number _ (sym c.place.ensures ∙ c.in_default.is))
+    ap (with_nodes s) (absent-dropped_at c.args.number _ (sym c.position.ensures ∙ c.in_default.is))
