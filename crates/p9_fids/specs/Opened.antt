@@ -10,6 +10,7 @@ reads Write = false
 reads ReadWrite = true
 reads Execute = true
 
+-- what may be executed may not be written
 abbrev pub writes : OpenMode → Bool
 writes Read = false
 writes Write = true

@@ -50,21 +50,18 @@ impl<A: Allocator + Copy> FidTable<A> {
         self.fids.len()
     }
 
-    /// The fid of this number.
+    /// The fid of this number, or `None` where there is none.
     pub fn get(&self, fid: u32) -> Option<&Fid<A>>
         ensures { option_copied result ≡ fid_at fid self.now }
     {
         self.fids.get(&fid)
     }
 
-    /// The least fid.
+    /// The least number of a fid.
     pub fn first(&self) -> Option<u32>
         ensures { result ≡ option_map (λ row. row.0) (slice_get self.now 0) }
     {
-        match self.fids.first_key_value() {
-            Some((fid, _)) => Some(*fid),
-            None => None,
-        }
+        self.fids.first_key_value().map(|(fid, _)| *fid)
     }
 
     /// Why this fid can't be added: [`NOFID`] is [`Fault::UnknownFid`]; a fid that is there,
@@ -86,9 +83,9 @@ impl<A: Allocator + Copy> FidTable<A> {
 
     /// Adds a fid, unless [`FidTable::put_fault`] tells why not, or memory is refused, which is
     /// [`Fault::OutOfMemory`]. A refusal leaves the fids, and drops the new one.
-    pub fn put(&mut self, fid: u32, value: Fid<A>) -> Result<(), Fault>
+    pub fn put(&mut self, fid: u32, held: Fid<A>) -> Result<(), Fault>
         ensures ok { OnOk result ((put_fault fid self.old ≡ None) × (self.new
-            ≡ with_fid fid value self.old)) }
+            ≡ with_fid fid held self.old)) }
         ensures err { IfErr result (λ fault. (put_fault fid self.old ≡ Some fault)
             ⊎ ((put_fault fid self.old ≡ None) × (fault ≡ OutOfMemory))) }
         ensures unchanged { OnErr result (self.new ≡ self.old) }
@@ -96,11 +93,11 @@ impl<A: Allocator + Copy> FidTable<A> {
         if let Some(fault) = self.put_fault(fid) {
             return Err(fault);
         }
-        self.fids.insert(fid, value)?;
+        self.fids.insert(fid, held)?;
         Ok(())
     }
 
-    /// Ends a fid, and gives what it was.
+    /// Ends a fid, and gives what it was, or `None` where there is none. The others stay.
     pub fn take(&mut self, fid: u32) -> Option<Fid<A>>
         ensures value { result ≡ fid_at fid self.old }
         ensures after { self.new ≡ without_fid fid self.old }
@@ -108,22 +105,22 @@ impl<A: Allocator + Copy> FidTable<A> {
         self.fids.remove(&fid)
     }
 
-    /// Makes a fid stand where the trail leads.
+    /// Makes a fid stand where the trail leads. What it is open for stays.
     pub fn move_to(&mut self, fid: u32, trail: Trail<A>)
         requires { IsSome (fid_at fid self.old) }
         ensures { self.new ≡ changed_fid fid (trailed trail) self.old }
     {
-        let value = self.fids.get_mut(&fid).unwrap();
-        value.trail = trail;
+        let held = self.fids.get_mut(&fid).unwrap();
+        held.trail = trail;
     }
 
-    /// Says what a fid is open for.
+    /// Says what a fid is open for, whatever it was open for. It stands where it stood.
     pub fn set_opened(&mut self, fid: u32, opened: Opened)
         requires { IsSome (fid_at fid self.old) }
         ensures { self.new ≡ changed_fid fid (opened_as opened) self.old }
     {
-        let value = self.fids.get_mut(&fid).unwrap();
-        value.opened = Some(opened);
+        let held = self.fids.get_mut(&fid).unwrap();
+        held.opened = Some(opened);
     }
 
     /// How many open fids have the node as their file: the first member of the place where their

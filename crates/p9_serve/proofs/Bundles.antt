@@ -13,6 +13,7 @@ use Rattle.p9_serve.specs.declared.bundle.BundleError.TheVariants.{BadBundle, No
 abbrev pub numbered_line : ℕ × Bor (List ℕ) → ℕ × List ℕ
 numbered_line numbered = (numbered.0, numbered.1.now)
 
+-- the numbers are the same for references and for what they point to
 map-enumerate_from : (n : ℕ) (items : List (Bor (List ℕ)))
     → map numbered_line (enumerate_from n items) ≡ enumerate_from n (map (λ line. line.now) items)
 map-enumerate_from n [] = refl
@@ -20,14 +21,17 @@ map-enumerate_from n (x ∷ xs) = ap (λ rest. (n, x.now) ∷ rest) (map-enumera
 
 module _ (items : List (Bor (List ℕ))) (lines : List (List ℕ))
     (same : map (λ line. line.now) items ≡ lines) (reading : Reading) (i : ℕ) where
+  -- the lines by reference are the lines, each with its number
   numbered_same : map numbered_line (enumerate_from 1 items) ≡ enumerate_from 1 lines
   numbered_same = map-enumerate_from 1 items ∙ ap (enumerate_from 1) same
 
+  -- the line at a position has the number behind it
   numbered_at : (d : Bor (List ℕ)) → i < length items
       → (i + 1, get_or items i d) ≡ get_or (enumerate_from 1 items) i (0, d)
   numbered_at d l =
       ap (λ k. (k, get_or items i d)) (omega arith) ∙ sym (get_or-enumerate_from 1 items i (0, d) l)
 
+  -- numbered lines are as many
   numbered_below : i < length items → i < length (enumerate_from 1 items)
   numbered_below l = omega (arith, length-enumerate_from 1 items)
 

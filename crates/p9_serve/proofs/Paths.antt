@@ -59,11 +59,13 @@ flat_map-now : (names : List (Bor (List ℕ)))
 flat_map-now [] = refl
 flat_map-now (n ∷ ns) = ap (λ rest. (codes "/" ++ n.now) ++ rest) (flat_map-now ns)
 
+-- one name or more
 pub rooted_path-names : (names : List (Bor (List ℕ))) → 0 < length names
     → rooted_path (map (λ n. n.now) names) ≡ flat_map (λ n. codes "/" ++ n.now) names
 rooted_path-names [] some = absurd (omega arith)
 rooted_path-names (n ∷ ns) some = sym (flat_map-now (n ∷ ns))
 
+-- no name
 pub rooted_path-none : (names : List (Bor (List ℕ))) → names ≡ []
     → rooted_path (map (λ n. n.now) names) ≡ codes "/"
 rooted_path-none names none = ap (λ ns. rooted_path (map (λ n. n.now) ns)) none

@@ -79,6 +79,7 @@ on_ok (Err e) follows holds = holds
 
 -- Each event, as the exporter's calls tell of it. What a step does is not looked into.
 
+-- a frame that fits gets its reply
 replied-if : (fits : Bool) (after : Stepped) (otherwise : Played) → fits ≡ true
     → (if fits then replied after else otherwise) ≡ replied after
 replied-if fits after otherwise is = ap (λ test. if test then replied after else otherwise) is

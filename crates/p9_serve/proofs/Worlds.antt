@@ -10,9 +10,11 @@ use Rattle.p9_world.specs.declared.error.LineFault.TheVariants.{NoServer}
 use Rattle.p9_world.specs.Reading.{read_statement, with_a_server, world_of}
 use Rattle.p9_world.specs.World.{World, empty_world}
 
+-- a text that makes no server
 no_server : Result World (ℕ × LineFault)
 no_server = Err (0, NoServer)
 
+-- what the lines made is a world only where it has a server
 made-some : (made : Result World (ℕ × LineFault)) (world : World)
     → and_then made with_a_server ≡ Ok world → 0 < length world.servers
 unfolding no_server
@@ -27,6 +29,7 @@ made-some (Ok made) world is = by (nat_lt 0 (length made.servers)) refl is
         subst (λ w. 0 < length w.servers) one some
     by false there none = absurd (cc)
 
+-- so has the world of a text
 pub world_of-some : (text : List ℕ) (world : World) → world_of text ≡ Ok world
     → 0 < length world.servers
 unfolding world_of

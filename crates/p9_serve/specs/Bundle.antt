@@ -92,6 +92,7 @@ with_numbered_line reading numbered =
     then begun reading numbered.0 (section_of numbered.1)
     else continued reading numbered.0 numbered.1 reading.last
 
+-- nothing is read yet
 abbrev pub unread : Reading
 unread = record { texts = record { world = None; ns = None; script = None }; last = None }
 
@@ -103,6 +104,7 @@ bundle_of text =
 
 -- The code's values, as they are seen.
 
+-- a bundle, as the texts of its sections
 abbrev pub bundle_value : {A : Type 0} → Bundle A → Texts
 bundle_value bundle = record {
   world = option_map string_bytes bundle.world;
@@ -110,6 +112,7 @@ bundle_value bundle = record {
   script = option_map string_bytes bundle.script;
 }
 
+-- a bundle as far as it is read, in the same way
 abbrev pub reader_value : {A : Type 0} → Reader A → Reading
 reader_value reader = record { texts = bundle_value reader.bundle; last = reader.last }
 

@@ -40,6 +40,7 @@ pub record Job : Type 0 where
 abbrev pub script_in : Texts → Result (List Event) Refusal
 script_in texts = or_refused BadEvent (script_of (unwrap_or texts.script []))
 
+-- a command with its name space and the script of its bundle
 abbrev pub job : Command → Texts → NameSpace → Job
 job command texts space = record { command = command; space = space; script = script_in texts }
 
@@ -49,6 +50,7 @@ abbrev pub job_over : Command → Texts → Result Job Refusal
 job_over command texts =
     and_then (space_in texts.world texts.ns) (λ space. Ok (job command texts space))
 
+-- the same of an input, which is to be a text and a bundle
 abbrev pub job_in : Command → List ℕ → Result Job Refusal
 job_in command input =
     need (is_utf8 input) NotUtf8

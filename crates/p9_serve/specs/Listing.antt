@@ -7,11 +7,11 @@ use Rattle.p9_space.specs.Table.{MountRow}
 use Rattle.p9_world.specs.World.{World}
 use Rattle.p9_serve.specs.Path.{path_of}
 
--- the first member replaces what stood there, and the others go behind it; creation is permitted by
--- `c`
+-- the first member replaces what stood there; `c` permits creation
 abbrev pub first_flags : Bool → List ℕ
 first_flags create = if create then codes " -c" else codes ""
 
+-- the others go behind those before them
 abbrev pub later_flags : Bool → List ℕ
 later_flags create = if create then codes " -ac" else codes " -a"
 
@@ -22,14 +22,17 @@ module _ (world : World) where
       codes "bind" ++ flags ++ codes " " ++ path_of world node ++ codes " " ++ path_of world key
       ++ 10 ∷ []
 
+  -- the line of a member behind the first
   abbrev pub later_line : NodeRef → Member → List ℕ
   later_line key m = bind_line key (later_flags m.create) m.node
 
+  -- a line for each member of a row
   abbrev pub members_text : NodeRef → List Member → List ℕ
   members_text key [] = []
   members_text key (m ∷ ms) =
       bind_line key (first_flags m.create) m.node ++ flat_map (later_line key) ms
 
+  -- the same of a row, as the table has it
   abbrev pub row_text : MountRow → List ℕ
   row_text row = members_text row.0 row.1
 

@@ -32,6 +32,7 @@ world_in (Some text) = or_refused (λ bad. BadWorld bad.0 bad.1) (world_of text)
 abbrev pub or_bad_operation : {X : Type 0} → Result X BadLineOf → Result X Refusal
 or_bad_operation ran = or_refused (λ bad. BadOperation bad.0 bad.1) ran
 
+-- a world with the table and the reports of a run over it
 abbrev pub name_space : World → List MountRow × List Report → NameSpace
 name_space world ran = record { world = world; table = ran.0; reports = ran.1 }
 

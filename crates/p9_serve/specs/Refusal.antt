@@ -1,5 +1,5 @@
 -- Why a command does nothing, and how it is told.
-use Rattle.std.specs.Prelude.{◌≡◌, ℕ, List, ◌++◌, Bool, Result, Ok, Err, codes, if◌then◌else◌}
+use Rattle.std.specs.Prelude.{◌≡◌, ℕ, List, ◌++◌, Result, Ok, Err, codes}
 use Rattle.std.specs.Fmt.{decimal}
 use Rattle.p9_world.specs.Text.{line_fault_text}
 use Rattle.p9_nsfile.specs.Text.{form_text}
@@ -32,6 +32,7 @@ refusal_text (BadWorld line kind) = at_line (codes "world") line (line_fault_tex
 refusal_text (BadOperation line kind) = at_line (codes "ns") line (form_text kind)
 refusal_text (BadEvent line) = at_line (codes "script") line (codes "bad line")
 
+-- the exit status that tells a refusal
 abbrev pub status_of : Refusal → ℕ
 status_of BadCommandLine = 2
 status_of other = 1

@@ -9,5 +9,6 @@ use Rattle.p9_serve.specs.Refusal.{at_line}
 abbrev pub report_line : Report → List ℕ
 report_line report = at_line (codes "ns") report.0 (fault_text report.1) ++ 10 ∷ []
 
+-- the lines of all reports
 abbrev pub reports_text : List Report → List ℕ
 reports_text reports = flat_map report_line reports

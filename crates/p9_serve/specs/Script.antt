@@ -29,30 +29,35 @@ abbrev pub frame_in : List ℕ → Option (List ℕ)
 frame_in [] = None
 frame_in (digit ∷ digits) = result_ok (decode_of (digit ∷ digits))
 
+-- `open S`
 abbrev pub opening_event_of : List ℕ → List ℕ → Option Event
 opening_event_of verb name =
     if bytes_eq verb (codes "open") then option_map Opening (short_number name) else None
 
+-- a message, where all three of its parts are good
 abbrev pub message_event_at : Option ℕ → Option (List ℕ) → Option ℕ → Option Event
 message_event_at (Some name) (Some frame) (Some now) = Some (Request name frame now)
 message_event_at name frame now = None
 
+-- `msg S NOW HEX`
 abbrev pub message_event_of : List ℕ → List ℕ → List ℕ → List ℕ → Option Event
 message_event_of verb name now hex =
     if bytes_eq verb (codes "msg")
     then message_event_at (short_number name) (frame_in hex) (short_number now)
     else None
 
+-- a closing, where both of its parts are good
 abbrev pub closing_event_at : Option ℕ → Option ℕ → Option Event
 closing_event_at (Some name) (Some now) = Some (Closing name now)
 closing_event_at name now = None
 
+-- `close S NOW`
 abbrev pub closing_event_of : List ℕ → List ℕ → List ℕ → Option Event
 closing_event_of verb name now =
     if bytes_eq verb (codes "close") then closing_event_at (short_number name) (short_number now)
     else None
 
--- the event that the words of a line say: `open S`, `msg S NOW HEX` or `close S NOW`
+-- the event that the words of a line say, if they say one
 abbrev pub event_of : List (List ℕ) → Option Event
 event_of (verb ∷ name ∷ []) = opening_event_of verb name
 event_of (verb ∷ name ∷ now ∷ hex ∷ []) = message_event_of verb name now hex
@@ -64,6 +69,7 @@ abbrev pub joined : List Event → ℕ → Option Event → Result (List Event) 
 joined events line (Some event) = Ok (events ++ event ∷ [])
 joined events line None = Err line
 
+-- the same of a statement: its line and its words
 abbrev pub with_statement : List Event → ℕ × List (List ℕ) → Result (List Event) ℕ
 with_statement events statement = joined events statement.0 (event_of statement.1)
 

@@ -34,6 +34,7 @@ glendas number parent name mode bytes = record {
   bytes = bytes;
 }
 
+-- its one server
 abbrev pub small : Server
 small = record {
   nodes =

@@ -80,6 +80,7 @@ struct Reader<A: Allocator> {
 }
 
 impl<A: Allocator + Copy> Reader<A> {
+    // Nothing is read yet.
     fn new() -> Reader<A>
         ensures { reader_value result ≡ unread }
     {
@@ -200,8 +201,8 @@ pub fn split_bundle<A: Allocator + Copy>(alloc: A, text: &str) -> Result<Bundle<
     ensures bad { IfErr result (IsBundleFault (bundle_of text.now)) }
 {
     let mut reader = Reader::new();
-    for (i, line) in lines(alloc, text)?.iter().enumerate() {
-        reader.read_line(alloc, i as u64 + 1, line)?;
+    for (position, line) in lines(alloc, text)?.iter().enumerate() {
+        reader.read_line(alloc, position as u64 + 1, line)?;
     }
     let Reader { bundle, last: _ } = reader;
     Ok(bundle)

@@ -110,10 +110,8 @@ fn run_in<A: Allocator + Copy>(
     let Some(text) = text(input) else {
         return Err(Stop::Refused(Refusal::NotUtf8));
     };
-    match sections(*out.allocator(), text) {
-        Ok(bundle) => run_over(command, &bundle, out, err),
-        Err(stop) => Err(stop),
-    }
+    let bundle = sections(*out.allocator(), text)?;
+    run_over(command, &bundle, out, err)
 }
 
 // The same for a command, of the sections of an input.
@@ -130,10 +128,8 @@ fn run_over<A: Allocator + Copy>(
       err = err.new.items;
     }) result }
 {
-    match name_space(*out.allocator(), bundle) {
-        Ok(space) => run_on(command, space, bundle, out, err),
-        Err(stop) => Err(stop),
-    }
+    let space = name_space(*out.allocator(), bundle)?;
+    run_on(command, space, bundle, out, err)
 }
 
 // The same for a command, of a name space and the section of the script: what failed in the making
@@ -153,13 +149,9 @@ fn run_on<A: Allocator + Copy>(
     }) result }
 {
     space.print_reports(err)?;
-    match script(*out.allocator(), bundle) {
-        Ok(events) => {
-            work(command, space, events.as_slice(), out)?;
-            Ok(())
-        }
-        Err(stop) => Err(stop),
-    }
+    let events = script(*out.allocator(), bundle)?;
+    work(command, space, events.as_slice(), out)?;
+    Ok(())
 }
 
 // Does a command's work.

@@ -27,6 +27,7 @@ pub(crate) fn print_table<T: Tree>(
     Ok(())
 }
 
+// A line for each member of a row.
 fn print_row<T: Tree>(
     world: &World<T>,
     key: NodeRef,
@@ -60,6 +61,7 @@ fn later_flags(create: bool) -> &'static str
     if create { " -ac" } else { " -a" }
 }
 
+// A member's line: `bind`, the flags, the member's path and the key's.
 fn print_bind<T: Tree>(
     world: &World<T>,
     key: NodeRef,

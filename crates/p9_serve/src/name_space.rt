@@ -80,14 +80,15 @@ impl<T: Tree> NameSpace<T> {
         })
     }
 
-    /// Prints what failed, a line each.
+    /// Prints what failed, a line each. Where memory is refused, some of them may stand there.
     pub fn print_reports(&self, err: &mut Vec<u8, T::Alloc>) -> Result<(), NoMemory>
         ensures { OnOk result (err.new.items ≡ err.old.items ++ reports_text self.now.reports) }
     {
         print_reports(self.reports.as_slice(), err)
     }
 
-    /// Prints the mount table, a line for each member of each row.
+    /// Prints the mount table, a line for each member of each row. Where memory is refused, a part
+    /// of it may stand there.
     pub fn print_table(&self, out: &mut Vec<u8, T::Alloc>) -> Result<(), NoMemory>
         ensures { OnOk result (out.new.items ≡ out.old.items ++ table_text self.now.world
             self.now.table) }

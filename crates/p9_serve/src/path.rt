@@ -79,6 +79,7 @@ fn entry<T: Tree>(forest: &Forest<T>, at: NodeRef) -> Option<(u64, &str)>
     Some((node.parent()?, node.name()))
 }
 
+// A slash before each name; without names a slash alone.
 fn print_names<A: Allocator + Copy>(names: &[&str], out: &mut Vec<u8, A>) -> Result<(), NoMemory>
     ensures { OnOk result (out.new.items ≡ out.old.items ++ rooted_path (map
         (λ n. n.now) names.now)) }

@@ -33,12 +33,14 @@ pub(crate) fn play_events<T: Tree, A: Allocator + Copy>(
     Ok(())
 }
 
+// A buffer for replies.
 fn zeros<A: Allocator + Copy>(alloc: A, size: usize) -> Result<Vec<u8, A>, NoMemory>
     ensures { IfOk result (λ zeros. length zeros.items ≡ size) }
 {
     Ok(vec![in alloc; 0u8; size]?)
 }
 
+// Plays an event, with a buffer for its reply.
 fn play_event<T: Tree, A: Allocator + Copy>(
     export: &mut Export<T>,
     event: &Event<A>,
@@ -63,6 +65,7 @@ fn play_event<T: Tree, A: Allocator + Copy>(
     }
 }
 
+// Prints nothing for an opening that fits.
 fn open<T: Tree, A: Allocator + Copy>(
     export: &mut Export<T>,
     name: u32,
@@ -78,6 +81,7 @@ fn open<T: Tree, A: Allocator + Copy>(
     }
 }
 
+// Prints the reply to a frame that fits.
 fn message<T: Tree, A: Allocator + Copy>(
     export: &mut Export<T>,
     name: u32,
@@ -97,6 +101,7 @@ fn message<T: Tree, A: Allocator + Copy>(
     print_hex(&reply[..size], out)
 }
 
+// Prints nothing for a closing that fits.
 fn close<T: Tree, A: Allocator + Copy>(
     export: &mut Export<T>,
     name: u32,

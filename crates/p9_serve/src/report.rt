@@ -22,6 +22,7 @@ pub(crate) fn print_reports<A: Allocator + Copy>(
     Ok(())
 }
 
+// The line of the namespace section, and why its operation did nothing.
 fn print_report<A: Allocator + Copy>(
     line: u64,
     fault: OpFault,

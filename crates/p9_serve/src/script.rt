@@ -79,6 +79,7 @@ fn event<A: Allocator + Copy>(alloc: A, words: &[&str]) -> Result<Option<Event<A
     }
 }
 
+// `open S`.
 fn opening_event<A: Allocator + Copy>(verb: &str, name: &str) -> Option<Event<A>>
     ensures { option_map event_value result ≡ opening_event_of verb.now name.now }
 {
@@ -88,6 +89,7 @@ fn opening_event<A: Allocator + Copy>(verb: &str, name: &str) -> Option<Event<A>
     Some(Event::Open(short_number(name)?))
 }
 
+// `msg S NOW HEX`.
 fn message_event<A: Allocator + Copy>(
     alloc: A,
     verb: &str,
@@ -110,6 +112,7 @@ fn message_event<A: Allocator + Copy>(
     }
 }
 
+// `close S NOW`.
 fn closing_event<A: Allocator + Copy>(verb: &str, name: &str, now: &str) -> Option<Event<A>>
     ensures { option_map event_value result ≡ closing_event_of verb.now name.now now.now }
 {

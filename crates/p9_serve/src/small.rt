@@ -29,6 +29,7 @@ pub(crate) fn small_world<T: Tree>(alloc: T::Alloc) -> Result<World<T>, NoMemory
     })
 }
 
+// Its one server.
 fn small<T: Tree>(alloc: T::Alloc) -> Result<T, NoMemory>
     ensures { IfOk result (λ tree. T.state tree ≡ small) }
 {
@@ -69,12 +70,14 @@ fn add<T: Tree>(
     Ok(())
 }
 
+// The user who has all but the root.
 fn glenda() -> User
     ensures { result ≡ codes "glenda" }
 {
     User::new("glenda").unwrap()
 }
 
+// rwxr-xr-x
 fn directory_mode() -> Mode
     ensures { result ≡ directory_mode }
 {
@@ -84,6 +87,7 @@ fn directory_mode() -> Mode
     }
 }
 
+// rw-r--r--
 fn file_mode() -> Mode
     ensures { result ≡ file_mode }
 {

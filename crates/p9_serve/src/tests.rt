@@ -187,10 +187,7 @@ fn output_is_appended(rt: HostRuntime) -> Result<(), Fail> {
 }
 
 fn section(text: &Option<String>) -> Option<&str> {
-    match text {
-        Some(text) => Some(text.as_str()),
-        None => None,
-    }
+    text.as_deref()
 }
 
 #[test]

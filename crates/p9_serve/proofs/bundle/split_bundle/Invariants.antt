@@ -6,8 +6,8 @@ use Rattle.p9_serve.specs.Bundle.{reader_value, unread, with_numbered_line}
 use Rattle.p9_serve.proofs.bundle.split_bundle.Given as goal
 
 -- what the lines that are left make of the sections so far is what all lines make
-abbrev pub invariant-loop-i : goal.invariant-loop-i
-invariant-loop-i g l =
+abbrev pub invariant-loop-position : goal.invariant-loop-position
+invariant-loop-position g l =
     let numbered = enumerate_from 1 (lines_of l.fn.text) in
-    try_fold with_numbered_line (reader_value l.reader) (drop l.i numbered)
+    try_fold with_numbered_line (reader_value l.reader) (drop l.position numbered)
     ≡ try_fold with_numbered_line unread numbered
