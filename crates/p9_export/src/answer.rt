@@ -25,6 +25,9 @@ const BEFORE_DATA: usize = 11;
 
 /// Answers a frame of the session of this name. What a read gives is put behind the first 11 bytes
 /// of the reply.
+///
+/// A frame that is no request is refused as by [`request_of`], a request by the first test of its
+/// own function that fails. An `Err` leaves the forest and all sessions.
 pub fn answer<T: Tree>(
     setting: &Setting<T::Alloc>,
     forest: &mut Forest<T>,
@@ -54,7 +57,7 @@ pub fn answer<T: Tree>(
     message(setting, forest, session, taken, now, &request, buffer)
 }
 
-// Whether an open finds its file in use, in any session.
+// Whether an open finds its file taken, by a fid of any session.
 fn finds_taken<T: Tree>(
     setting: &Setting<T::Alloc>,
     forest: &Forest<T>,

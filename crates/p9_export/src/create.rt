@@ -30,7 +30,7 @@ use std::alloc::Allocator;
 
 /// Makes a file or directory where the fid stands, in the first member that permits creation, and
 /// goes on to it: the fid is then open for what the mode's bits ask. It answers the new qid and the
-/// session's room.
+/// session's iounit ([`Session::room`]).
 ///
 /// The first that applies refuses, and leaves all: there is no such fid, [`Fault::UnknownFid`]; it
 /// is open, [`Fault::FidOpen`]; the name isn't valid, [`Fault::BadFileName`]; the mode or `perm`
@@ -49,24 +49,24 @@ pub fn create<T: Tree>(
     fid: u32,
     name: &str,
     perm: u32,
-    mode: u8,
+    bits: u8,
 ) -> Result<(Qid, u32), Fault>
     ensures { let old = map T.state forest.old.trees.items in
         let new = map T.state forest.new.trees.items in
-        let answer = create_answer setting.now old session.old now fid name.now perm mode in
+        let answer = create_answer setting.now old session.old now fid name.now perm bits in
         Answers answer (is_done answer) old new session.old session.new
         (replied create_reply result) }
 {
-    let Some(holder) = session.fids.get(fid) else {
+    let Some(held) = session.fids.get(fid) else {
         return Err(Fault::UnknownFid);
     };
-    if holder.opened.is_some() {
+    if held.opened.is_some() {
         return Err(Fault::FidOpen);
     }
     let Some(name) = Name::new(name) else {
         return Err(Fault::BadFileName);
     };
-    let Some(opening) = Opening::of(mode) else {
+    let Some(opening) = Opening::of(bits) else {
         return Err(Fault::BadOpenMode);
     };
     let Some(asked) = Mode::from_bits(perm) else {
@@ -75,7 +75,7 @@ pub fn create<T: Tree>(
     if asked.is_dir() && !opening.is_plain_read() {
         return Err(Fault::IsDirectory);
     }
-    let members = setting.table.members(holder.trail.here());
+    let members = setting.table.members(held.trail.here());
     match target_among(forest, members.as_slice()) {
         Ok(target) => create_in(forest, session, now, fid, name, asked, opening, target),
         Err(fault) => Err(fault),
@@ -156,16 +156,16 @@ fn create_in<T: Tree>(
         name asked opening target in Answers answer (is_done answer) old new session.old session.new
         (replied create_reply result)) }
 {
-    let holder = session.fids.get(fid).unwrap();
+    let held = session.fids.get(fid).unwrap();
     let Some(dir) = forest.node(target) else {
         return Err(Fault::PhaseError);
     };
-    if let Some(fault) = fault_in(forest, holder, &name, target, dir) {
+    if let Some(fault) = fault_in(forest, held, &name, target, dir) {
         return Err(fault);
     }
-    let new = new_in(dir, name, asked, holder.user, now);
+    let new = new_in(dir, name, asked, held.user, now);
     let place = target.beside(forest.next_of(target.server));
-    let trail = trail_to(&holder.trail, place)?;
+    let trail = trail_to(&held.trail, place)?;
     let qid = add_to(forest, target, &new)?;
     enter(session, fid, trail, opening);
     Ok((qid, session.room()))
@@ -174,23 +174,23 @@ fn create_in<T: Tree>(
 // Why the fid's user can't make a node of the name in the directory.
 fn fault_in<T: Tree>(
     forest: &Forest<T>,
-    holder: &Fid<T::Alloc>,
+    held: &Fid<T::Alloc>,
     name: &Name,
     target: NodeRef,
     dir: &Node<T::Alloc>,
 ) -> Option<Fault>
-    ensures { result ≡ fault_in (map T.state forest.now.trees.items) holder.now name.now target
+    ensures { result ≡ fault_in (map T.state forest.now.trees.items) held.now name.now target
         dir.now }
 {
     if !dir.is_dir() {
         Some(Fault::NotDirectory)
-    } else if !may(&holder.user, dir, TO_WRITE) {
+    } else if !may(&held.user, dir, TO_WRITE) {
         Some(Fault::PermissionDenied)
     } else if forest.child(target, name).is_some() {
         Some(Fault::FileExists)
     } else if forest.next_of(target.server) >= NEXT_MAX {
         Some(Fault::QidsUsedUp)
-    } else if holder.trail.len() >= PLACES_MAX {
+    } else if held.trail.len() >= PLACES_MAX {
         Some(Fault::PathTooDeep)
     } else {
         None

@@ -12,7 +12,7 @@ ghost use Rattle.p9_export.specs.declared.export.OpenError.TheVariants.{Live};
 
 use crate::answer::answer;
 use crate::end::end_fids;
-use crate::frame::{tag_of, write_answer};
+use crate::frame::{tag_of, write_reply};
 use crate::session::Session;
 use crate::setting::Setting;
 use p9_base::User;
@@ -88,38 +88,38 @@ impl<T: Tree> Export<T> {
     }
 
     /// Whether a session of this name is open.
-    pub fn live(&self, s: u32) -> bool
-        ensures { IsTrue result ↔ IsSome (session_at s self.now.sessions) }
+    pub fn live(&self, name: u32) -> bool
+        ensures { IsTrue result ↔ IsSome (session_at name self.now.sessions) }
     {
-        self.sessions.contains_key(&s)
+        self.sessions.contains_key(&name)
     }
 
     /// Opens a session.
     ///
     /// A session of this name that is open is [`OpenError::Live`]; want of memory is
     /// [`OpenError::NoMemory`]. Both leave the exporter.
-    pub fn open(&mut self, s: u32) -> Result<(), OpenError>
-        ensures ok { OnOk result ((session_at s self.old.sessions ≡ None) × (self.new
-            ≡ (step self.old (Opening s) false).state)) }
-        ensures live { (result ≡ Err Live) ↔ IsSome (session_at s self.old.sessions) }
+    pub fn open(&mut self, name: u32) -> Result<(), OpenError>
+        ensures ok { OnOk result ((session_at name self.old.sessions ≡ None) × (self.new
+            ≡ (step self.old (Opening name) false).state)) }
+        ensures live { (result ≡ Err Live) ↔ IsSome (session_at name self.old.sessions) }
         ensures unchanged { OnErr result (self.new ≡ self.old) }
     {
-        if self.sessions.contains_key(&s) {
+        if self.sessions.contains_key(&name) {
             return Err(OpenError::Live);
         }
-        match self.sessions.insert(s, self.setting.session()) {
+        match self.sessions.insert(name, self.setting.session()) {
             Ok(_) => Ok(()),
             Err(_) => Err(OpenError::NoMemory),
         }
     }
 
     /// Closes a session, and ends its fids.
-    pub fn close(&mut self, s: u32, now: u32)
-        requires { IsSome (session_at s self.old.sessions) }
-        ensures { self.new ≡ (step self.old (Closing s now) false).state }
+    pub fn close(&mut self, name: u32, now: u32)
+        requires { IsSome (session_at name self.old.sessions) }
+        ensures { self.new ≡ (step self.old (Closing name now) false).state }
     {
         self.forest.well_formed();
-        if let Some(mut session) = self.sessions.remove(&s) {
+        if let Some(mut session) = self.sessions.remove(&name) {
             end_fids(&self.setting, &mut self.forest, &mut session.fids, now);
         }
     }
@@ -129,15 +129,15 @@ impl<T: Tree> Export<T> {
     ///
     /// Every frame gets exactly one reply. Where that is [`p9_base::Fault::OutOfMemory`], memory
     /// was refused, and all is as before.
-    pub fn message(&mut self, s: u32, frame: &[u8], now: u32, reply: &mut [u8]) -> usize
-        requires live { IsSome (session_at s self.old.sessions) }
+    pub fn message(&mut self, name: u32, frame: &[u8], now: u32, reply: &mut [u8]) -> usize
+        requires live { IsSome (session_at name self.old.sessions) }
         requires whole { IsTrue (is_frame frame.now) }
         requires room { msize_max ≤ length reply.old }
         ensures within { result ≤ length reply.old }
-        ensures state { self.new ≡ (step self.old (Request s frame.now now)
+        ensures state { self.new ≡ (step self.old (Request name frame.now now)
             (is_no_memory_reply frame.now (take result reply.new))).state }
         ensures bytes { take result reply.new
-            ≡ (step self.old (Request s frame.now now) (is_no_memory_reply frame.now
+            ≡ (step self.old (Request name frame.now now) (is_no_memory_reply frame.now
             (take result reply.new))).reply }
     {
         self.forest.well_formed();
@@ -146,11 +146,11 @@ impl<T: Tree> Export<T> {
             &self.setting,
             &mut self.forest,
             &mut self.sessions,
-            s,
+            name,
             now,
             frame,
             reply,
         );
-        write_answer(&self.forest, &answered, tag, reply)
+        write_reply(&self.forest, &answered, tag, reply)
     }
 }

@@ -19,8 +19,7 @@ use p9_wire::{RMsg, TMsg, finish_read, read_t, write_r};
 use std::alloc::Allocator;
 
 /// The request of a frame: a frame that is longer than the session's msize, or no request, is
-/// [`Fault::Malformed`]; any other request than a version before one is
-/// [`Fault::VersionNotSet`].
+/// [`Fault::Malformed`]; before a version, any other request is [`Fault::VersionNotSet`].
 pub fn request_of<'a, A: Allocator + Copy>(
     session: &Session<A>,
     frame: &'a [u8],
@@ -51,9 +50,9 @@ pub fn tag_of(frame: &[u8]) -> u16
     LittleEndian::read_u16(behind)
 }
 
-/// Writes the reply to a frame with this tag at the front of the buffer, or the refusal, and
-/// answers its length.
-pub fn write_answer<T: Tree>(
+/// Writes the reply to a frame with this tag at the front of the buffer, also where it is a
+/// refusal, and answers its length.
+pub fn write_reply<T: Tree>(
     forest: &Forest<T>,
     answered: &Result<Reply, Fault>,
     tag: u16,
@@ -73,6 +72,7 @@ pub fn write_answer<T: Tree>(
     }
 }
 
+// Writes the refusal. No fault's text is longer than 34 bytes, so it needs 43.
 fn write_fault(fault: Fault, tag: u16, out: &mut [u8]) -> usize
     requires { 43 ≤ length out.old }
     ensures bytes { take result out.new ≡ r_spelling tag (Rerror (text_of fault)) }
@@ -87,6 +87,7 @@ fn write_fault(fault: Fault, tag: u16, out: &mut [u8]) -> usize
     )
 }
 
+// Writes the stat of a node, or, where there is none, that it is gone.
 fn write_stat_of<T: Tree>(forest: &Forest<T>, at: NodeRef, tag: u16, out: &mut [u8]) -> usize
     requires room { msize_max ≤ length out.old }
     ensures bytes { take result out.new ≡ r_spelling tag (stat_reply

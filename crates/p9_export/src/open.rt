@@ -29,6 +29,7 @@ pub fn is_append_only<A: Allocator>(file: &Node<A>) -> bool
     }
 }
 
+// Whether one fid at a time may have the file open.
 fn is_exclusive<A: Allocator>(file: &Node<A>) -> bool
     ensures { result ≡ is_exclusive file.now }
 {
@@ -62,10 +63,10 @@ pub fn is_taken<T: Tree>(
     ensures { result ≡ is_taken setting.now (map T.state forest.now.trees.items)
         sessions.now.entries session.now fid }
 {
-    let Some(fid) = session.fids.get(fid) else {
+    let Some(held) = session.fids.get(fid) else {
         return false;
     };
-    let at = setting.file(fid);
+    let at = setting.file(held);
     match forest.node(at) {
         Some(file) => is_exclusive(file) && is_in_use(&setting.table, at, sessions),
         None => false,
@@ -73,13 +74,13 @@ pub fn is_taken<T: Tree>(
 }
 
 /// Opens a fid for what the mode's bits ask, and answers the qid of its file and the session's
-/// room. Truncation cuts the file to nothing and marks it, but leaves an append-only file. `taken`
-/// says that the file is in use, as [`is_taken`].
+/// iounit ([`Session::room`]). Truncation cuts the file to nothing and marks it, but leaves an
+/// append-only file. `taken` says that the file is taken ([`is_taken`]).
 ///
 /// The first that applies refuses, and leaves all: there is no such fid, [`Fault::UnknownFid`]; it
 /// is open, [`Fault::FidOpen`]; its file doesn't exist, [`Fault::PhaseError`]; the mode means
 /// nothing, [`Fault::BadOpenMode`]; a directory is asked for anything but to be read,
-/// [`Fault::IsDirectory`]; the user lacks a right, [`Fault::PermissionDenied`]; the file is in use,
+/// [`Fault::IsDirectory`]; the user lacks a right, [`Fault::PermissionDenied`]; the file is taken,
 /// [`Fault::ExclusiveUse`]. It takes no memory.
 pub fn open<T: Tree>(
     setting: &Setting<T::Alloc>,
@@ -88,25 +89,25 @@ pub fn open<T: Tree>(
     taken: bool,
     now: u32,
     fid: u32,
-    mode: u8,
+    bits: u8,
 ) -> Result<(Qid, u32), Fault>
     ensures { let old = map T.state forest.old.trees.items in
         let new = map T.state forest.new.trees.items in
-        Answers (open_answer setting.now old taken session.old now fid mode) false old new
+        Answers (open_answer setting.now old taken session.old now fid bits) false old new
         session.old session.new (replied open_reply result) }
 {
-    let Some(holder) = session.fids.get(fid) else {
+    let Some(held) = session.fids.get(fid) else {
         return Err(Fault::UnknownFid);
     };
-    if holder.opened.is_some() {
+    if held.opened.is_some() {
         return Err(Fault::FidOpen);
     }
-    let user = holder.user;
-    let at = setting.file(holder);
+    let user = held.user;
+    let at = setting.file(held);
     let Some(file) = forest.node(at) else {
         return Err(Fault::PhaseError);
     };
-    let Some(opening) = Opening::of(mode) else {
+    let Some(opening) = Opening::of(bits) else {
         return Err(Fault::BadOpenMode);
     };
     if file.is_dir() && !opening.is_plain_read() {

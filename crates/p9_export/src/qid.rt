@@ -10,7 +10,8 @@ use p9_tree::Node;
 use p9_wire::Stat;
 use std::alloc::Allocator;
 
-/// The identity of a file among those of all servers, as intro(5).
+/// The qid of a file: its kind, its version, and its identity among the files of all servers, as
+/// intro(5).
 pub fn qid_of<A: Allocator>(at: NodeRef, file: &Node<A>) -> Qid
     requires { at.number < 2 ^ 48 }
     ensures { result ≡ qid_of at file.now }

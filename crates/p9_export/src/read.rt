@@ -23,8 +23,8 @@ use p9_tree::{Forest, Tree};
 /// `count`, and at most [`Session::room`].
 ///
 /// A file gives its bytes from the offset on, and the reading of the clock becomes the time when it
-/// was last read. A directory gives whole stats of the entries of its union that are left; offset 0
-/// begins anew. This takes no memory.
+/// was last read (its atime). A directory gives whole stats of the entries of its union that are
+/// left; offset 0 begins anew. This takes no memory.
 ///
 /// The first that applies refuses, and leaves everything: no such fid, [`Fault::UnknownFid`]; not
 /// open for reading, [`Fault::FidNotOpen`]; the file is gone, [`Fault::PhaseError`]; in a
@@ -48,18 +48,18 @@ pub fn read<T: Tree>(
         Answers (read_answer setting.now old session.old now fid offset count) false old new
         session.old session.new (replied (data_reply buffer.new) result) }
 {
-    let Some(value) = session.fids.get(fid) else {
+    let Some(held) = session.fids.get(fid) else {
         return Err(Fault::UnknownFid);
     };
-    let Some(opened) = readable(value.opened) else {
+    let Some(opened) = readable(held.opened) else {
         return Err(Fault::FidNotOpen);
     };
-    let at = setting.file(value);
-    let Some(node) = forest.node(at) else {
+    let at = setting.file(held);
+    let Some(file) = forest.node(at) else {
         return Err(Fault::PhaseError);
     };
     let room = count.min(session.room()) as usize;
-    if node.is_dir() {
+    if file.is_dir() {
         read_dir(
             setting,
             forest,
@@ -131,10 +131,10 @@ fn read_dir<T: Tree>(
     if !may_begin(offset, &opened) {
         return Err(Fault::BadDirectoryOffset);
     }
-    let value = session.fids.get(fid).unwrap();
-    let members = setting.table.members(value.trail.here());
+    let held = session.fids.get(fid).unwrap();
+    let members = setting.table.members(held.trail.here());
     let cursor = cursor_at(offset, &opened);
-    let given = list(forest, members.as_slice(), &value.user, cursor, buffer)?;
+    let given = list(forest, members.as_slice(), &held.user, cursor, buffer)?;
     let next = Opened {
         next_offset: u128::from(offset) + given.size as u128,
         cursor: given.cursor,

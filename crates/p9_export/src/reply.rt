@@ -6,6 +6,7 @@ use p9_wire::RMsg;
 /// The reply to a request, or where it is to be found.
 #[derive(Drop)]
 pub enum Reply {
+    /// This message.
     Message(RMsg<'static>),
     /// So many bytes of data, which stand in the reply's buffer, behind what comes before them.
     Data(u32),

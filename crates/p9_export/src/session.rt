@@ -13,6 +13,7 @@ use std::marker::Model;
 pub struct Session<A: Allocator + Copy> {
     /// The greatest frame, once the version is set.
     pub msize: Option<u32>,
+    /// The client's fids.
     pub fids: FidTable<A>,
 }
 

@@ -9,7 +9,7 @@ use crate::setting::Setting;
 use p9_base::{Fault, NodeRef};
 use p9_tree::{Forest, Tree};
 
-/// The file of a fid, of which is told. No permission is needed.
+/// Finds the file of a fid, whose stat is the reply. No permission is needed.
 ///
 /// The first that applies refuses: the fid isn't there, [`Fault::UnknownFid`]; its file doesn't
 /// exist, [`Fault::PhaseError`]. It changes nothing, and takes no memory.

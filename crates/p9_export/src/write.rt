@@ -40,13 +40,13 @@ pub fn write<T: Tree>(
         let answer = write_answer setting.now old session.now now fid offset bytes.now in
         Answers answer (is_done answer) old new session.now session.now (replied Rwrite result) }
 {
-    let Some(holder) = session.fids.get(fid) else {
+    let Some(held) = session.fids.get(fid) else {
         return Err(Fault::UnknownFid);
     };
-    if !is_writable(holder) {
+    if !is_writable(held) {
         return Err(Fault::FidNotOpen);
     }
-    let at = setting.file(holder);
+    let at = setting.file(held);
     let Some(file) = forest.node(at) else {
         return Err(Fault::PhaseError);
     };
@@ -58,7 +58,7 @@ pub fn write<T: Tree>(
         return Err(Fault::FileTooLarge);
     }
     forest.write(at, place, bytes)?;
-    forest.bump(at, holder.user, now);
+    forest.bump(at, held.user, now);
     Ok(bytes.len() as u32)
 }
 

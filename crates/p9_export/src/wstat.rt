@@ -19,13 +19,13 @@ use crate::qid::stat_of;
 use crate::rights::may_write_parent;
 use crate::session::Session;
 use crate::setting::Setting;
-use p9_base::{Fault, Mode, Name, NodeRef, Qid, User, valid_name};
+use p9_base::{Fault, Mode, Name, NodeRef, Qid, User};
 use p9_space::{TO_WRITE, may, rules};
 use p9_tree::{Change, FILE_MAX, Forest, Node, Tree};
 use p9_wire::Stat;
 use std::alloc::Allocator;
 
-// The fields that a wstat touches, but for those that none may.
+// What a wstat touches of the fields that it may change.
 #[derive(Clone, Copy)]
 struct Touched<'a> {
     mode: Option<u32>,
@@ -63,10 +63,10 @@ pub fn wstat<T: Tree>(
         Answers answer (is_done answer) old new session.now session.now (replied
         (λ _. Rwstat) result) }
 {
-    let Some(holder) = session.fids.get(fid) else {
+    let Some(held) = session.fids.get(fid) else {
         return Err(Fault::UnknownFid);
     };
-    let at = setting.file(holder);
+    let at = setting.file(held);
     let Some(file) = forest.node(at) else {
         return Err(Fault::PhaseError);
     };
@@ -76,16 +76,16 @@ pub fn wstat<T: Tree>(
         return Err(Fault::FixedField);
     }
     let touched = touched_of(&there, wanted);
-    if let Some(fault) = wstat_fault(&holder.user, forest, at, file, &touched) {
+    if let Some(fault) = wstat_fault(&held.user, forest, at, file, &touched) {
         return Err(fault);
     }
     if !is_any(&touched) {
         return Ok(());
     }
     let parent = file.parent();
-    let change = node_change(holder.user, now, &touched);
+    let change = node_change(held.user, now, &touched);
     forest.change(at, &change)?;
-    mark_parent(forest, at, parent, holder.user, now);
+    mark_parent(forest, at, parent, held.user, now);
     Ok(())
 }
 
@@ -110,7 +110,7 @@ fn touches_qid(there: &Qid, wanted: &Qid) -> bool
         || is_number_touched(u64::MAX, there.path, wanted.path)
 }
 
-// The other fields, where they are touched.
+// What is touched of the fields that a wstat may change.
 fn touched_of<'a>(there: &Stat<'_>, wanted: &Stat<'a>) -> Touched<'a>
     ensures { touched_view result ≡ touched_of (stat_view there.now) (stat_view wanted.now) }
 {
@@ -123,6 +123,7 @@ fn touched_of<'a>(there: &Stat<'_>, wanted: &Stat<'a>) -> Touched<'a>
     }
 }
 
+// The number that is wanted, where it is touched.
 fn touched_u32(there: u32, wanted: u32) -> Option<u32>
     ensures { result ≡ touched_number (2 ^ 32 - 1) there wanted }
 {
@@ -133,6 +134,7 @@ fn touched_u32(there: u32, wanted: u32) -> Option<u32>
     }
 }
 
+// The number that is wanted, where it is touched.
 fn touched_u64(there: u64, wanted: u64) -> Option<u64>
     ensures { result ≡ touched_number (2 ^ 64 - 1) there wanted }
 {
@@ -143,6 +145,7 @@ fn touched_u64(there: u64, wanted: u64) -> Option<u64>
     }
 }
 
+// The text that is wanted, where it is touched.
 fn touched_text<'a>(there: &str, wanted: &'a str) -> Option<&'a str>
     ensures { option_copied result ≡ touched_text there.now wanted.now }
 {
@@ -167,6 +170,7 @@ fn is_text_touched(there: &str, wanted: &str) -> bool
     !(wanted.is_empty() || wanted == there)
 }
 
+// Whether any of these fields is touched.
 fn is_any(touched: &Touched<'_>) -> bool
     ensures { result ≡ is_any (touched_view touched.now) }
 {
@@ -177,7 +181,7 @@ fn is_any(touched: &Touched<'_>) -> bool
         || touched.gid.is_some()
 }
 
-// Why the user can't change so what is told of the file.
+// The fault of the first test that refuses the change.
 fn wstat_fault<T: Tree>(
     user: &User,
     forest: &Forest<T>,
@@ -206,6 +210,7 @@ fn wstat_fault<T: Tree>(
     gid_fault(user, file, touched.gid)
 }
 
+// A mode that means nothing, or isn't for the file's kind, is refused.
 fn mode_fault<A: Allocator>(file: &Node<A>, mode: Option<u32>) -> Option<Fault>
     ensures { result ≡ option_and_then (mode_fault file.now) mode }
 {
@@ -216,6 +221,8 @@ fn mode_fault<A: Allocator>(file: &Node<A>, mode: Option<u32>) -> Option<Fault>
     }
 }
 
+// A root keeps its name. Any other file's new name is valid, the user may write the directory, and
+// nothing there has the name.
 fn name_fault<T: Tree>(
     user: &User,
     forest: &Forest<T>,
@@ -252,6 +259,7 @@ fn has_sibling<T: Tree>(forest: &Forest<T>, at: NodeRef, file: &Node<T::Alloc>, 
     forest.child(at.beside(number), name).is_some()
 }
 
+// A directory has no length. A file's is for who may write it, up to [`FILE_MAX`].
 fn length_fault<A: Allocator>(user: &User, file: &Node<A>, length: Option<u64>) -> Option<Fault>
     ensures { result ≡ option_and_then (length_fault user.now file.now) length }
 {
@@ -278,6 +286,7 @@ fn ruling_fault<A: Allocator>(user: &User, file: &Node<A>, touched: Option<u32>)
     }
 }
 
+// A group is refused that the user may not give the file to.
 fn gid_fault<A: Allocator>(user: &User, file: &Node<A>, gid: Option<&str>) -> Option<Fault>
     ensures { result ≡ option_and_then (gid_fault user.now file.now) (option_copied gid.entry) }
 {
@@ -313,6 +322,7 @@ fn node_change(user: User, now: u32, touched: &Touched<'_>) -> Change
     }
 }
 
+// The name as it is kept.
 fn new_name(name: Option<&str>) -> Option<Name>
     requires { ForSome (option_copied name) (λ name. IsTrue (is_name name)) }
     ensures { result ≡ option_copied name.entry }
@@ -320,12 +330,14 @@ fn new_name(name: Option<&str>) -> Option<Name>
     Name::new(name?)
 }
 
+// The mode that the bits say.
 fn new_mode(mode: Option<u32>) -> Option<Mode>
     ensures { result ≡ option_and_then mode_of mode }
 {
     Mode::from_bits(mode?)
 }
 
+// The group, which is the user's own.
 fn new_gid(user: User, gid: Option<&str>) -> Option<User>
     requires { ForSome (option_copied gid) (λ gid. gid ≡ user) }
     ensures { result ≡ option_copied gid.entry }

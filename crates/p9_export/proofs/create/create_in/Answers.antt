@@ -11,21 +11,21 @@ use Rattle.p9_export.proofs.create.create_in.Goals as goal
 pub trail_to-requires : goal.trail_to-requires
 trail_to-requires g c =
     let forest = map g.T.Tree.state c.args.forest.now.trees.items in
-    let v = c.unwrap-holder.result.now in
+    let v = c.unwrap-held.result.now in
     let none : fault_in forest v c.args.name c.args.target c.in-Some.dir.now ≡ None =
     sym c.fault_in.ensures ∙ c.in_default-fault_in.is in
     let permits = nothing_refuses forest v c.args.name c.args.target c.in-Some.dir.now none in
-    rw (← c.holder.view_is) at permits.short
+    rw (← c.held.view_is) at permits.short
 
 pub add_to-requires : goal.add_to-requires
 add_to-requires g c =
     let forest = map g.T.Tree.state c.args.forest.now.trees.items in
-    let v = c.unwrap-holder.result.now in
+    let v = c.unwrap-held.result.now in
     let dir = c.in-Some.dir.now in
     let none : fault_in forest v c.args.name c.args.target dir ≡ None =
     sym c.fault_in.ensures ∙ c.in_default-fault_in.is in
     let made : new_node 0 dir.number c.new_in-new.result
-    ≡ created v.user c.args.now 0 dir c.args.name c.args.asked = rw (← c.holder.view_is)
+    ≡ created v.user c.args.now 0 dir c.args.name c.args.asked = rw (← c.held.view_is)
     c.new_in-new.ensures in
     can_add forest v c.args.name c.args.target dir c.args.now c.args.asked c.new_in-new.result made
     (sym c.in-Some.ensures) (nothing_refuses forest v c.args.name c.args.target dir none)
@@ -33,21 +33,21 @@ add_to-requires g c =
 pub returns : goal.returns
 returns g c =
     let forest = map g.T.Tree.state c.args.forest.now.trees.items in
-    let v = c.unwrap-holder.result.now in
+    let v = c.unwrap-held.result.now in
     let dir = c.in-Some.dir.now in
     let found : fid_at c.args.fid c.args.session.now.fids ≡ Some v =
-    rw (← c.session.view_is) (sym c.get.ensures ∙ ap option_copied c.unwrap-holder.ensures) in
+    rw (← c.session.view_is) (sym c.get.ensures ∙ ap option_copied c.unwrap-held.ensures) in
     let none : fault_in forest v c.args.name c.args.target dir ≡ None =
     sym c.fault_in.ensures ∙ c.in_default-fault_in.is in
     let made : new_node 0 dir.number c.new_in-new.result
-    ≡ created v.user c.args.now 0 dir c.args.name c.args.asked = rw (← c.holder.view_is)
+    ≡ created v.user c.args.now 0 dir c.args.name c.args.asked = rw (← c.held.view_is)
     c.new_in-new.ensures in
     let next = next_of c.args.target.server forest in
-    let longer : c.in_ok-trail.trail ≡ c.holder.inside.trail
+    let longer : c.in_ok-trail.trail ≡ c.held.inside.trail
     ++ beside c.args.target c.next_of.result ∷ [] =
     rw (← c.beside-place.ensures) c.in_ok-trail.ensures in
     let trail : c.in_ok-trail.trail ≡ v.trail ++ beside c.args.target next ∷ [] =
-    rw (← c.holder.view_is, ← c.next_of.ensures) longer in
+    rw (← c.held.view_is, ← c.next_of.ensures) longer in
     let entering : c.enter.new.session
     ≡ entered c.args.fid c.in_ok-trail.trail c.args.opening c.args.session.now =
     c.enter.ensures in

@@ -17,10 +17,10 @@ use Rattle.p9_export.proofs.read.read.Goals as goal
 pub returns-then-is_dir-clause-answer : goal.returns-then-is_dir-clause-answer
 returns-then-is_dir-clause-answer g c =
     let forest = map g.T.Tree.state c.args.forest.now.trees.items in
-    let r : IsReadable c.args.setting.now forest c.args.session.now c.args.fid c.in-Some.value.now
-    c.in-Some-readable.opened c.in-Some-node.node.now = record {
+    let r : IsReadable c.args.setting.now forest c.args.session.now c.args.fid c.in-Some.held.now
+    c.in-Some-readable.opened c.in-Some-node.file.now = record {
       there = sym (ap (λ s. fid_at c.args.fid s.fids) c.session.view_is) ∙ sym c.in-Some.ensures;
-      open_as = sym (ap (λ w. readable w.opened) c.value.view_is) ∙ sym c.in-Some-readable.ensures;
+      open_as = sym (ap (λ w. readable w.opened) c.held.view_is) ∙ sym c.in-Some-readable.ensures;
       alive =
           sym (ap (λ (at : NodeRef). node_of at forest) c.file-at.ensures)
           ∙ sym c.in-Some-node.ensures;
@@ -33,7 +33,7 @@ returns-then-is_dir-clause-answer g c =
     length-take-le c.min-room.result c.args.buffer.now fits in
     let same =
     reads_dir c.args.setting.now forest c.args.session.now c.args.now c.args.fid c.args.offset
-    c.args.count c.in-Some.value.now c.in-Some-readable.opened c.in-Some-node.node.now r
+    c.args.count c.in-Some.held.now c.in-Some-readable.opened c.in-Some-node.file.now r
     (length (take c.min-room.result c.args.buffer.now))
     (sym c.is_dir.ensures ∙ c.if-is_dir.true) (long ∙ room_is) in
     let kept = c.read_dir.auto.buffer in
@@ -52,10 +52,10 @@ returns-then-is_dir-clause-answer g c =
 pub returns-else-is_dir-clause-answer : goal.returns-else-is_dir-clause-answer
 returns-else-is_dir-clause-answer g c =
     let forest = map g.T.Tree.state c.args.forest.now.trees.items in
-    let r : IsReadable c.args.setting.now forest c.args.session.now c.args.fid c.in-Some.value.now
-    c.in-Some-readable.opened c.in-Some-node.node.now = record {
+    let r : IsReadable c.args.setting.now forest c.args.session.now c.args.fid c.in-Some.held.now
+    c.in-Some-readable.opened c.in-Some-node.file.now = record {
       there = sym (ap (λ s. fid_at c.args.fid s.fids) c.session.view_is) ∙ sym c.in-Some.ensures;
-      open_as = sym (ap (λ w. readable w.opened) c.value.view_is) ∙ sym c.in-Some-readable.ensures;
+      open_as = sym (ap (λ w. readable w.opened) c.held.view_is) ∙ sym c.in-Some-readable.ensures;
       alive =
           sym (ap (λ (at : NodeRef). node_of at forest) c.file-at.ensures)
           ∙ sym c.in-Some-node.ensures;
@@ -70,7 +70,7 @@ returns-else-is_dir-clause-answer g c =
     let kept = c.read_file.auto.buffer in
     let within : c.read_file.result ≤ length c.read_file.new.buffer = omega (arith, size, kept) in
     reads_file c.args.setting.now forest c.args.session.now c.args.now c.args.fid c.args.offset
-    c.args.count c.in-Some.value.now c.in-Some-readable.opened c.in-Some-node.node.now r
+    c.args.count c.in-Some.held.now c.in-Some-readable.opened c.in-Some-node.file.now r
     (length (take c.min-room.result c.args.buffer.now)) c.read_file.result
     (c.read_file.new.buffer ++ drop c.min-room.result c.args.buffer.now)
     (map g.T.Tree.state c.read_file.new.forest.trees.items)

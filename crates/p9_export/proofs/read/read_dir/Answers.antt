@@ -8,13 +8,13 @@ use Rattle.p9_export.proofs.read.read_dir.Goals as goal
 pub returns-clause-answer : goal.returns-clause-answer
 returns-clause-answer g c =
     let v : Fid = record {
-      user = c.value.inside.user;
-      trail = c.value.inside.trail;
-      opened = c.value.inside.opened;
+      user = c.held.inside.user;
+      trail = c.held.inside.trail;
+      opened = c.held.inside.opened;
     } in
     let there : fid_at c.args.fid c.session.inside.fids ≡ Some v =
-    sym c.get.ensures ∙ ap option_copied c.unwrap-value.ensures
-    ∙ ap Some (sym c.value.view_is) in
+    sym c.get.ensures ∙ ap option_copied c.unwrap-held.ensures
+    ∙ ap Some (sym c.held.view_is) in
     let within = c.in_ok-given.ensures.size in
     let long = c.list.auto.buffer in
     let members_are = c.as_slice.ensures ∙ c.members-members.ensures.members in

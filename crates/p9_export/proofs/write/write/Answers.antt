@@ -14,7 +14,7 @@ use Rattle.p9_export.proofs.write.write.Goals as goal
 pub write-requires-clause-file : goal.write-requires-clause-file
 write-requires-clause-file g c =
     let forest = map g.T.Tree.state c.args.forest.now.trees.items in
-    let v = c.in-Some.holder.now in
+    let v = c.in-Some.held.now in
     let found : fid_at c.args.fid c.args.session.now.fids ≡ Some v =
     rw (← c.session.view_is) (sym c.in-Some.ensures) in
     let there : node_of (fid_ref c.args.setting.now.table v) forest ≡ Some c.in-Some-node.file.now =
@@ -28,7 +28,7 @@ write-requires-clause-file g c =
 pub returns-in_err-write : goal.returns-in_err-write
 returns-in_err-write g c =
     let forest = map g.T.Tree.state c.args.forest.now.trees.items in
-    let v = c.in-Some.holder.now in
+    let v = c.in-Some.held.now in
     let found : fid_at c.args.fid c.args.session.now.fids ≡ Some v =
     rw (← c.session.view_is) (sym c.in-Some.ensures) in
     let opens : is_writable v ≡ true = sym c.is_writable.ensures ∙ c.if-not-is_writable.false in
@@ -46,7 +46,7 @@ returns-in_err-write g c =
 pub returns : goal.returns
 returns g c =
     let forest = map g.T.Tree.state c.args.forest.now.trees.items in
-    let v = c.in-Some.holder.now in
+    let v = c.in-Some.held.now in
     let found : fid_at c.args.fid c.args.session.now.fids ≡ Some v =
     rw (← c.session.view_is) (sym c.in-Some.ensures) in
     let opens : is_writable v ≡ true = sym c.is_writable.ensures ∙ c.if-not-is_writable.false in
@@ -59,11 +59,11 @@ returns g c =
     let new = map g.T.Tree.state c.bump.new.self.trees.items in
     let bumped =
     c.bump.ensures
-    ∙ ap (forest_changed_at c.file-at.result (marked c.holder.inside.user c.args.now))
+    ∙ ap (forest_changed_at c.file-at.result (marked c.held.inside.user c.args.now))
     c.in_ok-write.ensures.ok in
     let changed : new ≡ forest_changed_at c.file-at.result (marked v.user c.args.now)
     (forest_changed_at c.file-at.result
     (with_bytes (overwritten c.write_place-place.result c.args.bytes.now)) forest) = rw
-    (← c.holder.view_is) bumped in
+    (← c.held.view_is) bumped in
     write-did _ forest new c.args.session.now c.args.now c.args.bytes.now v c.file-at.result
     c.write_place-place.result done changed

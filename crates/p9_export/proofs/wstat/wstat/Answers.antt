@@ -29,10 +29,10 @@ node_change-change-requires-clause-name g c =
     let n = c.in-Some-node.file.now in
     let at = c.file-at.result in
     let t : Touched = touched_view c.touched_of-touched.result in
-    let none : wstat_fault c.holder.inside.user forest at n t ≡ None =
+    let none : wstat_fault c.held.inside.user forest at n t ≡ None =
     sym c.wstat_fault.ensures ∙ c.in_default-wstat_fault.is in
-    let permits = nothing_refuses c.holder.inside.user forest at n t none in
-    valid_name c.holder.inside.user forest at n t permits
+    let permits = nothing_refuses c.held.inside.user forest at n t none in
+    valid_name c.held.inside.user forest at n t permits
 
 pub node_change-change-requires-clause-gid : goal.node_change-change-requires-clause-gid
 node_change-change-requires-clause-gid g c =
@@ -40,10 +40,10 @@ node_change-change-requires-clause-gid g c =
     let n = c.in-Some-node.file.now in
     let at = c.file-at.result in
     let t : Touched = touched_view c.touched_of-touched.result in
-    let none : wstat_fault c.holder.inside.user forest at n t ≡ None =
+    let none : wstat_fault c.held.inside.user forest at n t ≡ None =
     sym c.wstat_fault.ensures ∙ c.in_default-wstat_fault.is in
-    let permits = nothing_refuses c.holder.inside.user forest at n t none in
-    own_group c.holder.inside.user forest at n t permits
+    let permits = nothing_refuses c.held.inside.user forest at n t none in
+    own_group c.held.inside.user forest at n t permits
 
 pub change-requires : goal.change-requires
 change-requires g c =
@@ -51,11 +51,11 @@ change-requires g c =
     let n = c.in-Some-node.file.now in
     let at = c.file-at.result in
     let t : Touched = touched_view c.touched_of-touched.result in
-    let none : wstat_fault c.holder.inside.user forest at n t ≡ None =
+    let none : wstat_fault c.held.inside.user forest at n t ≡ None =
     sym c.wstat_fault.ensures ∙ c.in_default-wstat_fault.is in
-    let permits = nothing_refuses c.holder.inside.user forest at n t none in
+    let permits = nothing_refuses c.held.inside.user forest at n t none in
     rw c.node_change-change.ensures
-    (can_change c.holder.inside.user forest at n t permits c.args.now c.well_formed-2.ensures
+    (can_change c.held.inside.user forest at n t permits c.args.now c.well_formed-2.ensures
     (sym c.in-Some-node.ensures))
 
 pub returns-in_err-change : goal.returns-in_err-change
@@ -64,9 +64,9 @@ returns-in_err-change g c =
     let n = c.in-Some-node.file.now in
     let at = c.file-at.result in
     let t : Touched = touched_view c.touched_of-touched.result in
-    let none : wstat_fault c.holder.inside.user forest at n t ≡ None =
+    let none : wstat_fault c.held.inside.user forest at n t ≡ None =
     sym c.wstat_fault.ensures ∙ c.in_default-wstat_fault.is in
-    let v = c.in-Some.holder.now in
+    let v = c.in-Some.held.now in
     let wanted : StatFields = stat_view c.args.wanted.now in
     let held : fid_at c.args.fid c.args.session.now.fids ≡ Some v =
     rw (← c.session.view_is) (sym c.in-Some.ensures) in
@@ -76,7 +76,7 @@ returns-in_err-change g c =
     let t_is : t ≡ touched_of (stat_of at n) wanted =
     c.touched_of-touched.ensures
     ∙ ap (λ (s : StatFields). touched_of s wanted) c.stat_of-there.ensures.value in
-    let free : wstat_fault v.user forest at n t ≡ None = rw (← c.holder.view_is) none in
+    let free : wstat_fault v.user forest at n t ≡ None = rw (← c.held.view_is) none in
     let done =
     wstat_answer-done c.args.setting.now forest c.args.session.now c.args.now c.args.fid wanted
     v n at t c.file-at.ensures held (sym c.in-Some-node.ensures) fixed t_is free in
@@ -91,9 +91,9 @@ returns g c =
     let n = c.in-Some-node.file.now in
     let at = c.file-at.result in
     let t : Touched = touched_view c.touched_of-touched.result in
-    let none : wstat_fault c.holder.inside.user forest at n t ≡ None =
+    let none : wstat_fault c.held.inside.user forest at n t ≡ None =
     sym c.wstat_fault.ensures ∙ c.in_default-wstat_fault.is in
-    let v = c.in-Some.holder.now in
+    let v = c.in-Some.held.now in
     let wanted : StatFields = stat_view c.args.wanted.now in
     let held : fid_at c.args.fid c.args.session.now.fids ≡ Some v =
     rw (← c.session.view_is) (sym c.in-Some.ensures) in
@@ -103,7 +103,7 @@ returns g c =
     let t_is : t ≡ touched_of (stat_of at n) wanted =
     c.touched_of-touched.ensures
     ∙ ap (λ (s : StatFields). touched_of s wanted) c.stat_of-there.ensures.value in
-    let free : wstat_fault v.user forest at n t ≡ None = rw (← c.holder.view_is) none in
+    let free : wstat_fault v.user forest at n t ≡ None = rw (← c.held.view_is) none in
     let done =
     wstat_answer-done c.args.setting.now forest c.args.session.now c.args.now c.args.fid wanted
     v n at t c.file-at.ensures held (sym c.in-Some-node.ensures) fixed t_is free in
@@ -111,15 +111,15 @@ returns g c =
     let middle = map g.T.Tree.state c.change.new.self.trees.items in
     let new = map g.T.Tree.state c.mark_parent.new.forest.trees.items in
     let made : middle ≡ forest_changed_at at
-    (changed (node_change c.holder.inside.user c.args.now t)) forest = c.in_ok-change.ensures.ok
+    (changed (node_change c.held.inside.user c.args.now t)) forest = c.in_ok-change.ensures.ok
     ∙ ap (λ (d : NodeChange). forest_changed_at at (changed d) forest)
     c.node_change-change.ensures in
     let change : middle ≡ forest_changed_at at (changed (node_change v.user c.args.now t)) forest =
-    rw (← c.holder.view_is) made in
-    let marked : new ≡ all_applied (parent_marked c.holder.inside.user c.args.now at n.parent)
+    rw (← c.held.view_is) made in
+    let marked : new ≡ all_applied (parent_marked c.held.inside.user c.args.now at n.parent)
     middle = c.mark_parent.ensures
-    ∙ ap (λ p. all_applied (parent_marked c.holder.inside.user c.args.now at p) middle)
+    ∙ ap (λ p. all_applied (parent_marked c.held.inside.user c.args.now at p) middle)
     c.parent-parent.ensures in
     let mark : new ≡ all_applied (parent_marked v.user c.args.now at n.parent) middle =
-    rw (← c.holder.view_is) marked in
+    rw (← c.held.view_is) marked in
     wstat-did _ forest middle new c.args.session.now v.user c.args.now at n t done some change mark

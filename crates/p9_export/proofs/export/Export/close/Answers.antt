@@ -9,7 +9,7 @@ end_fids-requires g c =
     let forest = map g.T.Tree.state c.self.inside.forest.trees.items in
     let its =
     session-sound c.self.inside.setting.table forest c.self.inside.sessions.entries
-    c.well_formed-2.ensures c.self.invariant c.args.s c.in-Some.session
+    c.well_formed-2.ensures c.self.invariant c.args.name c.in-Some.session
     (sym c.remove.ensures.value ∙ c.in-Some.is) in
     subst (FidsFit c.self.inside.setting.table forest)
     (sym (ap (λ (s : Session). s.fids) c.session.view_is)) its.0
@@ -19,7 +19,7 @@ invariant_of-self g c =
     let forest = map g.T.Tree.state c.self.inside.forest.trees.items in
     rw (c.end_fids.ensures.forest, c.remove.ensures.entries)
     (sound-closed c.self.inside.setting.table forest c.self.inside.sessions.entries
-    c.well_formed-2.ensures c.self.invariant c.args.s c.args.now (record {
+    c.well_formed-2.ensures c.self.invariant c.args.name c.args.now (record {
       msize = c.session.inside.msize;
       fids = c.session.inside.fids;
     }))

@@ -5,5 +5,5 @@ use Rattle.p9_export.proofs.export.Export.open.Goals as goal
 pub invariant_of-self : goal.invariant_of-self
 invariant_of-self g c =
     sound-put c.self.inside.setting.table (map g.T.Tree.state c.self.inside.forest.trees.items)
-    c.self.inside.sessions.entries _ c.args.s c.session.result c.insert.result c.self.invariant
+    c.self.inside.sessions.entries _ c.args.name c.session.result c.insert.result c.self.invariant
     c.session.ensures c.insert.ensures.entries c.insert.ensures.err
