@@ -7,7 +7,7 @@ use Rattle.p9_base.specs.Statement.{statements_of}
 use Rattle.p9_base.specs.Results.{and_then, try_fold}
 use Rattle.p9_world.specs.declared.error.LineFault.{LineFault}
 use Rattle.p9_world.specs.declared.error.LineFault.TheVariants.{NoServer}
-use Rattle.p9_world.specs.Reading.{read_statement, with_a_server, world_of}
+use Rattle.p9_world.specs.Read.{read_statement, with_a_server, world_of}
 use Rattle.p9_world.specs.World.{World, empty_world}
 
 -- a text that makes no server

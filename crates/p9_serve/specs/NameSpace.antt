@@ -3,7 +3,7 @@ use Rattle.std.specs.Prelude.{ℕ, List, [], Option, Some, None, Result, Ok, unw
 use Rattle.p9_base.specs.Results.{and_then}
 use Rattle.p9_space.specs.Table.{MountRow}
 use Rattle.p9_world.specs.World.{World}
-use Rattle.p9_world.specs.Reading.{world_of}
+use Rattle.p9_world.specs.Read.{world_of}
 use Rattle.p9_nsfile.specs.Line.{BadLineOf}
 use Rattle.p9_nsfile.specs.Run.{run_of}
 use Rattle.p9_nsfile.specs.Space.{Report, Setting}

@@ -1,7 +1,7 @@
 -- Why a command does nothing, and how it is told.
 use Rattle.std.specs.Prelude.{◌≡◌, ℕ, List, ◌++◌, Result, Ok, Err, codes}
 use Rattle.std.specs.Fmt.{decimal}
-use Rattle.p9_world.specs.Text.{line_fault_text}
+use Rattle.p9_world.specs.Error.{line_fault_text}
 use Rattle.p9_nsfile.specs.Text.{form_text}
 use Rattle.p9_serve.specs.declared.refusal.Refusal.{Refusal}
 use Rattle.p9_serve.specs.declared.refusal.Refusal.TheVariants.{BadCommandLine, NotUtf8, BadSection}

@@ -9,7 +9,7 @@ use Rattle.p9_world.specs.declared.error.LineFault.{LineFault}
 use Rattle.p9_world.specs.declared.error.LineFault.TheVariants.{NoServer}
 use Rattle.p9_world.specs.declared.error.WorldError.{WorldError}
 use Rattle.p9_world.specs.declared.error.WorldError.TheVariants.{BadWorld, NoMemory}
-use Rattle.p9_world.specs.Reading.{Tells, read_statement, world_of}
+use Rattle.p9_world.specs.Read.{Tells, read_statement, world_of}
 use Rattle.p9_world.specs.World.{World, empty_world}
 
 -- a text of which all statements are read

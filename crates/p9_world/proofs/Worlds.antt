@@ -12,6 +12,7 @@ use Rattle.std.proofs.lemmas.Slice.Eq.{bytes_eq-Decides}
 use Rattle.std.proofs.lemmas.List.{length-set, length-map}
 use Rattle.std.proofs.lemmas.List.Elements.{All-weaker}
 use Rattle.std.proofs.lemmas.List.Quantifiers.{all_pairs_push, position-Some}
+use Rattle.std.proofs.lemmas.List.Sums.{fails_before_first}
 use Rattle.p9_base.specs.declared.node_ref.NodeRef.{NodeRef}
 use Rattle.p9_tree.specs.Node.{Node}
 use Rattle.p9_tree.specs.Server.{Server, WellFormed, is_dir_at, node_at, rooted}
@@ -30,13 +31,6 @@ use Rattle.p9_world.specs.declared.error.LineFault.{LineFault}
 use Rattle.p9_world.specs.declared.error.LineError.{LineError}
 use Rattle.p9_world.specs.declared.error.LineError.TheVariants.{Bad, NoMemory}
 
--- before the first place that passes, none does
-fails_before : {X : Type 0} (p : X → Bool) (xs : List X) (k : ℕ) (d : X) → k < position_or_len p xs
-    → p (get_or xs k d) ≡ false
-fails_before p [] k d lt = absurd (omega arith)
-fails_before p (x ∷ xs) zero d lt = grind (arith, nat_tests)
-fails_before p (x ∷ xs) (suc k) d lt = grind (arith, nat_tests, fails_before p xs k d)
-
 -- where no server has the name, each has another
 other_names : (name : List ℕ) (servers : List (List ℕ)) (k : ℕ) (d : List ℕ)
     → is_some (server_number name servers) ≡ false → k < length servers → get_or servers k d ≢ name
@@ -46,7 +40,7 @@ other_names name servers k d absent lt same =
     (bytes_eq-Decides (get_or servers k d) name).1 same in
     let all : length servers ≤ position_or_len (λ other. bytes_eq other name) servers =
     grind (arith, nat_tests) in
-    let fails = fails_before (λ other. bytes_eq other name) servers k d (omega arith) in
+    let fails = fails_before_first (λ other. bytes_eq other name) servers k d (omega arith) in
     cc
 
 -- a server that joins leaves the others' numbers
@@ -65,6 +59,7 @@ next_of-changed (suc i) zero (x ∷ xs) s le = omega arith
 next_of-changed zero (suc k) (x ∷ xs) s le = omega arith
 next_of-changed (suc i) (suc k) (x ∷ xs) s le = next_of-changed i k xs s le
 
+-- a server of a new name joins a world
 pub IsWorld-with_server : (name : List ℕ) (w : World) → IsWorld w
     → is_some (server_number name w.servers) ≡ false → length w.servers < servers_max
     → IsWorld (with_server name w)
@@ -99,6 +94,7 @@ server_line-ok name w valid absent room =
 abbrev pub with_changed_server : ℕ → Server → World → World
 with_changed_server k s w = record w { forest = tree_changed_at k (λ old. s) w.forest }
 
+-- it stays a world where the server's next number doesn't fall
 pub IsWorld-changed : (k : ℕ) (s : Server) (w : World) → IsWorld w → next_of k w.forest ≤ s.next
     → IsWorld (with_changed_server k s w)
 IsWorld-changed k s w ok le = record {

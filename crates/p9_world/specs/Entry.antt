@@ -23,6 +23,7 @@ use Rattle.p9_world.specs.World.{World}
 
 -- The last server.
 
+-- its number
 abbrev pub last_number : World → ℕ
 last_number w = length w.forest - 1
 
@@ -68,6 +69,7 @@ with_entry name names entry server =
 
 -- Lines.
 
+-- the owner and the group have names of users
 abbrev pub is_owned : List ℕ → List ℕ → Bool
 is_owned uid gid = is_user uid && is_user gid
 
@@ -84,6 +86,7 @@ with_dir (Some place) permissions uid gid server =
       bytes = [];
     }) server
 
+-- what comes of the last server by 'dir PATH MODE UID GID'
 abbrev pub dir_line : List ℕ → List ℕ → List ℕ → List ℕ → Server → Result Server LineFault
 dir_line path mode uid gid server =
     given (names_of path) BadPath (λ names.
@@ -95,6 +98,7 @@ dir_line path mode uid gid server =
 abbrev pub bytes_in : List ℕ → Option (List ℕ)
 bytes_in word = if bytes_eq word (codes "-") then Some [] else result_ok (decode_of word)
 
+-- what comes of it by 'file PATH MODE UID GID HEX'
 abbrev pub file_line : List ℕ → List ℕ → List ℕ → List ℕ → List ℕ → Server → Result Server LineFault
 file_line path mode uid gid hex server =
     given (names_of path) BadPath (λ names.

@@ -12,6 +12,7 @@ use Rattle.p9_world.specs.Path.{dir_of, names_of}
 use Rattle.p9_world.specs.Server.{server_number}
 use Rattle.p9_world.specs.World.{World}
 
+-- the directory is hidden already
 abbrev pub is_hidden_by : List NodeRef → NodeRef → Bool
 is_hidden_by hidden node = list_any (λ other. same_node other node) hidden
 
@@ -21,6 +22,7 @@ with_hidden node w =
     need (not (is_hidden_by w.hidden node)) Duplicate (
     Ok (record w { hidden = w.hidden ++ node ∷ [] }))
 
+-- what comes of a world by 'hide SERVER PATH'
 abbrev pub hide_line : List ℕ → List ℕ → World → Result World LineFault
 hide_line server path w =
     given (server_number server w.servers) NoServer (λ number.

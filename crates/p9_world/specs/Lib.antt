@@ -1,4 +1,4 @@
-pub mod Text
+pub mod Error
 pub mod Meaning
 pub mod World
 pub mod Path
@@ -8,4 +8,4 @@ pub mod Entry
 pub mod User
 pub mod Hide
 pub mod Variable
-pub mod Reading
+pub mod Read

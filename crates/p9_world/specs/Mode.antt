@@ -19,11 +19,12 @@ permissions_in (owner ∷ group ∷ others ∷ []) =
     else None
 permissions_in other = None
 
--- whether a word begins with the letter, and what follows it
+-- whether a word begins with the letter
 abbrev pub begins_with : ℕ → List ℕ → Bool
 begins_with letter [] = false
 begins_with letter (b ∷ bs) = b == letter
 
+-- what follows the letter, or the word where it doesn't begin with it
 abbrev pub behind : ℕ → List ℕ → List ℕ
 behind letter word = if begins_with letter word then drop 1 word else word
 

@@ -28,6 +28,7 @@ server_number name servers = position (λ other. bytes_eq other name) servers
 abbrev pub with_server : List ℕ → World → World
 with_server name w = record w { forest = w.forest ++ rooted ∷ []; servers = w.servers ++ name ∷ [] }
 
+-- what comes of a world by 'server NAME'
 abbrev pub server_line : List ℕ → World → Result World LineFault
 server_line name w =
     need (is_server_name name) BadName (

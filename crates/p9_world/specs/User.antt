@@ -8,9 +8,11 @@ use Rattle.p9_world.specs.declared.error.LineFault.{LineFault}
 use Rattle.p9_world.specs.declared.error.LineFault.TheVariants.{BadUser, Duplicate}
 use Rattle.p9_world.specs.World.{World}
 
+-- a user of this name is listed already
 abbrev pub is_listed : List ℕ → List (List ℕ) → Bool
 is_listed name users = list_any (λ user. bytes_eq user name) users
 
+-- what comes of a world by 'user NAME': the user joins those that are listed
 abbrev pub user_line : List ℕ → World → Result World LineFault
 user_line name w =
     need (is_user name) BadUser (

@@ -14,9 +14,11 @@ use Rattle.p9_world.specs.World.{World}
 abbrev pub is_variable_name : List ℕ → Bool
 is_variable_name name = nat_le 1 (length name) && not (list_any (λ b. is_slash b || b == 36) name)
 
+-- a variable of this name has a value already
 abbrev pub is_set : List ℕ → List Variable → Bool
 is_set name vars = list_any (λ var. bytes_eq var.0 name) vars
 
+-- what comes of a world by 'set NAME VALUE': the variable joins the others
 abbrev pub set_line : List ℕ → List ℕ → World → Result World LineFault
 set_line name value w =
     need (is_variable_name name) BadName (

@@ -1,7 +1,7 @@
 //! What may be wrong with a world's text.
 
 ghost use Rattle.std.specs.Prelude.{◌≡◌};
-ghost use Rattle.p9_world.specs.Text.{line_fault_text};
+ghost use Rattle.p9_world.specs.Error.{line_fault_text};
 
 use p9_base::NoMemory;
 use std::alloc::{AllocError, AllocFailed};

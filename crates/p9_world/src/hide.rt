@@ -52,8 +52,9 @@ fn add_hidden<T: Tree>(world: &mut World<T>, node: NodeRef) -> Result<(), LineEr
     Ok(())
 }
 
+// Whether the directory is hidden already.
 fn is_hidden_by(hidden: &[NodeRef], node: NodeRef) -> bool
     ensures { result ≡ is_hidden_by hidden.now node }
 {
-    hidden.iter().any(|other| other.server == node.server && other.number == node.number)
+    hidden.iter().any(|other| *other == node)
 }

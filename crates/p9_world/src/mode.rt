@@ -22,6 +22,7 @@ pub(crate) fn permissions_in(word: &[u8]) -> Option<Permissions>
     Some(Permissions::from_bits(bits))
 }
 
+// Whether the byte is `0` to `7`.
 fn is_octal_digit(byte: u8) -> bool
     ensures { result ≡ is_octal_digit byte }
 {

@@ -3,8 +3,8 @@
 ghost use Rattle.std.specs.Prelude.{◌≡◌, IfErr, IfOk, Ok, map};
 ghost use Rattle.p9_base.specs.Statement.{statement_value};
 ghost use Rattle.p9_world.specs.Meaning.{Makes};
-ghost use Rattle.p9_world.specs.Reading.{Steps, Tells, line_meaning, operated, operation_of};
-ghost use Rattle.p9_world.specs.Reading.{read_statement, world_of};
+ghost use Rattle.p9_world.specs.Read.{Steps, Tells, line_meaning, operated, operation_of};
+ghost use Rattle.p9_world.specs.Read.{read_statement, world_of};
 
 use crate::entry::{add_dir, add_file};
 use crate::error::{LineError, LineFault, WorldError};
@@ -91,6 +91,7 @@ fn read_line<T: Tree>(
     operate(alloc, world, operation, words)
 }
 
+// The operation that a word names.
 fn operation_of(word: &str) -> Option<Operation>
     ensures { result ≡ operation_of word.now }
 {

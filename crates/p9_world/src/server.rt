@@ -49,6 +49,7 @@ fn is_server_name(name: &str) -> bool
     1 <= name.len() && name.len() <= 63 && !has_reserved(name)
 }
 
+// Whether one of `/`, `#`, `$` and NUL is among the bytes.
 fn has_reserved(name: &str) -> bool
     ensures { result ≡ list_any is_reserved name.now }
 {

@@ -24,12 +24,14 @@ pub(crate) fn add_user<T: Tree>(world: &mut World<T>, name: &str) -> Result<(), 
     Ok(())
 }
 
+// Whether a user of this name is listed already.
 fn is_listed(name: &str, users: &[User]) -> bool
     ensures { result ≡ is_listed name.now users.now }
 {
     users.iter().any(|user| is_named(user, name))
 }
 
+// Whether the user has this name.
 fn is_named(user: &User, name: &str) -> bool
     ensures { result ≡ bytes_eq user.now name.now }
 {

@@ -32,6 +32,7 @@ pub(crate) fn set_variable<T: Tree>(
     Ok(())
 }
 
+// Whether a variable of this name has a value already.
 fn is_set<A: Allocator>(name: &str, vars: &[(String<A>, String<A>)]) -> bool
     ensures { result ≡ is_set name.now (variables_of vars.now) }
 {
@@ -42,10 +43,11 @@ fn is_set<A: Allocator>(name: &str, vars: &[(String<A>, String<A>)]) -> bool
 fn is_variable_name(name: &str) -> bool
     ensures { result ≡ is_variable_name name.now }
 {
-    1 <= name.len() && !has_mark(name)
+    1 <= name.len() && !has_slash_or_dollar(name)
 }
 
-fn has_mark(name: &str) -> bool
+// Whether a `/` or a `$` is among the bytes: either ends a variable's name in a word.
+fn has_slash_or_dollar(name: &str) -> bool
     ensures { result ≡ list_any (λ b. b == 47 || b == 36) name.now }
 {
     name.bytes().any(|b| b == b'/' || b == b'$')

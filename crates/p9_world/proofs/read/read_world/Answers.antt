@@ -5,7 +5,7 @@ use Rattle.std.proofs.lemmas.Result.{err_from_is_err_and}
 use Rattle.p9_base.specs.Statement.{statement_value, statements_of}
 use Rattle.p9_base.specs.Results.{try_fold}
 use Rattle.p9_base.proofs.Results.{try_fold-err, try_fold-ok}
-use Rattle.p9_world.specs.Reading.{read_statement}
+use Rattle.p9_world.specs.Read.{read_statement}
 use Rattle.p9_world.specs.World.{World}
 use Rattle.p9_world.proofs.Readings.{Tells-world_of, world_of-none, world_of-ok}
 use Rattle.p9_world.proofs.read.read_world.Goals as goal

@@ -1,7 +1,7 @@
 use Rattle.std.proofs.Common.{◌≡◌, drop}
 use Rattle.p9_base.specs.Statement.{statements_of}
 use Rattle.p9_base.specs.Results.{try_fold}
-use Rattle.p9_world.specs.Reading.{read_statement}
+use Rattle.p9_world.specs.Read.{read_statement}
 use Rattle.p9_world.specs.World.{empty_world}
 use Rattle.p9_world.proofs.read.read_world.Given as goal
 

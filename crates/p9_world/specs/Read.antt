@@ -3,7 +3,7 @@ use Rattle.std.specs.Prelude.{◌≡◌, ℕ, nat_lt, List, [], ◌∷◌, Optio
 use Rattle.std.specs.Prelude.{length, codes, if◌then◌else◌}
 use Rattle.std.specs.Str.{bytes_eq}
 use Rattle.p9_base.specs.Statement.{statements_of}
-use Rattle.p9_base.specs.Results.{and_then, given, try_fold}
+use Rattle.p9_base.specs.Results.{and_then, given, need, try_fold}
 use Rattle.p9_world.specs.declared.error.LineFault.{LineFault}
 use Rattle.p9_world.specs.declared.error.LineFault.TheVariants.{UnknownWord, WordCount, NoServer}
 use Rattle.p9_world.specs.declared.error.WorldError.{WorldError}
@@ -39,6 +39,7 @@ operated Hide (server ∷ path ∷ []) w = hide_line server path w
 operated Set (name ∷ value ∷ []) w = set_line name value w
 operated operation words w = Err WordCount
 
+-- what comes of a world by a line of these words
 abbrev pub line_meaning : List (List ℕ) → World → Result World LineFault
 line_meaning [] w = Err UnknownWord
 line_meaning (word ∷ words) w =
@@ -49,12 +50,13 @@ abbrev pub at_line : {X : Type 0} → ℕ → Result X LineFault → Result X (�
 at_line line (Ok value) = Ok value
 at_line line (Err fault) = Err (line, fault)
 
+-- what comes of a world by a statement
 abbrev pub read_statement : World → ℕ × List (List ℕ) → Result World (ℕ × LineFault)
 read_statement w statement = at_line statement.0 (line_meaning statement.1 w)
 
 -- a world has a server
 abbrev pub with_a_server : World → Result World (ℕ × LineFault)
-with_a_server w = if nat_lt 0 (length w.servers) then Ok w else Err (0, NoServer)
+with_a_server w = need (nat_lt 0 (length w.servers)) (0, NoServer) (Ok w)
 
 -- the world of the text, or the number of its first bad line and what is wrong there; 0 stands for
 -- the whole text

@@ -1,4 +1,4 @@
--- The texts of what is told of a world's line.
+-- The texts of what may be wrong with a line of a world's text.
 use Rattle.std.specs.Prelude.{ℕ, List, codes}
 use Rattle.p9_world.specs.declared.error.LineFault.{LineFault}
 use Rattle.p9_world.specs.declared.error.LineFault.TheVariants.{UnknownWord, WordCount, NoServer}
@@ -6,6 +6,7 @@ use Rattle.p9_world.specs.declared.error.LineFault.TheVariants.{BadName, BadPath
 use Rattle.p9_world.specs.declared.error.LineFault.TheVariants.{BadHex, TooLarge, NoParent}
 use Rattle.p9_world.specs.declared.error.LineFault.TheVariants.{Duplicate, TooMany}
 
+-- the text that a report carries
 abbrev pub line_fault_text : LineFault → List ℕ
 line_fault_text UnknownWord = codes "unknown word"
 line_fault_text WordCount = codes "wrong number of words"
