@@ -7,7 +7,8 @@ use Rattle.p9_nsfile.specs.declared.fault.OpFault.TheVariants.{SpecGiven}
 use Rattle.p9_nsfile.specs.declared.flags.Flags.{Flags}
 use Rattle.p9_nsfile.specs.Bind.{has_spec, mounted_by, root_mounted}
 use Rattle.p9_nsfile.specs.Find.{server_root}
-use Rattle.p9_nsfile.specs.Space.{Setting, Space}
+use Rattle.p9_nsfile.specs.Setting.{Setting}
+use Rattle.p9_nsfile.specs.Space.{Space}
 use Rattle.p9_nsfile.specs.Variable.{expanded}
 
 -- a mount whose server is known, without a spec

@@ -27,7 +27,8 @@ use Rattle.p9_nsfile.specs.declared.fault.Stop.TheVariants as stops
 use Rattle.p9_nsfile.specs.declared.setting.TheConstants.{SERVERS_MAX}
 use Rattle.p9_nsfile.specs.Answer.{Gives, is_memory, walk_stop}
 use Rattle.p9_nsfile.specs.Find.{behind_hash, found_on_server, path_fault, server_root, walked}
-use Rattle.p9_nsfile.specs.Space.{Setting, Space}
+use Rattle.p9_nsfile.specs.Setting.{Setting}
+use Rattle.p9_nsfile.specs.Space.{Space}
 
 -- a walk along the elements of a cleaned path
 pub walk-cleaned : (forest : List Server) (table : List MountRow) (start : List NodeRef)

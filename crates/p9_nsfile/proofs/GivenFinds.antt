@@ -29,7 +29,8 @@ use Rattle.p9_nsfile.specs.declared.setting.TheConstants.{SERVERS_MAX}
 use Rattle.p9_nsfile.specs.Find.{behind_hash, found, found_at, found_file, found_from}
 use Rattle.p9_nsfile.specs.Find.{found_on_server, path_fault, server_root, walked}
 use Rattle.p9_nsfile.specs.Flags.{Word}
-use Rattle.p9_nsfile.specs.Space.{Setting, Space}
+use Rattle.p9_nsfile.specs.Setting.{Setting}
+use Rattle.p9_nsfile.specs.Space.{Space}
 use Rattle.p9_nsfile.specs.Variable.{expanded}
 
 -- what comes of a value of which something holds

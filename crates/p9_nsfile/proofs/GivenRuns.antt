@@ -32,7 +32,8 @@ use Rattle.p9_nsfile.specs.Flags.{Word}
 use Rattle.p9_nsfile.specs.Line.{NumberedLine}
 use Rattle.p9_nsfile.specs.Run.{acted, entered, included, included_lines, line_done, lines_done}
 use Rattle.p9_nsfile.specs.Run.{reported}
-use Rattle.p9_nsfile.specs.Space.{Setting, Space, beginning}
+use Rattle.p9_nsfile.specs.Setting.{Setting}
+use Rattle.p9_nsfile.specs.Space.{Space, beginning}
 use Rattle.p9_nsfile.specs.Variable.{expanded}
 use Rattle.p9_nsfile.specs.Given.{KeepsGiven}
 use Rattle.p9_nsfile.proofs.GivenFinds.{IsSpaceGiven, IsTrailGiven, found-given, found_file-given}

@@ -14,7 +14,8 @@ use Rattle.p9_nsfile.specs.declared.fault.Stop.TheVariants as stops
 use Rattle.p9_nsfile.specs.Answer.{Acts, GivesLines}
 use Rattle.p9_nsfile.specs.Line.{NumberedLine, lines_in}
 use Rattle.p9_nsfile.specs.Run.{file_lines, included, included_lines, lines_done, or_bad_include}
-use Rattle.p9_nsfile.specs.Space.{Setting, Space}
+use Rattle.p9_nsfile.specs.Setting.{Setting}
+use Rattle.p9_nsfile.specs.Space.{Space}
 
 module _ (n : Node) (directory : Bool) (bytes : List ℕ) (asked : directory ≡ is_dir n)
     (file : directory ≡ false) (read : bytes ≡ n.bytes) where

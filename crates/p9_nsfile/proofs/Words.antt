@@ -1,12 +1,12 @@
 -- Lists that are read through a view, as the words of a line are.
-use Rattle.std.proofs.Common.{◌≡◌, ℕ, ◌+◌, ◌-◌, ◌<◌, Bool, true, false, cond, List, [], ◌∷◌, ◌++◌}
-use Rattle.std.proofs.Common.{Option, Some, None, Result, Ok, Err, Bor, subst, map, length, not}
-use Rattle.std.proofs.Common.{position, take, drop, get_or, refl, sym, ap, ◌∙◌, arith, append_assoc}
-use Rattle.std.proofs.Common.{length-drop, find, string_bytes, ◌||◌}
-use Rattle.std.proofs.lemmas.List.{take-map, drop-map, take_all, drop_more, length-map}
+use Rattle.std.proofs.Common.{◌≡◌, ℕ, ◌+◌, ◌-◌, ◌<◌, List, [], ◌++◌}
+use Rattle.std.proofs.Common.{Option, Some, None, Result, Ok, Err, Bor, subst, map, length}
+use Rattle.std.proofs.Common.{take, drop, get_or, sym, ap, ◌∙◌, arith, append_assoc}
+use Rattle.std.proofs.Common.{length-drop, find, string_bytes}
+use Rattle.std.proofs.lemmas.List.{take-map, drop-map, take_all, drop_more}
 use Rattle.std.specs.Option.{option_map, option_map_or}
 use Rattle.std.specs.Result.{IfErr, IsErrAnd}
-use Rattle.std.specs.List.{flat_map, list_any, position_or_len, prefix_len}
+use Rattle.std.specs.List.{flat_map, prefix_len}
 use Rattle.std.specs.Str.{bytes_eq}
 use Rattle.std.specs.declared.string.String.{String}
 use Rattle.p9_base.specs.Variable.{variables_of}

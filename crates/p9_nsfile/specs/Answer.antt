@@ -28,6 +28,7 @@ abbrev pub is_memory : fault.Fault → Bool
 is_memory faults.OutOfMemory = true
 is_memory other = false
 
+-- why a walk ends
 abbrev pub walk_stop : fault.Fault → Stop
 walk_stop fault = if is_memory fault then NoMemory else Fault (Path fault)
 

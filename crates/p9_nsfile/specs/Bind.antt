@@ -18,7 +18,8 @@ use Rattle.p9_nsfile.specs.declared.fault.OpFault.TheVariants.{SpecGiven}
 use Rattle.p9_nsfile.specs.declared.flags.Flags.{Flags}
 use Rattle.p9_nsfile.specs.Find.{found, found_file, server_root}
 use Rattle.p9_nsfile.specs.Flags.{Word}
-use Rattle.p9_nsfile.specs.Space.{Setting, Space}
+use Rattle.p9_nsfile.specs.Setting.{Setting}
+use Rattle.p9_nsfile.specs.Space.{Space}
 use Rattle.p9_nsfile.specs.Variable.{expanded}
 
 abbrev pub is_replace : Order → Bool
@@ -71,10 +72,12 @@ bound_by setting space flags new old =
     and_then (found setting space old) (λ to.
     put_at setting space (here to) (member_nodes space.table (here from)) flags))
 
+-- why nothing is unmounted
 abbrev pub unmount_fault : UnmountError → OpFault
 unmount_fault u.NotMounted = NotMounted
 unmount_fault u.NotMember = NotMember
 
+-- the name space with the table that is left, or the fault
 abbrev pub after_unmount : Space → Result (List MountRow) UnmountError → Result Space OpFault
 after_unmount space (Ok table) = Ok (with_table space table)
 after_unmount space (Err error) = Err (unmount_fault error)

@@ -16,7 +16,8 @@ use Rattle.p9_space.specs.Walk.{walk}
 use Rattle.p9_nsfile.specs.declared.fault.OpFault.{OpFault}
 use Rattle.p9_nsfile.specs.declared.fault.OpFault.TheVariants.{Path, UnknownServer}
 use Rattle.p9_nsfile.specs.Flags.{Word}
-use Rattle.p9_nsfile.specs.Space.{Setting, Space}
+use Rattle.p9_nsfile.specs.Setting.{Setting}
+use Rattle.p9_nsfile.specs.Space.{Space}
 use Rattle.p9_nsfile.specs.Variable.{expanded}
 
 -- a walk's fault is the path's
@@ -51,6 +52,7 @@ module _ (setting : Setting) (space : Space) where
       and_then (server_root setting.servers (before_first is_slash path))
       (λ root. walked (root ∷ []) (slash ∷ after_first is_slash path))
 
+  -- the trail to the file that a path names
   abbrev pub found_at : Word → Result (List NodeRef) OpFault
   found_at path = option_map_or found_on_server (behind_hash path) (found_from path)
 

@@ -22,6 +22,7 @@ is_flag_letter b = ((b == 97 || b == 98) || b == 99) || b == 67
 abbrev pub is_good : Word → Bool
 is_good flag = nat_lt 0 (length (drop 1 flag)) && list_all is_flag_letter (drop 1 flag)
 
+-- the flag has the letter
 abbrev pub contains : ℕ → Word → Bool
 contains letter flag = list_any (λ b. b == letter) flag
 

@@ -18,6 +18,7 @@ NumberedLine = ℕ × Operation Word
 abbrev pub BadLineOf : Type 0
 BadLineOf = ℕ × BadForm
 
+-- with the line's number
 abbrev pub numbered : ℕ → Form → Result NumberedLine BadLineOf
 numbered number (Ok operation) = Ok (number, operation)
 numbered number (Err kind) = Err (number, kind)
@@ -34,6 +35,7 @@ with_line lines statement = and_then (line_of statement) (λ line. Ok (lines ++ 
 unfoldable pub lines_in : List ℕ → Result (List NumberedLine) BadLineOf
 lines_in text = try_fold with_line [] (statements_of text)
 
+-- a line of the code, as it is seen
 abbrev pub line_value : Line → NumberedLine
 line_value line = (line.number, operation_value line.operation)
 

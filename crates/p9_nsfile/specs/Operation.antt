@@ -111,6 +111,7 @@ operation_value Clear = Clear
 operation_value (Include path) = Include path.now
 operation_value Import = Import
 
+-- an answer of the code, as a form
 abbrev pub form_value : Result (Operation (Bor (List ℕ))) BadForm → Form
 form_value (Ok operation) = Ok (operation_value operation)
 form_value (Err kind) = Err kind

@@ -19,7 +19,8 @@ use Rattle.p9_nsfile.specs.Bind.{bound_by, mounted_by, unmounted_by, with_table}
 use Rattle.p9_nsfile.specs.Find.{found, found_file}
 use Rattle.p9_nsfile.specs.Flags.{Word}
 use Rattle.p9_nsfile.specs.Line.{BadLineOf, NumberedLine, lines_in}
-use Rattle.p9_nsfile.specs.Space.{Report, Setting, Space, beginning}
+use Rattle.p9_nsfile.specs.Setting.{Setting}
+use Rattle.p9_nsfile.specs.Space.{Report, Space, beginning}
 
 -- how deep included files may be nested
 abbrev pub nested_max : ℕ
@@ -31,6 +32,7 @@ abbrev pub or_bad_include : Result (List NumberedLine) BadLineOf
 or_bad_include (Ok lines) = Ok lines
 or_bad_include (Err bad) = Err BadInclude
 
+-- the lines of a file, if it is one and may be included
 abbrev pub file_lines : Option Node → Result (List NumberedLine) OpFault
 file_lines None = Err (Path PhaseError)
 file_lines (Some n) =

@@ -1,5 +1,5 @@
 -- Variables in the words of a line, as namespace(6).
-use Rattle.std.specs.Prelude.{ℕ, ◌==◌, Bool, List, [], ◌∷◌, ◌++◌, drop, find}
+use Rattle.std.specs.Prelude.{ℕ, ◌==◌, List, [], ◌∷◌, ◌++◌, drop, find}
 use Rattle.std.specs.Option.{option_map_or}
 use Rattle.std.specs.List.{before_first, flat_map, position_or_len, slice_split}
 use Rattle.std.specs.Str.{bytes_eq}
@@ -23,6 +23,7 @@ from_slash piece = drop (position_or_len is_slash piece) piece
 abbrev pub with_value : List Variable → Word → Word
 with_value vars piece = value_of vars (before_first is_slash piece) ++ from_slash piece
 
+-- a word from its pieces, of which all but the first stood behind a dollar
 abbrev pub joined_pieces : List Variable → List Word → Word
 joined_pieces vars [] = []
 joined_pieces vars (first ∷ pieces) = first ++ flat_map (with_value vars) pieces

@@ -7,7 +7,7 @@ ghost use Rattle.p9_nsfile.specs.Line.{IsNsFault, line_value, lines_in};
 ghost use Rattle.p9_nsfile.specs.Operation.{operation_value};
 ghost use Rattle.p9_nsfile.specs.Run.{acted, entered, file_lines, included, included_lines};
 ghost use Rattle.p9_nsfile.specs.Run.{line_done, lines_done, or_bad_include, run_of};
-ghost use Rattle.p9_nsfile.specs.Space.{setting_value};
+ghost use Rattle.p9_nsfile.specs.Setting.{setting_value};
 
 use crate::bind::{bind, mount, unmount};
 use crate::error::NsError;

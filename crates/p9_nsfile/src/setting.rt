@@ -8,7 +8,7 @@ ghost use Rattle.p9_tree.specs.Forest.{is_dir_of, node_of};
 ghost use Rattle.p9_space.specs.Walk.{walk};
 ghost use Rattle.p9_nsfile.specs.Answer.{Gives, walk_stop};
 ghost use Rattle.p9_nsfile.specs.Find.{path_fault, server_root};
-ghost use Rattle.p9_nsfile.specs.Space.{setting_value};
+ghost use Rattle.p9_nsfile.specs.Setting.{setting_value};
 ghost use Rattle.p9_nsfile.specs.Variable.{expanded};
 
 use crate::fault::{OpFault, Stop};
@@ -32,7 +32,7 @@ pub(crate) struct Setting<'a, T: Tree> {
 }
 
 impl<'a, T: Tree> Model for Setting<'a, T> {
-    ghost use Rattle.p9_nsfile.specs.Space.{Setting as SettingOf, setting_value};
+    ghost use Rattle.p9_nsfile.specs.Setting.{Setting as SettingOf, setting_value};
 
     ghost Value = { SettingOf };
 

@@ -1,13 +1,17 @@
 //! What namespace files do, over the sample worlds.
 
-use crate::{BadForm, NsError, OpFault, run_file};
-use p9_base::{Fault, Mode, Name, NoMemory, NodeRef, User};
-use p9_refusing::Refusing;
+mod binds;
+mod faults;
+mod forms;
+mod includes;
+mod refused;
+
+use crate::{NsError, OpFault, run_file};
+use p9_base::{Mode, Name, NoMemory, NodeRef, User};
 use p9_space::MountTable;
 use p9_tree::{FILE_MAX, Forest, NEXT_MAX, New, PlainTree, Tree};
-use std::alloc::{Allocator, Global};
+use std::alloc::Allocator;
 use std::process::Abort;
-use std::test::Fail;
 
 // A node of a sample world, behind its root: a directory, or a file of these bytes.
 #[derive(Clone, Copy)]
@@ -88,8 +92,8 @@ fn has_rows<A: Allocator + Copy>(rt: &impl Abort, table: &MountTable<A>, rows: R
         let (found, row) = table.row(position).expect(rt, "a row");
         assert_eq!(rt; found, node(*key));
         assert_eq!(rt; row.len(), members.len());
-        for (place, (number, create)) in members.iter().enumerate() {
-            let member = row.get(place).expect(rt, "a member");
+        for (index, (number, create)) in members.iter().enumerate() {
+            let member = row.get(index).expect(rt, "a member");
             assert_eq!(rt; (member.node, member.create), (node(*number), *create));
         }
     }
@@ -119,77 +123,9 @@ fn makes<A: Allocator + Copy>(
     Ok(())
 }
 
-// Nodes 1 to 4: /usr, /usr/glenda, /usr/glenda/tmp and /tmp.
-fn home_nodes() -> [Made; 4] {
-    [
-        dir(0, "usr"),
-        dir(1, "glenda"),
-        dir(2, "tmp"),
-        dir(0, "tmp"),
-    ]
-}
-
 // Nodes 1 to 3: /a, /a/b and /a/f.
 fn small_nodes() -> [Made; 3] {
     [dir(0, "a"), dir(1, "b"), file(1, "f", "hi")]
-}
-
-// Nodes 1 to 4: /u, /u/n, /x and /x/n.
-fn union_nodes() -> [Made; 4] {
-    [
-        dir(0, "u"),
-        file(1, "n", "u"),
-        dir(0, "x"),
-        file(3, "n", "x"),
-    ]
-}
-
-#[test]
-fn row_namespace_file(rt: HostRuntime) -> Result<(), Fail> {
-    let bad = "# temporary\nbind -c $home/tmp /tmp\nbind /none /tmp\n\nbind -z /usr /tmp\n";
-    let refused = makes(&rt, rt.alloc(), &home_nodes(), bad, &[], &[]);
-    let error = NsError::BadLine {
-        line: 5,
-        kind: BadForm::BadFlag,
-    };
-    assert_eq!(rt; refused, Err(error));
-    let text = "# temporary\nbind -c $home/tmp /tmp\nbind /none /tmp\n";
-    let reports = [(3, OpFault::Path(Fault::NotFound))];
-    makes(
-        &rt,
-        rt.alloc(),
-        &home_nodes(),
-        text,
-        &reports,
-        &[(4, &[(3, true)])],
-    )?;
-    Ok(())
-}
-
-#[test]
-fn a_union_takes_the_old_directory(rt: HostRuntime) -> Result<(), Fail> {
-    let rows: Rows<'_> = &[(3, &[(3, false), (1, true)])];
-    makes(&rt, rt.alloc(), &union_nodes(), "bind -ac /u /x", &[], rows)?;
-    let rows: Rows<'_> = &[(3, &[(1, false), (3, false)])];
-    makes(&rt, rt.alloc(), &union_nodes(), "bind -b /u /x", &[], rows)?;
-    Ok(())
-}
-
-#[test]
-fn a_current_directory_and_an_unmount(rt: HostRuntime) -> Result<(), Fail> {
-    let text = "cd /usr\nbind glenda/tmp /tmp\nunmount /tmp\nunmount /tmp\n";
-    makes(
-        &rt,
-        rt.alloc(),
-        &home_nodes(),
-        text,
-        &[(4, OpFault::NotMounted)],
-        &[],
-    )?;
-    let text = "bind -a $home/tmp /tmp\nbind -a /usr /tmp\nunmount $home/tmp /tmp";
-    let rows: Rows<'_> = &[(4, &[(4, false), (1, false)])];
-    makes(&rt, rt.alloc(), &home_nodes(), text, &[], rows)?;
-    Ok(())
 }
 
 // The files 4 to 6: one includes itself, one acts and has an operation that fails, and one has a
@@ -203,173 +139,4 @@ fn include_nodes() -> [Made; 6] {
         file(0, "acts", "cd /a\n\nbind b /a/b\ncd /none\n"),
         file(0, "bad", "bind /a /a/b\nbind\n"),
     ]
-}
-
-#[test]
-fn files_are_included(rt: HostRuntime) -> Result<(), Fail> {
-    let deep = [(1, OpFault::TooDeep)];
-    makes(&rt, rt.alloc(), &include_nodes(), ". /ns", &deep, &[])?;
-    let text = "# files\n. /acts\nbind f f\n. bad\n. /bad\n. /a\n";
-    let reports = [
-        (2, OpFault::Path(Fault::NotFound)),
-        (4, OpFault::Path(Fault::NotFound)),
-        (5, OpFault::BadInclude),
-        (6, OpFault::BadInclude),
-    ];
-    let rows: Rows<'_> = &[(2, &[(2, false)]), (3, &[(3, false)])];
-    makes(&rt, rt.alloc(), &include_nodes(), text, &reports, rows)?;
-    Ok(())
-}
-
-// The server's root itself is mounted, whatever is bound there.
-#[test]
-fn a_mount_takes_the_root_itself(rt: HostRuntime) -> Result<(), Fail> {
-    let text = "bind -b /u /\nmount -c main /x\nbind #main/ #main//../u/.";
-    let rows: Rows<'_> = &[
-        (0, &[(1, false), (0, false)]),
-        (3, &[(0, true)]),
-        (1, &[(1, false), (0, false)]),
-    ];
-    makes(&rt, rt.alloc(), &union_nodes(), text, &[], rows)?;
-    makes(
-        &rt,
-        rt.alloc(),
-        &union_nodes(),
-        "bind /u /x\nclear",
-        &[],
-        &[],
-    )?;
-    Ok(())
-}
-
-// The operations that fail, one a line, over the small world.
-const FAILING: [(&str, OpFault); 14] = [
-    ("mount main /a spec", OpFault::SpecGiven),
-    ("mount none /none spec", OpFault::UnknownServer),
-    ("mount main /none spec", OpFault::SpecGiven),
-    ("mount main /none $spec", OpFault::Path(Fault::NotFound)),
-    ("bind #none/a /a", OpFault::UnknownServer),
-    ("bind /a/f /a", OpFault::KindMismatch),
-    ("bind /a /a/f", OpFault::KindMismatch),
-    ("bind -a /a/f /a/f", OpFault::KindMismatch),
-    ("bind /none /a/f/x", OpFault::Path(Fault::NotFound)),
-    ("cd /a/f", OpFault::Path(Fault::NotDirectory)),
-    ("unmount /a/b /a", OpFault::NotMounted),
-    ("import host /a /b /c", OpFault::NotOffered),
-    (". /a", OpFault::BadInclude),
-    ("unmount /a/f/x", OpFault::Path(Fault::NotDirectory)),
-];
-
-#[test]
-fn operations_fail(rt: HostRuntime) -> Result<(), Fail> {
-    for (text, fault) in FAILING {
-        makes(&rt, rt.alloc(), &small_nodes(), text, &[(1, fault)], &[])?;
-    }
-    let text = "bind -a /a/b /a\nunmount /a/f /a";
-    let rows: Rows<'_> = &[(1, &[(1, false), (2, false)])];
-    makes(
-        &rt,
-        rt.alloc(),
-        &small_nodes(),
-        text,
-        &[(2, OpFault::NotMember)],
-        rows,
-    )?;
-    Ok(())
-}
-
-// The second lines of texts that are refused.
-const BAD: [(&str, BadForm); 12] = [
-    ("Bind /a /a/b", BadForm::UnknownWord),
-    ("-a", BadForm::UnknownWord),
-    ("mount main", BadForm::WordCount),
-    ("mount -z main", BadForm::WordCount),
-    ("bind /a /a/b /a/b", BadForm::WordCount),
-    ("cd", BadForm::WordCount),
-    ("unmount", BadForm::WordCount),
-    ("clear -a", BadForm::WordCount),
-    (". /a /b", BadForm::WordCount),
-    ("bind - /a /a/b", BadForm::BadFlag),
-    ("bind -c -ab /a /a/b", BadForm::BadFlag),
-    ("mount -aq main /a", BadForm::BadFlag),
-];
-
-#[test]
-fn lines_of_bad_form_refuse_the_text(rt: HostRuntime) -> Result<(), Fail> {
-    for (line, kind) in BAD {
-        let mut text = String::from_str(rt.alloc(), "bind /a /a/b\n")?;
-        text.push_str(line)?;
-        text.push_str("\nworse\n")?;
-        let refused = makes(&rt, rt.alloc(), &small_nodes(), text.as_str(), &[], &[]);
-        assert_eq!(rt;
-            refused,
-            Err(NsError::BadLine { line: 2, kind }),
-            "at {line:?}"
-        );
-    }
-    Ok(())
-}
-
-#[test]
-fn faults_have_texts(rt: HostRuntime) -> Result<(), Fail> {
-    let texts = [
-        (OpFault::Path(Fault::NotFound), "file does not exist"),
-        (OpFault::UnknownServer, "unknown server"),
-        (OpFault::KindMismatch, "inconsistent mount"),
-        (OpFault::NotMounted, "not mounted"),
-        (OpFault::NotMember, "not in the union"),
-        (OpFault::SpecGiven, "spec not offered"),
-        (OpFault::NotOffered, "not offered"),
-        (OpFault::BadInclude, "bad included file"),
-        (OpFault::TooDeep, "nested too deep"),
-    ];
-    for (fault, text) in texts {
-        let printed = format!(in rt.alloc(); "{fault}")?;
-        assert_eq!(rt; printed.as_str(), text);
-    }
-    let printed = format!(in rt.alloc(); "{}", BadForm::WordCount)?;
-    assert_eq!(rt; printed.as_str(), "wrong number of words");
-    Ok(())
-}
-
-// Runs the text, and answers whether memory was refused to it: the table is as before then.
-fn is_refused(rt: &impl Abort, memory: &Refusing<Global>, n: u64) -> Result<bool, NsError> {
-    let forest = world(rt, memory, &include_nodes())?;
-    let mut servers = Vec::new(memory);
-    servers.push(String::from_str(memory, "main")?)?;
-    let mut vars = Vec::new(memory);
-    vars.push((String::from_str(memory, "home")?, String::new(memory)))?;
-    let mut table = MountTable::new(memory);
-    memory.refuse(n);
-    let text = "bind /a $home/a/b\n. /acts\nmount -a main /a $home\nunmount /a/b";
-    match run_file(memory, text, &vars, &servers, &forest, &mut table) {
-        Ok(reports) => {
-            let expected = [(2, OpFault::Path(Fault::NotFound))];
-            assert_eq!(rt; reports.as_slice(), expected.as_slice());
-            has_rows(rt, &table, &[(1, &[(1, false), (0, false)])]);
-            Ok(false)
-        }
-        Err(error) => {
-            assert_eq!(rt; error, NsError::NoMemory);
-            assert!(rt; table.is_empty());
-            Ok(true)
-        }
-    }
-}
-
-// With each request of memory refused in turn. Some growths go on with less when they are refused.
-#[test]
-fn a_table_is_as_before_at_each_refusal(rt: HostRuntime) -> Result<(), Fail> {
-    let memory = Refusing::new(rt.alloc());
-    let mut refused: u64 = 0;
-    for n in 1..1000u64 {
-        memory.refuse(0);
-        if is_refused(&rt, &memory, n)? {
-            refused = n;
-        } else if !memory.has_refused() {
-            break;
-        }
-    }
-    assert!(rt; refused > 20);
-    Ok(())
 }

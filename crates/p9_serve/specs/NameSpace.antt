@@ -6,7 +6,8 @@ use Rattle.p9_world.specs.World.{World}
 use Rattle.p9_world.specs.Read.{world_of}
 use Rattle.p9_nsfile.specs.Line.{BadLineOf}
 use Rattle.p9_nsfile.specs.Run.{run_of}
-use Rattle.p9_nsfile.specs.Space.{Report, Setting}
+use Rattle.p9_nsfile.specs.Setting.{Setting}
+use Rattle.p9_nsfile.specs.Space.{Report}
 use Rattle.p9_step.specs.State.{State}
 use Rattle.p9_serve.specs.Refusal.{or_refused}
 use Rattle.p9_serve.specs.Small.{small_world}

@@ -1,58 +1,27 @@
 -- A text that is no valid name belongs to no node.
-use Rattle.std.proofs.Common.{◌≡◌, ℕ, suc, ◌<◌, ◌==◌, ◌&&◌, Bool, true, false, IsTrue, cond, List}
+use Rattle.std.proofs.Common.{◌≡◌, ℕ, ◌<◌, ◌==◌, ◌&&◌, Bool, true, false, IsTrue, cond, List}
 use Rattle.std.proofs.Common.{[], ◌∷◌, Option, Some, None, slice_get, unwrap_or, refl, sym, subst}
 use Rattle.std.proofs.Common.{true≢false, arith, All, AllPairs}
 use Rattle.std.specs.Option.{option_map_or, option_or}
 use Rattle.std.specs.Str.{bytes_eq}
 use Rattle.std.proofs.lemmas.Bool.Decides.{nat_tests}
 use Rattle.std.proofs.lemmas.Slice.Eq.{bytes_eq-Decides}
-use Rattle.std.proofs.lemmas.List.Elements.{All-cons, All-nil, All-head, All-tail}
+use Rattle.std.proofs.lemmas.List.Elements.{All-head, All-tail, All-weaker}
 use Rattle.p9_base.specs.Name.{is_name}
 use Rattle.p9_base.specs.declared.node_ref.NodeRef.{NodeRef}
-use Rattle.p9_tree.specs.Node.{Node, has_number, is_child}
+use Rattle.p9_tree.specs.Node.{Node, is_child}
 use Rattle.p9_tree.specs.Server.{Server, IsSound, node_at, child_of}
 use Rattle.p9_tree.specs.Forest.{IsForest, no_server, child_in}
+use Rattle.p9_tree.proofs.Lookups.{each_found}
 use Rattle.p9_space.specs.declared.row.Member.{Member}
 use Rattle.p9_space.specs.Walk.{is_searched, child_ref, child_among}
-
--- no node has a number below all
-node_at-below : (k : ℕ) (xs : List Node) → All (λ n. k < n.number) xs → node_at k xs ≡ None
-node_at-below k [] above = refl
-node_at-below k (x ∷ xs) above =
-    let here : k < x.number = All-head (λ n. k < n.number) x xs above in
-    grind (arith, nat_tests, node_at-below k xs (All-tail (λ n. k < n.number) x xs above))
-
--- the nodes behind the first have greater numbers
-rising-head : (x : Node) (xs : List Node) → AllPairs (λ m n. m.number < n.number) (x ∷ xs)
-    → All (λ n. x.number < n.number) xs
-rising-head x xs rising k d within = rising 0 (suc k) d (omega arith) (omega arith)
-
--- and rise among themselves
-rising-tail : (x : Node) (xs : List Node) → AllPairs (λ m n. m.number < n.number) (x ∷ xs)
-    → AllPairs (λ m n. m.number < n.number) xs
-rising-tail x xs rising i j d lt within = rising (suc i) (suc j) d (omega arith) (omega arith)
-
--- what is found behind the first is found
-node_at-later : (x : Node) (xs : List Node) → All (λ n. x.number < n.number) xs → (k : ℕ) (n : Node)
-    → node_at k xs ≡ Some n → node_at k (x ∷ xs) ≡ Some n
-node_at-later x xs above k n found = by (has_number k x) refl
-  where
-    by : (b : Bool) → has_number k x ≡ b → cond b (Some x) (node_at k xs) ≡ Some n
-    by true same =
-        let e : x.number ≡ k = grind (arith, nat_tests) in
-        let none = node_at-below k xs (subst (λ j. All (λ m. j < m.number) xs) e above) in
-        absurd (cc)
-    by false other = found
 
 -- where each node that a look-up finds is sound, each node is
 All-sound : (xs : List Node) → AllPairs (λ m n. m.number < n.number) xs
     → ((k : ℕ) (n : Node) → node_at k xs ≡ Some n → IsSound n) → All IsSound xs
-All-sound [] rising sound = All-nil IsSound
-All-sound (x ∷ xs) rising sound =
-    let first : node_at x.number (x ∷ xs) ≡ Some x = grind (arith, nat_tests) in
-    All-cons IsSound x xs (sound x.number x first)
-    (All-sound xs (rising-tail x xs rising)
-    (λ k n found. sound k n (node_at-later x xs (rising-head x xs rising) k n found)))
+All-sound xs rising sound =
+    All-weaker (λ n. node_at n.number xs ≡ Some n) IsSound (λ n e. sound n.number n e) xs
+    (each_found xs rising)
 
 -- a child's name is valid
 child-valid : (dir : ℕ) (name : List ℕ) (n : Node) → IsSound n → is_child dir name n ≡ true

@@ -10,6 +10,7 @@ use Rattle.p9_space.specs.Table.{MountRow}
 abbrev pub is_given : List Server → NodeRef → Bool
 is_given forest at = nat_lt at.number (next_of at.server forest)
 
+-- so were those of its key and of its members
 abbrev pub is_row_given : List Server → MountRow → Bool
 is_row_given forest row = is_given forest row.0 && list_all (λ m. is_given forest m.node) row.1
 

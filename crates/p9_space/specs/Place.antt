@@ -20,5 +20,6 @@ first_node place (m ∷ ms) = m.node
 abbrev pub file_ref : NodeRef → List MountRow → NodeRef
 file_ref place table = first_node place (members_of place table)
 
+-- that file, if it exists
 abbrev pub file_of : NodeRef → List MountRow → List Server → Option Node
 file_of place table forest = node_of (file_ref place table) forest

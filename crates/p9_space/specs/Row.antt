@@ -6,9 +6,11 @@ use Rattle.p9_space.specs.declared.row.Member.{Member}
 use Rattle.p9_space.specs.declared.row.Order.{Order}
 use Rattle.p9_space.specs.declared.row.Order.TheVariants.{Replace, Before, After}
 
+-- the node as a member, which permits creation or not
 abbrev pub member : Bool → NodeRef → Member
 member create node = record { node = node; create = create }
 
+-- the member is the node
 abbrev pub is_of : NodeRef → Member → Bool
 is_of node m = same_node m.node node
 

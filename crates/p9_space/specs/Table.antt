@@ -13,6 +13,7 @@ use Rattle.p9_space.specs.declared.table.UnmountError.{UnmountError}
 use Rattle.p9_space.specs.declared.table.UnmountError.TheVariants.{NotMounted, NotMember}
 use Rattle.p9_space.specs.Row.{is_of, member, brought, joined}
 
+-- a key, and the members that stand for it
 abbrev pub MountRow : Type 0
 MountRow = NodeRef × List Member
 
@@ -21,6 +22,7 @@ pub record IsTable (table : List MountRow) : Type 0 where
   pub not_empty : All (λ row. 0 < length row.1) table
   pub distinct : IsDistinct same_node (keys_of table)
 
+-- the members of the key's row, if it has one
 abbrev pub row_of : NodeRef → List MountRow → Option (List Member)
 row_of key table = lookup (same_node key) table
 

@@ -29,6 +29,7 @@ module _ (forest : List Server) where
   abbrev pub is_alive : Member → Bool
   is_alive m = is_some (node_of m.node forest)
 
+  -- and its node is a directory
   abbrev pub is_alive_dir : Member → Bool
   is_alive_dir m = option_map_or is_dir (node_of m.node forest) false
 

@@ -27,55 +27,35 @@ const SHUT_DIR: u32 = 0x8000_01c0;
 
 const FILE: u32 = 0x1a4;
 
-// Nodes 1 to 3: /a, /a/b and /a/f.
-const SMALL: [Made; 3] = [
+// A directory of glenda's, of mode 755.
+fn dir(parent: u64, name: &'static str) -> Made {
     Made {
-        parent: 0,
-        name: "a",
+        parent,
+        name,
         mode: OPEN_DIR,
         owner: "glenda",
-    },
+    }
+}
+
+// A file of glenda's, of mode 644.
+fn file(parent: u64, name: &'static str) -> Made {
     Made {
-        parent: 1,
-        name: "b",
-        mode: OPEN_DIR,
-        owner: "glenda",
-    },
-    Made {
-        parent: 1,
-        name: "f",
+        parent,
+        name,
         mode: FILE,
         owner: "glenda",
-    },
-];
+    }
+}
+
+// Nodes 1 to 3: /a, /a/b and /a/f.
+fn small_nodes() -> [Made; 3] {
+    [dir(0, "a"), dir(1, "b"), file(1, "f")]
+}
 
 // Nodes 1 to 4: /u, /u/n, /x and /x/n.
-const TWO_UNIONS: [Made; 4] = [
-    Made {
-        parent: 0,
-        name: "u",
-        mode: OPEN_DIR,
-        owner: "glenda",
-    },
-    Made {
-        parent: 1,
-        name: "n",
-        mode: FILE,
-        owner: "glenda",
-    },
-    Made {
-        parent: 0,
-        name: "x",
-        mode: OPEN_DIR,
-        owner: "glenda",
-    },
-    Made {
-        parent: 3,
-        name: "n",
-        mode: FILE,
-        owner: "glenda",
-    },
-];
+fn union_nodes() -> [Made; 4] {
+    [dir(0, "u"), file(1, "n"), dir(0, "x"), file(3, "n")]
+}
 
 fn node(number: u64) -> NodeRef {
     NodeRef { server: 0, number }
@@ -146,8 +126,8 @@ fn is_row<A: Allocator + Copy>(
     let (found, row) = table.row(position).expect(rt, "a row");
     assert_eq!(rt; found, node(key));
     assert_eq!(rt; row.len(), members.len());
-    for (place, (number, create)) in members.iter().enumerate() {
-        let member = row.get(place).expect(rt, "a member");
+    for (index, (number, create)) in members.iter().enumerate() {
+        let member = row.get(index).expect(rt, "a member");
         assert_eq!(rt; (member.node, member.create), (node(*number), *create));
     }
 }

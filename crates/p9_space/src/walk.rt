@@ -17,7 +17,8 @@ use p9_base::{Fault, Name, NodeRef, User};
 use p9_tree::{Forest, Node, Tree};
 use std::alloc::Allocator;
 
-fn may_search<A: Allocator>(node: &Node<A>, user: Option<&User>) -> bool
+// Whether the user may search the directory. Without a user everybody may.
+fn may_search<A: Allocator>(user: Option<&User>, node: &Node<A>) -> bool
     ensures { result ≡ may_search (option_copied user.entry) node.now }
 {
     match user {
@@ -26,6 +27,7 @@ fn may_search<A: Allocator>(node: &Node<A>, user: Option<&User>) -> bool
     }
 }
 
+// A member is alive while its node exists.
 fn is_alive<T: Tree>(forest: &Forest<T>, member: &Member) -> bool
     ensures { result ≡ is_alive (map T.state forest.now.trees.items) member.now }
 {
@@ -35,10 +37,7 @@ fn is_alive<T: Tree>(forest: &Forest<T>, member: &Member) -> bool
 fn is_alive_dir<T: Tree>(forest: &Forest<T>, member: &Member) -> bool
     ensures { result ≡ is_alive_dir (map T.state forest.now.trees.items) member.now }
 {
-    match forest.node(member.node) {
-        Some(node) => node.is_dir(),
-        None => false,
-    }
+    forest.node(member.node).is_some_and(|node| node.is_dir())
 }
 
 // Whether the member is a directory that exists and that the user may search.
@@ -47,7 +46,7 @@ fn is_searched<T: Tree>(forest: &Forest<T>, member: &Member, user: Option<&User>
         (option_copied user.entry) member.now }
 {
     match forest.node(member.node) {
-        Some(node) => node.is_dir() && may_search(node, user),
+        Some(node) => node.is_dir() && may_search(user, node),
         None => false,
     }
 }
@@ -78,8 +77,8 @@ fn child_ref<T: Tree>(forest: &Forest<T>, dir: NodeRef, name: &Name) -> Option<N
     forest.child(dir, name).map(|node| dir.beside(node.number()))
 }
 
-// The child in the first member that may be searched and has one.
-fn named_child<T: Tree>(
+// The child of the name in the first member that may be searched and has one.
+fn child_among<T: Tree>(
     forest: &Forest<T>,
     members: &[Member],
     name: &Name,
@@ -109,7 +108,7 @@ fn find_child<T: Tree>(
         (option_copied user.entry) name.now members.now }
 {
     match Name::new(name) {
-        Some(name) => named_child(forest, members, &name, user),
+        Some(name) => child_among(forest, members, &name, user),
         None => {
             forest.well_formed();
             None
@@ -118,7 +117,7 @@ fn find_child<T: Tree>(
 }
 
 // Where a name other than `..` leads from the members of the last place.
-fn find_down<T: Tree, A: Allocator + Copy>(
+fn step_down<T: Tree, A: Allocator + Copy>(
     forest: &Forest<T>,
     trail: &Trail<A>,
     members: &[Member],
@@ -146,7 +145,7 @@ fn find_down<T: Tree, A: Allocator + Copy>(
 }
 
 // Where a name leads from the members of the last place.
-fn find_among<T: Tree, A: Allocator + Copy>(
+fn step_among<T: Tree, A: Allocator + Copy>(
     forest: &Forest<T>,
     trail: &Trail<A>,
     members: &[Member],
@@ -167,7 +166,7 @@ fn find_among<T: Tree, A: Allocator + Copy>(
     if name == ".." {
         return Ok(Step::Up);
     }
-    find_down(forest, trail, members, name, user)
+    step_down(forest, trail, members, name, user)
 }
 
 /// One step of a walk from the last place of a trail, by any text as a name. Without a user it
@@ -189,7 +188,7 @@ pub fn find_step<T: Tree, A: Allocator + Copy, B: Allocator + Copy>(
         (option_copied user.entry) trail.now name.now }
     ensures room { IfOk result (λ step. length (stepped trail.now step) ≤ PLACES_MAX) }
 {
-    let step = find_among(
+    let step = step_among(
         forest,
         trail,
         table.members(trail.here()).as_slice(),

@@ -1,6 +1,6 @@
 //! Calls that were refused memory leave all as it was, and go through when made again.
 
-use super::{SMALL, is_at, is_row, node, world};
+use super::{is_at, is_row, node, small_nodes, world};
 use crate::{MountTable, Order, PLACES_MAX, Trail, resolve};
 use p9_base::{Fault, NoMemory};
 use p9_refusing::{Refusing, refuse_each};
@@ -80,7 +80,7 @@ fn a_trail_is_as_before_at_each_refusal(rt: HostRuntime) -> Result<(), Fail> {
 #[test]
 fn a_walk_is_done_again_at_each_refusal(rt: HostRuntime) -> Result<(), Fail> {
     let memory = Refusing::new(rt.alloc());
-    let forest = world(&rt, &memory, &SMALL)?;
+    let forest = world(&rt, &memory, &small_nodes())?;
     let table = MountTable::new(&memory);
     let root = Trail::at(&memory, node(0))?;
     for n in 1..100 {

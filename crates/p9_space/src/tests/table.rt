@@ -1,13 +1,13 @@
 //! Binds and unmounts.
 
-use super::{TWO_UNIONS, is_at, is_row, node, user, world};
+use super::{is_at, is_row, node, union_nodes, user, world};
 use crate::{MountTable, Order, Trail, UnmountError, resolve};
 use std::test::Fail;
 
 #[test]
 fn a_bind_replaces(rt: HostRuntime) -> Result<(), Fail> {
     let glenda = user(&rt, "glenda");
-    let forest = world(&rt, rt.alloc(), &TWO_UNIONS)?;
+    let forest = world(&rt, rt.alloc(), &union_nodes())?;
     let root = Trail::at(rt.alloc(), node(0))?;
     for create in [false, true] {
         let mut table = MountTable::new(rt.alloc());

@@ -1,38 +1,29 @@
 //! Walks from place to place, and why a step may be refused.
 
-use super::{Made, OPEN_DIR, SHUT_DIR, SMALL, TWO_UNIONS, is_at, is_row, node, user, world};
+use super::{Made, SHUT_DIR, dir, is_at, is_row, node, small_nodes, union_nodes, user, world};
 use crate::{MountTable, Order, PLACES_MAX, Step, Trail, find_step, resolve};
 use p9_base::{Fault, NodeRef};
 use p9_tree::{Forest, Tree};
 use std::process::Abort;
 use std::test::Fail;
 
+// The node, owned by `sys`.
+fn of_sys(made: Made) -> Made {
+    Made {
+        owner: "sys",
+        ..made
+    }
+}
+
 // Nodes 1 to 3: /deep, /deep/d and /m.
-const DEEP: [Made; 3] = [
-    Made {
-        parent: 0,
-        name: "deep",
-        mode: OPEN_DIR,
-        owner: "sys",
-    },
-    Made {
-        parent: 1,
-        name: "d",
-        mode: OPEN_DIR,
-        owner: "sys",
-    },
-    Made {
-        parent: 0,
-        name: "m",
-        mode: OPEN_DIR,
-        owner: "sys",
-    },
-];
+fn deep_nodes() -> [Made; 3] {
+    [dir(0, "deep"), dir(1, "d"), dir(0, "m")].map(of_sys)
+}
 
 #[test]
-fn row_union_walk(rt: HostRuntime) -> Result<(), Fail> {
+fn a_walk_goes_on_in_a_union(rt: HostRuntime) -> Result<(), Fail> {
     let glenda = user(&rt, "glenda");
-    let forest = world(&rt, rt.alloc(), &TWO_UNIONS)?;
+    let forest = world(&rt, rt.alloc(), &union_nodes())?;
     let mut table = MountTable::new(rt.alloc());
     table.bind(node(3), &[node(1)], Order::After, false)?;
     let root = Trail::at(rt.alloc(), node(0))?;
@@ -43,9 +34,9 @@ fn row_union_walk(rt: HostRuntime) -> Result<(), Fail> {
 }
 
 #[test]
-fn row_lexical_dot_dot(rt: HostRuntime) -> Result<(), Fail> {
+fn dot_dot_is_lexical(rt: HostRuntime) -> Result<(), Fail> {
     let glenda = user(&rt, "glenda");
-    let forest = world(&rt, rt.alloc(), &DEEP)?;
+    let forest = world(&rt, rt.alloc(), &deep_nodes())?;
     let mut table = MountTable::new(rt.alloc());
     table.bind(node(3), &[node(2)], Order::Replace, false)?;
     let root = Trail::at(rt.alloc(), node(0))?;
@@ -60,9 +51,11 @@ fn row_lexical_dot_dot(rt: HostRuntime) -> Result<(), Fail> {
 #[test]
 fn a_member_is_passed_over(rt: HostRuntime) -> Result<(), Fail> {
     let glenda = user(&rt, "glenda");
-    let mut nodes = TWO_UNIONS;
-    nodes[0].mode = SHUT_DIR;
-    nodes[0].owner = "sys";
+    let mut nodes = union_nodes();
+    nodes[0] = Made {
+        mode: SHUT_DIR,
+        ..of_sys(nodes[0])
+    };
     let forest = world(&rt, rt.alloc(), &nodes)?;
     let mut table = MountTable::new(rt.alloc());
     table.bind(node(3), &[node(1)], Order::Before, false)?;
@@ -86,7 +79,7 @@ fn remove<T: Tree>(rt: &impl Abort, forest: &mut Forest<T>, file: NodeRef) {
 #[test]
 fn each_step_may_be_refused(rt: HostRuntime) -> Result<(), Fail> {
     let glenda = user(&rt, "glenda");
-    let mut forest = world(&rt, rt.alloc(), &SMALL)?;
+    let mut forest = world(&rt, rt.alloc(), &small_nodes())?;
     let mut table = MountTable::new(rt.alloc());
     let root = Trail::at(rt.alloc(), node(0))?;
     let file = resolve(&forest, &table, &root, &["a", "f"], Some(&glenda))?;
@@ -120,7 +113,7 @@ fn each_step_may_be_refused(rt: HostRuntime) -> Result<(), Fail> {
 // A name that isn't there is told before the depth.
 #[test]
 fn a_path_may_be_too_deep(rt: HostRuntime) -> Result<(), Fail> {
-    let forest = world(&rt, rt.alloc(), &SMALL)?;
+    let forest = world(&rt, rt.alloc(), &small_nodes())?;
     let mut table = MountTable::new(rt.alloc());
     table.bind(node(1), &[node(0)], Order::Replace, false)?;
     let root = Trail::at(rt.alloc(), node(0))?;

@@ -1,6 +1,6 @@
 use Rattle.std.proofs.Common.{map}
 use Rattle.p9_nsfile.specs.Line.{line_value}
-use Rattle.p9_nsfile.specs.Space.{setting_value}
+use Rattle.p9_nsfile.specs.Setting.{setting_value}
 use Rattle.p9_nsfile.proofs.GivenRuns.{KeepsGiven-lines}
 use Rattle.p9_nsfile.proofs.run.run_file.Goals as goal
 

@@ -2,7 +2,7 @@ use Rattle.std.proofs.Common.{◌≡◌, None, Ok, Err, map, ap, sym, subst}
 use Rattle.p9_space.specs.Walk.{walk}
 use Rattle.p9_nsfile.specs.Answer.{Gives}
 use Rattle.p9_nsfile.specs.Find.{path_fault}
-use Rattle.p9_nsfile.specs.Space.{Setting}
+use Rattle.p9_nsfile.specs.Setting.{Setting}
 use Rattle.p9_nsfile.proofs.Finding.{Gives-walk_stop}
 use Rattle.p9_nsfile.proofs.setting.Setting.walk.Goals as goal
 

@@ -1,7 +1,7 @@
 use Rattle.std.proofs.Common.{◌≡◌, drop, map}
 use Rattle.std.specs.Option.{option_copied}
 use Rattle.p9_space.specs.Walk.{child_among}
-use Rattle.p9_space.proofs.walk.named_child.Given as goal
+use Rattle.p9_space.proofs.walk.child_among.Given as goal
 
 -- the members that are left give the answer
 abbrev pub invariant-loop-member : goal.invariant-loop-member

@@ -1,0 +1,20 @@
+-- What a namespace file is run in.
+use Rattle.std.specs.Prelude.{ℕ, List, map, string_bytes}
+use Rattle.std.specs.declared.string.String.{String}
+use Rattle.p9_base.specs.Variable.{Variable, variables_of}
+use Rattle.p9_tree.specs.Server.{Server}
+
+-- what no operation changes: the trees, the variables, and the servers' names by number
+pub record Setting : Type 0 where
+  pub forest : List Server
+  pub vars : List Variable
+  pub servers : List (List ℕ)
+
+-- a setting of the code, as it is seen
+abbrev pub setting_value : {T A : Type 0} → (T → Server) → List T → List (String A × String A)
+    → List (String A) → Setting
+setting_value state trees vars servers = record {
+  forest = map state trees;
+  vars = variables_of vars;
+  servers = map string_bytes servers;
+}
