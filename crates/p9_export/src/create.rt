@@ -92,10 +92,9 @@ fn target_among<T: Tree>(forest: &Forest<T>, members: &[Member]) -> Result<NodeR
     if !has_alive_dir(forest, members) {
         return Err(Fault::NotDirectory);
     }
-    match permitting(members) {
-        Some(member) => Ok(member.node),
-        None => Err(Fault::CreationForbidden),
-    }
+    permitting(members)
+        .map(|member| member.node)
+        .ok_or(Fault::CreationForbidden)
 }
 
 fn has_alive<T: Tree>(forest: &Forest<T>, members: &[Member]) -> bool
@@ -129,13 +128,7 @@ fn is_alive_dir<T: Tree>(forest: &Forest<T>, member: &Member) -> bool
 fn permitting(members: &[Member]) -> Option<&Member>
     ensures { option_copied result ≡ permitting members.now }
 {
-    members.iter().find(|member| permits(member))
-}
-
-fn permits(member: &Member) -> bool
-    ensures { result ≡ member.now.create }
-{
-    member.create
+    members.iter().find(|member| member.create)
 }
 
 // Makes the node in this directory, and opens the fid on it.

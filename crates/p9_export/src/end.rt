@@ -42,10 +42,7 @@ pub fn end_fid<T: Tree>(
 fn removes_on_close<A: Allocator + Copy>(fid: &Fid<A>) -> bool
     ensures { result ≡ removes_on_close fid.now }
 {
-    match fid.opened {
-        Some(opened) => opened.remove_on_close,
-        None => false,
-    }
+    fid.opened.is_some_and(|opened| opened.remove_on_close)
 }
 
 /// Marks the directory that a node stands in, by its number at the same server, if it stands in

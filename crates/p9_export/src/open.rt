@@ -19,60 +19,6 @@ use p9_tree::{Forest, Node, Tree};
 use std::alloc::Allocator;
 use std::collections::BTreeMap;
 
-/// Whether each write goes to the file's end, and no opening truncates it.
-pub fn is_append_only<A: Allocator>(file: &Node<A>) -> bool
-    ensures { result ≡ is_append_only file.now }
-{
-    match file.mode().kind {
-        Kind::File(flags) => flags.append_only,
-        Kind::Directory => false,
-    }
-}
-
-// Whether one fid at a time may have the file open.
-fn is_exclusive<A: Allocator>(file: &Node<A>) -> bool
-    ensures { result ≡ is_exclusive file.now }
-{
-    match file.mode().kind {
-        Kind::File(flags) => flags.exclusive,
-        Kind::Directory => false,
-    }
-}
-
-// Whether a fid of some session has the file open.
-fn is_in_use<A: Allocator + Copy>(
-    table: &MountTable<A>,
-    at: NodeRef,
-    sessions: &BTreeMap<u32, Session<A>, A>,
-) -> bool
-    ensures { result ≡ is_in_use table.now at sessions.now.entries }
-{
-    sessions
-        .values()
-        .any(|session| session.fids.open_count(table, at) > 0)
-}
-
-/// Whether the file of the fid is for one fid at a time, and a fid of some session has it open.
-pub fn is_taken<T: Tree>(
-    setting: &Setting<T::Alloc>,
-    forest: &Forest<T>,
-    sessions: &BTreeMap<u32, Session<T::Alloc>, T::Alloc>,
-    session: &Session<T::Alloc>,
-    fid: u32,
-) -> bool
-    ensures { result ≡ is_taken setting.now (map T.state forest.now.trees.items)
-        sessions.now.entries session.now fid }
-{
-    let Some(held) = session.fids.get(fid) else {
-        return false;
-    };
-    let at = setting.file(held);
-    match forest.node(at) {
-        Some(file) => is_exclusive(file) && is_in_use(&setting.table, at, sessions),
-        None => false,
-    }
-}
-
 /// Opens a fid for what the mode's bits ask, and answers the qid of its file and the session's
 /// iounit ([`Session::room`]). Truncation cuts the file to nothing and marks it, but leaves an
 /// append-only file. `taken` says that the file is taken ([`is_taken`]).
@@ -176,5 +122,59 @@ fn truncate<T: Tree>(forest: &mut Forest<T>, at: NodeRef, user: User, now: u32, 
     if is_cut(forest.node(at).unwrap(), opening) {
         forest.cut(at, 0);
         forest.bump(at, user, now);
+    }
+}
+
+/// Whether each write goes to the file's end, and no opening truncates it.
+pub fn is_append_only<A: Allocator>(file: &Node<A>) -> bool
+    ensures { result ≡ is_append_only file.now }
+{
+    match file.mode().kind {
+        Kind::File(flags) => flags.append_only,
+        Kind::Directory => false,
+    }
+}
+
+// Whether one fid at a time may have the file open.
+fn is_exclusive<A: Allocator>(file: &Node<A>) -> bool
+    ensures { result ≡ is_exclusive file.now }
+{
+    match file.mode().kind {
+        Kind::File(flags) => flags.exclusive,
+        Kind::Directory => false,
+    }
+}
+
+// Whether a fid of some session has the file open.
+fn is_in_use<A: Allocator + Copy>(
+    table: &MountTable<A>,
+    at: NodeRef,
+    sessions: &BTreeMap<u32, Session<A>, A>,
+) -> bool
+    ensures { result ≡ is_in_use table.now at sessions.now.entries }
+{
+    sessions
+        .values()
+        .any(|session| session.fids.open_count(table, at) > 0)
+}
+
+/// Whether the file of the fid is for one fid at a time, and a fid of some session has it open.
+pub fn is_taken<T: Tree>(
+    setting: &Setting<T::Alloc>,
+    forest: &Forest<T>,
+    sessions: &BTreeMap<u32, Session<T::Alloc>, T::Alloc>,
+    session: &Session<T::Alloc>,
+    fid: u32,
+) -> bool
+    ensures { result ≡ is_taken setting.now (map T.state forest.now.trees.items)
+        sessions.now.entries session.now fid }
+{
+    let Some(held) = session.fids.get(fid) else {
+        return false;
+    };
+    let at = setting.file(held);
+    match forest.node(at) {
+        Some(file) => is_exclusive(file) && is_in_use(&setting.table, at, sessions),
+        None => false,
     }
 }

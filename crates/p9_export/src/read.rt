@@ -79,14 +79,8 @@ fn readable(opened: Option<Opened>) -> Option<Opened>
     ensures { result ≡ readable opened }
 {
     match opened {
-        Some(opened) => {
-            if opened.mode.reads() {
-                Some(opened)
-            } else {
-                None
-            }
-        }
-        None => None,
+        Some(opened) if opened.mode.reads() => Some(opened),
+        _ => None,
     }
 }
 

@@ -32,10 +32,10 @@ pub fn version<T: Tree>(
 ) -> Result<RMsg<'static>, Fault>
     requires { FidsFit setting.now.table (map T.state forest.old.trees.items) session.old.fids }
     ensures reply { IfOk result (λ reply. ReplyFits (r_view reply)) }
-    ensures answer { Answers (version_answer setting.now
-        (map T.state forest.old.trees.items) session.old now msize version.now) false
-        (map T.state forest.old.trees.items) (map T.state forest.new.trees.items) session.old
-        session.new (replied r_view result) }
+    ensures answer { let old = map T.state forest.old.trees.items in
+        let new = map T.state forest.new.trees.items in
+        Answers (version_answer setting.now old session.old now msize version.now) false old new
+        session.old session.new (replied r_view result) }
 {
     if msize < MSIZE_MIN {
         return Err(Fault::SmallMsize);

@@ -69,14 +69,14 @@ fn newfid_fault<A: Allocator + Copy>(session: &Session<A>, fid: u32, newfid: u32
     session.fids.put_fault(newfid)
 }
 
-/// How far names lead.
+// How far names lead.
 #[derive(Drop)]
 struct Walked<A: Allocator + Copy> {
-    /// The qid of each file where a step arrived.
+    // The qid of each file where a step arrived.
     qids: Qids,
-    /// Where the last of these steps arrived.
+    // Where the last of these steps arrived.
     trail: Trail<A>,
-    /// Why the next step is refused, if one is.
+    // Why the next step is refused, if one is.
     stopped: Option<Fault>,
 }
 

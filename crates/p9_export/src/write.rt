@@ -66,10 +66,7 @@ pub fn write<T: Tree>(
 fn is_writable<A: Allocator + Copy>(fid: &Fid<A>) -> bool
     ensures { result ≡ is_writable fid.now }
 {
-    match fid.opened {
-        Some(opened) => opened.mode.writes(),
-        None => false,
-    }
+    fid.opened.is_some_and(|opened| opened.mode.writes())
 }
 
 // The offset; the end of an append-only file.

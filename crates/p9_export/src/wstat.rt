@@ -127,33 +127,21 @@ fn touched_of<'a>(there: &Stat<'_>, wanted: &Stat<'a>) -> Touched<'a>
 fn touched_u32(there: u32, wanted: u32) -> Option<u32>
     ensures { result ≡ touched_number (2 ^ 32 - 1) there wanted }
 {
-    if is_number_touched(u32::MAX.into(), there.into(), wanted.into()) {
-        Some(wanted)
-    } else {
-        None
-    }
+    is_number_touched(u32::MAX.into(), there.into(), wanted.into()).then_some(wanted)
 }
 
 // The number that is wanted, where it is touched.
 fn touched_u64(there: u64, wanted: u64) -> Option<u64>
     ensures { result ≡ touched_number (2 ^ 64 - 1) there wanted }
 {
-    if is_number_touched(u64::MAX, there, wanted) {
-        Some(wanted)
-    } else {
-        None
-    }
+    is_number_touched(u64::MAX, there, wanted).then_some(wanted)
 }
 
 // The text that is wanted, where it is touched.
 fn touched_text<'a>(there: &str, wanted: &'a str) -> Option<&'a str>
     ensures { option_copied result ≡ touched_text there.now wanted.now }
 {
-    if is_text_touched(there, wanted) {
-        Some(wanted)
-    } else {
-        None
-    }
+    is_text_touched(there, wanted).then_some(wanted)
 }
 
 // Whether a number is neither the greatest of its field nor the one that stands there.
@@ -342,5 +330,5 @@ fn new_gid(user: User, gid: Option<&str>) -> Option<User>
     requires { ForSome (option_copied gid) (λ gid. gid ≡ user) }
     ensures { result ≡ option_copied gid.entry }
 {
-    if gid.is_some() { Some(user) } else { None }
+    gid.map(|_| user)
 }

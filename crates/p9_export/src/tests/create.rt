@@ -8,7 +8,7 @@ use p9_space::{MountTable, Order};
 
 // No member of /x permits creation.
 #[test]
-fn row_union_create_forbidden(rt: HostRuntime) {
+fn no_member_permits_creation(rt: HostRuntime) {
     let rows = &[
         (
             "140000006e020000000000030000000100010078",
@@ -46,7 +46,7 @@ pub const UNION_CREATE: [Exchange; 3] = [
 ];
 
 #[test]
-fn row_union_create(rt: HostRuntime) {
+fn a_file_is_created_in_a_union(rt: HostRuntime) {
     let mut table = MountTable::new(rt.alloc());
     assert!(rt; table.bind(node(3), &[node(1)], Order::After, true).is_ok());
     let mut export = serve(&rt, rt.alloc(), &two_unions(), table);

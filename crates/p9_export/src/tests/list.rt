@@ -6,7 +6,7 @@ use p9_space::Order;
 
 // Both members have an n.
 #[test]
-fn row_union_listing(rt: HostRuntime) {
+fn a_union_is_listed(rt: HostRuntime) {
     let rows = &[
         (
             "170000006e02000000000001000000020001007801006e",
@@ -38,7 +38,7 @@ fn row_union_listing(rt: HostRuntime) {
 }
 
 #[test]
-fn row_listing_reads(rt: HostRuntime) {
+fn a_listing_is_read_in_pieces(rt: HostRuntime) {
     let rows = &[
         (
             "170000006e02000000000001000000020001007801006e",

@@ -8,7 +8,7 @@ use std::process::Abort;
 
 // Glenda opens a/f to read, and reads it.
 #[test]
-fn row_open_read(rt: HostRuntime) {
+fn a_file_is_opened_and_read(rt: HostRuntime) {
     let rows = &[
         (
             "170000006e070000000000010000000200010061010066",
@@ -142,7 +142,7 @@ fn exclusive() -> [Made; 2] {
 
 // Two sessions open the file of one fid at a time.
 #[test]
-fn row_exclusive_use(rt: HostRuntime) {
+fn an_exclusive_file_is_taken(rt: HostRuntime) {
     let rows = &[
         (
             1,

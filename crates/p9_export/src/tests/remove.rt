@@ -152,6 +152,6 @@ pub const REMOVED_UNDER_A_FID: [(u32, Exchange); 7] = [
 ];
 
 #[test]
-fn row_removed_under_a_fid(rt: HostRuntime) {
+fn a_file_is_removed_under_a_fid(rt: HostRuntime) {
     plays_in(&rt, rt.alloc(), &small(), &[], &REMOVED_UNDER_A_FID);
 }

@@ -37,7 +37,7 @@ fn deep() -> [Made; 3] {
 }
 
 #[test]
-fn row_clunk(rt: HostRuntime) {
+fn a_clunk_ends_a_fid(rt: HostRuntime) {
     let rows = &[
         // Fid 5 is unused.
         (
@@ -54,7 +54,7 @@ fn row_clunk(rt: HostRuntime) {
 }
 
 #[test]
-fn row_dot_dots(rt: HostRuntime) {
+fn a_walk_has_at_most_sixteen_names(rt: HostRuntime) {
     let rows = &[
         ("110000006e020000000000010000000000", "090000006f02000000"),
         // Sixteen names, and seventeen.
@@ -80,7 +80,7 @@ fn row_dot_dots(rt: HostRuntime) {
 }
 
 #[test]
-fn row_partial_walk(rt: HostRuntime) {
+fn a_walk_is_stopped_midway(rt: HostRuntime) {
     let rows = &[
         (
             "1d0000006e05000000000009000000030001006101006204006e6f6e65",
@@ -95,7 +95,7 @@ fn row_partial_walk(rt: HostRuntime) {
 }
 
 #[test]
-fn row_walk_stat(rt: HostRuntime) {
+fn a_walk_and_a_stat(rt: HostRuntime) {
     let rows = &[
         (
             "170000006e070000000000010000000200010061010066",
@@ -111,7 +111,7 @@ fn row_walk_stat(rt: HostRuntime) {
 }
 
 #[test]
-fn row_union_walk(rt: HostRuntime) {
+fn a_walk_into_a_union(rt: HostRuntime) {
     let rows = &[
         (
             "170000006e02000000000001000000020001007801006e",
@@ -133,7 +133,7 @@ fn row_union_walk(rt: HostRuntime) {
 
 // To the root, and not to the parent of what is bound.
 #[test]
-fn row_lexical_dot_dot(rt: HostRuntime) {
+fn dot_dot_goes_back_along_the_trail(rt: HostRuntime) {
     let rows = &[(
         "180000006e02000000000001000000020001006d02002e2e",
         "230000006f020002008000000000020000000000000080000000000000000000000000",

@@ -39,13 +39,13 @@ pub const APPEND_ONLY_FILE: [Exchange; 6] = [
 ];
 
 #[test]
-fn row_append_only_file(rt: HostRuntime) {
+fn an_append_only_file_is_appended_to(rt: HostRuntime) {
     plays(&rt, rt.alloc(), &small(), &[], &APPEND_ONLY_FILE);
 }
 
 // A write past the greatest length, and one up to it, which fills the gap.
 #[test]
-fn row_largest_file(rt: HostRuntime) {
+fn a_file_of_the_greatest_length(rt: HostRuntime) {
     let rows = &[
         (
             "170000006e070000000000010000000200010061010066",

@@ -14,7 +14,7 @@ use std::process::Abort;
 
 // At the time 7 glenda changes what is told of /a/f.
 #[test]
-fn row_wstat(rt: HostRuntime) {
+fn a_file_is_renamed(rt: HostRuntime) {
     let rows = &[
         (
             "170000006e070000000000010000000200010061010066",
