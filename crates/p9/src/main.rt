@@ -11,6 +11,7 @@ use std::process::ExitCode;
 use std::{env, io};
 use words::command_asked;
 
+// The exit statuses, besides those of a command.
 const BAD_COMMAND_LINE: u8 = 2;
 
 const OUT_OF_MEMORY: u8 = 3;

@@ -8,9 +8,9 @@ use clap::Command;
 use clap::error::ErrorKind;
 use std::alloc::{AllocError, Global};
 
-/// The command that the words ask for, of which the first is the program's name, or `None` where
-/// they are a bad command line. No word but the first asks for `play`; `--` is a word. The command
-/// is one that [`p9_serve::run_command`] knows.
+/// The command that the words ask for, or `None` where they are a bad command line. The first word
+/// is the program's name; without another one the command is `play`, and `--` is another one. The
+/// command is one that [`p9_serve::run_command`] knows. The error is want of memory.
 pub fn command_asked(alloc: Global, words: &[String]) -> Result<Option<&'static str>, AllocError>
     ensures { IfOk result (λ asked. IfSome asked (λ command. IsSome (command_of command.now))) }
 {
