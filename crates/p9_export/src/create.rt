@@ -2,7 +2,6 @@
 
 ghost use Rattle.std.specs.Prelude.{◌≡◌, ◌<◌, ◌++◌, ◌∷◌, [], IfOk, IfSome, IsSome, OnErr, OnOk};
 ghost use Rattle.std.specs.Prelude.{length, map};
-ghost use Rattle.std.specs.List.{list_any};
 ghost use Rattle.std.specs.Option.{option_copied};
 ghost use Rattle.p9_tree.specs.Forest.{forest_changed_at, next_of, server_at, tree_changed_at};
 ghost use Rattle.p9_base.specs.NodeRef.{beside};
@@ -10,7 +9,6 @@ ghost use Rattle.p9_tree.specs.New.{new_node};
 ghost use Rattle.p9_tree.specs.Node.{marked};
 ghost use Rattle.p9_tree.specs.Server.{CanAdd, added};
 ghost use Rattle.p9_fids.specs.Fid.{fid_at};
-ghost use Rattle.p9_space.specs.Walk.{is_alive, is_alive_dir};
 ghost use Rattle.p9_export.specs.Answers.{Answers, replied};
 ghost use Rattle.p9_step.specs.Create.{create_answer, create_reply, created, created_in, entered};
 ghost use Rattle.p9_step.specs.Create.{fault_in, permitting, target_among};
@@ -23,7 +21,7 @@ use crate::session::Session;
 use crate::setting::Setting;
 use p9_base::{Fault, Mode, Name, NoMemory, NodeRef, Qid, User};
 use p9_fids::Fid;
-use p9_space::{Member, PLACES_MAX, TO_WRITE, Trail, may};
+use p9_space::{Member, PLACES_MAX, TO_WRITE, Trail, has_alive, has_alive_dir, may};
 use p9_step::Opening;
 use p9_tree::{Forest, NEXT_MAX, New, Node, Tree};
 use std::alloc::Allocator;
@@ -95,33 +93,6 @@ fn target_among<T: Tree>(forest: &Forest<T>, members: &[Member]) -> Result<NodeR
     permitting(members)
         .map(|member| member.node)
         .ok_or(Fault::CreationForbidden)
-}
-
-fn has_alive<T: Tree>(forest: &Forest<T>, members: &[Member]) -> bool
-    ensures { result ≡ list_any (is_alive (map T.state forest.now.trees.items)) members.now }
-{
-    members.iter().any(|member| is_alive(forest, member))
-}
-
-fn is_alive<T: Tree>(forest: &Forest<T>, member: &Member) -> bool
-    ensures { result ≡ is_alive (map T.state forest.now.trees.items) member.now }
-{
-    forest.node(member.node).is_some()
-}
-
-fn has_alive_dir<T: Tree>(forest: &Forest<T>, members: &[Member]) -> bool
-    ensures { result ≡ list_any (is_alive_dir (map T.state forest.now.trees.items)) members.now }
-{
-    members.iter().any(|member| is_alive_dir(forest, member))
-}
-
-fn is_alive_dir<T: Tree>(forest: &Forest<T>, member: &Member) -> bool
-    ensures { result ≡ is_alive_dir (map T.state forest.now.trees.items) member.now }
-{
-    match forest.node(member.node) {
-        Some(node) => node.is_dir(),
-        None => false,
-    }
 }
 
 // The first member that permits creation.

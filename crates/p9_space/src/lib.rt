@@ -16,4 +16,4 @@ pub use rights::{TO_EXECUTE, TO_READ, TO_WRITE, may, rules};
 pub use row::{Member, Members, Order};
 pub use table::{MountTable, UnmountError};
 pub use trail::{PLACES_MAX, ROOT_PLACE, Step, Trail};
-pub use walk::{find_step, resolve};
+pub use walk::{find_step, has_alive, has_alive_dir, resolve};

@@ -51,13 +51,15 @@ fn is_searched<T: Tree>(forest: &Forest<T>, member: &Member, user: Option<&User>
     }
 }
 
-fn has_alive<T: Tree>(forest: &Forest<T>, members: &[Member]) -> bool
+/// Whether some member exists.
+pub fn has_alive<T: Tree>(forest: &Forest<T>, members: &[Member]) -> bool
     ensures { result ≡ list_any (is_alive (map T.state forest.now.trees.items)) members.now }
 {
     members.iter().any(|m| is_alive(forest, m))
 }
 
-fn has_alive_dir<T: Tree>(forest: &Forest<T>, members: &[Member]) -> bool
+/// Whether some member is a directory that exists.
+pub fn has_alive_dir<T: Tree>(forest: &Forest<T>, members: &[Member]) -> bool
     ensures { result ≡ list_any (is_alive_dir (map T.state forest.now.trees.items)) members.now }
 {
     members.iter().any(|m| is_alive_dir(forest, m))
