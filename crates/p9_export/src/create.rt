@@ -64,7 +64,7 @@ pub fn create<T: Tree>(
     let Some(name) = Name::new(name) else {
         return Err(Fault::BadFileName);
     };
-    let Some(opening) = Opening::of(bits) else {
+    let Some(opening) = Opening::from_bits(bits) else {
         return Err(Fault::BadOpenMode);
     };
     let Some(asked) = Mode::from_bits(perm) else {

@@ -53,7 +53,7 @@ pub fn open<T: Tree>(
     let Some(file) = forest.node(at) else {
         return Err(Fault::PhaseError);
     };
-    let Some(opening) = Opening::of(bits) else {
+    let Some(opening) = Opening::from_bits(bits) else {
         return Err(Fault::BadOpenMode);
     };
     if file.is_dir() && !opening.is_plain_read() {

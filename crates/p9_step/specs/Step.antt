@@ -28,7 +28,7 @@ use Rattle.p9_step.specs.Request.{request_of, tag_of}
 use Rattle.p9_step.specs.Memory.{no_memory_reply, ran_out}
 use Rattle.p9_step.specs.Event.{Event, Opening, Request, Closing, is_frame}
 
--- each message, in the manual's order; taken says that an open finds its file in use
+-- each message, in the manual's order; taken says that the file that an open asks for is taken
 abbrev pub session_answer : Setting → List Server → Bool → Session → ℕ → TMessage → Answer
 session_answer setting forest taken session now (Tversion msize version) =
     version_answer setting forest session now msize version
@@ -55,13 +55,13 @@ session_answer setting forest taken session now (Tstat fid) = stat_answer settin
 session_answer setting forest taken session now (Twstat fid stat) =
     wstat_answer setting forest session now fid stat
 
--- whether an open finds its file in use, in any session
+-- whether an open finds its file taken, by a fid of any session
 abbrev pub finds_taken : Setting → List Server → List SessionRow → Session → TMessage → Bool
 finds_taken setting forest sessions session (Topen fid mode) =
     is_taken setting forest sessions session fid
 finds_taken setting forest sessions session other = false
 
--- the same, where all sessions are looked at for files in use
+-- the same, where all sessions are looked at for files that are taken
 abbrev pub message_answer : Setting → List Server → List SessionRow → Session → ℕ → TMessage
     → Answer
 message_answer setting forest sessions session now m =

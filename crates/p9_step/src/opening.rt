@@ -10,6 +10,7 @@ use p9_fids::{OpenMode, Opened};
 /// What the mode of an open or a create asks for.
 #[derive(Clone, Copy, Debug, PartialEq, Eq)]
 pub struct Opening {
+    /// What the fid may be used for.
     pub mode: OpenMode,
     /// The file is cut to nothing.
     pub truncates: bool,
@@ -29,7 +30,7 @@ const UNKNOWN: u8 = 0x8C;
 
 impl Opening {
     /// What these bits ask for, or `None` where one of them means nothing.
-    pub fn of(bits: u8) -> Option<Opening>
+    pub fn from_bits(bits: u8) -> Option<Opening>
         ensures { result ≡ opening_of bits }
     {
         if bits & UNKNOWN != 0 {
