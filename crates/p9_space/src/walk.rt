@@ -76,7 +76,9 @@ fn has_searched<T: Tree>(forest: &Forest<T>, members: &[Member], user: Option<&U
 fn child_ref<T: Tree>(forest: &Forest<T>, dir: NodeRef, name: &Name) -> Option<NodeRef>
     ensures { result ≡ child_ref (map T.state forest.now.trees.items) dir name.now }
 {
-    forest.child(dir, name).map(|node| dir.beside(node.number()))
+    forest
+        .child(dir, name)
+        .map(|node| dir.beside(node.number()))
 }
 
 // The child of the name in the first member that may be searched and has one.

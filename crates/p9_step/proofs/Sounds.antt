@@ -19,7 +19,6 @@ use Rattle.p9_step.specs.State.{Setting, Session, SessionRow, changed_session, f
 use Rattle.p9_step.specs.State.{with_session, without_session}
 use Rattle.p9_step.specs.Change.{Change, all_applied}
 use Rattle.p9_step.specs.Answer.{Outcome}
-
 use Rattle.p9_step.specs.End.{on_ends}
 use Rattle.p9_space.specs.Given.{is_given, is_row_given, is_table_given}
 use Rattle.p9_step.specs.Sound.{IsMsize, IsSessionSound, IsSound, FidsFit}
