@@ -7,14 +7,22 @@ abbrev pub and_then : {S T E : Type 0} → Result S E → (S → Result T E) →
 and_then (Ok value) continue = continue value
 and_then (Err error) continue = Err error
 
+-- The tests that stand before a result, one after another. They are shut in proofs, so that a proof
+-- takes one test at a time.
+
 -- goes on where the test passes
-abbrev pub need : {X E : Type 0} → Bool → E → Result X E → Result X E
+unfoldable pub need : {X E : Type 0} → Bool → E → Result X E → Result X E
 need test error rest = if test then rest else Err error
 
 -- goes on with the value, where there is one
-abbrev pub given : {X Y E : Type 0} → Option X → E → (X → Result Y E) → Result Y E
+unfoldable pub given : {X Y E : Type 0} → Option X → E → (X → Result Y E) → Result Y E
 given None error rest = Err error
 given (Some x) error rest = rest x
+
+-- goes on where there is no error
+unfoldable pub unless : {X E : Type 0} → Option E → Result X E → Result X E
+unless None rest = rest
+unless (Some error) rest = Err error
 
 -- what the items make of a start, in their order: the last value, or the first error
 abbrev pub try_fold : {S X E : Type 0} → (S → X → Result S E) → S → List X → Result S E

@@ -10,5 +10,5 @@ statements_of text =
     filter (λ line. not (is_skipped line.1)) (enumerate_from 1 (map words_of (lines_of text)))
 
 -- a statement as a line's number and its words
-abbrev pub statement_value : {A : Type 0} → Statement A → ℕ × List (List ℕ)
-statement_value s = (s.line, map (λ word. word.now) s.words.items)
+abbrev pub statement_view : {A : Type 0} → Statement A → ℕ × List (List ℕ)
+statement_view s = (s.line, map (λ word. word.now) s.words.items)

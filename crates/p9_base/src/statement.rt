@@ -1,7 +1,7 @@
 //! What the lines of a text say, in the form of namespace(6).
 
 ghost use Rattle.std.specs.Prelude.{◌≡◌, map, IfOk};
-ghost use Rattle.p9_base.specs.Statement.{statements_of, statement_value};
+ghost use Rattle.p9_base.specs.Statement.{statements_of, statement_view};
 
 use crate::line::{is_skipped, lines, words};
 use std::alloc::{AllocError, Allocator};
@@ -21,7 +21,7 @@ pub fn statements<A: Allocator + Copy>(
     alloc: A,
     text: &str,
 ) -> Result<Vec<Statement<'_, A>, A>, AllocError>
-    ensures { IfOk result (λ found. map statement_value found.items ≡ statements_of text.now) }
+    ensures { IfOk result (λ found. map statement_view found.items ≡ statements_of text.now) }
 {
     let mut statements = Vec::new(alloc);
     for (i, line) in lines(alloc, text)?.iter().enumerate() {

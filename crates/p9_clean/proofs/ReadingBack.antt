@@ -1,63 +1,59 @@
 -- A cleaned path, read again.
 use Rattle.std.proofs.Common.{◌≡◌, ℕ, Bool, true, false, not, cond, List, [], ◌∷◌, refl, sym, ap}
 use Rattle.std.proofs.Common.{◌∙◌, arith}
-use Rattle.std.specs.Prelude.{◌==◌, ◌&&◌, filter}
+use Rattle.std.specs.Prelude.{◌&&◌, filter}
 use Rattle.std.specs.List.{All, slice_split, onto_first, join_with_byte}
 use Rattle.std.proofs.lemmas.Bool.{false≢true}
 use Rattle.std.proofs.lemmas.List.Elements.{All-nil, All-cons}
 use Rattle.std.proofs.lemmas.List.Splits.{slice_split_none, slice_split_at}
-use Rattle.p9_base.specs.Name.{slash}
-use Rattle.p9_clean.specs.Path.{is_rooted, words_of, is_dot_dot, is_element, elements_of}
+use Rattle.p9_base.specs.Name.{is_slash, slash}
+use Rattle.p9_clean.specs.Path.{is_rooted, components_of, is_dot_dot, is_element, elements_of}
 use Rattle.p9_clean.specs.Path.{in_front, reduced, below_root, shortened, path_of, cleaned_elements}
 use Rattle.p9_clean.specs.Path.{cleaned}
 use Rattle.p9_clean.proofs.RuleLemmas.{left_of-left_of}
 
--- whether a byte is a slash
-abbrev is_slash : ℕ → Bool
-is_slash b = b == slash
-
--- a word has no slash in it
+-- a component has no slash in it
 HasNoSlash : List ℕ → Type 0
-HasNoSlash word = All (λ b. is_slash b ≡ false) word
+HasNoSlash c = All (λ b. is_slash b ≡ false) c
 
--- each word is free of slashes
+-- each component is free of slashes
 data Parts : List (List ℕ) → Type 0 where
   none : Parts []
-  some : {word : List ℕ} {words : List (List ℕ)} → HasNoSlash word → Parts words
-      → Parts (word ∷ words)
+  some : {c : List ℕ} {cs : List (List ℕ)} → HasNoSlash c → Parts cs
+      → Parts (c ∷ cs)
 
--- each word is an element, and free of slashes
+-- each component is an element, and free of slashes
 data Elements : List (List ℕ) → Type 0 where
   none : Elements []
   some : {e : List ℕ} {es : List (List ℕ)} → is_element e ≡ true → HasNoSlash e → Elements es
       → Elements (e ∷ es)
 
--- a byte that is no slash may stand before the first word
-Parts-onto_first : (b : ℕ) (words : List (List ℕ)) → is_slash b ≡ false → Parts words
-    → Parts (onto_first b words)
+-- a byte that is no slash may stand before the first component
+Parts-onto_first : (b : ℕ) (cs : List (List ℕ)) → is_slash b ≡ false → Parts cs
+    → Parts (onto_first b cs)
 unfolding HasNoSlash
 Parts-onto_first b [] other parts =
     some (All-cons (λ x. is_slash x ≡ false) b [] other (All-nil (λ x. is_slash x ≡ false))) none
-Parts-onto_first b (word ∷ words) other (some free parts) =
-    some (All-cons (λ x. is_slash x ≡ false) b word other free) parts
+Parts-onto_first b (c ∷ cs) other (some free parts) =
+    some (All-cons (λ x. is_slash x ≡ false) b c other free) parts
 
--- the words of a path are free of slashes
-Parts-words_of : (path : List ℕ) → Parts (words_of path)
+-- the components of a path are free of slashes
+Parts-components_of : (path : List ℕ) → Parts (components_of path)
 unfolding HasNoSlash
-Parts-words_of [] = some (All-nil (λ x. is_slash x ≡ false)) none
-Parts-words_of (b ∷ path) = go (is_slash b) refl (Parts-words_of path) where
-  go : (t : Bool) → is_slash b ≡ t → Parts (words_of path)
-      → Parts (cond (is_slash b) ([] ∷ words_of path) (onto_first b (words_of path)))
+Parts-components_of [] = some (All-nil (λ x. is_slash x ≡ false)) none
+Parts-components_of (b ∷ path) = go (is_slash b) refl (Parts-components_of path) where
+  go : (t : Bool) → is_slash b ≡ t → Parts (components_of path)
+      → Parts (cond (is_slash b) ([] ∷ components_of path) (onto_first b (components_of path)))
   go true slash parts = rw slash (some (All-nil (λ x. is_slash x ≡ false)) parts)
-  go false other parts = rw other (Parts-onto_first b (words_of path) other parts)
+  go false other parts = rw other (Parts-onto_first b (components_of path) other parts)
 
--- the elements among words are elements
-Elements-filter : (words : List (List ℕ)) → Parts words → Elements (filter is_element words)
+-- the elements among components are elements
+Elements-filter : (cs : List (List ℕ)) → Parts cs → Elements (filter is_element cs)
 Elements-filter [] parts = none
-Elements-filter (word ∷ words) (some free parts) =
-    go (is_element word) refl (Elements-filter words parts) where
-      go : (t : Bool) → is_element word ≡ t → Elements (filter is_element words)
-          → Elements (filter is_element (word ∷ words))
+Elements-filter (c ∷ cs) (some free parts) =
+    go (is_element c) refl (Elements-filter cs parts) where
+      go : (t : Bool) → is_element c ≡ t → Elements (filter is_element cs)
+          → Elements (filter is_element (c ∷ cs))
       go true element others = rw element (some element free others)
       go false no_element others = rw no_element others
 
@@ -95,7 +91,7 @@ filter-Elements [] none = refl
 filter-Elements (e ∷ es) (some element free others) =
     rw element (ap (λ (t : List (List ℕ)). e ∷ t) (filter-Elements es others))
 
--- elements are the words of their text
+-- elements are the components of their text
 slice_split-join_with_byte : (e : List ℕ) (es : List (List ℕ)) → Elements (e ∷ es)
     → slice_split is_slash (join_with_byte slash (e ∷ es)) ≡ e ∷ es
 unfolding HasNoSlash
@@ -136,7 +132,7 @@ is_rooted-path_of false (e ∷ es) (some element free others) =
 Elements-cleaned_elements : (path : List ℕ) → Elements (cleaned_elements path)
 Elements-cleaned_elements path =
     Elements-shortened (is_rooted path) (elements_of path)
-    (Elements-filter (words_of path) (Parts-words_of path))
+    (Elements-filter (components_of path) (Parts-components_of path))
 
 -- a cleaned path begins with a slash where the path does
 pub is_rooted-cleaned : (path : List ℕ) → is_rooted (cleaned path) ≡ is_rooted path
@@ -156,4 +152,4 @@ cleaned-cleaned path =
     ap (λ t. path_of t (shortened t (elements_of (cleaned path)))) (is_rooted-cleaned path)
     ∙ ap (λ t. path_of rooted (shortened rooted t))
     (elements_of-cleaned path ∙ sym (filter-Elements es (Elements-cleaned_elements path)))
-    ∙ ap (path_of rooted) (left_of-left_of rooted (words_of path))
+    ∙ ap (path_of rooted) (left_of-left_of rooted (components_of path))

@@ -14,13 +14,13 @@ use Rattle.p9_clean.specs.Rules.Shortens.{empty_goes, dot_goes, name_goes, root_
 use Rattle.p9_clean.specs.Rules.Leads.{here, step}
 use Rattle.p9_clean.proofs.Reduction.{in_front-dot_dot, in_front-name, in_front-gone}
 
--- the list that cleaning leaves of words
+-- the list that cleaning leaves of components
 abbrev pub left_of : Bool → List (List ℕ) → List (List ℕ)
-left_of rooted words = shortened rooted (filter is_element words)
+left_of rooted cs = shortened rooted (filter is_element cs)
 
 -- a rule shortens a list
-pub length-Shortens : {rooted : Bool} {words next : List (List ℕ)} → Shortens rooted words next
-    → length next < length words
+pub length-Shortens : {rooted : Bool} {cs next : List (List ℕ)} → Shortens rooted cs next
+    → length next < length cs
 length-Shortens (empty_goes before after) =
     omega (arith, length-append before after, length-append before ([] ∷ after))
 length-Shortens (dot_goes before after) =
@@ -30,9 +30,9 @@ length-Shortens (name_goes before after name p q r) =
 length-Shortens (root_goes after root) = omega arith
 
 -- rules never lengthen a list
-pub length-Leads : {rooted : Bool} {words last : List (List ℕ)} → Leads rooted words last
-    → length last ≤ length words
-length-Leads (here {words = words}) = omega arith
+pub length-Leads : {rooted : Bool} {cs last : List (List ℕ)} → Leads rooted cs last
+    → length last ≤ length cs
+length-Leads (here {components = cs}) = omega arith
 length-Leads (step rule rules) =
     let shorter = length-Shortens rule in let others = length-Leads rules in omega arith
 
@@ -48,7 +48,7 @@ shortened-behind : (rooted : Bool) (before xs ys : List (List ℕ)) → reduced 
 shortened-behind true before xs ys e = ap below_root (reduced-behind before xs ys e)
 shortened-behind false before xs ys e = reduced-behind before xs ys e
 
--- words that leave the same behind others leave the same
+-- components that leave the same behind others leave the same
 left_of-behind : (rooted : Bool) (before xs ys : List (List ℕ))
     → reduced (filter is_element xs) ≡ reduced (filter is_element ys)
     → left_of rooted (before ++ xs) ≡ left_of rooted (before ++ ys)
@@ -59,16 +59,16 @@ left_of-behind rooted before xs ys e =
     ∙ sym (ap (shortened rooted) (filter-append is_element before ys))
 
 -- a test of bytes that are others fails
-is_other : (word text : List ℕ) → word ≢ text → bytes_eq word text ≡ false
-is_other word text other =
-    false_from_ne_true _ (λ same. other ((bytes_eq-Decides word text).0 same))
+is_other : (c text : List ℕ) → c ≢ text → bytes_eq c text ≡ false
+is_other c text other =
+    false_from_ne_true _ (λ same. other ((bytes_eq-Decides c text).0 same))
 
--- a word that has a byte and is not '.' is an element
+-- a component that has a byte and is not '.' is an element
 is_element-from_false : (b : ℕ) (bs : List ℕ) → is_dot (b ∷ bs) ≡ false → is_element (b ∷ bs) ≡ true
 is_element-from_false b bs other = rw (other, lt-ltb 0 (length (b ∷ bs)) (omega arith)) refl
 
--- a word that is neither empty nor '.' is an element
-is_element-other : (word : List ℕ) → word ≢ [] → word ≢ codes "." → is_element word ≡ true
+-- a component that is neither empty nor '.' is an element
+is_element-other : (c : List ℕ) → c ≢ [] → c ≢ codes "." → is_element c ≡ true
 is_element-other [] some other = absurd (some refl)
 is_element-other (b ∷ bs) some other =
     is_element-from_false b bs (is_other (b ∷ bs) (codes ".") other)
@@ -89,9 +89,9 @@ left_of-root_goes true after root =
     ap below_root (in_front-dot_dot (codes "..") (reduced (filter is_element after)) refl)
 left_of-root_goes false after root = absurd (false≢true root)
 
--- what cleaning leaves of words is what it leaves of them after a rule
-pub left_of-Shortens : {rooted : Bool} {words next : List (List ℕ)} → Shortens rooted words next
-    → left_of rooted words ≡ left_of rooted next
+-- what cleaning leaves of components is what it leaves of them after a rule
+pub left_of-Shortens : {rooted : Bool} {cs next : List (List ℕ)} → Shortens rooted cs next
+    → left_of rooted cs ≡ left_of rooted next
 left_of-Shortens {rooted} (empty_goes before after) =
     left_of-behind rooted before ([] ∷ after) after refl
 left_of-Shortens {rooted} (dot_goes before after) =
@@ -103,96 +103,96 @@ left_of-Shortens {rooted} (name_goes before after name some no_dot no_dots) =
 left_of-Shortens {rooted} (root_goes after root) = left_of-root_goes rooted after root
 
 -- and after any rules
-pub left_of-Leads : {rooted : Bool} {words last : List (List ℕ)} → Leads rooted words last
-    → left_of rooted words ≡ left_of rooted last
+pub left_of-Leads : {rooted : Bool} {cs last : List (List ℕ)} → Leads rooted cs last
+    → left_of rooted cs ≡ left_of rooted last
 left_of-Leads here = refl
 left_of-Leads (step rule rules) = left_of-Shortens rule ∙ left_of-Leads rules
 
--- a rule that needs no root applies behind any word
-Shortens-cons : {words next : List (List ℕ)} (rooted : Bool) (word : List ℕ)
-    → Shortens false words next → Shortens rooted (word ∷ words) (word ∷ next)
-Shortens-cons rooted word (empty_goes before after) = empty_goes (word ∷ before) after
-Shortens-cons rooted word (dot_goes before after) = dot_goes (word ∷ before) after
-Shortens-cons rooted word (name_goes before after name p q r) =
-    name_goes (word ∷ before) after name p q r
-Shortens-cons rooted word (root_goes after root) = absurd (false≢true root)
+-- a rule that needs no root applies behind any component
+Shortens-cons : {cs next : List (List ℕ)} (rooted : Bool) (c : List ℕ)
+    → Shortens false cs next → Shortens rooted (c ∷ cs) (c ∷ next)
+Shortens-cons rooted c (empty_goes before after) = empty_goes (c ∷ before) after
+Shortens-cons rooted c (dot_goes before after) = dot_goes (c ∷ before) after
+Shortens-cons rooted c (name_goes before after name p q r) =
+    name_goes (c ∷ before) after name p q r
+Shortens-cons rooted c (root_goes after root) = absurd (false≢true root)
 
--- rules that need no root apply behind any word
-Leads-cons : {words last : List (List ℕ)} (rooted : Bool) (word : List ℕ) → Leads false words last
-    → Leads rooted (word ∷ words) (word ∷ last)
-Leads-cons rooted word here = here
-Leads-cons rooted word (step rule rules) =
-    step (Shortens-cons rooted word rule) (Leads-cons rooted word rules)
+-- rules that need no root apply behind any component
+Leads-cons : {cs last : List (List ℕ)} (rooted : Bool) (c : List ℕ) → Leads false cs last
+    → Leads rooted (c ∷ cs) (c ∷ last)
+Leads-cons rooted c here = here
+Leads-cons rooted c (step rule rules) =
+    step (Shortens-cons rooted c rule) (Leads-cons rooted c rules)
 
 -- a rule that needs no root applies in a rooted path too
-Shortens-rooted : {words next : List (List ℕ)} (rooted : Bool) → Shortens false words next
-    → Shortens rooted words next
+Shortens-rooted : {cs next : List (List ℕ)} (rooted : Bool) → Shortens false cs next
+    → Shortens rooted cs next
 Shortens-rooted rooted (empty_goes before after) = empty_goes before after
 Shortens-rooted rooted (dot_goes before after) = dot_goes before after
 Shortens-rooted rooted (name_goes before after name p q r) = name_goes before after name p q r
 Shortens-rooted rooted (root_goes after root) = absurd (false≢true root)
 
 -- rules that need no root apply in a rooted path too
-Leads-rooted : {words last : List (List ℕ)} (rooted : Bool) → Leads false words last
-    → Leads rooted words last
+Leads-rooted : {cs last : List (List ℕ)} (rooted : Bool) → Leads false cs last
+    → Leads rooted cs last
 Leads-rooted rooted here = here
 Leads-rooted rooted (step rule rules) =
     step (Shortens-rooted rooted rule) (Leads-rooted rooted rules)
 
 -- rules may follow rules
-Leads-both : {rooted : Bool} {words next last : List (List ℕ)} → Leads rooted words next
-    → Leads rooted next last → Leads rooted words last
+Leads-both : {rooted : Bool} {cs next last : List (List ℕ)} → Leads rooted cs next
+    → Leads rooted next last → Leads rooted cs last
 Leads-both here others = others
 Leads-both (step rule rules) others = step rule (Leads-both rules others)
 
 -- an element is not empty
-element_not_empty : (word : List ℕ) → is_element word ≡ true → word ≢ []
+element_not_empty : (c : List ℕ) → is_element c ≡ true → c ≢ []
 element_not_empty [] element = λ _. false≢true element
 element_not_empty (b ∷ bs) element = λ e. cc
 
 -- an element is not '.'
-element_not_dot : (word : List ℕ) → is_element word ≡ true → word ≢ codes "."
-element_not_dot word element = λ e. false≢true (ap is_element (sym e) ∙ element)
+element_not_dot : (c : List ℕ) → is_element c ≡ true → c ≢ codes "."
+element_not_dot c element = λ e. false≢true (ap is_element (sym e) ∙ element)
 
--- a word that is no element is empty or '.': a rule takes it away
-no_element_goes : (word : List ℕ) (after : List (List ℕ)) → is_element word ≡ false
-    → Shortens false (word ∷ after) after
+-- a component that is no element is empty or '.': a rule takes it away
+no_element_goes : (c : List ℕ) (after : List (List ℕ)) → is_element c ≡ false
+    → Shortens false (c ∷ after) after
 no_element_goes [] after no_element = empty_goes [] after
 no_element_goes (b ∷ bs) after no_element = go (bytes_eq (b ∷ bs) (codes ".")) refl where
   go : (t : Bool) → bytes_eq (b ∷ bs) (codes ".") ≡ t → Shortens false ((b ∷ bs) ∷ after) after
   go true dot =
-      subst (λ word. Shortens false (word ∷ after) after)
+      subst (λ c. Shortens false (c ∷ after) after)
       (sym ((bytes_eq-Decides (b ∷ bs) (codes ".")).0 dot)) (dot_goes [] after)
   go false other = absurd (false≢true (sym no_element ∙ is_element-from_false b bs other))
 
 -- an element in front goes with the '..' behind it
-Leads-in_front : (word : List ℕ) (es : List (List ℕ)) → is_element word ≡ true
-    → Leads false (word ∷ es) (in_front word es)
-Leads-in_front word [] element = here
-Leads-in_front word (next ∷ es) element = go (is_dot_dot word) (is_dot_dot next) refl refl where
-  go : (s t : Bool) → is_dot_dot word ≡ s → is_dot_dot next ≡ t
-      → Leads false (word ∷ next ∷ es) (in_front word (next ∷ es))
-  go true t up n = rw (in_front-dot_dot word (next ∷ es) up) here
-  go false false name n = rw (in_front-name word next es n) here
+Leads-in_front : (c : List ℕ) (es : List (List ℕ)) → is_element c ≡ true
+    → Leads false (c ∷ es) (in_front c es)
+Leads-in_front c [] element = here
+Leads-in_front c (next ∷ es) element = go (is_dot_dot c) (is_dot_dot next) refl refl where
+  go : (s t : Bool) → is_dot_dot c ≡ s → is_dot_dot next ≡ t
+      → Leads false (c ∷ next ∷ es) (in_front c (next ∷ es))
+  go true t up n = rw (in_front-dot_dot c (next ∷ es) up) here
+  go false false name n = rw (in_front-name c next es n) here
   go false true name up =
       let dots : next ≡ codes ".." = (bytes_eq-Decides next (codes "..")).0 up in
-      let gone : Shortens false (word ∷ codes ".." ∷ es) es =
-      name_goes [] es word (element_not_empty word element) (element_not_dot word element)
+      let gone : Shortens false (c ∷ codes ".." ∷ es) es =
+      name_goes [] es c (element_not_empty c element) (element_not_dot c element)
       (λ e. false≢true (sym name ∙ ap is_dot_dot e)) in
-      rw (in_front-gone word next es name up)
-      (subst (λ n. Leads false (word ∷ n ∷ es) es) (sym dots) (step gone here))
+      rw (in_front-gone c next es name up)
+      (subst (λ n. Leads false (c ∷ n ∷ es) es) (sym dots) (step gone here))
 
 -- the rules lead to the elements without names taken back
-Leads-reduced : (words : List (List ℕ)) → Leads false words (reduced (filter is_element words))
+Leads-reduced : (cs : List (List ℕ)) → Leads false cs (reduced (filter is_element cs))
 Leads-reduced [] = here
-Leads-reduced (word ∷ words) = go (is_element word) refl (Leads-reduced words) where
-  go : (t : Bool) → is_element word ≡ t → Leads false words (reduced (filter is_element words))
-      → Leads false (word ∷ words) (reduced (filter is_element (word ∷ words)))
+Leads-reduced (c ∷ cs) = go (is_element c) refl (Leads-reduced cs) where
+  go : (t : Bool) → is_element c ≡ t → Leads false cs (reduced (filter is_element cs))
+      → Leads false (c ∷ cs) (reduced (filter is_element (c ∷ cs)))
   go true element rules =
       rw element
-      (Leads-both (Leads-cons false word rules)
-      (Leads-in_front word (reduced (filter is_element words)) element))
-  go false no_element rules = rw no_element (step (no_element_goes word words no_element) rules)
+      (Leads-both (Leads-cons false c rules)
+      (Leads-in_front c (reduced (filter is_element cs)) element))
+  go false no_element rules = rw no_element (step (no_element_goes c cs no_element) rules)
 
 -- in a rooted path the rules take away the '..' at the start
 Leads-below_root : (es : List (List ℕ)) → Leads true es (below_root es)
@@ -206,44 +206,44 @@ Leads-below_root (e ∷ es) = go (is_dot_dot e) refl (Leads-below_root es) where
       (step (root_goes es refl) rules))
   go false name rules = rw name here
 
--- the rules lead from words to what cleaning leaves of them
-Leads-left_of : (rooted : Bool) (words : List (List ℕ)) → Leads rooted words (left_of rooted words)
-Leads-left_of true words =
-    Leads-both (Leads-rooted true (Leads-reduced words))
-    (Leads-below_root (reduced (filter is_element words)))
-Leads-left_of false words = Leads-reduced words
+-- the rules lead from components to what cleaning leaves of them
+Leads-left_of : (rooted : Bool) (cs : List (List ℕ)) → Leads rooted cs (left_of rooted cs)
+Leads-left_of true cs =
+    Leads-both (Leads-rooted true (Leads-reduced cs))
+    (Leads-below_root (reduced (filter is_element cs)))
+Leads-left_of false cs = Leads-reduced cs
 
 -- cleaning leaves what it left
-pub left_of-left_of : (rooted : Bool) (words : List (List ℕ))
-    → left_of rooted (left_of rooted words) ≡ left_of rooted words
-left_of-left_of rooted words = sym (left_of-Leads (Leads-left_of rooted words))
+pub left_of-left_of : (rooted : Bool) (cs : List (List ℕ))
+    → left_of rooted (left_of rooted cs) ≡ left_of rooted cs
+left_of-left_of rooted cs = sym (left_of-Leads (Leads-left_of rooted cs))
 
 -- no rule applies to it: what cleaning leaves of the shorter list would be as long
-IsClean-left_of : (rooted : Bool) (words : List (List ℕ)) → IsClean rooted (left_of rooted words)
-IsClean-left_of rooted words next rule =
+IsClean-left_of : (rooted : Bool) (cs : List (List ℕ)) → IsClean rooted (left_of rooted cs)
+IsClean-left_of rooted cs next rule =
     let shorter = length-Shortens rule in
     let least = length-Leads (Leads-left_of rooted next) in
-    let same : length (left_of rooted next) ≡ length (left_of rooted words) =
-    ap length (sym (left_of-Shortens rule) ∙ left_of-left_of rooted words) in
+    let same : length (left_of rooted next) ≡ length (left_of rooted cs) =
+    ap length (sym (left_of-Shortens rule) ∙ left_of-left_of rooted cs) in
     omega arith
 
 -- the rules lead from a list to which none applies to itself alone
-stays : {rooted : Bool} {words last : List (List ℕ)} → IsClean rooted words
-    → Leads rooted words last → last ≡ words
+stays : {rooted : Bool} {cs last : List (List ℕ)} → IsClean rooted cs
+    → Leads rooted cs last → last ≡ cs
 stays clean here = refl
 stays clean (step {next = next} rule rules) = absurd (clean next rule)
 
 -- a list to which no rule applies, and to which they lead, is what cleaning leaves
-only_left_of : (rooted : Bool) (words last : List (List ℕ)) → Leads rooted words last
-    → IsClean rooted last → last ≡ left_of rooted words
-only_left_of rooted words last rules clean =
+only_left_of : (rooted : Bool) (cs last : List (List ℕ)) → Leads rooted cs last
+    → IsClean rooted last → last ≡ left_of rooted cs
+only_left_of rooted cs last rules clean =
     sym (left_of-Leads rules ∙ stays clean (Leads-left_of rooted last))
 
--- what cleaning leaves of words is what the rules make of them
-pub CleansTo-left_of : (rooted : Bool) (words : List (List ℕ))
-    → CleansTo rooted words (left_of rooted words)
-CleansTo-left_of rooted words = record {
-  reached = Leads-left_of rooted words;
-  clean = IsClean-left_of rooted words;
-  only = only_left_of rooted words;
+-- what cleaning leaves of components is what the rules make of them
+pub CleansTo-left_of : (rooted : Bool) (cs : List (List ℕ))
+    → CleansTo rooted cs (left_of rooted cs)
+CleansTo-left_of rooted cs = record {
+  reached = Leads-left_of rooted cs;
+  clean = IsClean-left_of rooted cs;
+  only = only_left_of rooted cs;
 }

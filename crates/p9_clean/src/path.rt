@@ -33,7 +33,7 @@ pub fn elements<A: Allocator + Copy>(alloc: A, path: &str) -> Result<Vec<&str, A
 {
     let found = path
         .split('/')
-        .filter(|word| !word.is_empty() && *word != ".")
+        .filter(|component| !component.is_empty() && *component != ".")
         .collect(alloc)?;
     Ok(found)
 }

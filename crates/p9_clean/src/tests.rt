@@ -38,7 +38,7 @@ const CLEANED: [(&str, &str); 30] = [
 ];
 
 #[test]
-fn paths_are_cleaned(rt: HostRuntime) -> Result<(), Fail> {
+fn row_cleaning(rt: HostRuntime) -> Result<(), Fail> {
     for (path, want) in CLEANED {
         let cleaned = clean(rt.alloc(), path)?;
         assert_eq!(rt; cleaned.as_str(), want, "at {path:?}");

@@ -9,6 +9,7 @@ use Rattle.p9_base.specs.declared.mode.Mode.{Mode}
 use Rattle.p9_base.specs.declared.node_ref.NodeRef.{NodeRef}
 use Rattle.p9_base.specs.declared.qid.Qid.{Qid}
 use Rattle.p9_base.specs.NodeRef.{beside}
+use Rattle.p9_base.specs.Results.{given, unless}
 use Rattle.p9_tree.specs.declared.new.New.{New}
 use Rattle.p9_tree.specs.New.{new_node}
 use Rattle.p9_tree.specs.Node.{Node, is_dir, marked}
@@ -20,7 +21,7 @@ use Rattle.p9_space.specs.Rights.{may, to_write}
 use Rattle.p9_fids.specs.Fid.{Fid}
 use Rattle.p9_step.specs.declared.opening.Opening.{Opening}
 use Rattle.p9_step.specs.State.{Session, room_of}
-use Rattle.p9_step.specs.Answer.{Answer, given, unless}
+use Rattle.p9_step.specs.Answer.{Answer}
 use Rattle.p9_export.specs.Answers.{Answers}
 use Rattle.p9_step.specs.Change.{applied, edited}
 use Rattle.p9_step.specs.Create.{create_reply, created, created_in, creation, entered, fault_in}

@@ -8,6 +8,7 @@ use Rattle.std.proofs.lemmas.List.{length-take-le, take-append-le}
 use Rattle.p9_base.specs.declared.fault.Fault.{Fault}
 use Rattle.p9_base.specs.declared.fault.Fault.TheVariants.{BadDirectoryOffset, FidNotOpen}
 use Rattle.p9_base.specs.declared.fault.Fault.TheVariants.{PhaseError, UnknownFid}
+use Rattle.p9_base.specs.Results.{given, need}
 use Rattle.p9_tree.specs.Bytes.{read_from}
 use Rattle.p9_tree.specs.Forest.{bytes_of, forest_changed_at}
 use Rattle.p9_tree.specs.Node.{Node, is_dir, touched}
@@ -20,7 +21,7 @@ use Rattle.p9_fids.specs.declared.opened.Cursor.{Cursor}
 use Rattle.p9_fids.specs.declared.opened.Opened.{Opened}
 use Rattle.p9_fids.specs.Fid.{Fid, FidRow, changed_fid, fid_at, opened_as}
 use Rattle.p9_step.specs.State.{Setting, Session, fid_file, fid_ref, room_of}
-use Rattle.p9_step.specs.Answer.{Answer, given, need}
+use Rattle.p9_step.specs.Answer.{Answer}
 use Rattle.p9_export.specs.Answers.{Answers, data_reply, replied}
 use Rattle.p9_step.specs.Change.{EditNode, Touch, applied, edited}
 use Rattle.p9_step.specs.Listing.{Entry, left_of}

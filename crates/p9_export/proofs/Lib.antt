@@ -1,7 +1,6 @@
 mod Among
 mod Creates
 mod DirectoryReads
-mod Givens
 mod Listings
 mod Places
 mod Removals

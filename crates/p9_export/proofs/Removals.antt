@@ -2,13 +2,13 @@
 use Rattle.std.proofs.Common.{◌≡◌, ℕ, true, false, List, Option, Some, None, Ok, is_some}
 use Rattle.std.proofs.Common.{refl}
 use Rattle.p9_base.specs.declared.node_ref.NodeRef.{NodeRef}
+use Rattle.p9_base.specs.Results.{given, need}
 use Rattle.p9_tree.specs.Node.{Node}
 use Rattle.p9_tree.specs.Server.{Server, with_dropped}
 use Rattle.p9_tree.specs.Forest.{has_children_of, node_of, tree_changed_at}
 use Rattle.p9_fids.specs.Fid.{Fid}
 use Rattle.p9_wire.specs.Message.{Rremove}
 use Rattle.p9_step.specs.State.{Setting, Session, fid_ref}
-use Rattle.p9_step.specs.Answer.{given, need}
 use Rattle.p9_export.specs.Answers.{Answers}
 use Rattle.p9_step.specs.Change.{all_applied, applied}
 use Rattle.p9_step.specs.End.{parent_marked, taken_out}

@@ -22,7 +22,7 @@ use Rattle.p9_step.specs.Memory.{is_no_memory_reply, may_run_out, no_memory_repl
 use Rattle.p9_step.specs.Step.{message_answer}
 use Rattle.p9_step.specs.Request.{request_of, tag_of}
 use Rattle.p9_step.specs.Step.{step, Stepped}
-use Rattle.p9_step.specs.Event.{Request, is_frame}
+use Rattle.p9_step.specs.Event.{Message, is_frame}
 use Rattle.p9_step.proofs.Done.{done-is}
 use Rattle.p9_step.proofs.Plain.{IsPlainIf, plain-session_answer}
 use Rattle.p9_step.proofs.Replies.{not_an_error}
@@ -175,7 +175,7 @@ module _ (state : State) (name now : ℕ) (forest : List Server) (rows : List Se
       state.forest forest state.sessions rows result →
       bytes ≡ r_spelling (tag_of frame) (message_of result) →
       MakesStep state forest rows bytes
-      (step state (Request name frame now) (is_no_memory_reply frame bytes))
+      (step state (Message name frame now) (is_no_memory_reply frame bytes))
   unfolding answer
   frame-makes result whole did written =
       let makes =
@@ -193,13 +193,13 @@ pub among-makes : (state : State) (name now : ℕ) (forest : List Server) (rows 
     state.forest forest state.sessions rows result →
     bytes ≡ r_spelling (tag_of frame) (message_of result) →
     MakesStep state forest rows bytes
-    (step state (Request name frame now) (is_no_memory_reply frame bytes))
+    (step state (Message name frame now) (is_no_memory_reply frame bytes))
 among-makes state name now forest rows frame bytes result live whole did written =
     go (session_at name state.sessions) refl
   where
     go : (o : Option Session) → session_at name state.sessions ≡ o
         → MakesStep state forest rows bytes
-        (step state (Request name frame now) (is_no_memory_reply frame bytes))
+        (step state (Message name frame now) (is_no_memory_reply frame bytes))
     go None e = let no : false ≡ true = rw e at live in absurd (cc)
     go (Some session) e =
         frame-makes state name now forest rows session frame bytes e result whole (rw e at did)

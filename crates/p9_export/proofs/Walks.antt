@@ -7,7 +7,7 @@ use Rattle.p9_base.specs.declared.fault.Fault.{Fault}
 use Rattle.p9_base.specs.declared.fault.Fault.TheVariants.{PhaseError}
 use Rattle.p9_base.specs.declared.node_ref.NodeRef.{NodeRef}
 use Rattle.p9_base.specs.declared.qid.Qid.{Qid}
-use Rattle.p9_base.specs.Results.{and_then}
+use Rattle.p9_base.specs.Results.{and_then, given, need, unless}
 use Rattle.p9_tree.specs.Node.{Node}
 use Rattle.p9_tree.specs.Server.{Server}
 use Rattle.p9_space.specs.declared.trail.Step.{Step}
@@ -19,7 +19,6 @@ use Rattle.p9_fids.specs.declared.opened.Opened.{Opened}
 use Rattle.p9_fids.specs.Fid.{Fid, fid_at}
 use Rattle.p9_step.specs.State.{Setting, Session}
 use Rattle.p9_step.specs.Qid.{qid_at}
-use Rattle.p9_step.specs.Answer.{given, need, unless}
 use Rattle.p9_step.specs.Walk.{Walked, ended_walk, newfid_fault, walk_answer, walk_outcome}
 use Rattle.p9_step.specs.Walk.{walked}
 

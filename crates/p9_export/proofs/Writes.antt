@@ -5,6 +5,7 @@ use Rattle.std.specs.Prelude.{◌==◌, nat_le}
 use Rattle.p9_base.specs.declared.fault.Fault.{Fault}
 use Rattle.p9_base.specs.declared.fault.Fault.TheVariants.{OutOfMemory}
 use Rattle.p9_base.specs.declared.node_ref.NodeRef.{NodeRef}
+use Rattle.p9_base.specs.Results.{given, need}
 use Rattle.p9_tree.specs.Bytes.{overwritten, file_max}
 use Rattle.p9_tree.specs.Node.{Node, is_dir, marked, with_bytes}
 use Rattle.p9_tree.specs.Server.{Server}
@@ -15,7 +16,7 @@ use Rattle.p9_fids.specs.declared.opened.Opened.{Opened}
 use Rattle.p9_fids.specs.Opened.{writes}
 use Rattle.p9_fids.specs.Fid.{Fid, fid_at}
 use Rattle.p9_step.specs.State.{Setting, Session, fid_ref}
-use Rattle.p9_step.specs.Answer.{Answer, Outcome, given, need}
+use Rattle.p9_step.specs.Answer.{Answer, Outcome}
 use Rattle.p9_step.specs.Change.{applied, edited}
 use Rattle.p9_export.specs.Answers.{Answers, replied}
 use Rattle.p9_step.specs.Memory.{is_done}

@@ -20,6 +20,7 @@ use Rattle.p9_step.specs.Answer.{Answer}
 use Rattle.p9_step.specs.Qid.{stat_of}
 use Rattle.p9_step.specs.Step.{frame_answer}
 
+-- the changes of the forest that an answer makes: a refusal makes none
 abbrev pub changes_of : Answer → List Change
 changes_of (Ok outcome) = outcome.changes
 changes_of (Err fault) = []
@@ -35,6 +36,7 @@ Answers answer may_run_out forest forest' old new (Err fault) =
     ((answer ≡ Err fault) ⊎ ((fault ≡ OutOfMemory) × (may_run_out ≡ true))) × (forest' ≡ forest)
     × (new ≡ old)
 
+-- the session after an answer that is no refusal
 abbrev pub session_of : Answer → Session
 session_of (Ok outcome) = outcome.session
 session_of (Err fault) = fresh

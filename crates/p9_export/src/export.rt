@@ -2,7 +2,7 @@
 
 ghost use Rattle.std.specs.Prelude.{◌≡◌, ◌≤◌, ◌↔◌, [], Err, None, false, IsSome, IsTrue, OnErr};
 ghost use Rattle.std.specs.Prelude.{OnOk, length, map, take};
-ghost use Rattle.p9_step.specs.Event.{Closing, Opening, Request, is_frame};
+ghost use Rattle.p9_step.specs.Event.{Open, Message, Close, is_frame};
 ghost use Rattle.p9_step.specs.State.{session_at};
 ghost use Rattle.p9_step.specs.Memory.{is_no_memory_reply};
 ghost use Rattle.p9_step.specs.Step.{step};
@@ -61,7 +61,7 @@ impl<T: Tree> Model for Export<T> {
 impl<T: Tree> Export<T> {
     /// An exporter of these trees by this mount table, to these users, without sessions. This takes
     /// no memory. No key and no member of the table is a node that is still to be made:
-    /// [`is_table_given`] tests that.
+    /// [`p9_space::is_table_given`] tests that.
     pub fn new(
         forest: Forest<T>,
         users: Vec<User, T::Alloc>,
@@ -100,7 +100,7 @@ impl<T: Tree> Export<T> {
     /// [`OpenError::NoMemory`]. Both leave the exporter.
     pub fn open(&mut self, name: u32) -> Result<(), OpenError>
         ensures ok { OnOk result ((session_at name self.old.sessions ≡ None) × (self.new
-            ≡ (step self.old (Opening name) false).state)) }
+            ≡ (step self.old (Open name) false).state)) }
         ensures live { (result ≡ Err Live) ↔ IsSome (session_at name self.old.sessions) }
         ensures unchanged { OnErr result (self.new ≡ self.old) }
     {
@@ -116,7 +116,7 @@ impl<T: Tree> Export<T> {
     /// Closes a session, and ends its fids.
     pub fn close(&mut self, name: u32, now: u32)
         requires { IsSome (session_at name self.old.sessions) }
-        ensures { self.new ≡ (step self.old (Closing name now) false).state }
+        ensures { self.new ≡ (step self.old (Close name now) false).state }
     {
         self.forest.well_formed();
         if let Some(mut session) = self.sessions.remove(&name) {
@@ -134,10 +134,10 @@ impl<T: Tree> Export<T> {
         requires whole { IsTrue (is_frame frame.now) }
         requires room { msize_max ≤ length reply.old }
         ensures within { result ≤ length reply.old }
-        ensures state { self.new ≡ (step self.old (Request name frame.now now)
+        ensures state { self.new ≡ (step self.old (Message name frame.now now)
             (is_no_memory_reply frame.now (take result reply.new))).state }
         ensures bytes { take result reply.new
-            ≡ (step self.old (Request name frame.now now) (is_no_memory_reply frame.now
+            ≡ (step self.old (Message name frame.now now) (is_no_memory_reply frame.now
             (take result reply.new))).reply }
     {
         self.forest.well_formed();

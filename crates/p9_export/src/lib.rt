@@ -1,6 +1,6 @@
 //! The machine that answers 9P2000 over the trees and the mount table: one state, and one whole
 //! event after another.
-#![tactic(auto, unfolding(p9_step::specs::Answer::need, p9_step::specs::Answer::given, p9_step::specs::Answer::unless))]
+#![tactic(auto, unfolding(p9_base::specs::Results::need, p9_base::specs::Results::given, p9_base::specs::Results::unless))]
 
 mod answer;
 mod attach;
@@ -10,7 +10,6 @@ mod end;
 mod event;
 mod export;
 mod frame;
-mod given;
 mod inherit;
 mod listing;
 mod message;
@@ -32,6 +31,5 @@ mod wstat;
 
 pub use event::{Event, is_frame};
 pub use export::{Export, OpenError};
-pub use given::is_table_given;
 pub use session::Session;
 pub use version::MSIZE_MIN;

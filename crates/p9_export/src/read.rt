@@ -3,11 +3,11 @@
 ghost use Rattle.std.specs.Prelude.{◌≡◌, ◌==◌, ◌||◌, ◌≤◌, ◌<◌, ◌^◌, false, IfOk, IsSome, length};
 ghost use Rattle.std.specs.Prelude.{map, take};
 ghost use Rattle.p9_base.specs.declared.fault.Fault.TheVariants.{UnknownFid};
+ghost use Rattle.p9_base.specs.Results.{given};
 ghost use Rattle.p9_fids.specs.Fid.{fid_at};
 ghost use Rattle.p9_tree.specs.Bytes.{read_from};
 ghost use Rattle.p9_tree.specs.Forest.{bytes_of, forest_changed_at};
 ghost use Rattle.p9_tree.specs.Node.{touched};
-ghost use Rattle.p9_step.specs.Answer.{given};
 ghost use Rattle.p9_export.specs.Answers.{Answers, data_reply, replied};
 ghost use Rattle.p9_step.specs.State.{room_of};
 ghost use Rattle.p9_step.specs.Read.{cursor_at, read_answer, read_dir, readable};

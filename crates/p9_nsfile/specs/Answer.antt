@@ -2,7 +2,7 @@
 use Rattle.std.specs.Prelude.{◌≡◌, Bool, true, false, List, Result, Ok, Err, Vec, map}
 use Rattle.std.specs.Prelude.{if◌then◌else◌}
 use Rattle.p9_nsfile.specs.declared.line.Line.{Line}
-use Rattle.p9_nsfile.specs.Line.{NumberedLine, line_value}
+use Rattle.p9_nsfile.specs.Line.{NumberedLine, line_view}
 use Rattle.p9_base.specs.declared.fault.Fault as fault
 use Rattle.p9_base.specs.declared.fault.Fault.TheVariants as faults
 use Rattle.p9_nsfile.specs.declared.fault.OpFault.TheVariants.{Path}
@@ -35,6 +35,6 @@ walk_stop fault = if is_memory fault then NoMemory else Fault (Path fault)
 -- the lines, or the fault
 abbrev pub GivesLines : {A : Type 0} → Result (List NumberedLine) OpFault → Result (Vec Line A) Stop
     → Type 0
-GivesLines answer (Ok lines) = answer ≡ Ok (map line_value lines.items)
+GivesLines answer (Ok lines) = answer ≡ Ok (map line_view lines.items)
 GivesLines answer (Err (Fault fault)) = answer ≡ Err fault
 GivesLines answer (Err NoMemory) = Unit {0}

@@ -22,6 +22,7 @@ use Rattle.p9_nsfile.specs.Setting.{Setting}
 use Rattle.p9_nsfile.specs.Space.{Space}
 use Rattle.p9_nsfile.specs.Variable.{expanded}
 
+-- whether the nodes come in the place of what stands there
 abbrev pub is_replace : Order → Bool
 is_replace Replace = true
 is_replace Before = false

@@ -8,7 +8,7 @@ use Rattle.p9_nsfile.specs.declared.error.NsError.TheVariants.{BadLine, NoMemory
 use Rattle.p9_nsfile.specs.declared.line.Line.{Line}
 use Rattle.p9_nsfile.specs.declared.operation.Operation.{Operation}
 use Rattle.p9_nsfile.specs.Flags.{Word}
-use Rattle.p9_nsfile.specs.Operation.{Form, operation_of, operation_value}
+use Rattle.p9_nsfile.specs.Operation.{Form, operation_of, operation_view}
 
 -- a line's number, from 1 on, and its operation
 abbrev pub NumberedLine : Type 0
@@ -36,8 +36,8 @@ unfoldable pub lines_in : List ℕ → Result (List NumberedLine) BadLineOf
 lines_in text = try_fold with_line [] (statements_of text)
 
 -- a line of the code, as it is seen
-abbrev pub line_value : Line → NumberedLine
-line_value line = (line.number, operation_value line.operation)
+abbrev pub line_view : Line → NumberedLine
+line_view line = (line.number, operation_view line.operation)
 
 -- an error says that memory was refused, or which line is the first of bad form
 abbrev pub IsNsFault : {X : Type 0} → Result X BadLineOf → NsError → Type 0

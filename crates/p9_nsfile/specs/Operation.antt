@@ -32,10 +32,11 @@ verb_of word =
     else if bytes_eq word (codes "import") then Some v.Import
     else None
 
--- the words before the first that is no flag, and those from it on
+-- the words before the first that is no flag
 abbrev pub leading_flags : List Word → List Word
 leading_flags words = take_while is_flag words
 
+-- the words from the first that is no flag on
 abbrev pub behind_flags : List Word → List Word
 behind_flags words = drop (prefix_len is_flag words) words
 
@@ -52,6 +53,7 @@ mount_form flags (server ∷ old ∷ spec ∷ []) =
     with_flags flags (λ flags. Mount flags server old (Some spec))
 mount_form flags others = Err WordCount
 
+-- the same of all words behind `mount`
 abbrev pub mount_of : List Word → Form
 mount_of words = mount_form (flags_of (leading_flags words)) (behind_flags words)
 
@@ -60,6 +62,7 @@ abbrev pub bind_form : Option Flags → List Word → Form
 bind_form flags (new ∷ old ∷ []) = with_flags flags (λ flags. Bind flags new old)
 bind_form flags others = Err WordCount
 
+-- the same of all words behind `bind`
 abbrev pub bind_of : List Word → Form
 bind_of words = bind_form (flags_of (leading_flags words)) (behind_flags words)
 
@@ -101,17 +104,17 @@ operation_of (first ∷ words) =
     option_map_or (λ verb. arguments_of verb words) (verb_of first) (Err UnknownWord)
 
 -- an operation whose words lie in a text, as one of the words
-abbrev pub operation_value : Operation (Bor (List ℕ)) → Operation Word
-operation_value (Mount flags server old spec) =
+abbrev pub operation_view : Operation (Bor (List ℕ)) → Operation Word
+operation_view (Mount flags server old spec) =
     Mount flags server.now old.now (option_map (λ w. w.now) spec)
-operation_value (Bind flags new old) = Bind flags new.now old.now
-operation_value (Cd dir) = Cd dir.now
-operation_value (Unmount new old) = Unmount (option_map (λ w. w.now) new) old.now
-operation_value Clear = Clear
-operation_value (Include path) = Include path.now
-operation_value Import = Import
+operation_view (Bind flags new old) = Bind flags new.now old.now
+operation_view (Cd dir) = Cd dir.now
+operation_view (Unmount new old) = Unmount (option_map (λ w. w.now) new) old.now
+operation_view Clear = Clear
+operation_view (Include path) = Include path.now
+operation_view Import = Import
 
 -- an answer of the code, as a form
-abbrev pub form_value : Result (Operation (Bor (List ℕ))) BadForm → Form
-form_value (Ok operation) = Ok (operation_value operation)
-form_value (Err kind) = Err kind
+abbrev pub form_view : Result (Operation (Bor (List ℕ))) BadForm → Form
+form_view (Ok operation) = Ok (operation_view operation)
+form_view (Err kind) = Err kind

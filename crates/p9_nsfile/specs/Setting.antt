@@ -11,9 +11,9 @@ pub record Setting : Type 0 where
   pub servers : List (List ℕ)
 
 -- a setting of the code, as it is seen
-abbrev pub setting_value : {T A : Type 0} → (T → Server) → List T → List (String A × String A)
+abbrev pub setting_view : {T A : Type 0} → (T → Server) → List T → List (String A × String A)
     → List (String A) → Setting
-setting_value state trees vars servers = record {
+setting_view state trees vars servers = record {
   forest = map state trees;
   vars = variables_of vars;
   servers = map string_bytes servers;

@@ -1,8 +1,8 @@
 //! The lines of a namespace file.
 
 ghost use Rattle.std.specs.Prelude.{◌≡◌, Ok, IfOk, IfErr, map};
-ghost use Rattle.p9_base.specs.Statement.{statement_value};
-ghost use Rattle.p9_nsfile.specs.Line.{IsNsFault, line_of, line_value, lines_in};
+ghost use Rattle.p9_base.specs.Statement.{statement_view};
+ghost use Rattle.p9_nsfile.specs.Line.{IsNsFault, line_of, line_view, lines_in};
 
 use crate::error::NsError;
 use crate::operation::{Operation, read_operation};
@@ -23,7 +23,7 @@ pub(crate) fn read_lines<A: Allocator + Copy>(
     alloc: A,
     text: &str,
 ) -> Result<Vec<Line<'_>, A>, NsError>
-    ensures ok { IfOk result (λ found. lines_in text.now ≡ Ok (map line_value found.items)) }
+    ensures ok { IfOk result (λ found. lines_in text.now ≡ Ok (map line_view found.items)) }
     ensures err { IfErr result (IsNsFault (lines_in text.now)) }
 {
     let mut lines = Vec::new(alloc);
@@ -34,9 +34,9 @@ pub(crate) fn read_lines<A: Allocator + Copy>(
 }
 
 fn read_line<'a, A: Allocator>(statement: &Statement<'a, A>) -> Result<Line<'a>, NsError>
-    ensures ok { IfOk result (λ line. line_of (statement_value statement.now)
-        ≡ Ok (line_value line)) }
-    ensures err { IfErr result (IsNsFault (line_of (statement_value statement.now))) }
+    ensures ok { IfOk result (λ line. line_of (statement_view statement.now)
+        ≡ Ok (line_view line)) }
+    ensures err { IfErr result (IsNsFault (line_of (statement_view statement.now))) }
 {
     match read_operation(statement.words.as_slice()) {
         Ok(operation) => Ok(Line {

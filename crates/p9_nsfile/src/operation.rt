@@ -2,7 +2,7 @@
 
 ghost use Rattle.std.specs.Prelude.{◌≡◌, map, option_map};
 ghost use Rattle.p9_nsfile.specs.Operation.{arguments_of, bind_form, bind_of, cd_of, clear_of};
-ghost use Rattle.p9_nsfile.specs.Operation.{form_value, include_of, mount_form, mount_of};
+ghost use Rattle.p9_nsfile.specs.Operation.{form_view, include_of, mount_form, mount_of};
 ghost use Rattle.p9_nsfile.specs.Operation.{operation_of, unmount_of, verb_of, with_flags};
 ghost use Rattle.p9_nsfile.specs.declared.operation.Operation.TheVariants.{Bind, Mount};
 
@@ -60,7 +60,7 @@ pub(crate) enum Verb {
 /// [`BadForm::UnknownWord`]; another number of words behind the flags than the operation takes is
 /// [`BadForm::WordCount`]; and bad flags are [`BadForm::BadFlag`].
 pub(crate) fn read_operation<'a>(words: &[&'a str]) -> Result<Operation<&'a str>, BadForm>
-    ensures { form_value result ≡ operation_of (map (λ w. w.now) words.now) }
+    ensures { form_view result ≡ operation_of (map (λ w. w.now) words.now) }
 {
     let [first, words @ ..] = words else {
         return Err(BadForm::UnknownWord);
@@ -95,7 +95,7 @@ fn read_verb(word: &str) -> Option<Verb>
 
 // The operation of the verb, with the words behind it.
 fn arguments<'a>(verb: Verb, words: &[&'a str]) -> Result<Operation<&'a str>, BadForm>
-    ensures { form_value result ≡ arguments_of verb (map (λ w. w.now) words.now) }
+    ensures { form_view result ≡ arguments_of verb (map (λ w. w.now) words.now) }
 {
     match verb {
         Verb::Mount => mount(words),
@@ -109,7 +109,7 @@ fn arguments<'a>(verb: Verb, words: &[&'a str]) -> Result<Operation<&'a str>, Ba
 }
 
 fn mount<'a>(words: &[&'a str]) -> Result<Operation<&'a str>, BadForm>
-    ensures { form_value result ≡ mount_of (map (λ w. w.now) words.now) }
+    ensures { form_view result ≡ mount_of (map (λ w. w.now) words.now) }
 {
     let count = flag_count(words);
     mount_form(read_flags(&words[..count]), &words[count..])
@@ -117,7 +117,7 @@ fn mount<'a>(words: &[&'a str]) -> Result<Operation<&'a str>, BadForm>
 
 // A mount of these words behind the flags, which are counted before the flags are looked at.
 fn mount_form<'a>(flags: Option<Flags>, words: &[&'a str]) -> Result<Operation<&'a str>, BadForm>
-    ensures { form_value result ≡ mount_form flags (map (λ w. w.now) words.now) }
+    ensures { form_view result ≡ mount_form flags (map (λ w. w.now) words.now) }
 {
     match words {
         [server, old] => mounting(flags, server, old, None),
@@ -132,7 +132,7 @@ fn mounting<'a>(
     old: &'a str,
     spec: Option<&'a str>,
 ) -> Result<Operation<&'a str>, BadForm>
-    ensures { form_value result ≡ with_flags flags (λ flags. Mount flags server.now old.now
+    ensures { form_view result ≡ with_flags flags (λ flags. Mount flags server.now old.now
         (option_map (λ w. w.now) spec.entry)) }
 {
     match flags {
@@ -147,7 +147,7 @@ fn mounting<'a>(
 }
 
 fn bind<'a>(words: &[&'a str]) -> Result<Operation<&'a str>, BadForm>
-    ensures { form_value result ≡ bind_of (map (λ w. w.now) words.now) }
+    ensures { form_view result ≡ bind_of (map (λ w. w.now) words.now) }
 {
     let count = flag_count(words);
     bind_form(read_flags(&words[..count]), &words[count..])
@@ -155,7 +155,7 @@ fn bind<'a>(words: &[&'a str]) -> Result<Operation<&'a str>, BadForm>
 
 // A bind of these words behind the flags, which are counted before the flags are looked at.
 fn bind_form<'a>(flags: Option<Flags>, words: &[&'a str]) -> Result<Operation<&'a str>, BadForm>
-    ensures { form_value result ≡ bind_form flags (map (λ w. w.now) words.now) }
+    ensures { form_view result ≡ bind_form flags (map (λ w. w.now) words.now) }
 {
     match words {
         [new, old] => binding(flags, new, old),
@@ -168,7 +168,7 @@ fn binding<'a>(
     new: &'a str,
     old: &'a str,
 ) -> Result<Operation<&'a str>, BadForm>
-    ensures { form_value result ≡ with_flags flags (λ flags. Bind flags new.now old.now) }
+    ensures { form_view result ≡ with_flags flags (λ flags. Bind flags new.now old.now) }
 {
     match flags {
         Some(flags) => Ok(Operation::Bind { flags, new, old }),
@@ -177,7 +177,7 @@ fn binding<'a>(
 }
 
 fn cd<'a>(words: &[&'a str]) -> Result<Operation<&'a str>, BadForm>
-    ensures { form_value result ≡ cd_of (map (λ w. w.now) words.now) }
+    ensures { form_view result ≡ cd_of (map (λ w. w.now) words.now) }
 {
     match words {
         [dir] => Ok(Operation::Cd { dir: *dir }),
@@ -186,7 +186,7 @@ fn cd<'a>(words: &[&'a str]) -> Result<Operation<&'a str>, BadForm>
 }
 
 fn unmount<'a>(words: &[&'a str]) -> Result<Operation<&'a str>, BadForm>
-    ensures { form_value result ≡ unmount_of (map (λ w. w.now) words.now) }
+    ensures { form_view result ≡ unmount_of (map (λ w. w.now) words.now) }
 {
     match words {
         [old] => Ok(Operation::Unmount {
@@ -202,7 +202,7 @@ fn unmount<'a>(words: &[&'a str]) -> Result<Operation<&'a str>, BadForm>
 }
 
 fn clear<'a>(words: &[&'a str]) -> Result<Operation<&'a str>, BadForm>
-    ensures { form_value result ≡ clear_of (map (λ w. w.now) words.now) }
+    ensures { form_view result ≡ clear_of (map (λ w. w.now) words.now) }
 {
     match words {
         [] => Ok(Operation::Clear),
@@ -211,7 +211,7 @@ fn clear<'a>(words: &[&'a str]) -> Result<Operation<&'a str>, BadForm>
 }
 
 fn include<'a>(words: &[&'a str]) -> Result<Operation<&'a str>, BadForm>
-    ensures { form_value result ≡ include_of (map (λ w. w.now) words.now) }
+    ensures { form_view result ≡ include_of (map (λ w. w.now) words.now) }
 {
     match words {
         [path] => Ok(Operation::Include { path: *path }),

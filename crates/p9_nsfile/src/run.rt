@@ -3,11 +3,11 @@
 ghost use Rattle.std.specs.Prelude.{◌≡◌, IfErr, IfOk, Ok, Some, OnErr, OnOk, map};
 ghost use Rattle.p9_nsfile.specs.Answer.{Acts, GivesLines};
 ghost use Rattle.p9_nsfile.specs.Given.{KeepsGiven};
-ghost use Rattle.p9_nsfile.specs.Line.{IsNsFault, line_value, lines_in};
-ghost use Rattle.p9_nsfile.specs.Operation.{operation_value};
+ghost use Rattle.p9_nsfile.specs.Line.{IsNsFault, line_view, lines_in};
+ghost use Rattle.p9_nsfile.specs.Operation.{operation_view};
 ghost use Rattle.p9_nsfile.specs.Run.{acted, entered, file_lines, included, included_lines};
 ghost use Rattle.p9_nsfile.specs.Run.{line_done, lines_done, or_bad_include, run_of};
-ghost use Rattle.p9_nsfile.specs.Setting.{setting_value};
+ghost use Rattle.p9_nsfile.specs.Setting.{setting_view};
 
 use crate::bind::{bind, mount, unmount};
 use crate::error::NsError;
@@ -45,13 +45,13 @@ pub fn run_file<T: Tree>(
     table: &mut MountTable<T::Alloc>,
 ) -> Result<Vec<(u64, OpFault), T::Alloc>, NsError>
     ensures ok { IfOk result (λ reports.
-        run_of (setting_value T.state forest.now.trees.items vars.now servers.now)
+        run_of (setting_view T.state forest.now.trees.items vars.now servers.now)
         text.now table.old ≡ Ok (table.new, reports.items)) }
     ensures err { IfErr result (IsNsFault
-        (run_of (setting_value T.state forest.now.trees.items vars.now servers.now)
+        (run_of (setting_view T.state forest.now.trees.items vars.now servers.now)
         text.now table.old)) }
     ensures unchanged { OnErr result (table.new ≡ table.old) }
-    ensures given { OnOk result (KeepsGiven (setting_value T.state forest.now.trees.items
+    ensures given { OnOk result (KeepsGiven (setting_view T.state forest.now.trees.items
         vars.now servers.now) table.old table.new) }
 {
     forest.well_formed();
@@ -75,7 +75,7 @@ fn run_lines<T: Tree>(
     space: &mut Space<T::Alloc>,
 ) -> Result<(), NoMemory>
     ensures { OnOk result (space.new ≡ lines_done setting.now left outer space.old
-        (map line_value lines.now)) }
+        (map line_view lines.now)) }
 {
     for line in lines {
         run_line(setting, left, outer, line, space)?;
@@ -93,7 +93,7 @@ fn run_line<T: Tree>(
     space: &mut Space<T::Alloc>,
 ) -> Result<(), NoMemory>
     ensures { OnOk result (space.new ≡ line_done setting.now
-        (included setting.now left) outer space.old (line_value line.now)) }
+        (included setting.now left) outer space.old (line_view line.now)) }
 {
     let number = outer.unwrap_or(line.number);
     match act(setting, left, number, line.operation, space) {
@@ -113,7 +113,7 @@ fn act<T: Tree>(
     space: &mut Space<T::Alloc>,
 ) -> Result<(), Stop>
     ensures { Acts (acted setting.now (included setting.now left line) space.old
-        (operation_value operation.entry)) space.old space.new result }
+        (operation_view operation.entry)) space.old space.new result }
 {
     match operation {
         Operation::Mount {

@@ -8,7 +8,7 @@ ghost use Rattle.p9_tree.specs.Forest.{is_dir_of, node_of};
 ghost use Rattle.p9_space.specs.Walk.{walk};
 ghost use Rattle.p9_nsfile.specs.Answer.{Gives, walk_stop};
 ghost use Rattle.p9_nsfile.specs.Find.{path_fault, server_root};
-ghost use Rattle.p9_nsfile.specs.Setting.{setting_value};
+ghost use Rattle.p9_nsfile.specs.Setting.{setting_view};
 ghost use Rattle.p9_nsfile.specs.Variable.{expanded};
 
 use crate::fault::{OpFault, Stop};
@@ -32,11 +32,11 @@ pub(crate) struct Setting<'a, T: Tree> {
 }
 
 impl<'a, T: Tree> Model for Setting<'a, T> {
-    ghost use Rattle.p9_nsfile.specs.Setting.{Setting as SettingOf, setting_value};
+    ghost use Rattle.p9_nsfile.specs.Setting.{Setting as SettingOf, setting_view};
 
     ghost Value = { SettingOf };
 
-    ghost view = { λ s. setting_value T.state s.forest.now.trees.items s.vars.now s.servers.now };
+    ghost view = { λ s. setting_view T.state s.forest.now.trees.items s.vars.now s.servers.now };
 }
 
 impl<'a, T: Tree> Setting<'a, T> {
@@ -47,7 +47,7 @@ impl<'a, T: Tree> Setting<'a, T> {
         vars: &'a [(String<T::Alloc>, String<T::Alloc>)],
         servers: &'a [String<T::Alloc>],
     ) -> Setting<'a, T>
-        ensures { result ≡ setting_value T.state forest.now.trees.items vars.now servers.now }
+        ensures { result ≡ setting_view T.state forest.now.trees.items vars.now servers.now }
     {
         Setting {
             alloc,

@@ -7,7 +7,7 @@ use Rattle.std.proofs.lemmas.Bool.{and_from}
 use Rattle.std.proofs.lemmas.List.{get_or-map, length-map, drop_more, drop_all}
 use Rattle.hex.specs.Hex.{encode_lower}
 use Rattle.p9_step.specs.State.{State, session_at}
-use Rattle.p9_step.specs.Event.{Event, Request, is_frame}
+use Rattle.p9_step.specs.Event.{Event, Message, is_frame}
 use Rattle.p9_step.specs.Step.{Stepped, step}
 use Rattle.p9_serve.specs.Play.{Played, Plays, PlaysAll, play_text, played, replied, skipped}
 
@@ -88,16 +88,16 @@ replied-if fits after otherwise is = ap (λ test. if test then replied after els
 pub plays-request : (name now : ℕ) (frame : List ℕ) (old new : State) (before after reply : List ℕ)
     (refused : Bool) →
     is_frame frame ≡ true → is_some (session_at name old.sessions) ≡ true
-    → new ≡ (step old (Request name frame now) refused).state →
-    reply ≡ (step old (Request name frame now) refused).reply
+    → new ≡ (step old (Message name frame now) refused).state →
+    reply ≡ (step old (Message name frame now) refused).reply
     → after ≡ before ++ (encode_lower reply ++ 10 ∷ []) →
-    Plays (Request name frame now) old new before after
+    Plays (Message name frame now) old new before after
 plays-request name now frame old new before after reply refused whole live state_is reply_is
     text_is =
-    let fits : played old (Request name frame now) refused
-    ≡ replied (step old (Request name frame now) refused) =
+    let fits : played old (Message name frame now) refused
+    ≡ replied (step old (Message name frame now) refused) =
     replied-if (is_frame frame && is_some (session_at name old.sessions))
-    (step old (Request name frame now) refused) (skipped old)
+    (step old (Message name frame now) refused) (skipped old)
     (and_from (is_frame frame) (is_some (session_at name old.sessions)) whole live) in
     record {
       refused = refused;

@@ -4,7 +4,7 @@ use Rattle.std.proofs.Common.{subst, arith}
 use Rattle.std.specs.Prelude.{if◌then◌else◌, nat_lt}
 use Rattle.std.proofs.lemmas.Bool.Decides.{nat_tests}
 use Rattle.p9_base.specs.Statement.{statements_of}
-use Rattle.p9_base.specs.Results.{and_then, try_fold}
+use Rattle.p9_base.specs.Results.{and_then, need, try_fold}
 use Rattle.p9_world.specs.declared.error.LineFault.{LineFault}
 use Rattle.p9_world.specs.declared.error.LineFault.TheVariants.{NoServer}
 use Rattle.p9_world.specs.Read.{read_statement, with_a_server, world_of}
@@ -17,7 +17,7 @@ no_server = Err (0, NoServer)
 -- what the lines made is a world only where it has a server
 made-some : (made : Result World (ℕ × LineFault)) (world : World)
     → and_then made with_a_server ≡ Ok world → 0 < length world.servers
-unfolding no_server
+unfolding no_server need
 made-some (Err bad) world is = absurd (cc)
 made-some (Ok made) world is = by (nat_lt 0 (length made.servers)) refl is
   where

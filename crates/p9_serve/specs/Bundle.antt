@@ -105,16 +105,16 @@ bundle_of text =
 -- The code's values, as they are seen.
 
 -- a bundle, as the texts of its sections
-abbrev pub bundle_value : {A : Type 0} → Bundle A → Texts
-bundle_value bundle = record {
+abbrev pub bundle_view : {A : Type 0} → Bundle A → Texts
+bundle_view bundle = record {
   world = option_map string_bytes bundle.world;
   ns = option_map string_bytes bundle.ns;
   script = option_map string_bytes bundle.script;
 }
 
 -- a bundle as far as it is read, in the same way
-abbrev pub reader_value : {A : Type 0} → Reader A → Reading
-reader_value reader = record { texts = bundle_value reader.bundle; last = reader.last }
+abbrev pub reader_view : {A : Type 0} → Reader A → Reading
+reader_view reader = record { texts = bundle_view reader.bundle; last = reader.last }
 
 -- an error says that memory was refused, or which line is the first bad one
 abbrev pub IsBundleFault : {X : Type 0} → Result X ℕ → BundleError → Type 0

@@ -3,7 +3,7 @@ use Rattle.std.specs.Prelude.{◌≡◌, ℕ, ◌&&◌, Bool, false, List, [], �
 use Rattle.std.specs.Prelude.{if◌then◌else◌}
 use Rattle.hex.specs.Hex.{encode_lower}
 use Rattle.p9_step.specs.State.{State, session_at}
-use Rattle.p9_step.specs.Event.{Event, Opening, Request, Closing, is_frame}
+use Rattle.p9_step.specs.Event.{Event, Open, Message, Close, is_frame}
 use Rattle.p9_step.specs.Step.{Stepped, step}
 
 -- the state after an event, and what is printed for it
@@ -26,15 +26,15 @@ replied after = record { state = after.state; text = encode_lower after.reply ++
 -- an event is played; refused says that memory was refused to a request, and counts for no other
 -- event
 abbrev pub played : State → Event → Bool → Played
-played state (Opening name) refused =
+played state (Open name) refused =
     if is_some (session_at name state.sessions) then skipped state
-    else silent (step state (Opening name) false)
-played state (Request name frame now) refused =
+    else silent (step state (Open name) false)
+played state (Message name frame now) refused =
     if is_frame frame && is_some (session_at name state.sessions)
-    then replied (step state (Request name frame now) refused)
+    then replied (step state (Message name frame now) refused)
     else skipped state
-played state (Closing name now) refused =
-    if is_some (session_at name state.sessions) then silent (step state (Closing name now) false)
+played state (Close name now) refused =
+    if is_some (session_at name state.sessions) then silent (step state (Close name now) false)
     else skipped state
 
 -- one event after another, with their marks; the texts are joined

@@ -8,17 +8,9 @@ use Rattle.hex.specs.Hex.{decode_of}
 use Rattle.p9_base.specs.Decimal.{number_of}
 use Rattle.p9_base.specs.Statement.{statements_of}
 use Rattle.p9_base.specs.Results.{try_fold}
-use Rattle.p9_step.specs.Event.{Event, Opening, Request, Closing}
-use Rattle.p9_export.specs.declared.event.Event.{Event as EventOf}
-use Rattle.p9_export.specs.declared.event.Event.TheVariants.{Open, Message, Close}
+use Rattle.p9_step.specs.Event.{Event, Open, Message, Close}
 use Rattle.p9_serve.specs.declared.script.ScriptError.{ScriptError}
 use Rattle.p9_serve.specs.declared.script.ScriptError.TheVariants.{BadScript, NoMemory}
-
--- an event of the code, as it is seen
-abbrev pub event_value : {A : Type 0} → EventOf A → Event
-event_value (Open name) = Opening name
-event_value (Message name frame now) = Request name frame.items now
-event_value (Close name now) = Closing name now
 
 -- a session's name, and a reading of the clock
 abbrev pub short_number : List ℕ → Option ℕ
@@ -30,13 +22,13 @@ frame_in [] = None
 frame_in (digit ∷ digits) = result_ok (decode_of (digit ∷ digits))
 
 -- `open S`
-abbrev pub opening_event_of : List ℕ → List ℕ → Option Event
-opening_event_of verb name =
-    if bytes_eq verb (codes "open") then option_map Opening (short_number name) else None
+abbrev pub open_event_of : List ℕ → List ℕ → Option Event
+open_event_of verb name =
+    if bytes_eq verb (codes "open") then option_map Open (short_number name) else None
 
 -- a message, where all three of its parts are good
 abbrev pub message_event_at : Option ℕ → Option (List ℕ) → Option ℕ → Option Event
-message_event_at (Some name) (Some frame) (Some now) = Some (Request name frame now)
+message_event_at (Some name) (Some frame) (Some now) = Some (Message name frame now)
 message_event_at name frame now = None
 
 -- `msg S NOW HEX`
@@ -47,21 +39,21 @@ message_event_of verb name now hex =
     else None
 
 -- a closing, where both of its parts are good
-abbrev pub closing_event_at : Option ℕ → Option ℕ → Option Event
-closing_event_at (Some name) (Some now) = Some (Closing name now)
-closing_event_at name now = None
+abbrev pub close_event_at : Option ℕ → Option ℕ → Option Event
+close_event_at (Some name) (Some now) = Some (Close name now)
+close_event_at name now = None
 
 -- `close S NOW`
-abbrev pub closing_event_of : List ℕ → List ℕ → List ℕ → Option Event
-closing_event_of verb name now =
-    if bytes_eq verb (codes "close") then closing_event_at (short_number name) (short_number now)
+abbrev pub close_event_of : List ℕ → List ℕ → List ℕ → Option Event
+close_event_of verb name now =
+    if bytes_eq verb (codes "close") then close_event_at (short_number name) (short_number now)
     else None
 
 -- the event that the words of a line say, if they say one
 abbrev pub event_of : List (List ℕ) → Option Event
-event_of (verb ∷ name ∷ []) = opening_event_of verb name
+event_of (verb ∷ name ∷ []) = open_event_of verb name
 event_of (verb ∷ name ∷ now ∷ hex ∷ []) = message_event_of verb name now hex
-event_of (verb ∷ name ∷ now ∷ []) = closing_event_of verb name now
+event_of (verb ∷ name ∷ now ∷ []) = close_event_of verb name now
 event_of words = None
 
 -- the event joins the others; a line that says none is bad

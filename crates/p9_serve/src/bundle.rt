@@ -5,8 +5,8 @@ ghost use Rattle.std.specs.List.{list_all};
 ghost use Rattle.std.specs.Option.{option_map};
 ghost use Rattle.std.specs.String.{string_bytes};
 ghost use Rattle.p9_base.specs.Line.{is_blank};
-ghost use Rattle.p9_serve.specs.Bundle.{IsBundleFault, begun, bundle_of, bundle_value, continued};
-ghost use Rattle.p9_serve.specs.Bundle.{may_follow, place_of, reader_value, section_of, unread};
+ghost use Rattle.p9_serve.specs.Bundle.{IsBundleFault, begun, bundle_of, bundle_view, continued};
+ghost use Rattle.p9_serve.specs.Bundle.{may_follow, place_of, reader_view, section_of, unread};
 ghost use Rattle.p9_serve.specs.Bundle.{with_line, with_line_in, with_numbered_line, with_section};
 
 use p9_base::{NoMemory, lines};
@@ -82,7 +82,7 @@ struct Reader<A: Allocator> {
 impl<A: Allocator + Copy> Reader<A> {
     // Nothing is read yet.
     fn new() -> Reader<A>
-        ensures { reader_value result ≡ unread }
+        ensures { reader_view result ≡ unread }
     {
         Reader {
             bundle: Bundle {
@@ -97,10 +97,10 @@ impl<A: Allocator + Copy> Reader<A> {
     // Reads the line of this number.
     fn read_line(&mut self, alloc: A, number: u64, line: &str) -> Result<(), BundleError>
         ensures ok { OnOk result
-            (with_numbered_line (reader_value self.old) (number, line.now)
-            ≡ Ok (reader_value self.new)) }
+            (with_numbered_line (reader_view self.old) (number, line.now)
+            ≡ Ok (reader_view self.new)) }
         ensures bad { IfErr result
-            (IsBundleFault (with_numbered_line (reader_value self.old) (number, line.now))) }
+            (IsBundleFault (with_numbered_line (reader_view self.old) (number, line.now))) }
     {
         if line.starts_with("%%") {
             return self.begin(alloc, number, Section::begun_by(line));
@@ -111,8 +111,8 @@ impl<A: Allocator + Copy> Reader<A> {
     // Begins a section, if the line of this number names one that may stand there.
     fn begin(&mut self, alloc: A, number: u64, section: Option<Section>) -> Result<(), BundleError>
         ensures ok { OnOk result
-            (begun (reader_value self.old) number section ≡ Ok (reader_value self.new)) }
-        ensures bad { IfErr result (IsBundleFault (begun (reader_value self.old) number section)) }
+            (begun (reader_view self.old) number section ≡ Ok (reader_view self.new)) }
+        ensures bad { IfErr result (IsBundleFault (begun (reader_view self.old) number section)) }
     {
         let Some(section) = section else {
             return Err(BundleError::BadBundle { line: number });
@@ -128,10 +128,10 @@ impl<A: Allocator + Copy> Reader<A> {
     // Adds a line to the section that was begun last.
     fn go_on(&mut self, number: u64, line: &str) -> Result<(), BundleError>
         ensures ok { OnOk result
-            (continued (reader_value self.old) number line.now self.old.last
-            ≡ Ok (reader_value self.new)) }
+            (continued (reader_view self.old) number line.now self.old.last
+            ≡ Ok (reader_view self.new)) }
         ensures bad { IfErr result
-            (IsBundleFault (continued (reader_value self.old) number line.now self.old.last)) }
+            (IsBundleFault (continued (reader_view self.old) number line.now self.old.last)) }
     {
         if let Some(section) = self.last {
             self.bundle.push_line(section, line)?;
@@ -147,7 +147,7 @@ impl<A: Allocator + Copy> Reader<A> {
 impl<A: Allocator + Copy> Bundle<A> {
     // Makes the section's text an empty one.
     fn begin(&mut self, alloc: A, section: Section)
-        ensures { bundle_value self.new ≡ with_section section (bundle_value self.old) }
+        ensures { bundle_view self.new ≡ with_section section (bundle_view self.old) }
     {
         match section {
             Section::World => self.world = Some(String::new(alloc)),
@@ -159,7 +159,7 @@ impl<A: Allocator + Copy> Bundle<A> {
     // Adds a line to the section's text.
     fn push_line(&mut self, section: Section, line: &str) -> Result<(), NoMemory>
         ensures { OnOk result
-            (bundle_value self.new ≡ with_line_in section line.now (bundle_value self.old)) }
+            (bundle_view self.new ≡ with_line_in section line.now (bundle_view self.old)) }
     {
         match section {
             Section::World => push_line(&mut self.world, line),
@@ -197,7 +197,7 @@ fn is_blank(line: &str) -> bool
 /// line before the first section that has anything but blanks and tabs, is
 /// [`BundleError::BadBundle`]; want of memory is [`BundleError::NoMemory`].
 pub fn split_bundle<A: Allocator + Copy>(alloc: A, text: &str) -> Result<Bundle<A>, BundleError>
-    ensures ok { IfOk result (λ bundle. bundle_of text.now ≡ Ok (bundle_value bundle)) }
+    ensures ok { IfOk result (λ bundle. bundle_of text.now ≡ Ok (bundle_view bundle)) }
     ensures bad { IfErr result (IsBundleFault (bundle_of text.now)) }
 {
     let mut reader = Reader::new();

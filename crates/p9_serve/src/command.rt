@@ -1,10 +1,10 @@
 //! The program's commands.
 
 ghost use Rattle.std.specs.Prelude.{◌≡◌, IfOk, Ok, OnOk, map};
-ghost use Rattle.p9_serve.specs.Bundle.{bundle_value};
+ghost use Rattle.p9_serve.specs.Bundle.{bundle_view};
 ghost use Rattle.p9_serve.specs.Command.{Ends, Runs, Writes, command_of, job, job_in, job_of};
 ghost use Rattle.p9_serve.specs.Command.{job_over};
-ghost use Rattle.p9_serve.specs.Script.{event_value};
+ghost use Rattle.p9_export.specs.Event.{event_view};
 
 use crate::bundle::Bundle;
 use crate::input::{name_space, script, sections, text};
@@ -121,7 +121,7 @@ fn run_over<A: Allocator + Copy>(
     out: &mut Vec<u8, A>,
     err: &mut Vec<u8, A>,
 ) -> Result<(), Stop>
-    ensures { Runs (job_over command (bundle_value bundle.now)) (record {
+    ensures { Runs (job_over command (bundle_view bundle.now)) (record {
       out_before = out.old.items;
       out = out.new.items;
       err_before = err.old.items;
@@ -141,7 +141,7 @@ fn run_on<A: Allocator + Copy>(
     out: &mut Vec<u8, A>,
     err: &mut Vec<u8, A>,
 ) -> Result<(), Stop>
-    ensures { Runs (Ok (job command (bundle_value bundle.now) space)) (record {
+    ensures { Runs (Ok (job command (bundle_view bundle.now) space)) (record {
       out_before = out.old.items;
       out = out.new.items;
       err_before = err.old.items;
@@ -162,7 +162,7 @@ fn work<A: Allocator + Copy>(
     out: &mut Vec<u8, A>,
 ) -> Result<(), NoMemory>
     ensures { OnOk result
-        (Writes command space (map event_value events.now) out.old.items out.new.items) }
+        (Writes command space (map event_view events.now) out.old.items out.new.items) }
 {
     match command {
         Command::Play => play_events(&mut space.export(), events, out),

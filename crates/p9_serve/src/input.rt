@@ -4,11 +4,11 @@ ghost use Rattle.std.specs.Prelude.{◌≡◌, IfErr, IfNone, IfOk, IfSome, Ok, 
 ghost use Rattle.std.specs.Option.{option_copied, option_map};
 ghost use Rattle.std.specs.Str.{is_utf8};
 ghost use Rattle.std.specs.String.{string_bytes};
-ghost use Rattle.p9_serve.specs.Bundle.{bundle_of, bundle_value};
+ghost use Rattle.p9_serve.specs.Bundle.{bundle_of, bundle_view};
 ghost use Rattle.p9_serve.specs.Command.{script_in};
 ghost use Rattle.p9_serve.specs.NameSpace.{space_in};
 ghost use Rattle.p9_serve.specs.Refusal.{IsStop, or_refused};
-ghost use Rattle.p9_serve.specs.Script.{event_value};
+ghost use Rattle.p9_export.specs.Event.{event_view};
 ghost use Rattle.p9_serve.specs.declared.refusal.Refusal.TheVariants.{BadSection};
 
 use crate::bundle::{Bundle, BundleError, split_bundle};
@@ -32,7 +32,7 @@ pub(crate) fn text(input: &[u8]) -> Option<&str>
 
 /// The sections of an input, or the first line that no bundle has.
 pub(crate) fn sections<A: Allocator + Copy>(alloc: A, text: &str) -> Result<Bundle<A>, Stop>
-    ensures ok { IfOk result (λ bundle. bundle_of text.now ≡ Ok (bundle_value bundle)) }
+    ensures ok { IfOk result (λ bundle. bundle_of text.now ≡ Ok (bundle_view bundle)) }
     ensures stop { IfErr result (IsStop (or_refused BadSection (bundle_of text.now))) }
 {
     match split_bundle(alloc, text) {
@@ -48,9 +48,9 @@ pub(crate) fn name_space<A: Allocator + Copy>(
     bundle: &Bundle<A>,
 ) -> Result<NameSpace<PlainTree<A>>, Stop>
     ensures ok { IfOk result (λ space.
-        space_in (bundle_value bundle.now).world (bundle_value bundle.now).ns ≡ Ok space) }
+        space_in (bundle_view bundle.now).world (bundle_view bundle.now).ns ≡ Ok space) }
     ensures stop { IfErr result
-        (IsStop (space_in (bundle_value bundle.now).world (bundle_value bundle.now).ns)) }
+        (IsStop (space_in (bundle_view bundle.now).world (bundle_view bundle.now).ns)) }
 {
     NameSpace::read(alloc, text_of(&bundle.world), text_of(&bundle.ns))
 }
@@ -61,8 +61,8 @@ pub(crate) fn script<A: Allocator + Copy>(
     bundle: &Bundle<A>,
 ) -> Result<Vec<Event<A>, A>, Stop>
     ensures ok { IfOk result (λ events.
-        script_in (bundle_value bundle.now) ≡ Ok (map event_value events.items)) }
-    ensures stop { IfErr result (IsStop (script_in (bundle_value bundle.now))) }
+        script_in (bundle_view bundle.now) ≡ Ok (map event_view events.items)) }
+    ensures stop { IfErr result (IsStop (script_in (bundle_view bundle.now))) }
 {
     match read_script(alloc, text_of(&bundle.script).unwrap_or("")) {
         Ok(events) => Ok(events),

@@ -1,7 +1,7 @@
 //! The program's commands over bytes in memory: an input is split into sections, its world is made
 //! and its namespace file is run over it, and the events of its script are played over an exporter,
 //! or the mount table is printed.
-#![tactic(auto)]
+#![tactic(auto, unfolding(p9_base::specs::Results::need))]
 
 mod bundle;
 mod command;

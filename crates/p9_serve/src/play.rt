@@ -1,9 +1,9 @@
 //! Playing events over an exporter.
 
 ghost use Rattle.std.specs.Prelude.{◌≡◌, ◌≤◌, ◌++◌, IfOk, OnOk, codes, length, map};
-ghost use Rattle.p9_step.specs.Event.{Opening, Request, Closing};
+ghost use Rattle.p9_step.specs.Event.{Open, Message, Close};
 ghost use Rattle.p9_serve.specs.Play.{Plays, PlaysAll};
-ghost use Rattle.p9_serve.specs.Script.{event_value};
+ghost use Rattle.p9_export.specs.Event.{event_view};
 ghost use Rattle.p9_wire.specs.Frame.{msize_max};
 
 use crate::line::{print_hex, print_line};
@@ -23,7 +23,7 @@ pub(crate) fn play_events<T: Tree, A: Allocator + Copy>(
     out: &mut Vec<u8, A>,
 ) -> Result<(), NoMemory>
     ensures { OnOk result
-        (PlaysAll (map event_value events.now) export.old out.old.items out.new.items) }
+        (PlaysAll (map event_view events.now) export.old out.old.items out.new.items) }
 {
     let mut buffer = zeros(*out.allocator(), MSIZE_MAX as usize)?;
     let reply = buffer.as_mut_slice();
@@ -49,7 +49,7 @@ fn play_event<T: Tree, A: Allocator + Copy>(
 ) -> Result<(), NoMemory>
     requires { msize_max ≤ length reply.old }
     ensures { OnOk result
-        (Plays (event_value event.now) export.old export.new out.old.items out.new.items) }
+        (Plays (event_view event.now) export.old export.new out.old.items out.new.items) }
 {
     match event {
         Event::Open(name) => open(export, *name, out),
@@ -72,7 +72,7 @@ fn open<T: Tree, A: Allocator + Copy>(
     out: &mut Vec<u8, A>,
 ) -> Result<(), NoMemory>
     ensures { OnOk result
-        (Plays (Opening name) export.old export.new out.old.items out.new.items) }
+        (Plays (Open name) export.old export.new out.old.items out.new.items) }
 {
     match export.open(name) {
         Ok(()) => Ok(()),
@@ -92,7 +92,7 @@ fn message<T: Tree, A: Allocator + Copy>(
 ) -> Result<(), NoMemory>
     requires { msize_max ≤ length reply.old }
     ensures { OnOk result
-        (Plays (Request name frame.now now) export.old export.new out.old.items out.new.items) }
+        (Plays (Message name frame.now now) export.old export.new out.old.items out.new.items) }
 {
     if !is_frame(frame) || !export.live(name) {
         return skip(out);
@@ -109,7 +109,7 @@ fn close<T: Tree, A: Allocator + Copy>(
     out: &mut Vec<u8, A>,
 ) -> Result<(), NoMemory>
     ensures { OnOk result
-        (Plays (Closing name now) export.old export.new out.old.items out.new.items) }
+        (Plays (Close name now) export.old export.new out.old.items out.new.items) }
 {
     if !export.live(name) {
         return skip(out);

@@ -2,10 +2,11 @@
 
 ghost use Rattle.std.specs.Prelude.{◌≡◌, [], IfErr, IfOk, Ok, Some, map};
 ghost use Rattle.std.specs.Option.{option_map};
-ghost use Rattle.p9_serve.specs.Script.{IsScriptFault, closing_event_of, event_of, event_value};
-ghost use Rattle.p9_serve.specs.Script.{frame_in, joined, message_event_of, opening_event_of};
+ghost use Rattle.p9_export.specs.Event.{event_view};
+ghost use Rattle.p9_serve.specs.Script.{IsScriptFault, close_event_of, event_of};
+ghost use Rattle.p9_serve.specs.Script.{frame_in, joined, message_event_of, open_event_of};
 ghost use Rattle.p9_serve.specs.Script.{script_of, short_number};
-ghost use Rattle.p9_base.specs.Statement.{statement_value};
+ghost use Rattle.p9_base.specs.Statement.{statement_view};
 
 use hex::FromHexError;
 use p9_base::{NoMemory, Statement, number, statements};
@@ -34,7 +35,7 @@ pub fn read_script<A: Allocator + Copy>(
     alloc: A,
     text: &str,
 ) -> Result<Vec<Event<A>, A>, ScriptError>
-    ensures ok { IfOk result (λ events. script_of text.now ≡ Ok (map event_value events.items)) }
+    ensures ok { IfOk result (λ events. script_of text.now ≡ Ok (map event_view events.items)) }
     ensures bad { IfErr result (IsScriptFault (script_of text.now)) }
 {
     let mut events = Vec::new(alloc);
@@ -51,9 +52,9 @@ fn stated<A: Allocator + Copy>(
     statement: &Statement<'_, A>,
 ) -> Result<Event<A>, ScriptError>
     ensures ok { IfOk result (λ event.
-        event_of (statement_value statement.now).1 ≡ Some (event_value event)) }
+        event_of (statement_view statement.now).1 ≡ Some (event_view event)) }
     ensures bad { IfErr result (IsScriptFault
-        (joined [] statement.now.line (event_of (statement_value statement.now).1))) }
+        (joined [] statement.now.line (event_of (statement_view statement.now).1))) }
 {
     match event(alloc, statement.words.as_slice())? {
         Some(event) => Ok(event),
@@ -66,22 +67,22 @@ fn stated<A: Allocator + Copy>(
 // The event that the words of a line say, if they say one.
 fn event<A: Allocator + Copy>(alloc: A, words: &[&str]) -> Result<Option<Event<A>>, NoMemory>
     ensures { IfOk result (λ event.
-        option_map event_value event ≡ event_of (map (λ word. word.now) words.now)) }
+        option_map event_view event ≡ event_of (map (λ word. word.now) words.now)) }
 {
     let [verb, rest @ ..] = words else {
         return Ok(None);
     };
     match rest {
-        [name] => Ok(opening_event(verb, name)),
+        [name] => Ok(open_event(verb, name)),
         [name, now, hex] => message_event(alloc, verb, name, now, hex),
-        [name, now] => Ok(closing_event(verb, name, now)),
+        [name, now] => Ok(close_event(verb, name, now)),
         _ => Ok(None),
     }
 }
 
 // `open S`.
-fn opening_event<A: Allocator + Copy>(verb: &str, name: &str) -> Option<Event<A>>
-    ensures { option_map event_value result ≡ opening_event_of verb.now name.now }
+fn open_event<A: Allocator + Copy>(verb: &str, name: &str) -> Option<Event<A>>
+    ensures { option_map event_view result ≡ open_event_of verb.now name.now }
 {
     if verb != "open" {
         return None;
@@ -98,7 +99,7 @@ fn message_event<A: Allocator + Copy>(
     hex: &str,
 ) -> Result<Option<Event<A>>, NoMemory>
     ensures { IfOk result (λ event.
-        option_map event_value event ≡ message_event_of verb.now name.now now.now hex.now) }
+        option_map event_view event ≡ message_event_of verb.now name.now now.now hex.now) }
 {
     if verb != "msg" {
         return Ok(None);
@@ -113,8 +114,8 @@ fn message_event<A: Allocator + Copy>(
 }
 
 // `close S NOW`.
-fn closing_event<A: Allocator + Copy>(verb: &str, name: &str, now: &str) -> Option<Event<A>>
-    ensures { option_map event_value result ≡ closing_event_of verb.now name.now now.now }
+fn close_event<A: Allocator + Copy>(verb: &str, name: &str, now: &str) -> Option<Event<A>>
+    ensures { option_map event_view result ≡ close_event_of verb.now name.now now.now }
 {
     if verb != "close" {
         return None;

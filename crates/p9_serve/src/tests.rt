@@ -1,4 +1,5 @@
-//! Inputs and what the program prints for them, with bytes from outside.
+//! Inputs and what the program prints for them, with bytes from outside. A test named `row_` plays
+//! a worked row: a script, and the replies that the manual gives for it, written down beforehand.
 
 mod examples;
 mod faults;
@@ -65,7 +66,7 @@ fn is_refused(rt: &impl Abort, alloc: Global, input: &str, err: &'static str) {
 }
 
 #[test]
-fn first_attach(rt: HostRuntime) {
+fn row_first_attach(rt: HostRuntime) {
     plays_on(&rt, rt.alloc(), BEGIN, "", "");
     plays(&rt, rt.alloc(), "", "");
     plays(&rt, rt.alloc(), "%% script", "");
@@ -73,7 +74,7 @@ fn first_attach(rt: HostRuntime) {
 
 // 9P3000, then an attach without a version; 9P2000.u in a session of its own.
 #[test]
-fn unknown_version(rt: HostRuntime) {
+fn row_unknown_version(rt: HostRuntime) {
     let input = "%% script
 open 1
 msg 1 0 1300000064ffff002000000600395033303030
@@ -90,7 +91,7 @@ msg 2 0 1500000064ffff0020000008003950323030302e75
 
 // An msize of 511, of 512, and the greatest number.
 #[test]
-fn msize_bounds(rt: HostRuntime) {
+fn row_msize_bounds(rt: HostRuntime) {
     let input = "%% script
 open 1
 msg 1 0 1300000064ffffff0100000600395032303030

@@ -1,5 +1,6 @@
 pub mod Tables
 pub mod Names
 pub mod GivenLists
+mod GivenRows
 pub mod GivenTables
 pub mod GivenWalks

@@ -4,6 +4,7 @@
 //! A mount table is seen as the list of its rows, and a trail as the list of its places.
 #![tactic(auto)]
 
+mod given;
 mod rights;
 mod row;
 mod table;
@@ -12,6 +13,7 @@ mod tests;
 mod trail;
 mod walk;
 
+pub use given::is_table_given;
 pub use rights::{TO_EXECUTE, TO_READ, TO_WRITE, may, rules};
 pub use row::{Member, Members, Order};
 pub use table::{MountTable, UnmountError};

@@ -21,7 +21,7 @@ use Rattle.p9_base.specs.declared.fault.Fault.TheVariants.{IsRoot, FixedField, T
 use Rattle.p9_base.specs.declared.fault.Fault.TheVariants.{QidsUsedUp, OutOfMemory, PathTooDeep}
 use Rattle.p9_base.specs.Fault.{text_of}
 use Rattle.p9_base.proofs.Faults.{fault_text_is_text}
-use Rattle.p9_base.specs.Results.{and_then}
+use Rattle.p9_base.specs.Results.{and_then, given}
 use Rattle.p9_wire.specs.Fields.{FitsText}
 use Rattle.p9_wire.specs.Laws.{IsBytes}
 use Rattle.p9_wire.specs.Frame.{msize_max}
@@ -33,7 +33,7 @@ use Rattle.p9_wire.proofs.Lengths.{length-frame, length-r_body}
 use Rattle.p9_wire.proofs.TGrammar.{t-decides}
 use Rattle.p9_fids.specs.Fid.{Fid, fid_at, without_fid}
 use Rattle.p9_step.specs.State.{Session, State, changed_session, session_at, room_of}
-use Rattle.p9_step.specs.Answer.{Answer, Outcome, given, outcome_of, is_error}
+use Rattle.p9_step.specs.Answer.{Answer, Outcome, outcome_of, is_error}
 use Rattle.p9_step.specs.Clunk.{without}
 use Rattle.p9_step.specs.Laws.{EveryFrameIsAnswered, IsAnswered, IsState, after_refusal}
 use Rattle.p9_step.specs.Laws.{reply_max, without_fid_of}

@@ -2,8 +2,8 @@
 use Rattle.std.proofs.Common.{◌≡◌, Bool, true, false, Option, Some, None, Result, Ok, Err, refl}
 use Rattle.std.proofs.Common.{subst}
 use Rattle.p9_base.specs.declared.fault.Fault.{Fault}
-use Rattle.p9_base.specs.Results.{and_then}
-use Rattle.p9_step.specs.Answer.{Answer, Outcome, given, need, unless}
+use Rattle.p9_base.specs.Results.{and_then, given, need, unless}
+use Rattle.p9_step.specs.Answer.{Answer, Outcome}
 
 -- what holds of an outcome; of a refusal there is nothing to say
 unfoldable pub OnDone : (Outcome → Type 0) → Answer → Type 0

@@ -3,12 +3,13 @@ use Rattle.std.specs.Prelude.{ℕ, ◌==◌, ◌||◌, Bool, List, [], ◌∷◌
 use Rattle.std.specs.Str.{bytes_eq}
 use Rattle.p9_base.specs.declared.fault.Fault.TheVariants.{NoAuthentication, UnknownUser}
 use Rattle.p9_base.specs.declared.fault.Fault.TheVariants.{UnknownAttachName, PhaseError}
+use Rattle.p9_base.specs.Results.{given, need, unless}
 use Rattle.p9_tree.specs.Server.{Server}
 use Rattle.p9_space.specs.Place.{file_of, file_ref, root_place}
 use Rattle.p9_wire.specs.Message.{Rattach}
 use Rattle.p9_fids.specs.Fid.{put_fault, with_fid, nofid}
 use Rattle.p9_step.specs.State.{Setting, Session}
-use Rattle.p9_step.specs.Answer.{Answer, need, given, unless}
+use Rattle.p9_step.specs.Answer.{Answer}
 use Rattle.p9_step.specs.Qid.{qid_of}
 
 -- the listed user of the name

@@ -1,11 +1,12 @@
 -- Letting a fid go: clunk(5).
 use Rattle.std.specs.Prelude.{ℕ, List, Ok}
 use Rattle.p9_base.specs.declared.fault.Fault.TheVariants.{UnknownFid}
+use Rattle.p9_base.specs.Results.{given}
 use Rattle.p9_tree.specs.Server.{Server}
 use Rattle.p9_wire.specs.Message.{Rclunk}
 use Rattle.p9_fids.specs.Fid.{fid_at, without_fid}
 use Rattle.p9_step.specs.State.{Setting, Session}
-use Rattle.p9_step.specs.Answer.{Answer, given}
+use Rattle.p9_step.specs.Answer.{Answer}
 use Rattle.p9_step.specs.End.{on_end}
 
 -- the session without the fid

@@ -14,7 +14,7 @@ use Rattle.p9_base.specs.declared.node_ref.NodeRef.{NodeRef}
 use Rattle.p9_base.specs.declared.qid.Qid.{Qid}
 use Rattle.p9_base.specs.Mode.{is_dir as is_dir_mode, mode_of}
 use Rattle.p9_base.specs.Name.{is_name}
-use Rattle.p9_base.specs.Results.{and_then}
+use Rattle.p9_base.specs.Results.{and_then, given, need, unless}
 use Rattle.p9_base.specs.NodeRef.{beside}
 use Rattle.p9_tree.specs.Node.{Node, is_dir}
 use Rattle.p9_tree.specs.Server.{Server, next_max}
@@ -28,7 +28,7 @@ use Rattle.p9_wire.specs.Message.{RMessage, Rcreate}
 use Rattle.p9_fids.specs.Fid.{Fid, changed_fid, fid_at}
 use Rattle.p9_step.specs.declared.opening.Opening.{Opening}
 use Rattle.p9_step.specs.State.{Setting, Session, room_of}
-use Rattle.p9_step.specs.Answer.{Answer, given, need, unless}
+use Rattle.p9_step.specs.Answer.{Answer}
 use Rattle.p9_step.specs.Change.{AddNode, EditNode, Mark}
 use Rattle.p9_step.specs.Inherit.{inherited}
 use Rattle.p9_step.specs.Opening.{is_plain_read, newly_opened, opening_of}

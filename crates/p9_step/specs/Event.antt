@@ -5,9 +5,9 @@ use Rattle.p9_wire.specs.Frame.{msize_max}
 
 -- a session is opened, gets a frame at a reading of the clock, and is closed at one
 pub data Event : Type 0 where
-  Opening : (name : ℕ) → Event
-  Request : (name : ℕ) (frame : List ℕ) (now : ℕ) → Event
-  Closing : (name now : ℕ) → Event
+  Open : (name : ℕ) → Event
+  Message : (name : ℕ) (frame : List ℕ) (now : ℕ) → Event
+  Close : (name now : ℕ) → Event
 
 -- as many bytes as its size says, and no fewer than a header has
 abbrev pub is_frame : List ℕ → Bool

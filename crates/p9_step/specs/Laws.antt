@@ -8,7 +8,7 @@ use Rattle.p9_wire.specs.Message.{RMessage, Rerror, TMessage, Tremove}
 use Rattle.p9_wire.specs.Spelling.{RFits, r_spelling}
 use Rattle.p9_step.specs.State.{Session, State, changed_session, session_at}
 use Rattle.p9_step.specs.Clunk.{without}
-use Rattle.p9_step.specs.Event.{Request, is_frame}
+use Rattle.p9_step.specs.Event.{Message, is_frame}
 use Rattle.p9_step.specs.Sound.{IsSound}
 use Rattle.p9_step.specs.Request.{request_of, tag_of}
 use Rattle.p9_step.specs.Step.{Stepped, step}
@@ -57,4 +57,4 @@ EveryFrameIsAnswered =
     → IsState state → session_at name state.sessions ≡ Some session → IsTrue (is_frame frame)
     → IsBytes frame
     → (reply : RMessage)
-    × IsAnswered state name session frame (step state (Request name frame now) refused) reply
+    × IsAnswered state name session frame (step state (Message name frame now) refused) reply

@@ -11,6 +11,7 @@ use Rattle.p9_base.specs.declared.mode.Kind.{Kind}
 use Rattle.p9_base.specs.declared.mode.Kind.TheVariants.{Directory, File}
 use Rattle.p9_base.specs.declared.node_ref.NodeRef.{NodeRef}
 use Rattle.p9_base.specs.declared.qid.Qid.{Qid}
+use Rattle.p9_base.specs.Results.{given, need}
 use Rattle.p9_tree.specs.Node.{Node, is_dir}
 use Rattle.p9_tree.specs.Server.{Server}
 use Rattle.p9_space.specs.Rights.{may}
@@ -19,7 +20,7 @@ use Rattle.p9_wire.specs.Message.{RMessage, Ropen}
 use Rattle.p9_fids.specs.Fid.{changed_fid, fid_at, open_count, opened_as}
 use Rattle.p9_step.specs.declared.opening.Opening.{Opening}
 use Rattle.p9_step.specs.State.{Setting, Session, SessionRow, fid_file, fid_ref, room_of}
-use Rattle.p9_step.specs.Answer.{Answer, given, need}
+use Rattle.p9_step.specs.Answer.{Answer}
 use Rattle.p9_step.specs.Change.{Change, Cut, EditNode, Mark, edited}
 use Rattle.p9_step.specs.Opening.{is_plain_read, newly_opened, opening_of, wanted_by}
 use Rattle.p9_step.specs.Qid.{qid_of}

@@ -6,6 +6,7 @@ use Rattle.p9_base.specs.declared.fault.Fault.TheVariants.{BadDirectoryOffset, F
 use Rattle.p9_base.specs.declared.fault.Fault.TheVariants.{PhaseError, SmallReadCount, UnknownFid}
 use Rattle.p9_base.specs.declared.node_ref.NodeRef.{NodeRef}
 use Rattle.p9_base.specs.NodeRef.{beside}
+use Rattle.p9_base.specs.Results.{given, need}
 use Rattle.p9_tree.specs.Bytes.{read_from}
 use Rattle.p9_tree.specs.Node.{Node, is_dir}
 use Rattle.p9_tree.specs.Server.{Server}
@@ -17,7 +18,7 @@ use Rattle.p9_fids.specs.declared.opened.Opened.{Opened}
 use Rattle.p9_fids.specs.Fid.{Fid, changed_fid, fid_at, opened_as}
 use Rattle.p9_fids.specs.Opened.{reads}
 use Rattle.p9_step.specs.State.{Setting, Session, fid_file, fid_ref, room_of}
-use Rattle.p9_step.specs.Answer.{Answer, given, need}
+use Rattle.p9_step.specs.Answer.{Answer}
 use Rattle.p9_step.specs.Change.{EditNode, Touch}
 use Rattle.p9_step.specs.Listing.{Entry, cursor_of, listing_behind}
 use Rattle.p9_step.specs.Qid.{stat_of}

@@ -2,12 +2,13 @@
 use Rattle.std.specs.Prelude.{ℕ, not, List, Ok, is_some}
 use Rattle.p9_base.specs.declared.fault.Fault.TheVariants.{IsRoot, NotEmpty, PermissionDenied}
 use Rattle.p9_base.specs.declared.fault.Fault.TheVariants.{PhaseError, UnknownFid}
+use Rattle.p9_base.specs.Results.{given, need}
 use Rattle.p9_tree.specs.Server.{Server}
 use Rattle.p9_tree.specs.Forest.{has_children_of}
 use Rattle.p9_wire.specs.Message.{Rremove}
 use Rattle.p9_fids.specs.Fid.{Fid, fid_at}
 use Rattle.p9_step.specs.State.{Setting, Session, fid_file, fid_ref}
-use Rattle.p9_step.specs.Answer.{Answer, given, need, outcome_of}
+use Rattle.p9_step.specs.Answer.{Answer, outcome_of}
 use Rattle.p9_step.specs.Clunk.{without}
 use Rattle.p9_step.specs.End.{taken_out}
 use Rattle.p9_step.specs.Rights.{may_write_parent}

@@ -1,11 +1,12 @@
 -- What is told of a file: stat(5).
 use Rattle.std.specs.Prelude.{ℕ, List, [], Ok}
 use Rattle.p9_base.specs.declared.fault.Fault.TheVariants.{PhaseError, UnknownFid}
+use Rattle.p9_base.specs.Results.{given}
 use Rattle.p9_tree.specs.Server.{Server}
 use Rattle.p9_wire.specs.Message.{Rstat}
 use Rattle.p9_fids.specs.Fid.{fid_at}
 use Rattle.p9_step.specs.State.{Setting, Session, fid_file, fid_ref}
-use Rattle.p9_step.specs.Answer.{Answer, given}
+use Rattle.p9_step.specs.Answer.{Answer}
 use Rattle.p9_step.specs.Qid.{stat_of}
 
 -- no permission is needed

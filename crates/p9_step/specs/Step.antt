@@ -26,7 +26,7 @@ use Rattle.p9_step.specs.Stat.{stat_answer}
 use Rattle.p9_step.specs.Wstat.{wstat_answer}
 use Rattle.p9_step.specs.Request.{request_of, tag_of}
 use Rattle.p9_step.specs.Memory.{no_memory_reply, ran_out}
-use Rattle.p9_step.specs.Event.{Event, Opening, Request, Closing, is_frame}
+use Rattle.p9_step.specs.Event.{Event, Open, Message, Close, is_frame}
 
 -- each message, in the manual's order; taken says that the file that an open asks for is taken
 abbrev pub session_answer : Setting → List Server → Bool → Session → ℕ → TMessage → Answer
@@ -115,18 +115,18 @@ closed state name now session = record {
 
 -- refused says that memory was refused, and counts only where that may be answered
 abbrev pub step : State → Event → Bool → Stepped
-step state (Opening name) refused =
+step state (Open name) refused =
     if refused || is_some (session_at name state.sessions) then unchanged state
     else record {
       state = record state { sessions = with_session name fresh state.sessions };
       reply = [];
     }
-step state (Request name frame now) refused =
+step state (Message name frame now) refused =
     if is_frame frame
     then option_map_or (requested state name frame now refused) (session_at name state.sessions)
     (unchanged state)
     else unchanged state
-step state (Closing name now) refused =
+step state (Close name now) refused =
     option_map_or (closed state name now) (session_at name state.sessions) (unchanged state)
 
 -- one event after another, with their marks; the replies are joined

@@ -4,11 +4,12 @@ use Rattle.std.specs.Prelude.{if◌then◌else◌}
 use Rattle.std.specs.List.{starts_with}
 use Rattle.std.specs.Str.{bytes_eq}
 use Rattle.p9_base.specs.declared.fault.Fault.TheVariants.{SmallMsize}
+use Rattle.p9_base.specs.Results.{need}
 use Rattle.p9_tree.specs.Server.{Server}
 use Rattle.p9_wire.specs.Frame.{msize_max}
 use Rattle.p9_wire.specs.Message.{Rversion}
 use Rattle.p9_step.specs.State.{Setting, Session}
-use Rattle.p9_step.specs.Answer.{Answer, need}
+use Rattle.p9_step.specs.Answer.{Answer}
 use Rattle.p9_step.specs.End.{on_ends}
 
 -- the least msize

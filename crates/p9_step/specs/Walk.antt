@@ -6,7 +6,7 @@ use Rattle.p9_base.specs.declared.fault.Fault.{Fault}
 use Rattle.p9_base.specs.declared.fault.Fault.TheVariants.{FidOpen, PhaseError, UnknownFid}
 use Rattle.p9_base.specs.declared.node_ref.NodeRef.{NodeRef}
 use Rattle.p9_base.specs.declared.qid.Qid.{Qid}
-use Rattle.p9_base.specs.Results.{and_then}
+use Rattle.p9_base.specs.Results.{and_then, given, need, unless}
 use Rattle.p9_tree.specs.Server.{Server}
 use Rattle.p9_space.specs.declared.trail.Step.{Step}
 use Rattle.p9_space.specs.Trail.{here, stepped}
@@ -14,7 +14,7 @@ use Rattle.p9_space.specs.Walk.{step_of}
 use Rattle.p9_wire.specs.Message.{Rwalk}
 use Rattle.p9_fids.specs.Fid.{Fid, FidRow, changed_fid, fid_at, put_fault, trailed, with_fid, nofid}
 use Rattle.p9_step.specs.State.{Setting, Session}
-use Rattle.p9_step.specs.Answer.{Answer, given, need, unless}
+use Rattle.p9_step.specs.Answer.{Answer}
 use Rattle.p9_step.specs.Qid.{qid_at}
 
 -- how far names lead: the qid of each file where a step arrives, the trail there, and the fault of

@@ -3,6 +3,7 @@ use Rattle.std.specs.Prelude.{ℕ, ◌+◌, Bool, false, nat_le, List, [], ◌�
 use Rattle.p9_base.specs.declared.fault.Fault.TheVariants.{FidNotOpen, FileTooLarge, PhaseError}
 use Rattle.p9_base.specs.declared.fault.Fault.TheVariants.{UnknownFid}
 use Rattle.p9_base.specs.declared.node_ref.NodeRef.{NodeRef}
+use Rattle.p9_base.specs.Results.{given, need}
 use Rattle.p9_tree.specs.Node.{Node}
 use Rattle.p9_tree.specs.Server.{Server}
 use Rattle.p9_wire.specs.Message.{Rwrite}
@@ -10,7 +11,7 @@ use Rattle.std.specs.Option.{option_map_or}
 use Rattle.p9_fids.specs.Fid.{Fid, fid_at}
 use Rattle.p9_fids.specs.Opened.{writes}
 use Rattle.p9_step.specs.State.{Setting, Session, fid_file, fid_ref}
-use Rattle.p9_step.specs.Answer.{Answer, given, need}
+use Rattle.p9_step.specs.Answer.{Answer}
 use Rattle.p9_step.specs.Change.{EditNode, Mark, Overwrite}
 use Rattle.p9_step.specs.Open.{is_append_only}
 use Rattle.p9_tree.specs.Bytes.{file_max}

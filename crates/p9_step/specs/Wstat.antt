@@ -14,6 +14,7 @@ use Rattle.p9_base.specs.declared.qid.Qid.{Qid}
 use Rattle.p9_base.specs.Mode.{is_dir as is_dir_mode, mode_of}
 use Rattle.p9_base.specs.Name.{is_name}
 use Rattle.p9_base.specs.NodeRef.{beside}
+use Rattle.p9_base.specs.Results.{given, need, unless}
 use Rattle.p9_tree.specs.Node.{Node, is_dir}
 use Rattle.p9_tree.specs.Server.{Server}
 use Rattle.p9_tree.specs.Forest.{child_in}
@@ -22,7 +23,7 @@ use Rattle.p9_space.specs.Rights.{may, rules, to_write}
 use Rattle.p9_wire.specs.Message.{Rwstat, StatFields}
 use Rattle.p9_fids.specs.Fid.{fid_at}
 use Rattle.p9_step.specs.State.{Setting, Session, fid_file, fid_ref}
-use Rattle.p9_step.specs.Answer.{Answer, given, need, unless}
+use Rattle.p9_step.specs.Answer.{Answer}
 use Rattle.p9_step.specs.Change.{Change, EditNode, Rewrite}
 use Rattle.p9_step.specs.End.{parent_marked}
 use Rattle.p9_step.specs.Qid.{stat_of}

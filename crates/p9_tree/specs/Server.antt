@@ -15,6 +15,7 @@ use Rattle.p9_tree.specs.Bytes.{file_max}
 abbrev pub next_max : ℕ
 next_max = 2 ^ 48
 
+-- one server
 pub record Server : Type 0 where
   pub nodes : List Node
   pub next : ℕ

@@ -3,7 +3,7 @@ use Rattle.std.proofs.Common.{◌≡◌, ℕ, ◌<◌, ◌≤◌, List, length, 
 use Rattle.std.proofs.Common.{◌∙◌}
 use Rattle.std.proofs.lemmas.Bool.{lt-ltb}
 use Rattle.p9_base.specs.Statement.{statements_of}
-use Rattle.p9_base.specs.Results.{try_fold}
+use Rattle.p9_base.specs.Results.{need, try_fold}
 use Rattle.p9_base.proofs.Results.{try_fold-end}
 use Rattle.p9_world.specs.declared.error.LineFault.{LineFault}
 use Rattle.p9_world.specs.declared.error.LineFault.TheVariants.{NoServer}
@@ -22,14 +22,14 @@ module _ {X : Type 0} (view : X → ℕ × List (List ℕ)) (items : List X) (te
 
   -- they make a world with a server
   pub world_of-ok : 0 < length w.servers → world_of text ≡ Ok w
-  unfolding world_of
+  unfolding world_of need
   world_of-ok some =
       let test = lt-ltb 0 (length w.servers) some in
       rw (made, test) refl
 
   -- they make no server
   pub world_of-none : length w.servers ≡ 0 → world_of text ≡ Err (0, NoServer)
-  unfolding world_of
+  unfolding world_of need
   world_of-none none = rw (made, none) refl
 
 -- a text with a bad statement

@@ -14,15 +14,16 @@ use Rattle.std.proofs.lemmas.List.Elements.{All-weaker}
 use Rattle.std.proofs.lemmas.List.Quantifiers.{all_pairs_push, position-Some}
 use Rattle.std.proofs.lemmas.List.Sums.{fails_before_first}
 use Rattle.p9_base.specs.declared.node_ref.NodeRef.{NodeRef}
+use Rattle.p9_base.specs.NodeRef.{servers_max}
+use Rattle.p9_base.specs.Results.{given, need}
 use Rattle.p9_tree.specs.Node.{Node}
 use Rattle.p9_tree.specs.Server.{Server, WellFormed, is_dir_at, node_at, rooted}
 use Rattle.p9_tree.proofs.ForestLemmas.{map-tree_changed_at, server_at-map}
 use Rattle.p9_tree.proofs.Lookups.{All-node_at, number-node_at}
-use Rattle.p9_clean.specs.Path.{Word}
 use Rattle.p9_tree.specs.Forest.{next_of, server_at, tree_changed_at}
+use Rattle.p9_clean.specs.Path.{Component}
 use Rattle.p9_world.specs.Server.{is_server_name, server_line, server_number, with_server}
-use Rattle.p9_base.specs.NodeRef.{servers_max}
-use Rattle.p9_world.specs.World.{World, IsWorld, world_value}
+use Rattle.p9_world.specs.World.{World, IsWorld, world_view}
 use Rattle.p9_world.specs.Entry.{in_last_server, last_number}
 use Rattle.p9_world.specs.Hide.{hide_line, with_hidden}
 use Rattle.p9_world.specs.Meaning.{Makes}
@@ -86,6 +87,7 @@ IsWorld-with_server name w ok absent room = record {
 pub server_line-ok : (name : List ℕ) (w : World) → is_server_name name ≡ true
     → is_some (server_number name w.servers) ≡ false → length w.servers < servers_max
     → server_line name w ≡ Ok (with_server name w)
+unfolding need
 server_line-ok name w valid absent room =
     let test = lt-ltb _ _ room in
     rw (valid, absent, test) refl
@@ -119,6 +121,7 @@ pub Makes-in_last_server : {D : Type 0} (change : Server → Result Server LineF
     (s new : Server) (r : Result D LineError) → 0 < length w.forest
     → server_at (last_number w) w.forest ≡ s → Makes (change s) s new r
     → Makes (in_last_server change w) w (with_changed_server (last_number w) new w) r
+unfolding need
 Makes-in_last_server change w s new (Ok done) some at made =
     let test = lt-ltb 0 (length w.forest) some in
     rw (test, at, made) refl
@@ -155,7 +158,7 @@ module _ {T : Type 0} (state : T → Server) (ts : List T) (t u : T) (n : ℕ) (
       (vars : List (String A × String A)) (servers : List (String A)) where
     -- the world with these trees
     abbrev with_trees : List T → World
-    with_trees trees = world_value state trees users hidden vars servers
+    with_trees trees = world_view state trees users hidden vars servers
 
     -- it stays one where the server's next number doesn't fall
     pub IsWorld-last : IsWorld (with_trees ts) → (state t).next ≤ (state u).next
@@ -187,8 +190,8 @@ server_at-named state name trees servers k t named at read =
     server_at-map state trees k t (omega (arith, length-map trees state)) read
 
 -- the directory that some names lead to has a number of its server
-pub dir_of-below : (names : List Word) (s : Server) (k : ℕ) → WellFormed s → Some k ≡ dir_of names s
-    → k < s.next
+pub dir_of-below : (names : List Component) (s : Server) (k : ℕ) → WellFormed s
+    → Some k ≡ dir_of names s → k < s.next
 dir_of-below names s k well found = go (number_from 0 names s.nodes) refl
   where
     node : (j : ℕ) (o : Option Node) → node_at j s.nodes ≡ o → is_dir_at j s.nodes ≡ true
@@ -211,9 +214,10 @@ dir_of-below names s k well found = go (number_from 0 names s.nodes) refl
     go (Some j) e = test j (is_dir_at j s.nodes) refl (sym (rw e at found))
 
 -- the line of a directory that is found
-pub hide_line-found : (server path : List ℕ) (w : World) (number dir : ℕ) (names : List Word)
+pub hide_line-found : (server path : List ℕ) (w : World) (number dir : ℕ) (names : List Component)
     → server_number server w.servers ≡ Some number → names_of path ≡ Some names
     → Some dir ≡ dir_of names (server_at number w.forest)
     → hide_line server path w ≡ with_hidden (record { server = number; number = dir }) w
+unfolding given
 hide_line-found server path w number dir names at_server at_path at_dir =
     rw (at_server, at_path, ← at_dir) refl

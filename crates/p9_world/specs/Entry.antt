@@ -8,7 +8,7 @@ use Rattle.p9_base.specs.declared.mode.Mode.{Mode}
 use Rattle.p9_base.specs.declared.mode.Permissions.{Permissions}
 use Rattle.p9_base.specs.Results.{and_then, given, need}
 use Rattle.p9_base.specs.User.{is_user}
-use Rattle.p9_clean.specs.Path.{Word}
+use Rattle.p9_clean.specs.Path.{Component}
 use Rattle.p9_tree.specs.Bytes.{file_max}
 use Rattle.p9_tree.specs.Node.{Node, with_owner}
 use Rattle.p9_tree.specs.Server.{Server, added, child_of, next_max, with_changed}
@@ -44,7 +44,7 @@ pub record Entry : Type 0 where
   pub bytes : List ℕ
 
 -- the node of the server's next number in the directory, never changed since the time 0
-abbrev pub node_of : ℕ → ℕ → Word → Entry → Node
+abbrev pub node_of : ℕ → ℕ → Component → Entry → Node
 node_of number dir name entry = record {
   number = number;
   parent = Some dir;
@@ -60,7 +60,7 @@ node_of number dir name entry = record {
 }
 
 -- the server with a new node, of this name in the directory that the other names lead to
-abbrev pub with_entry : Word → List Word → Entry → Server → Result Server LineFault
+abbrev pub with_entry : Component → List Component → Entry → Server → Result Server LineFault
 with_entry name names entry server =
     given (dir_of names server) NoParent (λ dir.
     need (not (is_some (child_of dir name server.nodes))) Duplicate (
@@ -74,7 +74,7 @@ abbrev pub is_owned : List ℕ → List ℕ → Bool
 is_owned uid gid = is_user uid && is_user gid
 
 -- '/' is the root, which is changed; any other path is a new directory's
-abbrev pub with_dir : Option (Word × List Word) → Permissions → List ℕ → List ℕ → Server
+abbrev pub with_dir : Option (Component × List Component) → Permissions → List ℕ → List ℕ → Server
     → Result Server LineFault
 with_dir None permissions uid gid server =
     Ok (with_changed 0 (with_owner permissions uid gid) server)

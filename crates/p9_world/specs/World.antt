@@ -29,9 +29,9 @@ abbrev pub empty_world : World
 empty_world = record { forest = []; users = []; hidden = []; vars = []; servers = [] }
 
 -- a world of the code, as it is seen
-abbrev pub world_value : {T A : Type 0} → (T → Server) → List T → List (List ℕ) → List NodeRef
+abbrev pub world_view : {T A : Type 0} → (T → Server) → List T → List (List ℕ) → List NodeRef
     → List (String A × String A) → List (String A) → World
-world_value state trees users hidden vars servers = record {
+world_view state trees users hidden vars servers = record {
   forest = map state trees;
   users = users;
   hidden = hidden;

@@ -3,7 +3,7 @@
 //!
 //! [`read_world`] reads it. Each operation stands in a module of its own, and the definition of
 //! what it means in the file of `specs/` beside it.
-#![tactic(auto)]
+#![tactic(auto, unfolding(p9_base::specs::Results::need, p9_base::specs::Results::given))]
 
 mod entry;
 mod error;

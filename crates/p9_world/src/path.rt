@@ -20,21 +20,21 @@ pub(crate) fn names_of<A: Allocator + Copy>(
         return Ok(None);
     }
     let cleaned = clean(alloc, path)?;
-    let words = elements(alloc, cleaned.as_str())?;
-    names_among(alloc, words.as_slice())
+    let elements = elements(alloc, cleaned.as_str())?;
+    names_among(alloc, elements.as_slice())
 }
 
-// The words as names, if each may name a file.
+// The elements as names, if each may name a file.
 fn names_among<A: Allocator + Copy>(
     alloc: A,
-    words: &[&str],
+    elements: &[&str],
 ) -> Result<Option<Vec<Name, A>>, NoMemory>
     ensures { IfOk result (λ found. option_map (λ names. names.items) found
-        ≡ names_among (map (λ w. w.now) words.now)) }
+        ≡ names_among (map (λ e. e.now) elements.now)) }
 {
     let mut names = Vec::new(alloc);
-    for word in words {
-        let Some(name) = Name::new(word) else {
+    for element in elements {
+        let Some(name) = Name::new(element) else {
             return Ok(None);
         };
         names.push(name)?;

@@ -1,7 +1,7 @@
 //! The world of a text.
 
 ghost use Rattle.std.specs.Prelude.{◌≡◌, IfErr, IfOk, Ok, map};
-ghost use Rattle.p9_base.specs.Statement.{statement_value};
+ghost use Rattle.p9_base.specs.Statement.{statement_view};
 ghost use Rattle.p9_world.specs.Meaning.{Makes};
 ghost use Rattle.p9_world.specs.Read.{Steps, Tells, line_meaning, operated, operation_of};
 ghost use Rattle.p9_world.specs.Read.{read_statement, world_of};
@@ -50,7 +50,7 @@ fn read_statement<T: Tree, A: Allocator>(
     world: &mut World<T>,
     statement: &Statement<'_, A>,
 ) -> Result<(), WorldError>
-    ensures { Steps (read_statement world.old (statement_value statement.now)) world.new result }
+    ensures { Steps (read_statement world.old (statement_view statement.now)) world.new result }
 {
     match read_line(alloc, world, statement.words.as_slice()) {
         Ok(()) => Ok(()),

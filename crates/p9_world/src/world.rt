@@ -31,14 +31,14 @@ pub struct World<T: Tree> {
 }
 
 impl<T: Tree> Model for World<T> {
-    ghost use Rattle.p9_world.specs.World.{IsWorld, World as WorldOf, world_value};
+    ghost use Rattle.p9_world.specs.World.{IsWorld, World as WorldOf, world_view};
 
     ghost Value = { WorldOf };
 
-    ghost view = { λ w. world_value T.state w.forest.trees.items w.users.items w.hidden.items
+    ghost view = { λ w. world_view T.state w.forest.trees.items w.users.items w.hidden.items
         w.vars.items w.servers.items };
 
-    ghost invariant = { λ w. IsWorld (world_value T.state w.forest.trees.items w.users.items
+    ghost invariant = { λ w. IsWorld (world_view T.state w.forest.trees.items w.users.items
         w.hidden.items w.vars.items w.servers.items) };
 }
 

@@ -3,7 +3,7 @@
 use super::exchange::{
     ATTACH, ATTACH_REPLY, Exchange, VERSION, VERSION_REPLY, exchange, exchange_all, exchange_in,
 };
-use crate::{Export, is_table_given};
+use crate::Export;
 use p9_base::{DMDIR, Mode, Name, NodeRef, User};
 use p9_space::{MountTable, Order};
 use p9_tree::{FILE_MAX, Forest, NEXT_MAX, New, PlainTree, Tree};

@@ -46,7 +46,7 @@ msg 1 0 140000006e050000000000010000000100010078
 
 // Two sessions open the file of one fid at a time.
 #[test]
-fn exclusive_use(rt: HostRuntime) {
+fn row_exclusive_use(rt: HostRuntime) {
     let play = Play {
         world: EXCLUSIVE,
         ns: "",
@@ -73,7 +73,7 @@ msg 2 0 0c0000007005000100000000
 
 // A write past the greatest length, and one up to it, which fills the gap with zeros.
 #[test]
-fn largest_file(rt: HostRuntime) {
+fn row_largest_file(rt: HostRuntime) {
     let play = Play {
         world: SMALL,
         ns: "",
@@ -109,7 +109,7 @@ msg 1 0 17000000740a0002000000fcff0f00000000000a000000
 // Nothing is touched; then a time that never changes, and the name of another entry; then a free
 // name, which marks the directory.
 #[test]
-fn wstat(rt: HostRuntime) {
+fn row_wstat(rt: HostRuntime) {
     let play = Play {
         world: SMALL,
         ns: "",

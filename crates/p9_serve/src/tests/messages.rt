@@ -5,7 +5,7 @@ use super::worlds::{BEGIN, Begin};
 
 // Fid 1 becomes a copy of fid 0; then sixteen `..` from the root, and one too many.
 #[test]
-fn dot_dots(rt: HostRuntime) {
+fn row_dot_dots(rt: HostRuntime) {
     let script = "\
 msg 1 0 110000006e020000000000010000000000
 msg 1 0 510000006e03000000000002000000100002002e2e02002e2e02002e2e02002e2e02002e2e02002e2e02002e2e0\
@@ -27,7 +27,7 @@ d90000006f0300100080000000000000000000000000800000000000000000000000008000000000
 
 // A walk to a, b and a name that isn't there makes no fid.
 #[test]
-fn partial_walk(rt: HostRuntime) {
+fn row_partial_walk(rt: HostRuntime) {
     let script = "\
 msg 1 0 1d0000006e05000000000009000000030001006101006204006e6f6e65
 msg 1 0 0b0000007c060009000000
@@ -41,7 +41,7 @@ msg 1 0 0b0000007c060009000000
 
 // A walk to a and f, and the file's stat.
 #[test]
-fn walk_stat(rt: HostRuntime) {
+fn row_walk_stat(rt: HostRuntime) {
     let script = "\
 msg 1 0 170000006e070000000000010000000200010061010066
 msg 1 0 0b0000007c080001000000
@@ -56,7 +56,7 @@ msg 1 0 0b0000007c080001000000
 
 // The file is opened and read.
 #[test]
-fn open_read(rt: HostRuntime) {
+fn row_open_read(rt: HostRuntime) {
     let script = "\
 msg 1 0 170000006e070000000000010000000200010061010066
 msg 1 0 0c0000007009000100000000
@@ -73,7 +73,7 @@ msg 1 0 17000000740a0001000000000000000000000064000000
 // A file that grows at its end alone is made in a, written twice at 0, and read; its version counts
 // the writes.
 #[test]
-fn append_only_file(rt: HostRuntime) {
+fn row_append_only_file(rt: HostRuntime) {
     let script = "\
 msg 1 0 140000006e020000000000010000000100010061
 msg 1 0 150000007203000100000003006c6f678001004002
@@ -96,7 +96,7 @@ msg 1 0 0b0000007c070001000000
 
 // Fid 5 is unused, fid 0 is the root's, and it is used no longer once it is clunked.
 #[test]
-fn clunk(rt: HostRuntime) {
+fn row_clunk(rt: HostRuntime) {
     let script = "\
 msg 1 0 0b00000078010005000000
 msg 1 0 0b00000078010000000000
@@ -130,7 +130,7 @@ msg 2 0 1900000068010000000000ffffffff0600676c656e64610000
 
 // One client removes the file that another reads; what is left to that one is to clunk it.
 #[test]
-fn removed_under_a_fid(rt: HostRuntime) {
+fn row_removed_under_a_fid(rt: HostRuntime) {
     let script = "\
 msg 2 0 170000006e020000000000010000000200010061010066
 msg 2 0 0c0000007003000100000000

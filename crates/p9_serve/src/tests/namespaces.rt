@@ -41,7 +41,7 @@ fn all_end(rt: &impl Abort, alloc: Global, rows: &[Case]) {
 
 // A bad line refuses the file; an operation that fails is told, and the others are done.
 #[test]
-fn namespace_file(rt: HostRuntime) {
+fn row_namespace_file(rt: HostRuntime) {
     let refused = Case {
         status: 1,
         ..runs(

@@ -4,7 +4,7 @@ use super::worlds::{BEGIN, BEGIN_TWO, DEEP, Play, TWO_UNIONS, UNSEARCHABLE, play
 
 // A walk goes to the first member that has the name, and a listing gives the entries of each.
 #[test]
-fn union_listing(rt: HostRuntime) {
+fn row_union_listing(rt: HostRuntime) {
     let play = Play {
         world: TWO_UNIONS,
         ns: "bind -a /u /x\n",
@@ -31,7 +31,7 @@ msg 1 0 1700000074050002000000000000000000000000040000
 
 // No member of x permits creation.
 #[test]
-fn union_create_forbidden(rt: HostRuntime) {
+fn row_union_create_forbidden(rt: HostRuntime) {
     let play = Play {
         world: TWO_UNIONS,
         ns: "bind -a /u /x\n",
@@ -50,7 +50,7 @@ msg 1 0 150000007206000300000003006e6577a401000001
 
 // The second member permits it, and the new file stands there.
 #[test]
-fn union_create(rt: HostRuntime) {
+fn row_union_create(rt: HostRuntime) {
     let play = Play {
         world: TWO_UNIONS,
         ns: "bind -ac /u /x\n",
@@ -71,7 +71,7 @@ msg 1 0 190000006e07000000000004000000020001007503006e6577
 
 // The way back leads to the root, and not to the parent of what is bound.
 #[test]
-fn lexical_dot_dot(rt: HostRuntime) {
+fn row_lexical_dot_dot(rt: HostRuntime) {
     let play = Play {
         world: DEEP,
         ns: "bind /deep/d /m\n",
@@ -89,7 +89,7 @@ msg 1 0 180000006e02000000000001000000020001006d02002e2e
 // Reads of a listing: no room for an entry, an offset that is none, one entry at a time, and the
 // end.
 #[test]
-fn listing_reads(rt: HostRuntime) {
+fn row_listing_reads(rt: HostRuntime) {
     let play = Play {
         world: TWO_UNIONS,
         ns: "bind -a /u /x\n",

@@ -1,7 +1,7 @@
 //! Binds and unmounts.
 
 use super::{is_at, is_row, node, union_nodes, user, world};
-use crate::{MountTable, Order, Trail, UnmountError, resolve};
+use crate::{MountTable, Order, Trail, UnmountError, is_table_given, resolve};
 use std::test::Fail;
 
 #[test]
@@ -59,5 +59,21 @@ fn rows_keep_their_order(rt: HostRuntime) -> Result<(), Fail> {
     assert!(rt; table.row(0).is_none());
     assert_eq!(rt; copy.len(), 3);
     is_row(&rt, &copy, 0, 5, &[(1, true), (2, false)]);
+    Ok(())
+}
+
+// Node 5 is still to be made: first it is a member, then a key.
+#[test]
+fn a_table_names_nodes_that_were_made(rt: HostRuntime) -> Result<(), Fail> {
+    let forest = world(&rt, rt.alloc(), &union_nodes())?;
+    let mut table = MountTable::new(rt.alloc());
+    assert!(rt; is_table_given(&forest, &table));
+    table.bind(node(3), &[node(1)], Order::After, false)?;
+    assert!(rt; is_table_given(&forest, &table));
+    let mut other = table.copy()?;
+    other.bind(node(1), &[node(5)], Order::Replace, false)?;
+    assert!(rt; !is_table_given(&forest, &other));
+    table.bind(node(5), &[node(1)], Order::Replace, false)?;
+    assert!(rt; !is_table_given(&forest, &table));
     Ok(())
 }

@@ -7,7 +7,7 @@ use std::test::Fail;
 const VERSION: &str = "13000000 64 ffff 00200000 0600 395032303030";
 
 #[test]
-fn frame_sizes(rt: HostRuntime) -> Result<(), Fail> {
+fn row_frame_sizes(rt: HostRuntime) -> Result<(), Fail> {
     let cases = [
         ("", Frame::Need),
         ("130000", Frame::Need),

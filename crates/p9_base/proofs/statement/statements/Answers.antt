@@ -1,7 +1,7 @@
 use Rattle.std.proofs.Common.{arith, false, true, append-nil, length, map, ap, sym, ◌∙◌}
 use Rattle.std.proofs.lemmas.List.{map_push, length-map}
 use Rattle.p9_base.specs.Line.{is_skipped}
-use Rattle.p9_base.specs.Statement.{statement_value}
+use Rattle.p9_base.specs.Statement.{statement_view}
 use Rattle.p9_base.proofs.StatementLemmas.{statements_in-step, statements_in-all}
 use Rattle.p9_base.proofs.statement.statements.Goals as goal
 use Rattle.p9_base.proofs.statement.statements.Goals.{then-not-is_skipped+in_ok-push}
@@ -20,7 +20,7 @@ loop-i-preserved g c =
     elim c.if-not-is_skipped.branch [
       | then-not-is_skipped+in_ok-push w ↦
           rw (w.statements-is, w.in_ok-push.ensures.items)
-          (map_push statement_value c.loop-i.statements.items _
+          (map_push statement_view c.loop-i.statements.items _
           ∙ one_more false (sym w.if-not-is_skipped.true ∙ test))
       | else-not-is_skipped w ↦
           rw w.statements-is (sym (append-nil _)

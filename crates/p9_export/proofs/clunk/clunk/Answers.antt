@@ -1,6 +1,6 @@
 use Rattle.std.proofs.Common.{◌≡◌, None, Some, inl, refl, sym, ◌∙◌, map}
+use Rattle.p9_base.specs.Results.{given}
 use Rattle.p9_step.proofs.Fids.{FidsFit-fid_at, without_fid-none}
-use Rattle.p9_step.specs.Answer.{given}
 use Rattle.p9_fids.specs.Fid.{fid_at}
 use Rattle.p9_export.proofs.clunk.clunk.Goals as goal
 

@@ -1,6 +1,6 @@
 use Rattle.std.proofs.Common.{◌≡◌, None, inl, refl, sym, ◌∙◌}
+use Rattle.p9_base.specs.Results.{given}
 use Rattle.p9_step.proofs.Fids.{without_fid-none}
-use Rattle.p9_step.specs.Answer.{given}
 use Rattle.p9_fids.specs.Fid.{fid_at}
 use Rattle.p9_export.proofs.remove.remove.Goals as goal
 

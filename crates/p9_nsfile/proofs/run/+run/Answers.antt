@@ -1,8 +1,8 @@
 use Rattle.std.proofs.Common.{◌-◌, ◌<◌, List, Some, Ok, map, refl, sym, ap, subst, ◌∙◌, arith}
 use Rattle.p9_base.specs.Results.{and_then}
 use Rattle.p9_nsfile.specs.Answer.{Acts}
-use Rattle.p9_nsfile.specs.Line.{NumberedLine, line_value}
-use Rattle.p9_nsfile.specs.Operation.{operation_value}
+use Rattle.p9_nsfile.specs.Line.{NumberedLine, line_view}
+use Rattle.p9_nsfile.specs.Operation.{operation_view}
 use Rattle.p9_nsfile.specs.Run.{acted, included, included_lines, lines_done}
 use Rattle.p9_nsfile.proofs.Running.{Acts-no_lines, included-more, included-none}
 use Rattle.p9_nsfile.proofs.run.+run.Goals as goal
@@ -12,7 +12,7 @@ act-returns-in-Mount g t c =
     let setting = c.args.setting.now in
     let space = c.args.space.now in
     subst (λ operation. Acts
-    (acted setting (included setting c.args.left c.args.line) space (operation_value operation))
+    (acted setting (included setting c.args.left c.args.line) space (operation_view operation))
     space c.mount.new.space c.mount.result)
     (sym c.in-Mount.is) c.mount.ensures
 
@@ -46,5 +46,5 @@ include-returns g t c =
     lines in
     included-more setting c.args.left c.args.line space c.args.path.now some
     ∙ ap (λ answer. and_then answer (λ lines. Ok (run lines))) c.in_ok-lines.ensures
-    ∙ ap (λ lines. Ok (run (map line_value lines))) (sym c.deref.ensures.value)
+    ∙ ap (λ lines. Ok (run (map line_view lines))) (sym c.deref.ensures.value)
     ∙ ap Ok (sym c.in_ok-run_lines.ensures)

@@ -1,5 +1,5 @@
 use Rattle.std.proofs.Common.{◌≡◌, ◌+◌, ◌*◌, drop, map}
-use Rattle.p9_nsfile.specs.Line.{line_value}
+use Rattle.p9_nsfile.specs.Line.{line_view}
 use Rattle.p9_nsfile.specs.Run.{lines_done}
 use Rattle.p9_nsfile.proofs.run.+run.Given as goal
 
@@ -19,5 +19,5 @@ decreases-include g l = 4 * l.left
 -- the lines that are left, from here, make what all lines make
 abbrev pub invariant-run_lines-loop-line : goal.invariant-run_lines-loop-line
 invariant-run_lines-loop-line g l =
-    lines_done l.setting l.left l.outer l.space (map line_value (drop l.line-index l.lines))
-    ≡ lines_done l.setting l.left l.outer l.initial.space (map line_value l.lines)
+    lines_done l.setting l.left l.outer l.space (map line_view (drop l.line-index l.lines))
+    ≡ lines_done l.setting l.left l.outer l.initial.space (map line_view l.lines)

@@ -4,8 +4,9 @@ ghost use Rattle.std.specs.Prelude.{◌≡◌, map};
 ghost use Rattle.std.specs.List.{list_all};
 ghost use Rattle.p9_space.specs.Given.{is_given, is_row_given, is_table_given};
 
+use crate::row::{Member, Members};
+use crate::table::MountTable;
 use p9_base::NodeRef;
-use p9_space::{Member, Members, MountTable};
 use p9_tree::{Forest, Tree};
 use std::alloc::Allocator;
 

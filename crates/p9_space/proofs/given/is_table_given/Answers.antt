@@ -1,8 +1,8 @@
 use Rattle.std.proofs.Common.{◌≡◌, ◌∙◌, ◌<◌, sym, subst, map, false, true, refl, add-one, drop}
 use Rattle.p9_space.specs.Given.{is_row_given, is_table_given}
-use Rattle.p9_export.proofs.Givens.{list_all-rest, none-past}
-use Rattle.p9_export.proofs.given.is_table_given.Goals as goal
-use Rattle.p9_export.proofs.given.is_table_given.Goals.{in-Some+else-not-is_row_given, in_default}
+use Rattle.p9_space.proofs.GivenRows.{list_all-rest, none-past}
+use Rattle.p9_space.proofs.given.is_table_given.Goals as goal
+use Rattle.p9_space.proofs.given.is_table_given.Goals.{in-Some+else-not-is_row_given, in_default}
 
 pub returns-then-not-is_row_given : goal.returns-then-not-is_row_given
 returns-then-not-is_row_given g c =

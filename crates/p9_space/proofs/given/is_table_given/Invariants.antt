@@ -1,6 +1,6 @@
 use Rattle.std.proofs.Common.{◌≡◌, drop, map}
 use Rattle.p9_space.specs.Given.{is_table_given}
-use Rattle.p9_export.proofs.given.is_table_given.Given as goal
+use Rattle.p9_space.proofs.given.is_table_given.Given as goal
 
 -- the rows that are left give the answer
 abbrev pub invariant-loop-position : goal.invariant-loop-position
