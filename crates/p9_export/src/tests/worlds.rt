@@ -5,7 +5,7 @@ use super::exchange::{
 };
 use crate::Export;
 use p9_base::{DMDIR, Mode, Name, NodeRef, User};
-use p9_space::{MountTable, Order};
+use p9_space::{MountTable, Order, is_table_given};
 use p9_tree::{FILE_MAX, Forest, NEXT_MAX, New, PlainTree, Tree};
 use std::alloc::{Allocator, Global};
 use std::process::Abort;
