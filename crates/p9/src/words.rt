@@ -1,45 +1,57 @@
 //! The words of the command line.
 
-ghost use Rattle.std.specs.Prelude.{◌≡◌, IfOk, IfSome, IsSome, codes, unwrap_or};
-ghost use Rattle.std.specs.Option.{option_copied};
-ghost use Rattle.p9_serve.specs.Command.{command_of};
+ghost use Rattle.std.specs.Prelude.{◌≡◌, IfOk, map, option_map};
+ghost use Rattle.std.specs.String.{string_bytes};
+ghost use Rattle.clap.specs.Words.{app_of};
+ghost use Rattle.p9.specs.Words.{asked_by, asked_with, known, program_app};
 
 use clap::Command;
 use clap::error::ErrorKind;
 use std::alloc::{AllocError, Global};
 
 /// The command that the words ask for, or `None` where they are a bad command line. The first word
-/// is the program's name; without another one the command is `play`, and `--` is another one. The
-/// command is one that [`p9_serve::run_command`] knows. The error is want of memory.
+/// is the program's name. Without another word the command is `play`. One other word is the
+/// command, where [`p9_serve::run_command`] knows it. The error is a failed allocation.
 pub fn command_asked(alloc: Global, words: &[String]) -> Result<Option<&'static str>, AllocError>
-    ensures { IfOk result (λ asked. IfSome asked (λ command. IsSome (command_of command.now))) }
+    ensures { IfOk result (λ asked.
+        option_map (λ command. command.now) asked ≡ asked_by (map string_bytes words.now)) }
 {
     let matches = match program(alloc)?.try_get_matches_from(words) {
         Ok(matches) => matches,
         Err(error) if error.kind() == ErrorKind::OutOfMemory => return Err(AllocError),
         Err(_) => return Ok(None),
     };
-    match matches.subcommand_name() {
-        None if words.len() > 1 => Ok(None),
-        name => Ok(command_named(name)),
+    Ok(command_read(matches.subcommand_name(), words))
+}
+
+// The command that a subcommand's name and the words ask for. The name has to be the only word, so
+// that no `--` is among the words.
+fn command_read(name: Option<&str>, words: &[String]) -> Option<&'static str>
+    ensures { option_map (λ command. command.now) result
+        ≡ asked_with (option_map (λ text. text.now) name.entry) (map string_bytes words.now) }
+{
+    match (name, words) {
+        (None, [] | [_]) => Some("play"),
+        (Some(name), [_, word]) if word.as_str() == name => command_named(name),
+        _ => None,
     }
 }
 
-// The command of a name; where none is given it is `play`.
-fn command_named(name: Option<&str>) -> Option<&'static str>
-    ensures named { IfSome result (λ command.
-        command.now ≡ unwrap_or (option_copied name.entry) (codes "play")) }
-    ensures known { IfSome result (λ command. IsSome (command_of command.now)) }
+// The command of a name.
+fn command_named(name: &str) -> Option<&'static str>
+    ensures { option_map (λ command. command.now) result ≡ known name.now }
 {
     match name {
-        None | Some("play") => Some("play"),
-        Some("ns") => Some("ns"),
-        Some(_) => None,
+        "play" => Some("play"),
+        "ns" => Some("ns"),
+        _ => None,
     }
 }
 
 // The program's command line: at most one word, the command. There is no help to ask for.
-fn program<'a>(alloc: Global) -> Result<Command<'a>, AllocError> {
+fn program<'a>(alloc: Global) -> Result<Command<'a>, AllocError>
+    ensures { IfOk result (λ program. app_of program ≡ program_app) }
+{
     let play = Command::new(alloc, "play").disable_help_flag(true);
     let ns = Command::new(alloc, "ns").disable_help_flag(true);
     Command::new(alloc, "p9")

@@ -6,3 +6,5 @@ pub mod Splits
 pub mod Decimals
 pub mod StatementLemmas
 pub mod Results
+pub mod Rising
+pub mod Rows

@@ -6,9 +6,11 @@ pub mod User
 pub mod Fault
 pub mod Mode
 pub mod Rights
+pub mod Group
 pub mod NodeRef
 pub mod Variable
 pub mod Line
 pub mod Decimal
 pub mod Statement
 pub mod Results
+pub mod Rising

@@ -15,7 +15,7 @@ use Rattle.p9_step.specs.Request.{request_of}
 use Rattle.p9_step.specs.Memory.{may_run_out, ran_out}
 use Rattle.p9_step.specs.Step.{finds_taken, message_answer}
 use Rattle.p9_step.specs.Step.{session_answer}
-use Rattle.p9_step.proofs.Rows.{set_value-same}
+use Rattle.p9_base.proofs.Rows.{set_value-same}
 use Rattle.p9_step.proofs.Requests.{ran_out-is}
 
 -- what a read of a session may carry is less than a frame

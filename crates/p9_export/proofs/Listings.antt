@@ -21,7 +21,8 @@ use Rattle.p9_tree.specs.Server.{Server}
 use Rattle.p9_tree.specs.Forest.{IsForest, child_in_after, no_server, server_at}
 use Rattle.p9_space.specs.declared.row.Member.{Member}
 use Rattle.p9_fids.specs.declared.opened.Cursor.{Cursor}
-use Rattle.p9_step.specs.Listing.{Entry, children_of, cursor_of, entries_from, entries_of}
+use Rattle.p9_tree.specs.Forest.{children_of}
+use Rattle.p9_step.specs.Listing.{Entry, cursor_of, entries_from, entries_of}
 use Rattle.p9_step.specs.Listing.{entry_at, is_behind, is_listed, left_of}
 use Rattle.p9_wire.specs.Fields.{stat_bytes, stat_len}
 use Rattle.p9_wire.proofs.Lengths.{length-stat_bytes}

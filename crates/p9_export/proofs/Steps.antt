@@ -22,12 +22,13 @@ use Rattle.p9_step.specs.Memory.{is_no_memory_reply, may_run_out, no_memory_repl
 use Rattle.p9_step.specs.Step.{message_answer}
 use Rattle.p9_step.specs.Request.{request_of, tag_of}
 use Rattle.p9_step.specs.Step.{step, Stepped}
-use Rattle.p9_step.specs.Event.{Message, is_frame}
+use Rattle.p9_wire.specs.Frame.{is_frame}
+use Rattle.p9_step.specs.Event.{Message}
 use Rattle.p9_step.proofs.Done.{done-is}
 use Rattle.p9_step.proofs.Plain.{IsPlainIf, plain-session_answer}
 use Rattle.p9_step.proofs.Replies.{not_an_error}
 use Rattle.p9_step.proofs.Requests.{ran_out-is}
-use Rattle.p9_step.proofs.Rows.{set_value-same}
+use Rattle.p9_base.proofs.Rows.{set_value-same}
 
 -- the forest and the sessions afterwards, and the reply
 pub record MakesStep (state : State) (forest : List Server) (rows : List SessionRow)

@@ -4,7 +4,7 @@ ghost use Rattle.std.specs.Prelude.{◌≡◌, ◌≤◌, IsSome, IfSome, drop, 
 ghost use Rattle.p9_wire.specs.Frame.{msize_max};
 ghost use Rattle.p9_wire.specs.Message.{t_view};
 ghost use Rattle.p9_export.specs.Answers.{AnswersAmong, CanWrite, frame_among, replied, reply_view};
-ghost use Rattle.p9_step.specs.Sound.{IsSessionSound};
+ghost use Rattle.p9_step.specs.Sound.{IsSession};
 ghost use Rattle.p9_step.specs.State.{session_at};
 ghost use Rattle.p9_step.specs.Memory.{ran_out};
 ghost use Rattle.p9_step.specs.Step.{finds_taken};
@@ -38,7 +38,7 @@ pub fn answer<T: Tree>(
     reply: &mut [u8],
 ) -> Result<Reply, Fault>
     requires live { IsSome (session_at name sessions.old.entries) }
-    requires sound { IfSome (session_at name sessions.old.entries) (IsSessionSound setting.now.table
+    requires sound { IfSome (session_at name sessions.old.entries) (IsSession setting.now
         (map T.state forest.old.trees.items)) }
     requires room { msize_max ≤ length reply.old }
     ensures reply { CanWrite result }

@@ -1,13 +1,18 @@
 //! The exporter: the state, and what each event makes of it.
 
-ghost use Rattle.std.specs.Prelude.{◌≡◌, ◌≤◌, ◌↔◌, [], Err, None, false, IsSome, IsTrue, OnErr};
+ghost use Rattle.std.specs.Prelude.{◌≡◌, ◌≤◌, ◌↔◌, [], Err, None, false, IfSome, IsSome, IsTrue};
+ghost use Rattle.std.specs.Prelude.{OnErr};
 ghost use Rattle.std.specs.Prelude.{OnOk, length, map, take};
-ghost use Rattle.p9_step.specs.Event.{Open, Message, Close, is_frame};
+ghost use Rattle.p9_step.specs.Event.{Open, Message, Close};
 ghost use Rattle.p9_step.specs.State.{session_at};
 ghost use Rattle.p9_step.specs.Memory.{is_no_memory_reply};
+ghost use Rattle.p9_step.specs.Sound.{IsState};
 ghost use Rattle.p9_step.specs.Step.{step};
+ghost use Rattle.p9_step.specs.Laws.{reply_max};
+ghost use Rattle.std.specs.List.{list_all};
+ghost use Rattle.p9_base.specs.User.{is_user};
 ghost use Rattle.p9_space.specs.Given.{is_table_given};
-ghost use Rattle.p9_wire.specs.Frame.{msize_max};
+ghost use Rattle.p9_wire.specs.Frame.{is_frame, msize_max};
 ghost use Rattle.p9_export.specs.declared.export.OpenError.TheVariants.{Live};
 
 use crate::answer::answer;
@@ -43,7 +48,7 @@ pub struct Export<T: Tree> {
 
 impl<T: Tree> Model for Export<T> {
     ghost use Rattle.std.specs.Prelude.{map};
-    ghost use Rattle.p9_step.specs.Sound.{IsSound};
+    ghost use Rattle.p9_step.specs.Sound.{IsServed};
     ghost use Rattle.p9_step.specs.State.{State};
 
     ghost Value = { State };
@@ -54,7 +59,7 @@ impl<T: Tree> Model for Export<T> {
       sessions = e.sessions.entries;
     } };
 
-    ghost invariant = { λ e. IsSound e.setting.table (map T.state e.forest.trees.items)
+    ghost invariant = { λ e. IsServed e.setting (map T.state e.forest.trees.items)
         e.sessions.entries };
 }
 
@@ -75,6 +80,9 @@ impl<T: Tree> Export<T> {
           sessions = [];
         } }
     {
+        forest.well_formed();
+        each_is_a_user(users.as_slice());
+        let _rows = table.len();
         let alloc = *users.allocator();
         Export {
             setting: Setting {
@@ -85,6 +93,14 @@ impl<T: Tree> Export<T> {
             forest,
             sessions: BTreeMap::new(alloc),
         }
+    }
+
+    /// What is kept of each exporter: its state is one that an exporter can come to. This does
+    /// nothing when it runs; it is for a caller that has to know so.
+    pub fn well_formed(&self)
+        ensures { IsState self.now }
+    {
+        self.forest.well_formed();
     }
 
     /// Whether a session of this name is open.
@@ -124,16 +140,19 @@ impl<T: Tree> Export<T> {
         }
     }
 
-    /// Answers one frame of an open session: the reply stands at the front of the buffer, and its
-    /// length is answered.
+    /// Answers one frame of an open session: writes the reply at the front of the buffer, and
+    /// returns its length, which is no more than the session's msize, and before a version than 43.
+    /// What the buffer holds behind the reply is undefined, and is not to be handed on.
     ///
-    /// Every frame gets exactly one reply. Where that is [`p9_base::Fault::OutOfMemory`], memory
-    /// was refused, and all is as before.
+    /// Every frame gets exactly one reply. Where that is [`p9_base::Fault::OutOfMemory`], an
+    /// allocation failed, and the exporter is unchanged.
     pub fn message(&mut self, name: u32, frame: &[u8], now: u32, reply: &mut [u8]) -> usize
         requires live { IsSome (session_at name self.old.sessions) }
         requires whole { IsTrue (is_frame frame.now) }
         requires room { msize_max ≤ length reply.old }
         ensures within { result ≤ length reply.old }
+        ensures short { IfSome (session_at name self.old.sessions) (λ session. result
+            ≤ reply_max session) }
         ensures state { self.new ≡ (step self.old (Message name frame.now now)
             (is_no_memory_reply frame.now (take result reply.new))).state }
         ensures bytes { take result reply.new
@@ -152,5 +171,14 @@ impl<T: Tree> Export<T> {
             reply,
         );
         write_reply(&self.forest, &answered, tag, reply)
+    }
+}
+
+// What is kept of each user: it is one. This does nothing when it runs.
+fn each_is_a_user(users: &[User])
+    ensures { IsTrue (list_all is_user users.now) }
+{
+    for user in users {
+        let _name = user.as_str();
     }
 }

@@ -22,14 +22,13 @@ mod rights;
 mod session;
 mod setting;
 mod stat;
-#[cfg(test)]
-mod tests;
 mod version;
 mod walk;
 mod write;
 mod wstat;
 
-pub use event::{Event, is_frame};
+pub use event::Event;
 pub use export::{Export, OpenError};
+pub use p9_wire::is_frame;
 pub use session::Session;
 pub use version::MSIZE_MIN;

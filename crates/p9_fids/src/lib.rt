@@ -4,8 +4,6 @@
 mod fid;
 mod opened;
 mod table;
-#[cfg(test)]
-mod tests;
 
 pub use fid::Fid;
 pub use opened::{Cursor, OpenMode, Opened};

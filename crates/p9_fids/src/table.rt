@@ -1,11 +1,12 @@
 //! The fids of a session.
 
-ghost use Rattle.std.specs.Prelude.{◌≡◌, ◌⊎◌, [], None, Some, length, slice_get, IfErr, IsSome};
+ghost use Rattle.std.specs.Prelude.{◌≡◌, ◌⊎◌, [], None, Some, length, slice_get, IfErr, IfSome};
+ghost use Rattle.std.specs.Prelude.{IsSome};
 ghost use Rattle.std.specs.Prelude.{OnErr, OnOk};
 ghost use Rattle.std.specs.Option.{option_copied, option_map};
 ghost use Rattle.p9_base.specs.declared.fault.Fault.TheVariants.{OutOfMemory};
-ghost use Rattle.p9_fids.specs.Fid.{changed_fid, fid_at, open_count, opened_as, put_fault, trailed};
-ghost use Rattle.p9_fids.specs.Fid.{with_fid, without_fid};
+ghost use Rattle.p9_fids.specs.Fid.{IsFids, IsLeast, changed_fid, fid_at, open_count, opened_as};
+ghost use Rattle.p9_fids.specs.Fid.{put_fault, trailed, with_fid, without_fid};
 
 use crate::fid::Fid;
 use crate::opened::Opened;
@@ -18,7 +19,8 @@ use std::marker::Model;
 /// The most fids of a session.
 pub const FIDS_MAX: usize = 1024;
 
-/// The fids of a session, by rising number. It is seen as the list of the fids with their numbers.
+/// The fids of a session: at most [`FIDS_MAX`], by strictly rising number, none of them [`NOFID`].
+/// It is seen as the list of the fids with their numbers, and so as a finite map.
 #[derive(Drop)]
 pub struct FidTable<A: Allocator + Copy> {
     fids: BTreeMap<u32, Fid<A>, A>,
@@ -26,11 +28,13 @@ pub struct FidTable<A: Allocator + Copy> {
 
 impl<A: Allocator + Copy> Model for FidTable<A> {
     ghost use Rattle.std.specs.Prelude.{List};
-    ghost use Rattle.p9_fids.specs.Fid.{FidRow};
+    ghost use Rattle.p9_fids.specs.Fid.{FidRow, IsFids};
 
     ghost Value = { List FidRow };
 
     ghost view = { λ t. t.fids.entries };
+
+    ghost invariant = { λ t. IsFids t.fids.entries };
 }
 
 impl<A: Allocator + Copy> FidTable<A> {
@@ -57,9 +61,18 @@ impl<A: Allocator + Copy> FidTable<A> {
         self.fids.get(&fid)
     }
 
-    /// The least number of a fid.
+    /// What is kept of each table: its numbers rise strictly, none is [`NOFID`], and there are at
+    /// most [`FIDS_MAX`]. This does nothing when it runs; it is for a caller that has to know so.
+    pub fn well_formed(&self)
+        ensures { IsFids self.now }
+    {
+        let _fids = &self.fids;
+    }
+
+    /// The least number of a fid, or `None` where there is no fid.
     pub fn first(&self) -> Option<u32>
-        ensures { result ≡ option_map (λ row. row.0) (slice_get self.now 0) }
+        ensures first { result ≡ option_map (λ row. row.0) (slice_get self.now 0) }
+        ensures least { IfSome result (IsLeast self.now) }
     {
         self.fids.first_key_value().map(|(fid, _)| *fid)
     }

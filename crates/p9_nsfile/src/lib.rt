@@ -11,8 +11,6 @@ mod operation;
 mod run;
 mod setting;
 mod space;
-#[cfg(test)]
-mod tests;
 mod variable;
 
 pub use error::{BadForm, NsError};

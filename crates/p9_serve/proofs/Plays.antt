@@ -7,7 +7,8 @@ use Rattle.std.proofs.lemmas.Bool.{and_from}
 use Rattle.std.proofs.lemmas.List.{get_or-map, length-map, drop_more, drop_all}
 use Rattle.hex.specs.Hex.{encode_lower}
 use Rattle.p9_step.specs.State.{State, session_at}
-use Rattle.p9_step.specs.Event.{Event, Message, is_frame}
+use Rattle.p9_wire.specs.Frame.{is_frame}
+use Rattle.p9_step.specs.Event.{Event, Message}
 use Rattle.p9_step.specs.Step.{Stepped, step}
 use Rattle.p9_serve.specs.Play.{Played, Plays, PlaysAll, play_text, played, replied, skipped}
 

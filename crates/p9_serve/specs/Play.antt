@@ -3,7 +3,8 @@ use Rattle.std.specs.Prelude.{◌≡◌, ℕ, ◌&&◌, Bool, false, List, [], �
 use Rattle.std.specs.Prelude.{if◌then◌else◌}
 use Rattle.hex.specs.Hex.{encode_lower}
 use Rattle.p9_step.specs.State.{State, session_at}
-use Rattle.p9_step.specs.Event.{Event, Open, Message, Close, is_frame}
+use Rattle.p9_wire.specs.Frame.{is_frame}
+use Rattle.p9_step.specs.Event.{Event, Open, Message, Close}
 use Rattle.p9_step.specs.Step.{Stepped, step}
 
 -- the state after an event, and what is printed for it

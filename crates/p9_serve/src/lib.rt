@@ -15,8 +15,6 @@ mod refusal;
 mod report;
 mod script;
 mod small;
-#[cfg(test)]
-mod tests;
 
 pub use bundle::{Bundle, BundleError, split_bundle};
 pub use command::run_command;

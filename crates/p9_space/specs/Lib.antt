@@ -5,3 +5,4 @@ pub mod Place
 pub mod Rights
 pub mod Walk
 pub mod Given
+pub use Rattle.p9_clean.specs.Path

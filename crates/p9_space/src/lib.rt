@@ -1,19 +1,19 @@
 //! Places: the mount table with its union directories, trails, and walks along them, as bind(1)
 //! and walk(5).
 //!
-//! A mount table is seen as the list of its rows, and a trail as the list of its places.
+//! A mount table is seen as the list of its rows, and a trail as the list of its places. Cleaning a
+//! path needs neither, so [`clean`] is p9_clean's.
 #![tactic(auto)]
 
 mod given;
 mod rights;
 mod row;
 mod table;
-#[cfg(test)]
-mod tests;
 mod trail;
 mod walk;
 
 pub use given::is_table_given;
+pub use p9_clean::clean;
 pub use rights::{TO_EXECUTE, TO_READ, TO_WRITE, may, rules};
 pub use row::{Member, Members, Order};
 pub use table::{MountTable, UnmountError};

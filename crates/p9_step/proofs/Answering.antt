@@ -1,55 +1,67 @@
 -- Every frame of a session that is open gets one reply.
-use Rattle.std.proofs.Common.{◌≡◌, ℕ, ◌+◌, ◌-◌, ◌≤◌, ◌&&◌, ◌||◌, Bool, true, false, List, [], ◌∷◌}
-use Rattle.std.proofs.Common.{length, Option, Some, None, Result, Ok, Err, refl, sym, ap, ◌∙◌}
-use Rattle.std.proofs.Common.{subst, arith}
-use Rattle.std.specs.Prelude.{is_some, unwrap_or}
+use Rattle.std.proofs.Common.{Bool, Err, List, None, Ok, Option, Result, Some, [], ap, arith, drop}
+use Rattle.std.proofs.Common.{false, inl, inr, is_some, length, refl, subst, sym, true, ℕ, ◌+◌, ◌-◌}
+use Rattle.std.proofs.Common.{◌<◌, ◌^◌, ◌||◌, ◌∙◌, ◌∷◌, ◌≡◌, ◌≤◌, ◌⊎◌}
+use Rattle.std.proofs.lemmas.Bool.{cases_lt}
+use Rattle.std.proofs.lemmas.List.{get_or-drop, get_or_past}
+use Rattle.std.proofs.lemmas.Slice.Eq.{bytes_eq-Decides}
+use Rattle.std.specs.BTreeMap.{is_at}
 use Rattle.std.specs.Map.{lookup, remove_entry}
 use Rattle.std.specs.Option.{option_map_or}
 use Rattle.std.specs.Ordering.{nat_cmp}
-use Rattle.std.specs.BTreeMap.{is_at}
-use Rattle.p9_base.specs.declared.fault.Fault.{Fault}
-use Rattle.p9_base.specs.declared.fault.Fault.TheVariants.{Malformed, VersionNotSet, SmallMsize}
-use Rattle.p9_base.specs.declared.fault.Fault.TheVariants.{NoAuthentication, UnknownUser}
-use Rattle.p9_base.specs.declared.fault.Fault.TheVariants.{UnknownAttachName, UnknownFid, FidInUse}
-use Rattle.p9_base.specs.declared.fault.Fault.TheVariants.{FidOpen, FidNotOpen, NotDirectory}
-use Rattle.p9_base.specs.declared.fault.Fault.TheVariants.{NotFound, PermissionDenied, PhaseError}
-use Rattle.p9_base.specs.declared.fault.Fault.TheVariants.{BadOpenMode, IsDirectory, ExclusiveUse}
-use Rattle.p9_base.specs.declared.fault.Fault.TheVariants.{BadFileName, FileExists}
-use Rattle.p9_base.specs.declared.fault.Fault.TheVariants.{CreationForbidden, BadDirectoryOffset}
-use Rattle.p9_base.specs.declared.fault.Fault.TheVariants.{SmallReadCount, FileTooLarge, NotEmpty}
-use Rattle.p9_base.specs.declared.fault.Fault.TheVariants.{IsRoot, FixedField, TooManyFids}
-use Rattle.p9_base.specs.declared.fault.Fault.TheVariants.{QidsUsedUp, OutOfMemory, PathTooDeep}
+use Rattle.std.specs.Prelude.{slice_index, unwrap_or, ◌&&◌}
+use Rattle.std.specs.Str.{bytes_eq}
+use Rattle.byteorder.specs.Numbers.{little_from-lt}
 use Rattle.p9_base.specs.Fault.{text_of}
-use Rattle.p9_base.proofs.Faults.{fault_text_is_text}
 use Rattle.p9_base.specs.Results.{and_then, given}
+use Rattle.p9_base.specs.declared.fault.Fault.{Fault}
+use Rattle.p9_base.specs.declared.fault.Fault.TheVariants.{BadDirectoryOffset, BadFileName}
+use Rattle.p9_base.specs.declared.fault.Fault.TheVariants.{BadOpenMode, CreationForbidden}
+use Rattle.p9_base.specs.declared.fault.Fault.TheVariants.{ExclusiveUse, FidInUse, FidNotOpen}
+use Rattle.p9_base.specs.declared.fault.Fault.TheVariants.{FidOpen, FileExists, FileTooLarge}
+use Rattle.p9_base.specs.declared.fault.Fault.TheVariants.{FixedField, IsDirectory, IsRoot}
+use Rattle.p9_base.specs.declared.fault.Fault.TheVariants.{Malformed, NoAuthentication}
+use Rattle.p9_base.specs.declared.fault.Fault.TheVariants.{NotDirectory, NotEmpty, NotFound}
+use Rattle.p9_base.specs.declared.fault.Fault.TheVariants.{OutOfMemory, PathTooDeep}
+use Rattle.p9_base.specs.declared.fault.Fault.TheVariants.{PermissionDenied, PhaseError, QidsUsedUp}
+use Rattle.p9_base.specs.declared.fault.Fault.TheVariants.{SmallMsize, SmallReadCount, TooManyFids}
+use Rattle.p9_base.specs.declared.fault.Fault.TheVariants.{UnknownAttachName, UnknownFid}
+use Rattle.p9_base.specs.declared.fault.Fault.TheVariants.{UnknownUser, VersionNotSet}
+use Rattle.p9_base.proofs.Faults.{fault_text_is_text}
+use Rattle.p9_base.proofs.Rows.{set_value-same}
+use Rattle.p9_tree.specs.Forest.{IsForest}
 use Rattle.p9_wire.specs.Fields.{FitsText}
-use Rattle.p9_wire.specs.Laws.{IsBytes}
 use Rattle.p9_wire.specs.Frame.{msize_max}
-use Rattle.p9_wire.specs.Message.{RMessage, Rerror, TMessage, Tversion, Tauth, Tattach, Tflush}
-use Rattle.p9_wire.specs.Message.{Twalk, Topen, Tcreate, Tread, Twrite, Tclunk, Tremove, Tstat}
+use Rattle.p9_wire.specs.Laws.{IsBytes}
+use Rattle.p9_wire.specs.Message.{RMessage, Rerror, TMessage, Tattach, Tauth, Tclunk, Tcreate}
+use Rattle.p9_wire.specs.Message.{Tflush, Topen, Tread, Tremove, Tstat, Tversion, Twalk, Twrite}
 use Rattle.p9_wire.specs.Message.{Twstat}
 use Rattle.p9_wire.specs.Spelling.{TSpells, r_body, r_len, r_spelling, r_type}
 use Rattle.p9_wire.proofs.Lengths.{length-frame, length-r_body}
 use Rattle.p9_wire.proofs.TGrammar.{t-decides}
 use Rattle.p9_fids.specs.Fid.{Fid, fid_at, without_fid}
-use Rattle.p9_step.specs.State.{Session, State, changed_session, session_at, room_of}
-use Rattle.p9_step.specs.Answer.{Answer, Outcome, outcome_of, is_error}
+use Rattle.p9_step.specs.Answer.{Answer, Outcome, is_error, outcome_of}
 use Rattle.p9_step.specs.Clunk.{without}
-use Rattle.p9_step.specs.Laws.{EveryFrameIsAnswered, IsAnswered, IsState, after_refusal}
-use Rattle.p9_step.specs.Laws.{reply_max, without_fid_of}
-use Rattle.p9_step.specs.Remove.{removal, remove_answer}
-use Rattle.p9_step.specs.Sound.{IsMsize}
-use Rattle.p9_step.specs.Request.{is_version, request_of, tag_of}
+use Rattle.p9_step.specs.Laws.{EveryFrameIsAnswered, IsAnswered, after_refusal, reply_max}
+use Rattle.p9_step.specs.Laws.{without_fid_of}
 use Rattle.p9_step.specs.Memory.{no_memory_reply, ran_out}
-use Rattle.p9_step.specs.Step.{Stepped, answered, message_answer}
-use Rattle.p9_step.specs.Step.{with_outcome}
-use Rattle.p9_step.proofs.Done.{OnDone, done-err, done-is, done-ok}
-use Rattle.p9_step.proofs.Fitting.{Replies, fitting-attach, fitting-clunk, fitting-create}
-use Rattle.p9_step.proofs.Fitting.{fitting-open, fitting-read, fitting-removal, fitting-stat}
-use Rattle.p9_step.proofs.Fitting.{fitting-version, fitting-walk, fitting-write, fitting-wstat}
-use Rattle.p9_step.proofs.Sounds.{session-sound}
-use Rattle.p9_step.proofs.Rows.{set_value-same}
+use Rattle.p9_step.specs.Remove.{removal, remove_answer}
+use Rattle.p9_step.specs.Request.{is_version, request_of, tag_of}
+use Rattle.p9_step.specs.Sound.{IsMsize, IsState}
+use Rattle.p9_step.specs.State.{Session, State, changed_session, room_of, session_at}
+use Rattle.p9_step.specs.Step.{Stepped, answered, message_answer, with_outcome}
+use Rattle.p9_step.proofs.Done.{IsOfTest, OnDone, done-err, done-is, done-map, done-ok, refused-is}
+use Rattle.p9_step.proofs.Fitting.{Replies, replies-attach, replies-clunk, replies-create}
+use Rattle.p9_step.proofs.Fitting.{replies-open, replies-read, replies-removal, replies-stat}
+use Rattle.p9_step.proofs.Fitting.{replies-version, replies-walk, replies-write, replies-wstat}
+use Rattle.p9_step.proofs.Passed.{AttachDone, ClunkDone, CreateDone, OpenDone, ReadDone}
+use Rattle.p9_step.proofs.Passed.{RemovalDone, StatDone, VersionDone, WalkDone, WriteDone}
+use Rattle.p9_step.proofs.Passed.{WstatDone, attach-done, clunk-done, create-done, open-done}
+use Rattle.p9_step.proofs.Passed.{read-done, removal-done, stat-done, version-done, walk-done}
+use Rattle.p9_step.proofs.Passed.{write-done, wstat-done}
+use Rattle.p9_step.proofs.Refused.{request_of-of}
 use Rattle.p9_step.proofs.Requests.{ran_out-is, request-is}
+use Rattle.p9_step.proofs.Sounds.{session-served}
 
 -- The texts of the faults are short.
 
@@ -104,6 +116,19 @@ remove_entry-absent test (row ∷ rows) none = go (test row.0) refl (remove_entr
         let further : lookup test rows ≡ None = rw e at none in
         rw e (ap (λ r. row ∷ r) (later further))
 
+-- a tag of bytes has 16 bits
+tag-small : (frame : List ℕ) → IsBytes frame → tag_of frame < 2 ^ 16
+tag-small frame bytes =
+    little_from-lt 0 2 (drop 5 frame) (λ k. go k (cases_lt (5 + k) (length frame)))
+  where
+    there : (k : ℕ) → slice_index (drop 5 frame) k ≡ slice_index frame (5 + k)
+    there k = get_or-drop 5 frame k 0
+
+    go : (k : ℕ) → (5 + k < length frame) ⊎ (length frame ≤ 5 + k)
+        → slice_index (drop 5 frame) k < 256
+    go k (inl within) = rw (there k) (bytes (5 + k) 0 within)
+    go k (inr past) = rw (there k, get_or_past frame (5 + k) 0 past) (omega arith)
+
 length-spelling : (tag : ℕ) (m : RMessage) → length (r_spelling tag m) ≡ 7 + r_len m
 unfolding r_spelling
 length-spelling tag m =
@@ -144,40 +169,65 @@ module _ (session : Session) (frame : List ℕ) where
       wide_session session set short
 
 module _ (state : State) (name : ℕ) (session : Session) (frame : List ℕ)
-    (there : session_at name state.sessions ≡ Some session) (least : 43 ≤ reply_max session) where
-  Given : Stepped → Type 0
-  Given after = (reply : RMessage) × IsAnswered state name session frame after reply
+    (there : session_at name state.sessions ≡ Some session) (least : 43 ≤ reply_max session)
+    (tagged : tag_of frame < 2 ^ 16) where
+  Given : Bool → Stepped → Type 0
+  Given out after = (reply : RMessage) × IsAnswered state name session frame out after reply
 
   -- a refusal
-  refused_by : (fault : Fault) (after : Stepped)
+  refused_by : (out : Bool) (fault : Fault) (after : Stepped)
       → after.reply ≡ r_spelling (tag_of frame) (Rerror (text_of fault))
-      → after.state ≡ after_refusal state name session (request_of session frame) → Given after
+      → after.state ≡ after_refusal state name session (request_of session frame)
+      → (text_of fault ≡ text_of OutOfMemory → out ≡ true) → Given out after
   unfolding Given
-  refused_by fault after written left =
+  refused_by out fault after written left memory =
       let few = short_fault fault in (
         Rerror (text_of fault),
         record {
-          spelled = written;
-          fits = fault_fits fault;
+          spelled = record {
+            whole = written;
+            numbers = tt;
+            fits = fault_fits fault;
+            tag_fits = tagged;
+          };
           short =
               rw (written, length-spelling (tag_of frame) (Rerror (text_of fault)))
               (omega (arith, few, least));
           refusal = λ ename e. ((fault, let same : ename ≡ text_of fault = cc in same), left);
+          memory = λ e. let same : text_of fault ≡ text_of OutOfMemory = cc in memory same;
         },
       )
 
+  -- a refusal by a test
+  tested_by : (out : Bool) (fault : Fault) (after : Stepped) → IsOfTest fault
+      → after.reply ≡ r_spelling (tag_of frame) (Rerror (text_of fault))
+      → after.state ≡ after_refusal state name session (request_of session frame)
+      → Given out after
+  tested_by out fault after of written left =
+      refused_by out fault after written left
+      (λ e. let same : bytes_eq (text_of fault) (text_of OutOfMemory) ≡ true =
+      (bytes_eq-Decides (text_of fault) (text_of OutOfMemory)).1 e in absurd (cc))
+
   -- another reply
-  done_by : (outcome : Outcome) (after : Stepped) → Replies (reply_max session) outcome
-      → after.reply ≡ r_spelling (tag_of frame) outcome.reply → Given after
+  done_by : (out : Bool) (outcome : Outcome) (after : Stepped)
+      → Replies (reply_max session) outcome
+      → after.reply ≡ r_spelling (tag_of frame) outcome.reply → Given out after
   unfolding Given
-  done_by outcome after its written = (
+  done_by out outcome after its written = (
     outcome.reply,
     record {
-      spelled = written;
-      fits = its.fits;
+      spelled = record {
+        whole = written;
+        numbers = its.numbers;
+        fits = its.fits;
+        tag_fits = tagged;
+      };
       short = rw (written, length-spelling (tag_of frame) outcome.reply) its.short;
       refusal =
           λ ename e. let no : is_error (Rerror ename)
+          ≡ false = subst (λ m. is_error m ≡ false) e its.plain in absurd (cc);
+      memory =
+          λ e. let no : is_error (Rerror (text_of OutOfMemory))
           ≡ false = subst (λ m. is_error m ≡ false) e its.plain in absurd (cc);
     },
   )
@@ -186,34 +236,39 @@ module _ (state : State) (name : ℕ) (session : Session) (frame : List ℕ)
   given_by : (refused : Bool) (answer : Answer)
       → after_refusal state name session (request_of session frame) ≡ state
       → OnDone (Replies (reply_max session)) answer
-      → Given (answered state name session frame refused answer)
+      → Given (refused && ran_out frame answer) (answered state name session frame refused answer)
   given_by refused answer left its = by_memory (refused && ran_out frame answer) refl
     where
       by_answer : (a : Answer) → OnDone (Replies (reply_max session)) a
-          → Given (with_outcome state name frame (outcome_of session a))
+          → Given false (with_outcome state name frame (outcome_of session a))
       by_answer (Ok outcome) done =
-          done_by outcome (with_outcome state name frame outcome)
+          done_by false outcome (with_outcome state name frame outcome)
           (done-is (Replies (reply_max session)) (Ok outcome) outcome done refl) refl
       by_answer (Err fault) done =
-          refused_by fault (with_outcome state name frame (outcome_of session (Err fault))) refl
+          tested_by false fault (with_outcome state name frame (outcome_of session (Err fault)))
+          (refused-is (Replies (reply_max session)) (Err fault) fault done refl) refl
           (ap (λ r. record state { sessions = r })
           (set_value-same (is_at (nat_cmp name)) state.sessions session there) ∙ sym left)
 
       by_memory : (b : Bool) → (refused && ran_out frame answer) ≡ b
-          → Given (answered state name session frame refused answer)
+          → Given (refused && ran_out frame answer)
+          (answered state name session frame refused answer)
       by_memory true e =
-          rw e (refused_by OutOfMemory (record { state = state; reply = no_memory_reply frame })
-          refl (sym left))
+          rw e
+          (refused_by true OutOfMemory (record { state = state; reply = no_memory_reply frame })
+          refl (sym left) (λ same. refl))
       by_memory false e = rw e (by_answer answer its)
 
   -- the answer to a remove, whose refusal has ended its fid
-  removed_by : (refused : Bool) (now fid : ℕ) → IsWide session
+  removed_by : (refused : Bool) (now fid : ℕ) → IsForest state.forest → IsWide session
       → request_of session frame ≡ Ok (Tremove fid)
       → Given
+      (refused && ran_out frame (remove_answer state.setting state.forest session now fid))
       (answered state name session frame refused
       (remove_answer state.setting state.forest session now fid))
   unfolding given
-  removed_by refused now fid wide is = rw (unmarked refused) (by_fid (fid_at fid session.fids) refl)
+  removed_by refused now fid sound wide is =
+      rw (unmarked refused) (by_fid (fid_at fid session.fids) refl)
     where
       never : ran_out frame (remove_answer state.setting state.forest session now fid) ≡ false
       never =
@@ -239,34 +294,42 @@ module _ (state : State) (name : ℕ) (session : Session) (frame : List ℕ)
           (set_value-same (is_at (nat_cmp name)) state.sessions session there)
 
       by_removal : (a : Answer) → OnDone (Replies (reply_max session)) a
-          → Given (with_outcome state name frame (outcome_of (without fid session) a))
+          → Given false (with_outcome state name frame (outcome_of (without fid session) a))
       by_removal (Ok outcome) done =
-          done_by outcome (with_outcome state name frame outcome)
+          done_by false outcome (with_outcome state name frame outcome)
           (done-is (Replies (reply_max session)) (Ok outcome) outcome done refl) refl
       by_removal (Err fault) done =
-          refused_by fault
-          (with_outcome state name frame (outcome_of (without fid session) (Err fault))) refl
+          tested_by false fault
+          (with_outcome state name frame (outcome_of (without fid session) (Err fault)))
+          (refused-is (Replies (reply_max session)) (Err fault) fault done refl) refl
           (sym left_is)
 
       by_fid : (o : Option Fid) → fid_at fid session.fids ≡ o
-          → Given
+          → Given false
           (with_outcome state name frame
           (outcome_of session (remove_answer state.setting state.forest session now fid)))
       by_fid None e =
-          rw e (refused_by UnknownFid
-          (with_outcome state name frame (outcome_of session (Err UnknownFid))) refl
+          rw e (tested_by false UnknownFid
+          (with_outcome state name frame (outcome_of session (Err UnknownFid))) refl refl
           (ap (λ r. record state { sessions = r })
           (set_value-same (is_at (nat_cmp name)) state.sessions session there)
           ∙ sym (left_is ∙ kept e)))
       by_fid (Some v) e =
           rw e (by_removal (removal state.setting state.forest (without fid session) now v)
-          (fitting-removal (reply_max session) state.setting state.forest (without fid session)
-          wide.wide now v))
+          (done-map (RemovalDone state.setting state.forest (without fid session) now v)
+          (Replies (reply_max session))
+          (removal state.setting state.forest (without fid session) now v)
+          (replies-removal (reply_max session) state.setting state.forest (without fid session)
+          sound wide.wide now v)
+          (removal-done state.setting state.forest (without fid session) now v)))
 
 -- each request, in the manual's order
 module _ (state : State) (name : ℕ) (session : Session) (frame : List ℕ) (now : ℕ) (refused : Bool)
     (ok : IsState state) (there : session_at name state.sessions ≡ Some session)
     (bytes : IsBytes frame) (short : IsMsize session.msize) where
+  tagged : tag_of frame < 2 ^ 16
+  tagged = tag-small frame bytes
+
   least : 43 ≤ reply_max session
   least = least_msize session.msize short
 
@@ -279,95 +342,133 @@ module _ (state : State) (name : ℕ) (session : Session) (frame : List ℕ) (no
       spelled.fits.few
 
   by_message : (m : TMessage) → request_of session frame ≡ Ok m
-      → Given state name session frame there least
+      → Given state name session frame there least tagged
+      (refused
+      && ran_out frame (message_answer state.setting state.forest state.sessions session now m))
       (answered state name session frame refused
       (message_answer state.setting state.forest state.sessions session now m))
   by_message (Tversion msize version) is =
-      given_by state name session frame there least refused _
+      given_by state name session frame there least tagged refused _
       (ap (after_refusal state name session) is)
-      (fitting-version (reply_max session) state.setting state.forest session least now msize
-      version)
+      (done-map (VersionDone state.setting state.forest session now msize)
+      (Replies (reply_max session)) _
+      (replies-version (reply_max session) state.setting state.forest session ok.forest least now
+      msize)
+      (version-done state.setting state.forest session now msize version))
   by_message (Tauth afid uname aname) is =
-      given_by state name session frame there least refused _
-      (ap (after_refusal state name session) is) (done-err (Replies (reply_max session)) _)
+      given_by state name session frame there least tagged refused _
+      (ap (after_refusal state name session) is) (done-err (Replies (reply_max session)) _ refl)
   by_message (Tattach fid afid uname aname) is =
       let w = wide_for session frame _ short is refl in
-      given_by state name session frame there least refused _
+      given_by state name session frame there least tagged refused _
       (ap (after_refusal state name session) is)
-      (fitting-attach (reply_max session) state.setting state.forest session w.wide fid afid
-      uname aname)
+      (done-map (AttachDone state.setting state.forest session fid uname)
+      (Replies (reply_max session)) _
+      (replies-attach (reply_max session) state.setting state.forest session ok.forest w.wide fid
+      uname)
+      (attach-done state.setting state.forest session fid afid uname aname))
   by_message (Tflush oldtag) is =
-      given_by state name session frame there least refused _
+      given_by state name session frame there least tagged refused _
       (ap (after_refusal state name session) is)
       (done-ok (Replies (reply_max session)) _ (record {
+        numbers = tt;
         fits = tt;
         short = omega (arith, least);
         plain = refl;
       }))
   by_message (Twalk fid newfid names) is =
       let w = wide_for session frame _ short is refl in
-      given_by state name session frame there least refused _
+      given_by state name session frame there least tagged refused _
       (ap (after_refusal state name session) is)
-      (fitting-walk (reply_max session) state.setting state.forest session w.wide fid newfid
-      names (few_names fid newfid names is))
+      (done-map (WalkDone state.setting state.forest session fid newfid names)
+      (Replies (reply_max session)) _
+      (λ o. replies-walk (reply_max session) state.setting state.forest session ok.forest w.wide fid
+      newfid names o (few_names fid newfid names is))
+      (walk-done state.setting state.forest session fid newfid names))
   by_message (Topen fid mode) is =
       let w = wide_for session frame _ short is refl in
-      given_by state name session frame there least refused _
+      given_by state name session frame there least tagged refused _
       (ap (after_refusal state name session) is)
-      (fitting-open (reply_max session) state.setting state.forest session w.wide _ now fid
-      mode)
+      (done-map (OpenDone state.setting state.forest session now fid)
+      (Replies (reply_max session)) _
+      (replies-open (reply_max session) state.setting state.forest session ok.forest w.wide w.room
+      w.frames now fid)
+      (open-done state.setting state.forest session _ now fid mode))
   by_message (Tcreate fid new perm mode) is =
       let w = wide_for session frame _ short is refl in
-      given_by state name session frame there least refused _
+      given_by state name session frame there least tagged refused _
       (ap (after_refusal state name session) is)
-      (fitting-create (reply_max session) state.setting state.forest session w.wide now fid new
-      perm mode)
+      (done-map (CreateDone state.setting state.forest session now fid new)
+      (Replies (reply_max session)) _
+      (replies-create (reply_max session) state.setting state.forest session ok.forest w.wide
+      w.room w.frames now fid new)
+      (create-done state.setting state.forest session now fid new perm mode))
   by_message (Tread fid offset count) is =
       let w = wide_for session frame _ short is refl in
-      given_by state name session frame there least refused _
+      given_by state name session frame there least tagged refused _
       (ap (after_refusal state name session) is)
-      (fitting-read (reply_max session) state.setting state.forest session w.wide w.room
+      (done-map (ReadDone state.setting state.forest session now fid offset count)
+      (Replies (reply_max session)) _
+      (replies-read (reply_max session) state.setting state.forest session ok.forest w.wide w.room
       w.frames now fid offset count)
+      (read-done state.setting state.forest session now fid offset count))
   by_message (Twrite fid offset written) is =
       let w = wide_for session frame _ short is refl in
-      given_by state name session frame there least refused _
+      given_by state name session frame there least tagged refused _
       (ap (after_refusal state name session) is)
-      (fitting-write (reply_max session) state.setting state.forest session w.wide now fid
-      offset written)
+      (done-map (WriteDone state.setting state.forest session now fid offset written)
+      (Replies (reply_max session)) _
+      (replies-write (reply_max session) state.setting state.forest session ok.forest w.wide now
+      fid offset written)
+      (write-done state.setting state.forest session now fid offset written))
   by_message (Tclunk fid) is =
       let w = wide_for session frame _ short is refl in
-      given_by state name session frame there least refused _
+      given_by state name session frame there least tagged refused _
       (ap (after_refusal state name session) is)
-      (fitting-clunk (reply_max session) state.setting state.forest session w.wide now fid)
+      (done-map (ClunkDone state.setting state.forest session now fid)
+      (Replies (reply_max session)) _
+      (replies-clunk (reply_max session) state.setting state.forest session ok.forest w.wide now
+      fid)
+      (clunk-done state.setting state.forest session now fid))
   by_message (Tremove fid) is =
-      removed_by state name session frame there least refused now fid
+      removed_by state name session frame there least tagged refused now fid ok.forest
       (wide_for session frame _ short is refl) is
   by_message (Tstat fid) is =
       let w = wide_for session frame _ short is refl in
-      given_by state name session frame there least refused _
+      given_by state name session frame there least tagged refused _
       (ap (after_refusal state name session) is)
-      (fitting-stat (reply_max session) state.setting state.forest session w.wide ok.forest fid)
+      (done-map (StatDone state.setting state.forest session fid) (Replies (reply_max session)) _
+      (replies-stat (reply_max session) state.setting state.forest session ok.forest w.wide fid)
+      (stat-done state.setting state.forest session fid))
   by_message (Twstat fid stat) is =
       let w = wide_for session frame _ short is refl in
-      given_by state name session frame there least refused _
+      given_by state name session frame there least tagged refused _
       (ap (after_refusal state name session) is)
-      (fitting-wstat (reply_max session) state.setting state.forest session w.wide now fid stat)
+      (done-map (WstatDone state.setting state.forest session now fid stat)
+      (Replies (reply_max session)) _
+      (replies-wstat (reply_max session) state.setting state.forest session ok.forest w.wide now
+      fid stat)
+      (wstat-done state.setting state.forest session now fid stat))
 
   by_request : (r : Result TMessage Fault) → request_of session frame ≡ r
-      → Given state name session frame there least
+      → Given state name session frame there least tagged
+      (refused
+      && ran_out frame
+      (and_then r (message_answer state.setting state.forest state.sessions session now)))
       (answered state name session frame refused
       (and_then r (message_answer state.setting state.forest state.sessions session now)))
   by_request (Err fault) is =
-      given_by state name session frame there least refused (Err fault)
-      (ap (after_refusal state name session) is) (done-err (Replies (reply_max session)) fault)
+      given_by state name session frame there least tagged refused (Err fault)
+      (ap (after_refusal state name session) is)
+      (done-err (Replies (reply_max session)) fault (request_of-of session frame fault is))
   by_request (Ok m) is = by_message m is
 
 pub every-frame-is-answered : EveryFrameIsAnswered
 unfolding Given
 every-frame-is-answered state name session frame now refused ok there whole bytes =
     let its =
-    session-sound state.setting.table state.forest state.sessions ok.forest ok.sound name
-    session there in
+    session-served state.setting state.forest state.sessions ok.forest ok.served name session
+    there in
     rw (whole, there)
-    (by_request state name session frame now refused ok there bytes its.1
+    (by_request state name session frame now refused ok there bytes its.msize
     (request_of session frame) refl)

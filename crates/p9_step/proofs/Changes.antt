@@ -3,8 +3,8 @@ use Rattle.std.proofs.Common.{◌≡◌, ℕ, List, [], ◌∷◌, inl, inr, Som
 use Rattle.p9_tree.specs.Node.{Node, is_dir}
 use Rattle.p9_tree.specs.Server.{Server, added, node_at, with_changed, with_dropped}
 use Rattle.p9_tree.specs.Forest.{next_of, node_of, server_at}
-use Rattle.p9_step.specs.Change.{Change, EditNode, AddNode, DropNode, Edit, Mark, Touch}
-use Rattle.p9_step.specs.Change.{Overwrite, Cut, applied, all_applied, edited}
+use Rattle.p9_step.specs.Change.{Change, EditNode, AddNode, DropNode, Edit, Mark, applied}
+use Rattle.p9_step.specs.Change.{all_applied, edited}
 use Rattle.p9_step.proofs.Members.{member-changed_at, member-dropped_at, member-joined}
 use Rattle.p9_step.proofs.Evolves.{Evolved, Evolves, evolves-same, evolves-tree, evolves-twice}
 
@@ -14,16 +14,16 @@ pub record Keeps (edit : Edit) (n : Node) : Type 0 where
   pub dir : is_dir (edited edit n) ≡ is_dir n
 
 -- what lets the forest evolve
-abbrev pub IsLawful : List Server → Change → Type 0
-IsLawful forest (EditNode at edit) = (n : Node) → node_of at forest ≡ Some n → Keeps edit n
-IsLawful forest (AddNode server node) = node.number ≡ next_of server forest
-IsLawful forest (DropNode at) = Unit {0}
+abbrev pub IsSteady : List Server → Change → Type 0
+IsSteady forest (EditNode at edit) = (n : Node) → node_of at forest ≡ Some n → Keeps edit n
+IsSteady forest (AddNode server node) = node.number ≡ next_of server forest
+IsSteady forest (DropNode at) = Unit {0}
 
 -- the same of each of them, one after another
-abbrev pub AllLawful : List Server → List Change → Type 0
-AllLawful forest [] = Unit {0}
-AllLawful forest (change ∷ changes) =
-    IsLawful forest change × AllLawful (applied change forest) changes
+abbrev pub AllSteady : List Server → List Change → Type 0
+AllSteady forest [] = Unit {0}
+AllSteady forest (change ∷ changes) =
+    IsSteady forest change × AllSteady (applied change forest) changes
 
 evolved-edit : (s : Server) (k : ℕ) (f : Node → Node)
     → ((n : Node) → node_at k s.nodes ≡ Some n
@@ -59,43 +59,31 @@ evolved-add s y number = record {
   ];
 }
 
--- after a lawful change the forest has evolved
-pub evolves-applied : (forest : List Server) (change : Change) → IsLawful forest change
+-- after a steady change the forest has evolved
+pub evolves-applied : (forest : List Server) (change : Change) → IsSteady forest change
     → Evolves forest (applied change forest)
 unfolding applied
-evolves-applied forest (EditNode at edit) lawful =
+evolves-applied forest (EditNode at edit) steady =
     evolves-tree forest at.server (with_changed at.number (edited edit))
     (evolved-edit (server_at at.server forest) at.number (edited edit)
-    (λ n found. let kept = lawful n found in (kept.number, kept.dir)))
-evolves-applied forest (AddNode server node) lawful =
+    (λ n found. let kept = steady n found in (kept.number, kept.dir)))
+evolves-applied forest (AddNode server node) steady =
     evolves-tree forest server (λ s. added s node)
-    (evolved-add (server_at server forest) node lawful)
-evolves-applied forest (DropNode at) lawful =
+    (evolved-add (server_at server forest) node steady)
+evolves-applied forest (DropNode at) steady =
     evolves-tree forest at.server (with_dropped at.number)
     (evolved-drop (server_at at.server forest) at.number)
 
 -- and after all of them
-pub evolves-all : (forest : List Server) (changes : List Change) → AllLawful forest changes
+pub evolves-all : (forest : List Server) (changes : List Change) → AllSteady forest changes
     → Evolves forest (all_applied changes forest)
-evolves-all forest [] lawful = evolves-same forest
-evolves-all forest (change ∷ changes) lawful =
+evolves-all forest [] steady = evolves-same forest
+evolves-all forest (change ∷ changes) steady =
     evolves-twice forest (applied change forest) (all_applied changes (applied change forest))
-    (evolves-applied forest change lawful.0)
-    (evolves-all (applied change forest) changes lawful.1)
+    (evolves-applied forest change steady.0)
+    (evolves-all (applied change forest) changes steady.1)
 
--- the edits of requests, but for wstat's, keep any node
+-- a mark keeps any node
 pub keeps-mark : (user : List ℕ) (now : ℕ) (n : Node) → Keeps (Mark user now) n
 unfolding edited
 keeps-mark user now n = record { number = refl; dir = refl }
-
-pub keeps-touch : (now : ℕ) (n : Node) → Keeps (Touch now) n
-unfolding edited
-keeps-touch now n = record { number = refl; dir = refl }
-
-pub keeps-overwrite : (offset : ℕ) (bytes : List ℕ) (n : Node) → Keeps (Overwrite offset bytes) n
-unfolding edited
-keeps-overwrite offset bytes n = record { number = refl; dir = refl }
-
-pub keeps-cut : (size : ℕ) (n : Node) → Keeps (Cut size) n
-unfolding edited
-keeps-cut size n = record { number = refl; dir = refl }

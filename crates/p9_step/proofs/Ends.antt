@@ -21,7 +21,7 @@ use Rattle.p9_step.specs.State.{fid_file, fid_ref}
 use Rattle.p9_step.specs.End.{on_end, on_ends, parent_marked}
 use Rattle.p9_step.specs.End.{removes_on_close, taken_out}
 use Rattle.p9_step.proofs.Members.{found-member, member-node_at}
-use Rattle.p9_step.proofs.Changes.{AllLawful, evolves-all, keeps-mark}
+use Rattle.p9_step.proofs.Changes.{AllSteady, evolves-all, keeps-mark}
 use Rattle.p9_step.proofs.OpenFids.{fits-evolved}
 
 -- what is found in a server that is well-formed or isn't there
@@ -120,46 +120,36 @@ pub applied-append : (xs ys : List Change) (forest : List Server)
 applied-append [] ys forest = refl
 applied-append (x ∷ xs) ys forest = applied-append xs ys (applied x forest)
 
--- lawful changes, one list after another, are lawful
-pub lawful-append : (forest : List Server) (xs ys : List Change) → AllLawful forest xs
-    → AllLawful (all_applied xs forest) ys → AllLawful forest (xs ++ ys)
-lawful-append forest [] ys first second = second
-lawful-append forest (x ∷ xs) ys first second =
-    (first.0, lawful-append (applied x forest) xs ys first.1 second)
+-- steady changes, one list after another, are steady
+pub steady-append : (forest : List Server) (xs ys : List Change) → AllSteady forest xs
+    → AllSteady (all_applied xs forest) ys → AllSteady forest (xs ++ ys)
+steady-append forest [] ys first second = second
+steady-append forest (x ∷ xs) ys first second =
+    (first.0, steady-append (applied x forest) xs ys first.1 second)
 
--- to mark a directory is lawful
-pub lawful-parent_marked : (forest : List Server) (user : List ℕ) (now : ℕ) (at : NodeRef)
-    (parent : Option ℕ) → AllLawful forest (parent_marked user now at parent)
-lawful-parent_marked forest user now at None = tt
-lawful-parent_marked forest user now at (Some p) = ((λ n found. keeps-mark user now n), tt)
+-- to mark a directory is steady
+pub steady-parent_marked : (forest : List Server) (user : List ℕ) (now : ℕ) (at : NodeRef)
+    (parent : Option ℕ) → AllSteady forest (parent_marked user now at parent)
+steady-parent_marked forest user now at None = tt
+steady-parent_marked forest user now at (Some p) = ((λ n found. keeps-mark user now n), tt)
 
--- to take out a node is lawful
-pub lawful-taken_out : (forest : List Server) (user : List ℕ) (now : ℕ) (at : NodeRef) (n : Node)
-    → AllLawful forest (taken_out user now at n)
-lawful-taken_out forest user now at n =
-    (tt, lawful-parent_marked (applied (DropNode at) forest) user now at n.parent)
+-- to take out a node is steady
+pub steady-taken_out : (forest : List Server) (user : List ℕ) (now : ℕ) (at : NodeRef) (n : Node)
+    → AllSteady forest (taken_out user now at n)
+steady-taken_out forest user now at n =
+    (tt, steady-parent_marked (applied (DropNode at) forest) user now at n.parent)
 
 module _ (table : List MountRow) (now : ℕ) where
-  -- what the end of a fid changes is lawful
-  pub lawful-on_end : (forest : List Server) (v : Fid)
-      → AllLawful forest (on_end table now forest v)
-  lawful-on_end forest v = go (removes_on_close v) refl (fid_file table forest v) refl
+  -- what the end of a fid changes is steady
+  pub steady-on_end : (forest : List Server) (v : Fid)
+      → AllSteady forest (on_end table now forest v)
+  steady-on_end forest v = go (removes_on_close v) refl (fid_file table forest v) refl
     where
       go : (b : Bool) → removes_on_close v ≡ b → (o : Option Node) → fid_file table forest v ≡ o
-          → AllLawful forest (on_end table now forest v)
+          → AllSteady forest (on_end table now forest v)
       go false e o is = rw e tt
       go true e None is = rw (e, is) tt
-      go true e (Some n) is = rw (e, is) (lawful-taken_out forest v.user now (fid_ref table v) n)
-
-  -- and what the end of all of them does
-  pub lawful-on_ends : (forest : List Server) (fids : List FidRow)
-      → AllLawful forest (on_ends table now forest fids)
-  lawful-on_ends forest [] = tt
-  lawful-on_ends forest (row ∷ rows) =
-      lawful-append forest (on_end table now forest row.1)
-      (on_ends table now (all_applied (on_end table now forest row.1) forest) rows)
-      (lawful-on_end forest row.1)
-      (lawful-on_ends (all_applied (on_end table now forest row.1) forest) rows)
+      go true e (Some n) is = rw (e, is) (steady-taken_out forest v.user now (fid_ref table v) n)
 
   -- the first fid ends, then the others
   pub ends-first : (forest : List Server) (row : FidRow) (rows : List FidRow)
@@ -176,7 +166,7 @@ module _ (table : List MountRow) (now : ℕ) where
       → FidsFit table (all_applied (on_end table now forest row.1) forest) rows
   fits-ended forest row rows sound fits =
       fits-evolved table forest (all_applied (on_end table now forest row.1) forest) sound
-      (evolves-all forest (on_end table now forest row.1) (lawful-on_end forest row.1)) rows fits.1
+      (evolves-all forest (on_end table now forest row.1) (steady-on_end forest row.1)) rows fits.1
 
 -- what is open with remove-on-close may be dropped
 pub removed_leaf : (table : List MountRow) (forest : List Server) (v : Fid) (at : NodeRef)

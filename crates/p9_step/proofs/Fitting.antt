@@ -1,125 +1,54 @@
 -- The replies of outcomes: each has a spelling, of no more bytes than the session takes, and is no
 -- refusal.
-use Rattle.std.proofs.Common.{◌≡◌, ℕ, ◌+◌, ◌-◌, ◌≤◌, ◌&&◌, Bool, true, false, List, [], ◌∷◌, length}
-use Rattle.std.proofs.Common.{Option, Some, None, Result, Ok, Err, refl, sym, subst, arith, IsTrue}
-use Rattle.std.proofs.Common.{codes}
-use Rattle.std.specs.Prelude.{◌==◌, ◌||◌, min, nat_le, not, slice_get}
-use Rattle.std.specs.Str.{bytes_eq}
-use Rattle.std.specs.List.{flat_map, list_any}
-use Rattle.std.proofs.lemmas.Bool.{and_parts}
+use Rattle.std.proofs.Common.{Bool, Err, List, None, Ok, Option, Result, Some, [], arith, false}
+use Rattle.std.proofs.Common.{inl, inr, length, refl, subst, sym, true, ℕ, ◌++◌, ◌+◌, ◌-◌, ◌∷◌, ◌≡◌}
+use Rattle.std.proofs.Common.{◌≤◌}
+use Rattle.std.proofs.Math.Nat.{mod-lt}
 use Rattle.std.proofs.lemmas.Bool.Decides.{nat_tests}
 use Rattle.std.proofs.lemmas.List.{length-append, length-take}
 use Rattle.std.proofs.lemmas.List.Concat.{flat_map-cons}
-use Rattle.p9_base.proofs.Texts.{is_text-ascii}
+use Rattle.std.specs.List.{AllByRecursion, flat_map}
+use Rattle.std.specs.Prelude.{codes, min, nat_le}
+use Rattle.p9_base.specs.NodeRef.{beside}
 use Rattle.p9_base.specs.declared.fault.Fault.{Fault}
+use Rattle.p9_base.specs.declared.fault.Fault.TheVariants.{PhaseError}
 use Rattle.p9_base.specs.declared.node_ref.NodeRef.{NodeRef}
-use Rattle.p9_base.specs.declared.qid.Qid.{Qid}
-use Rattle.p9_base.specs.Name.{is_name}
-use Rattle.p9_base.specs.Text.{is_text}
-use Rattle.p9_base.specs.User.{is_user}
-use Rattle.p9_tree.specs.Bytes.{read_from}
-use Rattle.p9_tree.specs.Node.{Node, is_dir, root_name}
-use Rattle.p9_tree.specs.Server.{IsSound, Server, node_at}
-use Rattle.p9_tree.specs.Forest.{IsForest, node_of}
-use Rattle.p9_wire.specs.Fields.{FitsStat, FitsText, stat_len}
+use Rattle.p9_base.proofs.Texts.{is_text-ascii}
+use Rattle.p9_tree.specs.Bytes.{cut_to, read_from}
+use Rattle.p9_tree.specs.Forest.{IsForest, next_of}
+use Rattle.p9_tree.specs.Node.{Node, marked, with_bytes}
+use Rattle.p9_tree.specs.Server.{Server}
+use Rattle.p9_space.specs.Place.{file_of, file_ref, root_place}
+use Rattle.p9_space.specs.Trail.{here, stepped}
+use Rattle.p9_space.specs.Walk.{step_of}
+use Rattle.p9_space.specs.declared.trail.Step.{Step}
+use Rattle.p9_wire.specs.Fields.{QidNumbersFit}
 use Rattle.p9_wire.specs.Frame.{msize_max}
-use Rattle.p9_wire.specs.Message.{Rread, StatFields}
-use Rattle.p9_wire.specs.Spelling.{RFits, r_len}
-use Rattle.p9_space.specs.Table.{members_of}
-use Rattle.p9_space.specs.Trail.{here}
-use Rattle.p9_fids.specs.declared.opened.Cursor.{Cursor}
-use Rattle.p9_fids.specs.declared.opened.Opened.{Opened}
+use Rattle.p9_wire.specs.Message.{Rcreate, Rread, StatFields}
+use Rattle.p9_wire.specs.Spelling.{RFits, RNumbersFit, r_len}
 use Rattle.p9_fids.specs.Fid.{Fid}
-use Rattle.p9_step.specs.State.{Setting, Session, fid_ref, room_of}
 use Rattle.p9_step.specs.Answer.{Outcome, is_error}
-use Rattle.p9_step.specs.Attach.{attach_answer}
-use Rattle.p9_step.specs.Clunk.{clunk_answer}
-use Rattle.p9_step.specs.Create.{create_answer, created_in, target_among}
+use Rattle.p9_step.specs.Change.{AddNode, EditNode, Mark, edited}
+use Rattle.p9_step.specs.Create.{created, entered}
 use Rattle.p9_step.specs.Listing.{Entry}
-use Rattle.p9_step.specs.Open.{open_answer}
-use Rattle.p9_step.specs.Qid.{stat_of}
-use Rattle.p9_step.specs.Read.{entry_bytes, fitting, given_of, read_answer, read_dir, read_file}
-use Rattle.p9_step.specs.Remove.{removal}
-use Rattle.p9_step.specs.Stat.{stat_answer}
-use Rattle.p9_step.specs.Version.{begun, is_known, not_spoken, version_answer}
-use Rattle.p9_step.specs.Walk.{ended_walk, going_on, walk_answer, walked, arrived_by, Arrival}
-use Rattle.p9_step.specs.Write.{write_answer, write_file}
-use Rattle.p9_step.specs.Wstat.{wstat_answer}
-use Rattle.p9_step.proofs.Done.{OnDone, done-err, done-given, done-need, done-ok, done-then}
-use Rattle.p9_step.proofs.Done.{done-unless}
-use Rattle.p9_step.proofs.Kept.{done-if}
+use Rattle.p9_step.specs.Open.{is_cut, truncated}
+use Rattle.p9_step.specs.Qid.{qid_of}
+use Rattle.p9_step.specs.Read.{entry_bytes, fitting}
+use Rattle.p9_step.specs.State.{Session, Setting, fid_ref, room_of}
+use Rattle.p9_step.specs.Walk.{Arrival, arrival, arrived_by, going_on, walked}
+use Rattle.p9_step.proofs.Lawful.{node-sound}
+use Rattle.p9_step.proofs.Passed.{AttachDone, ClunkDone, CreateDone, OpenDone, ReadDone}
+use Rattle.p9_step.proofs.Passed.{RemovalDone, StatDone, VersionDone, WalkDone, WriteDone}
+use Rattle.p9_step.proofs.Passed.{WstatDone, can_create}
+use Rattle.p9_step.proofs.Told.{IsSmall, node_of-small, qid-small, qid_fits, stat_fits}
+use Rattle.p9_step.proofs.Told.{stat_numbers_fit}
 
 -- the reply has a spelling, is no longer than so many bytes, and is no refusal
 pub record Replies (most : ℕ) (outcome : Outcome) : Type 0 where
+  pub numbers : RNumbersFit outcome.reply
   pub fits : RFits outcome.reply
   pub short : 7 + r_len outcome.reply ≤ most
   pub plain : is_error outcome.reply ≡ false
-
--- What is told of a node fits.
-
--- a node that exists is sound
-pub sound_node : (forest : List Server) (at : NodeRef) (n : Node) → IsForest forest
-    → node_of at forest ≡ Some n → IsSound n
-sound_node forest at n sound found = go (slice_get forest at.server) refl
-  where
-    go : (o : Option Server) → slice_get forest at.server ≡ o → IsSound n
-    go None e = let none : None ≡ Some n = rw e at found in cc
-    go (Some s) e =
-        let here : node_at at.number s.nodes ≡ Some n = rw e at found in
-        (sound.servers at.server s e).sound at.number n here
-
-user_fits : (user : List ℕ) → IsTrue (is_user user) → FitsText user × (length user ≤ 63)
-user_fits user is =
-    let first = and_parts (nat_le 1 (length user) && nat_le (length user) 63) (is_text user) is in
-    let second = and_parts (nat_le 1 (length user)) (nat_le (length user) 63) first.0 in
-    let le : length user ≤ 63 = grind (arith, nat_tests, second.1) in
-    (record { short = omega arith; valid = first.1 }, le)
-
-name_fits : (n : Node) → IsSound n → FitsText n.name × (length n.name ≤ 255)
-name_fits n sound = go n.parent refl
-  where
-    of_root : n.name ≡ root_name → FitsText n.name × (length n.name ≤ 255)
-    of_root is =
-        subst (λ name. FitsText name × (length name ≤ 255)) (sym is) (
-          record {
-            short = omega arith;
-            valid = is_text-ascii root_name refl refl;
-          },
-          omega arith,
-        )
-
-    of_entry : IsTrue (is_name n.name) → FitsText n.name × (length n.name ≤ 255)
-    of_entry is =
-        let sizes = nat_le 1 (length n.name) && nat_le (length n.name) 255 in
-        let first =
-        and_parts (sizes && is_text n.name && not (list_any (λ b. b == 47) n.name))
-        (not (bytes_eq n.name (codes ".") || bytes_eq n.name (codes ".."))) is in
-        let second =
-        and_parts (sizes && is_text n.name) (not (list_any (λ b. b == 47) n.name)) first.0 in
-        let third = and_parts sizes (is_text n.name) second.0 in
-        let fourth = and_parts (nat_le 1 (length n.name)) (nat_le (length n.name) 255) third.0 in
-        let le : length n.name ≤ 255 = grind (arith, nat_tests, fourth.1) in
-        (record { short = omega arith; valid = third.1 }, le)
-
-    go : (o : Option ℕ) → n.parent ≡ o → FitsText n.name × (length n.name ≤ 255)
-    go None e = of_root (sound.root_name e)
-    go (Some p) e = of_entry (sound.valid_name p e)
-
-stat_fits : (at : NodeRef) (n : Node) → IsSound n
-    → FitsStat (stat_of at n) × (stat_len (stat_of at n) ≤ 493)
-stat_fits at n sound =
-    let name = name_fits n sound in
-    let uid = user_fits n.uid sound.tellable.0.0 in
-    let gid = user_fits n.gid sound.tellable.0.1 in
-    let muid = user_fits n.muid sound.tellable.0.2 in
-    let a = name.1 in
-    let b = uid.1 in
-    let c = gid.1 in
-    let d = muid.1 in (
-      record { name = name.0; uid = uid.0; gid = gid.0; muid = muid.0; short = omega arith },
-      omega
-          arith,
-    )
 
 -- No more names than a walk has.
 
@@ -158,190 +87,251 @@ length-fitting room (entry ∷ es) =
         rw (is, flat_map-cons entry_bytes entry (fitting (room - length (entry_bytes entry)) es))
         (simp (length-append) (omega (arith, le, later)))
 
+-- Each qid that a walk gives fits.
+
+qids_fit : (setting : Setting) (forest : List Server) → IsForest forest → (user : List ℕ)
+    (trail : List NodeRef) (names : List (List ℕ))
+    → AllByRecursion QidNumbersFit (walked setting forest user trail names).qids
+qids_fit setting forest sound user trail [] = tt
+qids_fit setting forest sound user trail (name ∷ names) =
+    go (arrived_by setting forest user trail name) refl
+    (λ next. qids_fit setting forest sound user next names)
+  where
+    arrived_fits : (a : Arrival) → arrived_by setting forest user trail name ≡ Ok a
+        → QidNumbersFit a.qid
+    arrived_fits a e = by_step (step_of forest setting.table (Some user) trail name) refl
+      where
+        by_file : (step : Step) (o : Option Node)
+            → file_of (here (stepped trail step)) setting.table forest ≡ o
+            → arrival setting forest trail step ≡ Ok a → QidNumbersFit a.qid
+        by_file step None found t =
+            let no : Err PhaseError ≡ Ok a = rw found at t in absurd (cc)
+        by_file step (Some n) found t =
+            let at = file_ref (here (stepped trail step)) setting.table in
+            let is : Ok (record { trail = stepped trail step; qid = qid_of at n }) ≡ Ok a =
+            rw found at t in
+            let same : qid_of at n ≡ a.qid = cc in
+            subst QidNumbersFit same (qid_fits forest at n sound found)
+
+        by_step : (r : Result Step Fault)
+            → step_of forest setting.table (Some user) trail name ≡ r → QidNumbersFit a.qid
+        by_step (Err fault) t = let no : Err fault ≡ Ok a = rw t at e in absurd (cc)
+        by_step (Ok step) t =
+            by_file step (file_of (here (stepped trail step)) setting.table forest) refl
+            (rw t at e)
+
+    go : (r : Result Arrival Fault) → arrived_by setting forest user trail name ≡ r
+        → ((next : List NodeRef)
+        → AllByRecursion QidNumbersFit (walked setting forest user next names).qids)
+        → AllByRecursion QidNumbersFit
+        (going_on setting forest trail r (λ next. walked setting forest user next names)).qids
+    go (Err fault) e later = tt
+    go (Ok a) e later = (arrived_fits a e, later a.trail)
+
 -- The messages, in the manual's order.
 
-module _ (most : ℕ) (setting : Setting) (forest : List Server) (session : Session) where
-  pub fitting-version : 43 ≤ most → (now msize : ℕ) (version : List ℕ)
-      → OnDone (Replies most) (version_answer setting forest session now msize version)
-  fitting-version wide now msize version =
-      done-need (Replies most) _ _ _
-      (λ e. done-if (Replies most) (is_known version) (begun setting forest session now _)
-      (not_spoken session _)
-      (done-ok (Replies most) _ (record {
-        fits = record { short = omega arith; valid = is_text-ascii (codes "9P2000") refl refl };
-        short = omega (arith, wide);
-        plain = refl;
-      }))
-      (done-ok (Replies most) _ (record {
-        fits = record { short = omega arith; valid = is_text-ascii (codes "unknown") refl refl };
-        short = omega (arith, wide);
-        plain = refl;
-      })))
+module _ (most : ℕ) (setting : Setting) (forest : List Server) (session : Session)
+    (sound : IsForest forest) where
+  pub replies-version : 43 ≤ most → (now msize : ℕ) (o : Outcome)
+      → VersionDone setting forest session now msize o → Replies most o
+  replies-version wide now msize o done = elim done.is [
+    | inl is ↦ subst (Replies most) (sym is) (record {
+      numbers = omega arith;
+      fits = record { short = omega arith; valid = is_text-ascii (codes "9P2000") refl refl };
+      short = omega (arith, wide);
+      plain = refl;
+    })
+    | inr is ↦ subst (Replies most) (sym is) (record {
+      numbers = omega arith;
+      fits = record { short = omega arith; valid = is_text-ascii (codes "unknown") refl refl };
+      short = omega (arith, wide);
+      plain = refl;
+    })
+  ]
 
   module _ (wide : 512 ≤ most) where
-    pub fitting-attach : (fid afid : ℕ) (uname aname : List ℕ)
-        → OnDone (Replies most) (attach_answer setting forest session fid afid uname aname)
-    fitting-attach fid afid uname aname =
-        done-unless (Replies most) _ _
-        (λ e1. done-need (Replies most) _ _ _
-        (λ e2. done-given (Replies most) _ _ _
-        (λ user e3. done-need (Replies most) _ _ _
-        (λ e4. done-given (Replies most) _ _ _ (λ file e5.
-        done-ok (Replies most)
-        _ (record { fits = tt; short = omega (arith, wide); plain = refl }))))))
-
-    fitting-ended_walk : (fid newfid : ℕ) (v : Fid) (trail : List NodeRef) (stopped : Option Fault)
-        (qids : List Qid) → length qids ≤ 16
-        → OnDone (Replies most) (ended_walk fid newfid v session trail stopped qids)
-    fitting-ended_walk fid newfid v trail None qids few =
-        done-ok (Replies most) _ (record {
-          fits = few;
-          short = omega (arith, wide, few);
-          plain = refl;
-        })
-    fitting-ended_walk fid newfid v trail (Some fault) [] few = done-err (Replies most) fault
-    fitting-ended_walk fid newfid v trail (Some fault) (qid ∷ qids) few =
-        done-ok (Replies most) _ (record {
-          fits = few;
-          short = omega (arith, wide, few);
+    pub replies-attach : (fid : ℕ) (uname : List ℕ) (o : Outcome)
+        → AttachDone setting forest session fid uname o → Replies most o
+    replies-attach fid uname o done =
+        subst (Replies most) (sym done.is) (record {
+          numbers =
+              qid_fits forest (file_ref root_place setting.table) done.file sound done.there;
+          fits = tt;
+          short = omega (arith, wide);
           plain = refl;
         })
 
-    pub fitting-walk : (fid newfid : ℕ) (names : List (List ℕ)) → length names ≤ 16
-        → OnDone (Replies most) (walk_answer setting forest session fid newfid names)
-    fitting-walk fid newfid names few =
-        done-given (Replies most) _ _ _
-        (λ v e1. done-need (Replies most) _ _ _ (λ e2. done-unless (Replies most) _ _ (λ e3.
-        let w =
-        length-walked setting forest v.user v.trail names in
-        fitting-ended_walk fid newfid v _ _ _ (omega (arith, w, few)))))
+    pub replies-walk : (fid newfid : ℕ) (names : List (List ℕ)) (o : Outcome) → length names ≤ 16
+        → WalkDone setting forest session fid newfid names o → Replies most o
+    replies-walk fid newfid names o few done =
+        let w = walked setting forest done.v.user done.v.trail names in
+        let less : length w.qids ≤ 16 =
+        omega (arith, few, length-walked setting forest done.v.user done.v.trail names) in
+        let numbers : AllByRecursion QidNumbersFit w.qids =
+        qids_fit setting forest sound done.v.user done.v.trail names in
+        elim done.is [
+          | inl is ↦ subst (Replies most) (sym is) (record {
+            numbers = numbers;
+            fits = less;
+            short = omega (arith, wide, less);
+            plain = refl;
+          })
+          | inr is ↦ subst (Replies most) (sym is) (record {
+            numbers = numbers;
+            fits = less;
+            short = omega (arith, wide, less);
+            plain = refl;
+          })
+        ]
 
-    pub fitting-open : (taken : Bool) (now fid bits : ℕ)
-        → OnDone (Replies most) (open_answer setting forest taken session now fid bits)
-    fitting-open taken now fid bits =
-        done-given (Replies most) _ _ _
-        (λ v e1. done-need (Replies most) _ _ _
-        (λ e2. done-given (Replies most) _ _ _
-        (λ n e3. done-given (Replies most) _ _ _
-        (λ o e4. done-need (Replies most) _ _ _
-        (λ e5. done-need (Replies most) _ _ _ (λ e6. done-need (Replies most) _ _ _ (λ e7.
-        done-ok (Replies most)
-        _ (record { fits = tt; short = omega (arith, wide); plain = refl }))))))))
-
-    pub fitting-create : (now fid : ℕ) (name : List ℕ) (perm bits : ℕ)
-        → OnDone (Replies most) (create_answer setting forest session now fid name perm bits)
-    fitting-create now fid name perm bits =
-        done-given (Replies most) _ _ _
-        (λ v e1. done-need (Replies most) _ _ _
-        (λ e2. done-need (Replies most) _ _ _
-        (λ e3. done-given (Replies most) _ _ _
-        (λ o e4. done-given (Replies most) _ _ _ (λ asked e5.
-        done-need (Replies most) _ _ _
-        (λ e6. done-then (Replies most)
-        (target_among forest (members_of (here v.trail) setting.table))
-        (created_in forest session now fid v name asked o) (λ target e7.
-        done-given (Replies most) _ _ _
-        (λ dir e8. done-unless (Replies most) _ _ (λ e9. done-ok (Replies most) _ (record {
+    pub replies-clunk : (now fid : ℕ) (o : Outcome) → ClunkDone setting forest session now fid o
+        → Replies most o
+    replies-clunk now fid o done =
+        subst (Replies most) (sym done.is) (record {
+          numbers = tt;
           fits = tt;
           short = omega (arith, wide);
           plain = refl;
-        }))))))))))
+        })
 
-    module _ (room : 24 + room_of session ≤ most) (frames : most ≤ msize_max) where
-      fitting-data : (bytes : List ℕ) (count : ℕ) → length bytes ≤ min count (room_of session)
-          → (RFits (Rread bytes)) × (7 + r_len (Rread bytes) ≤ most)
-      fitting-data bytes count le = (omega (arith, le, room, frames), omega (arith, le, room))
-
-      fitting-given_of : (fid : ℕ) (o : Opened) (offset : ℕ) (cursor : Option Cursor)
-          (left given : List Entry) (count : ℕ)
-          → length (flat_map entry_bytes given) ≤ min count (room_of session)
-          → OnDone (Replies most) (given_of session fid o offset cursor left given)
-      fitting-given_of fid o offset cursor [] given count le =
-          let d = fitting-data (flat_map entry_bytes given) count le in
-          done-ok (Replies most) _ (record { fits = d.0; short = d.1; plain = refl })
-      fitting-given_of fid o offset cursor (e ∷ es) [] count le = done-err (Replies most) _
-      fitting-given_of fid o offset cursor (e ∷ es) (g ∷ gs) count le =
-          let d = fitting-data (flat_map entry_bytes (g ∷ gs)) count le in
-          done-ok (Replies most) _ (record { fits = d.0; short = d.1; plain = refl })
-
-      fitting-read_file : (now : ℕ) (at : NodeRef) (n : Node) (offset count : ℕ)
-          → OnDone (Replies most) (read_file session now at n offset (min count (room_of session)))
-      fitting-read_file now at n offset count =
-          let le : length (read_from offset (min count (room_of session)) n.bytes)
-          ≤ min count (room_of session) = simp (length-take) (omega arith) in
-          let d = fitting-data (read_from offset (min count (room_of session)) n.bytes) count le in
-          done-ok (Replies most) _ (record { fits = d.0; short = d.1; plain = refl })
-
-      pub fitting-read : (now fid offset count : ℕ)
-          → OnDone (Replies most) (read_answer setting forest session now fid offset count)
-      fitting-read now fid offset count =
-          done-given (Replies most) _ _ _
-          (λ v e1. done-given (Replies most) _ _ _
-          (λ o e2. done-given (Replies most) _ _ _ (λ n e3.
-          done-if (Replies most) (is_dir n)
-          (read_dir setting forest session fid v o offset (min count (room_of session)))
-          (read_file session now (fid_ref setting.table v) n offset
-          (min count (room_of session)))
-          (done-need (Replies most) _ _ _
-          (λ e4. fitting-given_of fid o offset _ _ _ count
-          (length-fitting (min count (room_of session)) _)))
-          (fitting-read_file now (fid_ref setting.table v) n offset count))))
-
-    fitting-write_file : (now : ℕ) (v : Fid) (at : NodeRef) (n : Node) (offset : ℕ) (bytes : List ℕ)
-        → OnDone (Replies most) (write_file session now v at n offset bytes)
-    fitting-write_file now v at n offset [] =
-        done-ok (Replies most) _ (record { fits = tt; short = omega (arith, wide); plain = refl })
-    fitting-write_file now v at n offset (b ∷ bs) =
-        done-need (Replies most) _ _ _ (λ e. done-ok (Replies most) _ (record {
+    pub replies-removal : (now : ℕ) (v : Fid) (o : Outcome)
+        → RemovalDone setting forest session now v o → Replies most o
+    replies-removal now v o done =
+        subst (Replies most) (sym done.is) (record {
+          numbers = tt;
           fits = tt;
           short = omega (arith, wide);
           plain = refl;
-        }))
+        })
 
-    pub fitting-write : (now fid offset : ℕ) (bytes : List ℕ)
-        → OnDone (Replies most) (write_answer setting forest session now fid offset bytes)
-    fitting-write now fid offset bytes =
-        done-given (Replies most) _ _ _
-        (λ v e1. done-need (Replies most) _ _ _
-        (λ e2. done-given (Replies most) _ _ _
-        (λ n e3. fitting-write_file now v _ n offset bytes)))
-
-    pub fitting-clunk : (now fid : ℕ)
-        → OnDone (Replies most) (clunk_answer setting forest session now fid)
-    fitting-clunk now fid =
-        done-given (Replies most) _ _ _ (λ v e. done-ok (Replies most) _ (record {
-          fits = tt;
-          short = omega (arith, wide);
-          plain = refl;
-        }))
-
-    pub fitting-removal : (now : ℕ) (v : Fid)
-        → OnDone (Replies most) (removal setting forest session now v)
-    fitting-removal now v =
-        done-given (Replies most) _ _ _
-        (λ n e1. done-need (Replies most) _ _ _
-        (λ e2. done-need (Replies most) _ _ _ (λ e3. done-need (Replies most) _ _ _ (λ e4.
-        done-ok (Replies most)
-        _ (record { fits = tt; short = omega (arith, wide); plain = refl })))))
-
-    pub fitting-stat : IsForest forest → (fid : ℕ)
-        → OnDone (Replies most) (stat_answer setting forest session fid)
-    fitting-stat sound fid =
-        done-given (Replies most) _ _ _ (λ v e1. done-given (Replies most) _ _ _ (λ n e2.
-        let its =
-        stat_fits (fid_ref setting.table v) n
-        (sound_node forest (fid_ref setting.table v) n sound e2) in
-        done-ok (Replies most) _ (record {
+    pub replies-stat : (fid : ℕ) (o : Outcome) → StatDone setting forest session fid o
+        → Replies most o
+    replies-stat fid o done =
+        let at = fid_ref setting.table done.v in
+        let its = stat_fits at done.n (node-sound forest sound at done.n done.there) in
+        subst (Replies most) (sym done.is) (record {
+          numbers = stat_numbers_fit forest at done.n sound done.there;
           fits = its.0;
           short = omega (arith, its.1, wide);
           plain = refl;
-        })))
+        })
 
-    pub fitting-wstat : (now fid : ℕ) (wanted : StatFields)
-        → OnDone (Replies most) (wstat_answer setting forest session now fid wanted)
-    fitting-wstat now fid wanted =
-        done-given (Replies most) _ _ _
-        (λ v e1. done-given (Replies most) _ _ _
-        (λ n e2. done-need (Replies most) _ _ _ (λ e3. done-unless (Replies most) _ _ (λ e4.
-        done-ok (Replies most)
-        _ (record { fits = tt; short = omega (arith, wide); plain = refl })))))
+    pub replies-wstat : (now fid : ℕ) (wanted : StatFields) (o : Outcome)
+        → WstatDone setting forest session now fid wanted o → Replies most o
+    replies-wstat now fid wanted o done =
+        subst (Replies most) (sym done.is) (record {
+          numbers = tt;
+          fits = tt;
+          short = omega (arith, wide);
+          plain = refl;
+        })
+
+    pub replies-write : (now fid offset : ℕ) (bytes : List ℕ) (o : Outcome)
+        → WriteDone setting forest session now fid offset bytes o → Replies most o
+    replies-write now fid offset bytes o done = elim done.is [
+      | inl none ↦ subst (Replies most) (sym none.1) (record {
+        numbers = omega arith;
+        fits = tt;
+        short = omega (arith, wide);
+        plain = refl;
+      })
+      | inr some ↦ subst (Replies most) (sym some.1) (record {
+        numbers = omega (arith, some.0);
+        fits = tt;
+        short = omega (arith, wide);
+        plain = refl;
+      })
+    ]
+
+    module _ (room : 24 + room_of session ≤ most) (frames : most ≤ msize_max) where
+      pub replies-open : (now fid : ℕ) (o : Outcome) → OpenDone setting forest session now fid o
+          → Replies most o
+      unfolding edited
+      replies-open now fid o done =
+          subst (Replies most) (sym done.is) (record {
+            numbers = (cut (is_cut done.n done.opening) refl, omega (arith, room, frames));
+            fits = tt;
+            short = omega (arith, wide);
+            plain = refl;
+          })
+        where
+          at : NodeRef
+          at = fid_ref setting.table done.v
+
+          cut : (b : Bool) → is_cut done.n done.opening ≡ b
+              → QidNumbersFit (qid_of at (truncated done.v.user now done.n done.opening))
+          cut false e = rw e (qid_fits forest at done.n sound done.there)
+          cut true e =
+              rw e
+              (qid-small at (marked done.v.user now (with_bytes (cut_to 0) done.n))
+              (node_of-small forest at done.n sound done.there)
+              (mod-lt (done.n.version + 1) (omega arith)))
+
+      pub replies-create : (now fid : ℕ) (name : List ℕ) (o : Outcome)
+          → CreateDone setting forest session now fid name o → Replies most o
+      replies-create now fid name o done =
+          subst (Replies most) same (record {
+            numbers = (qid, omega (arith, room, frames));
+            fits = tt;
+            short = omega (arith, wide);
+            plain = refl;
+          })
+        where
+          target : NodeRef
+          target = done.target
+
+          place : NodeRef
+          place = beside target (next_of target.server forest)
+
+          node : Node
+          node =
+              created done.v.user now (next_of target.server forest) done.dir name done.asked
+
+          outcome : Outcome
+          outcome = record {
+            changes = AddNode target.server node ∷ EditNode target (Mark done.v.user now) ∷ [];
+            session = entered fid (done.v.trail ++ place ∷ []) done.opening session;
+            reply = Rcreate (qid_of place node) (room_of session);
+          }
+
+          same : outcome ≡ o
+          same = let e : Ok outcome ≡ Ok o = sym done.is in cc
+
+          small : IsSmall place
+          small =
+              let its = node_of-small forest target done.dir sound done.there in
+              let free = (can_create forest done.v name target done.dir done.fits).room in
+              record { server = its.server; number = omega (arith, free) }
+
+          qid : QidNumbersFit (qid_of place node)
+          qid = qid-small place node small (omega arith)
+
+      reads-fit : (bytes : List ℕ) (count : ℕ) → length bytes ≤ min count (room_of session)
+          → (RFits (Rread bytes)) × (7 + r_len (Rread bytes) ≤ most)
+      reads-fit bytes count le = (omega (arith, le, room, frames), omega (arith, le, room))
+
+      pub replies-read : (now fid offset count : ℕ) (o : Outcome)
+          → ReadDone setting forest session now fid offset count o → Replies most o
+      replies-read now fid offset count o done = elim done.is [
+        | inl file ↦ (let bytes =
+            read_from offset (min count (room_of session)) done.n.bytes in
+            let le : length bytes ≤ min count (room_of session) =
+            simp (length-take) (omega arith) in
+            let fit = reads-fit bytes count le in
+            subst (Replies most) (sym file.1) (record {
+              numbers = tt;
+              fits = fit.0;
+              short = fit.1;
+              plain = refl;
+            }))
+        | inr dir ↦ (let bytes =
+            flat_map entry_bytes (fitting (min count (room_of session)) dir.0) in
+            let fit =
+            reads-fit bytes count (length-fitting (min count (room_of session)) dir.0) in
+            subst (Replies most) (sym dir.1) (record {
+              numbers = tt;
+              fits = fit.0;
+              short = fit.1;
+              plain = refl;
+            }))
+      ]

@@ -1,52 +1,54 @@
--- What the outcomes of opens, creates, reads and writes leave.
-use Rattle.std.proofs.Common.{◌≡◌, ℕ, ◌+◌, ◌-◌, ◌<◌, ◌&&◌, ◌||◌, Bool, true, false, List, [], ◌∷◌}
-use Rattle.std.proofs.Common.{◌++◌, inl, inr, Option, Some, None, refl, sym, ap, ◌∙◌, subst, arith}
-use Rattle.std.proofs.Common.{length, length-append}
-use Rattle.std.specs.Prelude.{◌==◌, not, slice_get, min, unwrap_or}
-use Rattle.std.specs.List.{list_all}
-use Rattle.std.proofs.Math.Seq.{get_or-append_seam}
+-- What the outcomes of opens, creates, reads, writes and wstats lead to.
+use Rattle.std.proofs.Common.{Bool, List, None, Ok, Option, Some, [], ap, arith, false, inl, inr}
+use Rattle.std.proofs.Common.{is_some, refl, subst, sym, true, ℕ, ◌++◌, ◌+◌, ◌<◌, ◌||◌, ◌∙◌, ◌∷◌}
+use Rattle.std.proofs.Common.{◌≡◌}
 use Rattle.std.proofs.lemmas.Bool.{and_parts}
 use Rattle.std.proofs.lemmas.Bool.Decides.{nat_tests}
-use Rattle.p9_base.specs.declared.mode.Mode.{Mode}
-use Rattle.p9_base.specs.declared.node_ref.NodeRef.{NodeRef}
+use Rattle.std.specs.Option.{option_map_or}
+use Rattle.std.specs.Prelude.{min, not, ◌&&◌}
 use Rattle.p9_base.specs.Mode.{is_dir as is_dir_mode}
-use Rattle.p9_base.specs.NodeRef.{same_node, beside}
-use Rattle.p9_tree.specs.Node.{Node, has_number, is_dir}
-use Rattle.p9_tree.specs.Server.{Server, added, node_at}
-use Rattle.p9_tree.specs.Forest.{IsForest, next_of, no_server, node_of, server_at}
-use Rattle.p9_tree.proofs.Lookups.{All-node_at, number-node_at}
-use Rattle.p9_space.specs.Place.{file_ref}
-use Rattle.p9_space.specs.Table.{MountRow, members_of, row_of}
-use Rattle.p9_space.specs.Trail.{here}
-use Rattle.p9_fids.specs.declared.opened.Cursor.{Cursor}
-use Rattle.p9_fids.specs.declared.opened.Opened.{Opened}
-use Rattle.p9_fids.specs.declared.opened.OpenMode.{OpenMode}
-use Rattle.p9_fids.specs.declared.opened.OpenMode.TheVariants.{Read, Write, ReadWrite, Execute}
-use Rattle.p9_wire.specs.Message.{RMessage}
+use Rattle.p9_base.specs.NodeRef.{beside}
+use Rattle.p9_base.specs.User.{is_user}
+use Rattle.p9_base.specs.declared.node_ref.NodeRef.{NodeRef}
+use Rattle.p9_tree.specs.Forest.{IsForest, child_in, next_of, node_of, server_at}
+use Rattle.p9_tree.specs.Node.{IsTellable, Node, has_number, is_dir}
+use Rattle.p9_tree.specs.Server.{Server, added}
+use Rattle.p9_tree.proofs.Lookups.{number-node_at}
+use Rattle.p9_space.specs.Given.{is_table_given}
+use Rattle.p9_space.specs.Rights.{may}
+use Rattle.p9_space.specs.Table.{MountRow}
+use Rattle.p9_wire.specs.Message.{Rcreate}
 use Rattle.p9_fids.specs.Fid.{Fid, fid_at, opened_as}
-use Rattle.p9_fids.specs.Opened.{reads}
-use Rattle.p9_step.specs.declared.opening.Opening.{Opening}
-use Rattle.p9_step.specs.State.{Setting, Session, fid_file, fid_ref, room_of}
-use Rattle.p9_step.specs.Change.{Change, AddNode, EditNode, Mark, Touch, all_applied, applied}
-use Rattle.p9_step.specs.Create.{create_answer, created, created_in, creation, target_among}
+use Rattle.p9_fids.specs.Opened.{reads, writes}
+use Rattle.p9_fids.specs.declared.opened.Cursor.{Cursor}
+use Rattle.p9_fids.specs.declared.opened.OpenMode.{OpenMode}
+use Rattle.p9_fids.specs.declared.opened.OpenMode.TheVariants.{Execute, Read, ReadWrite, Write}
+use Rattle.p9_fids.specs.declared.opened.Opened.{Opened}
+use Rattle.p9_step.specs.Answer.{Outcome}
+use Rattle.p9_step.specs.Change.{AddNode, Change, Cut, EditNode, Mark, Overwrite, Touch}
+use Rattle.p9_step.specs.Change.{all_applied, applied}
+use Rattle.p9_step.specs.Create.{created, entered}
 use Rattle.p9_step.specs.Listing.{Entry}
-use Rattle.p9_step.specs.Open.{is_cut, open_answer, opened_session, truncation}
+use Rattle.p9_step.specs.Open.{is_cut, truncation}
 use Rattle.p9_step.specs.Opening.{is_plain_read, is_read, newly_opened}
-use Rattle.p9_step.specs.Read.{cursor_at, given_of, listed_session, read_answer, read_dir}
-use Rattle.p9_step.specs.Read.{read_file, readable}
-use Rattle.p9_space.specs.Given.{is_given, is_row_given, is_table_given}
-use Rattle.p9_step.specs.Sound.{IsMsize, FidFits, FidsFit, IsOpenOn}
-use Rattle.p9_step.specs.Write.{write_answer, write_file}
-use Rattle.p9_step.proofs.Changes.{AllLawful, evolves-all, keeps-cut, keeps-mark, keeps-overwrite}
-use Rattle.p9_step.proofs.Changes.{keeps-touch}
-use Rattle.p9_step.proofs.Done.{OnDone, done-err, done-given, done-need, done-ok, done-then}
-use Rattle.p9_step.proofs.Done.{done-unless}
-use Rattle.p9_step.proofs.Evolves.{Evolves, found-evolved, server_well}
-use Rattle.p9_step.proofs.Fids.{FidsFit-fid_at}
+use Rattle.p9_step.specs.Qid.{qid_of}
+use Rattle.p9_step.specs.Read.{cursor_at, fitting, listed_session, readable}
+use Rattle.p9_step.specs.Sound.{FidFits, IsFid, IsOpenOn, IsSession}
+use Rattle.p9_step.specs.State.{Session, Setting, fid_file, fid_ref, room_of}
+use Rattle.p9_step.specs.Write.{is_writable, write_place}
+use Rattle.p9_step.specs.declared.opening.Opening.{Opening}
+use Rattle.p9_step.proofs.Changes.{evolves-all, keeps-mark}
+use Rattle.p9_step.proofs.Evolves.{Evolves, evolves-same, found-evolved}
 use Rattle.p9_step.proofs.Found.{server_at-tree_changed_at}
-use Rattle.p9_step.proofs.Kept.{Kept, done-if, fits-changed, kept-changes, kept-quiet}
-use Rattle.p9_step.proofs.Members.{IsMember, found-member, member-joined, member-node_at}
-use Rattle.p9_step.proofs.OpenFids.{fits-evolved}
+use Rattle.p9_step.proofs.Kept.{IsReady, Kept, fid-of, kept-changes, kept-quiet, session-changed}
+use Rattle.p9_step.proofs.Kept.{user-of}
+use Rattle.p9_step.proofs.Lawful.{AddFits, AllLawful, EditFits, evolves-lawful, forest-applied}
+use Rattle.p9_step.proofs.Lawful.{lawful-cut, lawful-mark, lawful-overwrite, lawful-touch}
+use Rattle.p9_step.proofs.Lawful.{node-sound}
+use Rattle.p9_step.proofs.Members.{IsMember, found-member, member-joined}
+use Rattle.p9_step.proofs.NodeRefs.{here-pushed, member-given, new-file, node_of-given}
+use Rattle.p9_step.proofs.Passed.{CanCreate, CreateDone, OpenDone, ReadDone, WriteDone, can_create}
+use Rattle.p9_step.proofs.Settled.{IsGivenTrail, fid-evolved, trail-pushed}
 
 -- what asks to read, and for nothing else
 pub record ReadsAlone (o : Opening) : Type 0 where
@@ -75,41 +77,7 @@ dir-reads : (o : Opening) (dir : Bool) → (not dir || is_plain_read o) ≡ true
 dir-reads o true e is = plain_read o e
 dir-reads o false e is = absurd (cc)
 
--- the number of a node that exists was given
-pub node_of-given : (forest : List Server) (at : NodeRef) (n : Node) → IsForest forest
-    → node_of at forest ≡ Some n → at.number < next_of at.server forest
-node_of-given forest at n sound found = go (slice_get forest at.server) refl
-  where
-    go : (o : Option Server) → slice_get forest at.server ≡ o → at.number < next_of at.server forest
-    go None e = let none : None ≡ Some n = rw e at found in absurd (cc)
-    go (Some s) e =
-        let here : node_at at.number s.nodes ≡ Some n = rw e at found in
-        let below : n.number < s.next =
-        All-node_at (λ m. m.number < s.next) at.number s.nodes n
-        (sound.servers at.server s e).below here in
-        let same : n.number ≡ at.number = number-node_at at.number s.nodes n here in
-        subst (λ p. at.number < (unwrap_or p no_server).next) (sym e)
-        (subst (λ k. k < s.next) same below)
-
--- so was that of any member
-member-given : (forest : List Server) (k : ℕ) (n : Node) → IsForest forest
-    → IsMember n (server_at k forest).nodes → n.number < next_of k forest
-member-given forest k n sound there =
-    let well = server_well forest k n sound there in
-    let found = member-node_at n (server_at k forest).nodes well.rising there in
-    All-node_at (λ m. m.number < (server_at k forest).next) n.number (server_at k forest).nodes n
-    well.below found
-
--- Opens.
-
-lawful-truncation : (forest : List Server) (user : List ℕ) (now : ℕ) (at : NodeRef) (n : Node)
-    (o : Opening) → AllLawful forest (truncation user now at n o)
-lawful-truncation forest user now at n o = go (is_cut n o) refl
-  where
-    go : (b : Bool) → is_cut n o ≡ b → AllLawful forest (truncation user now at n o)
-    go true e = rw e ((λ m found. keeps-cut 0 m), ((λ m found. keeps-mark user now m), tt))
-    go false e = rw e tt
-
+-- a fid is opened
 fit-opened : (table : List MountRow) (f g : List Server) (v : Fid) (n : Node) (o : Opening)
     → IsForest f → Evolves f g → fid_file table f v ≡ Some n
     → (not (is_dir n) || is_plain_read o) ≡ true → FidFits table g (opened_as (newly_opened o) v)
@@ -132,169 +100,6 @@ fit-opened table f g v n o sound evolves found test p is =
         let this : n ≡ was.0 = cc in
         dir-reads o (is_dir n) test (ap is_dir this ∙ was.2 ∙ dir)
 
-module _ (setting : Setting) (forest : List Server) (session : Session) (sound : IsForest forest)
-    (fits : FidsFit setting.table forest session.fids) (short : IsMsize session.msize) where
-  opened-kept : (now fid : ℕ) (v : Fid) (n : Node) (o : Opening) (reply : RMessage)
-      → fid_at fid session.fids ≡ Some v → fid_file setting.table forest v ≡ Some n
-      → (not (is_dir n) || is_plain_read o) ≡ true → Kept setting.table forest (record {
-        changes = truncation v.user now (fid_ref setting.table v) n o;
-        session = opened_session fid o session;
-        reply = reply;
-      })
-  opened-kept now fid v n o reply found file test =
-      let changes = truncation v.user now (fid_ref setting.table v) n o in
-      let lawful = lawful-truncation forest v.user now (fid_ref setting.table v) n o in
-      let evolves = evolves-all forest changes lawful in
-      let after =
-      fits-evolved setting.table forest (all_applied changes forest) sound evolves session.fids
-      fits in
-      record {
-        lawful = lawful;
-        fids =
-            fits-changed setting.table (all_applied changes forest) fid (opened_as (newly_opened o))
-            session.fids v found
-            (fit-opened setting.table forest (all_applied changes forest) v n o sound evolves file
-            test) after;
-        msize = short;
-      }
-
-  pub kept-open : (taken : Bool) (now fid bits : ℕ)
-      → OnDone (Kept setting.table forest) (open_answer setting forest taken session now fid bits)
-  kept-open taken now fid bits =
-      done-given (Kept setting.table forest) _ _ _
-      (λ v found. done-need (Kept setting.table forest) _ _ _
-      (λ closed. done-given (Kept setting.table forest) _ _ _
-      (λ n file. done-given (Kept setting.table forest) _ _ _ (λ o known.
-      done-need (Kept setting.table forest) _ _ _
-      (λ test. done-need (Kept setting.table forest) _ _ _
-      (λ may. done-need (Kept setting.table forest) _ _ _ (λ free.
-      done-ok (Kept setting.table forest) _ (opened-kept now fid v n o _ found file test))))))))
-
-  -- Reads.
-
-  fit-read : (v : Fid) (o p : Opened) → FidFits setting.table forest v → v.opened ≡ Some o
-      → p.mode ≡ o.mode → p.remove_on_close ≡ o.remove_on_close
-      → FidFits setting.table forest (opened_as p v)
-  fit-read v o p old is mode stays q same =
-      let this : p ≡ q = cc in
-      let kept = old o is in
-      subst (λ r. IsOpenOn setting.table forest (opened_as p v) r) this (record {
-        given = kept.given;
-        mode = λ n found dir. mode ∙ kept.mode n found dir;
-        stays = λ n found dir. stays ∙ kept.stays n found dir;
-      })
-
-  kept-listed : (fid : ℕ) (v : Fid) (o : Opened) (offset : ℕ) (cursor : Option Cursor)
-      (given : List Entry) (reply : RMessage) → fid_at fid session.fids ≡ Some v → v.opened ≡ Some o
-      → Kept setting.table forest (record {
-        changes = [];
-        session = listed_session fid o offset cursor given session;
-        reply = reply;
-      })
-  kept-listed fid v o offset cursor given reply found is =
-      kept-quiet setting.table forest (listed_session fid o offset cursor given session) reply
-      (fits-changed setting.table forest fid _ session.fids v found
-      (fit-read v o _ (FidsFit-fid_at setting.table forest session.fids fid v fits found) is
-      refl refl) fits) short
-
-  kept-given_of : (fid : ℕ) (v : Fid) (o : Opened) (offset : ℕ) (cursor : Option Cursor)
-      (left given : List Entry) → fid_at fid session.fids ≡ Some v → v.opened ≡ Some o
-      → OnDone (Kept setting.table forest) (given_of session fid o offset cursor left given)
-  kept-given_of fid v o offset cursor [] given found is =
-      done-ok (Kept setting.table forest) _ (kept-listed fid v o offset cursor given _ found is)
-  kept-given_of fid v o offset cursor (e ∷ es) [] found is = done-err (Kept setting.table forest) _
-  kept-given_of fid v o offset cursor (e ∷ es) (f ∷ fs) found is =
-      done-ok (Kept setting.table forest) _ (kept-listed fid v o offset cursor (f ∷ fs) _ found is)
-
-  readable-is : (p : Option Opened) (o : Opened) → readable p ≡ Some o → p ≡ Some o
-  readable-is None o e = e
-  readable-is (Some q) o e = go (reads q.mode) refl
-    where
-      go : (b : Bool) → reads q.mode ≡ b → Some q ≡ Some o
-      go true r = rw r at e
-      go false r = let no : None ≡ Some o = rw r at e in absurd (cc)
-
-  pub kept-read : (now fid offset count : ℕ)
-      → OnDone (Kept setting.table forest) (read_answer setting forest session now fid offset count)
-  kept-read now fid offset count =
-      done-given (Kept setting.table forest) _ _ _
-      (λ v found. done-given (Kept setting.table forest) _ _ _
-      (λ o held. done-given (Kept setting.table forest) _ _ _ (λ n file.
-      done-if (Kept setting.table forest) (is_dir n)
-      (read_dir setting forest session fid v o offset (min count (room_of session)))
-      (read_file session now (fid_ref setting.table v) n offset (min count (room_of session)))
-      (done-need (Kept setting.table forest) _ _ _
-      (λ begins. kept-given_of fid v o offset (cursor_at offset o) _ _ found
-      (readable-is v.opened o held)))
-      (done-ok (Kept setting.table forest) _
-      (kept-changes setting.table forest (EditNode (fid_ref setting.table v) (Touch now) ∷ [])
-      session _ sound ((λ m there. keeps-touch now m), tt) fits short)))))
-
-  -- Writes.
-
-  kept-write_file : (now : ℕ) (v : Fid) (at : NodeRef) (n : Node) (offset : ℕ) (bytes : List ℕ)
-      → OnDone (Kept setting.table forest) (write_file session now v at n offset bytes)
-  kept-write_file now v at n offset [] =
-      done-ok (Kept setting.table forest) _ (kept-quiet setting.table forest session _ fits short)
-  kept-write_file now v at n offset (b ∷ bs) =
-      done-need (Kept setting.table forest) _ _ _
-      (λ e. done-ok (Kept setting.table forest) _
-      (kept-changes setting.table forest _ session _ sound
-      ((λ m there. keeps-overwrite _ _ m), ((λ m there. keeps-mark v.user now m), tt)) fits
-      short))
-
-  pub kept-write : (now fid offset : ℕ) (bytes : List ℕ)
-      → OnDone (Kept setting.table forest)
-      (write_answer setting forest session now fid offset bytes)
-  kept-write now fid offset bytes =
-      done-given (Kept setting.table forest) _ _ _
-      (λ v found. done-need (Kept setting.table forest) _ _ _
-      (λ held. done-given (Kept setting.table forest) _ _ _
-      (λ n file. kept-write_file now v _ n offset bytes)))
-
--- Creates.
-
--- a number that is still to be given is no key
-same-is : (a b : NodeRef) → same_node a b ≡ true → a ≡ b
-same-is a b e =
-    let parts = and_parts (a.server == b.server) (a.number == b.number) e in
-    let servers : a.server ≡ b.server = grind (arith, nat_tests) in
-    let numbers : a.number ≡ b.number = grind (arith, nat_tests) in
-    ap (λ s. record { server = s; number = a.number }) servers ∙ ap (λ k. record {
-      server = b.server;
-      number = k;
-    }) numbers
-
-no-row : (forest : List Server) (table : List MountRow) (at : NodeRef)
-    → is_table_given forest table ≡ true → at.number ≡ next_of at.server forest
-    → row_of at table ≡ None
-no-row forest [] at below new = refl
-no-row forest (row ∷ rows) at below new =
-    let parts = and_parts (is_row_given forest row) (is_table_given forest rows) below in
-    let here =
-    and_parts (is_given forest row.0) (list_all (λ m. is_given forest m.node) row.1) parts.0 in
-    go (same_node at row.0) refl here.0 (no-row forest rows at parts.1 new)
-  where
-    go : (b : Bool) → same_node at row.0 ≡ b → is_given forest row.0 ≡ true → row_of at rows ≡ None
-        → row_of at (row ∷ rows) ≡ None
-    go true e given later =
-        let its : is_given forest at
-        ≡ true = subst (λ r. is_given forest r ≡ true) (sym (same-is at row.0 e)) given in
-        absurd (grind (arith, nat_tests))
-    go false e given later = rw e later
-
--- so it is its own file
-new-file : (forest : List Server) (table : List MountRow) (at : NodeRef)
-    → is_table_given forest table ≡ true → at.number ≡ next_of at.server forest
-    → file_ref at table ≡ at
-new-file forest table at below new = rw (no-row forest table at below new) refl
-
--- a trail ends at the place that was pushed
-here-pushed : (trail : List NodeRef) (at : NodeRef) → here (trail ++ at ∷ []) ≡ at
-here-pushed trail at =
-    let last : length (trail ++ at ∷ []) - 1 ≡ length trail = omega (arith, length-append trail) in
-    rw last (get_or-append_seam trail at [] (record { server = 0; number = 0 }))
-
 module _ (table : List MountRow) (f : List Server) (sound : IsForest f)
     (below : is_table_given f table ≡ true) (target : NodeRef) (dir n : Node) (user : List ℕ)
     (now : ℕ) (there : node_of target f ≡ Some dir)
@@ -307,9 +112,6 @@ module _ (table : List MountRow) (f : List Server) (sound : IsForest f)
 
   abbrev at : NodeRef
   at = beside target (next_of target.server f)
-
-  lawful-create : AllLawful f (AddNode target.server n ∷ EditNode target (Mark user now) ∷ [])
-  lawful-create = (number, ((λ m found. keeps-mark user now m), tt))
 
   server-added : server_at target.server h ≡ added (server_at target.server f) n
   unfolding applied
@@ -345,23 +147,179 @@ module _ (table : List MountRow) (f : List Server) (sound : IsForest f)
         | inr new ↦ sym in_h.3 ∙ ap is_dir new
       ]
 
-module _ (setting : Setting) (forest : List Server) (session : Session) (sound : IsForest forest)
-    (below : is_table_given forest setting.table ≡ true)
-    (fits : FidsFit setting.table forest session.fids) (short : IsMsize session.msize) where
-  kept-creation : (now fid : ℕ) (v : Fid) (target : NodeRef) (dir : Node) (name : List ℕ)
-      (asked : Mode) (o : Opening) → fid_at fid session.fids ≡ Some v
-      → node_of target forest ≡ Some dir → (not (is_dir_mode asked) || is_plain_read o) ≡ true
-      → OnDone (Kept setting.table forest)
-      (creation forest session now fid v target dir name asked o)
-  kept-creation now fid v target dir name asked o found there test =
-      done-ok (Kept setting.table forest) _ (record {
-        lawful = lawful;
-        fids = fits-changed setting.table after fid _ session.fids v found fit kept;
-        msize = short;
-      })
+module _ (setting : Setting) (forest : List Server) (session : Session) (now : ℕ)
+    (ready : IsReady setting forest session now) where
+  lawful-truncation : (at : NodeRef) (n : Node) (user : List ℕ) (o : Opening)
+      → is_user user ≡ true → AllLawful forest (truncation user now at n o)
+  lawful-truncation at n user o valid = go (is_cut n o) refl
     where
+      cut : EditFits forest at (Cut 0)
+      cut = lawful-cut forest ready.sound at 0
+
+      go : (b : Bool) → is_cut n o ≡ b → AllLawful forest (truncation user now at n o)
+      go true e =
+          rw e (
+            cut,
+            (
+              lawful-mark (applied (EditNode at (Cut 0)) forest)
+                  (forest-applied forest (EditNode at (Cut 0)) ready.sound cut) at user now valid
+                  ready.short,
+              tt,
+            ),
+          )
+      go false e = rw e tt
+
+  pub kept-open : (fid : ℕ) (o : Outcome) → OpenDone setting forest session now fid o
+      → Kept setting forest o
+  kept-open fid o done =
+      let v = done.v in
+      let changes =
+      truncation v.user now (fid_ref setting.table v) done.n done.opening in
+      let lawful =
+      lawful-truncation (fid_ref setting.table v) done.n v.user done.opening
+      (user-of setting forest session now ready fid v done.found) in
+      let evolves = evolves-lawful forest changes ready.sound lawful in
+      let was =
+      fid-evolved setting forest (all_applied changes forest) ready.sound evolves v
+      (fid-of setting forest session now ready fid v done.found) in
+      subst (Kept setting forest) (sym done.is) (record {
+        lawful = lawful;
+        session =
+            session-changed setting forest session now ready (all_applied changes forest) fid
+            (opened_as (newly_opened done.opening)) v evolves done.found (record {
+              listed = was.listed;
+              trail = was.trail;
+              given = was.given;
+              opened =
+                  fit-opened setting.table forest (all_applied changes forest) v done.n done.opening
+                  ready.sound evolves done.there done.plain;
+            });
+      })
+
+  -- Reads.
+
+  fit-read : (v : Fid) (o p : Opened) → FidFits setting.table forest v → v.opened ≡ Some o
+      → p.mode ≡ o.mode → p.remove_on_close ≡ o.remove_on_close
+      → FidFits setting.table forest (opened_as p v)
+  fit-read v o p old is mode stays q same =
+      let this : p ≡ q = cc in
+      let kept = old o is in
+      subst (λ r. IsOpenOn setting.table forest (opened_as p v) r) this (record {
+        given = kept.given;
+        mode = λ n found dir. mode ∙ kept.mode n found dir;
+        stays = λ n found dir. stays ∙ kept.stays n found dir;
+      })
+
+  pub readable-is : (p : Option Opened) (o : Opened) → readable p ≡ Some o → p ≡ Some o
+  readable-is None o e = e
+  readable-is (Some q) o e = go (reads q.mode) refl
+    where
+      go : (b : Bool) → reads q.mode ≡ b → Some q ≡ Some o
+      go true r = rw r at e
+      go false r = let no : None ≡ Some o = rw r at e in absurd (cc)
+
+  listed-kept : (fid : ℕ) (v : Fid) (o : Opened) (offset : ℕ) (cursor : Option Cursor)
+      (given : List Entry) → fid_at fid session.fids ≡ Some v → v.opened ≡ Some o
+      → IsSession setting forest (listed_session fid o offset cursor given session)
+  listed-kept fid v o offset cursor given found is =
+      let was = fid-of setting forest session now ready fid v found in
+      session-changed setting forest session now ready forest fid _ v (evolves-same forest) found
+      (record {
+        listed = was.listed;
+        trail = was.trail;
+        given = was.given;
+        opened = fit-read v o _ was.opened is refl refl;
+      })
+
+  pub kept-read : (fid offset count : ℕ) (o : Outcome)
+      → ReadDone setting forest session now fid offset count o → Kept setting forest o
+  kept-read fid offset count o done = elim done.is [
+    | inl file ↦ subst (Kept setting forest) (sym file.1)
+        (kept-changes setting forest session now ready
+        (EditNode (fid_ref setting.table done.v) (Touch now) ∷ []) session _
+        (lawful-touch forest ready.sound (fid_ref setting.table done.v) now ready.short, tt)
+        ready.its)
+    | inr dir ↦ subst (Kept setting forest) (sym dir.1)
+        (kept-quiet setting forest session now ready
+        (listed_session fid done.opened offset (cursor_at offset done.opened)
+        (fitting (min count (room_of session)) dir.0) session) _
+        (listed-kept fid done.v done.opened offset (cursor_at offset done.opened)
+        (fitting (min count (room_of session)) dir.0) done.found
+        (readable-is done.v.opened done.opened done.held)))
+  ]
+
+  -- Writes.
+
+  -- what is open for writing is no directory
+  written_file : (v : Fid) (n : Node) → FidFits setting.table forest v
+      → fid_file setting.table forest v ≡ Some n → is_writable v ≡ true → is_dir n ≡ false
+  written_file v n fit found opens = by v.opened refl opens
+    where
+      go : (o : Opened) → v.opened ≡ Some o → writes o.mode ≡ true → (b : Bool)
+          → is_dir n ≡ b → is_dir n ≡ false
+      go o is may false e = e
+      go o is may true e =
+          let reading : writes o.mode ≡ false = ap writes ((fit o is).mode n found e) in
+          let no : true ≡ false = sym may ∙ reading in
+          absurd (cc)
+
+      by : (o : Option Opened) → v.opened ≡ o → option_map_or (λ p. writes p.mode) o false ≡ true
+          → is_dir n ≡ false
+      by None is t = let no : false ≡ true = t in absurd (cc)
+      by (Some o) is t = go o is t (is_dir n) refl
+
+  pub kept-write : (fid offset : ℕ) (bytes : List ℕ) (o : Outcome)
+      → WriteDone setting forest session now fid offset bytes o → Kept setting forest o
+  kept-write fid offset bytes o done = elim done.is [
+    | inl none ↦ subst (Kept setting forest) (sym none.1)
+        (kept-quiet setting forest session now ready session _ ready.its)
+    | inr some ↦ (let v = done.v in
+        let at = fid_ref setting.table v in
+        let place = write_place offset done.n in
+        let first : EditFits forest at (Overwrite place bytes) =
+        lawful-overwrite forest ready.sound at done.n place bytes done.there
+        (written_file v done.n (fid-of setting forest session now ready fid v done.found).opened
+        done.there done.held) some.0 in
+        subst (Kept setting forest) (sym some.1)
+        (kept-changes setting forest session now ready
+        (EditNode at (Overwrite place bytes) ∷ EditNode at (Mark v.user now) ∷ []) session _ (
+          first,
+          (
+            lawful-mark (applied (EditNode at (Overwrite place bytes)) forest)
+                (forest-applied forest (EditNode at (Overwrite place bytes)) ready.sound first) at
+                v.user now (user-of setting forest session now ready fid v done.found) ready.short,
+            tt,
+          ),
+        ) ready.its))
+  ]
+
+  -- Creates.
+
+  not_there : {X : Type 0} (o : Option X) → is_some o ≡ false → o ≡ None
+  not_there None e = refl
+  not_there (Some x) e = let no : true ≡ false = e in absurd (cc)
+
+  pub kept-create : (fid : ℕ) (name : List ℕ) (o : Outcome)
+      → CreateDone setting forest session now fid name o → Kept setting forest o
+  kept-create fid name o done = subst (Kept setting forest) same (record {
+    lawful = lawful;
+    session =
+        session-changed setting forest session now ready after fid _ v evolves done.found (record {
+          listed = was.listed;
+          trail = trail.sizes;
+          given = trail.given;
+          opened = fit;
+        });
+  })
+    where
+      v : Fid
+      v = done.v
+
+      target : NodeRef
+      target = done.target
+
       node : Node
-      node = created v.user now (next_of target.server forest) dir name asked
+      node = created v.user now (next_of target.server forest) done.dir name done.asked
 
       changes : List Change
       changes = AddNode target.server node ∷ EditNode target (Mark v.user now) ∷ []
@@ -369,60 +327,104 @@ module _ (setting : Setting) (forest : List Server) (session : Session) (sound :
       after : List Server
       after = all_applied changes forest
 
-      lawful : AllLawful forest changes
-      lawful = (refl, ((λ m there'. keeps-mark v.user now m), tt))
-
-      evolves : Evolves forest after
-      evolves = evolves-all forest changes lawful
-
-      kept : FidsFit setting.table after session.fids
-      kept = fits-evolved setting.table forest after sound evolves session.fids fits
-
       place : NodeRef
       place = beside target (next_of target.server forest)
 
+      outcome : Outcome
+      outcome = record {
+        changes = changes;
+        session = entered fid (v.trail ++ place ∷ []) done.opening session;
+        reply = Rcreate (qid_of place node) (room_of session);
+      }
+
+      same : outcome ≡ o
+      same = let e : Ok outcome ≡ Ok o = sym done.is in cc
+
+      can : CanCreate forest v name target done.dir
+      can = can_create forest v name target done.dir done.fits
+
+      user : is_user v.user ≡ true
+      user = user-of setting forest session now ready fid v done.found
+
+      told : IsTellable done.dir
+      told = (node-sound forest ready.sound target done.dir done.there).tellable
+
+      add : AddFits forest target.server node
+      add = record {
+        dir = target.number;
+        can = record {
+          room = can.room;
+          into = ap (λ q. option_map_or is_dir q false) done.there ∙ can.into;
+          free = not_there (child_in target name forest) can.free;
+          small = omega arith;
+          empty_dir = λ _. refl;
+        };
+        number = refl;
+        parent =
+            ap Some
+            (number-node_at target.number (server_at target.server forest).nodes done.dir
+            done.there);
+        name = done.valid;
+        told = ((user, told.0.1, user), (omega arith, ready.short, ready.short));
+      }
+
+      lawful : AllLawful forest changes
+      lawful = (
+        add,
+        (
+          lawful-mark (applied (AddNode target.server node) forest)
+              (forest-applied forest (AddNode target.server node) ready.sound add) target v.user now
+              user ready.short,
+          tt,
+        ),
+      )
+
+      evolves : Evolves forest after
+      evolves = evolves-lawful forest changes ready.sound lawful
+
+      was : IsFid setting after v
+      was =
+          fid-evolved setting forest after ready.sound evolves v
+          (fid-of setting forest session now ready fid v done.found)
+
+      more : next_of target.server forest < next_of target.server after
+      more =
+          next-more setting.table forest ready.sound ready.given target done.dir node v.user now
+          done.there refl
+
+      trail : IsGivenTrail after (v.trail ++ place ∷ [])
+      trail =
+          trail-pushed after v.trail place (record { sizes = was.trail; given = was.given })
+          can.short (grind (arith, nat_tests, more))
+
       stands : fid_ref setting.table (record v {
         trail = v.trail ++ place ∷ [];
-        opened = Some (newly_opened o);
+        opened = Some (newly_opened done.opening);
       }) ≡ place
-      stands = rw (here-pushed v.trail place) (new-file forest setting.table place below refl)
+      stands =
+          rw (here-pushed v.trail place)
+          (new-file forest setting.table place ready.given refl)
 
       fit : FidFits setting.table after (record v {
         trail = v.trail ++ place ∷ [];
-        opened = Some (newly_opened o);
+        opened = Some (newly_opened done.opening);
       })
       fit p is =
-          let same : newly_opened o ≡ p = cc in
-          let more =
-          next-more setting.table forest sound below target dir node v.user now there refl in
+          let its : newly_opened done.opening ≡ p = cc in
           let kind =
-          new-kind setting.table forest sound below target dir node v.user now there refl in
+          new-kind setting.table forest ready.sound ready.given target done.dir node v.user now
+          done.there refl in
           subst (λ q. IsOpenOn setting.table after (record v {
             trail = v.trail ++ place ∷ [];
-            opened = Some (newly_opened o);
-          }) q) same (record {
+            opened = Some (newly_opened done.opening);
+          }) q) its (record {
             given = rw stands more;
             mode =
                 λ m in_place dir'. let here_is = rw stands at in_place in
-                (dir-reads o (is_dir_mode asked) test (sym (kind m here_is) ∙ dir')).mode;
+                (dir-reads done.opening (is_dir_mode done.asked) done.plain
+                (sym (kind m here_is) ∙ dir')).mode;
             stays =
                 λ m in_place dir'. let here_is = rw stands at in_place in
-                (dir-reads o (is_dir_mode asked) test (sym (kind m here_is) ∙ dir')).stays;
+                (dir-reads done.opening (is_dir_mode done.asked) done.plain
+                (sym (kind m here_is) ∙ dir')).stays;
           })
-
-  pub kept-create : (now fid : ℕ) (name : List ℕ) (perm bits : ℕ)
-      → OnDone (Kept setting.table forest)
-      (create_answer setting forest session now fid name perm bits)
-  kept-create now fid name perm bits =
-      done-given (Kept setting.table forest) _ _ _
-      (λ v found. done-need (Kept setting.table forest) _ _ _
-      (λ closed. done-need (Kept setting.table forest) _ _ _
-      (λ valid. done-given (Kept setting.table forest) _ _ _
-      (λ o known. done-given (Kept setting.table forest) _ _ _ (λ asked means.
-      done-need (Kept setting.table forest) _ _ _
-      (λ test. done-then (Kept setting.table forest)
-      (target_among forest (members_of (here v.trail) setting.table))
-      (created_in forest session now fid v name asked o) (λ target chosen.
-      done-given (Kept setting.table forest) _ _ _
-      (λ dir there. done-unless (Kept setting.table forest) _ _
-      (λ free. kept-creation now fid v target dir name asked o found there test)))))))))

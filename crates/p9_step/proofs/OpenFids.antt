@@ -10,7 +10,7 @@ use Rattle.p9_step.proofs.Evolves.{Evolves, found-evolved}
 
 module _ (table : List MountRow) (f g : List Server) (sound : IsForest f)
     (evolves : Evolves f g) where
-  fit-evolved : (v : Fid) → FidFits table f v → FidFits table g v
+  pub fit-evolved : (v : Fid) → FidFits table f v → FidFits table g v
   fit-evolved v fits o is =
       let old = fits o is in
       let more = (evolves.server (fid_ref table v).server).next in

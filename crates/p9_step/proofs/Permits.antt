@@ -1,10 +1,9 @@
 -- What holds of a wstat that no test refuses.
 use Rattle.std.proofs.Common.{◌≡◌, ◌≢◌, ℕ, ◌≤◌, Bool, true, false, List, Option, Some}
 use Rattle.std.proofs.Common.{None, is_some, option_and_then, refl, sym, ◌∙◌, subst, arith}
-use Rattle.std.specs.Prelude.{is_none, nat_lt, not, if◌then◌else◌}
+use Rattle.std.specs.Prelude.{◌&&◌, ◌||◌, is_none, nat_lt, not, if◌then◌else◌}
 use Rattle.std.specs.Option.{option_map_or, option_or}
 use Rattle.std.specs.Str.{bytes_eq}
-use Rattle.std.proofs.lemmas.Bool.{and_parts}
 use Rattle.std.proofs.lemmas.Bool.Decides.{nat_tests}
 use Rattle.std.proofs.lemmas.Slice.Eq.{bytes_eq-Decides}
 use Rattle.p9_base.specs.declared.fault.Fault.TheVariants.{FixedField, PermissionDenied}
@@ -18,7 +17,7 @@ use Rattle.p9_tree.specs.Node.{Node, is_dir}
 use Rattle.p9_tree.specs.Server.{Server}
 use Rattle.p9_tree.specs.Forest.{IsForest, child_in, node_of, server_at}
 use Rattle.p9_tree.proofs.Lookups.{number-node_at}
-use Rattle.p9_space.specs.Rights.{may, rules, to_write}
+use Rattle.p9_space.specs.Rights.{may, to_write}
 use Rattle.p9_step.specs.Rights.{may_write_parent}
 use Rattle.p9_step.specs.Wstat.{Touched, gid_fault, has_sibling, is_mode_for}
 use Rattle.p9_step.specs.Wstat.{length_fault, may_give, mode_fault, name_fault, node_change}
@@ -63,6 +62,13 @@ same_kind false true e = let no : false ≡ true = e in absurd (cc)
 is_there : {X : Type 0} (o : Option X) → is_none o ≡ false → is_some o ≡ true
 is_there None e = let no : true ≡ false = e in absurd (cc)
 is_there (Some x) e = refl
+
+second_of : (a b c : Bool) → (a && c || b && c) ≡ true → c ≡ true
+second_of a b true e = refl
+second_of true true false e = e
+second_of true false false e = e
+second_of false true false e = e
+second_of false false false e = e
 
 not_above : (size : ℕ) → nat_lt file_max size ≡ false → size ≤ file_max
 not_above size e = grind (arith, nat_tests)
@@ -129,7 +135,8 @@ module _ (user : List ℕ) (forest : List Server) (at : NodeRef) (n : Node) (t :
     own_group gid is =
         let free : gid_fault user n gid ≡ None = rw is at permits.gid in
         let gives : may_give user n gid ≡ true = no_if PermissionDenied _ free in
-        (bytes_eq-Decides gid user).0 (and_parts (rules user n) (bytes_eq gid user) gives).1
+        (bytes_eq-Decides gid user).0
+        (second_of (bytes_eq n.uid user) (bytes_eq n.gid user) (bytes_eq gid user) gives)
 
     -- so the node may be changed
     pub can_change : (now : ℕ) → IsForest forest → node_of at forest ≡ Some n

@@ -1,90 +1,59 @@
 -- A reply in whose place memory may be refused is no refusal.
-use Rattle.std.proofs.Common.{◌≡◌, ℕ, Bool, true, false, List, [], ◌∷◌, Option, Some, None, Ok, Err}
-use Rattle.std.proofs.Common.{refl}
-use Rattle.p9_base.specs.declared.fault.Fault.{Fault}
-use Rattle.p9_base.specs.declared.node_ref.NodeRef.{NodeRef}
-use Rattle.p9_base.specs.declared.qid.Qid.{Qid}
-use Rattle.p9_tree.specs.Node.{Node}
+use Rattle.std.proofs.Common.{Bool, Err, List, Ok, false, inl, inr, refl, subst, sym, true, ℕ, ◌≡◌}
 use Rattle.p9_tree.specs.Server.{Server}
-use Rattle.p9_wire.specs.Message.{StatFields, TMessage, Tversion, Tauth, Tattach, Tflush, Twalk}
-use Rattle.p9_wire.specs.Message.{Topen, Tcreate, Tread, Twrite, Tclunk, Tremove, Tstat, Twstat}
-use Rattle.p9_space.specs.Table.{members_of}
-use Rattle.p9_space.specs.Trail.{here}
-use Rattle.p9_fids.specs.Fid.{Fid}
-use Rattle.p9_step.specs.State.{Setting, Session}
+use Rattle.p9_space.specs.Rights.{may}
+use Rattle.p9_wire.specs.Message.{RMessage, StatFields, TMessage, Tattach, Tauth, Tclunk, Tcreate}
+use Rattle.p9_wire.specs.Message.{Tflush, Topen, Tread, Tremove, Tstat, Tversion, Twalk, Twrite}
+use Rattle.p9_wire.specs.Message.{Twstat}
 use Rattle.p9_step.specs.Answer.{Answer, Outcome, is_error}
-use Rattle.p9_step.specs.Attach.{attach_answer}
-use Rattle.p9_step.specs.Walk.{ended_walk, walk_answer}
-use Rattle.p9_step.specs.Create.{create_answer, created_in, target_among}
-use Rattle.p9_step.specs.Write.{write_answer, write_file}
-use Rattle.p9_step.specs.Wstat.{wstat_answer}
+use Rattle.p9_step.specs.Change.{Change}
+use Rattle.p9_step.specs.Create.{creation}
 use Rattle.p9_step.specs.Memory.{may_run_out}
+use Rattle.p9_step.specs.State.{Session, Setting}
 use Rattle.p9_step.specs.Step.{session_answer}
-use Rattle.p9_step.proofs.Done.{OnDone, done-err, done-given, done-is, done-need, done-ok}
-use Rattle.p9_step.proofs.Done.{done-then, done-unless}
+use Rattle.p9_step.proofs.Done.{OnDone, done-err, done-is, done-map, done-ok, refused-is}
+use Rattle.p9_step.proofs.Passed.{AttachDone, ClunkDone, CreateDone, OpenDone, ReadDone, RemoveDone}
+use Rattle.p9_step.proofs.Passed.{StatDone, VersionDone, WalkDone, WriteDone, WstatDone}
+use Rattle.p9_step.proofs.Passed.{attach-done, clunk-done, create-done, open-done, read-done}
+use Rattle.p9_step.proofs.Passed.{remove-done, stat-done, version-done, walk-done, write-done}
+use Rattle.p9_step.proofs.Passed.{wstat-done}
 
 -- the reply is no refusal
 abbrev pub IsPlain : Outcome → Type 0
 IsPlain outcome = is_error outcome.reply ≡ false
 
-plain-attach : (setting : Setting) (forest : List Server) (session : Session) (fid afid : ℕ)
-    (uname aname : List ℕ)
-    → OnDone IsPlain (attach_answer setting forest session fid afid uname aname)
-plain-attach setting forest session fid afid uname aname =
-    done-unless IsPlain _ _
-    (λ e1. done-need IsPlain _ _ _
-    (λ e2. done-given IsPlain _ _ _
-    (λ user e3. done-need IsPlain _ _ _
-    (λ e4. done-given IsPlain _ _ _ (λ file e5. done-ok IsPlain _ refl)))))
+-- an outcome of this reply, which is none
+plain_as : (o : Outcome) (changes : List Change) (session : Session) (m : RMessage)
+    → o ≡ record { changes = changes; session = session; reply = m } → is_error m ≡ false
+    → IsPlain o
+plain_as o changes session m is plain = subst IsPlain (sym is) plain
 
-plain-ended_walk : (fid newfid : ℕ) (v : Fid) (session : Session) (trail : List NodeRef)
-    (stopped : Option Fault) (qids : List Qid)
-    → OnDone IsPlain (ended_walk fid newfid v session trail stopped qids)
-plain-ended_walk fid newfid v session trail None qids = done-ok IsPlain _ refl
-plain-ended_walk fid newfid v session trail (Some fault) [] = done-err IsPlain fault
-plain-ended_walk fid newfid v session trail (Some fault) (qid ∷ qids) = done-ok IsPlain _ refl
+module _ (setting : Setting) (forest : List Server) (session : Session) where
+  plain-attach : (fid : ℕ) (uname : List ℕ) (o : Outcome)
+      → AttachDone setting forest session fid uname o → IsPlain o
+  plain-attach fid uname o done = plain_as o _ _ _ done.is refl
 
-plain-walk : (setting : Setting) (forest : List Server) (session : Session) (fid newfid : ℕ)
-    (names : List (List ℕ)) → OnDone IsPlain (walk_answer setting forest session fid newfid names)
-plain-walk setting forest session fid newfid names =
-    done-given IsPlain _ _ _
-    (λ v e1. done-need IsPlain _ _ _
-    (λ e2. done-unless IsPlain _ _ (λ e3. plain-ended_walk fid newfid v session _ _ _)))
+  plain-walk : (fid newfid : ℕ) (names : List (List ℕ)) (o : Outcome)
+      → WalkDone setting forest session fid newfid names o → IsPlain o
+  plain-walk fid newfid names o done =
+      elim done.is [ inl is ↦ plain_as o _ _ _ is refl | inr is ↦ plain_as o _ _ _ is refl ]
 
-plain-create : (setting : Setting) (forest : List Server) (session : Session) (now fid : ℕ)
-    (name : List ℕ) (perm bits : ℕ)
-    → OnDone IsPlain (create_answer setting forest session now fid name perm bits)
-plain-create setting forest session now fid name perm bits =
-    done-given IsPlain _ _ _
-    (λ v e1. done-need IsPlain _ _ _
-    (λ e2. done-need IsPlain _ _ _
-    (λ e3. done-given IsPlain _ _ _ (λ o e4. done-given IsPlain _ _ _ (λ asked e5.
-    done-need IsPlain _ _ _
-    (λ e6. done-then IsPlain (target_among forest (members_of (here v.trail) setting.table))
-    (created_in forest session now fid v name asked o) (λ target e7.
-    done-given IsPlain _ _ _
-    (λ dir e8. done-unless IsPlain _ _ (λ e9. done-ok IsPlain _ refl)))))))))
+  plain-create : (now fid : ℕ) (name : List ℕ) (o : Outcome)
+      → CreateDone setting forest session now fid name o → IsPlain o
+  plain-create now fid name o done =
+      done-is IsPlain (creation forest session now fid done.v done.target done.dir name done.asked
+      done.opening) o (done-ok IsPlain _ refl) (sym done.is)
 
-plain-write_file : (session : Session) (now : ℕ) (v : Fid) (at : NodeRef) (n : Node) (offset : ℕ)
-    (bytes : List ℕ) → OnDone IsPlain (write_file session now v at n offset bytes)
-plain-write_file session now v at n offset [] = done-ok IsPlain _ refl
-plain-write_file session now v at n offset (b ∷ bs) =
-    done-need IsPlain _ _ _ (λ e. done-ok IsPlain _ refl)
+  plain-write : (now fid offset : ℕ) (bytes : List ℕ) (o : Outcome)
+      → WriteDone setting forest session now fid offset bytes o → IsPlain o
+  plain-write now fid offset bytes o done = elim done.is [
+    | inl none ↦ plain_as o _ _ _ none.1 refl
+    | inr some ↦ plain_as o _ _ _ some.1 refl
+  ]
 
-plain-write : (setting : Setting) (forest : List Server) (session : Session) (now fid offset : ℕ)
-    (bytes : List ℕ) → OnDone IsPlain (write_answer setting forest session now fid offset bytes)
-plain-write setting forest session now fid offset bytes =
-    done-given IsPlain _ _ _
-    (λ v e1. done-need IsPlain _ _ _
-    (λ e2. done-given IsPlain _ _ _ (λ n e3. plain-write_file session now v _ n offset bytes)))
-
-plain-wstat : (setting : Setting) (forest : List Server) (session : Session) (now fid : ℕ)
-    (wanted : StatFields) → OnDone IsPlain (wstat_answer setting forest session now fid wanted)
-plain-wstat setting forest session now fid wanted =
-    done-given IsPlain _ _ _
-    (λ v e1. done-given IsPlain _ _ _
-    (λ n e2. done-need IsPlain _ _ _
-    (λ e3. done-unless IsPlain _ _ (λ e4. done-ok IsPlain _ refl))))
+  plain-wstat : (now fid : ℕ) (wanted : StatFields) (o : Outcome)
+      → WstatDone setting forest session now fid wanted o → IsPlain o
+  plain-wstat now fid wanted o done = plain_as o _ _ _ done.is refl
 
 -- where memory may be refused
 abbrev pub IsPlainIf : Bool → Outcome → Type 0
@@ -93,32 +62,61 @@ IsPlainIf may outcome = may ≡ true → is_error outcome.reply ≡ false
 plain_if : (may : Bool) (answer : Answer) → OnDone IsPlain answer → OnDone (IsPlainIf may) answer
 plain_if may (Ok outcome) plain =
     done-ok (IsPlainIf may) outcome (λ e. done-is IsPlain (Ok outcome) outcome plain refl)
-plain_if may (Err fault) plain = done-err (IsPlainIf may) fault
+plain_if may (Err fault) plain =
+    done-err (IsPlainIf may) fault (refused-is IsPlain (Err fault) fault plain refl)
 
-never : (answer : Answer) → OnDone (IsPlainIf false) answer
-never (Ok outcome) = done-ok (IsPlainIf false) outcome (λ e. absurd (cc))
-never (Err fault) = done-err (IsPlainIf false) fault
+never : (P : Outcome → Type 0) (answer : Answer) → OnDone P answer
+    → OnDone (IsPlainIf false) answer
+never P answer done = done-map P (IsPlainIf false) answer (λ outcome its e. absurd (cc)) done
 
 -- of each message, in the manual's order
 pub plain-session_answer : (setting : Setting) (forest : List Server) (taken : Bool)
     (session : Session) (now : ℕ) (m : TMessage)
     → OnDone (IsPlainIf (may_run_out m (session_answer setting forest taken session now m)))
     (session_answer setting forest taken session now m)
-plain-session_answer setting forest taken session now (Tversion msize version) = never _
-plain-session_answer setting forest taken session now (Tauth afid uname aname) = never _
+plain-session_answer setting forest taken session now (Tversion msize version) =
+    never (VersionDone setting forest session now msize) _
+    (version-done setting forest session now msize version)
+plain-session_answer setting forest taken session now (Tauth afid uname aname) =
+    done-err (IsPlainIf false) _ refl
 plain-session_answer setting forest taken session now (Tattach fid afid uname aname) =
-    plain_if _ _ (plain-attach setting forest session fid afid uname aname)
-plain-session_answer setting forest taken session now (Tflush oldtag) = never _
+    plain_if _ _
+    (done-map (AttachDone setting forest session fid uname) IsPlain _
+    (plain-attach setting forest session fid uname)
+    (attach-done setting forest session fid afid uname aname))
+plain-session_answer setting forest taken session now (Tflush oldtag) =
+    done-ok (IsPlainIf false) _ (λ e. refl)
 plain-session_answer setting forest taken session now (Twalk fid newfid names) =
-    plain_if _ _ (plain-walk setting forest session fid newfid names)
-plain-session_answer setting forest taken session now (Topen fid mode) = never _
+    plain_if _ _
+    (done-map (WalkDone setting forest session fid newfid names) IsPlain _
+    (plain-walk setting forest session fid newfid names)
+    (walk-done setting forest session fid newfid names))
+plain-session_answer setting forest taken session now (Topen fid mode) =
+    never (OpenDone setting forest session now fid) _
+    (open-done setting forest session taken now fid mode)
 plain-session_answer setting forest taken session now (Tcreate fid name perm mode) =
-    plain_if _ _ (plain-create setting forest session now fid name perm mode)
-plain-session_answer setting forest taken session now (Tread fid offset count) = never _
+    plain_if _ _
+    (done-map (CreateDone setting forest session now fid name) IsPlain _
+    (plain-create setting forest session now fid name)
+    (create-done setting forest session now fid name perm mode))
+plain-session_answer setting forest taken session now (Tread fid offset count) =
+    never (ReadDone setting forest session now fid offset count) _
+    (read-done setting forest session now fid offset count)
 plain-session_answer setting forest taken session now (Twrite fid offset bytes) =
-    plain_if _ _ (plain-write setting forest session now fid offset bytes)
-plain-session_answer setting forest taken session now (Tclunk fid) = never _
-plain-session_answer setting forest taken session now (Tremove fid) = never _
-plain-session_answer setting forest taken session now (Tstat fid) = never _
+    plain_if _ _
+    (done-map (WriteDone setting forest session now fid offset bytes) IsPlain _
+    (plain-write setting forest session now fid offset bytes)
+    (write-done setting forest session now fid offset bytes))
+plain-session_answer setting forest taken session now (Tclunk fid) =
+    never (ClunkDone setting forest session now fid) _
+    (clunk-done setting forest session now fid)
+plain-session_answer setting forest taken session now (Tremove fid) =
+    never (RemoveDone setting forest session now fid) _
+    (remove-done setting forest session now fid)
+plain-session_answer setting forest taken session now (Tstat fid) =
+    never (StatDone setting forest session fid) _ (stat-done setting forest session fid)
 plain-session_answer setting forest taken session now (Twstat fid stat) =
-    plain_if _ _ (plain-wstat setting forest session now fid stat)
+    plain_if _ _
+    (done-map (WstatDone setting forest session now fid stat) IsPlain _
+    (plain-wstat setting forest session now fid stat)
+    (wstat-done setting forest session now fid stat))

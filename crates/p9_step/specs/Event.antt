@@ -1,7 +1,6 @@
 -- What happens to the exporter, one whole event after another.
-use Rattle.std.specs.Prelude.{ℕ, ◌==◌, ◌&&◌, Bool, nat_le, List, length}
-use Rattle.byteorder.specs.Endian.{little_number}
-use Rattle.p9_wire.specs.Frame.{msize_max}
+use Rattle.std.specs.Prelude.{ℕ, ◌<◌, ◌^◌, List}
+use Rattle.p9_wire.specs.Laws.{IsBytes}
 
 -- a session is opened, gets a frame at a reading of the clock, and is closed at one
 pub data Event : Type 0 where
@@ -9,8 +8,8 @@ pub data Event : Type 0 where
   Message : (name : ℕ) (frame : List ℕ) (now : ℕ) → Event
   Close : (name now : ℕ) → Event
 
--- as many bytes as its size says, and no fewer than a header has
-abbrev pub is_frame : List ℕ → Bool
-is_frame frame =
-    nat_le 7 (length frame) && nat_le (length frame) msize_max
-    && little_number 4 frame == length frame
+-- an event that can happen: a frame is of bytes, and a reading of the clock has 32 bits
+abbrev pub IsEvent : Event → Type 0
+IsEvent (Open name) = Unit {0}
+IsEvent (Message name frame now) = IsBytes frame × (now < 2 ^ 32)
+IsEvent (Close name now) = now < 2 ^ 32

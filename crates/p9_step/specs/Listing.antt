@@ -3,9 +3,9 @@ use Rattle.std.specs.Prelude.{ℕ, suc, ◌==◌, ◌&&◌, ◌||◌, Bool, true
 use Rattle.std.specs.Prelude.{◌++◌, Option, filter, map, if◌then◌else◌}
 use Rattle.std.specs.Option.{option_map_or}
 use Rattle.p9_base.specs.declared.node_ref.NodeRef.{NodeRef}
-use Rattle.p9_tree.specs.Node.{Node, is_dir, is_in}
+use Rattle.p9_tree.specs.Node.{Node, is_dir}
 use Rattle.p9_tree.specs.Server.{Server}
-use Rattle.p9_tree.specs.Forest.{node_of, server_at}
+use Rattle.p9_tree.specs.Forest.{children_of, node_of}
 use Rattle.p9_space.specs.declared.row.Member.{Member}
 use Rattle.p9_space.specs.Rights.{may, to_read}
 use Rattle.p9_space.specs.Table.{MountRow, members_of}
@@ -20,10 +20,6 @@ pub record Entry : Type 0 where
 -- the node as an entry of the member at the position
 abbrev pub entry_at : ℕ → NodeRef → Node → Entry
 entry_at position member n = record { position = position; member = member; node = n }
-
--- the nodes of a directory, by rising number
-abbrev pub children_of : NodeRef → List Server → List Node
-children_of dir forest = filter (is_in dir.number) (server_at dir.server forest).nodes
 
 module _ (forest : List Server) (user : List ℕ) where
   -- an alive directory that the user may read; the first member without this test

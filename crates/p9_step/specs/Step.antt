@@ -1,5 +1,5 @@
 -- A step: what one event makes of a state, and the bytes that answer it.
-use Rattle.std.specs.Prelude.{ℕ, ◌&&◌, ◌||◌, Bool, false, List, [], ◌∷◌, ◌++◌}
+use Rattle.std.specs.Prelude.{ℕ, ◌&&◌, ◌||◌, Bool, false, List, [], ◌∷◌}
 use Rattle.std.specs.Prelude.{Ok, Err, is_some, if◌then◌else◌}
 use Rattle.std.specs.Option.{option_map_or}
 use Rattle.p9_base.specs.declared.fault.Fault.TheVariants.{NoAuthentication}
@@ -26,7 +26,8 @@ use Rattle.p9_step.specs.Stat.{stat_answer}
 use Rattle.p9_step.specs.Wstat.{wstat_answer}
 use Rattle.p9_step.specs.Request.{request_of, tag_of}
 use Rattle.p9_step.specs.Memory.{no_memory_reply, ran_out}
-use Rattle.p9_step.specs.Event.{Event, Open, Message, Close, is_frame}
+use Rattle.p9_wire.specs.Frame.{is_frame}
+use Rattle.p9_step.specs.Event.{Event, Open, Message, Close}
 
 -- each message, in the manual's order; taken says that the file that an open asks for is taken
 abbrev pub session_answer : Setting → List Server → Bool → Session → ℕ → TMessage → Answer
@@ -129,14 +130,19 @@ step state (Message name frame now) refused =
 step state (Close name now) refused =
     option_map_or (closed state name now) (session_at name state.sessions) (unchanged state)
 
--- one event after another, with their marks; the replies are joined
-abbrev pub run : State → List Event → List Bool → Stepped
-run state [] marks = unchanged state
-run state (event ∷ events) [] =
-    let here = step state event false in
-    let later = run here.state events [] in
-    record { state = later.state; reply = here.reply ++ later.reply }
-run state (event ∷ events) (refused ∷ marks) =
-    let here = step state event refused in
-    let later = run here.state events marks in
-    record { state = later.state; reply = here.reply ++ later.reply }
+-- an event, and its mark: whether memory was refused
+abbrev pub Marked : Type 0
+Marked = Event × Bool
+
+-- the state after events, and the bytes that answer each of them
+pub record Ran : Type 0 where
+  pub state : State
+  pub replies : List (List ℕ)
+
+-- one event after another
+abbrev pub run : State → List Marked → Ran
+run state [] = record { state = state; replies = [] }
+run state (event ∷ events) =
+    let here = step state event.0 event.1 in
+    let later = run here.state events in
+    record { state = later.state; replies = here.reply ∷ later.replies }

@@ -4,6 +4,7 @@ use Rattle.std.specs.Prelude.{◌∷◌, Option, Some, None, Ok, is_none, is_som
 use Rattle.std.specs.Prelude.{if◌then◌else◌}
 use Rattle.std.specs.Option.{option_map_or, option_or}
 use Rattle.std.specs.Str.{bytes_eq}
+use Rattle.p9_base.specs.Group.{is_member, leads}
 use Rattle.p9_base.specs.declared.fault.Fault.{Fault}
 use Rattle.p9_base.specs.declared.fault.Fault.TheVariants.{BadFileName, FileExists, FileTooLarge}
 use Rattle.p9_base.specs.declared.fault.Fault.TheVariants.{FixedField, IsDirectory, IsRoot}
@@ -126,10 +127,10 @@ length_fault user n size =
 abbrev pub ruling_fault : {X : Type 0} → List ℕ → Node → X → Option Fault
 ruling_fault user n touched = if rules user n then None else Some PermissionDenied
 
--- a file is given to a group by its owner, who is a member of it, or by the leader of both groups;
--- each user is the only member and the leader of the group of the same name
+-- a file is given to a group by its owner, who is a member of it, or by the leader of both groups
 abbrev pub may_give : List ℕ → Node → List ℕ → Bool
-may_give user n gid = (bytes_eq n.uid user || bytes_eq n.gid user) && bytes_eq gid user
+may_give user n gid =
+    bytes_eq n.uid user && is_member gid user || leads n.gid user && leads gid user
 
 -- a group is one that the user may give the file to
 abbrev pub gid_fault : List ℕ → Node → List ℕ → Option Fault

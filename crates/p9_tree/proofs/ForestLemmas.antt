@@ -1,7 +1,10 @@
 -- What holds of each tree, and a change of one, seen in the list of the servers.
-use Rattle.std.proofs.Common.{◌≡◌, ℕ, zero, suc, ◌<◌, List, [], ◌∷◌, length, get_or, set, map, Some}
+use Rattle.std.proofs.Common.{◌≡◌, ℕ, zero, suc, ◌<◌, ◌≤◌, List, [], ◌∷◌, length, get_or, set, map}
+use Rattle.std.proofs.Common.{Some}
 use Rattle.std.proofs.Common.{slice_get, sym, ap, ◌∙◌, subst, arith, IsTrue}
 use Rattle.std.proofs.lemmas.Grind.{common_steps}
+use Rattle.std.proofs.lemmas.List.{length-map}
+use Rattle.p9_base.specs.NodeRef.{servers_max}
 use Rattle.p9_tree.specs.Server.{Server, WellFormed, is_dir_at}
 use Rattle.p9_tree.specs.Forest.{IsForest, server_at, tree_changed_at}
 
@@ -13,8 +16,11 @@ each-map f law (t ∷ ts) zero s e = let same : f t ≡ s = cc in subst WellForm
 each-map f law (t ∷ ts) (suc k) s e = each-map f law ts k s e
 
 pub IsForest-map : {T : Type 0} (f : T → Server) → ((t : T) → WellFormed (f t)) → (ts : List T)
-    → IsForest (map f ts)
-IsForest-map f law ts = record { servers = each-map f law ts }
+    → length ts ≤ servers_max → IsForest (map f ts)
+IsForest-map f law ts few = record {
+  few = omega (arith, length-map ts f);
+  servers = each-map f law ts;
+}
 
 -- a write over one tree, of one whose state is a change of the old one's, changes that server
 pub map-tree_changed_at : {T : Type 0} (f : T → Server) (change : Server → Server) (ts : List T)

@@ -1,7 +1,9 @@
 -- The servers by their numbers.
-use Rattle.std.specs.Prelude.{◌≡◌, ℕ, List, [], Option, Some, slice_get, slice_set, unwrap_or, Bool}
+use Rattle.std.specs.Prelude.{◌≡◌, ℕ, ◌≤◌, List, [], Option, Some, filter, length, slice_get}
+use Rattle.std.specs.Prelude.{slice_set, unwrap_or, Bool}
 use Rattle.p9_base.specs.declared.node_ref.NodeRef.{NodeRef}
-use Rattle.p9_tree.specs.Node.{Node}
+use Rattle.p9_base.specs.NodeRef.{servers_max}
+use Rattle.p9_tree.specs.Node.{Node, is_in}
 use Rattle.p9_tree.specs.Server.{Server, WellFormed, bytes_at, child_after, child_of, has_children}
 use Rattle.p9_tree.specs.Server.{is_dir_at, node_at, with_changed}
 
@@ -33,6 +35,10 @@ next_of server forest = (server_at server forest).next
 abbrev pub is_dir_of : NodeRef → List Server → Bool
 is_dir_of at forest = is_dir_at at.number (server_at at.server forest).nodes
 
+-- the nodes of a directory, by rising number
+abbrev pub children_of : NodeRef → List Server → List Node
+children_of dir forest = filter (is_in dir.number) (server_at dir.server forest).nodes
+
 -- whether a node stands in the directory
 abbrev pub has_children_of : NodeRef → List Server → Bool
 has_children_of dir forest = has_children dir.number (server_at dir.server forest).nodes
@@ -49,6 +55,7 @@ tree_changed_at server change forest = slice_set forest server (change (server_a
 abbrev pub forest_changed_at : NodeRef → (Node → Node) → List Server → List Server
 forest_changed_at at f forest = tree_changed_at at.server (with_changed at.number f) forest
 
--- each server is well-formed
+-- there are not too many servers, and each is well-formed
 pub record IsForest (forest : List Server) : Type 0 where
+  pub few : length forest ≤ servers_max
   pub servers : (k : ℕ) (s : Server) → slice_get forest k ≡ Some s → WellFormed s

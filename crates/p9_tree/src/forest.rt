@@ -3,6 +3,7 @@
 ghost use Rattle.std.specs.Prelude.{◌≡◌, ◌≢◌, ◌+◌, ◌≤◌, IfOk, IsFalse, IsTrue, OnErr, OnOk};
 ghost use Rattle.std.specs.Prelude.{length, map};
 ghost use Rattle.std.specs.Option.{option_copied};
+ghost use Rattle.p9_base.specs.NodeRef.{servers_max};
 ghost use Rattle.p9_tree.specs.Bytes.{cut_to, overwritten, put_front, read_from};
 ghost use Rattle.p9_tree.specs.Change.{CanChange, changed};
 ghost use Rattle.p9_tree.specs.Forest.{IsForest, bytes_of, child_in, child_in_after};
@@ -19,10 +20,12 @@ use crate::node::Node;
 use crate::tree::Tree;
 use p9_base::{Name, NoMemory, NodeRef, User};
 
-/// The trees of all servers. A tree's position is its server's number. There may be none.
+/// The trees of all servers. A tree's position is its server's number, which has 16 bits, so there
+/// are at most 65,536. There may be none.
 #[derive(Drop)]
 pub struct Forest<T: Tree> {
     pub trees: Vec<T, T::Alloc>,
+    ghost few: { length trees.items ≤ servers_max },
 }
 
 impl<T: Tree> Forest<T> {
@@ -171,9 +174,11 @@ impl<T: Tree> Forest<T> {
         }
     }
 
-    /// Each server of a forest is well-formed. This does nothing when it runs; it is for a caller
-    /// that has to know so.
+    /// A forest has at most 65,536 servers, and each is well-formed. This does nothing when it
+    /// runs; it is for a caller that has to know so.
     pub fn well_formed(&self)
         ensures { IsForest (map T.state self.now.trees.items) }
-    {}
+    {
+        let _trees = &self.trees;
+    }
 }

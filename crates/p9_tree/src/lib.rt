@@ -11,8 +11,6 @@ mod forest;
 mod new;
 mod node;
 mod plain;
-#[cfg(test)]
-mod tests;
 mod tree;
 
 pub use bytes::FILE_MAX;

@@ -1,19 +1,22 @@
 -- The frames of a byte string, case by case.
 use Rattle.std.proofs.Common.{◌≡◌, ℕ, zero, suc, ◌≤◌, ◌<◌, Bool, true, false, cond, ◌||◌, ltb, List}
-use Rattle.std.proofs.Common.{◌++◌, length, take, drop, inl, inr, refl, ap, subst, ◌∙◌, arith}
-use Rattle.std.proofs.lemmas.Bool.{cases_lt, ltb-false, lt-ltb, le-ltb}
-use Rattle.std.proofs.lemmas.List.{length-append, length-drop}
+use Rattle.std.proofs.Common.{◌++◌, length, take, drop, inl, inr, refl, ap, subst, sym, ◌∙◌, arith}
+use Rattle.std.proofs.Common.{◌&&◌, nat_le, ◌==◌}
+use Rattle.std.proofs.lemmas.Bool.{and_parts, cases_lt, ltb-false, lt-ltb, le-ltb}
+use Rattle.std.proofs.lemmas.Bool.Decides.{nat_tests}
+use Rattle.std.proofs.lemmas.List.{length-append, length-drop, length-take, take-append-drop}
 use Rattle.byteorder.specs.Endian.{little_number}
 use Rattle.byteorder.specs.Numbers.{little_from-append}
 use Rattle.p9_wire.specs.declared.frame.Frame.{Frame}
 use Rattle.p9_wire.specs.declared.frame.Frame.TheVariants.{Need, Whole, Broken}
-use Rattle.p9_wire.specs.Frame.{msize_max, first_frame, Frames, Next, frames_by, frames_within}
-use Rattle.p9_wire.specs.Frame.{frames, BeginsFrames}
+use Rattle.p9_wire.specs.Frame.{header, msize_max, is_frame, first_frame, Frames, Next, frames_by}
+use Rattle.p9_wire.specs.Frame.{frames_within, frames, BeginsFrames}
 
 -- the choice that ends at a whole frame
 chosen : (a b c d : Bool) (m n : ℕ)
-    → cond a Need (cond (b || c) Broken (cond d Need (Whole m))) ≡ Whole n → (b ≡ false) × (m ≡ n)
-chosen false false false false m n e = (refl, cc)
+    → cond a Need (cond (b || c) Broken (cond d Need (Whole m))) ≡ Whole n
+    → (a ≡ false) × (b ≡ false) × (c ≡ false) × (d ≡ false) × (m ≡ n)
+chosen false false false false m n e = (refl, refl, refl, refl, cc)
 chosen false false false true m n e = absurd cc
 chosen false false true d m n e = absurd cc
 chosen false true c d m n e = absurd cc
@@ -26,8 +29,8 @@ whole_size bytes size e =
     let c =
     chosen (ltb (length bytes) 4) (ltb said 7) (ltb msize_max said) (ltb (length bytes) said)
     said size e in
-    let least : 7 ≤ said = ltb-false _ _ c.0 in
-    omega (arith, c.1)
+    let least : 7 ≤ said = ltb-false _ _ c.1 in
+    omega (arith, c.4)
 
 -- fewer than four bytes hold no size
 pub first_frame-few : (bytes : List ℕ) → length bytes < 4 → first_frame bytes ≡ Need
@@ -103,3 +106,46 @@ first_frame-append bytes more known = elim (cases_lt (length bytes) 4) [
       (still (ltb size 7 || ltb msize_max size) (ltb (length bytes) size)
       (ltb (length (bytes ++ more)) size) size longer (λ e. known (rw old e)))
 ]
+
+-- a whole frame is the first of itself
+frame-first : (frame : List ℕ) → is_frame frame ≡ true → first_frame frame ≡ Whole (length frame)
+frame-first frame whole =
+    let parts =
+    and_parts (nat_le header (length frame) && nat_le (length frame) msize_max)
+    (little_number 4 frame == length frame) whole in
+    let sizes =
+    and_parts (nat_le header (length frame)) (nat_le (length frame) msize_max) parts.0 in
+    let said : little_number 4 frame ≡ length frame = grind (arith, nat_tests, parts.1) in
+    let low : header ≤ length frame = grind (arith, nat_tests, sizes.0) in
+    let high : length frame ≤ msize_max = grind (arith, nat_tests, sizes.1) in
+    let enough : ltb (length frame) 4 ≡ false = le-ltb _ _ (omega arith) in
+    let least : ltb (length frame) header ≡ false = le-ltb _ _ low in
+    let most : ltb msize_max (length frame) ≡ false = le-ltb _ _ high in
+    let all : ltb (length frame) (length frame) ≡ false = le-ltb _ _ (omega arith) in
+    rw (enough, said, least, most, all) refl
+
+-- and of all bytes that begin with it
+pub frame-first-append : (frame more : List ℕ) → is_frame frame ≡ true
+    → first_frame (frame ++ more) ≡ Whole (length frame)
+frame-first-append frame more whole =
+    let first = frame-first frame whole in
+    first_frame-append frame more (λ need. let no : Need ≡ Whole (length frame) =
+    sym need ∙ first in absurd (cc))
+    ∙ first
+
+-- the first frame of bytes is a whole one
+pub first_frame-whole : (bytes : List ℕ) (size : ℕ) → first_frame bytes ≡ Whole size
+    → (is_frame (take size bytes) ≡ true) × (length (take size bytes) ≡ size)
+first_frame-whole bytes size e =
+    let said = little_number 4 bytes in
+    let c =
+    chosen (ltb (length bytes) 4) (ltb said 7) (ltb msize_max said) (ltb (length bytes) said)
+    said size e in
+    let low : 7 ≤ said = ltb-false _ _ c.1 in
+    let high : said ≤ msize_max = ltb-false _ _ c.2 in
+    let held : said ≤ length bytes = ltb-false _ _ c.3 in
+    let long : length (take size bytes) ≡ size = omega (arith, length-take size bytes, c.4) in
+    let same : little_number 4 (take size bytes) ≡ said =
+    sym (little_from-append 4 (take size bytes) (drop size bytes) (omega (arith, c.4)))
+    ∙ ap (little_number 4) (take-append-drop size bytes) in
+    (rw (same, long, c.4) (grind (arith, nat_tests, low, high, c.4)), long)

@@ -1,6 +1,6 @@
 -- The frames of a byte string.
-use Rattle.std.specs.Prelude.{◌≡◌, ℕ, zero, suc, List, length, take, drop, nat_lt, ◌||◌}
-use Rattle.std.specs.Prelude.{if◌then◌else◌}
+use Rattle.std.specs.Prelude.{◌≡◌, ℕ, zero, suc, ◌==◌, ◌&&◌, ◌||◌, Bool, List, length, take, drop}
+use Rattle.std.specs.Prelude.{nat_le, nat_lt, if◌then◌else◌}
 use Rattle.byteorder.specs.Endian.{little_number}
 use Rattle.p9_wire.specs.declared.frame.Frame.{Frame}
 use Rattle.p9_wire.specs.declared.frame.Frame.TheVariants.{Need, Whole, Broken}
@@ -9,12 +9,22 @@ use Rattle.p9_wire.specs.declared.frame.Frame.TheVariants.{Need, Whole, Broken}
 abbrev pub msize_max : ℕ
 msize_max = 65536
 
+-- the least size of a frame: that of the header
+abbrev pub header : ℕ
+header = 7
+
+-- one whole frame: as many bytes as its size says, and no fewer than a header has
+abbrev pub is_frame : List ℕ → Bool
+is_frame frame =
+    nat_le header (length frame) && nat_le (length frame) msize_max
+    && little_number 4 frame == length frame
+
 -- what stands at the front of bytes: four of them say a frame's size, which counts itself
 abbrev pub first_frame : List ℕ → Frame
 first_frame bytes =
     if nat_lt (length bytes) 4 then Need
     else (let size = little_number 4 bytes in
-    if nat_lt size 7 || nat_lt msize_max size then Broken
+    if nat_lt size header || nat_lt msize_max size then Broken
     else (if nat_lt (length bytes) size then Need else Whole size))
 
 -- whole frames from the front, ended by a rest that is no whole frame or by a size of no frame

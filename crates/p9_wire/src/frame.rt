@@ -1,7 +1,7 @@
 //! Frames on a stream.
 
 ghost use Rattle.std.specs.Prelude.{◌≡◌};
-ghost use Rattle.p9_wire.specs.Frame.{first_frame, BeginsFrames};
+ghost use Rattle.p9_wire.specs.Frame.{first_frame, is_frame, BeginsFrames};
 
 use crate::constants::{HEADER, MSIZE_MAX};
 use byteorder::{ByteOrder, LittleEndian};
@@ -35,4 +35,14 @@ pub fn frame_of(bytes: &[u8]) -> Frame
     } else {
         Frame::Whole(size)
     }
+}
+
+/// Whether the bytes are one whole frame: as many as their size says, from 7 to `MSIZE_MAX`.
+/// Whatever else they are, such a frame gets a reply.
+pub fn is_frame(bytes: &[u8]) -> bool
+    ensures { result ≡ is_frame bytes.now }
+{
+    HEADER <= bytes.len()
+        && bytes.len() <= MSIZE_MAX as usize
+        && LittleEndian::read_u32(bytes) as usize == bytes.len()
 }

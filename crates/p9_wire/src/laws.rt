@@ -1,11 +1,11 @@
 //! What follows from the grammar alone. Each function does nothing: its clauses are the laws.
 
-ghost use Rattle.std.specs.Prelude.{◌≡◌, ◌≢◌, ℕ, ◌+◌, List, ◌++◌, length};
+ghost use Rattle.std.specs.Prelude.{◌≡◌, ◌≢◌, ℕ, ◌+◌, IsTrue, List, ◌++◌, length, take};
 ghost use Rattle.p9_wire.specs.Message.{TMessage, RMessage};
 ghost use Rattle.p9_wire.specs.Spelling.{t_len, t_spelling, TSpells, r_len, r_spelling, RSpells};
 ghost use Rattle.p9_wire.specs.Reading.{t_message_of, r_message_of};
-ghost use Rattle.p9_wire.specs.Frame.{first_frame, BeginsFrames};
-ghost use Rattle.p9_wire.specs.declared.frame.Frame.TheVariants.{Need};
+ghost use Rattle.p9_wire.specs.Frame.{first_frame, is_frame, BeginsFrames};
+ghost use Rattle.p9_wire.specs.declared.frame.Frame.TheVariants.{Need, Whole};
 ghost use Rattle.p9_wire.specs.Laws.{ReadsSpellings, ReadsEachSpelling, HasOneMessage};
 ghost use Rattle.p9_wire.specs.Laws.{HasOneSpelling};
 
@@ -33,4 +33,13 @@ pub fn frames_begin_at_the_front()
     ensures first { (bytes : List ℕ) → BeginsFrames (first_frame bytes) bytes }
     ensures later { (bytes more : List ℕ) → first_frame bytes ≢ Need
         → first_frame (bytes ++ more) ≡ first_frame bytes }
+{}
+
+/// A whole frame is the first frame of each byte string that begins with it, and the first frame of
+/// a byte string is a whole one.
+pub fn a_whole_frame_is_first()
+    ensures first { (frame more : List ℕ) → IsTrue (is_frame frame)
+        → first_frame (frame ++ more) ≡ Whole (length frame) }
+    ensures whole { (bytes : List ℕ) (size : ℕ) → first_frame bytes ≡ Whole size
+        → IsTrue (is_frame (take size bytes)) × (length (take size bytes) ≡ size) }
 {}

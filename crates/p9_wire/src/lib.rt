@@ -19,11 +19,9 @@ mod r_reading;
 mod r_writing;
 mod t_reading;
 mod t_writing;
-#[cfg(test)]
-mod tests;
 
 pub use constants::{HEADER, IOHDRSZ, MAXWELEM, MSIZE_MAX, NOTAG, STAT_FIXED};
-pub use frame::{Frame, frame_of};
+pub use frame::{Frame, frame_of, is_frame};
 pub use message::{RMsg, Stat, TMsg};
 pub use names::Names;
 pub use put::write_stat;

@@ -19,6 +19,3 @@ mod world;
 pub use error::{LineFault, WorldError};
 pub use read::read_world;
 pub use world::{SERVERS_MAX, World};
-
-#[cfg(test)]
-mod tests;

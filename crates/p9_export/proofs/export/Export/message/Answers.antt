@@ -1,23 +1,29 @@
-use Rattle.std.proofs.Common.{map, take}
+use Rattle.std.proofs.Common.{◌<◌, arith, map, take}
+use Rattle.std.proofs.lemmas.List.Elements.{All-from_get_or}
+use Rattle.p9_wire.specs.Laws.{IsBytes}
 use Rattle.p9_step.specs.State.{State}
-use Rattle.p9_export.proofs.Sounds.{sound-among}
-use Rattle.p9_step.proofs.Sounds.{each-session-sound}
+use Rattle.p9_step.specs.Sound.{IsState}
+use Rattle.p9_export.proofs.Sounds.{reply-short, served-among}
+use Rattle.p9_step.proofs.Sounds.{each-session-served}
 use Rattle.p9_export.proofs.Steps.{among-makes}
 use Rattle.p9_export.proofs.export.Export.message.Goals as goal
 
 pub answer-answered-requires-clause-sound : goal.answer-answered-requires-clause-sound
 answer-answered-requires-clause-sound g c =
-    each-session-sound c.self.inside.setting.table
+    each-session-served c.self.inside.setting
     (map g.T.Tree.state c.self.inside.forest.trees.items) c.self.inside.sessions.entries c.args.name
     c.self.invariant
 
 pub invariant_of-self : goal.invariant_of-self
 invariant_of-self g c =
     let live = rw (← c.self.view_is) at c.requires.live in
-    sound-among c.self.inside.setting (map g.T.Tree.state c.self.inside.forest.trees.items)
+    served-among c.self.inside.setting (map g.T.Tree.state c.self.inside.forest.trees.items)
     (map g.T.Tree.state c.answer-answered.new.forest.trees.items) c.self.inside.sessions.entries
     c.answer-answered.new.sessions.entries c.args.name c.args.now c.args.frame.now _
-    c.well_formed-2.ensures c.self.invariant live c.answer-answered.ensures.answer
+    c.well_formed-2.ensures c.self.invariant live
+    (All-from_get_or (λ b. b < 256) c.args.frame.now 0 (λ i lt. omega (arith, c.type_inv.frame i)))
+    c.ranges.now.fits
+    c.answer-answered.ensures.answer
 
 pub returns-clause-state : goal.returns-clause-state
 returns-clause-state g c =
@@ -52,3 +58,33 @@ returns-clause-bytes g c =
     (take c.write_reply.result c.write_reply.new.out) _ live c.requires.whole
     c.answer-answered.ensures.answer written in
     rw (← c.self.view_is) made.bytes_are
+
+pub returns-clause-short : goal.returns-clause-short
+returns-clause-short g c =
+    let old : State = record {
+      setting = c.self.inside.setting;
+      forest = map g.T.Tree.state c.self.inside.forest.trees.items;
+      sessions = c.self.inside.sessions.entries;
+    } in
+    let its : IsState old = record {
+      forest = c.well_formed-2.ensures;
+      served = c.self.invariant;
+    } in
+    let live = rw (← c.self.view_is) at c.requires.live in
+    let written = rw c.tag_of-tag.ensures at c.write_reply.ensures.bytes in
+    let made =
+    among-makes old c.args.name c.args.now
+    (map g.T.Tree.state c.answer-answered.new.forest.trees.items)
+    c.answer-answered.new.sessions.entries c.args.frame.now
+    (take c.write_reply.result c.write_reply.new.out) _ live c.requires.whole
+    c.answer-answered.ensures.answer written in
+    let bytes : IsBytes c.args.frame.now =
+    All-from_get_or (λ b. b < 256) c.args.frame.now 0 (λ i lt. omega (arith, c.type_inv.frame i)) in
+    rw (← c.self.view_is)
+    (reply-short old c.args.name c.args.now c.args.frame.now c.write_reply.result
+    c.write_reply.new.out _ its bytes c.requires.whole (omega (
+      arith,
+      c.write_reply.ensures.within,
+      c.write_reply.auto.out,
+    ))
+    made.bytes_are)

@@ -1,0 +1,27 @@
+//! Tests of the exporter that no row of `p9_rows` holds: refused memory, so many files or fids or
+//! modes that a loop says it better, and calls that the program's command doesn't make. There is
+//! nothing else here.
+#![tactic(auto)]
+
+#[cfg(test)]
+mod again;
+#[cfg(test)]
+mod exchange;
+#[cfg(test)]
+mod fids;
+#[cfg(test)]
+mod growth;
+#[cfg(test)]
+mod many;
+#[cfg(test)]
+mod modes;
+#[cfg(test)]
+mod refused;
+#[cfg(test)]
+mod refused_scripts;
+#[cfg(test)]
+mod sessions;
+#[cfg(test)]
+mod worlds;
+#[cfg(test)]
+mod zeros;

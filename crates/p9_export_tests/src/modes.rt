@@ -1,0 +1,64 @@
+//! Opens in each of the 256 modes.
+
+use crate::exchange::{Exchange, exchange, is_reply, send};
+use crate::worlds::begun;
+use std::alloc::Global;
+use std::process::Abort;
+
+// Opens fid 1, where a walk took it, by a mode.
+fn open_by(rt: &impl Abort, alloc: Global, walk: Exchange, mode: u8, wanted: &str) {
+    let mut export = begun(rt, alloc);
+    exchange(rt, alloc, &mut export, 0, walk);
+    let frame = [12, 0, 0, 0, 112, 2, 0, 1, 0, 0, 0, mode];
+    let mut reply = [0u8; 65_536];
+    let size = send(rt, &mut export, 1, 0, &frame, &mut reply);
+    is_reply(rt, alloc, reply.get(..size).expect(rt, "bytes"), wanted);
+}
+
+// What glenda is answered for her file of mode 644.
+fn of_file(mode: u8) -> &'static str {
+    if mode & 0x8c != 0 {
+        "160000006b02000d00626164206f70656e206d6f6465"
+    } else if mode & 3 == 3 {
+        "1a0000006b020011007065726d697373696f6e2064656e696564"
+    } else if mode & 0x10 != 0 {
+        "1800000071020000010000000300000000000000e81f0000"
+    } else {
+        "1800000071020000000000000300000000000000e81f0000"
+    }
+}
+
+// What she is answered for her directory.
+fn of_dir(mode: u8) -> &'static str {
+    if mode & 0x8c != 0 {
+        "160000006b02000d00626164206f70656e206d6f6465"
+    } else if mode & 0x53 != 0 {
+        "170000006b02000e0069732061206469726563746f7279"
+    } else {
+        "1800000071020080000000000100000000000000e81f0000"
+    }
+}
+
+#[test]
+fn every_mode_of_a_file(rt: HostRuntime) {
+    let walk = (
+        1,
+        "170000006e070000000000010000000200010061010066",
+        "230000006f070002008000000000010000000000000000000000000300000000000000",
+    );
+    for mode in 0..=255u8 {
+        open_by(&rt, rt.alloc(), walk, mode, of_file(mode));
+    }
+}
+
+#[test]
+fn every_mode_of_a_directory(rt: HostRuntime) {
+    let walk = (
+        1,
+        "140000006e070000000000010000000100010061",
+        "160000006f0700010080000000000100000000000000",
+    );
+    for mode in 0..=255u8 {
+        open_by(&rt, rt.alloc(), walk, mode, of_dir(mode));
+    }
+}

@@ -1,0 +1,86 @@
+//! Exporters of small worlds, and the beginnings of sessions.
+
+use crate::exchange::{Exchange, exchange};
+use p9_base::NodeRef;
+use p9_export::Export;
+use p9_space::{MountTable, Order, is_table_given};
+use p9_tree::{PlainTree, Tree};
+use p9_world::{World, read_world};
+use std::alloc::{Allocator, Global};
+use std::process::Abort;
+
+/// The sample world: /a is 1, /a/b is 2 and /a/f is 3.
+pub const SMALL: &str = "\
+server main
+dir /a 755 glenda glenda
+dir /a/b 755 glenda glenda
+file /a/f 644 glenda glenda 6869
+user glenda
+";
+
+/// A node that is bound at the place of another, in this order, with or without creation.
+#[derive(Clone, Copy)]
+pub struct Bind {
+    pub key: u64,
+    pub node: u64,
+    pub order: Order,
+    pub create: bool,
+}
+
+/// An exporter of the world of a text, whose first server has these binds.
+pub fn exporter<A: Allocator + Copy>(
+    rt: &impl Abort,
+    alloc: A,
+    text: &str,
+    binds: &[Bind],
+) -> Export<PlainTree<A>> {
+    let world = read_world(alloc, text).expect(rt, "a world");
+    let table = table_of(rt, alloc, binds);
+    assert!(rt; is_table_given(&world.forest, &table));
+    let World { forest, users, .. } = world;
+    Export::new(forest, users, table)
+}
+
+fn table_of<A: Allocator + Copy>(rt: &impl Abort, alloc: A, binds: &[Bind]) -> MountTable<A> {
+    let mut table = MountTable::new(alloc);
+    for bind in binds {
+        let bound = table.bind(node(bind.key), &[node(bind.node)], bind.order, bind.create);
+        assert!(rt; bound.is_ok());
+    }
+    table
+}
+
+fn node(number: u64) -> NodeRef {
+    NodeRef { server: 0, number }
+}
+
+/// A client asks for an msize of 8,192.
+pub const VERSION: (&str, &str) = (
+    "1300000064ffff002000000600395032303030",
+    "1300000065ffff002000000600395032303030",
+);
+
+/// Glenda attaches fid 0.
+pub const ATTACH: (&str, &str) = (
+    "1900000068010000000000ffffffff0600676c656e64610000",
+    "1400000069010080000000000000000000000000",
+);
+
+/// A session with its version, and glenda's fid 0 at the root.
+pub fn begin<T: Tree>(rt: &impl Abort, alloc: Global, export: &mut Export<T>, session: u32) {
+    assert_eq!(rt; export.open(session), Ok(()));
+    exchange(rt, alloc, export, 0, in_session(session, VERSION));
+    exchange(rt, alloc, export, 0, in_session(session, ATTACH));
+}
+
+/// A request and its reply in a session.
+pub fn in_session(session: u32, row: (&'static str, &'static str)) -> Exchange {
+    (session, row.0, row.1)
+}
+
+/// The sample world's exporter with session 1.
+pub fn begun(rt: &impl Abort, alloc: Global) -> Export<PlainTree<Global>> {
+    let mut export = exporter(rt, alloc, SMALL, &[]);
+    begin(rt, alloc, &mut export, 1);
+    export
+}

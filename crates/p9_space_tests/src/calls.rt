@@ -1,0 +1,176 @@
+//! The calls of mount tables and walks, made from lines.
+
+use crate::telling::{members, row, step, trail};
+use crate::words::{nodes, take_node, take_order, take_position, take_user, take_word};
+use crate::worlds::Space;
+use p9_base::{Fault, NoMemory, User};
+use p9_space::{
+    MountTable, ROOT_PLACE, TO_EXECUTE, TO_READ, TO_WRITE, Trail, find_step, is_table_given, may,
+    resolve, rules,
+};
+use p9_tree::{Forest, PlainTree, Tree};
+use std::alloc::{AllocError, Allocator, Global};
+use std::process::Abort;
+
+/// Makes the call of each line, and compares what it tells with the text behind `=`.
+pub fn plays(rt: &impl Abort, alloc: Global, space: &mut Space<Global>, lines: &str) {
+    for line in lines.lines() {
+        let (words, want) = line.split_once(" = ").unwrap_or((line, ""));
+        let told = told(rt, alloc, space, words).expect(rt, "memory");
+        assert_eq!(rt; told.as_str(), want, "{words}");
+    }
+}
+
+fn told(
+    rt: &impl Abort,
+    alloc: Global,
+    space: &mut Space<Global>,
+    words: &str,
+) -> Result<String, NoMemory> {
+    let mut rest = words;
+    let word = take_word(&mut rest);
+    match word {
+        "walk" => walk(alloc, space, &mut rest),
+        "step" => {
+            let user = take_user(&mut rest);
+            let found = find_step(
+                &space.forest,
+                &space.table,
+                &space.trail,
+                rest,
+                user.as_ref(),
+            );
+            Ok(step(alloc, found)?)
+        }
+        "up" => {
+            space.trail.step_up();
+            Ok(String::new(alloc))
+        }
+        "remove" => {
+            remove(rt, &mut space.forest, &mut rest);
+            Ok(String::new(alloc))
+        }
+        "keep" => {
+            space.kept = space.table.copy()?;
+            Ok(String::new(alloc))
+        }
+        "kept" => Ok(row(alloc, &space.kept, take_position(rt, &mut rest))?),
+        "given" => Ok(format!(in alloc; "{}", is_table_given(&space.forest, &space.table))?),
+        "may" => Ok(rights(rt, alloc, &space.forest, &mut rest)?),
+        _ => table_told(rt, alloc, &mut space.table, word, &mut rest),
+    }
+}
+
+// Walks on along names, and goes there.
+fn walk(alloc: Global, space: &mut Space<Global>, line: &mut &str) -> Result<String, NoMemory> {
+    let user = take_user(line);
+    let names: Vec<&str> = line.split(' ').collect(alloc)?;
+    match resolve(
+        &space.forest,
+        &space.table,
+        &space.trail,
+        names.as_slice(),
+        user.as_ref(),
+    ) {
+        Ok(found) => {
+            let told = trail(alloc, &space.table, &found)?;
+            space.trail = found;
+            Ok(told)
+        }
+        Err(fault) => Ok(format!(in alloc; "{fault}")?),
+    }
+}
+
+// Takes a file out of its server.
+fn remove<T: Tree>(rt: &impl Abort, forest: &mut Forest<T>, line: &mut &str) {
+    let file = take_node(rt, line);
+    assert!(rt; file.number != 0);
+    assert!(rt; forest.after(file, None).is_none());
+    forest.drop_leaf(file);
+}
+
+// Whether a user may read, write and execute a file, and whether the user rules it.
+fn rights<T: Tree>(
+    rt: &impl Abort,
+    alloc: Global,
+    forest: &Forest<T>,
+    line: &mut &str,
+) -> Result<String, AllocError> {
+    let user = take_user(line).expect(rt, "a user");
+    let file = forest.node(take_node(rt, line)).expect(rt, "a file");
+    let (read, write) = (may(&user, file, TO_READ), may(&user, file, TO_WRITE));
+    let execute = may(&user, file, TO_EXECUTE);
+    format!(in alloc; "{read} {write} {execute} {}", rules(&user, file))
+}
+
+/// Makes the call of a table, and tells what it returns.
+pub fn table_told<A: Allocator + Copy>(
+    rt: &impl Abort,
+    alloc: Global,
+    table: &mut MountTable<A>,
+    word: &str,
+    line: &mut &str,
+) -> Result<String, NoMemory> {
+    match word {
+        "bind" => {
+            bind(rt, alloc, table, line)?;
+            Ok(String::new(alloc))
+        }
+        "unmount" => Ok(unmount(rt, alloc, table, line)?),
+        "clear" => {
+            table.clear();
+            Ok(String::new(alloc))
+        }
+        _ => Ok(look(rt, alloc, table, word, line)?),
+    }
+}
+
+// Binds at a key, in an order, with or without creation, and nodes.
+fn bind<A: Allocator + Copy>(
+    rt: &impl Abort,
+    alloc: Global,
+    table: &mut MountTable<A>,
+    line: &mut &str,
+) -> Result<(), NoMemory> {
+    let key = take_node(rt, line);
+    let order = take_order(line);
+    let create = take_word(line) == "create";
+    let nodes = nodes(rt, alloc, line)?;
+    assert!(rt; nodes.len() > 0);
+    table.bind(key, nodes.as_slice(), order, create)
+}
+
+// Unmounts a member, or all.
+fn unmount<A: Allocator + Copy>(
+    rt: &impl Abort,
+    alloc: Global,
+    table: &mut MountTable<A>,
+    line: &mut &str,
+) -> Result<String, AllocError> {
+    let key = take_node(rt, line);
+    let member = if line.is_empty() {
+        None
+    } else {
+        Some(take_node(rt, line))
+    };
+    match table.unmount(key, member) {
+        Ok(()) => Ok(String::new(alloc)),
+        Err(error) => format!(in alloc; "{error}"),
+    }
+}
+
+// The count of rows, the key and members of one, or the members of a key.
+fn look<A: Allocator + Copy>(
+    rt: &impl Abort,
+    alloc: Global,
+    table: &MountTable<A>,
+    word: &str,
+    line: &mut &str,
+) -> Result<String, AllocError> {
+    match word {
+        "rows" => format!(in alloc; "{} {}", table.len(), table.is_empty()),
+        "key" => row(alloc, table, take_position(rt, line)),
+        "members" => members(alloc, &table.members(take_node(rt, line))),
+        _ => panic!(rt; "no call"),
+    }
+}

@@ -1,0 +1,133 @@
+//! A session's fids, and their limits.
+
+use crate::words::node;
+use p9_base::{Fault, NOFID, User};
+use p9_fids::{Cursor, FIDS_MAX, Fid, FidTable, OpenMode, Opened};
+use p9_space::{MountTable, Order, Trail};
+use std::alloc::{Allocator, Global};
+use std::process::Abort;
+use std::test::Fail;
+
+/// A fid of glenda's where the trail leads, not open.
+pub fn fid_on<A: Allocator + Copy>(rt: &impl Abort, trail: Trail<A>) -> Fid<A> {
+    Fid {
+        user: User::new("glenda").expect(rt, "a user"),
+        trail,
+        opened: None,
+    }
+}
+
+// The same at a place.
+fn fid_at(rt: &impl Abort, alloc: Global, place: u64) -> Fid<Global> {
+    fid_on(rt, Trail::at(alloc, node(place)).expect(rt, "a trail"))
+}
+
+// A fid joins at the place.
+fn put(rt: &impl Abort, fids: &mut FidTable<Global>, fid: u32, alloc: Global, place: u64) {
+    assert!(rt; fids.put(fid, fid_at(rt, alloc, place)).is_ok());
+}
+
+// The fid is opened.
+fn open(rt: &impl Abort, fids: &mut FidTable<Global>, fid: u32, opened: Opened) {
+    assert!(rt; fids.get(fid).is_some());
+    fids.set_opened(fid, opened);
+}
+
+const TO_READ: Opened = Opened {
+    mode: OpenMode::Read,
+    remove_on_close: false,
+    next_offset: 0,
+    cursor: None,
+};
+
+#[test]
+fn fids_are_kept_by_rising_number(rt: HostRuntime) {
+    let alloc = rt.alloc();
+    let mut fids = FidTable::new(alloc);
+    assert_eq!(rt; fids.first(), None);
+    put(&rt, &mut fids, 7, alloc, 1);
+    put(&rt, &mut fids, 3, alloc, 1);
+    put(&rt, &mut fids, 9, alloc, 1);
+    assert_eq!(rt; fids.len(), 3);
+    assert_eq!(rt; fids.first(), Some(3));
+    assert!(rt; fids.take(3).is_some());
+    assert_eq!(rt; fids.first(), Some(7));
+    assert!(rt; fids.take(3).is_none() && fids.get(3).is_none());
+}
+
+// The fid 5 moves to a place.
+fn move_to(rt: &impl Abort, fids: &mut FidTable<Global>, alloc: Global, place: u64) {
+    let trail = Trail::at(alloc, node(place)).expect(rt, "a trail");
+    assert!(rt; fids.get(5).is_some());
+    fids.move_to(5, trail);
+}
+
+#[test]
+fn a_fid_moves_and_is_opened(rt: HostRuntime) -> Result<(), Fail> {
+    let alloc = rt.alloc();
+    let mut fids = FidTable::new(alloc);
+    put(&rt, &mut fids, 5, alloc, 1);
+    move_to(&rt, &mut fids, alloc, 2);
+    let opened = Opened {
+        remove_on_close: true,
+        cursor: Some(Cursor {
+            member: 1,
+            number: 4,
+        }),
+        ..TO_READ
+    };
+    open(&rt, &mut fids, 5, opened);
+    let fid = fids.take(5).ok_or("the fid")?;
+    assert_eq!(rt; fid.trail.here(), node(2));
+    assert_eq!(rt; fid.opened, Some(opened));
+    assert_eq!(rt; fid.user.as_str(), "glenda");
+    Ok(())
+}
+
+// The fid is refused for the reason, and none joins.
+fn is_refused(rt: &impl Abort, fids: &mut FidTable<Global>, fid: u32, alloc: Global, fault: Fault) {
+    assert_eq!(rt; fids.put_fault(fid), Some(fault));
+    assert_eq!(rt; fids.put(fid, fid_at(rt, alloc, 1)), Err(fault));
+    assert_eq!(rt; fids.len(), 1024);
+}
+
+#[test]
+fn a_fid_is_refused_for_the_first_reason(rt: HostRuntime) {
+    let alloc = rt.alloc();
+    let mut fids = FidTable::new(alloc);
+    for fid in 0..FIDS_MAX as u32 {
+        put(&rt, &mut fids, fid, alloc, 1);
+    }
+    is_refused(&rt, &mut fids, NOFID, alloc, Fault::UnknownFid);
+    is_refused(&rt, &mut fids, 0, alloc, Fault::FidInUse);
+    is_refused(&rt, &mut fids, 1024, alloc, Fault::TooManyFids);
+}
+
+// Two fids are open: one on the file of a union, which is the first member, and one on that member.
+#[test]
+fn open_fids_are_counted_by_their_files(rt: HostRuntime) -> Result<(), Fail> {
+    let alloc = rt.alloc();
+    let mut table = MountTable::new(alloc);
+    table.bind(node(3), &[node(1)], Order::Before, false)?;
+    let mut fids = FidTable::new(alloc);
+    put(&rt, &mut fids, 1, alloc, 3);
+    put(&rt, &mut fids, 2, alloc, 1);
+    put(&rt, &mut fids, 3, alloc, 3);
+    open(&rt, &mut fids, 1, TO_READ);
+    open(&rt, &mut fids, 2, TO_READ);
+    assert_eq!(rt; fids.open_count(&table, node(1)), 2);
+    assert_eq!(rt; fids.open_count(&table, node(3)), 0);
+    Ok(())
+}
+
+fn gives(rt: &impl Abort, mode: OpenMode, reads: bool, writes: bool) {
+    assert_eq!(rt; (mode.reads(), mode.writes()), (reads, writes));
+}
+
+#[test]
+fn what_may_be_executed_may_be_read(rt: HostRuntime) {
+    gives(&rt, OpenMode::Read, true, false);
+    gives(&rt, OpenMode::Write, false, true);
+    gives(&rt, OpenMode::ReadWrite, true, true);
+    gives(&rt, OpenMode::Execute, true, false);
+}

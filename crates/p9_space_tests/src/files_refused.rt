@@ -1,0 +1,91 @@
+//! A run of a namespace file that was refused memory does not change the table.
+
+use crate::telling::row;
+use crate::worlds::forest;
+use p9_base::{Fault, NoMemory};
+use p9_nsfile::{NsError, OpFault, run_file};
+use p9_refusing::{Refusing, refuse_each};
+use p9_space::MountTable;
+use p9_tree::{Forest, PlainTree, Tree};
+use std::alloc::{Allocator, Global};
+use std::process::Abort;
+
+// Nodes 1 to 6: /a, /a/b and /a/f, and three files. One includes itself, one acts and has an
+// operation that fails, and one has a line of bad form behind one that would act.
+const INCLUDES: &str = "\
+server main
+dir /a 755 glenda glenda
+dir /a/b 755 glenda glenda
+file /a/f 644 glenda glenda 6869
+file /ns 644 glenda glenda 2e202f6e73
+file /acts 644 glenda glenda 6364202f610a0a62696e642062202f612f620a6364202f6e6f6e650a
+file /bad 644 glenda glenda 62696e64202f61202f612f620a62696e640a";
+
+const TEXT: &str = "\
+bind /a $home/a/b
+. /acts
+mount -a main /a $home
+unmount /a/b";
+
+// What a file is run over.
+#[derive(Drop)]
+struct Given<A: Allocator + Copy>
+where
+    PlainTree<A>: Tree,
+{
+    vars: Vec<(String<A>, String<A>), A>,
+    servers: Vec<String<A>, A>,
+    forest: Forest<PlainTree<A>>,
+}
+
+fn make_given<A: Allocator + Copy>(rt: &impl Abort, alloc: A) -> Result<Given<A>, NoMemory> {
+    let mut servers = Vec::new(alloc);
+    servers.push(String::from_str(alloc, "main")?)?;
+    let mut vars = Vec::new(alloc);
+    vars.push((String::from_str(alloc, "home")?, String::new(alloc)))?;
+    let forest = forest(rt, alloc, INCLUDES);
+    Ok(Given {
+        vars,
+        servers,
+        forest,
+    })
+}
+
+// Runs the text, which tells that `cd /none` failed and makes a row; or it was refused memory, and
+// the table is as before.
+fn run<A: Allocator + Copy>(rt: &impl Abort, telling: Global, given: &Given<A>) {
+    let memory = *given.vars.allocator();
+    let mut table = MountTable::new(memory);
+    match run_file(
+        memory,
+        TEXT,
+        &given.vars,
+        &given.servers,
+        &given.forest,
+        &mut table,
+    ) {
+        Ok(reports) => {
+            let expected = [(2, OpFault::Path(Fault::NotFound))];
+            assert_eq!(rt; reports.as_slice(), expected.as_slice());
+            let told = row(telling, &table, 0).expect(rt, "memory");
+            assert_eq!(rt; told.as_str(), "1 in 0 is 1 0");
+            assert_eq!(rt; table.len(), 1);
+        }
+        Err(error) => {
+            assert_eq!(rt; error, NsError::NoMemory);
+            assert!(rt; table.is_empty());
+        }
+    }
+}
+
+// With each request of memory refused in turn. Some growths go on with less when they are refused.
+#[test]
+fn a_table_is_as_before_at_each_refusal(rt: HostRuntime) {
+    let memory = Refusing::new(rt.alloc());
+    let refusals = refuse_each(
+        &memory,
+        || make_given(&rt, &memory).expect(&rt, "ample memory"),
+        |given| run(&rt, rt.alloc(), &given),
+    );
+    assert!(rt; refusals > 20);
+}

@@ -1,0 +1,138 @@
+//! Calls that were refused memory change nothing, and go through when made again.
+
+use crate::calls::table_told;
+use crate::telling::{row, trail};
+use crate::words::node;
+use crate::worlds::{SMALL, Space, space_of};
+use p9_base::{Fault, NoMemory};
+use p9_refusing::{Refusing, refuse_each};
+use p9_space::{MountTable, PLACES_MAX, Trail, resolve};
+use std::alloc::{Allocator, Global};
+use std::process::Abort;
+
+// What a bind with 1 and 2 tells.
+fn bind(
+    rt: &impl Abort,
+    alloc: Global,
+    table: &mut MountTable<&Refusing<Global>>,
+    key: &str,
+) -> Result<String, NoMemory> {
+    let line = format!(in alloc; "{key} after create 1 2")?;
+    let mut rest = line.as_str();
+    table_told(rt, alloc, table, "bind", &mut rest)
+}
+
+// Binds, again where it was refused: the table has as many rows as before then.
+fn bind_again(
+    rt: &impl Abort,
+    alloc: Global,
+    table: &mut MountTable<&Refusing<Global>>,
+    key: &str,
+) {
+    let count = table.len();
+    if bind(rt, alloc, table, key).is_err() {
+        assert_eq!(rt; table.len(), count);
+        assert!(rt; bind(rt, alloc, table, key).is_ok());
+    }
+    has_row(rt, alloc, table, count, key);
+}
+
+// The row is the bind's.
+fn has_row(
+    rt: &impl Abort,
+    alloc: Global,
+    table: &MountTable<&Refusing<Global>>,
+    position: usize,
+    key: &str,
+) {
+    let want = format!(in alloc; "{key} in 0 is {key} 1+ 2").expect(rt, "memory");
+    let made = row(alloc, table, position).expect(rt, "memory");
+    assert_eq!(rt; made.as_str(), want.as_str());
+}
+
+// Binds at three keys, and copies the table.
+fn bind_all(rt: &impl Abort, alloc: Global, mut table: MountTable<&Refusing<Global>>) {
+    for key in "5 6 7".split(' ') {
+        bind_again(rt, alloc, &mut table, key);
+    }
+    if table.copy().is_err() {
+        assert!(rt; table.copy().is_ok());
+    }
+    assert_eq!(rt; table.len(), 3);
+}
+
+#[test]
+fn a_table_is_as_before_at_each_refusal(rt: HostRuntime) {
+    let memory = Refusing::new(rt.alloc());
+    let refusals = refuse_each(
+        &memory,
+        || MountTable::new(&memory),
+        |table| bind_all(&rt, rt.alloc(), table),
+    );
+    assert!(rt; refusals > 3);
+}
+
+// A trail's beginning, made again where it was refused.
+fn begin<'a>(rt: &impl Abort, memory: &'a Refusing<Global>) -> Trail<&'a Refusing<Global>> {
+    match Trail::at(memory, node(0)) {
+        Ok(trail) => trail,
+        Err(_) => Trail::at(memory, node(0)).expect(rt, "a trail"),
+    }
+}
+
+// Goes to a place, again where it was refused: the trail leads to the place before then.
+fn push(rt: &impl Abort, trail: &mut Trail<&Refusing<Global>>, number: u64) {
+    assert_eq!(rt; trail.len() as u64, number);
+    assert!(rt; trail.len() < PLACES_MAX);
+    if trail.push(node(number)).is_err() {
+        assert_eq!(rt; trail.here(), node(number.saturating_sub(1)));
+        assert!(rt; trail.push(node(number)).is_ok());
+    }
+}
+
+fn make_trail(rt: &impl Abort, memory: &Refusing<Global>) {
+    let mut trail = begin(rt, memory);
+    for number in 1..40 {
+        push(rt, &mut trail, number);
+    }
+    if trail.copy().is_err() {
+        assert!(rt; trail.copy().is_ok());
+    }
+    assert_eq!(rt; trail.here(), node(39));
+}
+
+#[test]
+fn a_trail_is_as_before_at_each_refusal(rt: HostRuntime) {
+    let memory = Refusing::new(rt.alloc());
+    let refusals = refuse_each(&memory, || (), |()| make_trail(&rt, &memory));
+    assert!(rt; refusals > 2);
+}
+
+// Walks to a directory.
+fn walk<A: Allocator + Copy>(space: &Space<A>) -> Result<Trail<A>, Fault> {
+    resolve(&space.forest, &space.table, &space.trail, &["a", "b"], None)
+}
+
+// Walks, again where it was refused.
+fn walk_again<A: Allocator + Copy>(rt: &impl Abort, alloc: Global, space: &Space<A>) {
+    let found = match walk(space) {
+        Ok(found) => found,
+        Err(fault) => {
+            assert_eq!(rt; fault, Fault::OutOfMemory);
+            walk(space).expect(rt, "a walk")
+        }
+    };
+    let told = trail(alloc, &space.table, &found).expect(rt, "memory");
+    assert_eq!(rt; told.as_str(), "0 1 2 ");
+}
+
+#[test]
+fn a_walk_is_done_again_at_each_refusal(rt: HostRuntime) {
+    let memory = Refusing::new(rt.alloc());
+    let refusals = refuse_each(
+        &memory,
+        || space_of(&rt, &memory, SMALL).expect(&rt, "ample memory"),
+        |space| walk_again(&rt, rt.alloc(), &space),
+    );
+    assert!(rt; refusals > 0);
+}

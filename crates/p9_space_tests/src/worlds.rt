@@ -1,0 +1,77 @@
+//! The sample worlds, each of one server, as texts.
+
+use p9_base::NoMemory;
+use p9_space::{MountTable, ROOT_PLACE, Trail};
+use p9_tree::{Forest, PlainTree, Tree};
+use p9_world::{World, read_world};
+use std::alloc::Allocator;
+use std::process::Abort;
+
+/// Nodes 1 to 3: /a, /a/b and /a/f.
+pub const SMALL: &str = "\
+server main
+dir /a 755 glenda glenda
+dir /a/b 755 glenda glenda
+file /a/f 644 glenda glenda 6869";
+
+/// Nodes 1 to 4: /u, /u/n, /x and /x/n.
+pub const UNIONS: &str = "\
+server main
+dir /u 755 glenda glenda
+file /u/n 644 glenda glenda -
+dir /x 755 glenda glenda
+file /x/n 644 glenda glenda -";
+
+/// The same, where glenda may not search the first directory.
+pub const SHUT: &str = "\
+server main
+dir /u 700 sys sys
+file /u/n 644 glenda glenda -
+dir /x 755 glenda glenda
+file /x/n 644 glenda glenda -";
+
+/// Nodes 1 to 3: /deep, /deep/d and /m.
+pub const DEEP: &str = "\
+server main
+dir /deep 755 sys sys
+dir /deep/d 755 sys sys
+dir /m 755 sys sys";
+
+/// A forest, a mount table over it, a copy that was kept of it, and where a walk has come to.
+#[derive(Drop)]
+pub struct Space<A: Allocator + Copy>
+where
+    PlainTree<A>: Tree,
+{
+    pub forest: Forest<PlainTree<A>>,
+    pub table: MountTable<A>,
+    pub kept: MountTable<A>,
+    pub trail: Trail<A>,
+}
+
+/// The forest of a text.
+pub fn forest<A: Allocator + Copy>(rt: &impl Abort, alloc: A, text: &str) -> Forest<PlainTree<A>> {
+    let world = read_world::<PlainTree<A>>(alloc, text).expect(rt, "a world");
+    let World {
+        forest,
+        users: _,
+        hidden: _,
+        vars: _,
+        servers: _,
+    } = world;
+    forest
+}
+
+/// The forest of a text, empty tables, and a walk at the root.
+pub fn space_of<A: Allocator + Copy>(
+    rt: &impl Abort,
+    alloc: A,
+    text: &str,
+) -> Result<Space<A>, NoMemory> {
+    Ok(Space {
+        forest: forest(rt, alloc, text),
+        table: MountTable::new(alloc),
+        kept: MountTable::new(alloc),
+        trail: Trail::at(alloc, ROOT_PLACE)?,
+    })
+}

@@ -1,0 +1,111 @@
+//! The calls of a forest, made from lines. Each goes to the tree of its server.
+
+use crate::growths::grow;
+use crate::looks::look;
+use crate::words::{take_number, take_time, take_word, user};
+use p9_base::{NoMemory, NodeRef};
+use p9_tree::{Forest, Tree};
+use std::alloc::{AllocError, Global};
+use std::process::Abort;
+
+// The sample world's nodes: /a, /a/b and /a/f.
+const SMALL: &str = "\
+1 add 0 a 800001ed glenda glenda glenda 0 0
+1 add 1 b 800001ed glenda glenda glenda 0 0
+1 add 1 f 1a4 glenda glenda glenda 0 0 hi";
+
+/// A server of a root alone, and the sample world behind it.
+pub fn two_servers<T: Tree>(rt: &impl Abort, alloc: T::Alloc) -> Result<Forest<T>, NoMemory> {
+    let mut trees = Vec::new(alloc);
+    trees.push(T::with_root(alloc)?)?;
+    trees.push(T::with_root(alloc)?)?;
+    let mut forest = Forest { trees };
+    for line in SMALL.lines() {
+        call(rt, &mut forest, line)?;
+    }
+    Ok(forest)
+}
+
+/// Makes the calls over the two servers. What a look tells is the text behind `=` in its line.
+pub fn plays<T: Tree>(
+    rt: &impl Abort,
+    alloc: T::Alloc,
+    telling: Global,
+    lines: &str,
+) -> Result<(), NoMemory> {
+    let mut forest = two_servers::<T>(rt, alloc)?;
+    for line in lines.lines() {
+        make(rt, telling, &mut forest, line)?;
+    }
+    Ok(())
+}
+
+/// Makes the call, or the look, of a line.
+pub fn make<T: Tree>(
+    rt: &impl Abort,
+    telling: Global,
+    forest: &mut Forest<T>,
+    line: &str,
+) -> Result<(), NoMemory> {
+    match line.split_once(" = ") {
+        Some((words, want)) => {
+            let told = told(rt, telling, forest, words).expect(rt, "memory");
+            assert_eq!(rt; told.as_str(), want, "{words}");
+            Ok(())
+        }
+        None => call(rt, forest, line),
+    }
+}
+
+fn told<T: Tree>(
+    rt: &impl Abort,
+    telling: Global,
+    forest: &Forest<T>,
+    words: &str,
+) -> Result<String, AllocError> {
+    let mut rest = words;
+    let server = take_server(rt, &mut rest);
+    let word = take_word(&mut rest);
+    look(rt, telling, forest, server, word, &mut rest)
+}
+
+/// Makes the call of a line: its server, what it does, at which number, and with what.
+pub fn call<T: Tree>(rt: &impl Abort, forest: &mut Forest<T>, line: &str) -> Result<(), NoMemory> {
+    let mut rest = line;
+    let server = take_server(rt, &mut rest);
+    let word = take_word(&mut rest);
+    let number = take_number(rt, &mut rest);
+    let at = NodeRef { server, number };
+    match word {
+        "add" | "write" | "change" => grow(rt, forest, word, at, &mut rest)?,
+        _ => change_in_place(rt, forest, word, at, &mut rest),
+    }
+    Ok(())
+}
+
+fn take_server(rt: &impl Abort, line: &mut &str) -> u16 {
+    take_word(line).parse::<u16>().expect(rt, "a server")
+}
+
+// A call that never asks for memory.
+fn change_in_place<T: Tree>(
+    rt: &impl Abort,
+    forest: &mut Forest<T>,
+    word: &str,
+    at: NodeRef,
+    line: &mut &str,
+) {
+    match word {
+        "cut" => forest.cut(at, take_number(rt, line)),
+        "mark" => forest.bump(at, user(rt, "rob"), take_time(rt, line)),
+        "touch" => forest.touch(at, take_time(rt, line)),
+        "drop" => drop_leaf(rt, forest, at),
+        _ => panic!(rt; "no call"),
+    }
+}
+
+fn drop_leaf<T: Tree>(rt: &impl Abort, forest: &mut Forest<T>, at: NodeRef) {
+    assert!(rt; at.number != 0);
+    assert!(rt; forest.after(at, None).is_none());
+    forest.drop_leaf(at);
+}

@@ -1,0 +1,24 @@
+//! Tests of p9_tree: what trees and forests return call by call, and where memory is refused.
+//!
+//! A test is a text with a call in each line, and behind `=` what is to be told of it. So a proof
+//! loads one literal, whatever a test has in it, which costs much less than a table of values.
+#![tactic(auto)]
+
+#[cfg(test)]
+mod calls;
+#[cfg(test)]
+mod changes;
+#[cfg(test)]
+mod forests;
+#[cfg(test)]
+mod growths;
+#[cfg(test)]
+mod looks;
+#[cfg(test)]
+mod nodes;
+#[cfg(test)]
+mod refused;
+#[cfg(test)]
+mod words;
+#[cfg(test)]
+mod wstats;

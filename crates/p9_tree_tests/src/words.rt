@@ -1,0 +1,52 @@
+//! The words of a line.
+
+use p9_base::{Mode, Name, User};
+use std::process::Abort;
+
+/// Takes the next word off a line, up to a blank.
+pub fn take_word<'a>(line: &mut &'a str) -> &'a str {
+    let text = *line;
+    match text.split_once(' ') {
+        Some((word, rest)) => {
+            *line = rest;
+            word
+        }
+        None => {
+            *line = "";
+            text
+        }
+    }
+}
+
+/// Takes a word off a line, unless it is `-`.
+pub fn take_given<'a>(line: &mut &'a str) -> Option<&'a str> {
+    match take_word(line) {
+        "-" => None,
+        word => Some(word),
+    }
+}
+
+/// Takes a number off a line.
+pub fn take_number(rt: &impl Abort, line: &mut &str) -> u64 {
+    take_word(line).parse::<u64>().expect(rt, "a number")
+}
+
+/// Takes a number of 32 bits off a line.
+pub fn take_time(rt: &impl Abort, line: &mut &str) -> u32 {
+    take_word(line).parse::<u32>().expect(rt, "a time")
+}
+
+/// The mode of these hexadecimal digits.
+pub fn mode_of(digits: &str) -> Option<Mode> {
+    Mode::from_bits(u32::from_str_radix(digits, 16).ok()?)
+}
+
+/// The name of this text.
+pub fn name(rt: &impl Abort, text: &str) -> Name {
+    Name::new(text).expect(rt, "a name")
+}
+
+/// The user of this name.
+pub fn user(rt: &impl Abort, text: &str) -> User {
+    User::new(text).expect(rt, "a user")
+}

@@ -1,0 +1,70 @@
+//! Wstats of rob's at the time 7, of one field and of all at once.
+
+use crate::calls::plays;
+use crate::words::take_word;
+use p9_tree::{PlainTree, Tree};
+use std::alloc::Global;
+use std::process::Abort;
+use std::test::Fail;
+
+// Each new name, mode, group, length and time of change, and the file that it makes. A new length
+// marks the file, and a new time of change wins over the mark's.
+const CHANGES: &str = "\
+- - - - - | f 1a4 glenda glenda glenda 0 0 0 [hi]
+g - - - - | g 1a4 glenda glenda glenda 0 0 0 [hi]
+- 40000180 - - - | f 40000180 glenda glenda glenda 0 0 0 [hi]
+- - staff - - | f 1a4 glenda staff glenda 0 0 0 [hi]
+- - - - 5 | f 1a4 glenda glenda rob 0 0 5 [hi]
+- - - 0 - | f 1a4 glenda glenda rob 1 7 7 []
+- - - 1 - | f 1a4 glenda glenda rob 1 7 7 [h]
+- - - 2 - | f 1a4 glenda glenda rob 1 7 7 [hi]
+- - - 5 - | f 1a4 glenda glenda rob 1 7 7 [hi\0\0\0]
+- - - 0 5 | f 1a4 glenda glenda rob 1 7 5 []
+- - - 1 5 | f 1a4 glenda glenda rob 1 7 5 [h]
+- - - 2 5 | f 1a4 glenda glenda rob 1 7 5 [hi]
+- - - 5 5 | f 1a4 glenda glenda rob 1 7 5 [hi\0\0\0]
+g 180 staff 3 5 | g 180 glenda staff rob 1 7 5 [hi\0]";
+
+// What is unchanged.
+const REST: &str = "\
+1 next = 4
+1 node 0 = 0 None / 800001ed sys sys sys 0 0 0 []
+1 node 1 = 1 Some(0) a 800001ed glenda glenda glenda 0 0 0 []
+1 node 2 = 2 Some(1) b 800001ed glenda glenda glenda 0 0 0 []";
+
+// The sample world's file is changed so, and found by its number and its name.
+fn becomes<T: Tree>(
+    rt: &impl Abort,
+    alloc: T::Alloc,
+    telling: Global,
+    row: &str,
+) -> Result<(), Fail> {
+    let (wanted, after) = row.split_once(" | ").expect(rt, "a change and a file");
+    let mut rest = after;
+    let name = take_word(&mut rest);
+    let lines = format!(in telling;
+        "1 change 3 {wanted}\n1 node 3 = 3 Some(1) {after}\n1 child 1 {name} = 3 Some(1) {after}\n{REST}"
+    )?;
+    plays::<T>(rt, alloc, telling, lines.as_str())?;
+    Ok(())
+}
+
+#[test]
+fn a_file_is_changed(rt: HostRuntime) -> Result<(), Fail> {
+    for row in CHANGES.lines() {
+        becomes::<PlainTree<Global>>(&rt, rt.alloc(), rt.alloc(), row)?;
+    }
+    Ok(())
+}
+
+// A name of its own, a directory's mode, and the root's group and time.
+#[test]
+fn directories_change(rt: HostRuntime) -> Result<(), Fail> {
+    let lines = "\
+1 change 2 b 800001c0 - - -
+1 child 1 b = 2 Some(1) b 800001c0 glenda glenda glenda 0 0 0 []
+1 change 0 - - staff - 5
+1 node 0 = 0 None / 800001ed sys staff rob 0 0 5 []";
+    plays::<PlainTree<Global>>(&rt, rt.alloc(), rt.alloc(), lines)?;
+    Ok(())
+}

@@ -1,0 +1,104 @@
+//! The largest file and the most servers.
+
+use crate::faults::told;
+use p9_tree::{FILE_MAX, PlainTree};
+use p9_world::{SERVERS_MAX, read_world};
+use std::alloc::{AllocError, Global};
+use std::process::Abort;
+use std::test::Fail;
+
+// A line of a file of so many bytes.
+fn long_file(alloc: Global, path: &str, count: usize, end: &str) -> Result<String, AllocError> {
+    let mut text = String::from_str(alloc, "server m\nfile ")?;
+    text.push_str(path)?;
+    text.push_str(" 644 u u ")?;
+    for _ in 0..count {
+        text.push_str("61")?;
+    }
+    text.push_str(end)?;
+    Ok(text)
+}
+
+#[test]
+fn the_largest_file_is_made(rt: HostRuntime) -> Result<(), Fail> {
+    let text = long_file(rt.alloc(), "/f", FILE_MAX, "")?;
+    let world = read_world::<PlainTree<Global>>(rt.alloc(), text.as_str())?;
+    assert_eq!(rt; world.forest.next_of(0), 2);
+    Ok(())
+}
+
+// A file of a byte more, with its end, is told so.
+fn is_too_long(
+    rt: &impl Abort,
+    alloc: Global,
+    path: &str,
+    end: &str,
+    want: &str,
+) -> Result<(), AllocError> {
+    let text = long_file(alloc, path, FILE_MAX + 1, end)?;
+    let told = told(alloc, text.as_str())?;
+    assert_eq!(rt; told.as_str(), want);
+    Ok(())
+}
+
+#[test]
+fn large_files_are_told(rt: HostRuntime) -> Result<(), Fail> {
+    let alloc = rt.alloc();
+    is_too_long(&rt, alloc, "/f", "", "line 2: file too large")?;
+    is_too_long(&rt, alloc, "/f/g", "", "line 2: file too large")?;
+    is_too_long(&rt, alloc, "/f", "6", "line 2: bad hex")?;
+    is_too_long(&rt, alloc, "/", "", "line 2: bad path")?;
+    Ok(())
+}
+
+// As many servers as a world has, and a line. Names of one length are few, so that to look for one
+// takes little time.
+fn all_servers(alloc: Global, line: &str) -> Result<String, AllocError> {
+    let mut text = String::new(alloc);
+    for number in 0..SERVERS_MAX {
+        text.push_str("server ")?;
+        for _ in 0..number % 40 {
+            text.push_str("x")?;
+        }
+        writeln!(&mut text, "{number}")?;
+    }
+    text.push_str(line)?;
+    Ok(text)
+}
+
+#[test]
+fn all_servers_are_made(rt: HostRuntime) -> Result<(), Fail> {
+    let text = all_servers(rt.alloc(), "dir /a 755 u u")?;
+    let world = read_world::<PlainTree<Global>>(rt.alloc(), text.as_str())?;
+    assert_eq!(rt; world.forest.next_of(65_535), 2);
+    Ok(())
+}
+
+fn is_one_too_many(
+    rt: &impl Abort,
+    alloc: Global,
+    line: &str,
+    want: &str,
+) -> Result<(), AllocError> {
+    let told = told(alloc, all_servers(alloc, line)?.as_str())?;
+    assert_eq!(rt; told.as_str(), want);
+    Ok(())
+}
+
+#[test]
+fn one_server_more_is_told(rt: HostRuntime) -> Result<(), Fail> {
+    is_one_too_many(&rt, rt.alloc(), "server y", "line 65537: too many")?;
+    Ok(())
+}
+
+#[test]
+fn a_server_again_is_told(rt: HostRuntime) -> Result<(), Fail> {
+    is_one_too_many(&rt, rt.alloc(), "server 0", "line 65537: already there")?;
+    Ok(())
+}
+
+#[test]
+fn a_bad_server_more_is_told(rt: HostRuntime) -> Result<(), Fail> {
+    is_one_too_many(&rt, rt.alloc(), "server $", "line 65537: bad name")?;
+    Ok(())
+}

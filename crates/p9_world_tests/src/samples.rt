@@ -1,0 +1,60 @@
+//! The sample worlds are read, each with its nodes.
+
+use crate::telling::world as told_of;
+use crate::worlds::{
+    BOUND_INSIDE, COVERED_VAULT, DEEP, HOME, SMALL, Sample, TWO_SERVERS, TWO_UNIONS, VAULT,
+};
+use p9_tree::PlainTree;
+use p9_world::{World, read_world};
+use std::alloc::{Allocator, Global};
+use std::process::Abort;
+use std::test::Fail;
+
+/// The world is the sample's.
+pub fn is_sample<A: Allocator + Copy>(
+    rt: &impl Abort,
+    alloc: Global,
+    world: &World<PlainTree<A>>,
+    sample: &Sample,
+) {
+    let told = told_of(alloc, world).expect(rt, "memory");
+    assert_eq!(rt; told.as_str(), sample.told);
+}
+
+fn is_read(rt: &impl Abort, alloc: Global, sample: &Sample) {
+    let world = read_world::<PlainTree<Global>>(alloc, sample.text).expect(rt, "a world");
+    is_sample(rt, alloc, &world, sample);
+}
+
+#[test]
+fn samples_have_their_nodes(rt: HostRuntime) {
+    is_read(&rt, rt.alloc(), &SMALL);
+    is_read(&rt, rt.alloc(), &TWO_UNIONS);
+    is_read(&rt, rt.alloc(), &DEEP);
+    is_read(&rt, rt.alloc(), &VAULT);
+    is_read(&rt, rt.alloc(), &COVERED_VAULT);
+    is_read(&rt, rt.alloc(), &BOUND_INSIDE);
+    is_read(&rt, rt.alloc(), &HOME);
+}
+
+#[test]
+fn lines_belong_to_the_last_server(rt: HostRuntime) {
+    is_read(&rt, rt.alloc(), &TWO_SERVERS);
+}
+
+// Names and trees come out of a world as many as each other.
+#[test]
+fn parts_of_a_world_fit(rt: HostRuntime) -> Result<(), Fail> {
+    let world = read_world::<PlainTree<Global>>(rt.alloc(), VAULT.text)?;
+    world.well_formed();
+    let World {
+        forest,
+        users,
+        hidden,
+        vars,
+        servers,
+    } = world;
+    prove!(servers.len() == forest.trees.len());
+    assert_eq!(rt; (users.len(), hidden.len(), vars.len()), (1, 1, 0));
+    Ok(())
+}

@@ -1,0 +1,29 @@
+//! The text of each fault.
+
+use p9_world::LineFault;
+use std::test::Fail;
+
+const TEXTS: [(LineFault, &str); 12] = [
+    (LineFault::UnknownWord, "unknown word"),
+    (LineFault::WordCount, "wrong number of words"),
+    (LineFault::NoServer, "no server"),
+    (LineFault::BadName, "bad name"),
+    (LineFault::BadPath, "bad path"),
+    (LineFault::BadMode, "bad mode"),
+    (LineFault::BadUser, "bad user"),
+    (LineFault::BadHex, "bad hex"),
+    (LineFault::TooLarge, "file too large"),
+    (LineFault::NoParent, "no such directory"),
+    (LineFault::Duplicate, "already there"),
+    (LineFault::TooMany, "too many"),
+];
+
+#[test]
+fn faults_have_texts(rt: HostRuntime) -> Result<(), Fail> {
+    for (fault, text) in TEXTS {
+        assert_eq!(rt; fault.text(), text);
+        let shown = format!(in rt.alloc(); "{fault}")?;
+        assert_eq!(rt; shown.as_str(), text);
+    }
+    Ok(())
+}
