@@ -34,6 +34,14 @@ takes_play : (p : Text) → takes program_app (p ∷ codes "play" ∷ []) ≡ tr
 unfolding clap_on_literals
 takes_play p = refl
 
+takes_check : (p : Text) → takes program_app (p ∷ codes "check" ∷ []) ≡ true
+unfolding clap_on_literals
+takes_check p = refl
+
+takes_verify : (p : Text) → takes program_app (p ∷ codes "verify" ∷ []) ≡ true
+unfolding clap_on_literals
+takes_verify p = refl
+
 takes_ns : (p : Text) → takes program_app (p ∷ codes "ns" ∷ []) ≡ true
 unfolding clap_on_literals
 takes_ns p = refl
@@ -50,6 +58,14 @@ play_read : (p : Text) → name_read (p ∷ codes "play" ∷ []) ≡ Some (codes
 unfolding clap_on_literals
 play_read p = refl
 
+check_read : (p : Text) → name_read (p ∷ codes "check" ∷ []) ≡ Some (codes "check")
+unfolding clap_on_literals
+check_read p = refl
+
+verify_read : (p : Text) → name_read (p ∷ codes "verify" ∷ []) ≡ Some (codes "verify")
+unfolding clap_on_literals
+verify_read p = refl
+
 ns_read : (p : Text) → name_read (p ∷ codes "ns" ∷ []) ≡ Some (codes "ns")
 unfolding clap_on_literals
 ns_read p = refl
@@ -58,15 +74,25 @@ ns_read p = refl
 
 data Word (word : Text) : Type 0 where
   is_play : word ≡ codes "play" → Word word
+  is_check : word ≡ codes "check" → Word word
+  is_verify : word ≡ codes "verify" → Word word
   is_ns : word ≡ codes "ns" → Word word
   is_other : known word ≡ None → Word word
 
 word_is : (word : Text) → Word word
-word_is word = go (bytes_eq word (codes "play")) refl (bytes_eq word (codes "ns")) refl where
-  go : (a : Bool) → bytes_eq word (codes "play") ≡ a → (b : Bool) → bytes_eq word (codes "ns") ≡ b → Word word
-  go true play b _ = is_play ((bytes_eq-Decides word (codes "play")).0 play)
-  go false _ true ns = is_ns ((bytes_eq-Decides word (codes "ns")).0 ns)
-  go false play false ns = is_other (rw (play, ns) refl)
+word_is word =
+    go (bytes_eq word (codes "play")) refl (bytes_eq word (codes "check")) refl
+    (bytes_eq word (codes "verify")) refl (bytes_eq word (codes "ns")) refl
+  where
+    go : (a : Bool) → bytes_eq word (codes "play") ≡ a
+        → (b : Bool) → bytes_eq word (codes "check") ≡ b
+        → (c : Bool) → bytes_eq word (codes "verify") ≡ c
+        → (d : Bool) → bytes_eq word (codes "ns") ≡ d → Word word
+    go true play b _ c _ d _ = is_play ((bytes_eq-Decides word (codes "play")).0 play)
+    go false _ true check c _ d _ = is_check ((bytes_eq-Decides word (codes "check")).0 check)
+    go false _ false _ true verify d _ = is_verify ((bytes_eq-Decides word (codes "verify")).0 verify)
+    go false _ false _ false _ true ns = is_ns ((bytes_eq-Decides word (codes "ns")).0 ns)
+    go false play false check false verify false ns = is_other (rw (play, check, verify, ns) refl)
 
 -- a word that is no command is none, whatever name was read
 other_word : (name : Option Text) (p word : Text) → known word ≡ None → asked_with name (p ∷ word ∷ []) ≡ None
@@ -89,6 +115,8 @@ read_is_asked [] = ap (λ name. asked_with name []) none_read
 read_is_asked (p ∷ []) = ap (λ name. asked_with name (p ∷ [])) (none_read_alone p)
 read_is_asked (p ∷ word ∷ []) = elim (word_is word) [
   | is_play e ↦ rw e (ap (λ name. asked_with name (p ∷ codes "play" ∷ [])) (play_read p))
+  | is_check e ↦ rw e (ap (λ name. asked_with name (p ∷ codes "check" ∷ [])) (check_read p))
+  | is_verify e ↦ rw e (ap (λ name. asked_with name (p ∷ codes "verify" ∷ [])) (verify_read p))
   | is_ns e ↦ rw e (ap (λ name. asked_with name (p ∷ codes "ns" ∷ [])) (ns_read p))
   | is_other e ↦ other_word (name_read (p ∷ word ∷ [])) p word e ∙ sym e
 ]
@@ -100,6 +128,8 @@ taken_or_none [] = inl takes_none
 taken_or_none (p ∷ []) = inl (takes_name p)
 taken_or_none (p ∷ word ∷ []) = elim (word_is word) [
   | is_play e ↦ inl (rw e (takes_play p))
+  | is_check e ↦ inl (rw e (takes_check p))
+  | is_verify e ↦ inl (rw e (takes_verify p))
   | is_ns e ↦ inl (rw e (takes_ns p))
   | is_other e ↦ inr (sym e)
 ]

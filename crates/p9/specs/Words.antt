@@ -3,7 +3,7 @@ use Rattle.std.specs.Prelude.{List, [], ◌∷◌, Option, Some, None, codes, is
 use Rattle.std.specs.Prelude.{if◌then◌else◌}
 use Rattle.std.specs.Str.{bytes_eq}
 use Rattle.clap.specs.Words.{App, Text, new_app, with_subcommand}
-use Rattle.p9_serve.specs.Command.{command_of}
+use Rattle.p9_commands.specs.Command.{command_of}
 
 -- a word that is a known command asks for itself, and any other for nothing
 abbrev pub known : Text → Option Text
@@ -39,7 +39,13 @@ bare_program = let app = without_help (codes "p9") in record app {
   top = record app.top { disable_version_flag = true; disable_help_subcommand = true };
 }
 
--- the program: the subcommands `play` and `ns`, and nothing else
+-- with the subcommand of this name
+abbrev pub with_command : Text → App → App
+with_command name app = with_subcommand app (without_help name).top
+
+-- the program: these subcommands, and nothing else
 abbrev pub program_app : App
-program_app = with_subcommand (with_subcommand bare_program (without_help (codes "play")).top)
-    (without_help (codes "ns")).top
+program_app =
+    with_command (codes "ns")
+    (with_command (codes "verify")
+    (with_command (codes "check") (with_command (codes "play") bare_program)))

@@ -4,7 +4,7 @@
 mod words;
 
 use p9_base::NoMemory;
-use p9_serve::run_command;
+use p9_commands::run_command;
 use std::alloc::AllocError;
 use std::io::{ErrorKind, Read, Write};
 use std::process::ExitCode;

@@ -8,3 +8,4 @@ pub mod StatementLemmas
 pub mod Results
 pub mod Rising
 pub mod Rows
+pub mod GroupNames

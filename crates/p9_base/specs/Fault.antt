@@ -13,6 +13,10 @@ use Rattle.p9_base.specs.declared.fault.Fault.TheVariants.{SmallReadCount, FileT
 use Rattle.p9_base.specs.declared.fault.Fault.TheVariants.{IsRoot, FixedField, TooManyFids}
 use Rattle.p9_base.specs.declared.fault.Fault.TheVariants.{QidsUsedUp, OutOfMemory, PathTooDeep}
 
+-- the most bytes of a fault's text
+abbrev pub fault_text_max : ℕ
+fault_text_max = 34
+
 -- the number and the text of each
 abbrev pub row_of : Fault → ℕ × List ℕ
 row_of Malformed = (1, codes "malformed message")

@@ -61,6 +61,10 @@ qid_kind m = mode_bits m / 2 ^ 24
 abbrev pub rights_of : ℕ → Rights
 rights_of bits = record { read = bits / 4 == 1; write = bits / 2 % 2 == 1; execute = bits % 2 == 1 }
 
+-- the bits of permissions are the numbers below this
+abbrev pub permissions_end : ℕ
+permissions_end = 512
+
 -- the permissions of nine bits
 abbrev pub permissions_of : ℕ → Permissions
 permissions_of bits = record {
@@ -80,5 +84,6 @@ kind_of bits = if kind_bits (kind_among bits) == bits then Some (kind_among bits
 -- the mode whose bits these are, if they are a mode's
 abbrev pub mode_of : ℕ → Option Mode
 mode_of bits =
-    option_map (λ kind. record { kind = kind; permissions = permissions_of (bits % 512) })
-    (kind_of (bits - bits % 512))
+    option_map
+    (λ kind. record { kind = kind; permissions = permissions_of (bits % permissions_end) })
+    (kind_of (bits - bits % permissions_end))

@@ -12,8 +12,12 @@ slash = 47
 abbrev pub is_slash : ℕ → Bool
 is_slash b = b == slash
 
+-- the most bytes of a file's name
+abbrev pub name_max : ℕ
+name_max = 255
+
 -- 1 to 255 bytes of text, without '/', and neither "." nor ".."
 abbrev pub is_name : List ℕ → Bool
 is_name s =
-    nat_le 1 (length s) && nat_le (length s) 255 && is_text s && not (list_any is_slash s)
+    nat_le 1 (length s) && nat_le (length s) name_max && is_text s && not (list_any is_slash s)
     && not (bytes_eq s (codes ".") || bytes_eq s (codes ".."))

@@ -1,7 +1,7 @@
 //! The faults that a reply can name, each with its number and its text.
 
 ghost use Rattle.std.specs.Prelude.{◌≡◌, ◌≤◌, IsTrue, length};
-ghost use Rattle.p9_base.specs.Fault.{number_of, text_of};
+ghost use Rattle.p9_base.specs.Fault.{fault_text_max, number_of, text_of};
 ghost use Rattle.p9_base.specs.Text.{is_text};
 
 use crate::memory::NoMemory;
@@ -115,7 +115,7 @@ impl Fault {
     #[tactic(auto, using(crate::proofs::Faults::fault_text_is_text))]
     pub fn text(self) -> &'static str
         ensures value { result.now ≡ text_of self }
-        ensures short { length (text_of self) ≤ 34 }
+        ensures short { length (text_of self) ≤ fault_text_max }
         ensures sound { IsTrue (is_text (text_of self)) }
     {
         match self {

@@ -2,8 +2,9 @@
 
 ghost use Rattle.std.specs.Prelude.{◌≡◌, ◌≢◌, ◌<◌, ◌^◌, IfSome, IfNone};
 ghost use Rattle.p9_base.specs.Mode.{flags_among, flags_bits, is_dir, kind_among, kind_bits};
-ghost use Rattle.p9_base.specs.Mode.{kind_of, mode_bits, mode_of, permissions_bits, permissions_of};
-ghost use Rattle.p9_base.specs.Mode.{qid_kind, rights_bits, rights_of};
+ghost use Rattle.p9_base.specs.Mode.{kind_of, mode_bits, mode_of, permissions_bits};
+ghost use Rattle.p9_base.specs.Mode.{permissions_end};
+ghost use Rattle.p9_base.specs.Mode.{permissions_of, qid_kind, rights_bits, rights_of};
 ghost use Rattle.p9_base.specs.declared.mode.Kind.{Kind};
 ghost use Rattle.p9_base.specs.declared.mode.Mode.{Mode};
 
@@ -85,14 +86,14 @@ impl Permissions {
     /// The low nine bits of a mode: three for each class, the owner's first.
     pub fn bits(self) -> u32
         ensures value { result ≡ permissions_bits self }
-        ensures short { result < 512 }
+        ensures short { result < permissions_end }
     {
         0o100 * self.owner.bits() + 0o10 * self.group.bits() + self.others.bits()
     }
 
     /// The permissions of these bits, of which there are nine.
     pub fn from_bits(bits: u32) -> Permissions
-        requires { bits < 512 }
+        requires { bits < permissions_end }
         ensures bits { permissions_bits result ≡ bits }
         ensures value { result ≡ permissions_of bits }
     {

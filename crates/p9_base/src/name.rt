@@ -9,13 +9,16 @@ use crate::text::{Text, is_text};
 use std::fmt;
 use std::marker::Model;
 
+// The most bytes of such a name.
+const NAME_MAX: usize = 255;
+
 /// The name of a file or directory in its parent: 1 to 255 bytes of UTF-8, without `/` and NUL,
 /// and neither `.` nor `..`. A server's root has no such name: its name is `/`.
 ///
 /// Equality, order and hash are those of the bytes.
 #[derive(Clone, Copy, PartialEq, Eq, PartialOrd, Ord, Hash)]
 pub struct Name {
-    text: Text<255>,
+    text: Text<NAME_MAX>,
 }
 
 impl Model for Name {
@@ -75,7 +78,7 @@ impl fmt::Debug for Name {
 pub fn valid_name(text: &str) -> bool
     ensures { result ≡ is_name text.now }
 {
-    1 <= text.len() && text.len() <= 255 && is_text(text) && !has_slash(text) && !is_dots(text)
+    1 <= text.len() && text.len() <= NAME_MAX && is_text(text) && !has_slash(text) && !is_dots(text)
 }
 
 // Whether a `/` is among the characters, which separates the names of a path.

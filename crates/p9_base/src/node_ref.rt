@@ -3,6 +3,9 @@
 ghost use Rattle.std.specs.Prelude.{◌≡◌};
 ghost use Rattle.p9_base.specs.NodeRef.{beside};
 
+/// The most servers: a server's number has 16 bits.
+pub const SERVERS_MAX: usize = 1 << 16;
+
 /// A file or directory, by its server's number and its own number there.
 ///
 /// The order is by server, then number. A number is never given twice, so a reference to a file

@@ -1,10 +1,11 @@
 //! Texts, bounds and bits, with values from the manual's tables.
 
 use crate::{
-    DMAPPEND, DMDIR, DMEXCL, DMTMP, Fault, FileFlags, Kind, Mode, Name, NoMemory, NodeRef,
-    Permissions, Rights, User, granted, valid_name,
+    DMAPPEND, DMDIR, DMEXCL, DMTMP, Fault, FileFlags, Group, Groups, Kind, Mode, Name, NoMemory,
+    NodeRef, Permissions, Rights, User, granted, valid_name,
 };
-use std::alloc::AllocError;
+use std::alloc::{AllocError, Global};
+use std::process::Abort;
 use std::test::Fail;
 
 const FAULTS: [(Fault, &str); 30] = [
@@ -165,4 +166,89 @@ fn rights_may_come_from_two_classes(rt: HostRuntime) {
     assert!(rt; granted(permissions, false, false, read));
     assert!(rt; granted(Permissions::from_bits(0o020), false, true, write));
     assert!(rt; !granted(Permissions::from_bits(0o020), true, false, write));
+}
+
+fn user(rt: &impl Abort, name: &str) -> User {
+    User::new(name).expect(rt, "a valid user")
+}
+
+// The group of this leader and these members.
+fn group(rt: &impl Abort, alloc: Global, leader: &str, members: &[&str]) -> Group<Global> {
+    let mut group = Group::new(alloc, user(rt, leader));
+    for member in members {
+        assert_eq!(rt; group.add_member(user(rt, member)), Ok(true));
+    }
+    group
+}
+
+// Whether the user is a member of the group, and whether he leads it.
+fn asked(rt: &impl Abort, groups: &Groups<Global>, name: &str, member: &str) -> (bool, bool) {
+    let (name, member) = (user(rt, name), user(rt, member));
+    (groups.member(&member, &name), groups.leads(&member, &name))
+}
+
+#[test]
+fn groups_have_members_and_a_leader(rt: HostRuntime) -> Result<(), Fail> {
+    let mut groups = Groups::new(rt.alloc());
+    let staff = group(&rt, rt.alloc(), "rob", &["glenda", "ken"]);
+    groups.insert(user(&rt, "staff"), staff)?;
+    let wheel = group(&rt, rt.alloc(), "ken", &["ken", "glenda"]);
+    groups.insert(user(&rt, "wheel"), wheel)?;
+    assert_eq!(rt; asked(&rt, &groups, "staff", "rob"), (false, true));
+    assert_eq!(rt; asked(&rt, &groups, "staff", "glenda"), (true, false));
+    assert_eq!(rt; asked(&rt, &groups, "staff", "staff"), (false, false));
+    assert_eq!(rt; asked(&rt, &groups, "wheel", "ken"), (true, true));
+    assert_eq!(rt; asked(&rt, &groups, "wheel", "glenda"), (true, false));
+    assert_eq!(rt; asked(&rt, &groups, "wheel", "rob"), (false, false));
+    assert!(rt; groups.contains(&user(&rt, "staff")));
+    assert!(rt; !groups.contains(&user(&rt, "rob")));
+    Ok(())
+}
+
+#[test]
+fn a_name_that_is_not_listed_is_a_group(rt: HostRuntime) -> Result<(), Fail> {
+    let mut groups = Groups::new(rt.alloc());
+    assert_eq!(rt; asked(&rt, &groups, "glenda", "glenda"), (true, true));
+    assert_eq!(rt; asked(&rt, &groups, "glenda", "rob"), (false, false));
+    let led_by_rob = group(&rt, rt.alloc(), "rob", &[]);
+    groups.insert(user(&rt, "glenda"), led_by_rob)?;
+    assert_eq!(rt; asked(&rt, &groups, "glenda", "glenda"), (false, false));
+    assert_eq!(rt; asked(&rt, &groups, "glenda", "rob"), (false, true));
+    assert_eq!(rt; asked(&rt, &groups, "rob", "rob"), (true, true));
+    let her_own = group(&rt, rt.alloc(), "rob", &["glenda"]);
+    groups.insert(user(&rt, "glenda"), her_own)?;
+    assert_eq!(rt; asked(&rt, &groups, "glenda", "glenda"), (true, false));
+    Ok(())
+}
+
+#[test]
+fn a_member_is_added_once(rt: HostRuntime) -> Result<(), Fail> {
+    let mut staff = group(&rt, rt.alloc(), "rob", &["glenda"]);
+    assert_eq!(rt; staff.add_member(user(&rt, "glenda")), Ok(false));
+    assert_eq!(rt; staff.add_member(user(&rt, "rob")), Ok(true));
+    let mut groups = Groups::new(rt.alloc());
+    groups.insert(user(&rt, "staff"), staff)?;
+    assert_eq!(rt; asked(&rt, &groups, "staff", "glenda"), (true, false));
+    assert_eq!(rt; asked(&rt, &groups, "staff", "rob"), (true, true));
+    Ok(())
+}
+
+#[test]
+fn a_group_may_have_many_members(rt: HostRuntime) -> Result<(), Fail> {
+    let mut many = Group::new(rt.alloc(), user(&rt, "u0"));
+    for number in 0..10_000 {
+        let name = format!(in rt.alloc(); "u{number}")?;
+        assert_eq!(rt; many.add_member(user(&rt, name.as_str())), Ok(true));
+    }
+    let mut groups = Groups::new(rt.alloc());
+    groups.insert(user(&rt, "many"), many)?;
+    for number in 0..10_000 {
+        let name = format!(in rt.alloc(); "u{number}")?;
+        assert_eq!(rt;
+            asked(&rt, &groups, "many", name.as_str()),
+            (true, number == 0)
+        );
+    }
+    assert_eq!(rt; asked(&rt, &groups, "many", "u10000"), (false, false));
+    Ok(())
 }

@@ -7,12 +7,15 @@ use crate::text::{Text, is_text};
 use std::fmt;
 use std::marker::Model;
 
+// The most bytes of such a name.
+const USER_MAX: usize = 63;
+
 /// The name of a user or a group: 1 to 63 bytes of UTF-8 without NUL. A `/` is allowed.
 ///
 /// Equality, order and hash are those of the bytes.
 #[derive(Clone, Copy, PartialEq, Eq, PartialOrd, Ord, Hash)]
 pub struct User {
-    text: Text<63>,
+    text: Text<USER_MAX>,
 }
 
 impl Model for User {
@@ -72,5 +75,5 @@ impl fmt::Debug for User {
 fn valid_user(text: &str) -> bool
     ensures { result ≡ is_user text.now }
 {
-    1 <= text.len() && text.len() <= 63 && is_text(text)
+    1 <= text.len() && text.len() <= USER_MAX && is_text(text)
 }

@@ -6,4 +6,4 @@ mod path;
 #[cfg(test)]
 mod tests;
 
-pub use path::{clean, elements};
+pub use path::{clean, cleaned_elements, elements};

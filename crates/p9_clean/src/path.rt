@@ -1,7 +1,8 @@
 //! Paths and their cleaning, as cleanname(2).
 
 ghost use Rattle.std.specs.Prelude.{◌≡◌, map, IfOk, string_bytes};
-ghost use Rattle.p9_clean.specs.Path.{elements_of, shortened, path_of, cleaned};
+ghost use Rattle.p9_clean.specs.Path.{cleaned, cleaned_elements, elements_of, path_of};
+ghost use Rattle.p9_clean.specs.Path.{shortened};
 
 use p9_base::NoMemory;
 use std::alloc::Allocator;
@@ -17,10 +18,8 @@ use std::alloc::Allocator;
 pub fn clean<A: Allocator + Copy>(alloc: A, path: &str) -> Result<String<A>, NoMemory>
     ensures { IfOk result (λ text. string_bytes text ≡ cleaned path.now) }
 {
-    let rooted = path.starts_with('/');
-    let elements = elements(alloc, path)?;
-    let kept = shorten(alloc, rooted, &elements)?;
-    path_text(alloc, rooted, &kept)
+    let kept = cleaned_elements(alloc, path)?;
+    path_text(alloc, path.starts_with('/'), &kept)
 }
 
 /// The elements of a path, in order: what stands between its slashes, without `.` and what is
@@ -36,6 +35,16 @@ pub fn elements<A: Allocator + Copy>(alloc: A, path: &str) -> Result<Vec<&str, A
         .filter(|component| !component.is_empty() && *component != ".")
         .collect(alloc)?;
     Ok(found)
+}
+
+/// The elements of the cleaned path, in order: of one that begins with a slash the names alone.
+///
+/// The only error is that an allocation fails.
+pub fn cleaned_elements<A: Allocator + Copy>(alloc: A, path: &str) -> Result<Vec<&str, A>, NoMemory>
+    ensures { IfOk result (λ found. map (λ e. e.now) found.items ≡ cleaned_elements path.now) }
+{
+    let elements = elements(alloc, path)?;
+    shorten(alloc, path.starts_with('/'), &elements)
 }
 
 // What is left of the elements of a path: a `..` takes back the name before it, and goes at the

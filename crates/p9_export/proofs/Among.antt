@@ -7,7 +7,8 @@ use Rattle.p9_base.specs.declared.fault.Fault.{Fault}
 use Rattle.p9_tree.specs.Server.{Server}
 use Rattle.p9_wire.specs.Frame.{msize_max}
 use Rattle.p9_wire.specs.Message.{RMessage, TMessage}
-use Rattle.p9_step.specs.State.{Setting, Session, SessionRow, changed_session, session_at, room_of}
+use Rattle.p9_step.specs.State.{Setting, Session, SessionRow, changed_session, io_header, room_of}
+use Rattle.p9_step.specs.State.{session_at}
 use Rattle.p9_step.specs.Answer.{Answer}
 use Rattle.p9_export.specs.Answers.{Answers, AnswersAmong, changes_of, frame_among, session_of}
 use Rattle.p9_step.specs.Sound.{IsMsize}
@@ -19,10 +20,10 @@ use Rattle.p9_base.proofs.Rows.{set_value-same}
 use Rattle.p9_step.proofs.Requests.{ran_out-is}
 
 -- what a read of a session may carry is less than a frame
-pub room_of-small : (session : Session) → IsMsize session.msize → 24 + room_of session ≤ msize_max
+pub room_of-small : (session : Session) → IsMsize session.msize → io_header + room_of session ≤ msize_max
 room_of-small session is = go session.msize refl is
   where
-    go : (o : Option ℕ) → session.msize ≡ o → IsMsize o → 24 + room_of session ≤ msize_max
+    go : (o : Option ℕ) → session.msize ≡ o → IsMsize o → io_header + room_of session ≤ msize_max
     go None e small = rw e (omega arith)
     go (Some msize) e small = let low = small.0 in let high = small.1 in rw e (omega arith)
 

@@ -1,4 +1,5 @@
 -- The answer to a create in a directory where nothing refuses it.
+use Rattle.p9_step.specs.State.{Setting, who_of}
 use Rattle.std.proofs.Common.{◌≡◌, ℕ, ◌<◌, Bool, true, false, List, [], ◌∷◌, ◌++◌, Option, Some}
 use Rattle.std.proofs.Common.{None, Ok, IfSome, length, refl, sym, ap, ◌∙◌, arith}
 use Rattle.std.specs.Prelude.{nat_le, is_some, not, if◌then◌else◌}
@@ -60,12 +61,13 @@ below m n e = grind (arith, nat_tests)
 pub if_some : {X : Type 0} (o : Option X) (x : X) (P : X → Type 0) → o ≡ Some x → P x → IfSome o P
 if_some o x P found holds = rw found holds
 
-module _ (forest : List Server) (v : Fid) (name : List ℕ) (target : NodeRef) (dir : Node) where
-  pub nothing_refuses : fault_in forest v name target dir ≡ None → Permits forest v name target dir
+module _ (setting : Setting) (forest : List Server) (v : Fid) (name : List ℕ) (target : NodeRef)
+    (dir : Node) where
+  pub nothing_refuses : fault_in setting forest v name target dir ≡ None → Permits forest v name target dir
   nothing_refuses none =
       let all =
       none_of NotDirectory PermissionDenied FileExists QidsUsedUp PathTooDeep (is_dir dir)
-      (may v.user dir to_write) (is_some (child_in target name forest))
+      (may (who_of setting v.user) dir to_write) (is_some (child_in target name forest))
       (nat_le next_max (next_of target.server forest)) (nat_le places_max (length v.trail))
       none in
       record {
@@ -103,8 +105,8 @@ module _ (forest : List Server) (v : Fid) (name : List ℕ) (target : NodeRef) (
 
     -- nothing refuses the creation
     created_in-done : (session : Session) (fid : ℕ) (o : Opening)
-        → fault_in forest v name target dir ≡ None
-        → created_in forest session now fid v name asked o target
+        → fault_in setting forest v name target dir ≡ None
+        → created_in setting forest session now fid v name asked o target
         ≡ creation forest session now fid v target dir name asked o
     unfolding given unless
     created_in-done session fid o none = rw (found, none) refl
@@ -112,8 +114,8 @@ module _ (forest : List Server) (v : Fid) (name : List ℕ) (target : NodeRef) (
     -- the fid's trail goes on to it, and is open
     pub creation-did : (answer : Answer) (forest' : List Server) (session session' : Session)
         (fid : ℕ) (o : Opening) (qid : Qid) (room : ℕ)
-        → fault_in forest v name target dir ≡ None
-        → answer ≡ created_in forest session now fid v name asked o target
+        → fault_in setting forest v name target dir ≡ None
+        → answer ≡ created_in setting forest session now fid v name asked o target
         → forest' ≡ forest_changed_at target (marked new.muid new.mtime)
         (tree_changed_at target.server (λ s. added s (new_node s.next target.number new))
         forest)

@@ -1,4 +1,5 @@
 -- What a read answers.
+use Rattle.p9_step.specs.State.{who_of}
 use Rattle.std.proofs.Common.{◌≡◌, ℕ, ◌+◌, ◌≤◌, Bool, true, false, cond, ◌||◌, List, [], ◌∷◌}
 use Rattle.std.proofs.Common.{length, take, Option, Some, Result, Ok, Err, refl, sym, ap, ◌∙◌}
 use Rattle.std.specs.Prelude.{◌==◌, ◌++◌, IfOk, min, if◌then◌else◌}
@@ -48,11 +49,11 @@ module _ (setting : Setting) (forest : List Server) (old : Session) (fid : ℕ) 
     (cursor : Option Cursor) (buffer : List ℕ) (fids : List FidRow) where
   -- what is given of the directory
   abbrev some_of : List Entry
-  some_of = fitting room (left_of forest v.user from members)
+  some_of = fitting room (left_of forest (who_of setting v.user) from members)
 
   pub dir_listed : fid_at fid old.fids ≡ Some v → (offset == 0 || offset == o.next_offset) ≡ true
       → members ≡ members_of (here v.trail) setting.table → from ≡ cursor_at offset o
-      → (some_of ≡ [] → left_of forest v.user from members ≡ [])
+      → (some_of ≡ [] → left_of forest (who_of setting v.user) from members ≡ [])
       → take size buffer ≡ flat_map entry_bytes some_of → cursor ≡ cursor_after from some_of
       → size ≤ length buffer
       → fids ≡ changed_fid fid
@@ -71,16 +72,16 @@ module _ (setting : Setting) (forest : List Server) (old : Session) (fid : ℕ) 
       ∙ ap
       (λ b. cond b
       (given_of old fid o offset (cursor_at offset o)
-      (left_of forest v.user (cursor_at offset o) (members_of (here v.trail) setting.table))
+      (left_of forest (who_of setting v.user) (cursor_at offset o) (members_of (here v.trail) setting.table))
       (fitting room
-      (left_of forest v.user (cursor_at offset o) (members_of (here v.trail) setting.table))))
+      (left_of forest (who_of setting v.user) (cursor_at offset o) (members_of (here v.trail) setting.table))))
       (Err BadDirectoryOffset)) begins
       ∙ ap (λ ms. given_of old fid o offset (cursor_at offset o)
-      (left_of forest v.user (cursor_at offset o) ms)
-      (fitting room (left_of forest v.user (cursor_at offset o) ms))) (sym members_are)
-      ∙ ap (λ c. given_of old fid o offset c (left_of forest v.user c members)
-      (fitting room (left_of forest v.user c members))) (sym from_is)
-      ∙ given_of-listed old fid o offset from (left_of forest v.user from members) some_of room_for
+      (left_of forest (who_of setting v.user) (cursor_at offset o) ms)
+      (fitting room (left_of forest (who_of setting v.user) (cursor_at offset o) ms))) (sym members_are)
+      ∙ ap (λ c. given_of old fid o offset c (left_of forest (who_of setting v.user) c members)
+      (fitting room (left_of forest (who_of setting v.user) c members))) (sym from_is)
+      ∙ given_of-listed old fid o offset from (left_of forest (who_of setting v.user) from members) some_of room_for
       ∙ ap (λ n. Ok (record {
         changes = [];
         session = record {

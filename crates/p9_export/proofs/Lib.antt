@@ -1,4 +1,5 @@
 mod Among
+mod Attaches
 mod Creates
 mod DirectoryReads
 mod Listings

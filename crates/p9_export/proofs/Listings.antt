@@ -1,4 +1,5 @@
 -- The entries of a directory, looked for one by one.
+use Rattle.p9_space.specs.Rights.{Who}
 use Rattle.std.proofs.Common.{◌≡◌, ℕ, suc, ◌+◌, ◌-◌, ◌<◌, ◌≤◌, Bool, true, false, cond, ◌&&◌, List}
 use Rattle.std.proofs.Common.{[], ◌∷◌, ◌++◌, length, map, get_or, take, drop, drop-cons, Option}
 use Rattle.std.proofs.Common.{Some, None, refl, sym, ap, append_assoc, ◌∙◌, subst, arith, All}
@@ -86,11 +87,11 @@ pub floor-here : (c : Cursor) (position : ℕ) → c.member ≡ position
 floor-here c position same member n = grind (arith, nat_tests)
 
 pub first_in_listed : (cursor : Option Cursor) (floor : Option ℕ) (forest : List Server)
-    (user : List ℕ) (position : ℕ) (m : Member) → IsFloor cursor position floor
-    → is_listed forest user position m ≡ true
-    → slice_get (filter (is_behind cursor) (entries_of forest user position m)) 0
+    (who : Who) (position : ℕ) (m : Member) → IsFloor cursor position floor
+    → is_listed forest who position m ≡ true
+    → slice_get (filter (is_behind cursor) (entries_of forest who position m)) 0
     ≡ option_map (entry_at position m.node) (child_in_after m.node floor forest)
-first_in_listed cursor floor forest user position m fits listed =
+first_in_listed cursor floor forest who position m fits listed =
     ap
     (λ b. slice_get
     (filter (is_behind cursor)
@@ -103,10 +104,10 @@ first_in_listed cursor floor forest user position m fits listed =
     (λ n. ap (λ b. is_in m.node.number n && b) (fits m.node n)))
 
 -- each entry of a member has its position
-at_position : (forest : List Server) (user : List ℕ) (position : ℕ) (m : Member)
-    → All (λ e. e.position ≡ position) (entries_of forest user position m)
-at_position forest user position m =
-    elim (is_listed forest user position m) as
+at_position : (forest : List Server) (who : Who) (position : ℕ) (m : Member)
+    → All (λ e. e.position ≡ position) (entries_of forest who position m)
+at_position forest who position m =
+    elim (is_listed forest who position m) as
     (λ b. All (λ e. e.position ≡ position)
     (cond b (map (entry_at position m.node) (children_of m.node forest)) [])) [
       | true ↦ All-map (λ e. e.position ≡ position) (entry_at position m.node)
@@ -114,15 +115,15 @@ at_position forest user position m =
       | false ↦ All-nil (λ e. e.position ≡ position)
     ]
 
-pub first_in_earlier : (c : Cursor) (forest : List Server) (user : List ℕ) (position : ℕ)
+pub first_in_earlier : (c : Cursor) (forest : List Server) (who : Who) (position : ℕ)
     (m : Member) → position < c.member
-    → slice_get (filter (is_behind (Some c)) (entries_of forest user position m)) 0 ≡ None
-first_in_earlier c forest user position m lt =
+    → slice_get (filter (is_behind (Some c)) (entries_of forest who position m)) 0 ≡ None
+first_in_earlier c forest who position m lt =
     ap (λ es. slice_get es 0)
-    (none_kept (is_behind (Some c)) (entries_of forest user position m)
+    (none_kept (is_behind (Some c)) (entries_of forest who position m)
     (All-weaker (λ e. e.position ≡ position) (λ e. is_behind (Some c) e ≡ false)
-    (λ e at. grind (arith, nat_tests)) (entries_of forest user position m)
-    (at_position forest user position m)))
+    (λ e at. grind (arith, nat_tests)) (entries_of forest who position m)
+    (at_position forest who position m)))
 
 -- Members.
 
@@ -136,52 +137,52 @@ first_append : {X : Type 0} (xs ys : List X) (x : X) → slice_get xs 0 ≡ Some
 first_append [] ys x e = absurd (cc)
 first_append (y ∷ xs) ys x e = e
 
-module _ (cursor : Option Cursor) (forest : List Server) (user : List ℕ) (position : ℕ) (m : Member)
+module _ (cursor : Option Cursor) (forest : List Server) (who : Who) (position : ℕ) (m : Member)
     (ms : List Member) where
   -- a member that has none left is passed over
-  passed_over : slice_get (filter (is_behind cursor) (entries_of forest user position m)) 0 ≡ None
-      → filter (is_behind cursor) (entries_from forest user position (m ∷ ms))
-      ≡ filter (is_behind cursor) (entries_from forest user (suc position) ms)
+  passed_over : slice_get (filter (is_behind cursor) (entries_of forest who position m)) 0 ≡ None
+      → filter (is_behind cursor) (entries_from forest who position (m ∷ ms))
+      ≡ filter (is_behind cursor) (entries_from forest who (suc position) ms)
   passed_over none =
-      filter-append (is_behind cursor) (entries_of forest user position m)
-      (entries_from forest user (suc position) ms)
-      ∙ ap (λ es. es ++ filter (is_behind cursor) (entries_from forest user (suc position) ms))
+      filter-append (is_behind cursor) (entries_of forest who position m)
+      (entries_from forest who (suc position) ms)
+      ∙ ap (λ es. es ++ filter (is_behind cursor) (entries_from forest who (suc position) ms))
       (none_first _ none)
 
   found_in : (e : Entry)
-      → slice_get (filter (is_behind cursor) (entries_of forest user position m)) 0 ≡ Some e
-      → slice_get (filter (is_behind cursor) (entries_from forest user position (m ∷ ms))) 0
+      → slice_get (filter (is_behind cursor) (entries_of forest who position m)) 0 ≡ Some e
+      → slice_get (filter (is_behind cursor) (entries_from forest who position (m ∷ ms))) 0
       ≡ Some e
   found_in e first =
       ap (λ es. slice_get es 0)
-      (filter-append (is_behind cursor) (entries_of forest user position m)
-      (entries_from forest user (suc position) ms))
-      ∙ first_append _ (filter (is_behind cursor) (entries_from forest user (suc position) ms)) e
+      (filter-append (is_behind cursor) (entries_of forest who position m)
+      (entries_from forest who (suc position) ms))
+      ∙ first_append _ (filter (is_behind cursor) (entries_from forest who (suc position) ms)) e
       first
 
-module _ (cursor : Option Cursor) (forest : List Server) (user : List ℕ) (position : ℕ)
+module _ (cursor : Option Cursor) (forest : List Server) (who : Who) (position : ℕ)
     (ms : List Member) (d : Member) (within : position < length ms) where
   pub member_passed : slice_get
-      (filter (is_behind cursor) (entries_of forest user position (get_or ms position d))) 0 ≡ None
-      → filter (is_behind cursor) (entries_from forest user position (drop position ms))
-      ≡ filter (is_behind cursor) (entries_from forest user (position + 1) (drop (position + 1) ms))
+      (filter (is_behind cursor) (entries_of forest who position (get_or ms position d))) 0 ≡ None
+      → filter (is_behind cursor) (entries_from forest who position (drop position ms))
+      ≡ filter (is_behind cursor) (entries_from forest who (position + 1) (drop (position + 1) ms))
   member_passed none =
       let next : suc position ≡ position + 1 = omega arith in
-      ap (λ l. filter (is_behind cursor) (entries_from forest user position l))
+      ap (λ l. filter (is_behind cursor) (entries_from forest who position l))
       (drop-cons ms position d within)
-      ∙ passed_over cursor forest user position (get_or ms position d) (drop (suc position) ms) none
-      ∙ ap (λ k. filter (is_behind cursor) (entries_from forest user k (drop k ms))) next
+      ∙ passed_over cursor forest who position (get_or ms position d) (drop (suc position) ms) none
+      ∙ ap (λ k. filter (is_behind cursor) (entries_from forest who k (drop k ms))) next
 
   pub member_found : (e : Entry)
       → slice_get
-      (filter (is_behind cursor) (entries_of forest user position (get_or ms position d))) 0
+      (filter (is_behind cursor) (entries_of forest who position (get_or ms position d))) 0
       ≡ Some e
-      → slice_get (filter (is_behind cursor) (entries_from forest user position (drop position ms)))
+      → slice_get (filter (is_behind cursor) (entries_from forest who position (drop position ms)))
       0 ≡ Some e
   member_found e first =
-      ap (λ l. slice_get (filter (is_behind cursor) (entries_from forest user position l)) 0)
+      ap (λ l. slice_get (filter (is_behind cursor) (entries_from forest who position l)) 0)
       (drop-cons ms position d within)
-      ∙ found_in cursor forest user position (get_or ms position d) (drop (suc position) ms) e first
+      ∙ found_in cursor forest who position (get_or ms position d) (drop (suc position) ms) e first
 
 -- Order.
 
@@ -222,10 +223,10 @@ server_rising forest sound server = go (slice_get forest server) refl
     go None e = λ i j d lt within. absurd (omega arith)
     go (Some s) e = (sound.servers server s e).rising
 
-Rising-member : (forest : List Server) (user : List ℕ) (position : ℕ) (m : Member) → IsForest forest
-    → Rising (entries_of forest user position m)
-Rising-member forest user position m sound =
-    elim (is_listed forest user position m) as
+Rising-member : (forest : List Server) (who : Who) (position : ℕ) (m : Member) → IsForest forest
+    → Rising (entries_of forest who position m)
+Rising-member forest who position m sound =
+    elim (is_listed forest who position m) as
     (λ b. Rising (cond b (map (entry_at position m.node) (children_of m.node forest)) [])) [
       | true ↦ Rising-map position m.node (children_of m.node forest)
           (AllPairs-filter (λ a b. a.number < b.number) (is_in m.node.number)
@@ -233,32 +234,32 @@ Rising-member forest user position m sound =
       | false ↦ tt
     ]
 
-from_position : (forest : List Server) (user : List ℕ) (position : ℕ) (ms : List Member)
-    → All (λ e. position ≤ e.position) (entries_from forest user position ms)
-from_position forest user position [] = All-nil (λ e. position ≤ e.position)
-from_position forest user position (m ∷ ms) =
-    All-append (λ e. position ≤ e.position) (entries_of forest user position m)
-    (entries_from forest user (suc position) ms)
+from_position : (forest : List Server) (who : Who) (position : ℕ) (ms : List Member)
+    → All (λ e. position ≤ e.position) (entries_from forest who position ms)
+from_position forest who position [] = All-nil (λ e. position ≤ e.position)
+from_position forest who position (m ∷ ms) =
+    All-append (λ e. position ≤ e.position) (entries_of forest who position m)
+    (entries_from forest who (suc position) ms)
     (All-weaker (λ e. e.position ≡ position) (λ e. position ≤ e.position) (λ e at. omega arith)
-    (entries_of forest user position m) (at_position forest user position m))
+    (entries_of forest who position m) (at_position forest who position m))
     (All-weaker (λ e. suc position ≤ e.position) (λ e. position ≤ e.position) (λ e le. omega arith)
-    (entries_from forest user (suc position) ms) (from_position forest user (suc position) ms))
+    (entries_from forest who (suc position) ms) (from_position forest who (suc position) ms))
 
-Rising-members : (forest : List Server) (user : List ℕ) (position : ℕ) (ms : List Member)
-    → IsForest forest → Rising (entries_from forest user position ms)
-Rising-members forest user position [] sound = tt
-Rising-members forest user position (m ∷ ms) sound =
-    Rising-append (entries_of forest user position m) (entries_from forest user (suc position) ms)
-    (Rising-member forest user position m sound)
-    (Rising-members forest user (suc position) ms sound)
+Rising-members : (forest : List Server) (who : Who) (position : ℕ) (ms : List Member)
+    → IsForest forest → Rising (entries_from forest who position ms)
+Rising-members forest who position [] sound = tt
+Rising-members forest who position (m ∷ ms) sound =
+    Rising-append (entries_of forest who position m) (entries_from forest who (suc position) ms)
+    (Rising-member forest who position m sound)
+    (Rising-members forest who (suc position) ms sound)
     (All-weaker (λ e. e.position ≡ position)
     (λ x. All (λ y. is_behind (Some (cursor_of x)) y ≡ true)
-    (entries_from forest user (suc position) ms))
+    (entries_from forest who (suc position) ms))
     (λ x at. All-weaker (λ e. suc position ≤ e.position)
     (λ y. is_behind (Some (cursor_of x)) y ≡ true)
     (λ y le. let lt : x.position < y.position = omega arith in grind (arith, nat_tests))
-    (entries_from forest user (suc position) ms) (from_position forest user (suc position) ms))
-    (entries_of forest user position m) (at_position forest user position m))
+    (entries_from forest who (suc position) ms) (from_position forest who (suc position) ms))
+    (entries_of forest who position m) (at_position forest who position m))
 
 behind_both : (c : Option Cursor) (x y : Entry) → is_behind c x ≡ true
     → is_behind (Some (cursor_of x)) y ≡ true → is_behind c y ≡ true
@@ -323,36 +324,36 @@ first_fits room x xs fits = record {
   has_room = grind (arith, nat_tests);
 }
 
-pub first_given : (room : ℕ) (forest : List Server) (user : List ℕ) (cursor : Option Cursor)
+pub first_given : (room : ℕ) (forest : List Server) (who : Who) (cursor : Option Cursor)
     (ms : List Member) (e : Entry) → IsForest forest
-    → slice_get (fitting room (left_of forest user cursor ms)) 0 ≡ Some e
-    → GivesFirst room (left_of forest user cursor ms) e
-    (left_of forest user (Some (cursor_of e)) ms)
-first_given room forest user cursor ms e sound first = go (left_of forest user cursor ms) refl
+    → slice_get (fitting room (left_of forest who cursor ms)) 0 ≡ Some e
+    → GivesFirst room (left_of forest who cursor ms) e
+    (left_of forest who (Some (cursor_of e)) ms)
+first_given room forest who cursor ms e sound first = go (left_of forest who cursor ms) refl
   where
-    go : (left : List Entry) → left_of forest user cursor ms ≡ left
-        → GivesFirst room (left_of forest user cursor ms) e
-        (left_of forest user (Some (cursor_of e)) ms)
+    go : (left : List Entry) → left_of forest who cursor ms ≡ left
+        → GivesFirst room (left_of forest who cursor ms) e
+        (left_of forest who (Some (cursor_of e)) ms)
     go [] is =
         let none : None ≡ Some e = ap (λ l. slice_get (fitting room l) 0) (sym is) ∙ first in
         absurd (cc)
     go (x ∷ xs) is = by_room (nat_le (length (entry_bytes x)) room) refl
       where
         by_room : (b : Bool) → nat_le (length (entry_bytes x)) room ≡ b
-            → GivesFirst room (left_of forest user cursor ms) e
-            (left_of forest user (Some (cursor_of e)) ms)
+            → GivesFirst room (left_of forest who cursor ms) e
+            (left_of forest who (Some (cursor_of e)) ms)
         by_room true fits =
             let found : Some x ≡ Some e =
             ap (λ (b : Bool). slice_get
             (cond b (x ∷ fitting (room - length (entry_bytes x)) xs) []) 0) (sym fits)
             ∙ ap (λ l. slice_get (fitting room l) 0) (sym is) ∙ first in
             let same : x ≡ e = cc in
-            let others : left_of forest user (Some (cursor_of x)) ms ≡ xs =
-            others_left cursor (entries_from forest user 0 ms) x xs
-            (Rising-members forest user 0 ms sound) is in
-            subst (λ z. GivesFirst room (left_of forest user cursor ms) z
-            (left_of forest user (Some (cursor_of z)) ms)) same
-            (subst (λ l. GivesFirst room l x (left_of forest user (Some (cursor_of x)) ms)) (sym is)
+            let others : left_of forest who (Some (cursor_of x)) ms ≡ xs =
+            others_left cursor (entries_from forest who 0 ms) x xs
+            (Rising-members forest who 0 ms sound) is in
+            subst (λ z. GivesFirst room (left_of forest who cursor ms) z
+            (left_of forest who (Some (cursor_of z)) ms)) same
+            (subst (λ l. GivesFirst room l x (left_of forest who (Some (cursor_of x)) ms)) (sym is)
             (subst (λ l. GivesFirst room (x ∷ xs) x l) (sym others)
             (first_fits room x xs fits)))
         by_room false fits =
@@ -571,24 +572,24 @@ some_bytes e =
     let long = length-stat_bytes (stat_of (beside e.member e.node.number) e.node) in
     omega (arith, long)
 
-pub filling-smaller : (forest : List Server) (user : List ℕ) (ms : List Member) (room : ℕ)
+pub filling-smaller : (forest : List Server) (who : Who) (ms : List Member) (room : ℕ)
     (buffer : List ℕ) (size : ℕ) (cursor : Option Cursor) (last : Cursor) (n : ℕ)
     → IsForest forest → length buffer ≡ room → size ≤ length buffer
     → Some (last, n) ≡ option_map end_of
     (slice_get
     (fitting (length (take (length buffer - size) (drop size buffer)))
-    (left_of forest user cursor ms)) 0)
+    (left_of forest who cursor ms)) 0)
     → room - (size + n) < room - size
-filling-smaller forest user ms room buffer size cursor last n sound whole within told =
+filling-smaller forest who ms room buffer size cursor last n sound whole within told =
     go
     (slice_get
     (fitting (length (take (length buffer - size) (drop size buffer)))
-    (left_of forest user cursor ms)) 0) refl
+    (left_of forest who cursor ms)) 0) refl
   where
     go : (o : Option Entry)
         → slice_get
         (fitting (length (take (length buffer - size) (drop size buffer)))
-        (left_of forest user cursor ms)) 0 ≡ o → room - (size + n) < room - size
+        (left_of forest who cursor ms)) 0 ≡ o → room - (size + n) < room - size
     go None e = absurd (not_none (last, n) (told ∙ ap (option_map end_of) e))
     go (Some e) first =
         let ends : ◌≡◌ {A = Option (Cursor × ℕ)} (Some (last, n)) (Some (end_of e)) =
@@ -596,7 +597,7 @@ filling-smaller forest user ms room buffer size cursor last n sound whole within
         let n_is : length (entry_bytes e) ≡ n =
         (pair_is last (cursor_of e) n (length (entry_bytes e)) ends).1 in
         let has_room =
-        (first_given (length (take (length buffer - size) (drop size buffer))) forest user
+        (first_given (length (take (length buffer - size) (drop size buffer))) forest who
         cursor ms e sound first).has_room in
         let long : length (take (length buffer - size) (drop size buffer)) ≡ length buffer - size =
         length-take-le (length buffer - size) (drop size buffer)
@@ -605,37 +606,37 @@ filling-smaller forest user ms room buffer size cursor last n sound whole within
         omega (arith, n_is, has_room, long, some, whole, within)
 
 -- the loop goes on: what was told of the first entry is its end
-pub filling-next : (forest : List Server) (user : List ℕ) (ms : List Member) (from : Option Cursor)
+pub filling-next : (forest : List Server) (who : Who) (ms : List Member) (from : Option Cursor)
     (room : ℕ) (buffer : List ℕ) (size : ℕ) (cursor : Option Cursor) (last : Cursor) (n : ℕ)
     (new : List ℕ)
     → IsForest forest → length buffer ≡ room
-    → Filling room (left_of forest user from ms) from buffer size cursor
-    (left_of forest user cursor ms)
+    → Filling room (left_of forest who from ms) from buffer size cursor
+    (left_of forest who cursor ms)
     → Some (last, n) ≡ option_map end_of
     (slice_get
     (fitting (length (take (length buffer - size) (drop size buffer)))
-    (left_of forest user cursor ms)) 0)
+    (left_of forest who cursor ms)) 0)
     → new ≡ put_front
     (flat_map entry_bytes
     (take 1
     (fitting (length (take (length buffer - size) (drop size buffer)))
-    (left_of forest user cursor ms)))) (take (length buffer - size) (drop size buffer))
-    → Filling room (left_of forest user from ms) from
+    (left_of forest who cursor ms)))) (take (length buffer - size) (drop size buffer))
+    → Filling room (left_of forest who from ms) from
     (put_mid size (length buffer - size) buffer new) (size + n) (Some last)
-    (left_of forest user (Some last) ms)
-filling-next forest user ms from room buffer size cursor last n new sound whole filling told put =
+    (left_of forest who (Some last) ms)
+filling-next forest who ms from room buffer size cursor last n new sound whole filling told put =
     go
     (slice_get
     (fitting (length (take (length buffer - size) (drop size buffer)))
-    (left_of forest user cursor ms)) 0) refl
+    (left_of forest who cursor ms)) 0) refl
   where
     go : (o : Option Entry)
         → slice_get
         (fitting (length (take (length buffer - size) (drop size buffer)))
-        (left_of forest user cursor ms)) 0 ≡ o
-        → Filling room (left_of forest user from ms) from
+        (left_of forest who cursor ms)) 0 ≡ o
+        → Filling room (left_of forest who from ms) from
         (put_mid size (length buffer - size) buffer new) (size + n) (Some last)
-        (left_of forest user (Some last) ms)
+        (left_of forest who (Some last) ms)
     go None e = absurd (not_none (last, n) (told ∙ ap (option_map end_of) e))
     go (Some e) first =
         let ends : ◌≡◌ {A = Option (Cursor × ℕ)} (Some (last, n)) (Some (end_of e)) =
@@ -645,22 +646,22 @@ filling-next forest user ms from room buffer size cursor last n new sound whole 
         let n_is : length (entry_bytes e) ≡ n =
         (pair_is last (cursor_of e) n (length (entry_bytes e)) ends).1 in
         let more =
-        filling-more (left_of forest user from ms) from room buffer size cursor
-        (left_of forest user cursor ms) whole filling e
-        (left_of forest user (Some (cursor_of e)) ms) new
-        (first_given (length (take (length buffer - size) (drop size buffer))) forest user cursor ms
+        filling-more (left_of forest who from ms) from room buffer size cursor
+        (left_of forest who cursor ms) whole filling e
+        (left_of forest who (Some (cursor_of e)) ms) new
+        (first_given (length (take (length buffer - size) (drop size buffer))) forest who cursor ms
         e sound first)
         (put
         ∙ ap (λ bytes. put_front bytes (take (length buffer - size) (drop size buffer)))
         (only_first
         (fitting (length (take (length buffer - size) (drop size buffer)))
-        (left_of forest user cursor ms)) e first)) in
-        subst (λ k. Filling room (left_of forest user from ms) from
+        (left_of forest who cursor ms)) e first)) in
+        subst (λ k. Filling room (left_of forest who from ms) from
         (put_mid size (length buffer - size) buffer new) (size + k) (Some last)
-        (left_of forest user (Some last) ms)) n_is
-        (subst (λ l. Filling room (left_of forest user from ms) from
+        (left_of forest who (Some last) ms)) n_is
+        (subst (λ l. Filling room (left_of forest who from ms) from
         (put_mid size (length buffer - size) buffer new) (size + length (entry_bytes e))
-        (Some l) (left_of forest user (Some l) ms)) last_is more)
+        (Some l) (left_of forest who (Some l) ms)) last_is more)
 
 -- What a read of a directory says of an empty answer.
 

@@ -1,4 +1,5 @@
 -- Removing files.
+use Rattle.p9_step.specs.State.{who_of}
 use Rattle.std.proofs.Common.{◌≡◌, ℕ, true, false, List, Option, Some, None, Ok, is_some}
 use Rattle.std.proofs.Common.{refl}
 use Rattle.p9_base.specs.declared.node_ref.NodeRef.{NodeRef}
@@ -33,7 +34,7 @@ all_applied-taken_out user now at n old dropped new drop mark = rw (mark, drop) 
 pub removal-made : (setting : Setting) (old dropped new : List Server) (left : Session) (now : ℕ)
     (v : Fid) (at : NodeRef) (n : Node) →
     at ≡ fid_ref setting.table v → node_of at old ≡ Some n → is_some n.parent ≡ true
-    → may_write_parent v.user old at n ≡ true → has_children_of at old ≡ false →
+    → may_write_parent (who_of setting v.user) old at n ≡ true → has_children_of at old ≡ false →
     dropped ≡ tree_changed_at at.server (with_dropped at.number) old
     → new ≡ all_applied (parent_marked v.user now at n.parent) dropped →
     Answers (removal setting old left now v) false old new left left (Ok Rremove)

@@ -74,8 +74,7 @@ found-fits setting forest rows name session sound served there =
 
 -- the reply that the step makes is short
 pub reply-short : (state : State) (name now : ℕ) (frame : List ℕ) (size : ℕ) (out : List ℕ)
-    (refused : Bool) → IsState state → IsBytes frame → is_frame frame ≡ true → size ≤ length out
-    → take size out ≡ (step state (Message name frame now) refused).reply
+    (refused : Bool) → IsState state → IsBytes frame → is_frame frame ≡ true → size ≤ length out → take size out ≡ (step state (Message name frame now) refused).reply
     → IfSome (session_at name state.sessions) (λ session. size ≤ reply_max session)
 reply-short state name now frame size out refused its bytes whole within is =
     go (session_at name state.sessions) refl

@@ -1,4 +1,6 @@
 -- Walks, step by step.
+use Rattle.p9_space.specs.Rights.{Who}
+use Rattle.p9_step.specs.State.{who_of}
 use Rattle.std.proofs.Common.{◌≡◌, ℕ, List, [], ◌∷◌, ◌++◌, true, false, Option, Some, None, Result}
 use Rattle.std.proofs.Common.{Ok, Err, IsSome, is_none, is_some, length, map, drop, get_or, suc}
 use Rattle.std.proofs.Common.{◌+◌, ◌<◌, ◌≤◌, Bor, refl, append_assoc, add-one, drop-cons}
@@ -27,12 +29,12 @@ abbrev pub so_far : List Qid → Walked → Walked
 so_far qids rest = record { qids = qids ++ rest.qids; trail = rest.trail; stopped = rest.stopped }
 
 -- a step arrives at a file
-pub file-step_of : (forest : List Server) (table : List MountRow) (user : Option (List ℕ))
+pub file-step_of : (forest : List Server) (table : List MountRow) (who : Option Who)
     (trail : List NodeRef) (name : List ℕ) (step : Step)
-    → step_of forest table user trail name ≡ Ok step
+    → step_of forest table who trail name ≡ Ok step
     → IsSome (file_of (here (stepped trail step)) table forest)
-file-step_of forest table user trail name step found =
-    go (step_among forest user trail name (members_of (here trail) table)) found
+file-step_of forest table who trail name step found =
+    go (step_among forest who trail name (members_of (here trail) table)) found
   where
     by : (s : Step) (file : Option Node) → file_of (here (stepped trail s)) table forest ≡ file
         → arrived forest table trail s ≡ Ok step
@@ -49,7 +51,7 @@ file-step_of forest table user trail name step found =
 module _ (setting : Setting) (forest : List Server) (user : List ℕ) where
   -- one step further
   pub walked-more : (qids : List Qid) (trail : List NodeRef) (name : List ℕ) (names : List (List ℕ))
-      (step : Step) (qid : Qid) → step_of forest setting.table (Some user) trail name ≡ Ok step
+      (step : Step) (qid : Qid) → step_of forest setting.table (Some (who_of setting user)) trail name ≡ Ok step
       → qid_at setting.table forest (here (stepped trail step)) ≡ Some qid →
       so_far qids (walked setting forest user trail (name ∷ names))
       ≡ so_far (qids ++ qid ∷ []) (walked setting forest user (stepped trail step) names)
@@ -58,7 +60,7 @@ module _ (setting : Setting) (forest : List Server) (user : List ℕ) where
   -- the step that is refused ends the walk
   pub walked-stopped : (qids : List Qid) (trail : List NodeRef) (name : List ℕ)
       (names : List (List ℕ)) (fault : Fault)
-      → step_of forest setting.table (Some user) trail name ≡ Err fault →
+      → step_of forest setting.table (Some (who_of setting user)) trail name ≡ Err fault →
       so_far qids (walked setting forest user trail (name ∷ names)) ≡ record {
         qids = qids;
         trail = trail;
@@ -70,7 +72,7 @@ module _ (setting : Setting) (forest : List Server) (user : List ℕ) where
   pub walked-turn : (qids qids' : List Qid) (trail trail' : List NodeRef)
       (names : List (Bor (List ℕ))) (i : ℕ) (d : Bor (List ℕ)) (step : Step) (qid : Qid) →
       i < length names
-      → step_of forest setting.table (Some user) trail (get_or names i d).now ≡ Ok step
+      → step_of forest setting.table (Some (who_of setting user)) trail (get_or names i d).now ≡ Ok step
       → qid_at setting.table forest (here (stepped trail step)) ≡ Some qid
       → qids' ≡ qids ++ qid ∷ [] → trail' ≡ stepped trail step →
       so_far qids (walked setting forest user trail (map (λ n. n.now) (drop i names)))
@@ -84,7 +86,7 @@ module _ (setting : Setting) (forest : List Server) (user : List ℕ) where
   pub walked-end : (qids : List Qid) (trail : List NodeRef) (names : List (Bor (List ℕ))) (i : ℕ)
       (d : Bor (List ℕ)) (fault : Fault) →
       i < length names
-      → step_of forest setting.table (Some user) trail (get_or names i d).now ≡ Err fault →
+      → step_of forest setting.table (Some (who_of setting user)) trail (get_or names i d).now ≡ Err fault →
       so_far qids (walked setting forest user trail (map (λ n. n.now) (drop i names))) ≡ record {
         qids = qids;
         trail = trail;

@@ -1,4 +1,5 @@
 -- The answer to a wstat that no test refuses.
+use Rattle.p9_step.specs.State.{who_of}
 use Rattle.std.proofs.Common.{◌≡◌, ℕ, Bool, true, false, List, [], ◌∷◌, Option, Some}
 use Rattle.std.proofs.Common.{None, Ok, refl, sym, ap, ◌∙◌, subst}
 use Rattle.std.specs.Prelude.{not, if◌then◌else◌}
@@ -45,7 +46,7 @@ pub wstat_answer-done : (setting : Setting) (forest : List Server) (session : Se
     (wanted : StatFields) (v : Fid) (n : Node) (at : NodeRef) (t : Touched)
     → at ≡ fid_ref setting.table v → fid_at fid session.fids ≡ Some v → node_of at forest ≡ Some n
     → touches_fixed (stat_of at n) wanted ≡ false → t ≡ touched_of (stat_of at n) wanted
-    → wstat_fault v.user forest at n t ≡ None
+    → wstat_fault (who_of setting v.user) forest at n t ≡ None
     → wstat_answer setting forest session now fid wanted ≡ rewritten session v.user now at n t
 wstat_answer-done setting forest session now fid wanted v n at t at_is held found fixed t_is free =
     let place : NodeRef = fid_ref setting.table v in
@@ -55,16 +56,16 @@ wstat_answer-done setting forest session now fid wanted v n at t at_is held foun
     subst (λ a. touches_fixed (stat_of a n) wanted ≡ false) at_is fixed in
     let is : t ≡ touched_of (stat_of place n) wanted =
     subst (λ a. t ≡ touched_of (stat_of a n) wanted) at_is t_is in
-    let passes : wstat_fault v.user forest place n t ≡ None =
-    subst (λ a. wstat_fault v.user forest a n t ≡ None) at_is free in
-    let none : wstat_fault v.user forest place n (touched_of (stat_of place n) wanted) ≡ None =
-    subst (λ s. wstat_fault v.user forest place n s ≡ None) is passes in
+    let passes : wstat_fault (who_of setting v.user) forest place n t ≡ None =
+    subst (λ a. wstat_fault (who_of setting v.user) forest a n t ≡ None) at_is free in
+    let none : wstat_fault (who_of setting v.user) forest place n (touched_of (stat_of place n) wanted) ≡ None =
+    subst (λ s. wstat_fault (who_of setting v.user) forest place n s ≡ None) is passes in
     let done : wstat_answer setting forest session now fid wanted
     ≡ rewritten session v.user now place n (touched_of (stat_of place n) wanted) =
     steps (fid_at fid session.fids) v (fid_file setting.table forest) n UnknownFid PhaseError
     FixedField
     (λ w m. touches_fixed (stat_of (fid_ref setting.table w) m) wanted)
-    (λ w m. wstat_fault w.user forest (fid_ref setting.table w) m
+    (λ w m. wstat_fault (who_of setting w.user) forest (fid_ref setting.table w) m
     (touched_of (stat_of (fid_ref setting.table w) m) wanted))
     (λ w m. rewritten session w.user now (fid_ref setting.table w) m
     (touched_of (stat_of (fid_ref setting.table w) m) wanted))

@@ -10,7 +10,7 @@ use Rattle.p9_tree.specs.Server.{Server}
 use Rattle.p9_tree.specs.Forest.{node_of}
 use Rattle.p9_wire.specs.Frame.{msize_max}
 use Rattle.p9_wire.specs.Message.{RMessage, Rerror, Rread, Rstat, TMessage, r_view, t_view}
-use Rattle.p9_wire.specs.Spelling.{RFits, r_len}
+use Rattle.p9_wire.specs.Spelling.{RFits, r_len, read_header}
 use Rattle.p9_wire.specs.declared.message.TMsg.{TMsg}
 use Rattle.p9_export.specs.declared.reply.Reply.{Reply}
 use Rattle.p9_export.specs.declared.reply.Reply.TheVariants.{Message, Data, StatOf}
@@ -98,6 +98,6 @@ frame_among setting forest sessions name now frame =
 -- are no more than a frame holds
 abbrev pub CanWrite : Result Reply Fault → Type 0
 CanWrite (Ok (Message m)) = ReplyFits (r_view m)
-CanWrite (Ok (Data count)) = 11 + count ≤ msize_max
+CanWrite (Ok (Data count)) = read_header + count ≤ msize_max
 CanWrite (Ok (StatOf at)) = Unit {0}
 CanWrite (Err fault) = Unit {0}

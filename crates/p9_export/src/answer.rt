@@ -3,6 +3,7 @@
 ghost use Rattle.std.specs.Prelude.{◌≡◌, ◌≤◌, IsSome, IfSome, drop, length, map};
 ghost use Rattle.p9_wire.specs.Frame.{msize_max};
 ghost use Rattle.p9_wire.specs.Message.{t_view};
+ghost use Rattle.p9_wire.specs.Spelling.{read_header};
 ghost use Rattle.p9_export.specs.Answers.{AnswersAmong, CanWrite, frame_among, replied, reply_view};
 ghost use Rattle.p9_step.specs.Sound.{IsSession};
 ghost use Rattle.p9_step.specs.State.{session_at};
@@ -17,14 +18,11 @@ use crate::session::Session;
 use crate::setting::Setting;
 use p9_base::Fault;
 use p9_tree::{Forest, Tree};
-use p9_wire::TMsg;
+use p9_wire::{READ_HEADER, TMsg};
 use std::collections::BTreeMap;
 
-// The bytes of a reply to a read before its data: the header and their count.
-const BEFORE_DATA: usize = 11;
-
-/// Answers a frame of the session of this name. What a read gives is put behind the first 11 bytes
-/// of the reply.
+/// Answers a frame of the session of this name. What a read gives is put behind the first
+/// [`READ_HEADER`] bytes of the reply.
 ///
 /// A frame that is no request is refused as by [`request_of`], a request by the first test of its
 /// own function that fails. An `Err` leaves the forest and all sessions.
@@ -47,13 +45,13 @@ pub fn answer<T: Tree>(
         let new = map T.state forest.new.trees.items in
         let answer = frame_among setting.now old sessions.old.entries name now frame.now in
         AnswersAmong name answer (ran_out frame.now answer) old new sessions.old.entries
-        sessions.new.entries (replied (reply_view new (drop 11 reply.new)) result) }
+        sessions.new.entries (replied (reply_view new (drop read_header reply.new)) result) }
 {
     let session = sessions.get(&name).unwrap();
     let request = request_of(session, frame)?;
     let taken = finds_taken(setting, forest, sessions, session, &request);
     let session = sessions.get_mut(&name).unwrap();
-    let (_, buffer) = reply.split_at_mut(BEFORE_DATA);
+    let (_, buffer) = reply.split_at_mut(READ_HEADER);
     message(setting, forest, session, taken, now, &request, buffer)
 }
 

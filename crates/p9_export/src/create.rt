@@ -75,7 +75,9 @@ pub fn create<T: Tree>(
     }
     let members = setting.table.members(held.trail.here());
     match target_among(forest, members.as_slice()) {
-        Ok(target) => create_in(forest, session, now, fid, name, asked, opening, target),
+        Ok(target) => create_in(
+            setting, forest, session, now, fid, name, asked, opening, target,
+        ),
         Err(fault) => Err(fault),
     }
 }
@@ -104,6 +106,7 @@ fn permitting(members: &[Member]) -> Option<&Member>
 
 // Makes the node in this directory, and opens the fid on it.
 fn create_in<T: Tree>(
+    setting: &Setting<T::Alloc>,
     forest: &mut Forest<T>,
     session: &mut Session<T::Alloc>,
     now: u32,
@@ -116,7 +119,8 @@ fn create_in<T: Tree>(
     requires { IsSome (fid_at fid session.old.fids) }
     ensures { let old = map T.state forest.old.trees.items in
         let new = map T.state forest.new.trees.items in
-        IfSome (fid_at fid session.old.fids) (λ v. let answer = created_in old session.old now fid v
+        IfSome (fid_at fid session.old.fids) (λ v.
+        let answer = created_in setting.now old session.old now fid v
         name asked opening target in Answers answer (is_done answer) old new session.old session.new
         (replied create_reply result)) }
 {
@@ -124,7 +128,7 @@ fn create_in<T: Tree>(
     let Some(dir) = forest.node(target) else {
         return Err(Fault::PhaseError);
     };
-    if let Some(fault) = fault_in(forest, held, &name, target, dir) {
+    if let Some(fault) = fault_in(setting, forest, held, &name, target, dir) {
         return Err(fault);
     }
     let new = new_in(dir, name, asked, held.user, now);
@@ -137,18 +141,20 @@ fn create_in<T: Tree>(
 
 // Why the fid's user can't make a node of the name in the directory.
 fn fault_in<T: Tree>(
+    setting: &Setting<T::Alloc>,
     forest: &Forest<T>,
     held: &Fid<T::Alloc>,
     name: &Name,
     target: NodeRef,
     dir: &Node<T::Alloc>,
 ) -> Option<Fault>
-    ensures { result ≡ fault_in (map T.state forest.now.trees.items) held.now name.now target
+    ensures { result ≡ fault_in setting.now (map T.state forest.now.trees.items) held.now name.now
+        target
         dir.now }
 {
     if !dir.is_dir() {
         Some(Fault::NotDirectory)
-    } else if !may(&held.user, dir, TO_WRITE) {
+    } else if !may(setting.who(&held.user), dir, TO_WRITE) {
         Some(Fault::PermissionDenied)
     } else if forest.child(target, name).is_some() {
         Some(Fault::FileExists)

@@ -20,7 +20,7 @@ use crate::end::end_fids;
 use crate::frame::{tag_of, write_reply};
 use crate::session::Session;
 use crate::setting::Setting;
-use p9_base::User;
+use p9_base::{Groups, User};
 use p9_space::MountTable;
 use p9_tree::{Forest, Tree};
 use std::collections::BTreeMap;
@@ -38,7 +38,8 @@ pub enum OpenError {
     NoMemory,
 }
 
-/// The exporter: the trees, the mount table and the users, and the open sessions by name.
+/// The exporter: the trees, the mount table, the users and the groups, and the open sessions by
+/// name.
 #[derive(Drop)]
 pub struct Export<T: Tree> {
     setting: Setting<T::Alloc>,
@@ -64,17 +65,18 @@ impl<T: Tree> Model for Export<T> {
 }
 
 impl<T: Tree> Export<T> {
-    /// An exporter of these trees by this mount table, to these users, without sessions. This takes
-    /// no memory. No key and no member of the table is a node that is still to be made:
+    /// An exporter of these trees by this mount table, to these users and groups, without sessions.
+    /// This takes no memory. No key and no member of the table is a node that is still to be made:
     /// [`p9_space::is_table_given`] tests that.
     pub fn new(
         forest: Forest<T>,
         users: Vec<User, T::Alloc>,
+        groups: Groups<T::Alloc>,
         table: MountTable<T::Alloc>,
     ) -> Export<T>
         requires { IsTrue (is_table_given (map T.state forest.trees.items) table) }
         ensures { result ≡ record {
-          setting = record { users = users.items; table = table };
+          setting = record { users = users.items; groups = groups; table = table };
           forest
               = map T.state forest.trees.items;
           sessions = [];
@@ -82,12 +84,14 @@ impl<T: Tree> Export<T> {
     {
         forest.well_formed();
         each_is_a_user(users.as_slice());
+        groups.well_formed();
         let _rows = table.len();
         let alloc = *users.allocator();
         Export {
             setting: Setting {
                 alloc,
                 users,
+                groups,
                 table,
             },
             forest,

@@ -4,7 +4,8 @@ ghost use Rattle.std.specs.Prelude.{◌≡◌, ◌≤◌, ◌+◌, length, map, 
 ghost use Rattle.p9_wire.specs.Frame.{msize_max};
 ghost use Rattle.p9_base.specs.Fault.{text_of};
 ghost use Rattle.p9_wire.specs.Message.{Rerror};
-ghost use Rattle.p9_wire.specs.Spelling.{r_spelling};
+ghost use Rattle.p9_wire.specs.Spelling.{r_spelling, read_header};
+ghost use Rattle.p9_step.specs.Laws.{refusal_max};
 ghost use Rattle.p9_step.specs.Request.{request_of, tag_of};
 ghost use Rattle.p9_export.specs.Answers.{CanWrite, message_of, replied, reply_view, request_view};
 ghost use Rattle.p9_export.specs.Answers.{stat_reply};
@@ -61,7 +62,7 @@ pub fn write_reply<T: Tree>(
     requires reply { CanWrite answered.now }
     requires room { msize_max ≤ length out.old }
     ensures bytes { take result out.new ≡ r_spelling tag (message_of (replied (reply_view
-        (map T.state forest.now.trees.items) (drop 11 out.old)) answered.now)) }
+        (map T.state forest.now.trees.items) (drop read_header out.old)) answered.now)) }
     ensures within { result ≤ length out.old }
 {
     match answered {
@@ -72,9 +73,9 @@ pub fn write_reply<T: Tree>(
     }
 }
 
-// Writes the refusal. No fault's text is longer than 34 bytes, so it needs 43.
+// Writes the refusal.
 fn write_fault(fault: Fault, tag: u16, out: &mut [u8]) -> usize
-    requires { 43 ≤ length out.old }
+    requires { refusal_max ≤ length out.old }
     ensures bytes { take result out.new ≡ r_spelling tag (Rerror (text_of fault)) }
     ensures within { result ≤ length out.old }
 {

@@ -9,14 +9,15 @@ ghost use Rattle.p9_base.specs.declared.fault.Fault.TheVariants.{SmallReadCount}
 ghost use Rattle.p9_tree.specs.Bytes.{put_front};
 ghost use Rattle.p9_tree.specs.Forest.{child_in_after};
 ghost use Rattle.p9_wire.specs.Fields.{FitsStat, stat_len};
+ghost use Rattle.p9_space.specs.Rights.{who_view};
 ghost use Rattle.p9_step.specs.Listing.{entries_of, entry_at, is_behind, is_listed, left_of};
 ghost use Rattle.p9_step.specs.Read.{cursor_after, end_of, entry_bytes, fitting};
 ghost use Rattle.p9_step.specs.Qid.{stat_of};
 
 use crate::qid::stat_of;
-use p9_base::{Fault, NodeRef, User};
+use p9_base::{Fault, NodeRef};
 use p9_fids::Cursor;
-use p9_space::{Member, TO_READ, may};
+use p9_space::{Member, TO_READ, Who, may};
 use p9_tree::{Forest, Node, Tree};
 use p9_wire::{STAT_FIXED, write_stat};
 use std::alloc::Allocator;
@@ -31,6 +32,7 @@ pub struct Entry<'a, A: Allocator> {
 }
 
 impl<'a, A: Allocator> Model for Entry<'a, A> {
+    ghost use Rattle.p9_space.specs.Rights.{who_view};
     ghost use Rattle.p9_step.specs.Listing.{Entry as EntryOf};
 
     ghost Value = { EntryOf };
@@ -53,25 +55,29 @@ pub struct Given {
 pub fn list<T: Tree>(
     forest: &Forest<T>,
     members: &[Member],
-    user: &User,
+    who: Who<'_, T::Alloc>,
     cursor: Option<Cursor>,
     buffer: &mut [u8],
 ) -> Result<Given, Fault>
     ensures size { IfOk result (λ given. given.size ≤ length buffer.old) }
-    ensures bytes { let left = left_of (map T.state forest.now.trees.items) user.now cursor
+    ensures bytes { let left = left_of (map T.state forest.now.trees.items) (who_view who.entry)
+        cursor
         members.now in IfOk result (λ given. take given.size buffer.new
         ≡ flat_map entry_bytes (fitting (length buffer.old) left)) }
-    ensures cursor { let left = left_of (map T.state forest.now.trees.items) user.now cursor
+    ensures cursor { let left = left_of (map T.state forest.now.trees.items) (who_view who.entry)
+        cursor
         members.now in IfOk result (λ given. given.cursor
         ≡ cursor_after cursor (fitting (length buffer.old) left)) }
-    ensures ok { let left = left_of (map T.state forest.now.trees.items) user.now cursor members.now
+    ensures ok { let left = left_of (map T.state forest.now.trees.items) (who_view who.entry)
+        cursor members.now
         in OnOk result (fitting (length buffer.old) left ≡ [] → left ≡ []) }
-    ensures err { let left = left_of (map T.state forest.now.trees.items) user.now cursor
+    ensures err { let left = left_of (map T.state forest.now.trees.items) (who_view who.entry)
+        cursor
         members.now in IfErr result (λ fault. (fault ≡ SmallReadCount) × (left ≢ [])
         × (fitting (length buffer.old) left ≡ [])) }
 {
-    let given = fill(forest, members, user, cursor, buffer);
-    if given.size == 0 && first_left(forest, members, user, cursor).is_some() {
+    let given = fill(forest, members, who, cursor, buffer);
+    if given.size == 0 && first_left(forest, members, who, cursor).is_some() {
         return Err(Fault::SmallReadCount);
     }
     Ok(given)
@@ -81,23 +87,23 @@ pub fn list<T: Tree>(
 fn fill<T: Tree>(
     forest: &Forest<T>,
     members: &[Member],
-    user: &User,
+    who: Who<'_, T::Alloc>,
     cursor: Option<Cursor>,
     buffer: &mut [u8],
 ) -> Given
     ensures size { result.size ≤ length buffer.old }
     ensures bytes { take result.size buffer.new
         ≡ flat_map entry_bytes (fitting (length buffer.old) (left_of
-        (map T.state forest.now.trees.items) user.now cursor members.now)) }
+        (map T.state forest.now.trees.items) (who_view who.entry) cursor members.now)) }
     ensures cursor { result.cursor ≡ cursor_after cursor (fitting (length buffer.old) (left_of
-        (map T.state forest.now.trees.items) user.now cursor members.now)) }
+        (map T.state forest.now.trees.items) (who_view who.entry) cursor members.now)) }
 {
     forest.well_formed();
     let mut given = Given { size: 0, cursor };
     while let Some((last, size)) = give(
         forest,
         members,
-        user,
+        who,
         given.cursor,
         &mut buffer[given.size..],
     ) {
@@ -112,17 +118,18 @@ fn fill<T: Tree>(
 fn give<T: Tree>(
     forest: &Forest<T>,
     members: &[Member],
-    user: &User,
+    who: Who<'_, T::Alloc>,
     cursor: Option<Cursor>,
     buffer: &mut [u8],
 ) -> Option<(Cursor, usize)>
     ensures last { result ≡ option_map end_of (slice_get (fitting (length buffer.old) (left_of
-        (map T.state forest.now.trees.items) user.now cursor members.now)) 0) }
+        (map T.state forest.now.trees.items) (who_view who.entry) cursor members.now)) 0) }
     ensures bytes { buffer.new ≡ put_front (flat_map entry_bytes (take 1 (fitting
-        (length buffer.old) (left_of (map T.state forest.now.trees.items) user.now cursor
+        (length buffer.old) (left_of (map T.state forest.now.trees.items) (who_view who.entry)
+        cursor
         members.now)))) buffer.old }
 {
-    let entry = first_left(forest, members, user, cursor)?;
+    let entry = first_left(forest, members, who, cursor)?;
     let at = entry.member.beside(entry.node.number());
     if stat_size(at, entry.node) > buffer.len() {
         return None;
@@ -151,15 +158,15 @@ fn stat_size<A: Allocator>(at: NodeRef, node: &Node<A>) -> usize
 fn first_left<'a, T: Tree>(
     forest: &'a Forest<T>,
     members: &[Member],
-    user: &User,
+    who: Who<'_, T::Alloc>,
     cursor: Option<Cursor>,
 ) -> Option<Entry<'a, T::Alloc>>
     ensures first { result ≡ slice_get (left_of
-        (map T.state forest.now.trees.items) user.now cursor members.now) 0 }
+        (map T.state forest.now.trees.items) (who_view who.entry) cursor members.now) 0 }
     ensures below { IfSome result (λ e. e.node.number < 2 ^ 48) }
 {
     for position in 0..members.len() {
-        if let Some(entry) = first_in(forest, position, members[position], user, cursor) {
+        if let Some(entry) = first_in(forest, position, members[position], who, cursor) {
             return Some(entry);
         }
     }
@@ -171,14 +178,14 @@ fn first_in<'a, T: Tree>(
     forest: &'a Forest<T>,
     position: usize,
     member: Member,
-    user: &User,
+    who: Who<'_, T::Alloc>,
     cursor: Option<Cursor>,
 ) -> Option<Entry<'a, T::Alloc>>
     ensures first { result ≡ slice_get (filter (is_behind cursor) (entries_of
-        (map T.state forest.now.trees.items) user.now position member)) 0 }
+        (map T.state forest.now.trees.items) (who_view who.entry) position member)) 0 }
     ensures below { IfSome result (λ e. e.node.number < 2 ^ 48) }
 {
-    if !is_listed(forest, position, member, user) {
+    if !is_listed(forest, position, member, who) {
         return None;
     }
     match cursor {
@@ -216,11 +223,17 @@ fn first_above<'a, T: Tree>(
 }
 
 // Whether the member is an alive directory that the user may read; the first without this test.
-fn is_listed<T: Tree>(forest: &Forest<T>, position: usize, member: Member, user: &User) -> bool
-    ensures { result ≡ is_listed (map T.state forest.now.trees.items) user.now position member }
+fn is_listed<T: Tree>(
+    forest: &Forest<T>,
+    position: usize,
+    member: Member,
+    who: Who<'_, T::Alloc>,
+) -> bool
+    ensures { result ≡ is_listed (map T.state forest.now.trees.items) (who_view who.entry) position
+        member }
 {
     match forest.node(member.node) {
-        Some(node) => node.is_dir() && (position == 0 || may(user, node, TO_READ)),
+        Some(node) => node.is_dir() && (position == 0 || may(who, node, TO_READ)),
         None => false,
     }
 }

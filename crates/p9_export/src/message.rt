@@ -3,9 +3,10 @@
 ghost use Rattle.std.specs.Prelude.{◌≡◌, ◌≤◌, ◌+◌, length, map};
 ghost use Rattle.p9_wire.specs.Frame.{msize_max};
 ghost use Rattle.p9_wire.specs.Message.{t_view};
+ghost use Rattle.p9_wire.specs.Spelling.{read_header};
 ghost use Rattle.p9_export.specs.Answers.{Answers, CanWrite, replied, reply_view};
 ghost use Rattle.p9_step.specs.Sound.{FidsFit};
-ghost use Rattle.p9_step.specs.State.{room_of};
+ghost use Rattle.p9_step.specs.State.{io_header, room_of};
 ghost use Rattle.p9_step.specs.Memory.{may_run_out};
 ghost use Rattle.p9_step.specs.Step.{session_answer};
 
@@ -43,8 +44,8 @@ pub fn message<T: Tree>(
 ) -> Result<Reply, Fault>
     requires fids { FidsFit setting.now.table
         (map T.state forest.old.trees.items) session.old.fids }
-    requires buffer { msize_max ≤ 11 + length buffer.old }
-    requires room { 24 + room_of session.old ≤ msize_max }
+    requires buffer { msize_max ≤ read_header + length buffer.old }
+    requires room { io_header + room_of session.old ≤ msize_max }
     ensures reply { CanWrite result }
     ensures answer { let old = map T.state forest.old.trees.items in
         let new = map T.state forest.new.trees.items in

@@ -3,6 +3,7 @@
 ghost use Rattle.std.specs.Prelude.{◌≡◌, map, false, IfSome, IsSome};
 ghost use Rattle.p9_tree.specs.Forest.{node_of};
 ghost use Rattle.p9_export.specs.Answers.{Answers, replied};
+ghost use Rattle.p9_space.specs.Rights.{who_view};
 ghost use Rattle.p9_step.specs.Change.{all_applied};
 ghost use Rattle.p9_step.specs.Open.{is_append_only, is_cut, is_exclusive, is_in_use, is_taken};
 ghost use Rattle.p9_step.specs.Open.{may_open, open_answer, open_reply, truncated, truncation};
@@ -13,7 +14,7 @@ use crate::rights::may_write_parent;
 use crate::session::Session;
 use crate::setting::Setting;
 use p9_base::{Fault, Kind, NodeRef, Qid, User};
-use p9_space::{MountTable, may};
+use p9_space::{MountTable, Who, may};
 use p9_step::Opening;
 use p9_tree::{Forest, Node, Tree};
 use std::alloc::Allocator;
@@ -59,7 +60,7 @@ pub fn open<T: Tree>(
     if file.is_dir() && !opening.is_plain_read() {
         return Err(Fault::IsDirectory);
     }
-    if !may_open(&user, forest, at, file, opening) {
+    if !may_open(setting.who(&user), forest, at, file, opening) {
         return Err(Fault::PermissionDenied);
     }
     if taken {
@@ -73,16 +74,17 @@ pub fn open<T: Tree>(
 // Whether the user has each right that the mode asks for, and to remove on close, to change the
 // file's directory.
 fn may_open<T: Tree>(
-    user: &User,
+    who: Who<'_, T::Alloc>,
     forest: &Forest<T>,
     at: NodeRef,
     file: &Node<T::Alloc>,
     opening: Opening,
 ) -> bool
-    ensures { result ≡ may_open user.now (map T.state forest.now.trees.items) at file.now opening }
+    ensures { result ≡ may_open (who_view who.entry) (map T.state forest.now.trees.items) at
+        file.now opening }
 {
-    may(user, file, opening.wanted())
-        && (!opening.remove_on_close || may_write_parent(user, forest, at, file))
+    may(who, file, opening.wanted())
+        && (!opening.remove_on_close || may_write_parent(who, forest, at, file))
 }
 
 // Whether the opening truncates the file.

@@ -1,7 +1,7 @@
 //! The qids of files, and what is told of them, as intro(5) and stat(5).
 
 ghost use Rattle.std.specs.Prelude.{◌≡◌, ◌<◌, ◌≤◌, ◌^◌};
-ghost use Rattle.p9_step.specs.Qid.{qid_of, stat_of};
+ghost use Rattle.p9_step.specs.Qid.{qid_of, stat_max, stat_of};
 ghost use Rattle.p9_wire.specs.Fields.{FitsStat, stat_len};
 ghost use Rattle.p9_wire.specs.Message.{stat_view};
 
@@ -27,7 +27,7 @@ pub fn qid_of<A: Allocator>(at: NodeRef, file: &Node<A>) -> Qid
 pub fn stat_of<A: Allocator>(at: NodeRef, file: &Node<A>) -> Stat<'_>
     requires { at.number < 2 ^ 48 }
     ensures fits { FitsStat (stat_view result) }
-    ensures short { stat_len (stat_view result) ≤ 493 }
+    ensures short { stat_len (stat_view result) ≤ stat_max }
     ensures value { stat_view result ≡ stat_of at file.now }
 {
     Stat {

@@ -128,7 +128,13 @@ fn read_dir<T: Tree>(
     let held = session.fids.get(fid).unwrap();
     let members = setting.table.members(held.trail.here());
     let cursor = cursor_at(offset, &opened);
-    let given = list(forest, members.as_slice(), &held.user, cursor, buffer)?;
+    let given = list(
+        forest,
+        members.as_slice(),
+        setting.who(&held.user),
+        cursor,
+        buffer,
+    )?;
     let next = Opened {
         next_offset: u128::from(offset) + given.size as u128,
         cursor: given.cursor,

@@ -66,7 +66,7 @@ fn remove_file<T: Tree>(
     if parent.is_none() {
         return Err(Fault::IsRoot);
     }
-    if !may_write_parent(&fid.user, forest, at, file) {
+    if !may_write_parent(setting.who(&fid.user), forest, at, file) {
         return Err(Fault::PermissionDenied);
     }
     if forest.after(at, None).is_some() {

@@ -1,18 +1,19 @@
 //! Rights in the directory that a file stands in, as intro(5).
 
 ghost use Rattle.std.specs.Prelude.{◌≡◌, map};
+ghost use Rattle.p9_space.specs.Rights.{who_view};
 ghost use Rattle.p9_step.specs.Rights.{may_write, may_write_parent};
 
-use p9_base::{NodeRef, User};
-use p9_space::{TO_WRITE, may};
+use p9_base::NodeRef;
+use p9_space::{TO_WRITE, Who, may};
 use p9_tree::{Forest, Node, Tree};
 
 /// Whether the user may write the node, which exists.
-pub fn may_write<T: Tree>(user: &User, forest: &Forest<T>, at: NodeRef) -> bool
-    ensures { result ≡ may_write user.now (map T.state forest.now.trees.items) at }
+pub fn may_write<T: Tree>(who: Who<'_, T::Alloc>, forest: &Forest<T>, at: NodeRef) -> bool
+    ensures { result ≡ may_write (who_view who.entry) (map T.state forest.now.trees.items) at }
 {
     match forest.node(at) {
-        Some(node) => may(user, node, TO_WRITE),
+        Some(node) => may(who, node, TO_WRITE),
         None => false,
     }
 }
@@ -20,15 +21,16 @@ pub fn may_write<T: Tree>(user: &User, forest: &Forest<T>, at: NodeRef) -> bool
 /// Whether the user may change the entries of the directory that the file stands in. A root stands
 /// in none.
 pub fn may_write_parent<T: Tree>(
-    user: &User,
+    who: Who<'_, T::Alloc>,
     forest: &Forest<T>,
     at: NodeRef,
     file: &Node<T::Alloc>,
 ) -> bool
-    ensures { result ≡ may_write_parent user.now (map T.state forest.now.trees.items) at file.now }
+    ensures { result ≡ may_write_parent (who_view who.entry)
+        (map T.state forest.now.trees.items) at file.now }
 {
     match file.parent() {
-        Some(number) => may_write(user, forest, at.beside(number)),
+        Some(number) => may_write(who, forest, at.beside(number)),
         None => false,
     }
 }

@@ -1,12 +1,13 @@
 //! What no event changes.
 
 ghost use Rattle.std.specs.Prelude.{◌≡◌};
-ghost use Rattle.p9_step.specs.State.{fresh, fid_ref};
+ghost use Rattle.p9_space.specs.Rights.{who_view};
+ghost use Rattle.p9_step.specs.State.{fresh, fid_ref, who_of};
 
 use crate::session::Session;
-use p9_base::{NodeRef, User};
+use p9_base::{Groups, NodeRef, User};
 use p9_fids::Fid;
-use p9_space::MountTable;
+use p9_space::{MountTable, Who};
 use std::alloc::Allocator;
 use std::marker::Model;
 
@@ -16,6 +17,8 @@ pub struct Setting<A: Allocator + Copy> {
     pub alloc: A,
     /// The users who may attach.
     pub users: Vec<User, A>,
+    /// The groups by which rights are given.
+    pub groups: Groups<A>,
     /// The name space that is served.
     pub table: MountTable<A>,
 }
@@ -25,7 +28,7 @@ impl<A: Allocator + Copy> Model for Setting<A> {
 
     ghost Value = { SettingOf };
 
-    ghost view = { λ s. record { users = s.users.items; table = s.table } };
+    ghost view = { λ s. record { users = s.users.items; groups = s.groups; table = s.table } };
 }
 
 impl<A: Allocator + Copy> Setting<A> {
@@ -34,6 +37,16 @@ impl<A: Allocator + Copy> Setting<A> {
         ensures { result ≡ fresh }
     {
         Session::new(self.alloc)
+    }
+
+    /// A user, with the groups.
+    pub fn who<'a>(&'a self, user: &'a User) -> Who<'a, A>
+        ensures { who_view result ≡ who_of self.now user.now }
+    {
+        Who {
+            user,
+            groups: &self.groups,
+        }
     }
 
     /// The file of a fid, whether it exists or not: the first member of the place where its trail

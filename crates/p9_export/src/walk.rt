@@ -102,7 +102,13 @@ fn walk_along<T: Tree>(
     let mut qids = Qids::new();
     let mut trail = start.copy()?;
     for name in names.as_slice() {
-        match find_step(forest, &setting.table, &trail, name, Some(user)) {
+        match find_step(
+            forest,
+            &setting.table,
+            &trail,
+            name,
+            Some(setting.who(user)),
+        ) {
             Ok(step) => qids.push(arrive(setting, forest, &mut trail, step)?),
             Err(fault) => {
                 return Ok(Walked {

@@ -4,6 +4,8 @@ ghost use Rattle.std.specs.Prelude.{◌≡◌, ◌-◌, ◌^◌, IsTrue, map, op
 ghost use Rattle.std.specs.Option.{ForSome, option_copied};
 ghost use Rattle.p9_base.specs.Mode.{mode_of};
 ghost use Rattle.p9_base.specs.Name.{is_name};
+ghost use Rattle.p9_base.specs.User.{is_user};
+ghost use Rattle.p9_space.specs.Rights.{who_view};
 ghost use Rattle.p9_wire.specs.Message.{Rwstat, stat_view};
 ghost use Rattle.p9_export.specs.Answers.{Answers, replied};
 ghost use Rattle.p9_step.specs.Memory.{is_done};
@@ -20,7 +22,7 @@ use crate::rights::may_write_parent;
 use crate::session::Session;
 use crate::setting::Setting;
 use p9_base::{Fault, Mode, Name, NodeRef, Qid, User};
-use p9_space::{TO_WRITE, may, rules};
+use p9_space::{TO_WRITE, Who, may, rules};
 use p9_tree::{Change, FILE_MAX, Forest, Node, Tree};
 use p9_wire::Stat;
 use std::alloc::Allocator;
@@ -76,12 +78,14 @@ pub fn wstat<T: Tree>(
         return Err(Fault::FixedField);
     }
     let touched = touched_of(&there, wanted);
-    if let Some(fault) = wstat_fault(&held.user, forest, at, file, &touched) {
+    if let Some(fault) = wstat_fault(setting.who(&held.user), forest, at, file, &touched) {
         return Err(fault);
     }
     if !is_any(&touched) {
         return Ok(());
     }
+    setting.groups.well_formed();
+    let _valid = held.user.as_str();
     let parent = file.parent();
     let change = node_change(held.user, now, &touched);
     forest.change(at, &change)?;
@@ -171,31 +175,32 @@ fn is_any(touched: &Touched<'_>) -> bool
 
 // The fault of the first test that refuses the change.
 fn wstat_fault<T: Tree>(
-    user: &User,
+    who: Who<'_, T::Alloc>,
     forest: &Forest<T>,
     at: NodeRef,
     file: &Node<T::Alloc>,
     touched: &Touched<'_>,
 ) -> Option<Fault>
-    ensures { result ≡ wstat_fault user.now (map T.state forest.now.trees.items) at file.now
+    ensures { result ≡ wstat_fault (who_view who.entry) (map T.state forest.now.trees.items) at
+        file.now
         (touched_view touched.now) }
 {
     if let Some(fault) = mode_fault(file, touched.mode) {
         return Some(fault);
     }
-    if let Some(fault) = name_fault(user, forest, at, file, touched.name) {
+    if let Some(fault) = name_fault(who, forest, at, file, touched.name) {
         return Some(fault);
     }
-    if let Some(fault) = length_fault(user, file, touched.length) {
+    if let Some(fault) = length_fault(who, file, touched.length) {
         return Some(fault);
     }
-    if let Some(fault) = ruling_fault(user, file, touched.mode) {
+    if let Some(fault) = ruling_fault(who, file, touched.mode) {
         return Some(fault);
     }
-    if let Some(fault) = ruling_fault(user, file, touched.mtime) {
+    if let Some(fault) = ruling_fault(who, file, touched.mtime) {
         return Some(fault);
     }
-    gid_fault(user, file, touched.gid)
+    gid_fault(who, file, touched.gid)
 }
 
 // A mode that means nothing, or isn't for the file's kind, is refused.
@@ -212,13 +217,13 @@ fn mode_fault<A: Allocator>(file: &Node<A>, mode: Option<u32>) -> Option<Fault>
 // A root keeps its name. Any other file's new name is valid, the user may write the directory, and
 // nothing there has the name.
 fn name_fault<T: Tree>(
-    user: &User,
+    who: Who<'_, T::Alloc>,
     forest: &Forest<T>,
     at: NodeRef,
     file: &Node<T::Alloc>,
     name: Option<&str>,
 ) -> Option<Fault>
-    ensures { result ≡ option_and_then (name_fault user.now
+    ensures { result ≡ option_and_then (name_fault (who_view who.entry)
         (map T.state forest.now.trees.items) at file.now) (option_copied name.entry) }
 {
     let name = name?;
@@ -228,7 +233,7 @@ fn name_fault<T: Tree>(
     let Some(name) = Name::new(name) else {
         return Some(Fault::BadFileName);
     };
-    if !may_write_parent(user, forest, at, file) {
+    if !may_write_parent(who, forest, at, file) {
         Some(Fault::PermissionDenied)
     } else if has_sibling(forest, at, file, &name) {
         Some(Fault::FileExists)
@@ -248,13 +253,17 @@ fn has_sibling<T: Tree>(forest: &Forest<T>, at: NodeRef, file: &Node<T::Alloc>, 
 }
 
 // A directory has no length. A file's is for who may write it, up to [`FILE_MAX`].
-fn length_fault<A: Allocator>(user: &User, file: &Node<A>, length: Option<u64>) -> Option<Fault>
-    ensures { result ≡ option_and_then (length_fault user.now file.now) length }
+fn length_fault<A: Allocator, B: Allocator + Copy>(
+    who: Who<'_, B>,
+    file: &Node<A>,
+    length: Option<u64>,
+) -> Option<Fault>
+    ensures { result ≡ option_and_then (length_fault (who_view who.entry) file.now) length }
 {
     let size = length?;
     if file.is_dir() {
         Some(Fault::IsDirectory)
-    } else if !may(user, file, TO_WRITE) {
+    } else if !may(who, file, TO_WRITE) {
         Some(Fault::PermissionDenied)
     } else if size > FILE_MAX as u64 {
         Some(Fault::FileTooLarge)
@@ -264,10 +273,14 @@ fn length_fault<A: Allocator>(user: &User, file: &Node<A>, length: Option<u64>) 
 }
 
 // Mode and mtime are for who rules the file.
-fn ruling_fault<A: Allocator>(user: &User, file: &Node<A>, touched: Option<u32>) -> Option<Fault>
-    ensures { result ≡ option_and_then (ruling_fault user.now file.now) touched }
+fn ruling_fault<A: Allocator, B: Allocator + Copy>(
+    who: Who<'_, B>,
+    file: &Node<A>,
+    touched: Option<u32>,
+) -> Option<Fault>
+    ensures { result ≡ option_and_then (ruling_fault (who_view who.entry) file.now) touched }
 {
-    if touched.is_some() && !rules(user, file) {
+    if touched.is_some() && !rules(who, file) {
         Some(Fault::PermissionDenied)
     } else {
         None
@@ -275,34 +288,45 @@ fn ruling_fault<A: Allocator>(user: &User, file: &Node<A>, touched: Option<u32>)
 }
 
 // A group is refused that the user may not give the file to.
-fn gid_fault<A: Allocator>(user: &User, file: &Node<A>, gid: Option<&str>) -> Option<Fault>
-    ensures { result ≡ option_and_then (gid_fault user.now file.now) (option_copied gid.entry) }
+fn gid_fault<A: Allocator, B: Allocator + Copy>(
+    who: Who<'_, B>,
+    file: &Node<A>,
+    gid: Option<&str>,
+) -> Option<Fault>
+    ensures { result ≡ option_and_then (gid_fault (who_view who.entry) file.now)
+        (option_copied gid.entry) }
 {
     let gid = gid?;
-    if may_give(user, file, gid) {
+    if may_give(who, file, gid) {
         None
     } else {
         Some(Fault::PermissionDenied)
     }
 }
 
-// Whether the user may give the file to the group.
-fn may_give<A: Allocator>(user: &User, file: &Node<A>, gid: &str) -> bool
-    ensures { result ≡ may_give user.now file.now gid.now }
+// Whether the user may give the file to the group. A text that names no group is nobody's.
+fn may_give<A: Allocator, B: Allocator + Copy>(who: Who<'_, B>, file: &Node<A>, gid: &str) -> bool
+    ensures { result ≡ may_give (who_view who.entry) file.now gid.now }
 {
-    rules(user, file) && gid == user.as_str()
+    let Some(group) = User::new(gid) else {
+        who.groups.well_formed();
+        let _valid = who.user.as_str();
+        return false;
+    };
+    file.uid() == who.user && who.groups.member(who.user, &group)
+        || who.groups.leads(who.user, file.gid()) && who.groups.leads(who.user, &group)
 }
 
-// What is changed. The one group that a user may give a file to is the user's own.
+// What is changed.
 fn node_change(user: User, now: u32, touched: &Touched<'_>) -> Change
     requires name { ForSome (option_copied touched.now.name) (λ name. IsTrue (is_name name)) }
-    requires gid { ForSome (option_copied touched.now.gid) (λ gid. gid ≡ user) }
+    requires gid { ForSome (option_copied touched.now.gid) (λ gid. IsTrue (is_user gid)) }
     ensures { result ≡ node_change user now (touched_view touched.now) }
 {
     Change {
         name: new_name(touched.name),
         mode: new_mode(touched.mode),
-        gid: new_gid(user, touched.gid),
+        gid: new_gid(touched.gid),
         length: touched.length,
         mtime: touched.mtime,
         user,
@@ -325,10 +349,10 @@ fn new_mode(mode: Option<u32>) -> Option<Mode>
     Mode::from_bits(mode?)
 }
 
-// The group, which is the user's own.
-fn new_gid(user: User, gid: Option<&str>) -> Option<User>
-    requires { ForSome (option_copied gid) (λ gid. gid ≡ user) }
+// The group as it is kept.
+fn new_gid(gid: Option<&str>) -> Option<User>
+    requires { ForSome (option_copied gid) (λ gid. IsTrue (is_user gid)) }
     ensures { result ≡ option_copied gid.entry }
 {
-    gid.map(|_| user)
+    User::new(gid?)
 }

@@ -1,7 +1,7 @@
 //! Messages in a world where allocations fail: a request that is answered `out of memory` is sent
 //! again.
 
-use crate::exchange::{Exchange, exchange, is_reply, send};
+use crate::exchange::{Exchange, exchange, is_reply, room, send};
 use crate::worlds::{ATTACH, Bind, VERSION, exporter, in_session};
 use p9_export::{Export, OpenError};
 use p9_refusing::{Refusing, refuse_each};
@@ -32,11 +32,13 @@ pub fn play_refused(rt: &impl Abort, alloc: Global, script: Script<'_>) -> u64 {
 
 // Begins the sessions and sends the requests, each again where memory was refused.
 fn play_again<T: Tree>(rt: &impl Abort, alloc: Global, mut export: Export<T>, script: Script<'_>) {
+    let mut room = room(rt, alloc);
+    let reply = room.as_mut_slice();
     for session in 1..=script.sessions {
-        begin_again(rt, alloc, &mut export, session, script.now);
+        begin_again(rt, alloc, &mut export, session, script.now, reply);
     }
     for row in script.rows {
-        exchange_again(rt, alloc, &mut export, script.now, *row);
+        exchange_again(rt, alloc, &mut export, script.now, *row, reply);
     }
 }
 
@@ -47,13 +49,14 @@ fn begin_again<T: Tree>(
     export: &mut Export<T>,
     session: u32,
     now: u32,
+    reply: &mut [u8],
 ) {
     if export.open(session) == Err(OpenError::NoMemory) {
         assert!(rt; !export.live(session));
         assert_eq!(rt; export.open(session), Ok(()));
     }
-    exchange_again(rt, alloc, export, now, in_session(session, VERSION));
-    exchange_again(rt, alloc, export, now, in_session(session, ATTACH));
+    exchange_again(rt, alloc, export, now, in_session(session, VERSION), reply);
+    exchange_again(rt, alloc, export, now, in_session(session, ATTACH), reply);
 }
 
 // Sends a request, again where memory was refused, and compares the reply.
@@ -63,9 +66,10 @@ fn exchange_again<T: Tree>(
     export: &mut Export<T>,
     now: u32,
     row: Exchange,
+    reply: &mut [u8],
 ) {
-    if !is_answered(rt, alloc, export, now, row) {
-        exchange(rt, alloc, export, now, row);
+    if !is_answered(rt, alloc, export, now, row, reply) {
+        exchange(rt, alloc, export, now, row, reply);
     }
 }
 
@@ -77,11 +81,11 @@ pub fn is_answered<T: Tree>(
     export: &mut Export<T>,
     now: u32,
     row: Exchange,
+    reply: &mut [u8],
 ) -> bool {
     let (session, request, wanted) = row;
     let frame = hex::decode(alloc, request).expect(rt, "hexadecimal digits");
-    let mut reply = [0u8; 65_536];
-    let size = send(rt, export, session, now, frame.as_slice(), &mut reply);
+    let size = send(rt, export, session, now, frame.as_slice(), reply);
     let reply = reply.get(..size).expect(rt, "bytes");
     if is_refusal(frame.as_slice(), reply) {
         assert!(rt; frame.get(4).is_some_and(|kind| may_run_out(*kind)));

@@ -2,24 +2,29 @@
 
 use p9_export::{Export, is_frame};
 use p9_tree::Tree;
+use p9_wire::MSIZE_MAX;
 use std::alloc::Global;
 use std::process::Abort;
 
 /// A session, a request and its reply, as hexadecimal digits from outside.
 pub type Exchange = (u32, &'static str, &'static str);
 
-/// Room for the longest reply.
-pub type Reply = [u8; 65_536];
+/// Room for the longest reply. A test has one, which every reply is written over.
+pub fn room(rt: &impl Abort, alloc: Global) -> Vec<u8, Global> {
+    let room = vec![in alloc; 0u8; MSIZE_MAX as usize];
+    room.expect(rt, "memory")
+}
 
-/// Sends a frame, and returns the length of the reply.
+/// Sends a frame, and returns the length of the reply. The reply has room for the longest one.
 pub fn send<T: Tree>(
     rt: &impl Abort,
     export: &mut Export<T>,
     session: u32,
     now: u32,
     frame: &[u8],
-    reply: &mut Reply,
+    reply: &mut [u8],
 ) -> usize {
+    assert!(rt; reply.len() >= MSIZE_MAX as usize);
     assert!(rt; is_frame(frame));
     assert!(rt; export.live(session));
     export.message(session, frame, now, reply)
@@ -32,11 +37,11 @@ pub fn exchange<T: Tree>(
     export: &mut Export<T>,
     now: u32,
     exchange: Exchange,
+    reply: &mut [u8],
 ) {
     let (session, request, wanted) = exchange;
     let frame = hex::decode(alloc, request).expect(rt, "hexadecimal digits");
-    let mut reply = [0u8; 65_536];
-    let size = send(rt, export, session, now, frame.as_slice(), &mut reply);
+    let size = send(rt, export, session, now, frame.as_slice(), reply);
     is_reply(rt, alloc, reply.get(..size).expect(rt, "bytes"), wanted);
 }
 
@@ -47,9 +52,10 @@ pub fn exchange_all<T: Tree>(
     export: &mut Export<T>,
     now: u32,
     rows: &[Exchange],
+    reply: &mut [u8],
 ) {
     for row in rows {
-        exchange(rt, alloc, export, now, *row);
+        exchange(rt, alloc, export, now, *row, reply);
     }
 }
 
@@ -66,7 +72,7 @@ pub fn read_at<T: Tree>(
     fid: u8,
     offset: u32,
     count: u32,
-    reply: &mut Reply,
+    reply: &mut [u8],
 ) -> usize {
     let mut frame = [0u8; 23];
     frame[..8].copy_from_slice(&[23, 0, 0, 0, 116, 1, 0, fid]);

@@ -1,13 +1,13 @@
 //! As many fids as a session may have.
 
-use crate::exchange::{Reply, exchange_all, send};
+use crate::exchange::{exchange_all, room, send};
 use crate::worlds::begun;
 use p9_export::Export;
 use p9_tree::Tree;
 use std::process::Abort;
 
 // Walks from fid 0 to newfid without names.
-fn clone_fid<T: Tree>(rt: &impl Abort, export: &mut Export<T>, newfid: u32, reply: &mut Reply) {
+fn clone_fid<T: Tree>(rt: &impl Abort, export: &mut Export<T>, newfid: u32, reply: &mut [u8]) {
     let mut frame = [17, 0, 0, 0, 110, 2, 0, 0, 0, 0, 0, 0, 0, 0, 0, 0, 0];
     frame[11..15].copy_from_slice(&newfid.to_le_bytes());
     let size = send(rt, export, 1, 0, &frame, reply);
@@ -18,10 +18,11 @@ fn clone_fid<T: Tree>(rt: &impl Abort, export: &mut Export<T>, newfid: u32, repl
 // Fid 0 and 1,023 others, and one more.
 #[test]
 fn a_session_has_1024_fids(rt: HostRuntime) {
-    let mut export = begun(&rt, rt.alloc());
-    let mut reply = [0u8; 65_536];
+    let mut room = room(&rt, rt.alloc());
+    let reply = room.as_mut_slice();
+    let mut export = begun(&rt, rt.alloc(), reply);
     for newfid in 1..1024 {
-        clone_fid(&rt, &mut export, newfid, &mut reply);
+        clone_fid(&rt, &mut export, newfid, reply);
     }
     let rows = &[
         (
@@ -48,5 +49,5 @@ fn a_session_has_1024_fids(rt: HostRuntime) {
             "090000006f07000000",
         ),
     ];
-    exchange_all(&rt, rt.alloc(), &mut export, 0, rows);
+    exchange_all(&rt, rt.alloc(), &mut export, 0, rows, reply);
 }

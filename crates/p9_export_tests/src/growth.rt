@@ -1,8 +1,8 @@
-//! A wstat that makes a file longer, with each request for memory refused in turn: it changes all that
-//! it asks for, or nothing.
+//! A wstat that makes a file longer, with each request for memory refused in turn: it changes all
+//! that it asks for, or nothing.
 
 use crate::again::is_answered;
-use crate::exchange::{Exchange, exchange, exchange_all};
+use crate::exchange::{Exchange, exchange, exchange_all, room};
 use crate::worlds::{SMALL, begin, exporter};
 use p9_export::Export;
 use p9_refusing::{Refusing, refuse_each};
@@ -24,8 +24,8 @@ const WALKS: [Exchange; 2] = [
     ),
 ];
 
-// With an atime, and with a group that glenda may not give: a refusal is the same where memory would run
-// out.
+// With an atime, and with a group that glenda may not give: a refusal is the same where memory
+// would run out.
 const REFUSED: [Exchange; 2] = [
     (
         1,
@@ -107,8 +107,10 @@ const TWICE: [Exchange; 2] = [
 
 fn ready<A: Allocator + Copy>(rt: &impl Abort, alloc: Global, memory: A) -> Export<PlainTree<A>> {
     let mut export = exporter(rt, memory, SMALL, &[]);
-    begin(rt, alloc, &mut export, 1);
-    exchange_all(rt, alloc, &mut export, 0, &WALKS);
+    let mut room = room(rt, alloc);
+    let reply = room.as_mut_slice();
+    begin(rt, alloc, &mut export, 1, reply);
+    exchange_all(rt, alloc, &mut export, 0, &WALKS, reply);
     export
 }
 
@@ -120,18 +122,21 @@ fn grow_again<T: Tree>(
     wstat: Exchange,
     before: &[Exchange],
     after: &[Exchange],
+    reply: &mut [u8],
 ) {
-    if !is_answered(rt, alloc, export, 7, wstat) {
-        exchange_all(rt, alloc, export, 7, before);
-        exchange(rt, alloc, export, 7, wstat);
+    if !is_answered(rt, alloc, export, 7, wstat, reply) {
+        exchange_all(rt, alloc, export, 7, before, reply);
+        exchange(rt, alloc, export, 7, wstat, reply);
     }
-    exchange_all(rt, alloc, export, 7, after);
+    exchange_all(rt, alloc, export, 7, after, reply);
 }
 
 fn grow_twice<T: Tree>(rt: &impl Abort, alloc: Global, export: &mut Export<T>) {
-    exchange_all(rt, alloc, export, 7, &REFUSED);
-    grow_again(rt, alloc, export, FIRST, &AT_FIRST, &ONCE);
-    grow_again(rt, alloc, export, SECOND, &ONCE, &TWICE);
+    let mut room = room(rt, alloc);
+    let reply = room.as_mut_slice();
+    exchange_all(rt, alloc, export, 7, &REFUSED, reply);
+    grow_again(rt, alloc, export, FIRST, &AT_FIRST, &ONCE, reply);
+    grow_again(rt, alloc, export, SECOND, &ONCE, &TWICE, reply);
 }
 
 // Each growth asks for memory once, and nothing else does.

@@ -1,6 +1,6 @@
-//! Tests of the exporter that no row of `p9_rows` holds: refused memory, so many files or fids or
-//! modes that a loop says it better, and calls that the program's command doesn't make. There is
-//! nothing else here.
+//! Tests of the exporter that no row of `p9_rows` holds: refused memory, so many files, fids,
+//! modes or bytes that a loop says it better, and calls that the program's command doesn't make.
+//! There is nothing else here.
 #![tactic(auto)]
 
 #[cfg(test)]
@@ -11,6 +11,8 @@ mod exchange;
 mod fids;
 #[cfg(test)]
 mod growth;
+#[cfg(test)]
+mod large;
 #[cfg(test)]
 mod many;
 #[cfg(test)]
@@ -23,5 +25,3 @@ mod refused_scripts;
 mod sessions;
 #[cfg(test)]
 mod worlds;
-#[cfg(test)]
-mod zeros;

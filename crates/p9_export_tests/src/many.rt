@@ -1,6 +1,6 @@
 //! A directory of many files, listed whole while another session removes and makes files.
 
-use crate::exchange::{exchange_all, read_at, send};
+use crate::exchange::{exchange_all, read_at, room, send};
 use crate::worlds::{begin, exporter};
 use byteorder::{ByteOrder, LittleEndian};
 use p9_export::Export;
@@ -41,43 +41,53 @@ fn many(rt: &impl Abort, alloc: Global, count: u32) -> Export<PlainTree<Global>>
 }
 
 // Session 2 removes the file of this number.
-fn remove<T: Tree>(rt: &impl Abort, export: &mut Export<T>, number: u32) {
-    let mut reply = [0u8; 65_536];
+fn remove<T: Tree>(rt: &impl Abort, export: &mut Export<T>, number: u32, reply: &mut [u8]) {
     let mut walk = [
         26, 0, 0, 0, 110, 1, 0, 0, 0, 0, 0, 1, 0, 0, 0, 2, 0, 1, 0, b'a', 4, 0, 0, 0, 0, 0,
     ];
     walk[22..].copy_from_slice(&name_of(number));
-    assert_eq!(rt; send(rt, export, 2, 0, &walk, &mut reply), 35);
+    assert_eq!(rt; send(rt, export, 2, 0, &walk, reply), 35);
     let remove = [11, 0, 0, 0, 122, 1, 0, 1, 0, 0, 0];
-    assert_eq!(rt; send(rt, export, 2, 0, &remove, &mut reply), 7);
+    assert_eq!(rt; send(rt, export, 2, 0, &remove, reply), 7);
+}
+
+// Whether an Rcreate tells of the file of this number.
+fn is_numbered(reply: &[u8], number: u32) -> bool {
+    reply.get(12..16) == Some(number.to_le_bytes().as_slice())
 }
 
 // Session 2 makes a file in /a, and its number is to be this one.
-fn make<T: Tree>(rt: &impl Abort, export: &mut Export<T>, number: u32) {
-    let mut reply = [0u8; 65_536];
+fn make<T: Tree>(rt: &impl Abort, export: &mut Export<T>, number: u32, reply: &mut [u8]) {
     let walk = [
         20, 0, 0, 0, 110, 1, 0, 0, 0, 0, 0, 1, 0, 0, 0, 1, 0, 1, 0, b'a',
     ];
-    assert_eq!(rt; send(rt, export, 2, 0, &walk, &mut reply), 22);
+    assert_eq!(rt; send(rt, export, 2, 0, &walk, reply), 22);
     let mut create = [
         22, 0, 0, 0, 114, 1, 0, 1, 0, 0, 0, 4, 0, 0, 0, 0, 0, 0xa4, 1, 0, 0, 0,
     ];
     create[13..17].copy_from_slice(&name_of(number));
-    assert_eq!(rt; send(rt, export, 2, 0, &create, &mut reply), 24);
-    assert_eq!(rt; &reply[12..16], number.to_le_bytes().as_slice());
+    assert_eq!(rt; send(rt, export, 2, 0, &create, reply), 24);
+    assert!(rt; is_numbered(reply, number));
     let clunk = [11, 0, 0, 0, 120, 1, 0, 1, 0, 0, 0];
-    assert_eq!(rt; send(rt, export, 2, 0, &clunk, &mut reply), 7);
+    assert_eq!(rt; send(rt, export, 2, 0, &clunk, reply), 7);
 }
 
 // Removes a file that was listed and one that wasn't, and makes two.
-fn disturb<T: Tree>(rt: &impl Abort, export: &mut Export<T>, count: u32, round: u32) {
-    remove(rt, export, round.saturating_add(2));
-    remove(rt, export, count.saturating_add(1).saturating_sub(round));
+fn disturb<T: Tree>(
+    rt: &impl Abort,
+    export: &mut Export<T>,
+    count: u32,
+    round: u32,
+    reply: &mut [u8],
+) {
+    remove(rt, export, round.saturating_add(2), reply);
+    let last = count.saturating_add(1).saturating_sub(round);
+    remove(rt, export, last, reply);
     let next = count
         .saturating_add(2)
         .saturating_add(round.saturating_mul(2));
-    make(rt, export, next);
-    make(rt, export, next.saturating_add(1));
+    make(rt, export, next, reply);
+    make(rt, export, next.saturating_add(1), reply);
 }
 
 // Adds the numbers in entries of 71 bytes.
@@ -95,19 +105,19 @@ fn push_numbers(rt: &impl Abort, entries: &[u8], numbers: &mut Vec<u64, Global>)
     }
 }
 
-// Lists /a by reads of 1,024 bytes, and returns the numbers of its files. After each of the first 25
-// reads session 2 removes and makes files.
+// Lists /a by reads of 1,024 bytes, and returns the numbers of its files. After each of the first
+// 25 reads session 2 removes and makes files.
 fn listed<T: Tree>(
     rt: &impl Abort,
     alloc: Global,
     export: &mut Export<T>,
     count: u32,
+    reply: &mut [u8],
 ) -> Vec<u64, Global> {
-    let mut reply = [0u8; 65_536];
     let mut numbers = Vec::new(alloc);
     let mut offset = 0u32;
     for round in 0..10_000u32 {
-        let size = read_at(rt, export, 2, offset, 1_024, &mut reply);
+        let size = read_at(rt, export, 2, offset, 1_024, reply);
         let entries = reply.get(11..size).expect(rt, "entries");
         if entries.is_empty() {
             break;
@@ -115,7 +125,7 @@ fn listed<T: Tree>(
         push_numbers(rt, entries, &mut numbers);
         offset = offset.saturating_add(u32::try_from(entries.len()).expect(rt, "a length"));
         if round < 25 {
-            disturb(rt, export, count, round);
+            disturb(rt, export, count, round, reply);
         }
     }
     numbers
@@ -143,11 +153,13 @@ fn lists_all(rt: &impl Abort, alloc: Global, count: u32) {
             "1800000071030080000000000100000000000000e81f0000",
         ),
     ];
+    let mut room = room(rt, alloc);
+    let reply = room.as_mut_slice();
     let mut export = many(rt, alloc, count);
-    begin(rt, alloc, &mut export, 1);
-    begin(rt, alloc, &mut export, 2);
-    exchange_all(rt, alloc, &mut export, 0, rows);
-    let numbers = listed(rt, alloc, &mut export, count);
+    begin(rt, alloc, &mut export, 1, reply);
+    begin(rt, alloc, &mut export, 2, reply);
+    exchange_all(rt, alloc, &mut export, 0, rows, reply);
+    let numbers = listed(rt, alloc, &mut export, count, reply);
     let mut wanted = Vec::new(alloc);
     push_range(rt, 2, count.saturating_sub(23), &mut wanted);
     let made = count.saturating_add(2);

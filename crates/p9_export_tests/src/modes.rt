@@ -1,17 +1,23 @@
 //! Opens in each of the 256 modes.
 
-use crate::exchange::{Exchange, exchange, is_reply, send};
+use crate::exchange::{Exchange, exchange, is_reply, room, send};
 use crate::worlds::begun;
 use std::alloc::Global;
 use std::process::Abort;
 
 // Opens fid 1, where a walk took it, by a mode.
-fn open_by(rt: &impl Abort, alloc: Global, walk: Exchange, mode: u8, wanted: &str) {
-    let mut export = begun(rt, alloc);
-    exchange(rt, alloc, &mut export, 0, walk);
+fn open_by(
+    rt: &impl Abort,
+    alloc: Global,
+    walk: Exchange,
+    mode: u8,
+    wanted: &str,
+    reply: &mut [u8],
+) {
+    let mut export = begun(rt, alloc, reply);
+    exchange(rt, alloc, &mut export, 0, walk, reply);
     let frame = [12, 0, 0, 0, 112, 2, 0, 1, 0, 0, 0, mode];
-    let mut reply = [0u8; 65_536];
-    let size = send(rt, &mut export, 1, 0, &frame, &mut reply);
+    let size = send(rt, &mut export, 1, 0, &frame, reply);
     is_reply(rt, alloc, reply.get(..size).expect(rt, "bytes"), wanted);
 }
 
@@ -46,8 +52,10 @@ fn every_mode_of_a_file(rt: HostRuntime) {
         "170000006e070000000000010000000200010061010066",
         "230000006f070002008000000000010000000000000000000000000300000000000000",
     );
+    let mut room = room(&rt, rt.alloc());
+    let reply = room.as_mut_slice();
     for mode in 0..=255u8 {
-        open_by(&rt, rt.alloc(), walk, mode, of_file(mode));
+        open_by(&rt, rt.alloc(), walk, mode, of_file(mode), reply);
     }
 }
 
@@ -58,7 +66,9 @@ fn every_mode_of_a_directory(rt: HostRuntime) {
         "140000006e070000000000010000000100010061",
         "160000006f0700010080000000000100000000000000",
     );
+    let mut room = room(&rt, rt.alloc());
+    let reply = room.as_mut_slice();
     for mode in 0..=255u8 {
-        open_by(&rt, rt.alloc(), walk, mode, of_dir(mode));
+        open_by(&rt, rt.alloc(), walk, mode, of_dir(mode), reply);
     }
 }

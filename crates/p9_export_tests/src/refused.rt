@@ -17,6 +17,58 @@ fn an_attach_is_done_again_at_each_refusal(rt: HostRuntime) {
     assert!(rt; play_refused(&rt, rt.alloc(), script) > 1);
 }
 
+// Attaches by a path.
+#[test]
+fn an_attach_by_a_path_is_done_again_at_each_refusal(rt: HostRuntime) {
+    let script = Script {
+        world: SMALL,
+        binds: &[],
+        sessions: 1,
+        now: 0,
+        rows: &[
+            // The path is cleaned, and walked.
+            (
+                1,
+                "2200000068020001000000ffffffff0600676c656e646109002f612f2e2f622f2e2e",
+                "1400000069020080000000000100000000000000",
+            ),
+            // Refusals, in whose place memory may run out.
+            (
+                1,
+                "1d00000068030002000000ffffffff0600676c656e646104002f612f66",
+                "180000006b03000f006e6f742061206469726563746f7279",
+            ),
+            (
+                1,
+                "2200000068040002000000ffffffff0600676c656e646109002f612f6e6f6e652f62",
+                "1c0000006b0400130066696c6520646f6573206e6f74206578697374",
+            ),
+            (
+                1,
+                "1d00000068050002000000ffffffff0600676c656e646104002f612f62",
+                "1400000069050080000000000200000000000000",
+            ),
+            (
+                1,
+                "1d00000068060002000000ffffffff0600676c656e646104002f612f62",
+                "130000006b06000a0066696420696e20757365",
+            ),
+            // `..` stays at the attach point.
+            (
+                1,
+                "180000006e07000100000003000000020002002e2e010066",
+                "230000006f070002008000000000010000000000000000000000000300000000000000",
+            ),
+            (
+                1,
+                "150000006e08000200000004000000010002002e2e",
+                "160000006f0800010080000000000200000000000000",
+            ),
+        ],
+    };
+    assert!(rt; play_refused(&rt, rt.alloc(), script) > 1);
+}
+
 // Creates in a.
 #[test]
 fn a_create_is_done_again_at_each_refusal(rt: HostRuntime) {
@@ -152,7 +204,7 @@ fn a_write_is_done_again_at_each_refusal(rt: HostRuntime) {
             // A refusal is the same where memory would run out.
             (
                 1,
-                "180000007601000100000000001000000000000100000021",
+                "180000007601000100000000000001000000000100000021",
                 "170000006b01000e0066696c6520746f6f206c61726765",
             ),
             (1, "0b00000078010001000000", "07000000790100"),

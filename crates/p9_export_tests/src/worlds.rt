@@ -37,8 +37,13 @@ pub fn exporter<A: Allocator + Copy>(
     let world = read_world(alloc, text).expect(rt, "a world");
     let table = table_of(rt, alloc, binds);
     assert!(rt; is_table_given(&world.forest, &table));
-    let World { forest, users, .. } = world;
-    Export::new(forest, users, table)
+    let World {
+        forest,
+        users,
+        groups,
+        ..
+    } = world;
+    Export::new(forest, users, groups, table)
 }
 
 fn table_of<A: Allocator + Copy>(rt: &impl Abort, alloc: A, binds: &[Bind]) -> MountTable<A> {
@@ -67,10 +72,16 @@ pub const ATTACH: (&str, &str) = (
 );
 
 /// A session with its version, and glenda's fid 0 at the root.
-pub fn begin<T: Tree>(rt: &impl Abort, alloc: Global, export: &mut Export<T>, session: u32) {
+pub fn begin<T: Tree>(
+    rt: &impl Abort,
+    alloc: Global,
+    export: &mut Export<T>,
+    session: u32,
+    reply: &mut [u8],
+) {
     assert_eq!(rt; export.open(session), Ok(()));
-    exchange(rt, alloc, export, 0, in_session(session, VERSION));
-    exchange(rt, alloc, export, 0, in_session(session, ATTACH));
+    exchange(rt, alloc, export, 0, in_session(session, VERSION), reply);
+    exchange(rt, alloc, export, 0, in_session(session, ATTACH), reply);
 }
 
 /// A request and its reply in a session.
@@ -79,8 +90,8 @@ pub fn in_session(session: u32, row: (&'static str, &'static str)) -> Exchange {
 }
 
 /// The sample world's exporter with session 1.
-pub fn begun(rt: &impl Abort, alloc: Global) -> Export<PlainTree<Global>> {
+pub fn begun(rt: &impl Abort, alloc: Global, reply: &mut [u8]) -> Export<PlainTree<Global>> {
     let mut export = exporter(rt, alloc, SMALL, &[]);
-    begin(rt, alloc, &mut export, 1);
+    begin(rt, alloc, &mut export, 1, reply);
     export
 }

@@ -1,7 +1,12 @@
 pub mod Chain
 pub mod EachServer
+pub mod Facts
 pub mod Forests
+pub mod Found
+pub mod Looks
+pub mod OrderKept
 pub mod Outer
 pub mod Pass
 pub mod Spared
 pub mod SparedForests
+pub mod TwoForests

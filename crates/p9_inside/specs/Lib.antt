@@ -2,3 +2,4 @@ pub mod Meaning
 pub mod Lookups
 pub mod Changes
 pub mod Worlds
+pub mod TwoForests

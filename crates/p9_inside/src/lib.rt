@@ -9,6 +9,7 @@
 mod changes;
 mod lookups;
 mod meaning;
+mod two_forests;
 mod worlds;
 
 pub use changes::{
@@ -23,4 +24,5 @@ pub use meaning::{
     barred_is_hidden_or_inside, inside_by_parent, insides_are_split, nothing_inside_itself,
     only_nodes_hide, pass_is_chain,
 };
+pub use two_forests::{inside_in_both, next_in_both, seen_in_both};
 pub use worlds::small_worlds;

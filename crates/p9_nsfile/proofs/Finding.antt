@@ -24,21 +24,11 @@ use Rattle.p9_clean.proofs.ReadingBack.{elements_of-cleaned}
 use Rattle.p9_nsfile.specs.declared.fault.OpFault.{OpFault}
 use Rattle.p9_nsfile.specs.declared.fault.OpFault.TheVariants.{Path, UnknownServer}
 use Rattle.p9_nsfile.specs.declared.fault.Stop.TheVariants as stops
-use Rattle.p9_nsfile.specs.declared.setting.TheConstants.{SERVERS_MAX}
+use Rattle.p9_base.specs.declared.node_ref.TheConstants.{SERVERS_MAX}
 use Rattle.p9_nsfile.specs.Answer.{Gives, is_memory, walk_stop}
 use Rattle.p9_nsfile.specs.Find.{behind_hash, found_on_server, path_fault, server_root, walked}
 use Rattle.p9_nsfile.specs.Setting.{Setting}
 use Rattle.p9_nsfile.specs.Space.{Space}
-
--- a walk along the elements of a cleaned path
-pub walk-cleaned : (forest : List Server) (table : List MountRow) (start : List NodeRef)
-    (path text : List ℕ) (names : List (List ℕ)) →
-    names ≡ elements_of text → text ≡ cleaned path →
-    path_fault (walk forest table None start names)
-    ≡ path_fault (walk forest table None start (cleaned_elements path))
-walk-cleaned forest table start path text names are is =
-    ap (λ ns. path_fault (walk forest table None start ns))
-    (are ∙ ap elements_of is ∙ elements_of-cleaned path)
 
 -- a walk's fault, or want of memory
 pub Gives-walk_stop : (answer : Result (List NodeRef) Fault) (fault : Fault)

@@ -25,7 +25,7 @@ use Rattle.p9_space.specs.Walk.{walk}
 use Rattle.p9_space.proofs.GivenTables.{file-given}
 use Rattle.p9_space.proofs.GivenWalks.{here-given, walk-given}
 use Rattle.p9_nsfile.specs.declared.fault.OpFault.TheVariants.{UnknownServer}
-use Rattle.p9_nsfile.specs.declared.setting.TheConstants.{SERVERS_MAX}
+use Rattle.p9_base.specs.declared.node_ref.TheConstants.{SERVERS_MAX}
 use Rattle.p9_nsfile.specs.Find.{behind_hash, found, found_at, found_file, found_from}
 use Rattle.p9_nsfile.specs.Find.{found_on_server, path_fault, server_root, walked}
 use Rattle.p9_nsfile.specs.Flags.{Word}

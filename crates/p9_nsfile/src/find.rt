@@ -12,7 +12,7 @@ use crate::fault::Stop;
 use crate::setting::Setting;
 use crate::space::Space;
 use p9_base::{NoMemory, NodeRef};
-use p9_clean::{clean, elements};
+use p9_clean::cleaned_elements;
 use p9_space::{ROOT_PLACE, Trail};
 use p9_tree::Tree;
 use std::alloc::Allocator;
@@ -141,7 +141,6 @@ fn walk<T: Tree>(
 ) -> Result<Trail<T::Alloc>, Stop>
     ensures { Gives (walked setting.now space.now start.now path.now) result }
 {
-    let path = clean(setting.alloc(), path)?;
-    let names = elements(setting.alloc(), path.as_str())?;
+    let names = cleaned_elements(setting.alloc(), path)?;
     setting.walk(space.table(), start, &names)
 }

@@ -13,14 +13,11 @@ ghost use Rattle.p9_nsfile.specs.Variable.{expanded};
 
 use crate::fault::{OpFault, Stop};
 use crate::variable::expand;
-use p9_base::{Fault, NoMemory, NodeRef};
-use p9_space::{MountTable, Trail, resolve};
+use p9_base::{Fault, NoMemory, NodeRef, SERVERS_MAX};
+use p9_space::{MountTable, Trail, Who, resolve};
 use p9_tree::{Forest, Node, Tree};
 use std::alloc::Allocator;
 use std::marker::Model;
-
-/// The greatest number of servers: a server's number has 16 bits.
-pub(crate) const SERVERS_MAX: usize = 1 << 16;
 
 /// What no operation changes: the trees of the servers, the variables and the servers' names.
 #[derive(Drop)]
@@ -93,7 +90,7 @@ impl<'a, T: Tree> Setting<'a, T> {
         ensures { Gives (path_fault (walk self.now.forest table.now None start.now (map
             (λ n. n.now) names.now))) result }
     {
-        match resolve(self.forest, table, start, names, None) {
+        match resolve(self.forest, table, start, names, nobody(start)) {
             Ok(trail) => Ok(trail),
             Err(fault) => Err(walk_stop(fault)),
         }
@@ -152,4 +149,11 @@ fn is_named<A: Allocator>(server: &String<A>, name: &str) -> bool
     ensures { result ≡ bytes_eq (string_bytes server.now) name.now }
 {
     server.as_str() == name
+}
+
+// Nobody walks the trail: no permission is asked.
+fn nobody<A: Allocator + Copy>(_trail: &Trail<A>) -> Option<Who<'_, A>>
+    ensures { result ≡ None }
+{
+    None
 }

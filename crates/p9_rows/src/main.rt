@@ -1,5 +1,5 @@
-//! Plays rows from files: each is an input, and how a command is to end over it. Prints how many rows
-//! of each file are as written, and what differs in the others.
+//! Plays rows from files: each is an input, and how a command is to end over it. Prints how many
+//! rows of each file are as written, and what differs in the others.
 #![tactic(auto)]
 
 mod body;

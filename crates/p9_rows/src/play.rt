@@ -3,7 +3,7 @@
 use crate::body::Ending;
 use crate::row::Row;
 use p9_base::NoMemory;
-use p9_serve::run_command;
+use p9_commands::run_command;
 use std::alloc::{AllocError, Global};
 use std::io;
 use std::io::Write;

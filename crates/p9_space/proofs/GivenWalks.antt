@@ -17,6 +17,7 @@ use Rattle.p9_tree.specs.Node.{Node, is_child}
 use Rattle.p9_tree.specs.Server.{Server, child_of}
 use Rattle.p9_tree.specs.Forest.{IsForest, child_in, no_server}
 use Rattle.p9_tree.proofs.Lookups.{All-node_at, node_at-found}
+use Rattle.p9_space.specs.Rights.{Who}
 use Rattle.p9_space.specs.declared.row.Member.{Member}
 use Rattle.p9_space.specs.declared.trail.Step.{Step}
 use Rattle.p9_space.specs.declared.trail.Step.TheVariants.{Up, To}
@@ -48,7 +49,7 @@ module _ (forest : List Server) (sound : IsForest forest) where
           subst (λ s. nat_lt n.number (unwrap_or s no_server).next ≡ true) (sym e)
           (lt-ltb n.number s.next below)
 
-  module _ (user : Option (List ℕ)) where
+  module _ (who : Option Who) where
     -- what is found among members was made
     abbrev IsMade : Option NodeRef → Type 0
     IsMade None = Unit {0}
@@ -65,15 +66,15 @@ module _ (forest : List Server) (sound : IsForest forest) where
         by (Some n) e = child-given dir name n e
 
     child_among-given : (name : List ℕ) (ms : List Member)
-        → IsMade (child_among forest user name ms)
+        → IsMade (child_among forest who name ms)
     child_among-given name [] = tt
     child_among-given name (m ∷ ms) =
-        by (is_searched forest user m) (child_ref forest m.node name) (child_ref-given m.node name)
+        by (is_searched forest who m) (child_ref forest m.node name) (child_ref-given m.node name)
         (child_among-given name ms)
       where
         by : (b : Bool) (place : Option NodeRef) → IsMade place
-            → IsMade (child_among forest user name ms)
-            → IsMade (option_or (if b then place else None) (child_among forest user name ms))
+            → IsMade (child_among forest who name ms)
+            → IsMade (option_or (if b then place else None) (child_among forest who name ms))
         by true None made rest = rest
         by true (Some place) made rest = made
         by false place made rest = rest
@@ -90,12 +91,12 @@ module _ (forest : List Server) (sound : IsForest forest) where
     by_test false fault step made = made
 
     step_down-given : (trail : List NodeRef) (name : List ℕ) (ms : List Member)
-        → LeadsToMade (step_down forest user trail name ms)
+        → LeadsToMade (step_down forest who trail name ms)
     step_down-given trail name ms =
-        by_test (not (list_any (is_searched forest user) ms)) PermissionDenied
+        by_test (not (list_any (is_searched forest who) ms)) PermissionDenied
         (option_map_or (λ place. if length trail == places_max then Err PathTooDeep
-        else Ok (To place)) (child_among forest user name ms) (Err NotFound))
-        (by (child_among forest user name ms) (child_among-given name ms))
+        else Ok (To place)) (child_among forest who name ms) (Err NotFound))
+        (by (child_among forest who name ms) (child_among-given name ms))
       where
         by : (place : Option NodeRef) → IsMade place
             → LeadsToMade
@@ -105,24 +106,24 @@ module _ (forest : List Server) (sound : IsForest forest) where
         by (Some place) made = by_test (length trail == places_max) PathTooDeep (Ok (To place)) made
 
     step_among-given : (trail : List NodeRef) (name : List ℕ) (ms : List Member)
-        → LeadsToMade (step_among forest user trail name ms)
+        → LeadsToMade (step_among forest who trail name ms)
     step_among-given trail name ms =
-        let down = step_down forest user trail name ms in
+        let down = step_down forest who trail name ms in
         let step = if bytes_eq name (codes "..") then Ok Up else down in
         by_test (not (list_any (is_alive forest) ms)) PhaseError
         (if not (list_any (is_alive_dir forest) ms) then Err NotDirectory else step)
         (by_test (not (list_any (is_alive_dir forest) ms)) NotDirectory step
         (by (bytes_eq name (codes ".."))))
       where
-        by : (b : Bool) → LeadsToMade (if b then Ok Up else step_down forest user trail name ms)
+        by : (b : Bool) → LeadsToMade (if b then Ok Up else step_down forest who trail name ms)
         by true = tt
         by false = step_down-given trail name ms
 
     module _ (table : List MountRow) where
       step-given : (trail : List NodeRef) (name : List ℕ)
-          → LeadsToMade (step_of forest table user trail name)
+          → LeadsToMade (step_of forest table who trail name)
       step-given trail name =
-          by (step_among forest user trail name (members_of (here trail) table))
+          by (step_among forest who trail name (members_of (here trail) table))
           (step_among-given trail name (members_of (here trail) table))
         where
           by : (step : Result Step Fault) → LeadsToMade step
@@ -137,10 +138,10 @@ module _ (forest : List Server) (sound : IsForest forest) where
       -- the places of a trail that a walk makes of such places
       pub walk-given : (trail : List NodeRef) (names : List (List ℕ))
           → list_all (is_given forest) trail ≡ true
-          → IfOk (walk forest table user trail names) (λ t. list_all (is_given forest) t ≡ true)
+          → IfOk (walk forest table who trail names) (λ t. list_all (is_given forest) t ≡ true)
       walk-given trail [] all = all
       walk-given trail (name ∷ names) all =
-          by (step_of forest table user trail name) (step-given trail name)
+          by (step_of forest table who trail name) (step-given trail name)
           (λ t. walk-given t names)
         where
           up : (b : Bool)
@@ -151,8 +152,8 @@ module _ (forest : List Server) (sound : IsForest forest) where
 
           by : (step : Result Step Fault) → LeadsToMade step
               → ((t : List NodeRef) → list_all (is_given forest) t ≡ true
-              → IfOk (walk forest table user t names) (λ t. list_all (is_given forest) t ≡ true))
-              → IfOk (and_then step (λ step. walk forest table user (stepped trail step) names))
+              → IfOk (walk forest table who t names) (λ t. list_all (is_given forest) t ≡ true))
+              → IfOk (and_then step (λ step. walk forest table who (stepped trail step) names))
               (λ t. list_all (is_given forest) t ≡ true)
           by (Err fault) made rest = tt
           by (Ok Up) made rest = rest (upward trail) (up (nat_lt 1 (length trail)))

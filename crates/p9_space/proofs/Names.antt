@@ -13,6 +13,7 @@ use Rattle.p9_tree.specs.Node.{Node, is_child}
 use Rattle.p9_tree.specs.Server.{Server, IsSound, node_at, child_of}
 use Rattle.p9_tree.specs.Forest.{IsForest, no_server, child_in}
 use Rattle.p9_tree.proofs.Lookups.{each_found}
+use Rattle.p9_space.specs.Rights.{Who}
 use Rattle.p9_space.specs.declared.row.Member.{Member}
 use Rattle.p9_space.specs.Walk.{is_searched, child_ref, child_among}
 
@@ -61,16 +62,16 @@ child_in-invalid forest sound dir name bad = by (slice_get forest dir.server) re
         child_of-invalid dir.number name bad s.nodes (All-sound s.nodes whole.rising whole.sound)
 
 -- so no member of a place has such a child
-pub child_among-invalid : (forest : List Server) (user : Option (List ℕ)) (name : List ℕ)
+pub child_among-invalid : (forest : List Server) (who : Option Who) (name : List ℕ)
     → IsForest forest → (IsTrue (is_name name) → ⊥) → (ms : List Member)
-    → child_among forest user name ms ≡ None
-child_among-invalid forest user name sound bad [] = refl
-child_among-invalid forest user name sound bad (m ∷ ms) =
-    by (is_searched forest user m) (child_in-invalid forest sound m.node name bad)
-    (child_among-invalid forest user name sound bad ms)
+    → child_among forest who name ms ≡ None
+child_among-invalid forest who name sound bad [] = refl
+child_among-invalid forest who name sound bad (m ∷ ms) =
+    by (is_searched forest who m) (child_in-invalid forest sound m.node name bad)
+    (child_among-invalid forest who name sound bad ms)
   where
-    by : (b : Bool) → child_in m.node name forest ≡ None → child_among forest user name ms ≡ None
-        → option_or (cond b (child_ref forest m.node name) None) (child_among forest user name ms)
+    by : (b : Bool) → child_in m.node name forest ≡ None → child_among forest who name ms ≡ None
+        → option_or (cond b (child_ref forest m.node name) None) (child_among forest who name ms)
         ≡ None
     by true none rest = rw (none, rest)
     by false none rest = rest

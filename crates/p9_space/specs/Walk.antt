@@ -16,13 +16,13 @@ use Rattle.p9_space.specs.declared.row.Member.{Member}
 use Rattle.p9_space.specs.declared.trail.Step.{Step}
 use Rattle.p9_space.specs.declared.trail.Step.TheVariants.{Up, To}
 use Rattle.p9_space.specs.Place.{file_of}
-use Rattle.p9_space.specs.Rights.{may, to_execute}
+use Rattle.p9_space.specs.Rights.{Who, may, to_execute}
 use Rattle.p9_space.specs.Table.{MountRow, members_of}
 use Rattle.p9_space.specs.Trail.{here, places_max, stepped}
 
 -- the user may search the directory; without a user everybody may
-abbrev pub may_search : Option (List ℕ) → Node → Bool
-may_search user n = option_map_or (λ u. may u n to_execute) user true
+abbrev pub may_search : Option Who → Node → Bool
+may_search who n = option_map_or (λ who. may who n to_execute) who true
 
 module _ (forest : List Server) where
   -- a member is alive while its node exists
@@ -38,10 +38,10 @@ module _ (forest : List Server) where
   child_ref dir name =
       option_map (λ n. record { server = dir.server; number = n.number }) (child_in dir name forest)
 
-  module _ (user : Option (List ℕ)) where
+  module _ (who : Option Who) where
     -- an alive directory that the user may search
     abbrev pub is_searched : Member → Bool
-    is_searched m = option_map_or (λ n. is_dir n && may_search user n) (node_of m.node forest) false
+    is_searched m = option_map_or (λ n. is_dir n && may_search who n) (node_of m.node forest) false
 
     -- the child of the name in the first member that may be searched and has one
     abbrev pub child_among : List ℕ → List Member → Option NodeRef
@@ -71,11 +71,11 @@ module _ (forest : List Server) (table : List MountRow) where
   arrived trail step =
       if is_some (file_of (here (stepped trail step)) table forest) then Ok step else Err PhaseError
 
-  module _ (user : Option (List ℕ)) where
+  module _ (who : Option Who) where
     -- one step by a name
     abbrev pub step_of : List NodeRef → List ℕ → Result Step Fault
     step_of trail name =
-        and_then (step_among forest user trail name (members_of (here trail) table)) (arrived trail)
+        and_then (step_among forest who trail name (members_of (here trail) table)) (arrived trail)
 
     -- the trail after the steps by the names, or the fault of the first that is refused
     abbrev pub walk : List NodeRef → List (List ℕ) → Result (List NodeRef) Fault

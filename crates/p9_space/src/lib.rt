@@ -14,7 +14,7 @@ mod walk;
 
 pub use given::is_table_given;
 pub use p9_clean::clean;
-pub use rights::{TO_EXECUTE, TO_READ, TO_WRITE, may, rules};
+pub use rights::{TO_EXECUTE, TO_READ, TO_WRITE, Who, may, rules};
 pub use row::{Member, Members, Order};
 pub use table::{MountTable, UnmountError};
 pub use trail::{PLACES_MAX, ROOT_PLACE, Step, Trail};

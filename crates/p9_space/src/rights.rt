@@ -1,9 +1,9 @@
 //! What a user may do with a file.
 
 ghost use Rattle.std.specs.Prelude.{◌≡◌};
-ghost use Rattle.p9_space.specs.Rights.{may, rules};
+ghost use Rattle.p9_space.specs.Rights.{may, rules, who_view};
 
-use p9_base::{Rights, User, granted};
+use p9_base::{Groups, Rights, User, granted};
 use p9_tree::Node;
 use std::alloc::Allocator;
 
@@ -28,23 +28,33 @@ pub const TO_EXECUTE: Rights = Rights {
     execute: true,
 };
 
-/// Whether the user has each wanted right of the node, as intro(5). Each user is the only member
-/// and the leader of the group of the same name.
-pub fn may<A: Allocator>(user: &User, node: &Node<A>, wanted: Rights) -> bool
-    ensures { result ≡ may user.now node.now wanted }
+/// A user, and the groups that are listed.
+#[derive(Clone, Copy)]
+pub struct Who<'a, A: Allocator + Copy> {
+    pub user: &'a User,
+    pub groups: &'a Groups<A>,
+}
+
+/// Whether the user has each wanted right of the node, as intro(5).
+pub fn may<A: Allocator, B: Allocator + Copy>(
+    who: Who<'_, B>,
+    node: &Node<A>,
+    wanted: Rights,
+) -> bool
+    ensures { result ≡ may (who_view who.entry) node.now wanted }
 {
     granted(
         node.mode().permissions,
-        node.uid() == user,
-        node.gid() == user,
+        node.uid() == who.user,
+        who.groups.member(who.user, node.gid()),
         wanted,
     )
 }
 
 /// Whether the user rules the node: owns it, or leads its group. Who rules a node may change its
 /// mode, as stat(5).
-pub fn rules<A: Allocator>(user: &User, node: &Node<A>) -> bool
-    ensures { result ≡ rules user.now node.now }
+pub fn rules<A: Allocator, B: Allocator + Copy>(who: Who<'_, B>, node: &Node<A>) -> bool
+    ensures { result ≡ rules (who_view who.entry) node.now }
 {
-    node.uid() == user || node.gid() == user
+    node.uid() == who.user || who.groups.leads(who.user, node.gid())
 }

@@ -2,27 +2,28 @@
 
 ghost use Rattle.std.specs.Prelude.{◌≡◌, ◌≤◌, ◌⊎◌, Ok, Err, OnOk, OnErr, IfOk, IfErr, map, length};
 ghost use Rattle.std.specs.Prelude.{is_some};
+ghost use Rattle.std.specs.Option.{option_map};
 ghost use Rattle.std.specs.List.{list_any};
-ghost use Rattle.std.specs.Option.{option_copied};
 ghost use Rattle.p9_base.specs.declared.fault.Fault.TheVariants.{OutOfMemory};
+ghost use Rattle.p9_space.specs.Rights.{who_view};
 ghost use Rattle.p9_space.specs.Trail.{here, stepped};
 ghost use Rattle.p9_space.specs.Walk.{child_among, child_ref, is_alive, is_alive_dir, is_searched};
 ghost use Rattle.p9_space.specs.Walk.{may_search, step_among, step_down, step_of, walk};
 
-use crate::rights::{TO_EXECUTE, may};
+use crate::rights::{TO_EXECUTE, Who, may};
 use crate::row::Member;
 use crate::table::MountTable;
 use crate::trail::{PLACES_MAX, Step, Trail};
-use p9_base::{Fault, Name, NodeRef, User};
+use p9_base::{Fault, Name, NodeRef};
 use p9_tree::{Forest, Node, Tree};
 use std::alloc::Allocator;
 
 // Whether the user may search the directory. Without a user everybody may.
-fn may_search<A: Allocator>(user: Option<&User>, node: &Node<A>) -> bool
-    ensures { result ≡ may_search (option_copied user.entry) node.now }
+fn may_search<A: Allocator, B: Allocator + Copy>(who: Option<Who<'_, B>>, node: &Node<A>) -> bool
+    ensures { result ≡ may_search (option_map who_view who.entry) node.now }
 {
-    match user {
-        Some(user) => may(user, node, TO_EXECUTE),
+    match who {
+        Some(who) => may(who, node, TO_EXECUTE),
         None => true,
     }
 }
@@ -41,12 +42,16 @@ fn is_alive_dir<T: Tree>(forest: &Forest<T>, member: &Member) -> bool
 }
 
 // Whether the member is a directory that exists and that the user may search.
-fn is_searched<T: Tree>(forest: &Forest<T>, member: &Member, user: Option<&User>) -> bool
+fn is_searched<T: Tree, A: Allocator + Copy>(
+    forest: &Forest<T>,
+    member: &Member,
+    who: Option<Who<'_, A>>,
+) -> bool
     ensures { result ≡ is_searched (map T.state forest.now.trees.items)
-        (option_copied user.entry) member.now }
+        (option_map who_view who.entry) member.now }
 {
     match forest.node(member.node) {
-        Some(node) => node.is_dir() && may_search(user, node),
+        Some(node) => node.is_dir() && may_search(who, node),
         None => false,
     }
 }
@@ -65,11 +70,15 @@ pub fn has_alive_dir<T: Tree>(forest: &Forest<T>, members: &[Member]) -> bool
     members.iter().any(|m| is_alive_dir(forest, m))
 }
 
-fn has_searched<T: Tree>(forest: &Forest<T>, members: &[Member], user: Option<&User>) -> bool
+fn has_searched<T: Tree, A: Allocator + Copy>(
+    forest: &Forest<T>,
+    members: &[Member],
+    who: Option<Who<'_, A>>,
+) -> bool
     ensures { result ≡ list_any (is_searched (map T.state forest.now.trees.items)
-        (option_copied user.entry)) members.now }
+        (option_map who_view who.entry)) members.now }
 {
-    members.iter().any(|m| is_searched(forest, m, user))
+    members.iter().any(|m| is_searched(forest, m, who))
 }
 
 // The node of the name in the directory, as a place.
@@ -82,17 +91,17 @@ fn child_ref<T: Tree>(forest: &Forest<T>, dir: NodeRef, name: &Name) -> Option<N
 }
 
 // The child of the name in the first member that may be searched and has one.
-fn child_among<T: Tree>(
+fn child_among<T: Tree, A: Allocator + Copy>(
     forest: &Forest<T>,
     members: &[Member],
     name: &Name,
-    user: Option<&User>,
+    who: Option<Who<'_, A>>,
 ) -> Option<NodeRef>
     ensures { result ≡ child_among (map T.state forest.now.trees.items)
-        (option_copied user.entry) name.now members.now }
+        (option_map who_view who.entry) name.now members.now }
 {
     for member in members {
-        if is_searched(forest, member, user) {
+        if is_searched(forest, member, who) {
             if let Some(child) = child_ref(forest, member.node, name) {
                 return Some(child);
             }
@@ -102,17 +111,17 @@ fn child_among<T: Tree>(
 }
 
 // The same for any text: one that is no valid name belongs to no node.
-fn find_child<T: Tree>(
+fn find_child<T: Tree, A: Allocator + Copy>(
     forest: &Forest<T>,
     members: &[Member],
     name: &str,
-    user: Option<&User>,
+    who: Option<Who<'_, A>>,
 ) -> Option<NodeRef>
     ensures { result ≡ child_among (map T.state forest.now.trees.items)
-        (option_copied user.entry) name.now members.now }
+        (option_map who_view who.entry) name.now members.now }
 {
     match Name::new(name) {
-        Some(name) => child_among(forest, members, &name, user),
+        Some(name) => child_among(forest, members, &name, who),
         None => {
             forest.well_formed();
             None
@@ -126,17 +135,17 @@ fn step_down<T: Tree, A: Allocator + Copy>(
     trail: &Trail<A>,
     members: &[Member],
     name: &str,
-    user: Option<&User>,
+    who: Option<Who<'_, A>>,
 ) -> Result<Step, Fault>
     requires { length trail.now ≤ PLACES_MAX }
     ensures room { IfOk result (λ step. length (stepped trail.now step) ≤ PLACES_MAX) }
     ensures step { result ≡ step_down (map T.state forest.now.trees.items)
-        (option_copied user.entry) trail.now name.now members.now }
+        (option_map who_view who.entry) trail.now name.now members.now }
 {
-    if !has_searched(forest, members, user) {
+    if !has_searched(forest, members, who) {
         return Err(Fault::PermissionDenied);
     }
-    match find_child(forest, members, name, user) {
+    match find_child(forest, members, name, who) {
         None => Err(Fault::NotFound),
         Some(place) => {
             if trail.len() == PLACES_MAX {
@@ -154,12 +163,12 @@ fn step_among<T: Tree, A: Allocator + Copy>(
     trail: &Trail<A>,
     members: &[Member],
     name: &str,
-    user: Option<&User>,
+    who: Option<Who<'_, A>>,
 ) -> Result<Step, Fault>
     requires { length trail.now ≤ PLACES_MAX }
     ensures room { IfOk result (λ step. length (stepped trail.now step) ≤ PLACES_MAX) }
     ensures step { result ≡ step_among (map T.state forest.now.trees.items)
-        (option_copied user.entry) trail.now name.now members.now }
+        (option_map who_view who.entry) trail.now name.now members.now }
 {
     if !has_alive(forest, members) {
         return Err(Fault::PhaseError);
@@ -170,7 +179,7 @@ fn step_among<T: Tree, A: Allocator + Copy>(
     if name == ".." {
         return Ok(Step::Up);
     }
-    step_down(forest, trail, members, name, user)
+    step_down(forest, trail, members, name, who)
 }
 
 /// One step of a walk from the last place of a trail, by any text as a name. Without a user it
@@ -186,10 +195,10 @@ pub fn find_step<T: Tree, A: Allocator + Copy, B: Allocator + Copy>(
     table: &MountTable<A>,
     trail: &Trail<B>,
     name: &str,
-    user: Option<&User>,
+    who: Option<Who<'_, B>>,
 ) -> Result<Step, Fault>
     ensures step { result ≡ step_of (map T.state forest.now.trees.items) table.now
-        (option_copied user.entry) trail.now name.now }
+        (option_map who_view who.entry) trail.now name.now }
     ensures room { IfOk result (λ step. length (stepped trail.now step) ≤ PLACES_MAX) }
 {
     let step = step_among(
@@ -197,7 +206,7 @@ pub fn find_step<T: Tree, A: Allocator + Copy, B: Allocator + Copy>(
         trail,
         table.members(trail.here()).as_slice(),
         name,
-        user,
+        who,
     )?;
     if forest.node(table.file(trail.place_after(step))).is_none() {
         return Err(Fault::PhaseError);
@@ -212,17 +221,18 @@ pub fn resolve<T: Tree, A: Allocator + Copy, B: Allocator + Copy>(
     table: &MountTable<A>,
     start: &Trail<B>,
     names: &[&str],
-    user: Option<&User>,
+    who: Option<Who<'_, B>>,
 ) -> Result<Trail<B>, Fault>
     ensures ok { IfOk result (λ trail. walk (map T.state forest.now.trees.items) table.now
-        (option_copied user.entry) start.now (map (λ n. n.now) names.now) ≡ Ok trail) }
+        (option_map who_view who.entry) start.now (map (λ n. n.now) names.now) ≡ Ok trail) }
     ensures err { IfErr result (λ fault. (fault ≡ OutOfMemory)
-        ⊎ (walk (map T.state forest.now.trees.items) table.now (option_copied user.entry) start.now
+        ⊎ (walk (map T.state forest.now.trees.items) table.now (option_map who_view who.entry)
+        start.now
         (map (λ n. n.now) names.now) ≡ Err fault)) }
 {
     let mut trail = start.copy()?;
     for name in names {
-        let step = find_step(forest, table, &trail, name, user)?;
+        let step = find_step(forest, table, &trail, name, who)?;
         trail.take(step)?;
     }
     Ok(trail)

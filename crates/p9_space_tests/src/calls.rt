@@ -3,10 +3,10 @@
 use crate::telling::{members, row, step, trail};
 use crate::words::{nodes, take_node, take_order, take_position, take_user, take_word};
 use crate::worlds::Space;
-use p9_base::{Fault, NoMemory, User};
+use p9_base::{Fault, Groups, NoMemory, User};
 use p9_space::{
-    MountTable, ROOT_PLACE, TO_EXECUTE, TO_READ, TO_WRITE, Trail, find_step, is_table_given, may,
-    resolve, rules,
+    MountTable, ROOT_PLACE, TO_EXECUTE, TO_READ, TO_WRITE, Trail, Who, find_step, is_table_given,
+    may, resolve, rules,
 };
 use p9_tree::{Forest, PlainTree, Tree};
 use std::alloc::{AllocError, Allocator, Global};
@@ -31,17 +31,7 @@ fn told(
     let word = take_word(&mut rest);
     match word {
         "walk" => walk(alloc, space, &mut rest),
-        "step" => {
-            let user = take_user(&mut rest);
-            let found = find_step(
-                &space.forest,
-                &space.table,
-                &space.trail,
-                rest,
-                user.as_ref(),
-            );
-            Ok(step(alloc, found)?)
-        }
+        "step" => find(alloc, space, &mut rest),
         "up" => {
             space.trail.step_up();
             Ok(String::new(alloc))
@@ -56,9 +46,27 @@ fn told(
         }
         "kept" => Ok(row(alloc, &space.kept, take_position(rt, &mut rest))?),
         "given" => Ok(format!(in alloc; "{}", is_table_given(&space.forest, &space.table))?),
-        "may" => Ok(rights(rt, alloc, &space.forest, &mut rest)?),
+        "may" => Ok(rights(rt, alloc, &space.forest, &space.groups, &mut rest)?),
         _ => table_told(rt, alloc, &mut space.table, word, &mut rest),
     }
+}
+
+// The user, with the groups.
+fn who<'a>(user: &'a Option<User>, groups: &'a Groups<Global>) -> Option<Who<'a, Global>> {
+    user.as_ref().map(|user| Who { user, groups })
+}
+
+// Looks where one step leads.
+fn find(alloc: Global, space: &Space<Global>, line: &mut &str) -> Result<String, NoMemory> {
+    let user = take_user(line);
+    let found = find_step(
+        &space.forest,
+        &space.table,
+        &space.trail,
+        line,
+        who(&user, &space.groups),
+    );
+    Ok(step(alloc, found)?)
 }
 
 // Walks on along names, and goes there.
@@ -70,7 +78,7 @@ fn walk(alloc: Global, space: &mut Space<Global>, line: &mut &str) -> Result<Str
         &space.table,
         &space.trail,
         names.as_slice(),
-        user.as_ref(),
+        who(&user, &space.groups),
     ) {
         Ok(found) => {
             let told = trail(alloc, &space.table, &found)?;
@@ -94,13 +102,15 @@ fn rights<T: Tree>(
     rt: &impl Abort,
     alloc: Global,
     forest: &Forest<T>,
+    groups: &Groups<Global>,
     line: &mut &str,
 ) -> Result<String, AllocError> {
-    let user = take_user(line).expect(rt, "a user");
+    let user = &take_user(line).expect(rt, "a user");
+    let who = Who { user, groups };
     let file = forest.node(take_node(rt, line)).expect(rt, "a file");
-    let (read, write) = (may(&user, file, TO_READ), may(&user, file, TO_WRITE));
-    let execute = may(&user, file, TO_EXECUTE);
-    format!(in alloc; "{read} {write} {execute} {}", rules(&user, file))
+    let (read, write) = (may(who, file, TO_READ), may(who, file, TO_WRITE));
+    let execute = may(who, file, TO_EXECUTE);
+    format!(in alloc; "{read} {write} {execute} {}", rules(who, file))
 }
 
 /// Makes the call of a table, and tells what it returns.

@@ -6,7 +6,7 @@ use crate::words::node;
 use crate::worlds::{SMALL, Space, space_of};
 use p9_base::{Fault, NoMemory};
 use p9_refusing::{Refusing, refuse_each};
-use p9_space::{MountTable, PLACES_MAX, Trail, resolve};
+use p9_space::{MountTable, PLACES_MAX, Trail, Who, resolve};
 use std::alloc::{Allocator, Global};
 use std::process::Abort;
 
@@ -108,9 +108,21 @@ fn a_trail_is_as_before_at_each_refusal(rt: HostRuntime) {
     assert!(rt; refusals > 2);
 }
 
+// No user.
+fn nobody<A: Allocator + Copy>(_space: &Space<A>) -> Option<Who<'_, A>> {
+    None
+}
+
 // Walks to a directory.
 fn walk<A: Allocator + Copy>(space: &Space<A>) -> Result<Trail<A>, Fault> {
-    resolve(&space.forest, &space.table, &space.trail, &["a", "b"], None)
+    let names = ["a", "b"];
+    resolve(
+        &space.forest,
+        &space.table,
+        &space.trail,
+        &names,
+        nobody(space),
+    )
 }
 
 // Walks, again where it was refused.

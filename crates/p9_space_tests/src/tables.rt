@@ -1,7 +1,7 @@
 //! Binds and unmounts, and what a user may do with a file.
 
 use crate::calls::plays;
-use crate::worlds::{SMALL, UNIONS, space_of};
+use crate::worlds::{GROUPED, SMALL, UNIONS, space_of};
 use std::test::Fail;
 
 #[test]
@@ -104,6 +104,22 @@ may rob 3 = true false false false";
         &rt,
         rt.alloc(),
         &mut space_of(&rt, rt.alloc(), SMALL)?,
+        lines,
+    );
+    Ok(())
+}
+
+#[test]
+fn rights_come_from_a_listed_group(rt: HostRuntime) -> Result<(), Fail> {
+    let lines = "\
+may glenda 1 = true true false false
+may sys 1 = false false false true
+may staff 1 = false false false false
+may adm 1 = true false false true";
+    plays(
+        &rt,
+        rt.alloc(),
+        &mut space_of(&rt, rt.alloc(), GROUPED)?,
         lines,
     );
     Ok(())

@@ -1,6 +1,6 @@
 //! The sample worlds, each of one server, as texts.
 
-use p9_base::NoMemory;
+use p9_base::{Groups, NoMemory};
 use p9_space::{MountTable, ROOT_PLACE, Trail};
 use p9_tree::{Forest, PlainTree, Tree};
 use p9_world::{World, read_world};
@@ -30,6 +30,12 @@ file /u/n 644 glenda glenda -
 dir /x 755 glenda glenda
 file /x/n 644 glenda glenda -";
 
+/// Node 1: /f, of the group staff, which sys leads, and whose one member is glenda.
+pub const GROUPED: &str = "\
+server main
+file /f 460 adm staff -
+group staff sys glenda";
+
 /// Nodes 1 to 3: /deep, /deep/d and /m.
 pub const DEEP: &str = "\
 server main
@@ -37,13 +43,15 @@ dir /deep 755 sys sys
 dir /deep/d 755 sys sys
 dir /m 755 sys sys";
 
-/// A forest, a mount table over it, a copy that was kept of it, and where a walk has come to.
+/// A forest, the groups, a mount table over the forest, a copy that was kept of it, and where a
+/// walk has come to.
 #[derive(Drop)]
 pub struct Space<A: Allocator + Copy>
 where
     PlainTree<A>: Tree,
 {
     pub forest: Forest<PlainTree<A>>,
+    pub groups: Groups<A>,
     pub table: MountTable<A>,
     pub kept: MountTable<A>,
     pub trail: Trail<A>,
@@ -52,13 +60,7 @@ where
 /// The forest of a text.
 pub fn forest<A: Allocator + Copy>(rt: &impl Abort, alloc: A, text: &str) -> Forest<PlainTree<A>> {
     let world = read_world::<PlainTree<A>>(alloc, text).expect(rt, "a world");
-    let World {
-        forest,
-        users: _,
-        hidden: _,
-        vars: _,
-        servers: _,
-    } = world;
+    let World { forest, .. } = world;
     forest
 }
 
@@ -68,8 +70,11 @@ pub fn space_of<A: Allocator + Copy>(
     alloc: A,
     text: &str,
 ) -> Result<Space<A>, NoMemory> {
+    let world = read_world::<PlainTree<A>>(alloc, text).expect(rt, "a world");
+    let World { forest, groups, .. } = world;
     Ok(Space {
-        forest: forest(rt, alloc, text),
+        forest,
+        groups,
         table: MountTable::new(alloc),
         kept: MountTable::new(alloc),
         trail: Trail::at(alloc, ROOT_PLACE)?,

@@ -12,7 +12,7 @@ use Rattle.std.specs.Ordering.{nat_cmp}
 use Rattle.std.specs.Prelude.{slice_index, unwrap_or, ◌&&◌}
 use Rattle.std.specs.Str.{bytes_eq}
 use Rattle.byteorder.specs.Numbers.{little_from-lt}
-use Rattle.p9_base.specs.Fault.{text_of}
+use Rattle.p9_base.specs.Fault.{fault_text_max, text_of}
 use Rattle.p9_base.specs.Results.{and_then, given}
 use Rattle.p9_base.specs.declared.fault.Fault.{Fault}
 use Rattle.p9_base.specs.declared.fault.Fault.TheVariants.{BadDirectoryOffset, BadFileName}
@@ -43,12 +43,13 @@ use Rattle.p9_fids.specs.Fid.{Fid, fid_at, without_fid}
 use Rattle.p9_step.specs.Answer.{Answer, Outcome, is_error, outcome_of}
 use Rattle.p9_step.specs.Clunk.{without}
 use Rattle.p9_step.specs.Laws.{EveryFrameIsAnswered, IsAnswered, after_refusal, reply_max}
-use Rattle.p9_step.specs.Laws.{without_fid_of}
+use Rattle.p9_step.specs.Laws.{refusal_max, without_fid_of}
 use Rattle.p9_step.specs.Memory.{no_memory_reply, ran_out}
 use Rattle.p9_step.specs.Remove.{removal, remove_answer}
 use Rattle.p9_step.specs.Request.{is_version, request_of, tag_of}
 use Rattle.p9_step.specs.Sound.{IsMsize, IsState}
-use Rattle.p9_step.specs.State.{Session, State, changed_session, room_of, session_at}
+use Rattle.p9_step.specs.State.{Session, State, changed_session, io_header, room_of, session_at}
+use Rattle.p9_step.specs.Version.{msize_min}
 use Rattle.p9_step.specs.Step.{Stepped, answered, message_answer, with_outcome}
 use Rattle.p9_step.proofs.Done.{IsOfTest, OnDone, done-err, done-is, done-map, done-ok, refused-is}
 use Rattle.p9_step.proofs.Fitting.{Replies, replies-attach, replies-clunk, replies-create}
@@ -65,7 +66,7 @@ use Rattle.p9_step.proofs.Sounds.{session-served}
 
 -- The texts of the faults are short.
 
-short_fault : (fault : Fault) → length (text_of fault) ≤ 34
+short_fault : (fault : Fault) → length (text_of fault) ≤ fault_text_max
 short_fault Malformed = omega arith
 short_fault VersionNotSet = omega arith
 short_fault SmallMsize = omega arith
@@ -138,13 +139,14 @@ length-spelling tag m =
 
 -- what a session has whose version is set: room for every reply of the machine
 pub record IsWide (session : Session) : Type 0 where
-  pub wide : 512 ≤ reply_max session
-  pub room : 24 + room_of session ≤ reply_max session
+  pub wide : msize_min ≤ reply_max session
+  pub room : io_header + room_of session ≤ reply_max session
   pub frames : reply_max session ≤ msize_max
 
 wide_msize : (msize : Option ℕ) → is_some msize ≡ true → IsMsize msize
-    → (512 ≤ unwrap_or msize 43) × (24 + option_map_or (λ m. m - 24) msize 0 ≤ unwrap_or msize 43)
-    × (unwrap_or msize 43 ≤ msize_max)
+    → (msize_min ≤ unwrap_or msize refusal_max)
+    × (io_header + option_map_or (λ m. m - io_header) msize 0 ≤ unwrap_or msize refusal_max)
+    × (unwrap_or msize refusal_max ≤ msize_max)
 wide_msize None set is = absurd (cc)
 wide_msize (Some m) set is =
     let low = is.0 in let high = is.1 in (omega arith, omega arith, omega arith)
@@ -154,7 +156,7 @@ wide_session : (session : Session) → is_some session.msize ≡ true → IsMsiz
 wide_session session set is =
     let w = wide_msize session.msize set is in record { wide = w.0; room = w.1; frames = w.2 }
 
-least_msize : (msize : Option ℕ) → IsMsize msize → 43 ≤ unwrap_or msize 43
+least_msize : (msize : Option ℕ) → IsMsize msize → refusal_max ≤ unwrap_or msize refusal_max
 least_msize None is = omega arith
 least_msize (Some m) is = let low = is.0 in omega arith
 
@@ -169,7 +171,7 @@ module _ (session : Session) (frame : List ℕ) where
       wide_session session set short
 
 module _ (state : State) (name : ℕ) (session : Session) (frame : List ℕ)
-    (there : session_at name state.sessions ≡ Some session) (least : 43 ≤ reply_max session)
+    (there : session_at name state.sessions ≡ Some session) (least : refusal_max ≤ reply_max session)
     (tagged : tag_of frame < 2 ^ 16) where
   Given : Bool → Stepped → Type 0
   Given out after = (reply : RMessage) × IsAnswered state name session frame out after reply
@@ -330,7 +332,7 @@ module _ (state : State) (name : ℕ) (session : Session) (frame : List ℕ) (no
   tagged : tag_of frame < 2 ^ 16
   tagged = tag-small frame bytes
 
-  least : 43 ≤ reply_max session
+  least : refusal_max ≤ reply_max session
   least = least_msize session.msize short
 
   few_names : (fid newfid : ℕ) (names : List (List ℕ))
@@ -362,10 +364,10 @@ module _ (state : State) (name : ℕ) (session : Session) (frame : List ℕ) (no
       let w = wide_for session frame _ short is refl in
       given_by state name session frame there least tagged refused _
       (ap (after_refusal state name session) is)
-      (done-map (AttachDone state.setting state.forest session fid uname)
+      (done-map (AttachDone state.setting state.forest session fid uname aname)
       (Replies (reply_max session)) _
       (replies-attach (reply_max session) state.setting state.forest session ok.forest w.wide fid
-      uname)
+      uname aname)
       (attach-done state.setting state.forest session fid afid uname aname))
   by_message (Tflush oldtag) is =
       given_by state name session frame there least tagged refused _

@@ -1,5 +1,6 @@
 -- The replies of outcomes: each has a spelling, of no more bytes than the session takes, and is no
 -- refusal.
+use Rattle.p9_step.specs.State.{who_of}
 use Rattle.std.proofs.Common.{Bool, Err, List, None, Ok, Option, Result, Some, [], arith, false}
 use Rattle.std.proofs.Common.{inl, inr, length, refl, subst, sym, true, ℕ, ◌++◌, ◌+◌, ◌-◌, ◌∷◌, ◌≡◌}
 use Rattle.std.proofs.Common.{◌≤◌}
@@ -34,7 +35,9 @@ use Rattle.p9_step.specs.Listing.{Entry}
 use Rattle.p9_step.specs.Open.{is_cut, truncated}
 use Rattle.p9_step.specs.Qid.{qid_of}
 use Rattle.p9_step.specs.Read.{entry_bytes, fitting}
-use Rattle.p9_step.specs.State.{Session, Setting, fid_ref, room_of}
+use Rattle.p9_step.specs.Laws.{refusal_max}
+use Rattle.p9_step.specs.State.{Session, Setting, fid_ref, io_header, room_of}
+use Rattle.p9_step.specs.Version.{msize_min}
 use Rattle.p9_step.specs.Walk.{Arrival, arrival, arrived_by, going_on, walked}
 use Rattle.p9_step.proofs.Lawful.{node-sound}
 use Rattle.p9_step.proofs.Passed.{AttachDone, ClunkDone, CreateDone, OpenDone, ReadDone}
@@ -99,7 +102,7 @@ qids_fit setting forest sound user trail (name ∷ names) =
   where
     arrived_fits : (a : Arrival) → arrived_by setting forest user trail name ≡ Ok a
         → QidNumbersFit a.qid
-    arrived_fits a e = by_step (step_of forest setting.table (Some user) trail name) refl
+    arrived_fits a e = by_step (step_of forest setting.table (Some (who_of setting user)) trail name) refl
       where
         by_file : (step : Step) (o : Option Node)
             → file_of (here (stepped trail step)) setting.table forest ≡ o
@@ -114,7 +117,7 @@ qids_fit setting forest sound user trail (name ∷ names) =
             subst QidNumbersFit same (qid_fits forest at n sound found)
 
         by_step : (r : Result Step Fault)
-            → step_of forest setting.table (Some user) trail name ≡ r → QidNumbersFit a.qid
+            → step_of forest setting.table (Some (who_of setting user)) trail name ≡ r → QidNumbersFit a.qid
         by_step (Err fault) t = let no : Err fault ≡ Ok a = rw t at e in absurd (cc)
         by_step (Ok step) t =
             by_file step (file_of (here (stepped trail step)) setting.table forest) refl
@@ -132,7 +135,7 @@ qids_fit setting forest sound user trail (name ∷ names) =
 
 module _ (most : ℕ) (setting : Setting) (forest : List Server) (session : Session)
     (sound : IsForest forest) where
-  pub replies-version : 43 ≤ most → (now msize : ℕ) (o : Outcome)
+  pub replies-version : refusal_max ≤ most → (now msize : ℕ) (o : Outcome)
       → VersionDone setting forest session now msize o → Replies most o
   replies-version wide now msize o done = elim done.is [
     | inl is ↦ subst (Replies most) (sym is) (record {
@@ -149,13 +152,13 @@ module _ (most : ℕ) (setting : Setting) (forest : List Server) (session : Sess
     })
   ]
 
-  module _ (wide : 512 ≤ most) where
-    pub replies-attach : (fid : ℕ) (uname : List ℕ) (o : Outcome)
-        → AttachDone setting forest session fid uname o → Replies most o
-    replies-attach fid uname o done =
+  module _ (wide : msize_min ≤ most) where
+    pub replies-attach : (fid : ℕ) (uname aname : List ℕ) (o : Outcome)
+        → AttachDone setting forest session fid uname aname o → Replies most o
+    replies-attach fid uname aname o done =
         subst (Replies most) (sym done.is) (record {
           numbers =
-              qid_fits forest (file_ref root_place setting.table) done.file sound done.there;
+              qid_fits forest (file_ref (here done.trail) setting.table) done.file sound done.there;
           fits = tt;
           short = omega (arith, wide);
           plain = refl;
@@ -243,7 +246,7 @@ module _ (most : ℕ) (setting : Setting) (forest : List Server) (session : Sess
       })
     ]
 
-    module _ (room : 24 + room_of session ≤ most) (frames : most ≤ msize_max) where
+    module _ (room : io_header + room_of session ≤ most) (frames : most ≤ msize_max) where
       pub replies-open : (now fid : ℕ) (o : Outcome) → OpenDone setting forest session now fid o
           → Replies most o
       unfolding edited
@@ -300,7 +303,7 @@ module _ (most : ℕ) (setting : Setting) (forest : List Server) (session : Sess
           small : IsSmall place
           small =
               let its = node_of-small forest target done.dir sound done.there in
-              let free = (can_create forest done.v name target done.dir done.fits).room in
+              let free = (can_create setting forest done.v name target done.dir done.fits).room in
               record { server = its.server; number = omega (arith, free) }
 
           qid : QidNumbersFit (qid_of place node)

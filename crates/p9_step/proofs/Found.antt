@@ -59,7 +59,8 @@ node_of-changed at f forest n keeps found =
     (server_at-tree_changed_at at (with_changed at.number f) forest n found)
     ∙ node_at-changed_same at.number f keeps (server_at at.server forest) n found
 
-node_at-added : (s : Server) (n : Node) → node_at s.next s.nodes ≡ None → n.number ≡ s.next
+-- a look-up of the number of a node that was just added finds it
+pub node_at-added : (s : Server) (n : Node) → node_at s.next s.nodes ≡ None → n.number ≡ s.next
     → node_at s.next (added s n).nodes ≡ Some n
 node_at-added s n free same =
     grind (arith, nat_tests, find-append (has_number s.next) s.nodes (n ∷ []))

@@ -1,4 +1,5 @@
 -- What each outcome leads to: its changes are lawful, and the session that it leaves is one.
+use Rattle.p9_space.specs.Trail.{here}
 use Rattle.std.proofs.Common.{Bool, Err, List, None, Ok, Some, [], arith, false, inl, inr, refl}
 use Rattle.std.proofs.Common.{subst, sym, true, ℕ, ◌<◌, ◌^◌, ◌∷◌, ◌≡◌, ◌≤◌, ◌⊎◌}
 use Rattle.std.proofs.lemmas.Bool.Decides.{nat_tests}
@@ -143,19 +144,19 @@ module _ (setting : Setting) (forest : List Server) (session : Session) (now : �
       by (inr is) =
           subst (Kept setting forest) (sym is) (kept-quiet session _ ready.its)
 
-  pub kept-attach : (fid : ℕ) (uname : List ℕ) (o : Outcome) → fid < 2 ^ 32
-      → AttachDone setting forest session fid uname o → Kept setting forest o
-  kept-attach fid uname o small done =
+  pub kept-attach : (fid : ℕ) (uname aname : List ℕ) (o : Outcome) → fid < 2 ^ 32
+      → AttachDone setting forest session fid uname aname o → Kept setting forest o
+  kept-attach fid uname aname o small done =
       subst (Kept setting forest) (sym done.is)
-      (kept-quiet (attached fid done.user session) _ (session-with fid (record {
+      (kept-quiet (attached fid done.user (here done.trail) session) _ (session-with fid (record {
         user = done.user;
-        trail = root_place ∷ [];
+        trail = here done.trail ∷ [];
         opened = None;
       }) small done.free (record {
         listed = found-listed uname setting.users done.user done.listed;
         trail = record { some = omega arith; few = omega arith };
         given =
-            rw (place-given forest setting.table root_place done.file ready.sound ready.given
+            rw (place-given forest setting.table (here done.trail) done.file ready.sound ready.given
             done.there) refl;
         opened = fits-shut setting.table forest _ refl;
       })))

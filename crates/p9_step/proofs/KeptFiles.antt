@@ -100,6 +100,15 @@ fit-opened table f g v n o sound evolves found test p is =
         let this : n ≡ was.0 = cc in
         dir-reads o (is_dir n) test (ap is_dir this ∙ was.2 ∙ dir)
 
+-- what is read is open
+pub readable-is : (p : Option Opened) (o : Opened) → readable p ≡ Some o → p ≡ Some o
+readable-is None o e = e
+readable-is (Some q) o e = go (reads q.mode) refl
+  where
+    go : (b : Bool) → reads q.mode ≡ b → Some q ≡ Some o
+    go true r = rw r at e
+    go false r = let no : None ≡ Some o = rw r at e in absurd (cc)
+
 module _ (table : List MountRow) (f : List Server) (sound : IsForest f)
     (below : is_table_given f table ≡ true) (target : NodeRef) (dir n : Node) (user : List ℕ)
     (now : ℕ) (there : node_of target f ≡ Some dir)
@@ -209,14 +218,6 @@ module _ (setting : Setting) (forest : List Server) (session : Session) (now : �
         mode = λ n found dir. mode ∙ kept.mode n found dir;
         stays = λ n found dir. stays ∙ kept.stays n found dir;
       })
-
-  pub readable-is : (p : Option Opened) (o : Opened) → readable p ≡ Some o → p ≡ Some o
-  readable-is None o e = e
-  readable-is (Some q) o e = go (reads q.mode) refl
-    where
-      go : (b : Bool) → reads q.mode ≡ b → Some q ≡ Some o
-      go true r = rw r at e
-      go false r = let no : None ≡ Some o = rw r at e in absurd (cc)
 
   listed-kept : (fid : ℕ) (v : Fid) (o : Opened) (offset : ℕ) (cursor : Option Cursor)
       (given : List Entry) → fid_at fid session.fids ≡ Some v → v.opened ≡ Some o
@@ -340,8 +341,8 @@ module _ (setting : Setting) (forest : List Server) (session : Session) (now : �
       same : outcome ≡ o
       same = let e : Ok outcome ≡ Ok o = sym done.is in cc
 
-      can : CanCreate forest v name target done.dir
-      can = can_create forest v name target done.dir done.fits
+      can : CanCreate setting forest v name target done.dir
+      can = can_create setting forest v name target done.dir done.fits
 
       user : is_user v.user ≡ true
       user = user-of setting forest session now ready fid v done.found

@@ -1,4 +1,5 @@
 -- What the outcome of a wstat leads to.
+use Rattle.p9_step.specs.State.{who_of}
 use Rattle.std.proofs.Common.{Bool, List, None, Option, Some, arith, false, is_some, refl, subst}
 use Rattle.std.proofs.Common.{sym, true, ℕ, ◌+◌, ◌-◌, ◌<◌, ◌^◌, ◌∙◌, ◌≡◌}
 use Rattle.std.proofs.Math.Nat.{mod-lt}
@@ -26,7 +27,7 @@ use Rattle.p9_step.proofs.Lawful.{AllLawful, EditFits, forest-applied, lawful-pa
 use Rattle.p9_step.proofs.Lawful.{node-sound}
 use Rattle.p9_step.proofs.Members.{found-member}
 use Rattle.p9_step.proofs.Passed.{WstatDone}
-use Rattle.p9_step.proofs.Permits.{can_change, nothing_refuses, own_group, valid_name}
+use Rattle.p9_step.proofs.Permits.{can_change, nothing_refuses, valid_group, valid_name}
 
 touched_is : (greatest there wanted k : ℕ) → touched_number greatest there wanted ≡ Some k
     → k ≡ wanted
@@ -38,7 +39,7 @@ touched_is greatest there wanted k e = go (is_number_touched greatest there want
 
 -- the node after a wstat can be told
 changed-tellable : (user : List ℕ) (now : ℕ) (n : Node) (t : Touched) → is_user user ≡ true
-    → now < 2 ^ 32 → IsTellable n → ((gid : List ℕ) → t.gid ≡ Some gid → gid ≡ user)
+    → now < 2 ^ 32 → IsTellable n → ((gid : List ℕ) → t.gid ≡ Some gid → is_user gid ≡ true)
     → ((k : ℕ) → t.mtime ≡ Some k → k < 2 ^ 32)
     → IsTellable (changed (node_change user now t) n)
 changed-tellable user now n t valid short told own small = (
@@ -51,7 +52,7 @@ changed-tellable user now n t valid short told own small = (
 
     group : (g : Option (List ℕ)) → t.gid ≡ g → is_user (unwrap_or g n.gid) ≡ true
     group None e = told.0.1
-    group (Some g) e = subst (λ u. is_user u ≡ true) (sym (own g e)) valid
+    group (Some g) e = own g e
 
     by : (m l : Option ℕ) → is_user (if is_some m then user else (
         option_map_or (λ k. marked user now (with_bytes (resized k) n)) l n).muid) ≡ true
@@ -78,13 +79,13 @@ changed-tellable user now n t valid short told own small = (
 module _ (setting : Setting) (forest : List Server) (session : Session) (now : ℕ)
     (ready : IsReady setting forest session now) where
   lawful-rewrite : (at : NodeRef) (n : Node) (user : List ℕ) (t : Touched) → is_user user ≡ true
-      → node_of at forest ≡ Some n → wstat_fault user forest at n t ≡ None
+      → node_of at forest ≡ Some n → wstat_fault (who_of setting user) forest at n t ≡ None
       → ((k : ℕ) → t.mtime ≡ Some k → k < 2 ^ 32)
       → EditFits forest at (Rewrite (node_change user now t))
   unfolding edited
   lawful-rewrite at n user t valid found none small =
-      let permits = nothing_refuses user forest at n t none in
-      let can = can_change user forest at n t permits now ready.sound found in
+      let permits = nothing_refuses (who_of setting user) forest at n t none in
+      let can = can_change (who_of setting user) forest at n t permits now ready.sound found in
       let well =
       server_well forest at.server n ready.sound
       (found-member (has_number at.number) (server_at at.server forest).nodes n found).0 in
@@ -93,17 +94,17 @@ module _ (setting : Setting) (forest : List Server) (session : Session) (now : �
             λ m there. let same : Some m ≡ Some n = sym there ∙ found in
             let it : m ≡ n = cc in
             sound-changed (server_at at.server forest) m (node_change user now t) (can m there)
-            (λ name is. valid_name user forest at n t permits name is)
+            (λ name is. valid_name (who_of setting user) forest at n t permits name is)
             (named (server_at at.server forest) at.number (node_change user now t) m well can there)
             (changed-tellable user now m t valid ready.short
             (node-sound forest ready.sound at m there).tellable
-            (λ gid is. own_group user forest at n t permits gid is) small);
+            (valid_group (who_of setting user) forest at n t permits ready.fixed.groups valid) small);
         apart =
             apart-changed (server_at at.server forest) at.number (node_change user now t) well can;
       }
 
   lawful-rewriting : (at : NodeRef) (n : Node) (user : List ℕ) (t : Touched)
-      → is_user user ≡ true → node_of at forest ≡ Some n → wstat_fault user forest at n t ≡ None
+      → is_user user ≡ true → node_of at forest ≡ Some n → wstat_fault (who_of setting user) forest at n t ≡ None
       → ((k : ℕ) → t.mtime ≡ Some k → k < 2 ^ 32)
       → AllLawful forest (rewriting user now at n t)
   lawful-rewriting at n user t valid found none small = go (is_any t) refl

@@ -1,6 +1,10 @@
 -- What an answer says: an outcome all that was tested, in the order of the tests, and the outcome
 -- itself; a refusal, that it is the fault of a test.
 -- What is proved of outcomes follows from this, and no other proof goes through the tests.
+use Rattle.p9_clean.specs.Path.{cleaned_elements}
+use Rattle.p9_step.proofs.Refused.{walk-of}
+use Rattle.p9_step.specs.Attach.{attach_walk, attached_at}
+use Rattle.p9_step.specs.State.{who_of}
 use Rattle.std.proofs.Common.{Bool, List, None, Ok, Option, Some, [], arith, false, inl, inr}
 use Rattle.std.proofs.Common.{is_some, length, refl, true, ℕ, ◌+◌, ◌<◌, ◌||◌, ◌∷◌, ◌≡◌, ◌≤◌, ◌⊎◌}
 use Rattle.std.proofs.lemmas.Bool.Decides.{nat_tests}
@@ -71,16 +75,20 @@ pub record VersionDone (setting : Setting) (forest : List Server) (session : Ses
 
 -- an attach
 pub record AttachDone (setting : Setting) (forest : List Server) (session : Session) (fid : ℕ)
-    (uname : List ℕ) (o : Outcome) : Type 0 where
+    (uname aname : List ℕ) (o : Outcome) : Type 0 where
   pub user : List ℕ
+  pub trail : List NodeRef
   pub file : Node
   pub free : put_fault fid session.fids ≡ None
   pub listed : listed_user uname setting.users ≡ Some user
-  pub there : file_of root_place setting.table forest ≡ Some file
+  pub root : is_some (file_of root_place setting.table forest) ≡ true
+  pub walked : attach_walk setting forest user aname ≡ Ok trail
+  pub there : file_of (here trail) setting.table forest ≡ Some file
+  pub directory : is_dir file ≡ true
   pub is : o ≡ record {
     changes = [];
-    session = attached fid user session;
-    reply = Rattach (qid_of (file_ref root_place setting.table) file);
+    session = attached fid user (here trail) session;
+    reply = Rattach (qid_of (file_ref (here trail) setting.table) file);
   }
 
 -- a walk, to its end or up to a step that is refused
@@ -111,7 +119,7 @@ pub record OpenDone (setting : Setting) (forest : List Server) (session : Sessio
   pub shut : v.opened ≡ None
   pub there : fid_file setting.table forest v ≡ Some n
   pub plain : (not (is_dir n) || is_plain_read opening) ≡ true
-  pub may : may_open v.user forest (fid_ref setting.table v) n opening ≡ true
+  pub may : may_open (who_of setting v.user) forest (fid_ref setting.table v) n opening ≡ true
   pub is : o ≡ record {
     changes = truncation v.user now (fid_ref setting.table v) n opening;
     session = opened_session fid opening session;
@@ -133,7 +141,7 @@ pub record CreateDone (setting : Setting) (forest : List Server) (session : Sess
   pub plain : (not (is_dir_mode asked) || is_plain_read opening) ≡ true
   pub chosen : target_among forest (members_of (here v.trail) setting.table) ≡ Ok target
   pub there : node_of target forest ≡ Some dir
-  pub fits : fault_in forest v name target dir ≡ None
+  pub fits : fault_in setting forest v name target dir ≡ None
   pub is : Ok o ≡ creation forest session now fid v target dir name asked opening
 
 -- a read, of a file or of a directory
@@ -193,7 +201,7 @@ pub record RemovalDone (setting : Setting) (forest : List Server) (left : Sessio
   pub n : Node
   pub there : fid_file setting.table forest v ≡ Some n
   pub inner : is_some n.parent ≡ true
-  pub may : may_write_parent v.user forest (fid_ref setting.table v) n ≡ true
+  pub may : may_write_parent (who_of setting v.user) forest (fid_ref setting.table v) n ≡ true
   pub empty : has_children_of (fid_ref setting.table v) forest ≡ false
   pub is : o ≡ record {
     changes = taken_out v.user now (fid_ref setting.table v) n;
@@ -229,7 +237,7 @@ pub record WstatDone (setting : Setting) (forest : List Server) (session : Sessi
   pub n : Node
   pub found : fid_at fid session.fids ≡ Some v
   pub there : fid_file setting.table forest v ≡ Some n
-  pub fits : wstat_fault v.user forest (fid_ref setting.table v) n
+  pub fits : wstat_fault (who_of setting v.user) forest (fid_ref setting.table v) n
       (touched_of (stat_of (fid_ref setting.table v) n) wanted) ≡ None
   pub is : o ≡ record {
     changes =
@@ -240,10 +248,10 @@ pub record WstatDone (setting : Setting) (forest : List Server) (session : Sessi
   }
 
 -- what holds of a create that no test of its directory refuses
-pub record CanCreate (forest : List Server) (v : Fid) (name : List ℕ) (target : NodeRef)
-    (dir : Node) : Type 0 where
+pub record CanCreate (setting : Setting) (forest : List Server) (v : Fid) (name : List ℕ)
+    (target : NodeRef) (dir : Node) : Type 0 where
   pub into : is_dir dir ≡ true
-  pub writes : may v.user dir to_write ≡ true
+  pub writes : may (who_of setting v.user) dir to_write ≡ true
   pub free : is_some (child_in target name forest) ≡ false
   pub room : next_of target.server forest < next_max
   pub short : length v.trail < places_max
@@ -261,12 +269,13 @@ none_of_five f1 f2 f3 f4 f5 true true false false true none =
     let no : Some f5 ≡ None = none in absurd (cc)
 none_of_five f1 f2 f3 f4 f5 true true false false false none = (refl, refl, refl, refl, refl)
 
-pub can_create : (forest : List Server) (v : Fid) (name : List ℕ) (target : NodeRef) (dir : Node)
-    → fault_in forest v name target dir ≡ None → CanCreate forest v name target dir
-can_create forest v name target dir none =
+pub can_create : (setting : Setting) (forest : List Server) (v : Fid) (name : List ℕ)
+    (target : NodeRef) (dir : Node) → fault_in setting forest v name target dir ≡ None
+    → CanCreate setting forest v name target dir
+can_create setting forest v name target dir none =
     let c =
     none_of_five NotDirectory PermissionDenied FileExists QidsUsedUp PathTooDeep (is_dir dir)
-    (may v.user dir to_write) (is_some (child_in target name forest))
+    (may (who_of setting v.user) dir to_write) (is_some (child_in target name forest))
     (nat_le next_max (next_of target.server forest)) (nat_le places_max (length v.trail)) none in
     let room = c.3 in
     let short = c.4 in
@@ -278,7 +287,7 @@ can_create forest v name target dir none =
       short = grind (arith, nat_tests, short);
     }
 
-is_none-None : {X : Type 0} (o : Option X) → is_none o ≡ true → o ≡ None
+pub is_none-None : {X : Type 0} (o : Option X) → is_none o ≡ true → o ≡ None
 is_none-None None e = refl
 is_none-None (Some x) e = cc
 
@@ -305,22 +314,34 @@ module _ (setting : Setting) (forest : List Server) (session : Session) where
       })))
 
   pub attach-done : (fid afid : ℕ) (uname aname : List ℕ)
-      → OnDone (AttachDone setting forest session fid uname)
+      → OnDone (AttachDone setting forest session fid uname aname)
       (attach_answer setting forest session fid afid uname aname)
   attach-done fid afid uname aname =
-      done-unless (AttachDone setting forest session fid uname) _ _ (put_fault-of fid session.fids)
-      (λ free. done-need (AttachDone setting forest session fid uname) _ _ _ refl
-      (λ none. done-given (AttachDone setting forest session fid uname) _ _ _ refl
-      (λ user listed. done-need (AttachDone setting forest session fid uname) _ _ _ refl
-      (λ root. done-given (AttachDone setting forest session fid uname) _ _ _ refl (λ file there.
-      done-ok (AttachDone setting forest session fid uname) _ (record {
+      done-unless (AttachDone setting forest session fid uname aname) _ _
+      (put_fault-of fid session.fids)
+      (λ free. done-need (AttachDone setting forest session fid uname aname) _ _ _ refl
+      (λ none. done-given (AttachDone setting forest session fid uname aname) _ _ _ refl
+      (λ user listed. done-need (AttachDone setting forest session fid uname aname) _ _ _ refl
+      (λ named. done-need (AttachDone setting forest session fid uname aname) _ _ _ refl
+      (λ root. done-then (AttachDone setting forest session fid uname aname)
+      (attach_walk setting forest user aname)
+      (λ trail. attached_at setting forest session fid user (here trail))
+      (walk-of forest setting.table (Some (who_of setting user)) (root_place ∷ [])
+      (cleaned_elements aname))
+      (λ trail walked. done-given (AttachDone setting forest session fid uname aname) _ _ _ refl
+      (λ file there. done-need (AttachDone setting forest session fid uname aname) _ _ _ refl
+      (λ directory. done-ok (AttachDone setting forest session fid uname aname) _ (record {
         user = user;
+        trail = trail;
         file = file;
         free = free;
         listed = listed;
+        root = root;
+        walked = walked;
         there = there;
+        directory = directory;
         is = refl;
-      }))))))
+      })))))))))
 
   pub walk-done : (fid newfid : ℕ) (names : List (List ℕ))
       → OnDone (WalkDone setting forest session fid newfid names)
@@ -397,11 +418,11 @@ module _ (setting : Setting) (forest : List Server) (session : Session) where
       (λ asked means. done-need (CreateDone setting forest session now fid name) _ _ _ refl
       (λ plain. done-then (CreateDone setting forest session now fid name)
       (target_among forest (members_of (here v.trail) setting.table))
-      (created_in forest session now fid v name asked opening)
+      (created_in setting forest session now fid v name asked opening)
       (target_among-of forest (members_of (here v.trail) setting.table))
       (λ target chosen. done-given (CreateDone setting forest session now fid name) _ _ _ refl
       (λ dir there. done-unless (CreateDone setting forest session now fid name) _ _
-      (fault_in-of forest v name target dir) (λ fits.
+      (fault_in-of setting forest v name target dir) (λ fits.
       done-ok (CreateDone setting forest session now fid name) _ (record {
         v = v;
         opening = opening;
@@ -430,7 +451,8 @@ module _ (setting : Setting) (forest : List Server) (session : Session) where
       (read_file session now (fid_ref setting.table v) n offset (min count (room_of session)))
       (λ dir. done-need (ReadDone setting forest session now fid offset count) _ _ _ refl
       (λ begins. listed v opened n found held there
-      (listing_behind (cursor_at offset opened) setting.table forest v.user (here v.trail)) _ refl))
+      (listing_behind (cursor_at offset opened) setting.table forest (who_of setting v.user) (here v.trail)) _
+      refl))
       (λ file. done-ok (ReadDone setting forest session now fid offset count) _ (record {
         v = v;
         opened = opened;
@@ -568,7 +590,7 @@ module _ (setting : Setting) (forest : List Server) (session : Session) where
       (λ v found. done-given (WstatDone setting forest session now fid wanted) _ _ _ refl
       (λ n there. done-need (WstatDone setting forest session now fid wanted) _ _ _ refl
       (λ free. done-unless (WstatDone setting forest session now fid wanted) _ _
-      (wstat_fault-of v.user forest (fid_ref setting.table v) n
+      (wstat_fault-of (who_of setting v.user) forest (fid_ref setting.table v) n
       (touched_of (stat_of (fid_ref setting.table v) n) wanted)) (λ fits.
       done-ok (WstatDone setting forest session now fid wanted) _ (record {
         v = v;

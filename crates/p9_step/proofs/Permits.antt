@@ -1,4 +1,9 @@
 -- What holds of a wstat that no test refuses.
+use Rattle.std.proofs.Common.{inl, inr, ◌⊎◌}
+use Rattle.p9_base.proofs.GroupNames.{member-valid, leads-valid}
+use Rattle.p9_base.specs.User.{is_user}
+use Rattle.p9_base.specs.Group.{are_groups, is_member, leads}
+use Rattle.p9_space.specs.Rights.{Who}
 use Rattle.std.proofs.Common.{◌≡◌, ◌≢◌, ℕ, ◌≤◌, Bool, true, false, List, Option, Some}
 use Rattle.std.proofs.Common.{None, is_some, option_and_then, refl, sym, ◌∙◌, subst, arith}
 use Rattle.std.specs.Prelude.{◌&&◌, ◌||◌, is_none, nat_lt, not, if◌then◌else◌}
@@ -32,7 +37,7 @@ option_or-none None b e = (refl, e)
 option_or-none (Some x) b e = let no : Some x ≡ None = e in absurd (cc)
 
 -- the same of a chain of tests
-no_if : {X : Type 0} (fault : X) (test : Bool) → (if test then None else Some fault) ≡ None
+pub no_if : {X : Type 0} (fault : X) (test : Bool) → (if test then None else Some fault) ≡ None
     → test ≡ true
 no_if fault true e = refl
 no_if fault false e = let no : Some fault ≡ None = e in absurd (cc)
@@ -63,12 +68,13 @@ is_there : {X : Type 0} (o : Option X) → is_none o ≡ false → is_some o ≡
 is_there None e = let no : true ≡ false = e in absurd (cc)
 is_there (Some x) e = refl
 
-second_of : (a b c : Bool) → (a && c || b && c) ≡ true → c ≡ true
-second_of a b true e = refl
-second_of true true false e = e
-second_of true false false e = e
-second_of false true false e = e
-second_of false false false e = e
+seconds_of : (a b c d : Bool) → (a && b || c && d) ≡ true → (b ≡ true) ⊎ (d ≡ true)
+seconds_of a true c d e = inl refl
+seconds_of a false c true e = inr refl
+seconds_of true false true false e = inr e
+seconds_of true false false false e = inr e
+seconds_of false false true false e = inr e
+seconds_of false false false false e = inr e
 
 not_above : (size : ℕ) → nat_lt file_max size ≡ false → size ≤ file_max
 not_above size e = grind (arith, nat_tests)
@@ -92,58 +98,83 @@ no_sibling forest at n m name dir alone in_dir found =
     let no : true ≡ false = rw found at here in
     absurd (cc)
 
-module _ (user : List ℕ) (forest : List Server) (at : NodeRef) (n : Node) (t : Touched) where
+-- a group that a user may give a file to has a valid name
+group-given : (who : Who) (n : Node) (gid : List ℕ) → are_groups who.groups ≡ true
+    → is_user who.user ≡ true → may_give who n gid ≡ true → is_user gid ≡ true
+group-given who n gid named valid gives =
+    elim (seconds_of (bytes_eq n.uid who.user) (is_member who.groups gid who.user)
+    (leads who.groups n.gid who.user) (leads who.groups gid who.user) gives) [
+      | inl member ↦ member-valid who.groups gid who.user named valid member
+      | inr led ↦ leads-valid who.groups gid who.user named valid led
+    ]
+
+-- so nobody gives a file to another text
+pub not-given : (who : Who) (n : Node) (gid : List ℕ) → are_groups who.groups ≡ true
+    → is_user who.user ≡ true → (is_user gid ≡ true → ⊥) → false ≡ may_give who n gid
+not-given who n gid named valid not_user = go (may_give who n gid) refl
+  where
+    go : (b : Bool) → may_give who n gid ≡ b → false ≡ may_give who n gid
+    go true e = absurd (not_user (group-given who n gid named valid e))
+    go false e = sym e
+
+module _ (who : Who) (forest : List Server) (at : NodeRef) (n : Node) (t : Touched) where
   -- what holds of a wstat that no test refuses
   pub record Permits : Type 0 where
     pub mode : option_and_then (mode_fault n) t.mode ≡ None
-    pub name : option_and_then (name_fault user forest at n) t.name ≡ None
-    pub length : option_and_then (length_fault user n) t.length ≡ None
-    pub gid : option_and_then (gid_fault user n) t.gid ≡ None
+    pub name : option_and_then (name_fault who forest at n) t.name ≡ None
+    pub length : option_and_then (length_fault who n) t.length ≡ None
+    pub ruled : option_and_then (ruling_fault who n) t.mode ≡ None
+    pub gid : option_and_then (gid_fault who n) t.gid ≡ None
 
   -- it holds where no test refuses
-  pub nothing_refuses : wstat_fault user forest at n t ≡ None → Permits
+  pub nothing_refuses : wstat_fault who forest at n t ≡ None → Permits
   nothing_refuses none =
       let first = option_or-none (option_and_then (mode_fault n) t.mode) _ none in
       let second =
-      option_or-none (option_and_then (name_fault user forest at n) t.name) _ first.1 in
-      let third = option_or-none (option_and_then (length_fault user n) t.length) _ second.1 in
-      let fourth = option_or-none (option_and_then (ruling_fault user n) t.mode) _ third.1 in
-      let fifth = option_or-none (option_and_then (ruling_fault user n) t.mtime) _ fourth.1 in
-      record { mode = first.0; name = second.0; length = third.0; gid = fifth.1 }
+      option_or-none (option_and_then (name_fault who forest at n) t.name) _ first.1 in
+      let third = option_or-none (option_and_then (length_fault who n) t.length) _ second.1 in
+      let fourth = option_or-none (option_and_then (ruling_fault who n) t.mode) _ third.1 in
+      let fifth = option_or-none (option_and_then (ruling_fault who n) t.mtime) _ fourth.1 in
+      record {
+        mode = first.0;
+        name = second.0;
+        length = third.0;
+        ruled = fourth.0;
+        gid = fifth.1;
+      }
 
   module _ (permits : Permits) where
     name_free : (name : List ℕ) → t.name ≡ Some name
         → (is_none n.parent ≡ false) × (is_name name ≡ true)
         × (has_sibling forest at n name ≡ false)
     name_free name is =
-        let free : name_fault user forest at n name ≡ None = rw is at permits.name in
-        no_four _ _ _ _ (is_none n.parent) (is_name name) (may_write_parent user forest at n)
+        let free : name_fault who forest at n name ≡ None = rw is at permits.name in
+        no_four _ _ _ _ (is_none n.parent) (is_name name) (may_write_parent who forest at n)
         (has_sibling forest at n name) free
 
     length_free : (size : ℕ) → t.length ≡ Some size
         → (is_dir n ≡ false) × (nat_lt file_max size ≡ false)
     length_free size is =
-        let free : length_fault user n size ≡ None = rw is at permits.length in
-        no_three _ _ _ (is_dir n) (may user n to_write) (nat_lt file_max size) free
+        let free : length_fault who n size ≡ None = rw is at permits.length in
+        no_three _ _ _ (is_dir n) (may who n to_write) (nat_lt file_max size) free
 
     -- a name is then valid
     pub valid_name : (name : List ℕ) → t.name ≡ Some name → is_name name ≡ true
     valid_name name is = (name_free name is).1
 
-    -- and a group the user's own
-    pub own_group : (gid : List ℕ) → t.gid ≡ Some gid → gid ≡ user
-    own_group gid is =
-        let free : gid_fault user n gid ≡ None = rw is at permits.gid in
-        let gives : may_give user n gid ≡ true = no_if PermissionDenied _ free in
-        (bytes_eq-Decides gid user).0
-        (second_of (bytes_eq n.uid user) (bytes_eq n.gid user) (bytes_eq gid user) gives)
+    -- and so is a group's
+    pub valid_group : are_groups who.groups ≡ true → is_user who.user ≡ true → (gid : List ℕ)
+        → t.gid ≡ Some gid → is_user gid ≡ true
+    valid_group named valid gid is =
+        let free : gid_fault who n gid ≡ None = rw is at permits.gid in
+        group-given who n gid named valid (no_if PermissionDenied _ free)
 
     -- so the node may be changed
     pub can_change : (now : ℕ) → IsForest forest → node_of at forest ≡ Some n
-        → CanChange (server_at at.server forest) at.number (node_change user now t)
+        → CanChange (server_at at.server forest) at.number (node_change who.user now t)
     can_change now sound found = λ m there.
         let same : n ≡ m = let e : Some n ≡ Some m = sym found ∙ there in cc in
-        subst (λ k. CanChangeNode (server_at at.server forest) k (node_change user now t))
+        subst (λ k. CanChangeNode (server_at at.server forest) k (node_change who.user now t))
         same (record {
           same_kind = kind_kept n t.mode permits.mode;
           not_root = λ name is. not_zero name is;

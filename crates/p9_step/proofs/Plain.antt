@@ -29,9 +29,9 @@ plain_as : (o : Outcome) (changes : List Change) (session : Session) (m : RMessa
 plain_as o changes session m is plain = subst IsPlain (sym is) plain
 
 module _ (setting : Setting) (forest : List Server) (session : Session) where
-  plain-attach : (fid : ℕ) (uname : List ℕ) (o : Outcome)
-      → AttachDone setting forest session fid uname o → IsPlain o
-  plain-attach fid uname o done = plain_as o _ _ _ done.is refl
+  plain-attach : (fid : ℕ) (uname aname : List ℕ) (o : Outcome)
+      → AttachDone setting forest session fid uname aname o → IsPlain o
+  plain-attach fid uname aname o done = plain_as o _ _ _ done.is refl
 
   plain-walk : (fid newfid : ℕ) (names : List (List ℕ)) (o : Outcome)
       → WalkDone setting forest session fid newfid names o → IsPlain o
@@ -81,8 +81,8 @@ plain-session_answer setting forest taken session now (Tauth afid uname aname) =
     done-err (IsPlainIf false) _ refl
 plain-session_answer setting forest taken session now (Tattach fid afid uname aname) =
     plain_if _ _
-    (done-map (AttachDone setting forest session fid uname) IsPlain _
-    (plain-attach setting forest session fid uname)
+    (done-map (AttachDone setting forest session fid uname aname) IsPlain _
+    (plain-attach setting forest session fid uname aname)
     (attach-done setting forest session fid afid uname aname))
 plain-session_answer setting forest taken session now (Tflush oldtag) =
     done-ok (IsPlainIf false) _ (λ e. refl)

@@ -1,4 +1,8 @@
 -- What refuses a request is the fault of a test, never one about memory.
+use Rattle.p9_space.specs.Trail.{stepped}
+use Rattle.p9_space.specs.Walk.{walk}
+use Rattle.p9_step.specs.State.{who_of}
+use Rattle.p9_space.specs.Rights.{Who}
 use Rattle.std.proofs.Common.{Bool, Err, List, None, Ok, Option, Result, Some, [], refl, subst}
 use Rattle.std.proofs.Common.{false, length, true, ℕ, ◌==◌, ◌∷◌, ◌≡◌, if◌then◌else◌}
 use Rattle.std.specs.Option.{option_map_or, option_or}
@@ -90,9 +94,9 @@ pub newfid_fault-of : (fid newfid : ℕ) (fids : List FidRow)
 newfid_fault-of fid newfid fids =
     if-of _ _ _ (some-of UnknownFid refl) (if-of _ _ _ none-of (put_fault-of newfid fids))
 
-pub fault_in-of : (forest : List Server) (v : Fid) (name : List ℕ) (target : NodeRef) (dir : Node)
-    → IfFault (fault_in forest v name target dir)
-fault_in-of forest v name target dir =
+pub fault_in-of : (setting : Setting) (forest : List Server) (v : Fid) (name : List ℕ)
+    (target : NodeRef) (dir : Node) → IfFault (fault_in setting forest v name target dir)
+fault_in-of setting forest v name target dir =
     if-of _ _ _ (some-of NotDirectory refl)
     (if-of _ _ _ (some-of PermissionDenied refl)
     (if-of _ _ _ (some-of FileExists refl)
@@ -105,30 +109,30 @@ target_among-of forest ms =
     (map_or-err _ _ CreationForbidden (λ m. ok-of m.node) refl))
 
 -- a wstat
-module _ (user : List ℕ) (forest : List Server) (at : NodeRef) (n : Node) where
+module _ (who : Who) (forest : List Server) (at : NodeRef) (n : Node) where
   mode_fault-of : (bits : ℕ) → IfFault (mode_fault n bits)
   mode_fault-of bits = if-of _ _ _ none-of (some-of FixedField refl)
 
-  name_fault-of : (name : List ℕ) → IfFault (name_fault user forest at n name)
+  name_fault-of : (name : List ℕ) → IfFault (name_fault who forest at n name)
   name_fault-of name =
       if-of _ _ _ (some-of IsRoot refl)
       (if-of _ _ _ (some-of BadFileName refl)
       (if-of _ _ _ (some-of PermissionDenied refl)
       (if-of _ _ _ (some-of FileExists refl) none-of)))
 
-  length_fault-of : (size : ℕ) → IfFault (length_fault user n size)
+  length_fault-of : (size : ℕ) → IfFault (length_fault who n size)
   length_fault-of size =
       if-of _ _ _ (some-of IsDirectory refl)
       (if-of _ _ _ (some-of PermissionDenied refl)
       (if-of _ _ _ (some-of FileTooLarge refl) none-of))
 
-  ruling_fault-of : (touched : ℕ) → IfFault (ruling_fault user n touched)
+  ruling_fault-of : (touched : ℕ) → IfFault (ruling_fault who n touched)
   ruling_fault-of touched = if-of _ _ _ none-of (some-of PermissionDenied refl)
 
-  gid_fault-of : (gid : List ℕ) → IfFault (gid_fault user n gid)
+  gid_fault-of : (gid : List ℕ) → IfFault (gid_fault who n gid)
   gid_fault-of gid = if-of _ _ _ none-of (some-of PermissionDenied refl)
 
-  pub wstat_fault-of : (t : Touched) → IfFault (wstat_fault user forest at n t)
+  pub wstat_fault-of : (t : Touched) → IfFault (wstat_fault who forest at n t)
   wstat_fault-of t =
       or-of _ _ (and_then-of _ t.mode mode_fault-of)
       (or-of _ _ (and_then-of _ t.name name_fault-of)
@@ -137,19 +141,19 @@ module _ (user : List ℕ) (forest : List Server) (at : NodeRef) (n : Node) wher
       (or-of _ _ (and_then-of _ t.mtime ruling_fault-of) (and_then-of _ t.gid gid_fault-of)))))
 
 -- the steps of a walk
-module _ (forest : List Server) (table : List MountRow) (user : Option (List ℕ)) where
+module _ (forest : List Server) (table : List MountRow) (who : Option Who) where
   step_down-of : (trail : List NodeRef) (name : List ℕ) (ms : List Member)
-      → IfErr (step_down forest user trail name ms)
+      → IfErr (step_down forest who trail name ms)
   step_down-of trail name ms =
       if-err _ _ _ (err-of PermissionDenied refl)
       (map_or-err (λ (place : NodeRef).
       if length trail == places_max then Err PathTooDeep else Ok (To place))
-      (child_among forest user name ms) NotFound
+      (child_among forest who name ms) NotFound
       (λ place. if-err (length trail == places_max) (Err PathTooDeep) (Ok (To place))
       (err-of PathTooDeep refl) (ok-of (To place))) refl)
 
   step_among-of : (trail : List NodeRef) (name : List ℕ) (ms : List Member)
-      → IfErr (step_among forest user trail name ms)
+      → IfErr (step_among forest who trail name ms)
   step_among-of trail name ms =
       if-err _ _ _ (err-of PhaseError refl)
       (if-err _ _ _ (err-of NotDirectory refl)
@@ -159,10 +163,17 @@ module _ (forest : List Server) (table : List MountRow) (user : Option (List ℕ
   arrived-of trail step = if-err _ _ _ (ok-of step) (err-of PhaseError refl)
 
   step_of-of : (trail : List NodeRef) (name : List ℕ)
-      → IfErr (step_of forest table user trail name)
+      → IfErr (step_of forest table who trail name)
   step_of-of trail name =
-      then-err (step_among forest user trail name (members_of (here trail) table)) _
+      then-err (step_among forest who trail name (members_of (here trail) table)) _
       (step_among-of trail name (members_of (here trail) table)) (arrived-of trail)
+
+  pub walk-of : (trail : List NodeRef) (names : List (List ℕ))
+      → IfErr (walk forest table who trail names)
+  walk-of trail [] = ok-of trail
+  walk-of trail (name ∷ names) =
+      then-err (step_of forest table who trail name) _ (step_of-of trail name)
+      (λ step. walk-of (stepped trail step) names)
 
 module _ (setting : Setting) (forest : List Server) where
   arrival-of : (trail : List NodeRef) (step : Step) → IfErr (arrival setting forest trail step)
@@ -171,8 +182,8 @@ module _ (setting : Setting) (forest : List Server) where
   arrived_by-of : (user : List ℕ) (trail : List NodeRef) (name : List ℕ)
       → IfErr (arrived_by setting forest user trail name)
   arrived_by-of user trail name =
-      then-err (step_of forest setting.table (Some user) trail name) _
-      (step_of-of forest setting.table (Some user) trail name) (arrival-of trail)
+      then-err (step_of forest setting.table (Some (who_of setting user)) trail name) _
+      (step_of-of forest setting.table (Some (who_of setting user)) trail name) (arrival-of trail)
 
   going_on-of : (trail : List NodeRef) (r : Result Arrival Fault) (later : List NodeRef → Walked)
       → IfErr r → ((next : List NodeRef) → IfFault (later next).stopped)

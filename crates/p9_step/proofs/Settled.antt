@@ -1,4 +1,6 @@
 -- What is kept of fids, while the forest evolves and when they are put in and changed.
+use Rattle.p9_step.specs.State.{who_of}
+use Rattle.p9_space.specs.Rights.{Who}
 use Rattle.std.proofs.Common.{Bool, Err, List, None, Ok, Option, Result, Some, [], ap, arith, false}
 use Rattle.std.proofs.Common.{is_some, length, refl, subst, suc, sym, take, true, zero, ℕ, ◌++◌}
 use Rattle.std.proofs.Common.{◌-◌, ◌<◌, ◌∙◌, ◌∷◌, ◌≡◌}
@@ -235,7 +237,7 @@ trail-upward forest trail its = go (nat_lt 1 (length trail)) refl
           given = list_all-take (is_given forest) (length trail - 1) trail its.given;
         })
 
-module _ (forest : List Server) (user : Option (List ℕ)) (sound : IsForest forest) where
+module _ (forest : List Server) (who : Option Who) (sound : IsForest forest) where
   -- a child that is found was given
   child-given : (dir place : NodeRef) (name : List ℕ) → child_ref forest dir name ≡ Some place
       → is_given forest place ≡ true
@@ -252,22 +254,22 @@ module _ (forest : List Server) (user : Option (List ℕ)) (sound : IsForest for
           subst (λ r. is_given forest r ≡ true) same (grind (arith, nat_tests, lt))
 
   among-given : (name : List ℕ) (ms : List Member) (place : NodeRef)
-      → child_among forest user name ms ≡ Some place → is_given forest place ≡ true
+      → child_among forest who name ms ≡ Some place → is_given forest place ≡ true
   among-given name [] place found = let none : None ≡ Some place = found in absurd (cc)
   among-given name (m ∷ ms) place found =
-      go (is_searched forest user m) refl (among-given name ms place)
+      go (is_searched forest who m) refl (among-given name ms place)
     where
       by_child : (o : Option NodeRef) → child_ref forest m.node name ≡ o
-          → option_or o (child_among forest user name ms) ≡ Some place
-          → (child_among forest user name ms ≡ Some place → is_given forest place ≡ true)
+          → option_or o (child_among forest who name ms) ≡ Some place
+          → (child_among forest who name ms ≡ Some place → is_given forest place ≡ true)
           → is_given forest place ≡ true
       by_child None e here later = later here
       by_child (Some r) e here later =
           let same : Some r ≡ Some place = here in
           child-given m.node place name (e ∙ same)
 
-      go : (b : Bool) → is_searched forest user m ≡ b
-          → (child_among forest user name ms ≡ Some place → is_given forest place ≡ true)
+      go : (b : Bool) → is_searched forest who m ≡ b
+          → (child_among forest who name ms ≡ Some place → is_given forest place ≡ true)
           → is_given forest place ≡ true
       go true e later =
           by_child (child_ref forest m.node name) refl (rw e at found) later
@@ -279,11 +281,11 @@ module _ (forest : List Server) (user : Option (List ℕ)) (sound : IsForest for
     pub given : is_given forest place ≡ true
 
   down-goes : (trail : List NodeRef) (name : List ℕ) (ms : List Member) (place : NodeRef)
-      → step_down forest user trail name ms ≡ Ok (To place) → GoesTo trail place
-  down-goes trail name ms place e = by_test (list_any (is_searched forest user) ms) refl
+      → step_down forest who trail name ms ≡ Ok (To place) → GoesTo trail place
+  down-goes trail name ms place e = by_test (list_any (is_searched forest who) ms) refl
     where
-      by_room : (r : NodeRef) → child_among forest user name ms ≡ Some r
-          → list_any (is_searched forest user) ms ≡ true → (b : Bool)
+      by_room : (r : NodeRef) → child_among forest who name ms ≡ Some r
+          → list_any (is_searched forest who) ms ≡ true → (b : Bool)
           → (length trail == places_max) ≡ b → GoesTo trail place
       by_room r found searched true full =
           let no : Err PathTooDeep ≡ Ok (To place) = rw (searched, found, full) at e in absurd (cc)
@@ -292,20 +294,20 @@ module _ (forest : List Server) (user : Option (List ℕ)) (sound : IsForest for
           let same : r ≡ place = cc in
           record { room = room; given = among-given name ms place (found ∙ ap Some same) }
 
-      by_child : list_any (is_searched forest user) ms ≡ true → (o : Option NodeRef)
-          → child_among forest user name ms ≡ o → GoesTo trail place
+      by_child : list_any (is_searched forest who) ms ≡ true → (o : Option NodeRef)
+          → child_among forest who name ms ≡ o → GoesTo trail place
       by_child searched None found =
           let no : Err NotFound ≡ Ok (To place) = rw (searched, found) at e in absurd (cc)
       by_child searched (Some r) found =
           by_room r found searched (length trail == places_max) refl
 
-      by_test : (b : Bool) → list_any (is_searched forest user) ms ≡ b → GoesTo trail place
+      by_test : (b : Bool) → list_any (is_searched forest who) ms ≡ b → GoesTo trail place
       by_test false t =
           let no : Err PermissionDenied ≡ Ok (To place) = rw t at e in absurd (cc)
-      by_test true t = by_child t (child_among forest user name ms) refl
+      by_test true t = by_child t (child_among forest who name ms) refl
 
   among-goes : (trail : List NodeRef) (name : List ℕ) (ms : List Member) (place : NodeRef)
-      → step_among forest user trail name ms ≡ Ok (To place) → GoesTo trail place
+      → step_among forest who trail name ms ≡ Ok (To place) → GoesTo trail place
   among-goes trail name ms place e = by_alive (list_any (is_alive forest) ms) refl
     where
       by_name : list_any (is_alive forest) ms ≡ true → list_any (is_alive_dir forest) ms ≡ true
@@ -327,13 +329,13 @@ module _ (forest : List Server) (user : Option (List ℕ)) (sound : IsForest for
 
   -- the trail after a step is a trail, of places that were given
   pub trail-stepped : (table : List MountRow) (trail : List NodeRef) (name : List ℕ) (step : Step)
-      → IsGivenTrail forest trail → step_of forest table user trail name ≡ Ok step
+      → IsGivenTrail forest trail → step_of forest table who trail name ≡ Ok step
       → IsGivenTrail forest (stepped trail step)
   trail-stepped table trail name step its e =
-      by_step (step_among forest user trail name (members_of (here trail) table)) refl
+      by_step (step_among forest who trail name (members_of (here trail) table)) refl
     where
       along : (s : Step)
-          → step_among forest user trail name (members_of (here trail) table) ≡ Ok s → s ≡ step
+          → step_among forest who trail name (members_of (here trail) table) ≡ Ok s → s ≡ step
           → IsGivenTrail forest (stepped trail step)
       along Up found same = subst (λ s. IsGivenTrail forest (stepped trail s)) same
           (trail-upward forest trail its)
@@ -353,7 +355,7 @@ module _ (forest : List Server) (user : Option (List ℕ)) (sound : IsForest for
           by_file false t = let no : Err PhaseError ≡ Ok step = rw t at there in absurd (cc)
 
       by_step : (r : Result Step Fault)
-          → step_among forest user trail name (members_of (here trail) table) ≡ r
+          → step_among forest who trail name (members_of (here trail) table) ≡ r
           → IsGivenTrail forest (stepped trail step)
       by_step (Err fault) t = let no : Err fault ≡ Ok step = rw t at e in absurd (cc)
       by_step (Ok s) t = along s t (arrives s (rw t at e))
@@ -374,12 +376,12 @@ trail-walked setting forest sound user trail (name ∷ names) its =
         (going_on setting forest trail r (λ next. walked setting forest user next names)).trail
     by_arrival (Err fault) e later = its
     by_arrival (Ok a) e later = later a.trail (by_step
-        (step_of forest setting.table (Some user) trail name) refl)
+        (step_of forest setting.table (Some (who_of setting user)) trail name) refl)
       where
         by_qid : (step : Step) (o : Option Qid)
             → qid_at setting.table forest (here (stepped trail step)) ≡ o
             → arrival setting forest trail step ≡ Ok a
-            → step_of forest setting.table (Some user) trail name ≡ Ok step
+            → step_of forest setting.table (Some (who_of setting user)) trail name ≡ Ok step
             → IsGivenTrail forest a.trail
         by_qid step None q t s =
             let no : Err PhaseError ≡ Ok a = rw q at t in absurd (cc)
@@ -388,10 +390,10 @@ trail-walked setting forest sound user trail (name ∷ names) its =
             rw q at t in
             let same : stepped trail step ≡ a.trail = cc in
             subst (IsGivenTrail forest) same
-            (trail-stepped forest (Some user) sound setting.table trail name step its s)
+            (trail-stepped forest (Some (who_of setting user)) sound setting.table trail name step its s)
 
         by_step : (r : Result Step Fault)
-            → step_of forest setting.table (Some user) trail name ≡ r
+            → step_of forest setting.table (Some (who_of setting user)) trail name ≡ r
             → IsGivenTrail forest a.trail
         by_step (Err fault) t = let no : Err fault ≡ Ok a = rw t at e in absurd (cc)
         by_step (Ok step) t =

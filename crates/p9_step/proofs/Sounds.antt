@@ -50,8 +50,8 @@ kept-answer setting forest taken session now (Tversion msize version) ready fit 
 kept-answer setting forest taken session now (Tauth afid uname aname) ready fit =
     done-err (Kept setting forest) _ refl
 kept-answer setting forest taken session now (Tattach fid afid uname aname) ready fit =
-    done-map (AttachDone setting forest session fid uname) (Kept setting forest) _
-    (λ o. kept-attach setting forest session now ready fid uname o fit.0)
+    done-map (AttachDone setting forest session fid uname aname) (Kept setting forest) _
+    (λ o. kept-attach setting forest session now ready fid uname aname o fit.0)
     (attach-done setting forest session fid afid uname aname)
 kept-answer setting forest taken session now (Tflush oldtag) ready fit =
     done-ok (Kept setting forest) _

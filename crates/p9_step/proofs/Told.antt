@@ -7,7 +7,7 @@ use Rattle.std.specs.List.{list_any}
 use Rattle.std.specs.Prelude.{codes, nat_le, not, slice_get, unwrap_or, ◌&&◌, ◌==◌}
 use Rattle.std.specs.Str.{bytes_eq}
 use Rattle.p9_base.specs.Mode.{bit, kind_bits, mode_bits, qid_kind, rights_bits}
-use Rattle.p9_base.specs.Name.{is_name}
+use Rattle.p9_base.specs.Name.{is_name, name_max}
 use Rattle.p9_base.specs.Text.{is_text}
 use Rattle.p9_base.specs.User.{is_user}
 use Rattle.p9_base.specs.declared.mode.Kind.{Kind}
@@ -20,7 +20,7 @@ use Rattle.p9_tree.specs.Forest.{IsForest, next_of, no_server, node_of}
 use Rattle.p9_tree.specs.Node.{Node, root_name}
 use Rattle.p9_tree.specs.Server.{IsSound, Server}
 use Rattle.p9_wire.specs.Fields.{FitsStat, FitsText, QidNumbersFit, StatNumbersFit, stat_len}
-use Rattle.p9_step.specs.Qid.{qid_of, stat_of}
+use Rattle.p9_step.specs.Qid.{qid_of, stat_max, stat_of}
 use Rattle.p9_step.proofs.Lawful.{node-sound}
 use Rattle.p9_step.proofs.NodeRefs.{node_of-given}
 
@@ -117,12 +117,12 @@ user_fits user is =
     let le : length user ≤ 63 = grind (arith, nat_tests, second.1) in
     (record { short = omega arith; valid = first.1 }, le)
 
-name_fits : (n : Node) → IsSound n → FitsText n.name × (length n.name ≤ 255)
+name_fits : (n : Node) → IsSound n → FitsText n.name × (length n.name ≤ name_max)
 name_fits n sound = go n.parent refl
   where
-    of_root : n.name ≡ root_name → FitsText n.name × (length n.name ≤ 255)
+    of_root : n.name ≡ root_name → FitsText n.name × (length n.name ≤ name_max)
     of_root is =
-        subst (λ name. FitsText name × (length name ≤ 255)) (sym is) (
+        subst (λ name. FitsText name × (length name ≤ name_max)) (sym is) (
           record {
             short = omega arith;
             valid = is_text-ascii root_name refl refl;
@@ -130,26 +130,26 @@ name_fits n sound = go n.parent refl
           omega arith,
         )
 
-    of_entry : IsTrue (is_name n.name) → FitsText n.name × (length n.name ≤ 255)
+    of_entry : IsTrue (is_name n.name) → FitsText n.name × (length n.name ≤ name_max)
     of_entry is =
-        let sizes = nat_le 1 (length n.name) && nat_le (length n.name) 255 in
+        let sizes = nat_le 1 (length n.name) && nat_le (length n.name) name_max in
         let first =
         and_parts (sizes && is_text n.name && not (list_any (λ b. b == 47) n.name))
         (not (bytes_eq n.name (codes ".") || bytes_eq n.name (codes ".."))) is in
         let second =
         and_parts (sizes && is_text n.name) (not (list_any (λ b. b == 47) n.name)) first.0 in
         let third = and_parts sizes (is_text n.name) second.0 in
-        let fourth = and_parts (nat_le 1 (length n.name)) (nat_le (length n.name) 255) third.0 in
-        let le : length n.name ≤ 255 = grind (arith, nat_tests, fourth.1) in
+        let fourth = and_parts (nat_le 1 (length n.name)) (nat_le (length n.name) name_max) third.0 in
+        let le : length n.name ≤ name_max = grind (arith, nat_tests, fourth.1) in
         (record { short = omega arith; valid = third.1 }, le)
 
-    go : (o : Option ℕ) → n.parent ≡ o → FitsText n.name × (length n.name ≤ 255)
+    go : (o : Option ℕ) → n.parent ≡ o → FitsText n.name × (length n.name ≤ name_max)
     go None e = of_root (sound.root_name e)
     go (Some p) e = of_entry (sound.valid_name p e)
 
 -- so does its stat
 pub stat_fits : (at : NodeRef) (n : Node) → IsSound n
-    → FitsStat (stat_of at n) × (stat_len (stat_of at n) ≤ 493)
+    → FitsStat (stat_of at n) × (stat_len (stat_of at n) ≤ stat_max)
 stat_fits at n sound =
     let name = name_fits n sound in
     let uid = user_fits n.uid sound.tellable.0.0 in

@@ -27,7 +27,7 @@ use Rattle.p9_space.specs.Walk.{is_alive, is_alive_dir}
 use Rattle.p9_wire.specs.Message.{RMessage, Rcreate}
 use Rattle.p9_fids.specs.Fid.{Fid, changed_fid, fid_at}
 use Rattle.p9_step.specs.declared.opening.Opening.{Opening}
-use Rattle.p9_step.specs.State.{Setting, Session, room_of}
+use Rattle.p9_step.specs.State.{Setting, Session, room_of, who_of}
 use Rattle.p9_step.specs.Answer.{Answer}
 use Rattle.p9_step.specs.Change.{AddNode, EditNode, Mark}
 use Rattle.p9_step.specs.Inherit.{inherited}
@@ -82,21 +82,22 @@ creation forest session now fid v target dir name asked opening =
     })
 
 -- why the fid's user can't make a node of the name in the directory
-abbrev pub fault_in : List Server → Fid → List ℕ → NodeRef → Node → Option Fault
-fault_in forest v name target dir =
+abbrev pub fault_in : Setting → List Server → Fid → List ℕ → NodeRef → Node → Option Fault
+fault_in setting forest v name target dir =
     if not (is_dir dir) then Some NotDirectory
-    else if not (may v.user dir to_write) then Some PermissionDenied
+    else if not (may (who_of setting v.user) dir to_write) then Some PermissionDenied
     else if is_some (child_in target name forest) then Some FileExists
     else if nat_le next_max (next_of target.server forest) then Some QidsUsedUp
     else if nat_le places_max (length v.trail) then Some PathTooDeep
     else None
 
 -- the node is made in this directory, if nothing there refuses it
-abbrev pub created_in : List Server → Session → ℕ → ℕ → Fid → List ℕ → Mode → Opening → NodeRef
+abbrev pub created_in : Setting → List Server → Session → ℕ → ℕ → Fid → List ℕ → Mode → Opening
+    → NodeRef
     → Answer
-created_in forest session now fid v name asked opening target =
+created_in setting forest session now fid v name asked opening target =
     given (node_of target forest) PhaseError (λ dir.
-    unless (fault_in forest v name target dir) (
+    unless (fault_in setting forest v name target dir) (
     creation forest session now fid v target dir name asked opening))
 
 -- the tests in their order, up to the directory
@@ -109,7 +110,7 @@ create_answer setting forest session now fid name perm bits =
     given (mode_of perm) BadOpenMode (λ asked.
     need (not (is_dir_mode asked) || is_plain_read opening) IsDirectory (
     and_then (target_among forest (members_of (here v.trail) setting.table)) (
-    created_in forest session now fid v name asked opening)))))))
+    created_in setting forest session now fid v name asked opening)))))))
 
 -- what is told of a file that was made
 abbrev pub create_reply : Qid × ℕ → RMessage

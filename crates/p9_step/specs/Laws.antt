@@ -1,11 +1,11 @@
 -- What the laws of steps, of replies and of runs say.
-use Rattle.std.specs.Prelude.{◌≡◌, ℕ, ◌≤◌, ◌++◌, ◌&&◌, Bool, List, Some, Result, Ok, IsTrue, length}
-use Rattle.std.specs.Prelude.{unwrap_or}
+use Rattle.std.specs.Prelude.{◌≡◌, ℕ, ◌+◌, ◌≤◌, ◌++◌, ◌&&◌, Bool, List, Some, Result, Ok, IsTrue}
+use Rattle.std.specs.Prelude.{length, unwrap_or}
 use Rattle.std.specs.List.{AllByRecursion}
 use Rattle.p9_base.specs.declared.fault.Fault.{Fault}
 use Rattle.p9_base.specs.declared.fault.Fault.TheVariants.{OutOfMemory}
-use Rattle.p9_base.specs.Fault.{text_of}
-use Rattle.p9_wire.specs.Frame.{is_frame}
+use Rattle.p9_base.specs.Fault.{fault_text_max, text_of}
+use Rattle.p9_wire.specs.Frame.{header, is_frame}
 use Rattle.p9_wire.specs.Laws.{IsBytes}
 use Rattle.p9_wire.specs.Message.{RMessage, Rerror, TMessage, Tremove}
 use Rattle.p9_wire.specs.Spelling.{RSpells}
@@ -39,10 +39,13 @@ pub record IsRunOfBoth (state : State) (events others : List Marked) : Type 0 wh
 abbrev pub RunGoesOn : Type 0
 RunGoesOn = (state : State) (events others : List Marked) → IsRunOfBoth state events others
 
--- the most bytes that a reply has: the session's msize; before a version 43, which each refusal
--- needs at most
+-- the most bytes of a refusal: its header, the length of its text, and the text
+abbrev pub refusal_max : ℕ
+refusal_max = header + 2 + fault_text_max
+
+-- the most bytes that a reply has: the session's msize; before a version those of a refusal
 abbrev pub reply_max : Session → ℕ
-reply_max session = unwrap_or session.msize 43
+reply_max session = unwrap_or session.msize refusal_max
 
 -- the state without one fid of a session
 abbrev pub without_fid_of : ℕ → Session → ℕ → State → State

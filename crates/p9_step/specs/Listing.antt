@@ -7,7 +7,7 @@ use Rattle.p9_tree.specs.Node.{Node, is_dir}
 use Rattle.p9_tree.specs.Server.{Server}
 use Rattle.p9_tree.specs.Forest.{children_of, node_of}
 use Rattle.p9_space.specs.declared.row.Member.{Member}
-use Rattle.p9_space.specs.Rights.{may, to_read}
+use Rattle.p9_space.specs.Rights.{Who, may, to_read}
 use Rattle.p9_space.specs.Table.{MountRow, members_of}
 use Rattle.p9_fids.specs.declared.opened.Cursor.{Cursor}
 
@@ -21,11 +21,11 @@ pub record Entry : Type 0 where
 abbrev pub entry_at : ℕ → NodeRef → Node → Entry
 entry_at position member n = record { position = position; member = member; node = n }
 
-module _ (forest : List Server) (user : List ℕ) where
+module _ (forest : List Server) (who : Who) where
   -- an alive directory that the user may read; the first member without this test
   abbrev pub is_listed : ℕ → Member → Bool
   is_listed position m =
-      option_map_or (λ n. is_dir n && (position == 0 || may user n to_read)) (node_of m.node forest)
+      option_map_or (λ n. is_dir n && (position == 0 || may who n to_read)) (node_of m.node forest)
       false
 
   -- the entries of the member at the position
@@ -40,8 +40,8 @@ module _ (forest : List Server) (user : List ℕ) where
   entries_from position (m ∷ ms) = entries_of position m ++ entries_from (suc position) ms
 
 -- all entries of a place; repeated names stay
-abbrev pub listing : List MountRow → List Server → List ℕ → NodeRef → List Entry
-listing table forest user place = entries_from forest user 0 (members_of place table)
+abbrev pub listing : List MountRow → List Server → Who → NodeRef → List Entry
+listing table forest who place = entries_from forest who 0 (members_of place table)
 
 -- the entry stands behind the last one that was given
 abbrev pub is_behind : Option Cursor → Entry → Bool
@@ -51,14 +51,14 @@ is_behind cursor e =
     cursor true
 
 -- the entries that are still to be given
-abbrev pub listing_behind : Option Cursor → List MountRow → List Server → List ℕ → NodeRef
+abbrev pub listing_behind : Option Cursor → List MountRow → List Server → Who → NodeRef
     → List Entry
-listing_behind cursor table forest user place =
-    filter (is_behind cursor) (listing table forest user place)
+listing_behind cursor table forest who place =
+    filter (is_behind cursor) (listing table forest who place)
 
 -- the same of these members
-abbrev pub left_of : List Server → List ℕ → Option Cursor → List Member → List Entry
-left_of forest user cursor members = filter (is_behind cursor) (entries_from forest user 0 members)
+abbrev pub left_of : List Server → Who → Option Cursor → List Member → List Entry
+left_of forest who cursor members = filter (is_behind cursor) (entries_from forest who 0 members)
 
 -- where the entry stands
 abbrev pub cursor_of : Entry → Cursor

@@ -14,12 +14,12 @@ use Rattle.p9_base.specs.declared.qid.Qid.{Qid}
 use Rattle.p9_base.specs.Results.{given, need}
 use Rattle.p9_tree.specs.Node.{Node, is_dir}
 use Rattle.p9_tree.specs.Server.{Server}
-use Rattle.p9_space.specs.Rights.{may}
+use Rattle.p9_space.specs.Rights.{Who, may}
 use Rattle.p9_space.specs.Table.{MountRow}
 use Rattle.p9_wire.specs.Message.{RMessage, Ropen}
 use Rattle.p9_fids.specs.Fid.{changed_fid, fid_at, open_count, opened_as}
 use Rattle.p9_step.specs.declared.opening.Opening.{Opening}
-use Rattle.p9_step.specs.State.{Setting, Session, SessionRow, fid_file, fid_ref, room_of}
+use Rattle.p9_step.specs.State.{Setting, Session, SessionRow, fid_file, fid_ref, room_of, who_of}
 use Rattle.p9_step.specs.Answer.{Answer}
 use Rattle.p9_step.specs.Change.{Change, Cut, EditNode, Mark, edited}
 use Rattle.p9_step.specs.Opening.{is_plain_read, newly_opened, opening_of, wanted_by}
@@ -50,10 +50,10 @@ is_in_use table at sessions =
     list_any (λ session. nat_lt 0 (open_count table at session.fids)) (values_of sessions)
 
 -- each right that the mode asks for, and to remove on close, to change the file's directory
-abbrev pub may_open : List ℕ → List Server → NodeRef → Node → Opening → Bool
-may_open user forest at n opening =
-    may user n (wanted_by opening)
-    && (not opening.remove_on_close || may_write_parent user forest at n)
+abbrev pub may_open : Who → List Server → NodeRef → Node → Opening → Bool
+may_open who forest at n opening =
+    may who n (wanted_by opening)
+    && (not opening.remove_on_close || may_write_parent who forest at n)
 
 -- the opening truncates the file; one that is append-only stays
 abbrev pub is_cut : Node → Opening → Bool
@@ -93,7 +93,7 @@ open_answer setting forest taken session now fid bits =
     given (opening_of bits) BadOpenMode (λ opening.
     need (not (is_dir n) || is_plain_read opening) IsDirectory (
     let at = fid_ref setting.table v in
-    need (may_open v.user forest at n opening) PermissionDenied (
+    need (may_open (who_of setting v.user) forest at n opening) PermissionDenied (
     need (not taken) ExclusiveUse (
     Ok (record {
       changes = truncation v.user now at n opening;

@@ -17,7 +17,7 @@ use Rattle.p9_fids.specs.declared.opened.Cursor.{Cursor}
 use Rattle.p9_fids.specs.declared.opened.Opened.{Opened}
 use Rattle.p9_fids.specs.Fid.{Fid, changed_fid, fid_at, opened_as}
 use Rattle.p9_fids.specs.Opened.{reads}
-use Rattle.p9_step.specs.State.{Setting, Session, fid_file, fid_ref, room_of}
+use Rattle.p9_step.specs.State.{Setting, Session, fid_file, fid_ref, room_of, who_of}
 use Rattle.p9_step.specs.Answer.{Answer}
 use Rattle.p9_step.specs.Change.{EditNode, Touch}
 use Rattle.p9_step.specs.Listing.{Entry, cursor_of, listing_behind}
@@ -88,7 +88,7 @@ given_of session fid opened offset cursor left given = listed session fid opened
 abbrev pub read_dir : Setting → List Server → Session → ℕ → Fid → Opened → ℕ → ℕ → Answer
 read_dir setting forest session fid v opened offset room =
     let cursor = cursor_at offset opened in
-    let left = listing_behind cursor setting.table forest v.user (here v.trail) in
+    let left = listing_behind cursor setting.table forest (who_of setting v.user) (here v.trail) in
     need (offset == 0 || offset == opened.next_offset) BadDirectoryOffset (
     given_of session fid opened offset cursor left (fitting room left))
 

@@ -7,7 +7,7 @@ use Rattle.p9_tree.specs.Server.{Server}
 use Rattle.p9_tree.specs.Forest.{has_children_of}
 use Rattle.p9_wire.specs.Message.{Rremove}
 use Rattle.p9_fids.specs.Fid.{Fid, fid_at}
-use Rattle.p9_step.specs.State.{Setting, Session, fid_file, fid_ref}
+use Rattle.p9_step.specs.State.{Setting, Session, fid_file, fid_ref, who_of}
 use Rattle.p9_step.specs.Answer.{Answer, outcome_of}
 use Rattle.p9_step.specs.Clunk.{without}
 use Rattle.p9_step.specs.End.{taken_out}
@@ -19,7 +19,7 @@ removal setting forest left now v =
     given (fid_file setting.table forest v) PhaseError (λ n.
     let at = fid_ref setting.table v in
     need (is_some n.parent) IsRoot (
-    need (may_write_parent v.user forest at n) PermissionDenied (
+    need (may_write_parent (who_of setting v.user) forest at n) PermissionDenied (
     need (not (has_children_of at forest)) NotEmpty (
     Ok (record { changes = taken_out v.user now at n; session = left; reply = Rremove })))))
 

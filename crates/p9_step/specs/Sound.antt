@@ -1,6 +1,7 @@
 -- What holds of every state that the exporter comes to.
 use Rattle.std.specs.Prelude.{◌≡◌, ℕ, ◌<◌, ◌≤◌, false, List, Option, Some, None, IsTrue}
 use Rattle.std.specs.List.{AllByRecursion, list_all}
+use Rattle.p9_base.specs.Group.{are_groups}
 use Rattle.p9_base.specs.Rising.{IsRising}
 use Rattle.p9_base.specs.User.{is_listed_user, is_user}
 use Rattle.p9_tree.specs.Node.{Node, is_dir}
@@ -52,9 +53,11 @@ pub record IsSession (setting : Setting) (forest : List Server) (session : Sessi
   pub fids : IsFids session.fids
   pub each : AllByRecursion (λ row. IsFid setting forest row.1) session.fids
 
--- of what no event changes: whom it lists are users, and no row of the mount table is empty
+-- of what no event changes: whom it lists are users, each group has a name that a user may have,
+-- and -- no row of the mount table is empty
 pub record IsSetting (setting : Setting) : Type 0 where
   pub users : IsTrue (list_all is_user setting.users)
+  pub groups : IsTrue (are_groups setting.groups)
   pub table : IsTable setting.table
 
 -- of the sessions by a setting and a forest: the table names only nodes that were made, and the

@@ -4,10 +4,12 @@ use Rattle.std.specs.Map.{lookup, remove_entry, set_value}
 use Rattle.std.specs.Ordering.{nat_cmp}
 use Rattle.std.specs.BTreeMap.{insert_entry, is_at}
 use Rattle.std.specs.Option.{option_map_or}
+use Rattle.p9_base.specs.Group.{GroupRow}
 use Rattle.p9_base.specs.declared.node_ref.NodeRef.{NodeRef}
 use Rattle.p9_tree.specs.Node.{Node}
 use Rattle.p9_tree.specs.Server.{Server}
 use Rattle.p9_space.specs.Place.{file_of, file_ref}
+use Rattle.p9_space.specs.Rights.{Who}
 use Rattle.p9_space.specs.Table.{MountRow}
 use Rattle.p9_space.specs.Trail.{here}
 use Rattle.p9_fids.specs.Fid.{Fid, FidRow}
@@ -15,7 +17,12 @@ use Rattle.p9_fids.specs.Fid.{Fid, FidRow}
 -- what no event changes
 pub record Setting : Type 0 where
   pub users : List (List ℕ)
+  pub groups : List GroupRow
   pub table : List MountRow
+
+-- a user, with the groups
+abbrev pub who_of : Setting → List ℕ → Who
+who_of setting user = record { user = user; groups = setting.groups }
 
 -- a session has an msize once its version is set, and its fids by rising number
 pub record Session : Type 0 where

@@ -13,7 +13,7 @@ use Rattle.p9_space.specs.Trail.{here, stepped}
 use Rattle.p9_space.specs.Walk.{step_of}
 use Rattle.p9_wire.specs.Message.{Rwalk}
 use Rattle.p9_fids.specs.Fid.{Fid, FidRow, changed_fid, fid_at, put_fault, trailed, with_fid, nofid}
-use Rattle.p9_step.specs.State.{Setting, Session}
+use Rattle.p9_step.specs.State.{Setting, Session, who_of}
 use Rattle.p9_step.specs.Answer.{Answer}
 use Rattle.p9_step.specs.Qid.{qid_at}
 
@@ -40,7 +40,8 @@ module _ (setting : Setting) (forest : List Server) where
   -- one step by a name
   abbrev pub arrived_by : List ℕ → List NodeRef → List ℕ → Result Arrival Fault
   arrived_by user trail name =
-      and_then (step_of forest setting.table (Some user) trail name) (arrival trail)
+      and_then (step_of forest setting.table (Some (who_of setting user)) trail name)
+      (arrival trail)
 
   -- ends where a step is refused, else goes on
   abbrev pub going_on : List NodeRef → Result Arrival Fault → (List NodeRef → Walked) → Walked

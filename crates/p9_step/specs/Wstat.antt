@@ -20,10 +20,10 @@ use Rattle.p9_tree.specs.Node.{Node, is_dir}
 use Rattle.p9_tree.specs.Server.{Server}
 use Rattle.p9_tree.specs.Forest.{child_in}
 use Rattle.p9_tree.specs.declared.change.Change.{Change as NodeChange}
-use Rattle.p9_space.specs.Rights.{may, rules, to_write}
+use Rattle.p9_space.specs.Rights.{Who, may, rules, to_write}
 use Rattle.p9_wire.specs.Message.{Rwstat, StatFields}
 use Rattle.p9_fids.specs.Fid.{fid_at}
-use Rattle.p9_step.specs.State.{Setting, Session, fid_file, fid_ref}
+use Rattle.p9_step.specs.State.{Setting, Session, fid_file, fid_ref, who_of}
 use Rattle.p9_step.specs.Answer.{Answer}
 use Rattle.p9_step.specs.Change.{Change, EditNode, Rewrite}
 use Rattle.p9_step.specs.End.{parent_marked}
@@ -107,44 +107,45 @@ has_sibling forest at n name =
     option_map_or (λ parent. is_some (child_in (beside at parent) name forest)) n.parent false
 
 -- a name is not for a root, is valid, and new in a directory that the user may write
-abbrev pub name_fault : List ℕ → List Server → NodeRef → Node → List ℕ → Option Fault
-name_fault user forest at n name =
+abbrev pub name_fault : Who → List Server → NodeRef → Node → List ℕ → Option Fault
+name_fault who forest at n name =
     if is_none n.parent then Some IsRoot
     else if not (is_name name) then Some BadFileName
-    else if not (may_write_parent user forest at n) then Some PermissionDenied
+    else if not (may_write_parent who forest at n) then Some PermissionDenied
     else if has_sibling forest at n name then Some FileExists
     else None
 
 -- a length is for a file that the user may write, and not above the greatest
-abbrev pub length_fault : List ℕ → Node → ℕ → Option Fault
-length_fault user n size =
+abbrev pub length_fault : Who → Node → ℕ → Option Fault
+length_fault who n size =
     if is_dir n then Some IsDirectory
-    else if not (may user n to_write) then Some PermissionDenied
+    else if not (may who n to_write) then Some PermissionDenied
     else if nat_lt file_max size then Some FileTooLarge
     else None
 
 -- mode and mtime are for who rules the file
-abbrev pub ruling_fault : {X : Type 0} → List ℕ → Node → X → Option Fault
-ruling_fault user n touched = if rules user n then None else Some PermissionDenied
+abbrev pub ruling_fault : {X : Type 0} → Who → Node → X → Option Fault
+ruling_fault who n touched = if rules who n then None else Some PermissionDenied
 
 -- a file is given to a group by its owner, who is a member of it, or by the leader of both groups
-abbrev pub may_give : List ℕ → Node → List ℕ → Bool
-may_give user n gid =
-    bytes_eq n.uid user && is_member gid user || leads n.gid user && leads gid user
+abbrev pub may_give : Who → Node → List ℕ → Bool
+may_give who n gid =
+    bytes_eq n.uid who.user && is_member who.groups gid who.user
+    || leads who.groups n.gid who.user && leads who.groups gid who.user
 
 -- a group is one that the user may give the file to
-abbrev pub gid_fault : List ℕ → Node → List ℕ → Option Fault
-gid_fault user n gid = if may_give user n gid then None else Some PermissionDenied
+abbrev pub gid_fault : Who → Node → List ℕ → Option Fault
+gid_fault who n gid = if may_give who n gid then None else Some PermissionDenied
 
 -- the first that forbids it
-abbrev pub wstat_fault : List ℕ → List Server → NodeRef → Node → Touched → Option Fault
-wstat_fault user forest at n t =
+abbrev pub wstat_fault : Who → List Server → NodeRef → Node → Touched → Option Fault
+wstat_fault who forest at n t =
     option_or (option_and_then (mode_fault n) t.mode) (
-    option_or (option_and_then (name_fault user forest at n) t.name) (
-    option_or (option_and_then (length_fault user n) t.length) (
-    option_or (option_and_then (ruling_fault user n) t.mode) (
-    option_or (option_and_then (ruling_fault user n) t.mtime) (
-    option_and_then (gid_fault user n) t.gid)))))
+    option_or (option_and_then (name_fault who forest at n) t.name) (
+    option_or (option_and_then (length_fault who n) t.length) (
+    option_or (option_and_then (ruling_fault who n) t.mode) (
+    option_or (option_and_then (ruling_fault who n) t.mtime) (
+    option_and_then (gid_fault who n) t.gid)))))
 
 -- What is changed, all at once.
 
@@ -176,5 +177,5 @@ wstat_answer setting forest session now fid wanted =
     let there = stat_of at n in
     let t = touched_of there wanted in
     need (not (touches_fixed there wanted)) FixedField (
-    unless (wstat_fault v.user forest at n t) (
+    unless (wstat_fault (who_of setting v.user) forest at n t) (
     Ok (record { changes = rewriting v.user now at n t; session = session; reply = Rwstat })))))

@@ -56,7 +56,7 @@ module _ (s : Server) (k i : ℕ) (w : WellFormed s)
       (all_pairs_remove (λ m n. m.number < n.number) s.nodes i (position_within k s.nodes i found).1
       w.rising)
 
-  WellFormed-dropped : WellFormed (with_dropped k s)
+  pub WellFormed-dropped : WellFormed (with_dropped k s)
   WellFormed-dropped = record {
     few = w.few;
     rising = rising_stays;

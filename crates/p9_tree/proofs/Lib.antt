@@ -6,4 +6,4 @@ pub mod Changed
 pub mod Renewed
 pub mod Dropped
 pub mod ForestLemmas
-mod Rooted
+pub mod Rooted

@@ -4,7 +4,7 @@ use Rattle.p9_base.specs.Text.{padded}
 
 -- the most bytes that a file has
 abbrev pub file_max : ℕ
-file_max = 1048576
+file_max = 16777216
 
 -- up to count bytes from the offset on, as many as are there
 abbrev pub read_from : ℕ → ℕ → List ℕ → List ℕ

@@ -9,7 +9,7 @@ use std::alloc::Allocator;
 use std::marker::Model;
 
 /// The most bytes that a file has.
-pub const FILE_MAX: usize = 1_048_576;
+pub const FILE_MAX: usize = 16_777_216;
 
 /// The bytes of a file, seen as their list.
 #[derive(Drop)]

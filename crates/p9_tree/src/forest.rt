@@ -21,7 +21,7 @@ use crate::tree::Tree;
 use p9_base::{Name, NoMemory, NodeRef, User};
 
 /// The trees of all servers. A tree's position is its server's number, which has 16 bits, so there
-/// are at most 65,536. There may be none.
+/// are at most [`p9_base::SERVERS_MAX`]. There may be none.
 #[derive(Drop)]
 pub struct Forest<T: Tree> {
     pub trees: Vec<T, T::Alloc>,
@@ -174,8 +174,8 @@ impl<T: Tree> Forest<T> {
         }
     }
 
-    /// A forest has at most 65,536 servers, and each is well-formed. This does nothing when it
-    /// runs; it is for a caller that has to know so.
+    /// A forest has at most [`p9_base::SERVERS_MAX`] servers, and each is well-formed. This does
+    /// nothing when it runs; it is for a caller that has to know so.
     pub fn well_formed(&self)
         ensures { IsForest (map T.state self.now.trees.items) }
     {

@@ -17,6 +17,6 @@ pub use bytes::FILE_MAX;
 pub use change::Change;
 pub use forest::Forest;
 pub use new::New;
-pub use node::Node;
+pub use node::{Entry, Node};
 pub use plain::PlainTree;
 pub use tree::{NEXT_MAX, Tree};

@@ -1,20 +1,21 @@
 //! A file or directory of a server.
 
 ghost use Rattle.std.specs.Prelude.{◌≡◌, ◌≢◌, ◌+◌, ◌≤◌, ◌&&◌, IsTrue, IfOk, IsSome, OnOk, OnErr};
-ghost use Rattle.std.specs.Prelude.{length, unwrap_or};
-ghost use Rattle.std.specs.Option.{ForSome};
-ghost use Rattle.p9_base.specs.Name.{is_name};
+ghost use Rattle.std.specs.Prelude.{codes, length, unwrap_or};
+ghost use Rattle.std.specs.Option.{ForSome, option_map};
+ghost use Rattle.p9_base.specs.Name.{is_name, name_max};
 ghost use Rattle.p9_base.specs.Text.{is_text};
 ghost use Rattle.p9_tree.specs.Bytes.{cut_to, overwritten, put_front, read_from};
 ghost use Rattle.p9_tree.specs.Change.{changed, with_length, with_mtime};
 ghost use Rattle.p9_tree.specs.New.{new_node};
 ghost use Rattle.p9_tree.specs.Node.{IsTellable, is_above, is_child, is_dir, is_in, marked};
 ghost use Rattle.p9_tree.specs.Node.{touched, with_bytes, with_owner};
+ghost use Rattle.p9_tree.specs.Server.{root_mode, root_node};
 
 use crate::bytes::{Bytes, FILE_MAX};
 use crate::change::Change;
 use crate::new::New;
-use p9_base::{Kind, Mode, Name, NoMemory, Permissions, User, valid_name};
+use p9_base::{Kind, Mode, Name, NoMemory, Permissions, Rights, User, valid_name};
 use std::alloc::Allocator;
 use std::marker::Model;
 
@@ -34,8 +35,11 @@ pub struct Node<A: Allocator> {
 }
 
 /// Where a node stands: in which directory, and under which name. The root stands nowhere.
-#[derive(Clone, Copy)]
-pub(crate) struct Entry {
+///
+/// Entries are in the order of their directories, and in a directory in that of their names.
+#[derive(Clone, Copy, PartialEq, Eq, PartialOrd, Ord)]
+pub struct Entry {
+    /// The number of the directory.
     pub parent: u64,
     pub name: Name,
 }
@@ -77,11 +81,19 @@ impl<A: Allocator> Node<A> {
         self.entry.map(|e| e.parent)
     }
 
+    /// The directory that it stands in, and its name there. The root has none.
+    pub fn entry(&self) -> Option<Entry>
+        ensures { result ≡ option_map (λ parent. record { parent = parent; name = self.now.name })
+            self.now.parent }
+    {
+        self.entry
+    }
+
     /// Its name in its directory. The root's is `/`.
     pub fn name(&self) -> &str
         ensures name { result.now ≡ self.now.name }
         ensures text { IsTrue (is_text self.now.name) }
-        ensures short { length self.now.name ≤ 255 }
+        ensures short { length self.now.name ≤ name_max }
     {
         match &self.entry {
             Some(entry) => entry.name.as_str(),
@@ -175,9 +187,29 @@ impl<A: Allocator> Node<A> {
     }
 }
 
+/// What a tree does to its nodes, whichever way it keeps them. Outside a tree a node is only read.
 impl<A: Allocator> Node<A> {
+    /// The root of a new server, of mode 755, whose owner, group and last changer are `sys`. Its
+    /// version and times are 0. This takes no memory.
+    pub fn root(alloc: A) -> Node<A>
+        ensures { result ≡ root_node }
+    {
+        Node {
+            number: 0,
+            entry: None,
+            mode: root_mode(),
+            uid: sys(),
+            gid: sys(),
+            muid: sys(),
+            version: 0,
+            atime: 0,
+            mtime: 0,
+            bytes: Bytes::new(alloc),
+        }
+    }
+
     /// A new node of this number, in the directory. Its version is 0.
-    pub(crate) fn new(alloc: A, number: u64, dir: u64, new: &New<'_>) -> Result<Node<A>, NoMemory>
+    pub fn new(alloc: A, number: u64, dir: u64, new: &New<'_>) -> Result<Node<A>, NoMemory>
         ensures node { IfOk result (λ node. node ≡ new_node number dir new.now) }
         ensures name { IsTrue (is_name new.now.name) }
         ensures tellable { IfOk result (λ node. IsTellable node) }
@@ -203,7 +235,7 @@ impl<A: Allocator> Node<A> {
     }
 
     /// Marks it, as changed by the user now: see [`Tree`](crate::Tree).
-    pub(crate) fn mark(&mut self, user: User, now: u32)
+    pub fn mark(&mut self, user: User, now: u32)
         ensures node { self.new ≡ marked user now self.old }
         ensures tellable { IsTellable self.new }
     {
@@ -215,7 +247,7 @@ impl<A: Allocator> Node<A> {
     }
 
     /// Notes that the file was read now.
-    pub(crate) fn touch(&mut self, now: u32)
+    pub fn touch(&mut self, now: u32)
         ensures node { self.new ≡ touched now self.old }
         ensures tellable { IsTellable self.new }
     {
@@ -224,7 +256,7 @@ impl<A: Allocator> Node<A> {
     }
 
     /// Makes it a directory of these permissions, owner and group, changed last by the owner.
-    pub(crate) fn give(&mut self, permissions: Permissions, uid: User, gid: User)
+    pub fn give(&mut self, permissions: Permissions, uid: User, gid: User)
         ensures node { self.new ≡ with_owner permissions uid gid self.old }
         ensures tellable { IsTellable self.new }
     {
@@ -238,8 +270,9 @@ impl<A: Allocator> Node<A> {
         self.tellable();
     }
 
-    /// Writes into the file's bytes, as [`Bytes::write`].
-    pub(crate) fn write(&mut self, offset: u64, bytes: &[u8]) -> Result<(), NoMemory>
+    /// Writes into the file's bytes at the offset, and fills a gap before it with zeros. Where
+    /// memory is refused, the node is as before.
+    pub fn write(&mut self, offset: u64, bytes: &[u8]) -> Result<(), NoMemory>
         requires { offset + length bytes.now ≤ FILE_MAX }
         ensures ok { OnOk result (self.new ≡ with_bytes (overwritten offset bytes.now) self.old) }
         ensures err { OnErr result (self.new ≡ self.old) }
@@ -248,14 +281,15 @@ impl<A: Allocator> Node<A> {
     }
 
     /// Keeps the first `size` of the file's bytes, or all where they are fewer.
-    pub(crate) fn cut(&mut self, size: u64)
+    pub fn cut(&mut self, size: u64)
         ensures { self.new ≡ with_bytes (cut_to size) self.old }
     {
         self.bytes.cut(size);
     }
 
-    /// Copies from the file's bytes into the buffer, as [`Bytes::read_into`].
-    pub(crate) fn read_into(&self, offset: u64, buffer: &mut [u8]) -> usize
+    /// Copies the file's bytes from the offset on, as many as are there and have room, over the
+    /// front of the buffer, and returns how many they are. The rest of the buffer is unchanged.
+    pub fn read_into(&self, offset: u64, buffer: &mut [u8]) -> usize
         ensures count { result ≡ length (read_from offset (length buffer.old) self.now.bytes) }
         ensures filled { buffer.new
             ≡ put_front (read_from offset (length buffer.old) self.now.bytes) buffer.old }
@@ -264,7 +298,7 @@ impl<A: Allocator> Node<A> {
     }
 
     /// Makes all of the change. Where memory is refused, the node is as before.
-    pub(crate) fn change(&mut self, change: &Change) -> Result<(), NoMemory>
+    pub fn change(&mut self, change: &Change) -> Result<(), NoMemory>
         requires named { ForSome change.now.name (λ name. IsSome self.old.parent) }
         requires small { ForSome change.now.length (λ size. size ≤ FILE_MAX) }
         ensures ok { OnOk result (self.new ≡ changed change.entry.now self.old) }
@@ -327,4 +361,33 @@ impl<A: Allocator> Node<A> {
             entry.name = name;
         }
     }
+}
+
+// The mode of a new server's root.
+fn root_mode() -> Mode
+    ensures { result ≡ root_mode }
+{
+    let read_and_search = Rights {
+        read: true,
+        write: false,
+        execute: true,
+    };
+    Mode {
+        kind: Kind::Directory,
+        permissions: Permissions {
+            owner: Rights {
+                write: true,
+                ..read_and_search
+            },
+            group: read_and_search,
+            others: read_and_search,
+        },
+    }
+}
+
+// The user to whom a new server's root belongs.
+fn sys() -> User
+    ensures { result ≡ codes "sys" }
+{
+    User::new("sys").unwrap()
 }

@@ -1,15 +1,14 @@
 //! A tree as a vector of nodes.
 
-ghost use Rattle.std.specs.Prelude.{◌≡◌, codes, position};
+ghost use Rattle.std.specs.Prelude.{◌≡◌, position};
 ghost use Rattle.p9_tree.specs.Node.{has_number};
-ghost use Rattle.p9_tree.specs.Server.{Server, WellFormed, root_mode};
+ghost use Rattle.p9_tree.specs.Server.{Server, WellFormed};
 
-use crate::bytes::Bytes;
 use crate::change::Change;
 use crate::new::New;
 use crate::node::Node;
 use crate::tree::Tree;
-use p9_base::{Kind, Mode, Name, NoMemory, Permissions, Rights, User};
+use p9_base::{Name, NoMemory, Permissions, User};
 use std::alloc::Allocator;
 
 /// A tree as a vector of its nodes, by rising number. Each look-up goes over all of them.
@@ -31,18 +30,7 @@ impl<A: Allocator + Copy> Tree for PlainTree<A> {
 
     fn with_root(alloc: A) -> Result<Self, NoMemory> {
         let mut nodes = Vec::new(alloc);
-        nodes.push(Node {
-            number: 0,
-            entry: None,
-            mode: root_mode(),
-            uid: sys(),
-            gid: sys(),
-            muid: sys(),
-            version: 0,
-            atime: 0,
-            mtime: 0,
-            bytes: Bytes::new(alloc),
-        })?;
+        nodes.push(Node::root(alloc))?;
         Ok(PlainTree {
             alloc,
             nodes,
@@ -135,33 +123,4 @@ impl<A: Allocator + Copy> PlainTree<A> {
     {
         self.nodes.iter().position(|n| n.number() == number)
     }
-}
-
-// The mode of a new server's root.
-fn root_mode() -> Mode
-    ensures { result ≡ root_mode }
-{
-    let read_and_search = Rights {
-        read: true,
-        write: false,
-        execute: true,
-    };
-    Mode {
-        kind: Kind::Directory,
-        permissions: Permissions {
-            owner: Rights {
-                write: true,
-                ..read_and_search
-            },
-            group: read_and_search,
-            others: read_and_search,
-        },
-    }
-}
-
-// The user to whom a new server's root belongs.
-fn sys() -> User
-    ensures { result ≡ codes "sys" }
-{
-    User::new("sys").unwrap()
 }

@@ -4,7 +4,8 @@ use crate::growths::grow;
 use crate::looks::look;
 use crate::words::{take_number, take_time, take_word, user};
 use p9_base::{NoMemory, NodeRef};
-use p9_tree::{Forest, Tree};
+use p9_index::IndexTree;
+use p9_tree::{Forest, PlainTree, Tree};
 use std::alloc::{AllocError, Global};
 use std::process::Abort;
 
@@ -40,6 +41,12 @@ pub fn plays<T: Tree>(
     Ok(())
 }
 
+/// Makes them over a vector of nodes, and over ordered maps.
+pub fn plays_in_both(rt: &impl Abort, alloc: Global, lines: &str) -> Result<(), NoMemory> {
+    plays::<PlainTree<Global>>(rt, alloc, alloc, lines)?;
+    plays::<IndexTree<Global>>(rt, alloc, alloc, lines)
+}
+
 /// Makes the call, or the look, of a line.
 pub fn make<T: Tree>(
     rt: &impl Abort,
@@ -49,7 +56,7 @@ pub fn make<T: Tree>(
 ) -> Result<(), NoMemory> {
     match line.split_once(" = ") {
         Some((words, want)) => {
-            let told = told(rt, telling, forest, words).expect(rt, "memory");
+            let told = tell(rt, telling, forest, words).expect(rt, "memory");
             assert_eq!(rt; told.as_str(), want, "{words}");
             Ok(())
         }
@@ -57,7 +64,8 @@ pub fn make<T: Tree>(
     }
 }
 
-fn told<T: Tree>(
+/// What the look of a line finds.
+pub fn tell<T: Tree>(
     rt: &impl Abort,
     telling: Global,
     forest: &Forest<T>,

@@ -14,8 +14,8 @@ use p9_tree::{Change, FILE_MAX, Forest, Node, Tree};
 use std::alloc::Allocator;
 use std::process::Abort;
 
-/// A wstat of rob's at the time 7, of a line: new name, mode, group, length and time of change. What
-/// is `-` stays.
+/// A wstat of rob's at the time 7, of a line: new name, mode, group, length and time of change.
+/// What is `-` stays.
 pub fn take_change(rt: &impl Abort, line: &mut &str) -> Change {
     Change {
         name: take_given(line).and_then(Name::new),

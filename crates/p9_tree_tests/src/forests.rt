@@ -1,8 +1,6 @@
 //! The calls of a forest go to the tree of a node's server.
 
-use crate::calls::plays;
-use p9_tree::PlainTree;
-use std::alloc::Global;
+use crate::calls::plays_in_both;
 use std::test::Fail;
 
 // Where there is no such server, there is nothing.
@@ -17,7 +15,7 @@ fn forest_finds_each_node(rt: HostRuntime) -> Result<(), Fail> {
 1 after 1 2 = 3 Some(1) f 1a4 glenda glenda glenda 0 0 0 [hi]
 2 node 0 = none
 2 after 0 - = none";
-    plays::<PlainTree<Global>>(&rt, rt.alloc(), rt.alloc(), lines)?;
+    plays_in_both(&rt, rt.alloc(), lines)?;
     Ok(())
 }
 
@@ -31,7 +29,7 @@ fn forest_changes_nodes(rt: HostRuntime) -> Result<(), Fail> {
 2 read 0 0 2 = 0 ......
 1 node 1 = 1 Some(0) a 800001ed glenda glenda rob 1 7 7 []
 1 node 3 = 3 Some(1) f 1a4 glenda glenda glenda 0 8 0 [h]";
-    plays::<PlainTree<Global>>(&rt, rt.alloc(), rt.alloc(), lines)?;
+    plays_in_both(&rt, rt.alloc(), lines)?;
     Ok(())
 }
 
@@ -49,7 +47,7 @@ fn forest_grows_and_shrinks(rt: HostRuntime) -> Result<(), Fail> {
 1 node 4 = none
 2 write 0 0 !
 2 node 0 = none";
-    plays::<PlainTree<Global>>(&rt, rt.alloc(), rt.alloc(), lines)?;
+    plays_in_both(&rt, rt.alloc(), lines)?;
     Ok(())
 }
 
@@ -65,6 +63,6 @@ fn forest_makes_a_wstat(rt: HostRuntime) -> Result<(), Fail> {
 2 node 0 = none
 2 change 0 - - staff 3 -
 2 node 0 = none";
-    plays::<PlainTree<Global>>(&rt, rt.alloc(), rt.alloc(), lines)?;
+    plays_in_both(&rt, rt.alloc(), lines)?;
     Ok(())
 }

@@ -1,4 +1,5 @@
-//! Tests of p9_tree: what trees and forests return call by call, and where memory is refused.
+//! Tests of p9_tree and p9_index: what trees and forests return call by call, in a vector of nodes
+//! and in ordered maps, and where memory is refused.
 //!
 //! A test is a text with a call in each line, and behind `=` what is to be told of it. So a proof
 //! loads one literal, whatever a test has in it, which costs much less than a table of values.
@@ -14,6 +15,8 @@ mod forests;
 mod growths;
 #[cfg(test)]
 mod looks;
+#[cfg(test)]
+mod many;
 #[cfg(test)]
 mod nodes;
 #[cfg(test)]

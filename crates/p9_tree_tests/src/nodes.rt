@@ -1,15 +1,17 @@
 //! Nodes are found, changed, and made with numbers of their own.
 
-use crate::calls::plays;
+use crate::calls::plays_in_both;
 use crate::looks::fields;
 use crate::words::user;
 use p9_base::Permissions;
+use p9_index::IndexTree;
 use p9_tree::{PlainTree, Tree};
 use std::alloc::Global;
+use std::process::Abort;
 use std::test::Fail;
 
 #[test]
-fn plain_tree_finds_each_node(rt: HostRuntime) -> Result<(), Fail> {
+fn each_node_is_found(rt: HostRuntime) -> Result<(), Fail> {
     let lines = "\
 1 next = 4
 1 node 0 = 0 None / 800001ed sys sys sys 0 0 0 []
@@ -22,7 +24,7 @@ fn plain_tree_finds_each_node(rt: HostRuntime) -> Result<(), Fail> {
 1 node 4 = none
 1 child 0 b = none
 1 child 1 a = none";
-    plays::<PlainTree<Global>>(&rt, rt.alloc(), rt.alloc(), lines)?;
+    plays_in_both(&rt, rt.alloc(), lines)?;
     Ok(())
 }
 
@@ -34,11 +36,11 @@ fn children_come_in_order(rt: HostRuntime) -> Result<(), Fail> {
 1 after 1 2 = 3 Some(1) f 1a4 glenda glenda glenda 0 0 0 [hi]
 1 after 1 3 = none
 1 after 2 - = none";
-    plays::<PlainTree<Global>>(&rt, rt.alloc(), rt.alloc(), lines)?;
+    plays_in_both(&rt, rt.alloc(), lines)?;
     Ok(())
 }
 
-// A file of 1048576 bytes is the longest. The last read is behind its end.
+// A file of 16777216 bytes is the longest. The last read is behind its end.
 #[test]
 fn bytes_change(rt: HostRuntime) -> Result<(), Fail> {
     let lines = "\
@@ -48,12 +50,12 @@ fn bytes_change(rt: HostRuntime) -> Result<(), Fail> {
 1 node 3 = 3 Some(1) f 1a4 glenda glenda glenda 0 0 0 [h]
 1 write 3 3 !
 1 node 3 = 3 Some(1) f 1a4 glenda glenda glenda 0 0 0 [h\0\0!]
-1 write 3 1048575 *
-1 length 3 = 1048576
+1 write 3 16777215 *
+1 length 3 = 16777216
 1 read 3 2 3 = 3 \0!\0...
-1 read 3 1048575 6 = 1 *.....
+1 read 3 16777215 6 = 1 *.....
 1 read 3 18446744073709551615 6 = 0 ......";
-    plays::<PlainTree<Global>>(&rt, rt.alloc(), rt.alloc(), lines)?;
+    plays_in_both(&rt, rt.alloc(), lines)?;
     Ok(())
 }
 
@@ -63,21 +65,27 @@ fn a_node_is_marked_and_read(rt: HostRuntime) -> Result<(), Fail> {
 1 mark 1 7
 1 touch 1 9
 1 node 1 = 1 Some(0) a 800001ed glenda glenda rob 1 9 7 []";
-    plays::<PlainTree<Global>>(&rt, rt.alloc(), rt.alloc(), lines)?;
+    plays_in_both(&rt, rt.alloc(), lines)?;
     Ok(())
 }
 
-#[test]
-fn a_root_is_given(rt: HostRuntime) -> Result<(), Fail> {
-    let mut tree = PlainTree::with_root(rt.alloc())?;
-    let glenda = user(&rt, "glenda");
-    tree.set_root(Permissions::from_bits(0o777), glenda, user(&rt, "staff"));
-    let root = fields(rt.alloc(), tree.node(0))?;
+// The root is glenda's and staff's afterwards.
+fn gives_root<T: Tree>(rt: &impl Abort, alloc: T::Alloc, telling: Global) -> Result<(), Fail> {
+    let mut tree = T::with_root(alloc)?;
+    let glenda = user(rt, "glenda");
+    tree.set_root(Permissions::from_bits(0o777), glenda, user(rt, "staff"));
+    let root = fields(telling, tree.node(0))?;
     assert_eq!(rt;
         root.as_str(),
         "0 None / 800001ff glenda staff glenda 0 0 0 []"
     );
     Ok(())
+}
+
+#[test]
+fn a_root_is_given(rt: HostRuntime) -> Result<(), Fail> {
+    gives_root::<PlainTree<Global>>(&rt, rt.alloc(), rt.alloc())?;
+    gives_root::<IndexTree<Global>>(&rt, rt.alloc(), rt.alloc())
 }
 
 #[test]
@@ -89,6 +97,6 @@ fn numbers_are_given_once(rt: HostRuntime) -> Result<(), Fail> {
 1 node 1 = 1 Some(0) a 800001ed glenda glenda glenda 0 0 0 []
 1 add 1 f 1a4 glenda glenda glenda 0 0 hi
 1 child 1 f = 4 Some(1) f 1a4 glenda glenda glenda 0 0 0 [hi]";
-    plays::<PlainTree<Global>>(&rt, rt.alloc(), rt.alloc(), lines)?;
+    plays_in_both(&rt, rt.alloc(), lines)?;
     Ok(())
 }

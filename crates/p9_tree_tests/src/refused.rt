@@ -1,74 +1,108 @@
 //! Calls that were refused memory change nothing, and go through when made again.
 
-use crate::calls::{call, make, two_servers};
+use crate::calls::{call, make, tell, two_servers};
+use p9_index::IndexTree;
 use p9_refusing::{Refusing, refuse_each};
 use p9_tree::{Forest, PlainTree, Tree};
-use std::alloc::Global;
+use std::alloc::{AllocError, Global};
 use std::process::Abort;
 
-// The sample world as it was made.
-const BEFORE: &str = "\
-1 next = 4
-1 node 0 = 0 None / 800001ed sys sys sys 0 0 0 []
-1 node 1 = 1 Some(0) a 800001ed glenda glenda glenda 0 0 0 []
-1 node 2 = 2 Some(1) b 800001ed glenda glenda glenda 0 0 0 []
-1 node 3 = 3 Some(1) f 1a4 glenda glenda glenda 0 0 0 [hi]";
+// The files that are made in the directory 1. So many entries fill more than one node of an
+// ordered map, which then asks for memory at an entry.
+const FILES: u64 = 20;
 
-// After a write past the file's end.
-const WRITTEN: &str = "\
-1 node 3 = 3 Some(1) f 1a4 glenda glenda glenda 0 0 0 [hi there]";
+// What is told of the first file, the last one and the next at the end: each got another name and
+// more bytes, and the first was written over.
+const AT_THE_END: &str = "\
+1 next = 24
+1 node 4 = 4 Some(1) m4 1a4 glenda glenda rob 1 7 7 [hey\0\0]
+1 child 1 m23 = 23 Some(1) m23 1a4 glenda glenda rob 1 7 7 [hi\0\0\0]
+1 child 1 n4 = none
+1 after 1 22 = 23 Some(1) m23 1a4 glenda glenda rob 1 7 7 [hi\0\0\0]
+1 after 1 23 = none";
 
-// After a greater length.
-const LONGER: &str = "\
-1 next = 4
-1 node 3 = 3 Some(1) f 1a4 glenda glenda rob 1 7 7 [hi there\0\0\0\0\0\0\0\0\0\0\0\0]
-1 node 4 = none";
-
-// After a file is added.
-const ADDED: &str = "\
-1 node 4 = 4 Some(1) g 1a4 glenda glenda glenda 0 0 0 [hi]";
-
-// Each of these is told.
-fn tells<T: Tree>(rt: &impl Abort, telling: Global, forest: &mut Forest<T>, lines: &str) {
-    for line in lines.lines() {
-        assert!(rt; make(rt, telling, forest, line).is_ok());
+// All that the look-ups tell of the server 1, a line each.
+fn tell_all<T: Tree>(
+    rt: &impl Abort,
+    telling: Global,
+    forest: &Forest<T>,
+) -> Result<String, AllocError> {
+    let mut all = tell(rt, telling, forest, "1 next")?;
+    for number in 0..FILES + 5 {
+        for look in ["node", "after 1", "child 1 n", "child 1 m"] {
+            let gap = if look.starts_with("child") { "" } else { " " };
+            let words = format!(in telling; "1 {look}{gap}{number}")?;
+            let told = tell(rt, telling, forest, words.as_str())?;
+            all.push_str("\n")?;
+            all.push_str(told.as_str())?;
+        }
     }
+    Ok(all)
 }
 
-// Makes the call, again where it was refused, when all is as it was.
+// Makes the call, again where it was refused, when every look-up tells what it told before.
 fn grow<T: Tree>(
     rt: &impl Abort,
     telling: Global,
     forest: &mut Forest<T>,
-    before: &str,
     line: &str,
-) {
+) -> Result<(), AllocError> {
+    let before = tell_all(rt, telling, forest)?;
     if call(rt, forest, line).is_err() {
-        tells(rt, telling, forest, before);
+        let after = tell_all(rt, telling, forest)?;
+        assert_eq!(rt; after.as_str(), before.as_str(), "{line}");
         assert!(rt; call(rt, forest, line).is_ok());
+    }
+    Ok(())
+}
+
+// Makes the files, gives each another name and more bytes at once, and writes into one.
+fn grow_all<T: Tree>(
+    rt: &impl Abort,
+    telling: Global,
+    forest: &mut Forest<T>,
+) -> Result<(), AllocError> {
+    for number in 4..4 + FILES {
+        let line = format!(in telling; "1 add 1 n{number} 1a4 glenda glenda glenda 0 0 hi")?;
+        grow(rt, telling, forest, line.as_str())?;
+    }
+    for number in 4..4 + FILES {
+        let line = format!(in telling; "1 change {number} m{number} - - 5 -")?;
+        grow(rt, telling, forest, line.as_str())?;
+    }
+    grow(rt, telling, forest, "1 write 4 1 ey")?;
+    grow(rt, telling, forest, "1 write 5 100 !")
+}
+
+fn grows<T: Tree>(rt: &impl Abort, telling: Global, mut forest: Forest<T>) {
+    assert!(rt; grow_all(rt, telling, &mut forest).is_ok());
+    for line in AT_THE_END.lines() {
+        assert!(rt; make(rt, telling, &mut forest, line).is_ok());
     }
 }
 
-fn grow_all<T: Tree>(rt: &impl Abort, telling: Global, mut forest: Forest<T>) {
-    grow(rt, telling, &mut forest, BEFORE, "1 write 3 2  there");
-    tells(rt, telling, &mut forest, WRITTEN);
-    grow(rt, telling, &mut forest, WRITTEN, "1 change 3 - - - 20 -");
-    tells(rt, telling, &mut forest, LONGER);
-    let file = "1 add 1 g 1a4 glenda glenda glenda 0 0 hi";
-    grow(rt, telling, &mut forest, LONGER, file);
-    tells(rt, telling, &mut forest, ADDED);
-}
-
-// Each growth is refused in turn, and then goes through.
+// Each request of the growths is refused in turn. A file and its longer bytes ask for one each.
 #[test]
 fn plain_tree_is_as_before_at_each_refusal(rt: HostRuntime) {
     let memory = Refusing::new(rt.alloc());
     let refusals = refuse_each(
         &memory,
         || two_servers::<PlainTree<&Refusing<Global>>>(&rt, &memory).expect(&rt, "ample memory"),
-        |forest| grow_all(&rt, rt.alloc(), forest),
+        |forest| grows(&rt, rt.alloc(), forest),
     );
-    assert!(rt; refusals >= 3);
+    assert!(rt; refusals >= 2 * FILES);
+}
+
+// Some of the adds and some of the changes ask for a node of a map, too.
+#[test]
+fn index_tree_is_as_before_at_each_refusal(rt: HostRuntime) {
+    let memory = Refusing::new(rt.alloc());
+    let refusals = refuse_each(
+        &memory,
+        || two_servers::<IndexTree<&Refusing<Global>>>(&rt, &memory).expect(&rt, "ample memory"),
+        |forest| grows(&rt, rt.alloc(), forest),
+    );
+    assert!(rt; refusals >= 2 * FILES + 3);
 }
 
 #[test]
@@ -77,4 +111,12 @@ fn plain_tree_asks_again_for_its_root(rt: HostRuntime) {
     memory.refuse(1);
     assert!(rt; PlainTree::with_root(&memory).is_err());
     assert!(rt; PlainTree::with_root(&memory).is_ok());
+}
+
+#[test]
+fn index_tree_asks_again_for_its_root(rt: HostRuntime) {
+    let memory = Refusing::new(rt.alloc());
+    memory.refuse(1);
+    assert!(rt; IndexTree::with_root(&memory).is_err());
+    assert!(rt; IndexTree::with_root(&memory).is_ok());
 }

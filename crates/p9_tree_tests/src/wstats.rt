@@ -1,7 +1,8 @@
 //! Wstats of rob's at the time 7, of one field and of all at once.
 
-use crate::calls::plays;
+use crate::calls::{plays, plays_in_both};
 use crate::words::take_word;
+use p9_index::IndexTree;
 use p9_tree::{PlainTree, Tree};
 use std::alloc::Global;
 use std::process::Abort;
@@ -53,7 +54,29 @@ fn becomes<T: Tree>(
 fn a_file_is_changed(rt: HostRuntime) -> Result<(), Fail> {
     for row in CHANGES.lines() {
         becomes::<PlainTree<Global>>(&rt, rt.alloc(), rt.alloc(), row)?;
+        becomes::<IndexTree<Global>>(&rt, rt.alloc(), rt.alloc(), row)?;
     }
+    Ok(())
+}
+
+// The old name is free, and may be given again.
+#[test]
+fn names_are_given_again(rt: HostRuntime) -> Result<(), Fail> {
+    let lines = "\
+1 change 3 g - - - -
+1 child 1 f = none
+1 child 1 g = 3 Some(1) g 1a4 glenda glenda glenda 0 0 0 [hi]
+1 change 2 f - - - -
+1 child 1 b = none
+1 child 1 f = 2 Some(1) f 800001ed glenda glenda glenda 0 0 0 []
+1 after 1 - = 2 Some(1) f 800001ed glenda glenda glenda 0 0 0 []
+1 drop 3
+1 child 1 g = none
+1 after 1 2 = none
+1 add 2 g 1a4 glenda glenda glenda 0 0
+1 child 1 g = none
+1 child 2 g = 4 Some(2) g 1a4 glenda glenda glenda 0 0 0 []";
+    plays_in_both(&rt, rt.alloc(), lines)?;
     Ok(())
 }
 
@@ -65,6 +88,6 @@ fn directories_change(rt: HostRuntime) -> Result<(), Fail> {
 1 child 1 b = 2 Some(1) b 800001c0 glenda glenda glenda 0 0 0 []
 1 change 0 - - staff - 5
 1 node 0 = 0 None / 800001ed sys staff rob 0 0 5 []";
-    plays::<PlainTree<Global>>(&rt, rt.alloc(), rt.alloc(), lines)?;
+    plays_in_both(&rt, rt.alloc(), lines)?;
     Ok(())
 }

@@ -41,9 +41,13 @@ stat_fields s =
 abbrev pub stat_bytes : StatFields → List ℕ
 stat_bytes = sized stat_fields
 
+-- how many of these bytes are not those of the texts
+abbrev pub stat_fixed : ℕ
+stat_fixed = 49
+
 -- how many bytes these are
 abbrev pub stat_len : StatFields → ℕ
-stat_len s = 49 + length s.name + length s.uid + length s.gid + length s.muid
+stat_len s = stat_fixed + length s.name + length s.uid + length s.gid + length s.muid
 
 -- UTF-8 without NUL, of a length that two bytes hold
 pub record FitsText (s : List ℕ) : Type 0 where

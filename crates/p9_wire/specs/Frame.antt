@@ -7,7 +7,7 @@ use Rattle.p9_wire.specs.declared.frame.Frame.TheVariants.{Need, Whole, Broken}
 
 -- the greatest size of a frame
 abbrev pub msize_max : ℕ
-msize_max = 65536
+msize_max = 1048576
 
 -- the least size of a frame: that of the header
 abbrev pub header : ℕ

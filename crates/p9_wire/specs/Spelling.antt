@@ -79,6 +79,10 @@ TNumbersFit (Tremove fid) = fid < 2 ^ 32
 TNumbersFit (Tstat fid) = fid < 2 ^ 32
 TNumbersFit (Twstat fid stat) = (fid < 2 ^ 32) × StatNumbersFit stat
 
+-- how many bytes of a Twrite stand before its data
+abbrev pub write_header : ℕ
+write_header = 23
+
 -- texts are texts, lists are short, and four bytes hold the size of it all
 abbrev pub TFits : TMessage → Type 0
 TFits (Tversion msize version) = FitsText version
@@ -89,7 +93,7 @@ TFits (Twalk fid newfid names) = FitsNames names
 TFits (Topen fid mode) = Unit {0}
 TFits (Tcreate fid name perm mode) = FitsText name
 TFits (Tread fid offset count) = Unit {0}
-TFits (Twrite fid offset bytes) = 23 + length bytes < 2 ^ 32
+TFits (Twrite fid offset bytes) = write_header + length bytes < 2 ^ 32
 TFits (Tclunk fid) = Unit {0}
 TFits (Tremove fid) = Unit {0}
 TFits (Tstat fid) = Unit {0}
@@ -172,6 +176,10 @@ RNumbersFit Rremove = Unit {0}
 RNumbersFit (Rstat stat) = StatNumbersFit stat
 RNumbersFit Rwstat = Unit {0}
 
+-- how many bytes of an Rread stand before its data
+abbrev pub read_header : ℕ
+read_header = 11
+
 -- texts are texts, lists are short, and four bytes hold the size of it all
 abbrev pub RFits : RMessage → Type 0
 RFits (Rversion msize version) = FitsText version
@@ -181,7 +189,7 @@ RFits Rflush = Unit {0}
 RFits (Rwalk qids) = length qids ≤ 16
 RFits (Ropen qid iounit) = Unit {0}
 RFits (Rcreate qid iounit) = Unit {0}
-RFits (Rread bytes) = 11 + length bytes < 2 ^ 32
+RFits (Rread bytes) = read_header + length bytes < 2 ^ 32
 RFits (Rwrite count) = Unit {0}
 RFits Rclunk = Unit {0}
 RFits Rremove = Unit {0}

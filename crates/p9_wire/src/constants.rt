@@ -2,7 +2,7 @@
 //! have their names from the header file of fcall(2).
 
 /// The greatest number of bytes in a frame, its size among them. An msize is at most this.
-pub const MSIZE_MAX: u32 = 65_536;
+pub const MSIZE_MAX: u32 = 1_048_576;
 
 /// The tag of a Tversion, which belongs to no other message.
 pub const NOTAG: u16 = 0xFFFF;
@@ -12,6 +12,9 @@ pub const MAXWELEM: usize = 16;
 
 /// The bytes before a body: `size[4] type[1] tag[2]`.
 pub const HEADER: usize = 7;
+
+/// The bytes of an Rread before its data: its header and their count.
+pub const READ_HEADER: usize = HEADER + 4;
 
 /// The bytes of a frame that a read or a write leaves to what is not data: an iounit is the msize
 /// less these.

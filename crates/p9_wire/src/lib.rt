@@ -20,7 +20,7 @@ mod r_writing;
 mod t_reading;
 mod t_writing;
 
-pub use constants::{HEADER, IOHDRSZ, MAXWELEM, MSIZE_MAX, NOTAG, STAT_FIXED};
+pub use constants::{HEADER, IOHDRSZ, MAXWELEM, MSIZE_MAX, NOTAG, READ_HEADER, STAT_FIXED};
 pub use frame::{Frame, frame_of, is_frame};
 pub use message::{RMsg, Stat, TMsg};
 pub use names::Names;

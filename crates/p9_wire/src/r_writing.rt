@@ -2,7 +2,7 @@
 
 ghost use Rattle.std.specs.Prelude.{◌≡◌, ◌≤◌, ◌<◌, ◌^◌, take, drop, ◌+◌, length};
 ghost use Rattle.p9_wire.specs.Message.{Rread, r_view};
-ghost use Rattle.p9_wire.specs.Spelling.{r_type, r_body, r_len, RFits, r_spelling};
+ghost use Rattle.p9_wire.specs.Spelling.{r_type, r_body, r_len, read_header, RFits, r_spelling};
 ghost use Rattle.p9_wire.specs.Writing.{Puts, Writes};
 
 use crate::constants::{
@@ -79,13 +79,14 @@ pub fn write_r(message: &RMsg<'_>, tag: u16, out: &mut [u8]) -> usize
     end
 }
 
-/// Makes the Rread of the `count` bytes that stand behind the first eleven of the buffer, where its
-/// header and count belong, and answers its length. The bytes and what stands behind them stay.
+/// Makes the Rread of the `count` bytes that stand behind the first [`crate::READ_HEADER`] bytes of
+/// the buffer, where its header and count belong, and answers its length. The bytes and what stands
+/// behind them stay.
 pub fn finish_read(tag: u16, count: u32, out: &mut [u8]) -> usize
-    requires size { 11 + count < 2 ^ 32 }
-    requires room { 11 + count ≤ length out.old }
-    ensures len { result ≡ 11 + count }
-    ensures bytes { let bytes = take count (drop 11 out.old) in
+    requires size { read_header + count < 2 ^ 32 }
+    requires room { read_header + count ≤ length out.old }
+    ensures len { result ≡ read_header + count }
+    ensures bytes { let bytes = take count (drop read_header out.old) in
         Writes (r_spelling tag (Rread bytes)) result out.old out.new }
 {
     let at = put_u32(out, HEADER, count);

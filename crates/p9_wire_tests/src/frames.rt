@@ -13,8 +13,9 @@ fn row_frame_sizes(rt: HostRuntime) -> Result<(), Fail> {
         ("130000", Frame::Need),
         ("06000000", Frame::Broken),
         ("07000000", Frame::Need),
-        ("00000100", Frame::Need),
-        ("01000100", Frame::Broken),
+        ("01000100", Frame::Need),
+        ("00001000", Frame::Need),
+        ("01001000", Frame::Broken),
         ("ffffffff", Frame::Broken),
         ("07000000 6d 0300", Frame::Whole(7)),
         // The first line of an authentication, whose size says two bytes more than there are.

@@ -2,3 +2,4 @@ pub mod Names
 pub mod Lists
 pub mod Worlds
 pub mod Readings
+pub mod Members

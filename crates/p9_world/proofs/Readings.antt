@@ -1,7 +1,8 @@
 -- The world of a text, once its statements are read.
 use Rattle.std.proofs.Common.{◌≡◌, ℕ, ◌<◌, ◌≤◌, List, length, drop, map, Result, Ok, Err, refl, sym}
-use Rattle.std.proofs.Common.{◌∙◌}
+use Rattle.std.proofs.Common.{Bool, arith, true, ◌==◌, ◌∙◌}
 use Rattle.std.proofs.lemmas.Bool.{lt-ltb}
+use Rattle.std.proofs.lemmas.Bool.Decides.{nat_tests}
 use Rattle.p9_base.specs.Statement.{statements_of}
 use Rattle.p9_base.specs.Results.{need, try_fold}
 use Rattle.p9_base.proofs.Results.{try_fold-end}
@@ -47,3 +48,7 @@ pub Tells-world_of : (error : WorldError) (text : List ℕ) (step : Result World
 Tells-world_of (BadWorld line kind) text step told comes =
     world_of-err text (line, kind) (comes (line, kind) told)
 Tells-world_of NoMemory text step told comes = tt
+
+-- a test of emptiness that holds
+pub is-zero : (tested : Bool) (n : ℕ) → tested ≡ (n == 0) → tested ≡ true → n ≡ 0
+is-zero tested n is holds = grind (arith, nat_tests)

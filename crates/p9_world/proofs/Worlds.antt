@@ -13,6 +13,7 @@ use Rattle.std.proofs.lemmas.List.{length-set, length-map}
 use Rattle.std.proofs.lemmas.List.Elements.{All-weaker}
 use Rattle.std.proofs.lemmas.List.Quantifiers.{all_pairs_push, position-Some}
 use Rattle.std.proofs.lemmas.List.Sums.{fails_before_first}
+use Rattle.p9_base.specs.Group.{GroupRow}
 use Rattle.p9_base.specs.declared.node_ref.NodeRef.{NodeRef}
 use Rattle.p9_base.specs.NodeRef.{servers_max}
 use Rattle.p9_base.specs.Results.{given, need}
@@ -154,11 +155,11 @@ module _ {T : Type 0} (state : T → Server) (ts : List T) (t u : T) (n : ℕ) (
       map-tree_changed_at state (λ old. state u) ts (n - 1) t u (omega arith) read refl
       ∙ ap (λ i. tree_changed_at i (λ old. state u) (map state ts)) last_is
 
-  module _ {A : Type 0} (users : List (List ℕ)) (hidden : List NodeRef)
+  module _ {A : Type 0} (users : List (List ℕ)) (groups : List GroupRow) (hidden : List NodeRef)
       (vars : List (String A × String A)) (servers : List (String A)) where
     -- the world with these trees
     abbrev with_trees : List T → World
-    with_trees trees = world_view state trees users hidden vars servers
+    with_trees trees = world_view state trees users groups hidden vars servers
 
     -- it stays one where the server's next number doesn't fall
     pub IsWorld-last : IsWorld (with_trees ts) → (state t).next ≤ (state u).next

@@ -6,6 +6,7 @@ pub mod Mode
 pub mod Server
 pub mod Entry
 pub mod User
+pub mod Group
 pub mod Hide
 pub mod Variable
 pub mod Read

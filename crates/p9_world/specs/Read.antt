@@ -9,11 +9,13 @@ use Rattle.p9_world.specs.declared.error.LineFault.TheVariants.{UnknownWord, Wor
 use Rattle.p9_world.specs.declared.error.WorldError.{WorldError}
 use Rattle.p9_world.specs.declared.error.WorldError.TheVariants.{BadWorld, NoMemory}
 use Rattle.p9_world.specs.declared.read.Operation.{Operation}
-use Rattle.p9_world.specs.declared.read.Operation.TheVariants.{Server, Dir, File, User, Hide, Set}
+use Rattle.p9_world.specs.declared.read.Operation.TheVariants.{Server, Dir, File, User, Group, Hide}
+use Rattle.p9_world.specs.declared.read.Operation.TheVariants.{Set}
 use Rattle.p9_world.specs.World.{World, empty_world}
 use Rattle.p9_world.specs.Server.{server_line}
 use Rattle.p9_world.specs.Entry.{dir_line, file_line, in_last_server}
 use Rattle.p9_world.specs.User.{user_line}
+use Rattle.p9_world.specs.Group.{group_line}
 use Rattle.p9_world.specs.Hide.{hide_line}
 use Rattle.p9_world.specs.Variable.{set_line}
 
@@ -24,6 +26,7 @@ operation_of word =
     else if bytes_eq word (codes "dir") then Some Dir
     else if bytes_eq word (codes "file") then Some File
     else if bytes_eq word (codes "user") then Some User
+    else if bytes_eq word (codes "group") then Some Group
     else if bytes_eq word (codes "hide") then Some Hide
     else if bytes_eq word (codes "set") then Some Set
     else None
@@ -35,6 +38,7 @@ operated Dir (path ∷ mode ∷ uid ∷ gid ∷ []) w = in_last_server (dir_line
 operated File (path ∷ mode ∷ uid ∷ gid ∷ hex ∷ []) w =
     in_last_server (file_line path mode uid gid hex) w
 operated User (name ∷ []) w = user_line name w
+operated Group (name ∷ leader ∷ members) w = group_line name leader members w
 operated Hide (server ∷ path ∷ []) w = hide_line server path w
 operated Set (name ∷ value ∷ []) w = set_line name value w
 operated operation words w = Err WordCount

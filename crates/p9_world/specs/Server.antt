@@ -15,10 +15,15 @@ use Rattle.p9_world.specs.World.{World}
 abbrev pub is_reserved : ℕ → Bool
 is_reserved b = is_slash b || b == 35 || b == 36 || b == 0
 
--- 1 to 63 bytes, none of them reserved
+-- the most bytes of a server's name
+abbrev pub server_name_max : ℕ
+server_name_max = 63
+
+-- 1 byte or more up to that, none of them reserved
 abbrev pub is_server_name : List ℕ → Bool
 is_server_name name =
-    nat_le 1 (length name) && nat_le (length name) 63 && not (list_any is_reserved name)
+    nat_le 1 (length name) && nat_le (length name) server_name_max
+    && not (list_any is_reserved name)
 
 -- the number of the server of this name
 abbrev pub server_number : List ℕ → List (List ℕ) → Option ℕ

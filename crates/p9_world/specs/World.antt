@@ -2,17 +2,19 @@
 use Rattle.std.specs.Prelude.{◌≡◌, ◌≢◌, ℕ, ◌<◌, ◌≤◌, List, [], length, map, string_bytes, All}
 use Rattle.std.specs.Prelude.{AllPairs}
 use Rattle.std.specs.declared.string.String.{String}
+use Rattle.p9_base.specs.Group.{GroupRow}
 use Rattle.p9_base.specs.declared.node_ref.NodeRef.{NodeRef}
 use Rattle.p9_base.specs.NodeRef.{servers_max}
 use Rattle.p9_base.specs.Variable.{Variable, variables_of}
 use Rattle.p9_tree.specs.Server.{Server}
 use Rattle.p9_tree.specs.Forest.{next_of}
 
--- the servers' trees and names, both by number, the users, the hidden directories, and the
--- variables with their values
+-- the servers' trees and names, both by number, the users, the groups, the hidden directories, and
+-- the variables with their values
 pub record World : Type 0 where
   pub forest : List Server
   pub users : List (List ℕ)
+  pub groups : List GroupRow
   pub hidden : List NodeRef
   pub vars : List Variable
   pub servers : List (List ℕ)
@@ -26,14 +28,22 @@ pub record IsWorld (w : World) : Type 0 where
 
 -- the world of no lines
 abbrev pub empty_world : World
-empty_world = record { forest = []; users = []; hidden = []; vars = []; servers = [] }
+empty_world = record {
+  forest = [];
+  users = [];
+  groups = [];
+  hidden = [];
+  vars = [];
+  servers = [];
+}
 
 -- a world of the code, as it is seen
-abbrev pub world_view : {T A : Type 0} → (T → Server) → List T → List (List ℕ) → List NodeRef
-    → List (String A × String A) → List (String A) → World
-world_view state trees users hidden vars servers = record {
+abbrev pub world_view : {T A : Type 0} → (T → Server) → List T → List (List ℕ) → List GroupRow
+    → List NodeRef → List (String A × String A) → List (String A) → World
+world_view state trees users groups hidden vars servers = record {
   forest = map state trees;
   users = users;
+  groups = groups;
   hidden = hidden;
   vars = variables_of vars;
   servers = map string_bytes servers;

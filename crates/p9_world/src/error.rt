@@ -44,10 +44,11 @@ pub enum LineFault {
     /// to be hidden is no directory.
     #[error("no such directory")]
     NoParent,
-    /// An earlier line has this server, path, user, hidden directory or variable.
+    /// An earlier line has this server, path, user, group, hidden directory or variable; or a line
+    /// names a member of a group twice.
     #[error("already there")]
     Duplicate,
-    /// There are [`crate::SERVERS_MAX`] servers, or the server has given all its numbers.
+    /// There are [`p9_base::SERVERS_MAX`] servers, or the server has given all its numbers.
     #[error("too many")]
     TooMany,
 }

@@ -1,5 +1,5 @@
-//! A user's own world: a text that describes servers, their trees, users, hidden directories and
-//! variables, and the world that its lines make.
+//! A user's own world: a text that describes servers, their trees, users, groups, hidden
+//! directories and variables, and the world that its lines make.
 //!
 //! [`read_world`] reads it. Each operation stands in a module of its own, and the definition of
 //! what it means in the file of `specs/` beside it.
@@ -7,6 +7,7 @@
 
 mod entry;
 mod error;
+mod group;
 mod hide;
 mod mode;
 mod path;
@@ -18,4 +19,4 @@ mod world;
 
 pub use error::{LineFault, WorldError};
 pub use read::read_world;
-pub use world::{SERVERS_MAX, World};
+pub use world::World;

@@ -8,6 +8,7 @@ ghost use Rattle.p9_world.specs.Read.{read_statement, world_of};
 
 use crate::entry::{add_dir, add_file};
 use crate::error::{LineError, LineFault, WorldError};
+use crate::group::add_group;
 use crate::hide::hide;
 use crate::server::add_server;
 use crate::user::add_user;
@@ -20,9 +21,9 @@ use std::alloc::Allocator;
 /// The world that the lines of a text make, one after another.
 ///
 /// A line is one of `server NAME`, `dir PATH MODE UID GID`, `file PATH MODE UID GID HEX`,
-/// `user NAME`, `hide SERVER PATH` and `set NAME VALUE`; blank lines and comments are passed over.
-/// `server` makes a tree of a root alone, and `dir` and `file` add to the last server above them;
-/// `dir /` changes its root.
+/// `user NAME`, `group NAME LEADER [MEMBER ...]`, `hide SERVER PATH` and `set NAME VALUE`; blank
+/// lines and comments are passed over. `server` makes a tree of a root alone, and `dir` and `file`
+/// add to the last server above them; `dir /` changes its root.
 ///
 /// The first bad line, and the first fault of [`LineFault`] that it has, is
 /// [`WorldError::BadWorld`]. A text without bad lines and without a server is that too, with the
@@ -69,6 +70,7 @@ enum Operation {
     Dir,
     File,
     User,
+    Group,
     Hide,
     Set,
 }
@@ -103,6 +105,8 @@ fn operation_of(word: &str) -> Option<Operation>
         Some(Operation::File)
     } else if word == "user" {
         Some(Operation::User)
+    } else if word == "group" {
+        Some(Operation::Group)
     } else if word == "hide" {
         Some(Operation::Hide)
     } else if word == "set" {
@@ -129,6 +133,9 @@ fn operate<T: Tree>(
             add_file(alloc, world, path, mode, uid, gid, hex)
         }
         (Operation::User, [name]) => add_user(world, name),
+        (Operation::Group, [name, leader, members @ ..]) => {
+            add_group(alloc, world, name, leader, members)
+        }
         (Operation::Hide, [server, path]) => hide(alloc, world, server, path),
         (Operation::Set, [name, value]) => set_variable(alloc, world, name, value),
         _ => Err(LineError::Bad(LineFault::WordCount)),

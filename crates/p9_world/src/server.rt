@@ -6,9 +6,13 @@ ghost use Rattle.p9_world.specs.Meaning.{Makes};
 ghost use Rattle.p9_world.specs.Server.{is_reserved, is_server_name, server_line, server_number};
 
 use crate::error::{LineError, LineFault};
-use crate::world::{SERVERS_MAX, World};
+use crate::world::World;
+use p9_base::SERVERS_MAX;
 use p9_tree::Tree;
 use std::alloc::Allocator;
+
+// The most bytes of a server's name.
+const SERVER_NAME_MAX: usize = 63;
 
 /// A server of this name, with a root of mode 755 that belongs to `sys`, joins behind the others.
 pub(crate) fn add_server<T: Tree>(
@@ -46,7 +50,7 @@ pub(crate) fn server_number<A: Allocator>(name: &str, servers: &[String<A>]) -> 
 fn is_server_name(name: &str) -> bool
     ensures { result ≡ is_server_name name.now }
 {
-    1 <= name.len() && name.len() <= 63 && !has_reserved(name)
+    1 <= name.len() && name.len() <= SERVER_NAME_MAX && !has_reserved(name)
 }
 
 // Whether one of `/`, `#`, `$` and NUL is among the bytes.

@@ -3,14 +3,11 @@
 ghost use Rattle.std.specs.Prelude.{◌≡◌};
 ghost use Rattle.p9_world.specs.World.{IsWorld, empty_world};
 
-use p9_base::{NodeRef, User};
+use p9_base::{Groups, NodeRef, User};
 use p9_tree::{Forest, Tree};
 use std::marker::Model;
 
-/// The most servers that a world has.
-pub const SERVERS_MAX: usize = 1 << 16;
-
-/// What a user describes: servers with their trees and names, users, hidden directories and
+/// What a user describes: servers with their trees and names, users, groups, hidden directories and
 /// variables.
 ///
 /// The forest is well-formed, as every [`Forest`] is. Each tree has one name, which no other has,
@@ -22,6 +19,8 @@ pub struct World<T: Tree> {
     pub forest: Forest<T>,
     /// The users, in the order of their lines.
     pub users: Vec<User, T::Alloc>,
+    /// The groups, in the order of their lines.
+    pub groups: Groups<T::Alloc>,
     /// The hidden directories, in the order of their lines.
     pub hidden: Vec<NodeRef, T::Alloc>,
     /// The variables with their values, in the order of their lines.
@@ -35,11 +34,11 @@ impl<T: Tree> Model for World<T> {
 
     ghost Value = { WorldOf };
 
-    ghost view = { λ w. world_view T.state w.forest.trees.items w.users.items w.hidden.items
-        w.vars.items w.servers.items };
+    ghost view = { λ w. world_view T.state w.forest.trees.items w.users.items w.groups
+        w.hidden.items w.vars.items w.servers.items };
 
     ghost invariant = { λ w. IsWorld (world_view T.state w.forest.trees.items w.users.items
-        w.hidden.items w.vars.items w.servers.items) };
+        w.groups w.hidden.items w.vars.items w.servers.items) };
 }
 
 impl<T: Tree> World<T> {
@@ -52,6 +51,7 @@ impl<T: Tree> World<T> {
                 trees: Vec::new(alloc),
             },
             users: Vec::new(alloc),
+            groups: Groups::new(alloc),
             hidden: Vec::new(alloc),
             vars: Vec::new(alloc),
             servers: Vec::new(alloc),

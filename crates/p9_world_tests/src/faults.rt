@@ -149,6 +149,29 @@ line 2: already there = user u;user u
 line 3: already there = server m;hide m /;hide m //
 line 2: already there = set a b;set a c";
 
+const GROUPS: &str = "\
+line 1: wrong number of words = group
+line 1: wrong number of words = group g
+line 1: wrong number of words = group \0
+line 2: wrong number of words = group g u;group g
+line 1: bad user = group \0 u
+line 1: bad user = group g \0
+line 1: bad user = group g u \0
+line 1: bad user = group uuuuuuuuuuuuuuuuuuuuuuuuuuuuuuuuuuuuuuuuuuuuuuuuuuuuuuuuuuuuuuuu u
+line 1: bad user = group g uuuuuuuuuuuuuuuuuuuuuuuuuuuuuuuuuuuuuuuuuuuuuuuuuuuuuuuuuuuuuuuu
+line 1: bad user = group g u v uuuuuuuuuuuuuuuuuuuuuuuuuuuuuuuuuuuuuuuuuuuuuuuuuuuuuuuuuuuuuuuu
+line 1: bad user = group g u v v \0
+line 2: bad user = group g u;group g \0
+line 2: bad user = group g u;group g u v \0
+line 2: already there = group g u;group g v
+line 2: already there = group g u v;group g u v
+line 1: already there = group g u v v
+line 1: already there = group g u u v u
+line 2: already there = group g u;group g u v v
+line 0: no server = group g u v
+no fault = group g u v;group h u v;server m
+no fault = group g g g;group u v;server m;user g;user u";
+
 /// What is told of the text.
 pub fn told(alloc: Global, text: &str) -> Result<String, AllocError> {
     match read_world::<PlainTree<Global>>(alloc, text) {
@@ -188,5 +211,11 @@ fn bad_entries_are_told(rt: HostRuntime) -> Result<(), Fail> {
 #[test]
 fn bad_places_are_told(rt: HostRuntime) -> Result<(), Fail> {
     are_bad(&rt, rt.alloc(), PLACES)?;
+    Ok(())
+}
+
+#[test]
+fn bad_groups_are_told(rt: HostRuntime) -> Result<(), Fail> {
+    are_bad(&rt, rt.alloc(), GROUPS)?;
     Ok(())
 }

@@ -1,8 +1,9 @@
 //! The largest file and the most servers.
 
 use crate::faults::told;
+use p9_base::SERVERS_MAX;
 use p9_tree::{FILE_MAX, PlainTree};
-use p9_world::{SERVERS_MAX, read_world};
+use p9_world::read_world;
 use std::alloc::{AllocError, Global};
 use std::process::Abort;
 use std::test::Fail;
@@ -12,9 +13,7 @@ fn long_file(alloc: Global, path: &str, count: usize, end: &str) -> Result<Strin
     let mut text = String::from_str(alloc, "server m\nfile ")?;
     text.push_str(path)?;
     text.push_str(" 644 u u ")?;
-    for _ in 0..count {
-        text.push_str("61")?;
-    }
+    text.push_str("61".repeat(alloc, count)?.as_str())?;
     text.push_str(end)?;
     Ok(text)
 }

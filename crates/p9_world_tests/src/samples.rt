@@ -50,11 +50,13 @@ fn parts_of_a_world_fit(rt: HostRuntime) -> Result<(), Fail> {
     let World {
         forest,
         users,
+        groups,
         hidden,
         vars,
         servers,
     } = world;
     prove!(servers.len() == forest.trees.len());
     assert_eq!(rt; (users.len(), hidden.len(), vars.len()), (1, 1, 0));
+    assert!(rt; users.iter().all(|user| !groups.contains(user)));
     Ok(())
 }

@@ -159,8 +159,8 @@ set home /usr/glenda
 ",
 };
 
-/// What the samples leave out: two servers, letters of a mode, digits in either case, an empty file,
-/// a path that is cleaned, comments, and a root that is changed twice.
+/// What the samples leave out: two servers, letters of a mode, digits in either case, an empty
+/// file, a path that is cleaned, comments, and a root that is changed twice.
 pub const TWO_SERVERS: Sample = Sample {
     text: "\
 # first

@@ -2,6 +2,7 @@ use Rattle.std.proofs.Common.{◌≡◌, ◌∙◌, ◌++◌, sym, ap, subst, ma
 use Rattle.std.proofs.Math.Seq.{drop-append_seam}
 use Rattle.std.specs.Option.{option_copied, option_copied_mut}
 use Rattle.p9_wire.specs.Message.{t_view}
+use Rattle.p9_wire.specs.Spelling.{read_header}
 use Rattle.p9_step.specs.State.{session_at}
 use Rattle.p9_export.specs.Answers.{request_view}
 use Rattle.p9_step.specs.Request.{request_of}
@@ -20,7 +21,7 @@ returns-clause-answer g c =
     let is : Ok (t_view c.in_ok-request.request)
     ≡ request_of c.unwrap-session.result.now c.args.frame.now = sym
     (ap request_view c.in_ok-request.was) ∙ c.request_of.ensures in
-    let behind : drop 11 (c.split_at_mut-buffer.result.0.now ++ c.message.new.buffer)
+    let behind : drop read_header (c.split_at_mut-buffer.result.0.now ++ c.message.new.buffer)
     ≡ c.message.new.buffer = subst
     (λ n. drop n (c.split_at_mut-buffer.result.0.now ++ c.message.new.buffer)
     ≡ c.message.new.buffer) c.split_at_mut-buffer.ensures.front_len

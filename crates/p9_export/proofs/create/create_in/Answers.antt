@@ -12,9 +12,9 @@ pub trail_to-requires : goal.trail_to-requires
 trail_to-requires g c =
     let forest = map g.T.Tree.state c.args.forest.now.trees.items in
     let v = c.unwrap-held.result.now in
-    let none : fault_in forest v c.args.name c.args.target c.in-Some.dir.now ≡ None =
+    let none : fault_in c.args.setting.now forest v c.args.name c.args.target c.in-Some.dir.now ≡ None =
     sym c.fault_in.ensures ∙ c.in_default-fault_in.is in
-    let permits = nothing_refuses forest v c.args.name c.args.target c.in-Some.dir.now none in
+    let permits = nothing_refuses c.args.setting.now forest v c.args.name c.args.target c.in-Some.dir.now none in
     rw (← c.held.view_is) at permits.short
 
 pub add_to-requires : goal.add_to-requires
@@ -22,13 +22,13 @@ add_to-requires g c =
     let forest = map g.T.Tree.state c.args.forest.now.trees.items in
     let v = c.unwrap-held.result.now in
     let dir = c.in-Some.dir.now in
-    let none : fault_in forest v c.args.name c.args.target dir ≡ None =
+    let none : fault_in c.args.setting.now forest v c.args.name c.args.target dir ≡ None =
     sym c.fault_in.ensures ∙ c.in_default-fault_in.is in
     let made : new_node 0 dir.number c.new_in-new.result
     ≡ created v.user c.args.now 0 dir c.args.name c.args.asked = rw (← c.held.view_is)
     c.new_in-new.ensures in
-    can_add forest v c.args.name c.args.target dir c.args.now c.args.asked c.new_in-new.result made
-    (sym c.in-Some.ensures) (nothing_refuses forest v c.args.name c.args.target dir none)
+    can_add c.args.setting.now forest v c.args.name c.args.target dir c.args.now c.args.asked c.new_in-new.result made
+    (sym c.in-Some.ensures) (nothing_refuses c.args.setting.now forest v c.args.name c.args.target dir none)
 
 pub returns : goal.returns
 returns g c =
@@ -37,7 +37,7 @@ returns g c =
     let dir = c.in-Some.dir.now in
     let found : fid_at c.args.fid c.args.session.now.fids ≡ Some v =
     rw (← c.session.view_is) (sym c.get.ensures ∙ ap option_copied c.unwrap-held.ensures) in
-    let none : fault_in forest v c.args.name c.args.target dir ≡ None =
+    let none : fault_in c.args.setting.now forest v c.args.name c.args.target dir ≡ None =
     sym c.fault_in.ensures ∙ c.in_default-fault_in.is in
     let made : new_node 0 dir.number c.new_in-new.result
     ≡ created v.user c.args.now 0 dir c.args.name c.args.asked = rw (← c.held.view_is)
@@ -56,7 +56,7 @@ returns g c =
     c.args.session.now = entering
     ∙ ap (λ t. entered c.args.fid t c.args.opening c.args.session.now) trail in
     if_some _ v _ found
-    (creation-did forest v c.args.name c.args.target dir c.args.now c.args.asked c.new_in-new.result
+    (creation-did c.args.setting.now forest v c.args.name c.args.target dir c.args.now c.args.asked c.new_in-new.result
     made (sym c.in-Some.ensures) _ (map g.T.Tree.state c.add_to.new.forest.trees.items)
     c.args.session.now c.enter.new.session c.args.fid c.args.opening c.in_ok-qid.qid
     c.room.result none refl c.in_ok-qid.ensures.ok went c.in_ok-qid.ensures.qid c.room.ensures)

@@ -1,3 +1,4 @@
+use Rattle.p9_space.specs.Rights.{who_view}
 use Rattle.std.proofs.Common.{arith, ap, sym, ◌∙◌, map, ◌≡◌, ◌++◌, drop, length, slice_get, Some}
 use Rattle.p9_wire.specs.Fields.{stat_bytes, stat_len}
 use Rattle.p9_step.specs.Listing.{Entry, left_of}
@@ -11,20 +12,20 @@ returns-in_err-entry-clause-last g c =
     c.from_residual.ensures
     ∙ no_end _
     (fitting-none (length c.args.buffer.now)
-    (left_of (map g.T.Tree.state c.args.forest.now.trees.items) c.args.user.now c.args.cursor
+    (left_of (map g.T.Tree.state c.args.forest.now.trees.items) (who_view c.args.who) c.args.cursor
     c.args.members.now) (sym c.in_err-entry.ensures.first))
 
 pub returns-in_err-entry-clause-bytes : goal.returns-in_err-entry-clause-bytes
 returns-in_err-entry-clause-bytes g c =
     nothing_put _ c.args.buffer.now
     (fitting-none (length c.args.buffer.now)
-    (left_of (map g.T.Tree.state c.args.forest.now.trees.items) c.args.user.now c.args.cursor
+    (left_of (map g.T.Tree.state c.args.forest.now.trees.items) (who_view c.args.who) c.args.cursor
     c.args.members.now) (sym c.in_err-entry.ensures.first))
 
 pub returns-then-stat_size-buffer-clause-last : goal.returns-then-stat_size-buffer-clause-last
 returns-then-stat_size-buffer-clause-last g c =
     let left =
-    left_of (map g.T.Tree.state c.args.forest.now.trees.items) c.args.user.now c.args.cursor
+    left_of (map g.T.Tree.state c.args.forest.now.trees.items) (who_view c.args.who) c.args.cursor
     c.args.members.now in
     let e : Entry = record {
       position = c.entry.inside.position;
@@ -40,7 +41,7 @@ returns-then-stat_size-buffer-clause-last g c =
 pub returns-then-stat_size-buffer-clause-bytes : goal.returns-then-stat_size-buffer-clause-bytes
 returns-then-stat_size-buffer-clause-bytes g c =
     let left =
-    left_of (map g.T.Tree.state c.args.forest.now.trees.items) c.args.user.now c.args.cursor
+    left_of (map g.T.Tree.state c.args.forest.now.trees.items) (who_view c.args.who) c.args.cursor
     c.args.members.now in
     let e : Entry = record {
       position = c.entry.inside.position;
@@ -56,7 +57,7 @@ returns-then-stat_size-buffer-clause-bytes g c =
 pub returns-clause-last : goal.returns-clause-last
 returns-clause-last g c =
     let left =
-    left_of (map g.T.Tree.state c.args.forest.now.trees.items) c.args.user.now c.args.cursor
+    left_of (map g.T.Tree.state c.args.forest.now.trees.items) (who_view c.args.who) c.args.cursor
     c.args.members.now in
     let e : Entry = record {
       position = c.entry.inside.position;
@@ -78,7 +79,7 @@ returns-clause-last g c =
 pub returns-clause-bytes : goal.returns-clause-bytes
 returns-clause-bytes g c =
     let left =
-    left_of (map g.T.Tree.state c.args.forest.now.trees.items) c.args.user.now c.args.cursor
+    left_of (map g.T.Tree.state c.args.forest.now.trees.items) (who_view c.args.who) c.args.cursor
     c.args.members.now in
     let e : Entry = record {
       position = c.entry.inside.position;

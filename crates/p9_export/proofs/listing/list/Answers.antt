@@ -1,3 +1,4 @@
+use Rattle.p9_space.specs.Rights.{who_view}
 use Rattle.std.proofs.Common.{arith, map, length, sym, ap, ◌∙◌, ◌≡◌, refl, true}
 use Rattle.std.specs.Prelude.{is_some, slice_get}
 use Rattle.p9_step.specs.Listing.{left_of}
@@ -10,7 +11,7 @@ use Rattle.p9_export.proofs.listing.list.Goals.{else-given-eq0-via-else-given-eq
 pub returns-then-is_some-clause-err : goal.returns-then-is_some-clause-err
 returns-then-is_some-clause-err g c =
     let left =
-    left_of (map g.T.Tree.state c.args.forest.now.trees.items) c.args.user.now c.args.cursor
+    left_of (map g.T.Tree.state c.args.forest.now.trees.items) (who_view c.args.who) c.args.cursor
     c.args.members.now in
     let some : is_some (slice_get left 0) ≡ true =
     ap is_some (sym c.first_left.ensures.first) ∙ sym c.is_some.ensures ∙ c.if-is_some.true in (
@@ -24,7 +25,7 @@ returns-then-is_some-clause-err g c =
 pub returns-clause-ok : goal.returns-clause-ok
 returns-clause-ok g c =
     let left =
-    left_of (map g.T.Tree.state c.args.forest.now.trees.items) c.args.user.now c.args.cursor
+    left_of (map g.T.Tree.state c.args.forest.now.trees.items) (who_view c.args.who) c.args.cursor
     c.args.members.now in
     λ none. elim c.else-given-eq0.branch [
       | else-given-eq0-via-then-given-eq0+else-is_some w ↦ none_left left

@@ -15,11 +15,13 @@ returns-clause-answer g c =
     let there : fid_at c.args.fid c.session.inside.fids ≡ Some v =
     sym c.get.ensures ∙ ap option_copied c.unwrap-held.ensures
     ∙ ap Some (sym c.held.view_is) in
+    let who = c.who.ensures in
     let within = c.in_ok-given.ensures.size in
     let long = c.list.auto.buffer in
     let members_are = c.as_slice.ensures ∙ c.members-members.ensures.members in
     rw (← c.session.view_is, ← c.setting.view_is) (dir_listed (record {
       users = c.setting.inside.users.items;
+      groups = c.setting.inside.groups;
       table = c.setting.inside.table;
     }) (map g.T.Tree.state c.args.forest.now.trees.items) (record {
       msize =
@@ -30,8 +32,8 @@ returns-clause-answer g c =
     c.in_ok-given.given.size c.in_ok-given.given.cursor c.list.new.buffer c.set_opened.new.self
     there (sym c.may_begin.ensures ∙ c.if-not-may_begin.false)
     (members_are ∙ ap (λ place. members_of place c.setting.inside.table) c.here.ensures.last)
-    c.cursor_at-cursor.ensures c.in_ok-given.ensures.ok c.in_ok-given.ensures.bytes
-    c.in_ok-given.ensures.cursor (omega (arith, within, long))
+    c.cursor_at-cursor.ensures (rw (who, ← c.setting.view_is) at c.in_ok-given.ensures.ok)
+    (rw (who, ← c.setting.view_is) at c.in_ok-given.ensures.bytes) (rw (who, ← c.setting.view_is) at c.in_ok-given.ensures.cursor) (omega (arith, within, long))
     (c.set_opened.ensures ∙ ap (λ k. changed_fid c.args.fid (opened_as (record c.args.opened {
       next_offset = k + c.in_ok-given.given.size;
       cursor = c.in_ok-given.given.cursor;

@@ -1,3 +1,6 @@
+use Rattle.std.proofs.Common.{subst}
+use Rattle.p9_space.specs.Rights.{who_view}
+use Rattle.p9_step.specs.State.{who_of}
 use Rattle.std.proofs.Common.{◌≡◌, true, false, Some, None, not, is_some, map, sym, ap, refl, ◌∙◌}
 use Rattle.std.specs.Option.{option_copied}
 use Rattle.p9_tree.specs.Forest.{has_children_of, node_of}
@@ -23,9 +26,13 @@ returns g c = λ left.
     sym c.node.ensures ∙ ap option_copied c.in-Some.is in
     let inner : is_some c.parent-parent.result ≡ true =
     c.is_none.ensures ∙ ap not c.if-is_none.false in
-    let permitted : may_write_parent c.args.fid.now.user forest c.file-at.result c.in-Some.file.now
-    ≡ true = rw (← c.fid.view_is)
-    (sym c.may_write_parent.ensures ∙ c.if-not-may_write_parent.false) in
+    let asked : may_write_parent (who_view c.who.result) forest c.file-at.result
+    c.in-Some.file.now ≡ true =
+    sym c.may_write_parent.ensures ∙ c.if-not-may_write_parent.false in
+    let permitted : may_write_parent (who_of c.args.setting.now c.args.fid.now.user) forest
+    c.file-at.result c.in-Some.file.now ≡ true = rw (← c.fid.view_is)
+    (subst (λ w. may_write_parent w forest c.file-at.result c.in-Some.file.now ≡ true)
+    c.who.ensures asked) in
     let gone : c.after.result ≡ None = absent _ (sym c.is_some.ensures ∙ c.if-is_some.false) in
     let none = rw gone at c.after.ensures in
     let empty : has_children_of c.file-at.result forest ≡ false = rw (← none) refl in

@@ -1,3 +1,4 @@
+use Rattle.p9_step.specs.State.{who_of}
 use Rattle.std.proofs.Common.{◌≡◌, Some, None, true, false, map, refl, sym, ap, ◌∙◌}
 use Rattle.std.proofs.lemmas.Result.{err_from_is_err_and}
 use Rattle.p9_tree.specs.declared.change.Change.{Change as NodeChange}
@@ -13,7 +14,7 @@ use Rattle.p9_step.specs.Wstat.{Touched, is_any, node_change, touched_of}
 use Rattle.p9_step.specs.Wstat.{touches_fixed, wstat_fault}
 use Rattle.p9_export.proofs.Places.{node_of-below}
 use Rattle.p9_export.proofs.Writes.{memory_refused}
-use Rattle.p9_step.proofs.Permits.{can_change, nothing_refuses, own_group, valid_name}
+use Rattle.p9_step.proofs.Permits.{can_change, nothing_refuses, valid_group, valid_name}
 use Rattle.p9_export.proofs.Wstats.{wstat-did}
 use Rattle.p9_export.proofs.Wstats.{wstat_answer-done}
 use Rattle.p9_export.proofs.wstat.wstat.Goals as goal
@@ -29,10 +30,10 @@ node_change-change-requires-clause-name g c =
     let n = c.in-Some-node.file.now in
     let at = c.file-at.result in
     let t : Touched = touched_view c.touched_of-touched.result in
-    let none : wstat_fault c.held.inside.user forest at n t ≡ None =
-    sym c.wstat_fault.ensures ∙ c.in_default-wstat_fault.is in
-    let permits = nothing_refuses c.held.inside.user forest at n t none in
-    valid_name c.held.inside.user forest at n t permits
+    let none : wstat_fault (who_of c.args.setting.now c.held.inside.user) forest at n t ≡ None =
+    rw c.who.ensures at (sym c.wstat_fault.ensures ∙ c.in_default-wstat_fault.is) in
+    let permits = nothing_refuses (who_of c.args.setting.now c.held.inside.user) forest at n t none in
+    valid_name (who_of c.args.setting.now c.held.inside.user) forest at n t permits
 
 pub node_change-change-requires-clause-gid : goal.node_change-change-requires-clause-gid
 node_change-change-requires-clause-gid g c =
@@ -40,10 +41,11 @@ node_change-change-requires-clause-gid g c =
     let n = c.in-Some-node.file.now in
     let at = c.file-at.result in
     let t : Touched = touched_view c.touched_of-touched.result in
-    let none : wstat_fault c.held.inside.user forest at n t ≡ None =
-    sym c.wstat_fault.ensures ∙ c.in_default-wstat_fault.is in
-    let permits = nothing_refuses c.held.inside.user forest at n t none in
-    own_group c.held.inside.user forest at n t permits
+    let none : wstat_fault (who_of c.args.setting.now c.held.inside.user) forest at n t ≡ None =
+    rw c.who.ensures at (sym c.wstat_fault.ensures ∙ c.in_default-wstat_fault.is) in
+    let permits = nothing_refuses (who_of c.args.setting.now c.held.inside.user) forest at n t none in
+    valid_group (who_of c.args.setting.now c.held.inside.user) forest at n t permits
+    (rw (← c.setting.view_is) c.well_formed-3.ensures) c.as_str-valid.ensures.valid
 
 pub change-requires : goal.change-requires
 change-requires g c =
@@ -51,11 +53,11 @@ change-requires g c =
     let n = c.in-Some-node.file.now in
     let at = c.file-at.result in
     let t : Touched = touched_view c.touched_of-touched.result in
-    let none : wstat_fault c.held.inside.user forest at n t ≡ None =
-    sym c.wstat_fault.ensures ∙ c.in_default-wstat_fault.is in
-    let permits = nothing_refuses c.held.inside.user forest at n t none in
+    let none : wstat_fault (who_of c.args.setting.now c.held.inside.user) forest at n t ≡ None =
+    rw c.who.ensures at (sym c.wstat_fault.ensures ∙ c.in_default-wstat_fault.is) in
+    let permits = nothing_refuses (who_of c.args.setting.now c.held.inside.user) forest at n t none in
     rw c.node_change-change.ensures
-    (can_change c.held.inside.user forest at n t permits c.args.now c.well_formed-2.ensures
+    (can_change (who_of c.args.setting.now c.held.inside.user) forest at n t permits c.args.now c.well_formed-2.ensures
     (sym c.in-Some-node.ensures))
 
 pub returns-in_err-change : goal.returns-in_err-change
@@ -64,8 +66,8 @@ returns-in_err-change g c =
     let n = c.in-Some-node.file.now in
     let at = c.file-at.result in
     let t : Touched = touched_view c.touched_of-touched.result in
-    let none : wstat_fault c.held.inside.user forest at n t ≡ None =
-    sym c.wstat_fault.ensures ∙ c.in_default-wstat_fault.is in
+    let none : wstat_fault (who_of c.args.setting.now c.held.inside.user) forest at n t ≡ None =
+    rw c.who.ensures at (sym c.wstat_fault.ensures ∙ c.in_default-wstat_fault.is) in
     let v = c.in-Some.held.now in
     let wanted : StatFields = stat_view c.args.wanted.now in
     let held : fid_at c.args.fid c.args.session.now.fids ≡ Some v =
@@ -76,7 +78,7 @@ returns-in_err-change g c =
     let t_is : t ≡ touched_of (stat_of at n) wanted =
     c.touched_of-touched.ensures
     ∙ ap (λ (s : StatFields). touched_of s wanted) c.stat_of-there.ensures.value in
-    let free : wstat_fault v.user forest at n t ≡ None = rw (← c.held.view_is) none in
+    let free : wstat_fault (who_of c.args.setting.now v.user) forest at n t ≡ None = rw (← c.held.view_is) none in
     let done =
     wstat_answer-done c.args.setting.now forest c.args.session.now c.args.now c.args.fid wanted
     v n at t c.file-at.ensures held (sym c.in-Some-node.ensures) fixed t_is free in
@@ -91,8 +93,8 @@ returns g c =
     let n = c.in-Some-node.file.now in
     let at = c.file-at.result in
     let t : Touched = touched_view c.touched_of-touched.result in
-    let none : wstat_fault c.held.inside.user forest at n t ≡ None =
-    sym c.wstat_fault.ensures ∙ c.in_default-wstat_fault.is in
+    let none : wstat_fault (who_of c.args.setting.now c.held.inside.user) forest at n t ≡ None =
+    rw c.who.ensures at (sym c.wstat_fault.ensures ∙ c.in_default-wstat_fault.is) in
     let v = c.in-Some.held.now in
     let wanted : StatFields = stat_view c.args.wanted.now in
     let held : fid_at c.args.fid c.args.session.now.fids ≡ Some v =
@@ -103,7 +105,7 @@ returns g c =
     let t_is : t ≡ touched_of (stat_of at n) wanted =
     c.touched_of-touched.ensures
     ∙ ap (λ (s : StatFields). touched_of s wanted) c.stat_of-there.ensures.value in
-    let free : wstat_fault v.user forest at n t ≡ None = rw (← c.held.view_is) none in
+    let free : wstat_fault (who_of c.args.setting.now v.user) forest at n t ≡ None = rw (← c.held.view_is) none in
     let done =
     wstat_answer-done c.args.setting.now forest c.args.session.now c.args.now c.args.fid wanted
     v n at t c.file-at.ensures held (sym c.in-Some-node.ensures) fixed t_is free in

@@ -1,5 +1,6 @@
 use Rattle.std.proofs.Common.{◌≡◌, drop, map}
-use Rattle.std.specs.Option.{option_copied}
+use Rattle.std.specs.Option.{option_map}
+use Rattle.p9_space.specs.Rights.{who_view}
 use Rattle.p9_space.specs.Walk.{walk}
 use Rattle.p9_space.proofs.walk.resolve.Given as goal
 
@@ -7,6 +8,6 @@ use Rattle.p9_space.proofs.walk.resolve.Given as goal
 abbrev pub invariant-loop-name : goal.invariant-loop-name
 invariant-loop-name g l =
     let forest = map g.T.Tree.state l.forest.trees.items in
-    walk forest l.table (option_copied l.user) l.trail
+    walk forest l.table (option_map who_view l.who) l.trail
     (map (λ n. n.now) (drop l.name-index l.names))
-    ≡ walk forest l.table (option_copied l.user) l.start (map (λ n. n.now) l.names)
+    ≡ walk forest l.table (option_map who_view l.who) l.start (map (λ n. n.now) l.names)

@@ -9,7 +9,7 @@ invariant_of-world-2 g c =
     omega (arith, c.in-Some.ensures.variant.0 refl, c.world.inside.forest.trees.ok.0) in
     IsWorld-last g.T.Tree.state c.world.inside.forest.trees.items c.in-Some.tree.now
     c.add_file_to.new.tree _ c.world.inside.forest.trees.ok.0 some c.in-Some.ensures.value
-    _ _ _ _
+    _ _ _ _ _
     c.world.invariant c.add_file_to.ensures.next
 
 pub returns : goal.returns
@@ -19,6 +19,6 @@ returns g c =
     rw (← c.world.view_is)
     (Makes-last g.T.Tree.state c.world.inside.forest.trees.items c.in-Some.tree.now
     c.add_file_to.new.tree _ c.world.inside.forest.trees.ok.0 some c.in-Some.ensures.value
-    _ _ _ _
+    _ _ _ _ _
     (file_line c.args.path.now c.args.mode.now c.args.uid.now c.args.gid.now c.args.hex.now)
     c.add_file_to.result c.add_file_to.ensures.made)

@@ -7,7 +7,7 @@ use Rattle.p9_base.specs.Results.{try_fold}
 use Rattle.p9_base.proofs.Results.{try_fold-err, try_fold-ok}
 use Rattle.p9_world.specs.Read.{read_statement}
 use Rattle.p9_world.specs.World.{World}
-use Rattle.p9_world.proofs.Readings.{Tells-world_of, world_of-none, world_of-ok}
+use Rattle.p9_world.proofs.Readings.{Tells-world_of, is-zero, world_of-none, world_of-ok}
 use Rattle.p9_world.proofs.read.read_world.Goals as goal
 
 pub loop-statement-init : goal.loop-statement-init
@@ -52,7 +52,8 @@ returns-then-is_empty-clause-err g c =
     sym (ap (λ (w : World). length w.servers) c.world-2.view_is)
     ∙ length-map c.world-2.inside.servers.items string_bytes in
     let none : length c.loop-statement.world.servers ≡ 0 =
-    grind (arith, nat_tests, c.world-2.inside.servers.ok.0) in
+    count ∙ sym c.world-2.inside.servers.ok.0
+    ∙ is-zero c.is_empty.result _ c.is_empty.ensures c.if-is_empty.true in
     world_of-none statement_view c.deref-statement-items.result.now c.args.text.now same
     c.loop-statement.world c.loop-statement.statement-index c.loop-statement-test.false
     c.loop-statement.invariant none

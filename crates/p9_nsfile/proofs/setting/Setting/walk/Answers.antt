@@ -19,11 +19,11 @@ returns-in-Err g c =
     c.args.start.now names)) (Err stop)) (sym c.walk_stop.ensures)
     (Gives-walk_stop
     (walk (map g.T.Tree.state c.self.inside.forest.now.trees.items) c.args.table.now None
-    c.args.start.now names) c.in-Err.fault c.in-Err.ensures.err))
+    c.args.start.now names) c.in-Err.fault (rw c.nobody.ensures at c.in-Err.ensures.err)))
 
 pub returns-in-Ok : goal.returns-in-Ok
 returns-in-Ok g c =
     let names = map (λ n. n.now) c.args.names.now in
     let walked =
     λ (s : Setting). path_fault (walk s.forest c.args.table.now None c.args.start.now names) in
-    subst (λ s. walked s ≡ Ok c.in-Ok.trail) c.self.view_is (ap path_fault c.in-Ok.ensures.ok)
+    subst (λ s. walked s ≡ Ok c.in-Ok.trail) c.self.view_is (ap path_fault (rw c.nobody.ensures at c.in-Ok.ensures.ok))

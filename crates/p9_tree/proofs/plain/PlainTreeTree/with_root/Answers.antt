@@ -6,9 +6,5 @@ invariant_of-result g c =
     rw (
       c.in_ok-push.ensures.items,
       c.new-nodes.ensures.items,
-      c.root_mode.ensures,
-      c.sys.ensures,
-      c.sys-2.ensures,
-      c.sys-3.ensures,
-      c.new.ensures,
+      c.root.ensures,
     ) (record { well_formed = WellFormed-rooted })

@@ -1,0 +1,138 @@
+-- Nodes that are hidden or inside, seen from their parents.
+use Rattle.std.proofs.Common.{◌≡◌, ℕ, ◌+◌, ◌<◌, Bool, true, false, cond, ◌&&◌, ◌||◌, List, []}
+use Rattle.std.proofs.Common.{◌∷◌, Option, Some, None, refl, sym, ap, ◌∙◌, subst}
+use Rattle.std.proofs.Common.{option_and_then, length, get_or, take}
+use Rattle.std.specs.Prelude.{filter, map, ◌==◌, if◌then◌else◌, not}
+use Rattle.std.specs.Option.{option_map_or}
+use Rattle.std.proofs.lemmas.Bool.{or_left}
+use Rattle.std.proofs.lemmas.List.Folds.{list_any_more}
+use Rattle.p9_base.specs.declared.node_ref.NodeRef.{NodeRef}
+use Rattle.p9_base.specs.NodeRef.{beside, same_node}
+use Rattle.p9_tree.specs.Node.{Node}
+use Rattle.p9_tree.specs.Server.{Server}
+use Rattle.p9_tree.specs.Forest.{IsForest, is_dir_of, node_of}
+use Rattle.p9_tree.specs.Inside.{is_among, is_barred, is_hidden, is_inside}
+use Rattle.p9_inside.specs.Meaning.{has_barred_parent}
+use Rattle.p9_inside.proofs.Forests.{barred_is_hidden_or_inside, inside_by_parent, server_ordered}
+use Rattle.p9_cert.specs.Closed.{AreShown}
+use Rattle.p9_cert.specs.Gap.{row_fault, where_true}
+use Rattle.p9_cert.specs.Policy.{Policy}
+use Rattle.p9_cert.specs.Rows.{is_row}
+use Rattle.p9_cert.proofs.Basics.{same_ref}
+
+-- a node is hidden where it stands in the list
+pub row_is_hidden : (hidden : List NodeRef) (at : NodeRef) → is_row hidden at ≡ is_hidden at hidden
+unfolding is_hidden
+row_is_hidden [] at = refl
+row_is_hidden (r ∷ rs) at =
+    elim (r.server == at.server) as
+    (λ b. ((b && (r.number == at.number)) || is_row rs at)
+    ≡ is_among (map (λ s. s.number)
+    (cond b (r ∷ filter (λ s. s.server == at.server) rs)
+    (filter (λ s. s.server == at.server) rs))) at.number) [
+      | true ↦ ap (λ b. (r.number == at.number) || b) (row_is_hidden rs at)
+      | false ↦ row_is_hidden rs at
+    ]
+
+module _ (hidden : List NodeRef) (forest : List Server) (sound : IsForest forest) (at : NodeRef)
+  where
+    -- inside, by the number of the parent
+    by_parent : is_inside at hidden forest
+        ≡ option_map_or (λ p. is_barred (beside at p) hidden forest)
+        (option_and_then (λ n. n.parent) (node_of at forest)) false
+    by_parent = inside_by_parent hidden forest at ∙ go (node_of at forest)
+      where
+        go : (o : Option Node) → option_map_or (has_barred_parent at hidden forest) o false
+            ≡ option_map_or (λ p. is_barred (beside at p) hidden forest)
+            (option_and_then (λ n. n.parent) o) false
+        go None = refl
+        go (Some n) = refl
+
+    -- what has no parent is not inside
+    pub inside-none : option_and_then (λ n. n.parent) (node_of at forest) ≡ None
+        → is_inside at hidden forest ≡ false
+    inside-none e =
+        by_parent ∙ ap (λ o. option_map_or (λ p. is_barred (beside at p) hidden forest) o false) e
+
+    module _ (p : ℕ) (parent : option_and_then (λ n. n.parent) (node_of at forest) ≡ Some p) where
+      up : is_inside at hidden forest ≡ is_barred (beside at p) hidden forest
+      up =
+          by_parent
+          ∙ ap (λ o. option_map_or (λ p. is_barred (beside at p) hidden forest) o false) parent
+
+      barred : is_barred (beside at p) hidden forest
+          ≡ (is_hidden (beside at p) hidden || is_inside (beside at p) hidden forest)
+      barred = barred_is_hidden_or_inside hidden forest (beside at p) sound
+
+      -- where the parent is hidden, it is inside
+      pub inside-hidden : is_hidden (beside at p) hidden ≡ true → is_inside at hidden forest ≡ true
+      inside-hidden h =
+          up ∙ barred ∙ or_left (is_hidden (beside at p) hidden) (is_inside
+          (beside at p) hidden forest) h
+
+      -- where it is shown, it is not
+      pub inside-shown : (rows : List NodeRef) → AreShown hidden forest rows
+          → is_row rows (beside at p) ≡ true → is_inside at hidden forest ≡ false
+      inside-shown rows shown row = up ∙ shown.each (beside at p) row
+
+      -- else it is as the parent is
+      pub inside-up : is_hidden (beside at p) hidden ≡ false
+          → is_inside (beside at p) hidden forest ≡ is_inside at hidden forest
+      inside-up h =
+          sym (up ∙ barred ∙ ap (λ b. b || is_inside (beside at p) hidden forest) h)
+
+      -- and the parent's number is smaller
+      pub parent-smaller : p < at.number
+      parent-smaller = go (node_of at forest) refl parent
+        where
+          go : (o : Option Node) → node_of at forest ≡ o
+              → option_and_then (λ n. n.parent) o ≡ Some p → p < at.number
+          go None e q = let none : None ≡ Some p = q in absurd (cc)
+          go (Some n) e q = (server_ordered forest sound at.server).parents at.number p n e q
+
+-- A row without a fault is shown.
+
+fault-none : {X : Type 0} (w x y : X) (a b c : Bool)
+    → (if not a then Some w else if b then Some x else where_true c y) ≡ None
+    → (a ≡ true) × (b ≡ false) × (c ≡ false)
+fault-none w x y false b c e = let no : Some w ≡ None = e in absurd (cc)
+fault-none w x y true true c e = let no : Some x ≡ None = e in absurd (cc)
+fault-none w x y true false true e = let no : Some y ≡ None = e in absurd (cc)
+fault-none w x y true false false e = (refl, refl, refl)
+
+module _ (policy : Policy) (forest : List Server) (at : NodeRef) where
+  pub row_fault-none : row_fault policy forest at ≡ None
+      → (is_dir_of at forest ≡ true) × (is_hidden at policy.hidden ≡ false)
+      × (is_inside at policy.hidden forest ≡ false)
+  row_fault-none e = fault-none _ _ _ (is_dir_of at forest) (is_hidden at policy.hidden)
+      (is_inside at policy.hidden forest) e
+
+  pub not_barred : IsForest forest → row_fault policy forest at ≡ None
+      → is_barred at policy.hidden forest ≡ false
+  not_barred sound e =
+      let parts = row_fault-none e in
+      barred_is_hidden_or_inside policy.hidden forest at sound ∙ rw (parts.1, parts.2) refl
+
+-- A row more is shown.
+
+pub shown-none : (hidden : List NodeRef) (forest : List Server) → AreShown hidden forest []
+shown-none hidden forest = record { each = λ at e. let no : false ≡ true = e in absurd (cc) }
+
+pub shown-more : (hidden : List NodeRef) (forest : List Server) (rows : List NodeRef) (i : ℕ)
+    (row d : NodeRef) → i < length rows → row ≡ get_or rows i d
+    → is_barred row hidden forest ≡ false → AreShown hidden forest (take i rows)
+    → AreShown hidden forest (take (i + 1) rows)
+shown-more hidden forest rows i row d l e out shown = record {
+  each = λ at t. go at (is_row (take i rows) at) refl (sym (list_any_more
+      (λ r. same_node r at) rows i d l) ∙ t);
+}
+  where
+    go : (at : NodeRef) (b : Bool) → is_row (take i rows) at ≡ b
+        → (is_row (take i rows) at || same_node (get_or rows i d) at) ≡ true
+        → is_barred at hidden forest ≡ false
+    go at true s t = shown.each at s
+    go at false s t =
+        let here : same_node (get_or rows i d) at ≡ true =
+        sym (ap (λ b. b || same_node (get_or rows i d) at) s) ∙ t in
+        let same : row ≡ at = e ∙ same_ref (get_or rows i d) at here in
+        subst (λ r. is_barred r hidden forest ≡ false) same out

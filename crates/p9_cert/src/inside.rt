@@ -1,0 +1,60 @@
+//! Whether a node is hidden, or inside a hidden directory.
+
+ghost use Rattle.std.specs.Prelude.{◌≡◌, ◌<◌, AllPairs, IfSome, IsTrue, map, option_and_then};
+ghost use Rattle.p9_tree.specs.Forest.{node_of};
+ghost use Rattle.p9_tree.specs.Inside.{is_hidden, is_inside};
+ghost use Rattle.p9_cert.specs.Closed.{AreShown};
+ghost use Rattle.p9_cert.specs.Rows.{is_below, is_row};
+
+use crate::rows::is_row;
+use p9_base::NodeRef;
+use p9_tree::{Forest, Tree};
+
+/// Whether the node is a hidden directory.
+pub(crate) fn is_hidden(hidden: &[NodeRef], at: NodeRef) -> bool
+    ensures { result ≡ is_hidden at hidden.now }
+{
+    is_among(hidden, at)
+}
+
+// Whether the node is among these.
+fn is_among(nodes: &[NodeRef], at: NodeRef) -> bool
+    ensures { result ≡ is_row nodes.now at }
+{
+    nodes.iter().any(|other| *other == at)
+}
+
+/// Whether the node is inside a hidden directory. Its parents are looked at, upward, as far as the
+/// first of them that is known: one that is hidden, or one of the rows, which are shown.
+pub(crate) fn is_inside<T: Tree>(
+    forest: &Forest<T>,
+    hidden: &[NodeRef],
+    shown: &[NodeRef],
+    at: NodeRef,
+) -> bool
+    requires rising { AllPairs (λ a b. IsTrue (is_below a b)) shown.now }
+    requires shown { AreShown hidden.now (map T.state forest.now.trees.items) shown.now }
+    ensures { result ≡ is_inside at hidden.now (map T.state forest.now.trees.items) }
+{
+    forest.well_formed();
+    let mut number = at.number;
+    while let Some(parent) = parent_of(forest, at.beside(number)) {
+        let dir = at.beside(parent);
+        if is_hidden(hidden, dir) {
+            return true;
+        }
+        if is_row(shown, dir) {
+            return false;
+        }
+        number = parent;
+    }
+    false
+}
+
+// The number of the directory that the node stands in.
+fn parent_of<T: Tree>(forest: &Forest<T>, at: NodeRef) -> Option<u64>
+    ensures { result ≡ option_and_then (λ n. n.parent)
+        (node_of at (map T.state forest.now.trees.items)) }
+{
+    forest.node(at)?.parent()
+}

@@ -1,0 +1,26 @@
+//! Certificates: lists of directories beyond which no listed user comes, and the check of one.
+//!
+//! A world hides directories. A certificate lists every directory that listed users may come to
+//! search, so to look at its rows and their children is enough to know that no walk leads into a
+//! hidden directory. Who made it isn't trusted: [`verify`] tests it against the world and the mount
+//! table, and tells the first [`Gap`].
+#![tactic(auto)]
+
+mod certificate;
+mod check;
+mod gap;
+mod inside;
+pub mod laws;
+mod listed;
+mod place;
+mod read;
+mod rows;
+mod write;
+
+pub use certificate::Certificate;
+pub use check::verify;
+pub use gap::{Gap, MemberFault, RowFault};
+pub use listed::may_pass;
+pub use place::member_fault;
+pub use read::{ReadError, read_cert};
+pub use write::write_cert;

@@ -1,0 +1,51 @@
+//! Each growth of a certificate is refused in turn.
+
+use p9_base::NoMemory;
+use p9_cert::{ReadError, read_cert, write_cert};
+use p9_refusing::{Refusing, refuse_each};
+use std::alloc::Global;
+use std::process::Abort;
+
+const TEXT: &str = "\
+cert 1
+dir 0 0
+# a comment
+dir 0 7
+dir 1 0
+dir 1 4
+dir 2 0
+dir 3 281474976710655
+";
+
+const WRITTEN: &str = "\
+cert 1
+dir 0 0
+dir 0 7
+dir 1 0
+dir 1 4
+dir 2 0
+dir 3 281474976710655
+";
+
+// Reads and writes the text, each again where it was refused.
+fn read_again(rt: &impl Abort, memory: &Refusing<Global>) {
+    let certificate = match read_cert(memory, TEXT) {
+        Ok(certificate) => certificate,
+        Err(error) => {
+            assert_eq!(rt; error, ReadError::NoMemory);
+            read_cert(memory, TEXT).expect(rt, "a certificate with ample memory")
+        }
+    };
+    let written = match write_cert(memory, &certificate) {
+        Ok(text) => text,
+        Err(NoMemory) => write_cert(memory, &certificate).expect(rt, "a text with ample memory"),
+    };
+    assert_eq!(rt; written.as_str(), WRITTEN);
+}
+
+#[test]
+fn a_certificate_is_read_and_written_after_each_refusal(rt: HostRuntime) {
+    let memory = Refusing::new(rt.alloc());
+    let refusals = refuse_each(&memory, || (), |()| read_again(&rt, &memory));
+    assert!(rt; refusals > 10);
+}

@@ -1,0 +1,104 @@
+//! What is told of a certificate over a world and a mount table.
+
+use p9_base::{Group, Groups, NoMemory, NodeRef, User, number, words};
+use p9_cert::{Certificate, read_cert, verify};
+use p9_space::{MountTable, Order};
+use p9_tree::{NEXT_MAX, PlainTree};
+use p9_world::{World, read_world};
+use std::alloc::Global;
+use std::process::Abort;
+
+// A text, with a head and a line for each part between semicolons.
+fn lines_of(alloc: Global, head: &str, parts: &str) -> Result<String, NoMemory> {
+    let mut text = String::from_str(alloc, head)?;
+    let rest = parts.replace(alloc, ';', "\n")?;
+    text.push_str(rest.as_str())?;
+    Ok(text)
+}
+
+/// Tells what `verify` returns of a row: the lines of a world whose server is `main` and whose
+/// first user is `glenda`, the rows of a mount table, the groups, and the lines of a certificate
+/// behind `cert 1`. Bars stand between the four, and semicolons between lines.
+pub fn told(rt: &impl Abort, alloc: Global, row: &str) -> Result<String, NoMemory> {
+    let (world, row) = row.split_once('|').expect(rt, "a table");
+    let (table, row) = row.split_once('|').expect(rt, "groups");
+    let (groups, rows) = row.split_once('|').expect(rt, "a certificate");
+    let world = world_of(rt, alloc, world, groups)?;
+    let table = table_of(rt, alloc, table)?;
+    let certificate = certificate_of(rt, alloc, rows)?;
+    match verify(&world, &table, &certificate) {
+        Ok(()) => Ok(String::from_str(alloc, "ok")?),
+        Err(gap) => Ok(format!(in alloc; "{gap}")?),
+    }
+}
+
+fn world_of(
+    rt: &impl Abort,
+    alloc: Global,
+    world: &str,
+    groups: &str,
+) -> Result<World<PlainTree<Global>>, NoMemory> {
+    let text = lines_of(alloc, "server main\nuser glenda\n", world)?;
+    let mut world = read_world(alloc, text.as_str()).expect(rt, "a world");
+    add_groups(rt, alloc, &mut world.groups, groups)?;
+    Ok(world)
+}
+
+// Lists groups: of each its name, its leader and its members.
+fn add_groups(
+    rt: &impl Abort,
+    alloc: Global,
+    groups: &mut Groups<Global>,
+    text: &str,
+) -> Result<(), NoMemory> {
+    for line in text.split(';') {
+        let names = words(alloc, line)?;
+        if let [name, leader, members @ ..] = names.as_slice() {
+            let mut group = Group::new(alloc, user(rt, leader));
+            for member in members {
+                let _new = group.add_member(user(rt, member))?;
+            }
+            groups.insert(user(rt, name), group)?;
+        }
+    }
+    Ok(())
+}
+
+fn user(rt: &impl Abort, name: &str) -> User {
+    User::new(name).expect(rt, "a user")
+}
+
+// A mount table of rows: of each its key and its members, every node by its server and its number.
+fn table_of(rt: &impl Abort, alloc: Global, text: &str) -> Result<MountTable<Global>, NoMemory> {
+    let mut table = MountTable::new(alloc);
+    for line in text.split(';') {
+        let nodes = nodes_of(rt, alloc, line)?;
+        if let [key, members @ ..] = nodes.as_slice() {
+            assert!(rt; members.len() > 0);
+            table.bind(*key, members, Order::Replace, false)?;
+        }
+    }
+    Ok(table)
+}
+
+fn nodes_of(rt: &impl Abort, alloc: Global, line: &str) -> Result<Vec<NodeRef>, NoMemory> {
+    let mut nodes = Vec::new(alloc);
+    for pair in words(alloc, line)?.chunks(2) {
+        if let [server, node] = pair {
+            nodes.push(NodeRef {
+                server: number(server, 1 << 16).expect(rt, "a server") as u16,
+                number: number(node, NEXT_MAX).expect(rt, "a number"),
+            })?;
+        }
+    }
+    Ok(nodes)
+}
+
+fn certificate_of(
+    rt: &impl Abort,
+    alloc: Global,
+    rows: &str,
+) -> Result<Certificate<Global>, NoMemory> {
+    let text = lines_of(alloc, "cert 1\n", rows)?;
+    Ok(read_cert(alloc, text.as_str()).expect(rt, "a certificate"))
+}

@@ -1,0 +1,87 @@
+//! Certificates as texts.
+
+use p9_base::NoMemory;
+use p9_cert::{ReadError, read_cert, write_cert};
+use std::alloc::Global;
+use std::process::Abort;
+use std::test::Fail;
+
+// What is told of a text whose lines end at semicolons: the lines that are written of it, or why it
+// is no certificate.
+const TEXTS: &str = "\
+line 1 is bad =
+line 1 is bad = ;;# nothing
+line 1 is bad = cert
+line 1 is bad = cert 01
+line 1 is bad = cert 2
+line 1 is bad = cert 1 1
+line 1 is bad = Cert 1
+line 1 is bad = cert 1\r;dir 0 0
+line 2 is bad = # rows;dir 0 0
+line 3 is bad = cert 1;;cert 1
+cert 1; = cert 1
+cert 1; = ;# rows;  cert\t1 ;
+cert 1;dir 0 1; = cert 1;dir 00 01
+cert 1;dir 0 0;dir 0 1;dir 1 0; = cert 1;dir 0 0; # more;;dir 0 1;\tdir 1 0
+cert 1;dir 65535 281474976710655; = cert 1;dir 65535 281474976710655
+line 2 is bad = cert 1;dir 65536 0
+line 2 is bad = cert 1;dir 0 281474976710656
+line 2 is bad = cert 1;dir 0 99999999999999999999
+line 2 is bad = cert 1;dir 0
+line 2 is bad = cert 1;dir
+line 2 is bad = cert 1;dir 0 0 0
+line 2 is bad = cert 1;dir 0 +1
+line 2 is bad = cert 1;dir 0 0x1
+line 2 is bad = cert 1;dir -1 0
+line 2 is bad = cert 1;file 0 0
+line 3 is bad = cert 1;dir 0 1;dir 0 1
+line 3 is bad = cert 1;dir 0 1;dir 0 0
+line 3 is bad = cert 1;dir 1 0;dir 0 1
+line 4 is bad = cert 1;dir 0 1;dir 1 0;dir 0 2;dir 0";
+
+fn told(alloc: Global, text: &str) -> Result<String, NoMemory> {
+    match read_cert(alloc, text) {
+        Ok(certificate) => {
+            certificate.well_formed();
+            let text = write_cert(alloc, &certificate)?;
+            Ok(text.as_str().replace(alloc, '\n', ";")?)
+        }
+        Err(error) => Ok(format!(in alloc; "{error}")?),
+    }
+}
+
+fn are_told(rt: &impl Abort, alloc: Global, rows: &str) -> Result<(), NoMemory> {
+    for row in rows.lines() {
+        let (want, text) = row.split_once(" =").expect(rt, "a row");
+        let text = text.replace(alloc, ';', "\n")?;
+        let told = told(alloc, text.as_str())?;
+        assert_eq!(rt; told.as_str(), want, "{row}");
+    }
+    Ok(())
+}
+
+#[test]
+fn texts_are_read_and_written(rt: HostRuntime) -> Result<(), Fail> {
+    are_told(&rt, rt.alloc(), TEXTS)?;
+    Ok(())
+}
+
+// A text that ends early is a certificate or has a bad line, which is its last or the first.
+#[test]
+fn texts_may_end_anywhere(rt: HostRuntime) -> Result<(), Fail> {
+    let mut text = String::new(rt.alloc());
+    let mut line = 1;
+    for byte in "cert 1\ndir 0 0\n\n# c\ndir 12 345\ndir 65535 281474976710655\n".chars() {
+        match read_cert(rt.alloc(), text.as_str()) {
+            Ok(certificate) => assert!(rt; certificate.rows().len() <= 3),
+            Err(error) => assert_eq!(rt; error, ReadError::BadCert { line }),
+        }
+        text.push(byte)?;
+        if byte == '\n' {
+            line = line.saturating_add(1);
+        }
+    }
+    let certificate = read_cert(rt.alloc(), text.as_str())?;
+    assert_eq!(rt; certificate.rows().len(), 3);
+    Ok(())
+}

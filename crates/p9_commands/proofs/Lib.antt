@@ -1,0 +1,11 @@
+mod Scripts
+mod Bundles
+mod Smalls
+mod Plays
+mod Worlds
+mod Prints
+mod Paths
+mod NameSpaces
+mod Machines
+mod Tasks
+mod Judgements

@@ -1,0 +1,12 @@
+pub mod Script
+pub mod Bundle
+pub mod Play
+pub mod Refusal
+pub mod Small
+pub mod NameSpace
+pub mod Report
+pub mod Path
+pub mod Listing
+pub mod Judgement
+pub mod Task
+pub mod Command

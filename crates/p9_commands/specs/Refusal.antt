@@ -1,0 +1,57 @@
+-- Why a command does nothing, and how it is told.
+use Rattle.std.specs.Prelude.{◌≡◌, ℕ, List, ◌++◌, Option, Some, Result, Ok, Err, codes}
+use Rattle.std.specs.Fmt.{decimal}
+use Rattle.p9_world.specs.Error.{line_fault_text}
+use Rattle.p9_nsfile.specs.Text.{form_text}
+use Rattle.p9_cert.specs.Gap.{gap_text}
+use Rattle.p9_cert.specs.declared.gap.Gap.{Gap}
+use Rattle.p9_commands.specs.declared.refusal.Refusal.{Refusal}
+use Rattle.p9_commands.specs.declared.refusal.Refusal.TheVariants.{BadCommandLine, NotUtf8}
+use Rattle.p9_commands.specs.declared.refusal.Refusal.TheVariants.{BadSection}
+use Rattle.p9_commands.specs.declared.refusal.Refusal.TheVariants.{BadWorld, BadOperation, BadEvent}
+use Rattle.p9_commands.specs.declared.refusal.Refusal.TheVariants.{BadCertificate, NoCertificate}
+use Rattle.p9_commands.specs.declared.refusal.Refusal.TheVariants.{Unverified}
+use Rattle.p9_commands.specs.declared.refusal.Stop.{Stop}
+use Rattle.p9_commands.specs.declared.refusal.Stop.TheVariants.{Refused, NoMemory}
+
+-- what is bad is refused under this name
+abbrev pub or_refused : {X E : Type 0} → (E → Refusal) → Result X E → Result X Refusal
+or_refused refusal (Ok value) = Ok value
+or_refused refusal (Err bad) = Err (refusal bad)
+
+-- an error says that memory was refused, or why nothing is done
+abbrev pub IsStop : {X : Type 0} → Result X Refusal → Stop → Type 0
+IsStop asked NoMemory = Unit {0}
+IsStop asked (Refused refusal) = asked ≡ Err refusal
+
+-- an error says that memory was refused, or that this is the certificate's first gap
+abbrev pub IsUnverified : Option Gap → Stop → Type 0
+IsUnverified gap NoMemory = Unit {0}
+IsUnverified gap (Refused refusal) =
+    (found : Gap) × (gap ≡ Some found) × (refusal ≡ Unverified found)
+
+-- a refusal has printed nothing
+abbrev pub IsSilent : List ℕ → List ℕ → Stop → Type 0
+IsSilent before after NoMemory = Unit {0}
+IsSilent before after (Refused refusal) = after ≡ before
+
+-- what is told of a line of a section
+abbrev pub at_line : List ℕ → ℕ → List ℕ → List ℕ
+at_line section line text = section ++ codes ":" ++ decimal line ++ codes ": " ++ text
+
+-- the line that tells a refusal
+abbrev pub refusal_text : Refusal → List ℕ
+refusal_text BadCommandLine = codes "p9: bad command line"
+refusal_text NotUtf8 = codes "input: not UTF-8"
+refusal_text (BadSection line) = at_line (codes "bundle") line (codes "bad section")
+refusal_text (BadWorld line kind) = at_line (codes "world") line (line_fault_text kind)
+refusal_text (BadOperation line kind) = at_line (codes "ns") line (form_text kind)
+refusal_text (BadCertificate line) = at_line (codes "cert") line (codes "bad line")
+refusal_text NoCertificate = codes "cert: missing"
+refusal_text (BadEvent line) = at_line (codes "script") line (codes "bad line")
+refusal_text (Unverified gap) = codes "cert: " ++ gap_text gap
+
+-- the exit status that tells a refusal
+abbrev pub status_of : Refusal → ℕ
+status_of BadCommandLine = 2
+status_of other = 1

@@ -1,0 +1,75 @@
+-- Scripts: what happens to the exporter, line by line.
+use Rattle.std.specs.Prelude.{◌≡◌, ℕ, ◌^◌, List, [], ◌∷◌, ◌++◌, Option, Some, None, Result, Ok, Err}
+use Rattle.std.specs.Prelude.{codes, if◌then◌else◌}
+use Rattle.std.specs.Option.{option_map}
+use Rattle.std.specs.Result.{result_ok}
+use Rattle.std.specs.Str.{bytes_eq}
+use Rattle.hex.specs.Hex.{decode_of}
+use Rattle.p9_base.specs.Decimal.{number_of}
+use Rattle.p9_base.specs.Statement.{statements_of}
+use Rattle.p9_base.specs.Results.{try_fold}
+use Rattle.p9_step.specs.Event.{Event, Open, Message, Close}
+use Rattle.p9_commands.specs.declared.script.ScriptError.{ScriptError}
+use Rattle.p9_commands.specs.declared.script.ScriptError.TheVariants.{BadScript, NoMemory}
+
+-- a session's name, and a reading of the clock
+abbrev pub short_number : List ℕ → Option ℕ
+short_number word = number_of (2 ^ 32) word
+
+-- the frame that hexadecimal digits of either case write: one byte or more
+abbrev pub frame_in : List ℕ → Option (List ℕ)
+frame_in [] = None
+frame_in (digit ∷ digits) = result_ok (decode_of (digit ∷ digits))
+
+-- `open S`
+abbrev pub open_event_of : List ℕ → List ℕ → Option Event
+open_event_of verb name =
+    if bytes_eq verb (codes "open") then option_map Open (short_number name) else None
+
+-- a message, where all three of its parts are good
+abbrev pub message_event_at : Option ℕ → Option (List ℕ) → Option ℕ → Option Event
+message_event_at (Some name) (Some frame) (Some now) = Some (Message name frame now)
+message_event_at name frame now = None
+
+-- `msg S NOW HEX`
+abbrev pub message_event_of : List ℕ → List ℕ → List ℕ → List ℕ → Option Event
+message_event_of verb name now hex =
+    if bytes_eq verb (codes "msg")
+    then message_event_at (short_number name) (frame_in hex) (short_number now)
+    else None
+
+-- a closing, where both of its parts are good
+abbrev pub close_event_at : Option ℕ → Option ℕ → Option Event
+close_event_at (Some name) (Some now) = Some (Close name now)
+close_event_at name now = None
+
+-- `close S NOW`
+abbrev pub close_event_of : List ℕ → List ℕ → List ℕ → Option Event
+close_event_of verb name now =
+    if bytes_eq verb (codes "close") then close_event_at (short_number name) (short_number now)
+    else None
+
+-- the event that the words of a line say, if they say one
+abbrev pub event_of : List (List ℕ) → Option Event
+event_of (verb ∷ name ∷ []) = open_event_of verb name
+event_of (verb ∷ name ∷ now ∷ hex ∷ []) = message_event_of verb name now hex
+event_of (verb ∷ name ∷ now ∷ []) = close_event_of verb name now
+event_of words = None
+
+-- the event joins the others; a line that says none is bad
+abbrev pub joined : List Event → ℕ → Option Event → Result (List Event) ℕ
+joined events line (Some event) = Ok (events ++ event ∷ [])
+joined events line None = Err line
+
+-- the same of a statement: its line and its words
+abbrev pub with_statement : List Event → ℕ × List (List ℕ) → Result (List Event) ℕ
+with_statement events statement = joined events statement.0 (event_of statement.1)
+
+-- the events of a script, in order, or the number of its first bad line
+abbrev pub script_of : List ℕ → Result (List Event) ℕ
+script_of text = try_fold with_statement [] (statements_of text)
+
+-- an error says that memory was refused, or which line is the first bad one
+abbrev pub IsScriptFault : Result (List Event) ℕ → ScriptError → Type 0
+IsScriptFault script NoMemory = Unit {0}
+IsScriptFault script (BadScript line) = script ≡ Err line

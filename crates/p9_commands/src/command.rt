@@ -1,0 +1,202 @@
+//! The program's commands.
+
+ghost use Rattle.std.specs.Prelude.{◌≡◌, IfErr, IfOk, None, Ok, OnOk, map};
+ghost use Rattle.p9_commands.specs.Bundle.{bundle_view};
+ghost use Rattle.p9_commands.specs.Command.{Ends, Runs, Writes, command_of, job, job_in, job_of};
+ghost use Rattle.p9_commands.specs.Command.{job_over};
+ghost use Rattle.p9_commands.specs.Refusal.{IsSilent, IsUnverified};
+ghost use Rattle.p9_commands.specs.Task.{ToPlay, gap_in, task_view};
+ghost use Rattle.p9_export.specs.Event.{event_view};
+
+use crate::bundle::Bundle;
+use crate::input::{name_space, script, sections, text};
+use crate::line::print_line;
+use crate::name_space::NameSpace;
+use crate::play::play_events;
+use crate::refusal::{Refusal, Stop};
+use crate::task::{Command, Task};
+use p9_base::NoMemory;
+use p9_cert::Certificate;
+use p9_export::Event;
+use p9_index::IndexTree;
+use std::alloc::Allocator;
+
+/// Runs a command of the program over its input, and answers the exit status. What is printed goes
+/// behind what stands in `out`, and what is told of faults, in lines, behind what stands in `err`.
+///
+/// The input is a bundle. Its world, or the sample world without one, is what the lines of its
+/// namespace section are run over. An operation that fails is told as `ns:L: TEXT`, and does
+/// nothing more. Then
+///
+/// - `play` plays the script over the name space, on a [`Guard`](p9_guard::Guard) where the input
+///   has a certificate. For each frame it prints a line, the reply in lower case hexadecimal
+///   digits, and `skip` for an event that doesn't fit. It ends with status 0.
+/// - `check` prints `yes` and a certificate, and ends with status 0, or `no` and the lines of a
+///   breach, and ends with status 1, as [`judge`](p9_judge::judge) says.
+/// - `verify` prints `ok` and ends with status 0, or the first gap of the input's certificate and
+///   ends with status 1, as [`verify`](p9_cert::verify) says.
+/// - `ns` prints the mount table, a bind for each member of each row, and ends with status 0.
+///
+/// An input ends with status 1 that is not UTF-8 or no bundle, and so does the first bad line of
+/// its world, its namespace file, its certificate and its script, in this order. With the
+/// certificate's turn comes that `verify` finds none, and last that `play` finds a gap in it. Any
+/// other command ends with status 2. Each of these is told on `err`, and nothing is printed on
+/// `out`. Where an allocation fails, a part of the output may be printed.
+pub fn run_command<A: Allocator + Copy>(
+    word: &str,
+    input: &[u8],
+    out: &mut Vec<u8, A>,
+    err: &mut Vec<u8, A>,
+) -> Result<u8, NoMemory>
+    ensures { IfOk result (λ status. Ends (job_of word.now input.now) status (record {
+      out_before = out.old.items;
+      out = out.new.items;
+      err_before = err.old.items;
+      err = err.new.items;
+    })) }
+{
+    match run(word, input, out, err) {
+        Ok(status) => Ok(status),
+        Err(Stop::Refused(refusal)) => {
+            let text = refusal.text(*err.allocator())?;
+            print_line(text.as_str(), err)?;
+            Ok(refusal.status())
+        }
+        Err(Stop::NoMemory) => Err(NoMemory),
+    }
+}
+
+// Does what a command is asked, up to the reason that stops it.
+fn run<A: Allocator + Copy>(
+    word: &str,
+    input: &[u8],
+    out: &mut Vec<u8, A>,
+    err: &mut Vec<u8, A>,
+) -> Result<u8, Stop>
+    ensures { Runs (job_of word.now input.now) (record {
+      out_before = out.old.items;
+      out = out.new.items;
+      err_before = err.old.items;
+      err = err.new.items;
+    }) result }
+{
+    match command_of(word) {
+        Some(command) => run_in(command, input, out, err),
+        None => Err(Stop::Refused(Refusal::BadCommandLine)),
+    }
+}
+
+// The command of a word.
+fn command_of(word: &str) -> Option<Command>
+    ensures { result ≡ command_of word.now }
+{
+    match word {
+        "play" => Some(Command::Play),
+        "check" => Some(Command::Check),
+        "verify" => Some(Command::Verify),
+        "ns" => Some(Command::Ns),
+        _ => None,
+    }
+}
+
+// The same for a command, of an input.
+fn run_in<A: Allocator + Copy>(
+    command: Command,
+    input: &[u8],
+    out: &mut Vec<u8, A>,
+    err: &mut Vec<u8, A>,
+) -> Result<u8, Stop>
+    ensures { Runs (job_in command input.now) (record {
+      out_before = out.old.items;
+      out = out.new.items;
+      err_before = err.old.items;
+      err = err.new.items;
+    }) result }
+{
+    let Some(text) = text(input) else {
+        return Err(Stop::Refused(Refusal::NotUtf8));
+    };
+    let bundle = sections(*out.allocator(), text)?;
+    run_over(command, &bundle, out, err)
+}
+
+// The same for a command, of the sections of an input.
+fn run_over<A: Allocator + Copy>(
+    command: Command,
+    bundle: &Bundle<A>,
+    out: &mut Vec<u8, A>,
+    err: &mut Vec<u8, A>,
+) -> Result<u8, Stop>
+    ensures { Runs (job_over command (bundle_view bundle.now)) (record {
+      out_before = out.old.items;
+      out = out.new.items;
+      err_before = err.old.items;
+      err = err.new.items;
+    }) result }
+{
+    let space = name_space(*out.allocator(), bundle)?;
+    run_on(command, space, bundle, out, err)
+}
+
+// The same for a command, of a name space and the other sections: what failed in the making of the
+// name space is told first.
+fn run_on<A: Allocator + Copy>(
+    command: Command,
+    space: NameSpace<IndexTree<A>>,
+    bundle: &Bundle<A>,
+    out: &mut Vec<u8, A>,
+    err: &mut Vec<u8, A>,
+) -> Result<u8, Stop>
+    ensures { Runs (Ok (job command (bundle_view bundle.now) space)) (record {
+      out_before = out.old.items;
+      out = out.new.items;
+      err_before = err.old.items;
+      err = err.new.items;
+    }) result }
+{
+    space.print_reports(err)?;
+    let task = Task::read(*out.allocator(), command, bundle)?;
+    let events = script(*out.allocator(), bundle)?;
+    work(task, space, events.as_slice(), out)
+}
+
+// Does a task, unless the script is to be played with a certificate that has a gap.
+fn work<A: Allocator + Copy>(
+    task: Task<A>,
+    space: NameSpace<IndexTree<A>>,
+    events: &[Event<A>],
+    out: &mut Vec<u8, A>,
+) -> Result<u8, Stop>
+    ensures ok { IfOk result (λ status. Writes (task_view task) (map event_view events.now) space
+        status out.old.items out.new.items) }
+    ensures admitted { OnOk result (gap_in space (task_view task) ≡ None) }
+    ensures stop { IfErr result (IsUnverified (gap_in space (task_view task))) }
+    ensures silent { IfErr result (IsSilent out.old.items out.new.items) }
+{
+    match task {
+        Task::Play(certificate) => play(certificate, space, events, out),
+        Task::Judge => Ok(space.check(out)?),
+        Task::Verify(certificate) => Ok(space.verify(&certificate, out)?),
+        Task::List => Ok(space.list(out)?),
+    }
+}
+
+// Plays the script, over a guard where there is a certificate.
+fn play<A: Allocator + Copy>(
+    certificate: Option<Certificate<A>>,
+    space: NameSpace<IndexTree<A>>,
+    events: &[Event<A>],
+    out: &mut Vec<u8, A>,
+) -> Result<u8, Stop>
+    ensures ok { IfOk result (λ status. Writes (ToPlay certificate) (map event_view events.now)
+        space status out.old.items out.new.items) }
+    ensures admitted { OnOk result (gap_in space (ToPlay certificate) ≡ None) }
+    ensures stop { IfErr result (IsUnverified (gap_in space (ToPlay certificate))) }
+    ensures silent { IfErr result (IsSilent out.old.items out.new.items) }
+{
+    match certificate {
+        Some(certificate) => play_events(&mut space.guard(certificate)?, events, out)?,
+        None => play_events(&mut space.export(), events, out)?,
+    }
+    Ok(0)
+}

@@ -1,0 +1,83 @@
+//! The mount table, told as binds.
+
+ghost use Rattle.std.specs.Prelude.{◌≡◌, ◌++◌, OnOk};
+ghost use Rattle.p9_commands.specs.Listing.{bind_line, first_flags, later_flags, later_line};
+ghost use Rattle.p9_commands.specs.Listing.{members_text, row_text, table_text};
+
+use crate::path::print_path;
+use p9_base::{NoMemory, NodeRef};
+use p9_space::{Member, MountTable};
+use p9_tree::Tree;
+use p9_world::World;
+
+/// Prints a mount table, a line for each member of each row. Where memory is refused, a part of it
+/// may stand there.
+pub(crate) fn print_table<T: Tree>(
+    world: &World<T>,
+    table: &MountTable<T::Alloc>,
+    out: &mut Vec<u8, T::Alloc>,
+) -> Result<(), NoMemory>
+    ensures { OnOk result (out.new.items ≡ out.old.items ++ table_text world.now table.now) }
+{
+    for position in 0..table.len() {
+        if let Some((key, members)) = table.row(position) {
+            print_row(world, key, members.as_slice(), out)?;
+        }
+    }
+    Ok(())
+}
+
+// A line for each member of a row.
+fn print_row<T: Tree>(
+    world: &World<T>,
+    key: NodeRef,
+    members: &[Member],
+    out: &mut Vec<u8, T::Alloc>,
+) -> Result<(), NoMemory>
+    ensures { OnOk result (out.new.items ≡ out.old.items ++ members_text world.now key
+        members.now) }
+{
+    let Some((first, others)) = members.split_first() else {
+        return Ok(());
+    };
+    print_bind(world, key, first_flags(first.create), first.node, out)?;
+    for member in others {
+        print_bind(world, key, later_flags(member.create), member.node, out)?;
+    }
+    Ok(())
+}
+
+// The flags of the first member, which replaces what stood there.
+fn first_flags(create: bool) -> &'static str
+    ensures { result.now ≡ first_flags create }
+{
+    if create { " -c" } else { "" }
+}
+
+// The flags of the others, each of which goes behind those before it.
+fn later_flags(create: bool) -> &'static str
+    ensures { result.now ≡ later_flags create }
+{
+    if create { " -ac" } else { " -a" }
+}
+
+// A member's line: `bind`, the flags, the member's path and the key's.
+fn print_bind<T: Tree>(
+    world: &World<T>,
+    key: NodeRef,
+    flags: &str,
+    node: NodeRef,
+    out: &mut Vec<u8, T::Alloc>,
+) -> Result<(), NoMemory>
+    ensures { OnOk result (out.new.items ≡ out.old.items ++ bind_line world.now key flags.now
+        node) }
+{
+    out.extend_from_slice(b"bind")?;
+    out.extend_from_slice(flags.as_bytes())?;
+    out.push(b' ')?;
+    print_path(world, node, out)?;
+    out.push(b' ')?;
+    print_path(world, key, out)?;
+    out.push(b'\n')?;
+    Ok(())
+}

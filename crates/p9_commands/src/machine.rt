@@ -1,0 +1,88 @@
+//! What a script is played on.
+
+ghost use Rattle.std.specs.Prelude.{◌≡◌, ◌≤◌, ◌↔◌, Err, None, IsSome, IsTrue, OnErr, OnOk};
+ghost use Rattle.std.specs.Prelude.{false, length, take};
+ghost use Rattle.p9_wire.specs.Frame.{is_frame, msize_max};
+ghost use Rattle.p9_step.specs.Event.{Open, Message, Close};
+ghost use Rattle.p9_step.specs.Memory.{is_no_memory_reply};
+ghost use Rattle.p9_step.specs.State.{State, session_at};
+ghost use Rattle.p9_step.specs.Step.{step};
+ghost use Rattle.p9_export.specs.declared.export.OpenError.TheVariants.{Live};
+
+use p9_export::{Export, OpenError};
+use p9_guard::Guard;
+use p9_tree::Tree;
+
+/// What a script is played on: an exporter, or a guard over one.
+pub(crate) trait Machine {
+    ghost state: { Self → State };
+
+    /// Whether a session of this name is open.
+    fn live(&self, name: u32) -> bool
+        ensures { IsTrue result ↔ IsSome (session_at name (state self.now).sessions) };
+
+    /// Opens a session. An error leaves the machine unchanged.
+    fn open(&mut self, name: u32) -> Result<(), OpenError>
+        ensures ok { OnOk result ((session_at name (state self.old).sessions ≡ None)
+            × (state self.new ≡ (step (state self.old) (Open name) false).state)) }
+        ensures live { (result ≡ Err Live) ↔ IsSome (session_at name (state self.old).sessions) }
+        ensures unchanged { OnErr result (state self.new ≡ state self.old) };
+
+    /// Answers one frame of an open session: writes the reply at the front of the buffer, and
+    /// returns its length.
+    fn answer(&mut self, name: u32, frame: &[u8], now: u32, reply: &mut [u8]) -> usize
+        requires live { IsSome (session_at name (state self.old).sessions) }
+        requires whole { IsTrue (is_frame frame.now) }
+        requires room { msize_max ≤ length reply.old }
+        ensures within { result ≤ length reply.old }
+        ensures state { state self.new ≡ (step (state self.old) (Message name frame.now now)
+            (is_no_memory_reply frame.now (take result reply.new))).state }
+        ensures bytes { take result reply.new
+            ≡ (step (state self.old) (Message name frame.now now) (is_no_memory_reply frame.now
+            (take result reply.new))).reply };
+
+    /// Closes a session, and ends its fids.
+    fn close(&mut self, name: u32, now: u32)
+        requires { IsSome (session_at name (state self.old).sessions) }
+        ensures { state self.new ≡ (step (state self.old) (Close name now) false).state };
+}
+
+impl<T: Tree> Machine for Export<T> {
+    ghost state = { λ e. e };
+
+    fn live(&self, name: u32) -> bool {
+        Export::live(self, name)
+    }
+
+    fn open(&mut self, name: u32) -> Result<(), OpenError> {
+        Export::open(self, name)
+    }
+
+    fn answer(&mut self, name: u32, frame: &[u8], now: u32, reply: &mut [u8]) -> usize {
+        self.message(name, frame, now, reply)
+    }
+
+    fn close(&mut self, name: u32, now: u32) {
+        Export::close(self, name, now);
+    }
+}
+
+impl<T: Tree> Machine for Guard<T> {
+    ghost state = { λ g. g.state };
+
+    fn live(&self, name: u32) -> bool {
+        Guard::live(self, name)
+    }
+
+    fn open(&mut self, name: u32) -> Result<(), OpenError> {
+        Guard::open(self, name)
+    }
+
+    fn answer(&mut self, name: u32, frame: &[u8], now: u32, reply: &mut [u8]) -> usize {
+        Guard::answer(self, name, frame, now, reply)
+    }
+
+    fn close(&mut self, name: u32, now: u32) {
+        Guard::close(self, name, now);
+    }
+}

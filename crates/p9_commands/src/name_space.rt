@@ -1,0 +1,215 @@
+//! The name space of an input: its world, and the mount table that its namespace file makes.
+
+ghost use Rattle.std.specs.Prelude.{◌≡◌, ◌⊎◌, ◌++◌, ◌<◌, IfErr, IfOk, None, Ok, OnOk, Some};
+ghost use Rattle.std.specs.Prelude.{length};
+ghost use Rattle.std.specs.Option.{option_copied};
+ghost use Rattle.p9_nsfile.specs.Given.{KeepsGiven};
+ghost use Rattle.p9_nsfile.specs.Line.{IsNsFault};
+ghost use Rattle.p9_nsfile.specs.Run.{run_of};
+ghost use Rattle.p9_guard.specs.Guard.{new_guard};
+ghost use Rattle.p9_commands.specs.Judgement.{IsTold, SaysNo, SaysYes, verified_status};
+ghost use Rattle.p9_commands.specs.Judgement.{verified_text};
+ghost use Rattle.p9_commands.specs.Listing.{table_text};
+ghost use Rattle.p9_commands.specs.NameSpace.{exported, gap_over, or_bad_operation, setting_of};
+ghost use Rattle.p9_commands.specs.NameSpace.{space_in, space_over, world_in};
+ghost use Rattle.p9_commands.specs.Refusal.{IsStop, IsUnverified};
+ghost use Rattle.p9_commands.specs.Report.{reports_text};
+
+use crate::judgement::{print_verdict, print_verified};
+use crate::listing::print_table;
+use crate::refusal::{Refusal, Stop};
+use crate::report::print_reports;
+use crate::small::small_world;
+use p9_base::NoMemory;
+use p9_cert::{Certificate, verify};
+use p9_export::Export;
+use p9_guard::{Cause, Guard};
+use p9_judge::judge;
+use p9_nsfile::{NsError, OpFault, run_file};
+use p9_space::MountTable;
+use p9_tree::Tree;
+use p9_world::{World, WorldError, read_world};
+use std::alloc::Allocator;
+use std::marker::Model;
+
+/// A world, the mount table that a namespace file made over it, and what failed in its making: the
+/// line and the fault. The table names only nodes that were made.
+#[derive(Drop)]
+pub(crate) struct NameSpace<T: Tree> {
+    world: World<T>,
+    table: MountTable<T::Alloc>,
+    reports: Vec<(u64, OpFault), T::Alloc>,
+}
+
+impl<T: Tree> Model for NameSpace<T> {
+    ghost use Rattle.std.specs.Prelude.{IsTrue};
+    ghost use Rattle.p9_space.specs.Given.{is_table_given};
+    ghost use Rattle.p9_commands.specs.NameSpace.{NameSpace as NameSpaceOf};
+
+    ghost Value = { NameSpaceOf };
+
+    ghost view = { λ n. record { world = n.world; table = n.table; reports = n.reports.items } };
+
+    ghost invariant = { λ n. IsTrue (is_table_given n.world.forest n.table) };
+}
+
+impl<T: Tree> NameSpace<T> {
+    /// The name space of these sections. Without a world section the world is `small`, and without
+    /// a namespace section nothing is mounted.
+    ///
+    /// The first bad line of the world, then that of the namespace file, is the refusal; want of
+    /// memory is the other reason.
+    pub fn read(
+        alloc: T::Alloc,
+        world: Option<&str>,
+        ns: Option<&str>,
+    ) -> Result<NameSpace<T>, Stop>
+        ensures ok { IfOk result (λ space. space_in (option_copied world.entry)
+            (option_copied ns.entry) ≡ Ok space) }
+        ensures stop { IfErr result (IsStop (space_in (option_copied world.entry)
+            (option_copied ns.entry))) }
+    {
+        let world = world_in(alloc, world)?;
+        NameSpace::over(alloc, ns.unwrap_or(""), world)
+    }
+
+    // The name space that the lines of a namespace file make over a world.
+    fn over(alloc: T::Alloc, text: &str, world: World<T>) -> Result<NameSpace<T>, Stop>
+        requires { 0 < length world.servers }
+        ensures ok { IfOk result (λ space. space_over text.now world ≡ Ok space) }
+        ensures stop { IfErr result (IsStop (space_over text.now world)) }
+    {
+        world.well_formed();
+        let mut table = MountTable::new(alloc);
+        let reports = run(alloc, text, &world, &mut table)?;
+        Ok(NameSpace {
+            world,
+            table,
+            reports,
+        })
+    }
+
+    /// Prints what failed, a line each. Where memory is refused, some of them may stand there.
+    pub fn print_reports(&self, err: &mut Vec<u8, T::Alloc>) -> Result<(), NoMemory>
+        ensures { OnOk result (err.new.items ≡ err.old.items ++ reports_text self.now.reports) }
+    {
+        print_reports(self.reports.as_slice(), err)
+    }
+
+    /// Prints the mount table, a line for each member of each row. Returns the exit status. Where
+    /// an allocation fails, a part of it may be printed.
+    pub fn list(&self, out: &mut Vec<u8, T::Alloc>) -> Result<u8, NoMemory>
+        ensures { IfOk result (IsTold 0 (table_text self.now.world self.now.table) out.old.items
+            out.new.items) }
+    {
+        print_table(&self.world, &self.table, out)?;
+        Ok(0)
+    }
+
+    /// Judges, and prints `yes` and a certificate, or `no` and a breach. Returns the exit status.
+    /// Where an allocation fails, a part of it may be printed.
+    pub fn check(&self, out: &mut Vec<u8, T::Alloc>) -> Result<u8, NoMemory>
+        ensures { IfOk result (λ status. SaysYes self.now out.old.items out.new.items status
+            ⊎ SaysNo self.now out.old.items out.new.items status) }
+    {
+        let verdict = judge(*out.allocator(), &self.world, &self.table)?;
+        print_verdict(&verdict, out)
+    }
+
+    /// Verifies a certificate, and prints `ok`, or the first gap. Returns the exit status. Where an
+    /// allocation fails, a part of it may be printed.
+    pub fn verify<A: Allocator>(
+        &self,
+        certificate: &Certificate<A>,
+        out: &mut Vec<u8, T::Alloc>,
+    ) -> Result<u8, NoMemory>
+        ensures { IfOk result (IsTold (verified_status (gap_over self.now certificate.now))
+            (verified_text (gap_over self.now certificate.now)) out.old.items out.new.items) }
+    {
+        print_verified(verify(&self.world, &self.table, certificate).err(), out)
+    }
+
+    /// The guard of the name space by this certificate, without sessions. A gap is the refusal.
+    pub fn guard(self, certificate: Certificate<T::Alloc>) -> Result<Guard<T>, Stop>
+        ensures ok { IfOk result (λ guard. guard.state ≡ exported self) }
+        ensures closed { OnOk result (gap_over self certificate ≡ None) }
+        ensures stop { IfErr result (IsUnverified (gap_over self certificate)) }
+    {
+        let NameSpace {
+            world,
+            table,
+            reports: _,
+        } = self;
+        match Guard::new(world, table, certificate) {
+            Ok(guard) => Ok(guard),
+            Err((_, _, Cause::Gap(gap))) => Err(Stop::Refused(Refusal::Unverified(gap))),
+            Err((_, _, Cause::NoMemory)) => Err(Stop::NoMemory),
+        }
+    }
+
+    /// The exporter of the name space to the world's users and groups, without sessions. This takes
+    /// no memory.
+    pub fn export(self) -> Export<T>
+        ensures { result ≡ exported self }
+    {
+        let NameSpace {
+            world,
+            table,
+            reports: _,
+        } = self;
+        let World {
+            forest,
+            users,
+            groups,
+            ..
+        } = world;
+        Export::new(forest, users, groups, table)
+    }
+}
+
+// The world of a section; where it isn't there the sample world.
+fn world_in<T: Tree>(alloc: T::Alloc, text: Option<&str>) -> Result<World<T>, Stop>
+    ensures ok { IfOk result (λ world. world_in (option_copied text.entry) ≡ Ok world) }
+    ensures some { IfOk result (λ world. 0 < length world.servers) }
+    ensures stop { IfErr result (IsStop (world_in (option_copied text.entry))) }
+{
+    let Some(text) = text else {
+        return Ok(small_world(alloc)?);
+    };
+    match read_world(alloc, text) {
+        Ok(world) => Ok(world),
+        Err(WorldError::BadWorld { line, kind }) => {
+            Err(Stop::Refused(Refusal::BadWorld { line, kind }))
+        }
+        Err(WorldError::NoMemory) => Err(Stop::NoMemory),
+    }
+}
+
+// Runs a namespace file over a world, and answers what failed.
+fn run<T: Tree>(
+    alloc: T::Alloc,
+    text: &str,
+    world: &World<T>,
+    table: &mut MountTable<T::Alloc>,
+) -> Result<Vec<(u64, OpFault), T::Alloc>, Stop>
+    ensures ok { IfOk result (λ reports.
+        run_of (setting_of world.now) text.now table.old ≡ Ok (table.new, reports.items)) }
+    ensures stop { IfErr result (IsStop (or_bad_operation (run_of
+        (setting_of world.now) text.now table.old))) }
+    ensures given { OnOk result (KeepsGiven (setting_of world.now) table.old table.new) }
+{
+    match run_file(
+        alloc,
+        text,
+        &world.vars,
+        &world.servers,
+        &world.forest,
+        table,
+    ) {
+        Ok(reports) => Ok(reports),
+        Err(NsError::BadLine { line, kind }) => {
+            Err(Stop::Refused(Refusal::BadOperation { line, kind }))
+        }
+        Err(NsError::NoMemory) => Err(Stop::NoMemory),
+    }
+}

@@ -1,0 +1,130 @@
+//! Playing events.
+
+ghost use Rattle.std.specs.Prelude.{◌≡◌, ◌≤◌, ◌++◌, IfOk, OnOk, codes, length, map};
+ghost use Rattle.p9_step.specs.Event.{Open, Message, Close};
+ghost use Rattle.p9_commands.specs.Play.{Plays, PlaysAll};
+ghost use Rattle.p9_export.specs.Event.{event_view};
+ghost use Rattle.p9_wire.specs.Frame.{msize_max};
+
+use crate::line::{print_hex, print_line};
+use crate::machine::Machine;
+use p9_base::NoMemory;
+use p9_export::{Event, OpenError, is_frame};
+use p9_wire::MSIZE_MAX;
+use std::alloc::Allocator;
+
+/// Plays events on a machine, and prints for each request a line, its reply in lower case
+/// hexadecimal, and for each event that doesn't fit the line `skip`.
+///
+/// An allocation that fails ends it, also in opening a session; the events before are done.
+pub(crate) fn play_events<M: Machine, A: Allocator + Copy>(
+    machine: &mut M,
+    events: &[Event<A>],
+    out: &mut Vec<u8, A>,
+) -> Result<(), NoMemory>
+    ensures { OnOk result
+        (PlaysAll (map event_view events.now) (M.state machine.old) out.old.items out.new.items) }
+{
+    let mut buffer = zeros(*out.allocator(), MSIZE_MAX as usize)?;
+    let reply = buffer.as_mut_slice();
+    for event in events {
+        play_event(machine, event, reply, out)?;
+    }
+    Ok(())
+}
+
+// A buffer for replies.
+fn zeros<A: Allocator + Copy>(alloc: A, size: usize) -> Result<Vec<u8, A>, NoMemory>
+    ensures { IfOk result (λ zeros. length zeros.items ≡ size) }
+{
+    Ok(vec![in alloc; 0u8; size]?)
+}
+
+// Plays an event, with a buffer for its reply.
+fn play_event<M: Machine, A: Allocator + Copy>(
+    machine: &mut M,
+    event: &Event<A>,
+    reply: &mut [u8],
+    out: &mut Vec<u8, A>,
+) -> Result<(), NoMemory>
+    requires { msize_max ≤ length reply.old }
+    ensures { OnOk result
+        (Plays (event_view event.now) (M.state machine.old) (M.state machine.new) out.old.items
+        out.new.items) }
+{
+    match event {
+        Event::Open(name) => open(machine, *name, out),
+        Event::Message(name, frame, now) => answer(
+            machine,
+            *name,
+            frame.as_slice(),
+            *now,
+            reply,
+            out,
+        ),
+        Event::Close(name, now) => close(machine, *name, *now, out),
+    }
+}
+
+// Prints nothing for an opening that fits.
+fn open<M: Machine, A: Allocator + Copy>(
+    machine: &mut M,
+    name: u32,
+    out: &mut Vec<u8, A>,
+) -> Result<(), NoMemory>
+    ensures { OnOk result
+        (Plays (Open name) (M.state machine.old) (M.state machine.new) out.old.items
+        out.new.items) }
+{
+    match machine.open(name) {
+        Ok(()) => Ok(()),
+        Err(OpenError::Live) => skip(out),
+        Err(OpenError::NoMemory) => Err(NoMemory),
+    }
+}
+
+// Prints the reply to a frame that fits.
+fn answer<M: Machine, A: Allocator + Copy>(
+    machine: &mut M,
+    name: u32,
+    frame: &[u8],
+    now: u32,
+    reply: &mut [u8],
+    out: &mut Vec<u8, A>,
+) -> Result<(), NoMemory>
+    requires { msize_max ≤ length reply.old }
+    ensures { OnOk result
+        (Plays (Message name frame.now now) (M.state machine.old) (M.state machine.new)
+        out.old.items out.new.items) }
+{
+    if !is_frame(frame) || !machine.live(name) {
+        return skip(out);
+    }
+    let size = machine.answer(name, frame, now, reply);
+    print_hex(&reply[..size], out)
+}
+
+// Prints nothing for a closing that fits.
+fn close<M: Machine, A: Allocator + Copy>(
+    machine: &mut M,
+    name: u32,
+    now: u32,
+    out: &mut Vec<u8, A>,
+) -> Result<(), NoMemory>
+    ensures { OnOk result
+        (Plays (Close name now) (M.state machine.old) (M.state machine.new) out.old.items
+        out.new.items) }
+{
+    if !machine.live(name) {
+        return skip(out);
+    }
+    machine.close(name, now);
+    Ok(())
+}
+
+// Prints that an event doesn't fit.
+fn skip<A: Allocator + Copy>(out: &mut Vec<u8, A>) -> Result<(), NoMemory>
+    ensures { OnOk result (out.new.items ≡ out.old.items ++ codes "skip\n") }
+{
+    print_line("skip", out)
+}

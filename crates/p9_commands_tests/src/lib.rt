@@ -1,0 +1,11 @@
+//! Tests of the program's commands that no row of `p9_rows` holds: refused memory, calls that the
+//! commands don't make, a command of a name that no row can write, and frames that are too large
+//! for the data of a row. There is nothing else here.
+#![tactic(auto)]
+
+#[cfg(test)]
+mod calls;
+#[cfg(test)]
+mod large;
+#[cfg(test)]
+mod refusals;

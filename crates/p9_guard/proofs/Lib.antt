@@ -1,0 +1,5 @@
+pub mod Marks
+pub mod Promises
+pub mod Rooms
+pub mod Progress
+pub mod Begins

@@ -1,0 +1,206 @@
+//! The guard: an exporter, what it hides, and the certificate that vouches for it.
+
+ghost use Rattle.std.specs.Prelude.{◌≡◌, ◌≤◌, ◌↔◌, [], ◌∷◌, Err, None, false, IfErr, IfOk, IsSome};
+ghost use Rattle.std.specs.Prelude.{IfSome, IsTrue, OnOk, length, map, take};
+ghost use Rattle.p9_wire.specs.Frame.{is_frame, msize_max};
+ghost use Rattle.p9_step.specs.Event.{Open, Message, Close};
+ghost use Rattle.p9_step.specs.Laws.{reply_max};
+ghost use Rattle.p9_step.specs.Memory.{is_no_memory_reply};
+ghost use Rattle.p9_step.specs.State.{session_at};
+ghost use Rattle.p9_cert.specs.Gap.{first_gap};
+ghost use Rattle.p9_cert.specs.Policy.{policy_of};
+ghost use Rattle.p9_export.specs.declared.export.OpenError.TheVariants.{Live};
+ghost use Rattle.p9_guard_laws.specs.Guarded.{IsGuardedState};
+ghost use Rattle.p9_guard.specs.Guard.{gap_of, new_guard};
+ghost use Rattle.p9_guard.specs.Headline.{IsPromised};
+ghost use Rattle.p9_guard.specs.Marks.{is_refused};
+
+use crate::cause::Cause;
+use p9_base::{NoMemory, NodeRef};
+use p9_cert::{Certificate, verify};
+use p9_export::{Export, OpenError};
+use p9_space::MountTable;
+use p9_tree::{Forest, Tree};
+use p9_world::World;
+use std::marker::Model;
+
+/// An exporter that strangers may use: a certificate was verified over its world and its mount
+/// table, so what is inside the world's hidden directories is out of reach.
+///
+/// It keeps, besides the exporter, the hidden directories, the certificate, and the next number
+/// that each server had when the guard was made.
+#[derive(Drop)]
+pub struct Guard<T: Tree> {
+    export: Export<T>,
+    hidden: Vec<NodeRef, T::Alloc>,
+    certificate: Certificate<T::Alloc>,
+    base: Vec<u64, T::Alloc>,
+}
+
+impl<T: Tree> Model for Guard<T> {
+    ghost use Rattle.p9_guard_laws.specs.Guarded.{IsGuardedState};
+    ghost use Rattle.p9_guard.specs.Guard.{Guarded};
+
+    ghost Value = { Guarded };
+
+    ghost view = { λ g. record {
+      state = g.export;
+      hidden = g.hidden.items;
+      start = record { rows = g.certificate; next = g.base.items };
+    } };
+
+    ghost invariant = { λ g. IsGuardedState g.hidden.items
+        (record { rows = g.certificate; next = g.base.items }) g.export };
+}
+
+impl<T: Tree> Guard<T> {
+    /// A guard of the world's trees, users, groups and hidden directories and of the mount table,
+    /// without sessions.
+    ///
+    /// A certificate that [`verify`] refuses is [`Cause::Gap`], with the same gap. An allocation
+    /// that fails is [`Cause::NoMemory`]. Both give the world and the table back unchanged, and
+    /// drop the certificate.
+    pub fn new(
+        world: World<T>,
+        table: MountTable<T::Alloc>,
+        certificate: Certificate<T::Alloc>,
+    ) -> Result<Guard<T>, (World<T>, MountTable<T::Alloc>, Cause)>
+        ensures ok { IfOk result (λ guard. guard ≡ new_guard world table certificate) }
+        ensures verified { OnOk result (first_gap (policy_of world) world.forest table certificate
+            ≡ None) }
+        ensures back { IfErr result (λ refused. (refused.0 ≡ world) × (refused.1 ≡ table)) }
+        ensures gap { IfErr result (λ refused. gap_of refused.2
+            ≡ first_gap (policy_of world) world.forest table certificate) }
+    {
+        match checked_numbers(&world, &table, &certificate) {
+            Ok(base) => Ok(Guard::begin(world, table, certificate, base)),
+            Err(cause) => Err((world, table, cause)),
+        }
+    }
+
+    // The guard of a certificate that was verified, and of each server's next number.
+    fn begin(
+        world: World<T>,
+        table: MountTable<T::Alloc>,
+        certificate: Certificate<T::Alloc>,
+        base: Vec<u64, T::Alloc>,
+    ) -> Guard<T>
+        requires verified { first_gap (policy_of world) world.forest table certificate ≡ None }
+        requires base { base.items ≡ map (λ s. s.next) world.forest }
+        ensures { result ≡ new_guard world table certificate }
+    {
+        world.well_formed();
+        world.forest.well_formed();
+        let World {
+            forest,
+            users,
+            groups,
+            hidden,
+            ..
+        } = world;
+        let export = Export::new(forest, users, groups, table);
+        export.well_formed();
+        Guard {
+            export,
+            hidden,
+            certificate,
+            base,
+        }
+    }
+
+    /// What is kept of each guard: its state is guarded by the certificate that it began with, as
+    /// that has grown since. This does nothing when it runs; it is for a caller that has to know
+    /// so.
+    pub fn well_formed(&self)
+        ensures { IsGuardedState self.now.hidden self.now.start self.now.state }
+    {
+        let _hidden = &self.hidden;
+    }
+
+    /// Whether a session of this name is open.
+    pub fn live(&self, name: u32) -> bool
+        ensures { IsTrue result ↔ IsSome (session_at name self.now.state.sessions) }
+    {
+        self.export.live(name)
+    }
+
+    /// Opens a session.
+    ///
+    /// A session of this name that is open is [`OpenError::Live`]; an allocation that fails is
+    /// [`OpenError::NoMemory`]. Both change nothing.
+    pub fn open(&mut self, name: u32) -> Result<(), OpenError>
+        ensures hidden { self.new.hidden ≡ self.old.hidden }
+        ensures start { self.new.start ≡ self.old.start }
+        ensures live { (result ≡ Err Live) ↔ IsSome (session_at name self.old.state.sessions) }
+        ensures promised { IsPromised self.old.hidden self.old.state
+            ((Open name, is_refused result) ∷ []) self.new.state [] }
+    {
+        self.export.open(name)
+    }
+
+    /// Answers one frame of an open session: writes the reply at the front of the buffer, and
+    /// returns its length, which is no more than the session's msize, and before a version than 43.
+    /// What the buffer holds behind the reply is undefined, and is not to be handed on.
+    ///
+    /// Every frame gets exactly one reply. Where that is [`p9_base::Fault::OutOfMemory`], an
+    /// allocation failed, and the guard is unchanged.
+    pub fn answer(&mut self, name: u32, frame: &[u8], now: u32, reply: &mut [u8]) -> usize
+        requires live { IsSome (session_at name self.old.state.sessions) }
+        requires whole { IsTrue (is_frame frame.now) }
+        requires room { msize_max ≤ length reply.old }
+        ensures within { result ≤ length reply.old }
+        ensures short { IfSome (session_at name self.old.state.sessions) (λ session. result
+            ≤ reply_max session) }
+        ensures hidden { self.new.hidden ≡ self.old.hidden }
+        ensures start { self.new.start ≡ self.old.start }
+        ensures promised { IsPromised self.old.hidden self.old.state
+            ((Message name frame.now now, is_no_memory_reply frame.now (take result reply.new))
+            ∷ []) self.new.state (take result reply.new) }
+    {
+        self.export.message(name, frame, now, reply)
+    }
+
+    /// Closes a session, and ends its fids.
+    pub fn close(&mut self, name: u32, now: u32)
+        requires { IsSome (session_at name self.old.state.sessions) }
+        ensures hidden { self.new.hidden ≡ self.old.hidden }
+        ensures start { self.new.start ≡ self.old.start }
+        ensures promised { IsPromised self.old.hidden self.old.state
+            ((Close name now, false) ∷ []) self.new.state [] }
+    {
+        self.export.close(name, now)
+    }
+}
+
+// The next number of each server, where the certificate is verified.
+fn checked_numbers<T: Tree>(
+    world: &World<T>,
+    table: &MountTable<T::Alloc>,
+    certificate: &Certificate<T::Alloc>,
+) -> Result<Vec<u64, T::Alloc>, Cause>
+    ensures ok { IfOk result (λ base. base.items ≡ map (λ s. s.next) world.now.forest) }
+    ensures verified { OnOk result
+        (first_gap (policy_of world.now) world.now.forest table.now certificate.now ≡ None) }
+    ensures gap { IfErr result (λ cause. gap_of cause
+        ≡ first_gap (policy_of world.now) world.now.forest table.now certificate.now) }
+{
+    match verify(world, table, certificate) {
+        Ok(()) => Ok(next_numbers(*world.users.allocator(), &world.forest)?),
+        Err(gap) => Err(Cause::Gap(gap)),
+    }
+}
+
+// The next number of each server.
+fn next_numbers<T: Tree>(
+    alloc: T::Alloc,
+    forest: &Forest<T>,
+) -> Result<Vec<u64, T::Alloc>, NoMemory>
+    ensures { IfOk result (λ base. base.items
+        ≡ map (λ s. s.next) (map T.state forest.now.trees.items)) }
+{
+    let mut base = Vec::new(alloc);
+    for tree in &forest.trees {
+        base.push(tree.next())?;
+    }
+    Ok(base)
+}

@@ -1,0 +1,138 @@
+//! Lists of events, done one after another.
+
+ghost use Rattle.std.specs.Prelude.{◌≡◌, ◌≤◌, ◌+◌, ◌∷◌, [], ◌++◌, Bool, List, ℕ, false};
+ghost use Rattle.std.specs.Prelude.{IfErr, IfOk, OnErr, OnOk};
+ghost use Rattle.std.specs.Prelude.{length, map, take};
+ghost use Rattle.p9_step.specs.Event.{IsEvent, Message, Close, Open};
+ghost use Rattle.p9_export.specs.Event.{event_view};
+ghost use Rattle.p9_guard.specs.Headline.{HasRun, HasStopped, IsPromised};
+
+use crate::guard::Guard;
+use p9_base::NoMemory;
+use p9_export::{Event, is_frame};
+use p9_tree::Tree;
+use p9_wire::MSIZE_MAX;
+use std::alloc::Allocator;
+use thiserror::Error;
+
+/// There was no room for a reply, so a run stopped.
+#[derive(Clone, Copy, Debug, PartialEq, Eq, Error)]
+#[error("out of memory")]
+pub struct Stopped {
+    /// How many events are done, from the first on. The others have done nothing.
+    pub done: usize,
+}
+
+impl<T: Tree> Guard<T> {
+    /// Does events, one after another, and appends their replies to the bytes.
+    ///
+    /// An event that doesn't fit does nothing and has no reply: opening a session that is open, a
+    /// frame for or the closing of one that isn't, and bytes that are no whole frame. An opening
+    /// for which an allocation fails opens nothing.
+    ///
+    /// Room for a reply is taken before its request is answered. Where that allocation fails the
+    /// run stops: the events before are done, and their replies appended.
+    pub fn run<B: Allocator>(
+        &mut self,
+        events: &[Event<B>],
+        bytes: &mut Vec<u8, T::Alloc>,
+    ) -> Result<(), Stopped>
+        ensures hidden { self.new.hidden ≡ self.old.hidden }
+        ensures start { self.new.start ≡ self.old.start }
+        ensures ok { OnOk result (HasRun self.old.hidden self.old.state (map event_view events.now)
+            self.new.state bytes.old.items bytes.new.items) }
+        ensures stopped { IfErr result (λ stopped. HasStopped self.old.hidden self.old.state
+            (map event_view events.now) stopped.done self.new.state bytes.old.items
+            bytes.new.items) }
+    {
+        self.well_formed();
+        let mut used = bytes.len();
+        for (done, event) in events.iter().enumerate() {
+            match self.run_event(event, used, bytes) {
+                Ok(size) => used += size,
+                Err(NoMemory) => {
+                    bytes.truncate(used);
+                    return Err(Stopped { done });
+                }
+            }
+        }
+        bytes.truncate(used);
+        Ok(())
+    }
+
+    // Does one event: writes its reply behind the bytes that are used, and returns its length.
+    fn run_event<B: Allocator>(
+        &mut self,
+        event: &Event<B>,
+        used: usize,
+        bytes: &mut Vec<u8, T::Alloc>,
+    ) -> Result<usize, NoMemory>
+        requires { used ≤ length bytes.old.items }
+        ensures event { IsEvent (event_view event.now) }
+        ensures hidden { self.new.hidden ≡ self.old.hidden }
+        ensures start { self.new.start ≡ self.old.start }
+        ensures kept { take used bytes.new.items ≡ take used bytes.old.items }
+        ensures within { IfOk result (λ size. used + size ≤ length bytes.new.items) }
+        ensures ok { IfOk result (λ size. (refused : Bool) × (reply : List ℕ)
+            × (take (used + size) bytes.new.items ≡ take used bytes.old.items ++ reply)
+            × IsPromised self.old.hidden self.old.state ((event_view event.now, refused) ∷ [])
+            self.new.state reply) }
+        ensures err { OnErr result (self.new ≡ self.old) }
+    {
+        match event {
+            Event::Open(name) => {
+                let _opened = self.open(*name);
+                Ok(0)
+            }
+            Event::Message(name, frame, now) => {
+                self.run_message(*name, frame.as_slice(), *now, used, bytes)
+            }
+            Event::Close(name, now) => {
+                self.run_close(*name, *now);
+                Ok(0)
+            }
+        }
+    }
+
+    // Answers a frame that fits.
+    fn run_message(
+        &mut self,
+        name: u32,
+        frame: &[u8],
+        now: u32,
+        used: usize,
+        bytes: &mut Vec<u8, T::Alloc>,
+    ) -> Result<usize, NoMemory>
+        requires { used ≤ length bytes.old.items }
+        ensures event { IsEvent (Message name frame.now now) }
+        ensures hidden { self.new.hidden ≡ self.old.hidden }
+        ensures start { self.new.start ≡ self.old.start }
+        ensures kept { take used bytes.new.items ≡ take used bytes.old.items }
+        ensures within { IfOk result (λ size. used + size ≤ length bytes.new.items) }
+        ensures ok { IfOk result (λ size. (refused : Bool) × (reply : List ℕ)
+            × (take (used + size) bytes.new.items ≡ take used bytes.old.items ++ reply)
+            × IsPromised self.old.hidden self.old.state ((Message name frame.now now, refused) ∷ [])
+            self.new.state reply) }
+        ensures err { OnErr result (self.new ≡ self.old) }
+    {
+        if !is_frame(frame) || !self.live(name) {
+            return Ok(0);
+        }
+        bytes.resize(used + MSIZE_MAX as usize, 0)?;
+        let reply = &mut bytes.as_mut_slice()[used..];
+        Ok(self.answer(name, frame, now, reply))
+    }
+
+    // Closes a session that is open.
+    fn run_close(&mut self, name: u32, now: u32)
+        ensures event { IsEvent (Close name now) }
+        ensures hidden { self.new.hidden ≡ self.old.hidden }
+        ensures start { self.new.start ≡ self.old.start }
+        ensures promised { IsPromised self.old.hidden self.old.state ((Close name now, false) ∷ [])
+            self.new.state [] }
+    {
+        if self.live(name) {
+            self.close(name, now);
+        }
+    }
+}

@@ -1,0 +1,4 @@
+pub mod Grown
+pub mod Guarded
+pub mod Alike
+pub mod Laws

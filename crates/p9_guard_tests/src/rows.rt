@@ -1,0 +1,116 @@
+//! Requests that come near a hidden directory: what is in it changes no reply.
+
+use crate::worlds::{COVERED_VAULT, Row, VAULT, guard_of, replies, run, session, world_of};
+use p9_tree::PlainTree;
+use p9_world::World;
+use std::alloc::Global;
+use std::process::Abort;
+
+// The vault is walked to, and its removal is refused before its entries are looked at.
+const NEAR_THE_VAULT: &[Row] = &[
+    (
+        "180000006e02000000000001000000010005007661756c74",
+        "160000006f0200010080000000000200000000000000",
+    ),
+    (
+        "0b0000007a030001000000",
+        "1a0000006b030011007065726d697373696f6e2064656e696564",
+    ),
+];
+
+// Two hidden directories, of which the one or the other has the key.
+const KEY_IN_THE_VAULT: &str = "\
+server main
+dir /pub 777 sys sys
+dir /vault 000 sys sys
+dir /store 000 sys sys
+file /vault/key 600 sys sys 01
+user glenda
+hide main /vault
+hide main /store
+";
+
+const KEY_IN_THE_STORE: &str = "\
+server main
+dir /pub 777 sys sys
+dir /vault 000 sys sys
+dir /store 000 sys sys
+file /store/key 600 sys sys 01
+user glenda
+hide main /vault
+hide main /store
+";
+
+#[test]
+fn a_vault_does_not_tell_whether_it_is_empty(rt: HostRuntime) {
+    let alloc = rt.alloc();
+    for text in [VAULT, KEY_IN_THE_VAULT, KEY_IN_THE_STORE] {
+        let world = world_of(&rt, alloc, text);
+        are_replies(&rt, alloc, world, None, NEAR_THE_VAULT);
+    }
+}
+
+// A directory is bound over the vault: a file beside it is made and renamed, the bound directory is
+// listed in the vault's place, and the file is removed.
+const COVERED: &[Row] = &[
+    ("110000006e020000000000010000000000", "090000006f02000000"),
+    (
+        "130000007203000100000001006ea401000001",
+        "1800000073030000000000000400000000000000e81f0000",
+    ),
+    (
+        "3f0000007e04000100000032003000ffffffffffffffffffffffffffffffffffffffffffffffffff\
+         ffffffffffffffffffffffffffff01006b000000000000",
+        "070000007f0400",
+    ),
+    (
+        "180000006e05000000000002000000010005007661756c74",
+        "160000006f0500010080000000000100000000000000",
+    ),
+    (
+        "0c0000007006000200000000",
+        "1800000071060080000000000100000000000000e81f0000",
+    ),
+    (
+        "1700000074070002000000000000000000000000040000",
+        "0b00000075070000000000",
+    ),
+    ("0b0000007a080001000000", "070000007b0800"),
+];
+
+// The key may as well be a directory of glenda's.
+const COVERED_DIRECTORY: &str = "\
+server main
+dir / 777 sys sys
+dir /empty 755 sys sys
+dir /vault 777 sys sys
+dir /vault/key 700 glenda glenda
+user glenda
+hide main /vault
+";
+
+#[test]
+fn a_covered_vault_is_out_of_reach(rt: HostRuntime) {
+    let alloc = rt.alloc();
+    let world = world_of(&rt, alloc, COVERED_VAULT);
+    are_replies(&rt, alloc, world, Some((2, 1)), COVERED);
+    let world = world_of(&rt, alloc, COVERED_DIRECTORY);
+    are_replies(&rt, alloc, world, Some((2, 1)), COVERED);
+}
+
+// Compares the replies to a session's requests.
+fn are_replies(
+    rt: &impl Abort,
+    alloc: Global,
+    world: World<PlainTree<Global>>,
+    bind: Option<(u64, u64)>,
+    rows: &[Row],
+) {
+    let mut guard = guard_of(rt, alloc, world, bind);
+    let mut bytes = Vec::new(alloc);
+    let events = session(rt, alloc, rows);
+    let text = run(rt, alloc, &mut guard, events.as_slice(), &mut bytes);
+    let wanted = replies(rt, alloc, rows);
+    assert_eq!(rt; text.as_str(), wanted.as_str());
+    assert!(rt; guard.live(1));
+}

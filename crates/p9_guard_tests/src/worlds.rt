@@ -1,0 +1,162 @@
+//! Guards of small worlds, and the events of a session.
+
+use p9_base::NodeRef;
+use p9_cert::{Certificate, read_cert};
+use p9_export::Event;
+use p9_guard::Guard;
+use p9_space::{MountTable, Order};
+use p9_tree::{PlainTree, Tree};
+use p9_world::{World, read_world};
+use std::alloc::{Allocator, Global};
+use std::process::Abort;
+
+/// A request and its reply, as hexadecimal digits from outside.
+pub type Row = (&'static str, &'static str);
+
+/// The root and a public directory, which is 1, beside a vault, which is 2, with its key.
+pub const VAULT: &str = "\
+server main
+dir /pub 777 sys sys
+dir /vault 000 sys sys
+file /vault/key 600 sys sys 01
+user glenda
+hide main /vault
+";
+
+/// The root, which all may write, /empty, which is 1, and /vault, which is 2 and hidden, with a
+/// key.
+pub const COVERED_VAULT: &str = "\
+server main
+dir / 777 sys sys
+dir /empty 755 sys sys
+dir /vault 777 sys sys
+file /vault/key 666 sys sys 01
+user glenda
+hide main /vault
+";
+
+/// The certificate of the root and of node 1.
+pub const CERTIFICATE: &str = "cert 1\ndir 0 0\ndir 0 1\n";
+
+/// A client asks for an msize of 8,192.
+const VERSION: Row = (
+    "1300000064ffff002000000600395032303030",
+    "1300000065ffff002000000600395032303030",
+);
+
+/// Glenda attaches fid 0.
+const ATTACH: Row = (
+    "1900000068010000000000ffffffff0600676c656e64610000",
+    "1400000069010080000000000000000000000000",
+);
+
+/// The world of a text, read again where an allocation failed.
+pub fn world_of<A: Allocator + Copy>(rt: &impl Abort, alloc: A, text: &str) -> World<PlainTree<A>> {
+    match read_world(alloc, text) {
+        Ok(world) => world,
+        Err(_) => read_world(alloc, text).expect(rt, "a world"),
+    }
+}
+
+/// A mount table in which one node of server 0 is in the place of another, if there is a bind. It
+/// is bound again where an allocation failed.
+pub fn table_of<A: Allocator + Copy>(
+    rt: &impl Abort,
+    alloc: A,
+    bind: Option<(u64, u64)>,
+) -> MountTable<A> {
+    let mut table = MountTable::new(alloc);
+    if let Some((key, node)) = bind {
+        let nodes = [node_ref(node)];
+        if table
+            .bind(node_ref(key), &nodes, Order::Replace, false)
+            .is_err()
+        {
+            let bound = table.bind(node_ref(key), &nodes, Order::Replace, false);
+            assert!(rt; bound.is_ok());
+        }
+    }
+    table
+}
+
+fn node_ref(number: u64) -> NodeRef {
+    NodeRef { server: 0, number }
+}
+
+/// The certificate of a text, read again where an allocation failed.
+pub fn certificate_of<A: Allocator + Copy>(
+    rt: &impl Abort,
+    alloc: A,
+    text: &str,
+) -> Certificate<A> {
+    match read_cert(alloc, text) {
+        Ok(certificate) => certificate,
+        Err(_) => read_cert(alloc, text).expect(rt, "a certificate"),
+    }
+}
+
+/// The guard of a world that the certificate is good for, made again where an allocation failed.
+pub fn guard_of<A: Allocator + Copy>(
+    rt: &impl Abort,
+    alloc: A,
+    world: World<PlainTree<A>>,
+    bind: Option<(u64, u64)>,
+) -> Guard<PlainTree<A>> {
+    let table = table_of(rt, alloc, bind);
+    let certificate = certificate_of(rt, alloc, CERTIFICATE);
+    match Guard::new(world, table, certificate) {
+        Ok(guard) => guard,
+        Err((world, table, _)) => {
+            let certificate = certificate_of(rt, alloc, CERTIFICATE);
+            Guard::new(world, table, certificate)
+                .ok()
+                .expect(rt, "a guard")
+        }
+    }
+}
+
+/// The events of session 1: it is opened, its version is set, glenda attaches fid 0, and the rows'
+/// requests come.
+pub fn session(rt: &impl Abort, alloc: Global, rows: &[Row]) -> Vec<Event<Global>, Global> {
+    let mut events = Vec::new(alloc);
+    push(rt, &mut events, Event::Open(1));
+    push(rt, &mut events, message(rt, alloc, VERSION.0));
+    push(rt, &mut events, message(rt, alloc, ATTACH.0));
+    for row in rows {
+        push(rt, &mut events, message(rt, alloc, row.0));
+    }
+    events
+}
+
+fn push(rt: &impl Abort, events: &mut Vec<Event<Global>, Global>, event: Event<Global>) {
+    assert!(rt; events.push(event).is_ok());
+}
+
+// A frame of session 1.
+fn message(rt: &impl Abort, alloc: Global, frame: &str) -> Event<Global> {
+    let frame = hex::decode(alloc, frame).expect(rt, "hexadecimal digits");
+    Event::Message(1, frame, 0)
+}
+
+/// What is wanted of these events: the replies of the version, the attach and the rows.
+pub fn replies(rt: &impl Abort, alloc: Global, rows: &[Row]) -> String<Global> {
+    let mut text = String::new(alloc);
+    assert!(rt; text.push_str(VERSION.1).is_ok());
+    assert!(rt; text.push_str(ATTACH.1).is_ok());
+    for row in rows {
+        assert!(rt; text.push_str(row.1).is_ok());
+    }
+    text
+}
+
+/// Does the events, and returns their replies as hexadecimal digits.
+pub fn run<T: Tree>(
+    rt: &impl Abort,
+    alloc: Global,
+    guard: &mut Guard<T>,
+    events: &[Event<Global>],
+    bytes: &mut Vec<u8, T::Alloc>,
+) -> String<Global> {
+    assert_eq!(rt; guard.run(events, bytes), Ok(()));
+    hex::encode(alloc, bytes.as_slice()).expect(rt, "a text")
+}

@@ -1,0 +1,13 @@
+pub mod Orders
+pub mod Ranges
+pub mod TakenBack
+pub mod Finds
+pub mod Nodes
+pub mod Numbers
+pub mod Standing
+pub mod Changed
+pub mod Renamed
+pub mod Granted
+pub mod Outcomes
+pub mod Joined
+pub mod Left

@@ -1,0 +1,185 @@
+//! A tree in ordered maps.
+
+ghost use Rattle.std.specs.Prelude.{◌≡◌, IfNone, IfSome, IsSome};
+ghost use Rattle.std.specs.BTreeMap.{values};
+ghost use Rattle.std.specs.Option.{ForSome, option_map};
+ghost use Rattle.p9_index.specs.Entries.{is_listed, number_at};
+ghost use Rattle.p9_index.specs.Tree.{IsIndex, KeepsName, Renames, server_of};
+ghost use Rattle.p9_tree.specs.Server.{WellFormed, child_after, child_of};
+
+use crate::entries::Entries;
+use p9_base::{Name, NoMemory, Permissions, User};
+use p9_tree::{Change, Entry, New, Node, Tree};
+use std::alloc::Allocator;
+use std::collections::BTreeMap;
+
+/// A tree in ordered maps: its nodes by number, and the entries of its directories by number and by
+/// name. The time of a call grows with the logarithm of the number of nodes, and that of `add`,
+/// `change`, `write` and `read_into` also with the number of bytes that they copy.
+#[derive(Drop)]
+pub struct IndexTree<A: Allocator + Copy> {
+    alloc: A,
+    nodes: BTreeMap<u64, Node<A>, A>,
+    entries: Entries<A>,
+    next: u64,
+    ghost well_formed: { WellFormed (server_of nodes.entries next) },
+    ghost index: { IsIndex nodes.entries (is_listed entries) (number_at entries) },
+}
+
+impl<A: Allocator + Copy> Tree for IndexTree<A> {
+    type Alloc = A;
+
+    ghost state = { λ t. server_of t.nodes.entries t.next };
+
+    ghost well_formed = { λ t. t.well_formed };
+
+    fn with_root(alloc: A) -> Result<Self, NoMemory> {
+        let mut nodes = BTreeMap::new(alloc);
+        nodes.insert(0, Node::root(alloc))?;
+        Ok(IndexTree {
+            alloc,
+            nodes,
+            entries: Entries::new(alloc),
+            next: 1,
+        })
+    }
+
+    fn next(&self) -> u64 {
+        self.next
+    }
+
+    fn node(&self, number: u64) -> Option<&Node<A>> {
+        self.nodes.get(&number)
+    }
+
+    fn child(&self, dir: u64, name: &Name) -> Option<&Node<A>> {
+        self.nodes.get(&self.number_of(dir, name)?)
+    }
+
+    fn after(&self, dir: u64, floor: Option<u64>) -> Option<&Node<A>> {
+        self.nodes.get(&self.number_after(dir, floor)?)
+    }
+
+    fn set_root(&mut self, permissions: Permissions, uid: User, gid: User) {
+        if let Some(node) = self.nodes.get_mut(&0) {
+            node.give(permissions, uid, gid);
+        }
+    }
+
+    fn add(&mut self, dir: u64, new: &New<'_>) -> Result<u64, NoMemory> {
+        let number = self.next;
+        let node = Node::new(self.alloc, number, dir, new)?;
+        let entry = Entry {
+            parent: dir,
+            name: new.name,
+        };
+        self.entries.enter(entry, number)?;
+        if self.nodes.insert(number, node).is_err() {
+            self.entries.take_out(&entry, number);
+            return Err(NoMemory);
+        }
+        self.next = number + 1;
+        Ok(number)
+    }
+
+    fn drop_leaf(&mut self, number: u64) {
+        if let Some(node) = self.nodes.remove(&number) {
+            if let Some(left) = node.entry() {
+                self.entries.take_out(&left, number);
+            }
+        }
+    }
+
+    fn change(&mut self, number: u64, change: &Change) -> Result<(), NoMemory> {
+        let Some(node) = self.nodes.get_mut(&number) else {
+            return Ok(());
+        };
+        let Some(Renaming { from, to }) = renaming_of(node, change) else {
+            return node.change(change);
+        };
+        self.entries.name(to, number)?;
+        if node.change(change).is_err() {
+            self.entries.unname(&to);
+            return Err(NoMemory);
+        }
+        self.entries.unname(&from);
+        Ok(())
+    }
+
+    fn bump(&mut self, number: u64, user: User, now: u32) {
+        if let Some(node) = self.nodes.get_mut(&number) {
+            node.mark(user, now);
+        }
+    }
+
+    fn touch(&mut self, number: u64, now: u32) {
+        if let Some(node) = self.nodes.get_mut(&number) {
+            node.touch(now);
+        }
+    }
+
+    fn write(&mut self, number: u64, offset: u64, bytes: &[u8]) -> Result<(), NoMemory> {
+        if let Some(node) = self.nodes.get_mut(&number) {
+            node.write(offset, bytes)?;
+        }
+        Ok(())
+    }
+
+    fn cut(&mut self, number: u64, size: u64) {
+        if let Some(node) = self.nodes.get_mut(&number) {
+            node.cut(size);
+        }
+    }
+
+    fn read_into(&self, number: u64, offset: u64, buffer: &mut [u8]) -> usize {
+        match self.node(number) {
+            Some(node) => node.read_into(offset, buffer),
+            None => 0,
+        }
+    }
+}
+
+impl<A: Allocator + Copy> IndexTree<A> {
+    // The number of the node of this name in the directory.
+    fn number_of(&self, dir: u64, name: &Name) -> Option<u64>
+        ensures { result
+            ≡ option_map (λ n. n.number) (child_of dir name.now (values self.now.nodes)) }
+    {
+        self.entries.number_of(&Entry {
+            parent: dir,
+            name: *name,
+        })
+    }
+
+    // The least number of a node in the directory, above the floor if there is one.
+    fn number_after(&self, dir: u64, floor: Option<u64>) -> Option<u64>
+        ensures { result
+            ≡ option_map (λ n. n.number) (child_after dir floor (values self.now.nodes)) }
+    {
+        self.entries.number_after(dir, floor)
+    }
+}
+
+// The entry that a node leaves, and the one that it gets in its place.
+struct Renaming {
+    from: Entry,
+    to: Entry,
+}
+
+// The renaming of the node by the change, if that gives it another name.
+fn renaming_of<A: Allocator>(node: &Node<A>, change: &Change) -> Option<Renaming>
+    requires { ForSome change.now.name (λ name. IsSome node.now.parent) }
+    ensures some { IfSome result (λ it. Renames it.from it.to change.entry.now node.now) }
+    ensures none { IfNone result (KeepsName change.entry.now node.now) }
+{
+    let name = change.name?;
+    let from = node.entry()?;
+    if name == from.name {
+        None
+    } else {
+        Some(Renaming {
+            from,
+            to: Entry { name, ..from },
+        })
+    }
+}

@@ -1,0 +1,5 @@
+pub mod Breach
+pub mod Text
+pub mod Verdict
+pub mod Search
+pub mod Laws

@@ -1,0 +1,205 @@
+//! The search of a world for breaches.
+
+ghost use Rattle.std.specs.Prelude.{◌≡◌, ◌++◌, ◌∷◌, ◌<◌, ◌&&◌, ◌||◌, [], IfOk, IsTrue, None, OnOk};
+ghost use Rattle.std.specs.Prelude.{is_some, length, map, slice_get, option_map};
+ghost use Rattle.p9_base.specs.NodeRef.{same_node};
+ghost use Rattle.p9_base.specs.Name.{is_name};
+ghost use Rattle.p9_tree.specs.Server.{next_max};
+ghost use Rattle.p9_space.specs.Place.{root_place};
+ghost use Rattle.p9_cert.specs.Policy.{policy_of};
+ghost use Rattle.p9_cert.specs.Rows.{is_row};
+ghost use Rattle.p9_cert.specs.Safe.{IsSafe};
+ghost use Rattle.p9_judge.specs.Breach.{passer_of, place_breach};
+ghost use Rattle.p9_judge.specs.Search.{AreEarlier, IsAt, IsGrown, IsSearch, IsWayTo, child_place};
+ghost use Rattle.p9_judge.specs.Search.{child_places, discovered};
+
+use crate::breach::Step;
+use crate::member::first_passer;
+use p9_base::{Name, NoMemory, NodeRef, User};
+use p9_cert::Certificate;
+use p9_space::{MountTable, ROOT_PLACE};
+use p9_tree::{Forest, Node, Tree};
+use p9_world::World;
+use std::alloc::Allocator;
+use std::collections::BTreeSet;
+
+/// A place that was discovered.
+#[derive(Clone, Copy)]
+pub(crate) struct Place {
+    pub key: NodeRef,
+    // Where it was discovered from; nowhere for the root place.
+    origin: Option<Origin>,
+}
+
+/// Where a place was discovered from: the place with this position in the order of discovery, and
+/// the step from there.
+#[derive(Clone, Copy)]
+struct Origin {
+    from: usize,
+    step: Step,
+}
+
+impl Place {
+    /// The directory that the place was discovered in.
+    pub fn parent(&self) -> Option<NodeRef>
+        ensures { result ≡ option_map (λ origin. origin.step.member) self.now.origin }
+    {
+        self.origin.map(|origin| origin.step.member)
+    }
+}
+
+/// The places that were discovered so far, and the directories that were passed.
+#[derive(Drop)]
+pub(crate) struct Search<A: Allocator> {
+    // In the order of their discovery.
+    places: Vec<Place, A>,
+    // Those whose children are among the places.
+    passed: BTreeSet<NodeRef, A>,
+}
+
+impl<A: Allocator + Copy> Search<A> {
+    /// A search that has discovered the root place.
+    pub fn new(alloc: A) -> Result<Search<A>, NoMemory>
+        ensures places { IfOk result (λ search. search.places.items
+            ≡ record { key = root_place; origin = None } ∷ []) }
+        ensures passed { IfOk result (λ search. search.passed.keys ≡ []) }
+    {
+        let mut places = Vec::new(alloc);
+        places.push(Place {
+            key: ROOT_PLACE,
+            origin: None,
+        })?;
+        Ok(Search {
+            places,
+            passed: BTreeSet::new(alloc),
+        })
+    }
+
+    /// The place of this position in the order of discovery.
+    pub fn place(&self, position: usize) -> Option<Place>
+        ensures { result ≡ slice_get self.now.places.items position }
+    {
+        self.places.get(position).copied()
+    }
+
+    /// Passes each member of a place that some listed user may pass.
+    pub fn pass<T: Tree, B: Allocator + Copy>(
+        &mut self,
+        world: &World<T>,
+        table: &MountTable<B>,
+        from: usize,
+        place: NodeRef,
+    ) -> Result<(), NoMemory>
+        requires search { IsSearch (policy_of world.now) world.now.forest table.now
+            self.old.places.items self.old.passed.keys }
+        requires place { IsAt self.old.places.items from place }
+        requires tested { place_breach (policy_of world.now) world.now.forest table.now place
+            ≡ None }
+        ensures search { OnOk result (IsSearch (policy_of world.now) world.now.forest table.now
+            self.new.places.items self.new.passed.keys) }
+        ensures grown { OnOk result (IsGrown self.old.places.items self.new.places.items
+            self.old.passed.keys self.new.passed.keys) }
+        ensures safe { OnOk result (IsSafe (policy_of world.now) world.now.forest table.now
+            (is_row self.new.passed.keys) place) }
+    {
+        world.forest.well_formed();
+        for member in table.members(place).as_slice() {
+            self.pass_member(world, from, member.node)?;
+        }
+        Ok(())
+    }
+
+    // Passes one member, if some listed user may and none did so before.
+    fn pass_member<T: Tree>(
+        &mut self,
+        world: &World<T>,
+        from: usize,
+        member: NodeRef,
+    ) -> Result<(), NoMemory>
+        ensures places { OnOk result (self.new.places.items ≡ self.old.places.items
+            ++ discovered (policy_of world.now) world.now.forest from self.old.passed.keys member) }
+        ensures passed { OnOk result ((at : NodeRef) → is_row self.new.passed.keys at
+            ≡ (is_row self.old.passed.keys at
+            || (is_some (passer_of (policy_of world.now) world.now.forest member)
+            && same_node member at))) }
+    {
+        let Some(node) = world.forest.node(member) else {
+            return Ok(());
+        };
+        let Some(user) = first_passer(world, node) else {
+            return Ok(());
+        };
+        if self.passed.insert(member)? {
+            self.discover_children(&world.forest, from, member, user)?;
+        }
+        Ok(())
+    }
+
+    // Discovers the children of a directory, by rising number.
+    fn discover_children<T: Tree>(
+        &mut self,
+        forest: &Forest<T>,
+        from: usize,
+        dir: NodeRef,
+        user: User,
+    ) -> Result<(), NoMemory>
+        ensures places { OnOk result (self.new.places.items ≡ self.old.places.items
+            ++ child_places (map T.state forest.now.trees.items) from dir user) }
+        ensures passed { self.new.passed.keys ≡ self.old.passed.keys }
+    {
+        forest.well_formed();
+        let mut floor = None;
+        while let Some(child) = forest.after(dir, floor) {
+            self.places.push(child_place(from, dir, user, child))?;
+            floor = Some(child.number());
+        }
+        Ok(())
+    }
+
+    /// The steps from the root place to the place of this position.
+    pub fn steps_to(&self, alloc: A, position: usize) -> Result<Vec<Step, A>, NoMemory>
+        requires earlier { AreEarlier self.now.places.items }
+        requires within { position < length self.now.places.items }
+        ensures { IfOk result (λ steps. IsWayTo self.now.places.items steps.items position) }
+    {
+        let mut steps = Vec::new(alloc);
+        let mut position = position;
+        while let Some(origin) = self.places[position].origin {
+            steps.push(origin.step)?;
+            position = origin.from;
+        }
+        steps.reverse();
+        Ok(steps)
+    }
+
+    /// The certificate of the directories that were passed.
+    pub fn certificate(&self, alloc: A) -> Result<Certificate<A>, NoMemory>
+        requires { (at : NodeRef) → IsTrue (is_row self.now.passed.keys at)
+            → at.number < next_max }
+        ensures { IfOk result (λ certificate. certificate ≡ self.now.passed.keys) }
+    {
+        let mut certificate = Certificate::new(alloc);
+        for row in &self.passed {
+            certificate.push(*row)?;
+        }
+        Ok(certificate)
+    }
+}
+
+// The place of a directory's child.
+fn child_place<A: Allocator>(from: usize, dir: NodeRef, user: User, child: &Node<A>) -> Place
+    requires { IsTrue (is_name child.now.name) }
+    ensures { result ≡ child_place from dir user child.now }
+{
+    Place {
+        key: dir.beside(child.number()),
+        origin: Some(Origin {
+            from,
+            step: Step {
+                name: Name::new(child.name()).unwrap(),
+                member: dir,
+                user,
+            },
+        }),
+    }
+}

@@ -1,0 +1,98 @@
+//! What is told of a world and a mount table.
+
+use p9_base::{NoMemory, NodeRef, number, words};
+use p9_cert::{verify, write_cert};
+use p9_judge::{Verdict, judge};
+use p9_space::{MountTable, Order};
+use p9_tree::{NEXT_MAX, PlainTree, Tree};
+use p9_world::{World, read_world};
+use std::alloc::{Allocator, Global};
+use std::process::Abort;
+
+/// A world and a mount table over it.
+#[derive(Drop)]
+pub struct Space<A: Allocator + Copy>
+where
+    PlainTree<A>: Tree,
+{
+    pub world: World<PlainTree<A>>,
+    pub table: MountTable<A>,
+}
+
+/// Reads a row: the lines of a world whose server is `main` and whose first user is `glenda`, the
+/// rows of a mount table, and the nodes that are then removed. Bars stand between the three, and
+/// semicolons between lines. In the table each node is given by its server and its number, a row's
+/// key first.
+pub fn space_of(rt: &impl Abort, alloc: Global, row: &str) -> Result<Space<Global>, NoMemory> {
+    let (world, row) = row.split_once('|').expect(rt, "a table");
+    let (table, gone) = row.split_once('|').expect(rt, "removed nodes");
+    let mut text = String::from_str(alloc, "server main\nuser glenda\n")?;
+    text.push_str(world.replace(alloc, ';', "\n")?.as_str())?;
+    let mut space = Space {
+        world: read_world(alloc, text.as_str()).expect(rt, "a world"),
+        table: table_of(rt, alloc, table)?,
+    };
+    for at in nodes_of(rt, alloc, gone)?.as_slice() {
+        remove(rt, &mut space.world, *at);
+    }
+    Ok(space)
+}
+
+/// Tells what `judge` returns of a row: `yes` and the certificate, or `no` and the breach, with
+/// semicolons between lines. A certificate has to be one that `verify` accepts.
+pub fn told(rt: &impl Abort, alloc: Global, row: &str) -> Result<String, NoMemory> {
+    let space = space_of(rt, alloc, row)?;
+    let verdict = judge(alloc, &space.world, &space.table)?;
+    verdict_text(rt, alloc, &space, &verdict)
+}
+
+fn verdict_text(
+    rt: &impl Abort,
+    alloc: Global,
+    space: &Space<Global>,
+    verdict: &Verdict<Global>,
+) -> Result<String, NoMemory> {
+    let text = match verdict {
+        Verdict::Yes(certificate) => {
+            assert_eq!(rt; verify(&space.world, &space.table, certificate), Ok(()));
+            let rows = write_cert(alloc, certificate)?;
+            format!(in alloc; "yes\n{}", rows.as_str().trim_end())?
+        }
+        Verdict::No(breach) => format!(in alloc; "no\n{breach}")?,
+    };
+    Ok(text.as_str().replace(alloc, '\n', ";")?)
+}
+
+// Takes a file or an empty directory out of its server.
+fn remove<T: Tree>(rt: &impl Abort, world: &mut World<T>, at: NodeRef) {
+    assert!(rt; at.number != 0);
+    assert!(rt; world.forest.after(at, None).is_none());
+    world.forest.drop_leaf(at);
+}
+
+// A mount table of rows, each a key and its members.
+fn table_of(rt: &impl Abort, alloc: Global, text: &str) -> Result<MountTable<Global>, NoMemory> {
+    let mut table = MountTable::new(alloc);
+    for line in text.split(';') {
+        let nodes = nodes_of(rt, alloc, line)?;
+        if let [key, members @ ..] = nodes.as_slice() {
+            assert!(rt; members.len() > 0);
+            table.bind(*key, members, Order::Replace, false)?;
+        }
+    }
+    Ok(table)
+}
+
+// Nodes, each by its server and its number.
+fn nodes_of(rt: &impl Abort, alloc: Global, line: &str) -> Result<Vec<NodeRef>, NoMemory> {
+    let mut nodes = Vec::new(alloc);
+    for pair in words(alloc, line)?.chunks(2) {
+        if let [server, node] = pair {
+            nodes.push(NodeRef {
+                server: number(server, 1 << 16).expect(rt, "a server") as u16,
+                number: number(node, NEXT_MAX).expect(rt, "a number"),
+            })?;
+        }
+    }
+    Ok(nodes)
+}

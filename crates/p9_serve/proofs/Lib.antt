@@ -1,7 +1,0 @@
-mod Scripts
-mod Bundles
-mod Smalls
-mod Plays
-mod Worlds
-mod Prints
-mod Paths

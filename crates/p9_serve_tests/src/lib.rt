@@ -1,8 +1,0 @@
-//! Tests of the program's commands that no row of `p9_rows` holds: refused memory, calls that the
-//! commands don't make, and a command of a name that no row can write. There is nothing else here.
-#![tactic(auto)]
-
-#[cfg(test)]
-mod calls;
-#[cfg(test)]
-mod refusals;

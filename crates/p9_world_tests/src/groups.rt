@@ -1,0 +1,168 @@
+//! Groups of a world: who is a member, and who leads.
+
+use crate::faults::told;
+use p9_base::User;
+use p9_refusing::{Refusing, refuse_each};
+use p9_tree::PlainTree;
+use p9_world::{World, WorldError, read_world};
+use std::alloc::{AllocError, Allocator, Global};
+use std::process::Abort;
+use std::test::Fail;
+
+/// A leader who is no member, one who is, members of several groups, a group without members, a
+/// user who is taken out of the group of his name, and one who is named in it. Of the users only
+/// glenda is listed.
+const TEXT: &str = "\
+server main
+user glenda
+group staff rob glenda
+group wheel glenda glenda sys
+group both rob ken glenda rob
+group empty sys
+group glenda rob sys
+group ken sys ken
+";
+
+// A group, a user, whether he is a member, and whether he leads it.
+const ASKED: &str = "\
+staff rob false true
+staff glenda true false
+staff staff false false
+staff sys false false
+wheel glenda true true
+wheel sys true false
+wheel rob false false
+both rob true true
+both ken true false
+both glenda true false
+both sys false false
+empty sys false true
+empty empty false false
+glenda glenda false false
+glenda rob false true
+glenda sys true false
+ken ken true false
+ken sys false true
+rob rob true true
+rob glenda false false
+sys sys true true
+sys ken false false";
+
+// What is told of each group and user of the rows.
+fn is_asked<A: Allocator + Copy>(
+    rt: &impl Abort,
+    alloc: Global,
+    world: &World<PlainTree<A>>,
+    rows: &str,
+) -> Result<(), AllocError> {
+    for row in rows.lines() {
+        let mut words = row.split(' ');
+        let name = words.next().and_then(User::new).expect(rt, "a group");
+        let user = words.next().and_then(User::new).expect(rt, "a user");
+        let (member, leads) = (
+            world.groups.member(&user, &name),
+            world.groups.leads(&user, &name),
+        );
+        let told = format!(in alloc; "{name} {user} {member} {leads}")?;
+        assert_eq!(rt; told.as_str(), row);
+    }
+    Ok(())
+}
+
+#[test]
+fn groups_have_members_and_a_leader(rt: HostRuntime) -> Result<(), Fail> {
+    let world = read_world::<PlainTree<Global>>(rt.alloc(), TEXT)?;
+    is_asked(&rt, rt.alloc(), &world, ASKED)?;
+    Ok(())
+}
+
+/// The world of docs/WORLDS.md that has groups.
+const EXAMPLE: &str = "\
+server main
+dir / 755 sys sys
+dir /src 770 sys staff
+user glenda
+user ken
+user rob
+user staff
+group staff rob glenda ken
+group wheel ken ken
+";
+
+const EXAMPLE_ASKED: &str = "\
+staff glenda true false
+staff ken true false
+staff rob false true
+staff staff false false
+wheel ken true true
+wheel glenda false false
+rob rob true true
+rob ken false false";
+
+#[test]
+fn the_example_of_the_guide_has_its_groups(rt: HostRuntime) -> Result<(), Fail> {
+    let world = read_world::<PlainTree<Global>>(rt.alloc(), EXAMPLE)?;
+    is_asked(&rt, rt.alloc(), &world, EXAMPLE_ASKED)?;
+    Ok(())
+}
+
+// Reads the groups, again where memory was refused.
+fn read_again(rt: &impl Abort, telling: Global, memory: &Refusing<Global>) {
+    let world = match read_world::<PlainTree<&Refusing<Global>>>(memory, TEXT) {
+        Ok(world) => world,
+        Err(error) => {
+            assert_eq!(rt; error, WorldError::NoMemory);
+            let again = read_world::<PlainTree<&Refusing<Global>>>(memory, TEXT);
+            again.expect(rt, "a world with ample memory")
+        }
+    };
+    is_asked(rt, telling, &world, ASKED).expect(rt, "memory");
+}
+
+#[test]
+fn groups_are_read_after_each_refusal(rt: HostRuntime) {
+    let memory = Refusing::new(rt.alloc());
+    let refusals = refuse_each(&memory, || (), |()| read_again(&rt, rt.alloc(), &memory));
+    assert!(rt; refusals > 20);
+}
+
+// A world with a group of 10,000 members, and more words behind them.
+fn many_members(alloc: Global, more: &str) -> Result<String, AllocError> {
+    let mut text = String::from_str(alloc, "server main\ngroup many u1")?;
+    for number in 0..10_000 {
+        write!(&mut text, " u{number}")?;
+    }
+    text.push_str(more)?;
+    Ok(text)
+}
+
+#[test]
+fn a_group_may_have_many_members(rt: HostRuntime) -> Result<(), Fail> {
+    let text = many_members(rt.alloc(), "\ngroup few u9999 u0")?;
+    let world = read_world::<PlainTree<Global>>(rt.alloc(), text.as_str())?;
+    let rows = "\
+many u0 true false
+many u1 true true
+many u9999 true false
+many u10000 false false
+many many false false
+few u0 true false
+few u9999 false true";
+    is_asked(&rt, rt.alloc(), &world, rows)?;
+    Ok(())
+}
+
+#[test]
+fn one_of_many_members_is_there_twice(rt: HostRuntime) -> Result<(), Fail> {
+    for (more, want) in [
+        (" u0", "line 2: already there"),
+        (" u9999", "line 2: already there"),
+        (" u0 \0", "line 2: bad user"),
+        (" u10000", "no fault"),
+    ] {
+        let text = many_members(rt.alloc(), more)?;
+        let told = told(rt.alloc(), text.as_str())?;
+        assert_eq!(rt; told.as_str(), want);
+    }
+    Ok(())
+}
