@@ -59,6 +59,7 @@ impl<T: Tree> Machine for Export<T> {
     }
 
     fn answer(&mut self, name: u32, frame: &[u8], now: u32, reply: &mut [u8]) -> usize {
+        let _most = self.reply_max(name);
         self.message(name, frame, now, reply)
     }
 
@@ -79,6 +80,7 @@ impl<T: Tree> Machine for Guard<T> {
     }
 
     fn answer(&mut self, name: u32, frame: &[u8], now: u32, reply: &mut [u8]) -> usize {
+        let _most = self.reply_max(name);
         Guard::answer(self, name, frame, now, reply)
     }
 

@@ -5,6 +5,7 @@ mod DirectoryReads
 mod Listings
 mod Places
 mod Removals
+mod Rooms
 mod Sounds
 mod Steps
 mod Truncation

@@ -1,3 +1,4 @@
 pub mod Event
 pub mod Wstat
 pub mod Answers
+pub mod Room

@@ -1,12 +1,13 @@
 //! The answer to a frame of one session among all.
 
 ghost use Rattle.std.specs.Prelude.{◌≡◌, ◌≤◌, IsSome, IfSome, drop, length, map};
-ghost use Rattle.p9_wire.specs.Frame.{msize_max};
 ghost use Rattle.p9_wire.specs.Message.{t_view};
 ghost use Rattle.p9_wire.specs.Spelling.{read_header};
 ghost use Rattle.p9_export.specs.Answers.{AnswersAmong, CanWrite, frame_among, replied, reply_view};
+ghost use Rattle.p9_export.specs.Room.{IsDataWithin};
+ghost use Rattle.p9_step.specs.Laws.{reply_max};
 ghost use Rattle.p9_step.specs.Sound.{IsSession};
-ghost use Rattle.p9_step.specs.State.{session_at};
+ghost use Rattle.p9_step.specs.State.{room_of, session_at};
 ghost use Rattle.p9_step.specs.Memory.{ran_out};
 ghost use Rattle.p9_step.specs.Step.{finds_taken};
 
@@ -38,8 +39,11 @@ pub fn answer<T: Tree>(
     requires live { IsSome (session_at name sessions.old.entries) }
     requires sound { IfSome (session_at name sessions.old.entries) (IsSession setting.now
         (map T.state forest.old.trees.items)) }
-    requires room { msize_max ≤ length reply.old }
+    requires room { IfSome (session_at name sessions.old.entries) (λ session. reply_max session
+        ≤ length reply.old) }
     ensures reply { CanWrite result }
+    ensures data { IfSome (session_at name sessions.old.entries) (λ session. IsDataWithin
+        (room_of session) result) }
     ensures len { length reply.new ≡ length reply.old }
     ensures answer { let old = map T.state forest.old.trees.items in
         let new = map T.state forest.new.trees.items in

@@ -2,7 +2,7 @@
 
 ghost use Rattle.std.specs.Prelude.{◌≡◌, ◌≤◌, ◌↔◌, [], Err, None, false, IfSome, IsSome, IsTrue};
 ghost use Rattle.std.specs.Prelude.{OnErr};
-ghost use Rattle.std.specs.Prelude.{OnOk, length, map, take};
+ghost use Rattle.std.specs.Prelude.{OnOk, length, map, take, unwrap_or};
 ghost use Rattle.p9_step.specs.Event.{Open, Message, Close};
 ghost use Rattle.p9_step.specs.State.{session_at};
 ghost use Rattle.p9_step.specs.Memory.{is_no_memory_reply};
@@ -14,6 +14,7 @@ ghost use Rattle.p9_base.specs.User.{is_user};
 ghost use Rattle.p9_space.specs.Given.{is_table_given};
 ghost use Rattle.p9_wire.specs.Frame.{is_frame, msize_max};
 ghost use Rattle.p9_export.specs.declared.export.OpenError.TheVariants.{Live};
+ghost use Rattle.p9_export.specs.Room.{reply_room};
 
 use crate::answer::answer;
 use crate::end::end_fids;
@@ -114,6 +115,16 @@ impl<T: Tree> Export<T> {
         self.sessions.contains_key(&name)
     }
 
+    /// The most bytes that a reply to the session of this name has: its msize, and 43 before a
+    /// version. It is `None` where no session of this name is open.
+    pub fn reply_max(&self, name: u32) -> Option<usize>
+        ensures max { result ≡ reply_room name self.now }
+        ensures live { IsSome result ↔ IsSome (session_at name self.now.sessions) }
+        ensures small { IfSome result (λ size. size ≤ msize_max) }
+    {
+        Some(self.sessions.get(&name)?.reply_max())
+    }
+
     /// Opens a session.
     ///
     /// A session of this name that is open is [`OpenError::Live`]; want of memory is
@@ -146,14 +157,15 @@ impl<T: Tree> Export<T> {
 
     /// Answers one frame of an open session: writes the reply at the front of the buffer, and
     /// returns its length, which is no more than the session's msize, and before a version than 43.
-    /// What the buffer holds behind the reply is undefined, and is not to be handed on.
+    /// What the buffer holds behind the reply is undefined, and is not to be handed on. The buffer
+    /// has as many bytes as [`Export::reply_max`] says.
     ///
     /// Every frame gets exactly one reply. Where that is [`p9_base::Fault::OutOfMemory`], an
     /// allocation failed, and the exporter is unchanged.
     pub fn message(&mut self, name: u32, frame: &[u8], now: u32, reply: &mut [u8]) -> usize
         requires live { IsSome (session_at name self.old.sessions) }
         requires whole { IsTrue (is_frame frame.now) }
-        requires room { msize_max ≤ length reply.old }
+        requires room { unwrap_or (reply_room name self.old) 0 ≤ length reply.old }
         ensures within { result ≤ length reply.old }
         ensures short { IfSome (session_at name self.old.sessions) (λ session. result
             ≤ reply_max session) }

@@ -1,14 +1,13 @@
 //! Frames: the request in one, and the reply to it.
 
 ghost use Rattle.std.specs.Prelude.{◌≡◌, ◌≤◌, ◌+◌, length, map, take, drop};
-ghost use Rattle.p9_wire.specs.Frame.{msize_max};
 ghost use Rattle.p9_base.specs.Fault.{text_of};
 ghost use Rattle.p9_wire.specs.Message.{Rerror};
-ghost use Rattle.p9_wire.specs.Spelling.{r_spelling, read_header};
-ghost use Rattle.p9_step.specs.Laws.{refusal_max};
+ghost use Rattle.p9_wire.specs.Spelling.{r_len, r_spelling, read_header};
 ghost use Rattle.p9_step.specs.Request.{request_of, tag_of};
 ghost use Rattle.p9_export.specs.Answers.{CanWrite, message_of, replied, reply_view, request_view};
 ghost use Rattle.p9_export.specs.Answers.{stat_reply};
+ghost use Rattle.p9_export.specs.Room.{IsRoom};
 
 use crate::qid::stat_of;
 use crate::reply::Reply;
@@ -52,7 +51,7 @@ pub fn tag_of(frame: &[u8]) -> u16
 }
 
 /// Writes the reply to a frame with this tag at the front of the buffer, also where it is a
-/// refusal, and answers its length.
+/// refusal, and returns its length. The buffer has room for it.
 pub fn write_reply<T: Tree>(
     forest: &Forest<T>,
     answered: &Result<Reply, Fault>,
@@ -60,7 +59,7 @@ pub fn write_reply<T: Tree>(
     out: &mut [u8],
 ) -> usize
     requires reply { CanWrite answered.now }
-    requires room { msize_max ≤ length out.old }
+    requires room { IsRoom (map T.state forest.now.trees.items) (length out.old) answered.now }
     ensures bytes { take result out.new ≡ r_spelling tag (message_of (replied (reply_view
         (map T.state forest.now.trees.items) (drop read_header out.old)) answered.now)) }
     ensures within { result ≤ length out.old }
@@ -75,7 +74,7 @@ pub fn write_reply<T: Tree>(
 
 // Writes the refusal.
 fn write_fault(fault: Fault, tag: u16, out: &mut [u8]) -> usize
-    requires { refusal_max ≤ length out.old }
+    requires { 7 + r_len (Rerror (text_of fault)) ≤ length out.old }
     ensures bytes { take result out.new ≡ r_spelling tag (Rerror (text_of fault)) }
     ensures within { result ≤ length out.old }
 {
@@ -90,7 +89,7 @@ fn write_fault(fault: Fault, tag: u16, out: &mut [u8]) -> usize
 
 // Writes the stat of a node, or, where there is none, that it is gone.
 fn write_stat_of<T: Tree>(forest: &Forest<T>, at: NodeRef, tag: u16, out: &mut [u8]) -> usize
-    requires room { msize_max ≤ length out.old }
+    requires room { 7 + r_len (stat_reply (map T.state forest.now.trees.items) at) ≤ length out.old }
     ensures bytes { take result out.new ≡ r_spelling tag (stat_reply
         (map T.state forest.now.trees.items) at) }
     ensures within { result ≤ length out.old }

@@ -3,8 +3,8 @@
 ghost use Rattle.std.specs.Prelude.{◌≡◌, ◌≤◌, ◌+◌, length, map};
 ghost use Rattle.p9_wire.specs.Frame.{msize_max};
 ghost use Rattle.p9_wire.specs.Message.{t_view};
-ghost use Rattle.p9_wire.specs.Spelling.{read_header};
 ghost use Rattle.p9_export.specs.Answers.{Answers, CanWrite, replied, reply_view};
+ghost use Rattle.p9_export.specs.Room.{IsDataWithin};
 ghost use Rattle.p9_step.specs.Sound.{FidsFit};
 ghost use Rattle.p9_step.specs.State.{io_header, room_of};
 ghost use Rattle.p9_step.specs.Memory.{may_run_out};
@@ -44,9 +44,10 @@ pub fn message<T: Tree>(
 ) -> Result<Reply, Fault>
     requires fids { FidsFit setting.now.table
         (map T.state forest.old.trees.items) session.old.fids }
-    requires buffer { msize_max ≤ read_header + length buffer.old }
+    requires buffer { room_of session.old ≤ length buffer.old }
     requires room { io_header + room_of session.old ≤ msize_max }
     ensures reply { CanWrite result }
+    ensures data { IsDataWithin (room_of session.old) result }
     ensures answer { let old = map T.state forest.old.trees.items in
         let new = map T.state forest.new.trees.items in
         let answer = session_answer setting.now old taken session.old now (t_view request.now) in

@@ -1,12 +1,16 @@
 //! A session: what one client and the exporter have agreed on, and the client's fids.
 
 ghost use Rattle.std.specs.Prelude.{◌≡◌};
+ghost use Rattle.p9_step.specs.Laws.{reply_max};
 ghost use Rattle.p9_step.specs.State.{fresh, room_of};
 
 use p9_fids::FidTable;
-use p9_wire::IOHDRSZ;
+use p9_wire::{HEADER, IOHDRSZ};
 use std::alloc::Allocator;
 use std::marker::Model;
+
+// The most bytes of a refusal: its header, the length of its text, and the longest text of a fault.
+const REFUSAL_MAX: usize = HEADER + 2 + 34;
 
 /// A session, as version(5).
 #[derive(Drop)]
@@ -43,6 +47,16 @@ impl<A: Allocator + Copy> Session<A> {
         match self.msize {
             Some(msize) => msize.saturating_sub(IOHDRSZ),
             None => 0,
+        }
+    }
+
+    /// The most bytes that a reply to the session has: its msize, and 43 before a version.
+    pub fn reply_max(&self) -> usize
+        ensures { result ≡ reply_max self.now }
+    {
+        match self.msize {
+            Some(msize) => msize as usize,
+            None => REFUSAL_MAX,
         }
     }
 }

@@ -24,9 +24,9 @@ pub fn send<T: Tree>(
     frame: &[u8],
     reply: &mut [u8],
 ) -> usize {
-    assert!(rt; reply.len() >= MSIZE_MAX as usize);
     assert!(rt; is_frame(frame));
-    assert!(rt; export.live(session));
+    let room = export.reply_max(session).expect(rt, "a session");
+    assert!(rt; reply.len() >= room);
     export.message(session, frame, now, reply)
 }
 

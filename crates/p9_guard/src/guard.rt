@@ -1,7 +1,7 @@
 //! The guard: an exporter, what it hides, and the certificate that vouches for it.
 
 ghost use Rattle.std.specs.Prelude.{◌≡◌, ◌≤◌, ◌↔◌, [], ◌∷◌, Err, None, false, IfErr, IfOk, IsSome};
-ghost use Rattle.std.specs.Prelude.{IfSome, IsTrue, OnOk, length, map, take};
+ghost use Rattle.std.specs.Prelude.{IfSome, IsTrue, OnOk, length, map, take, unwrap_or};
 ghost use Rattle.p9_wire.specs.Frame.{is_frame, msize_max};
 ghost use Rattle.p9_step.specs.Event.{Open, Message, Close};
 ghost use Rattle.p9_step.specs.Laws.{reply_max};
@@ -10,6 +10,7 @@ ghost use Rattle.p9_step.specs.State.{session_at};
 ghost use Rattle.p9_cert.specs.Gap.{first_gap};
 ghost use Rattle.p9_cert.specs.Policy.{policy_of};
 ghost use Rattle.p9_export.specs.declared.export.OpenError.TheVariants.{Live};
+ghost use Rattle.p9_export.specs.Room.{reply_room};
 ghost use Rattle.p9_guard_laws.specs.Guarded.{IsGuardedState};
 ghost use Rattle.p9_guard.specs.Guard.{gap_of, new_guard};
 ghost use Rattle.p9_guard.specs.Headline.{IsPromised};
@@ -124,6 +125,16 @@ impl<T: Tree> Guard<T> {
         self.export.live(name)
     }
 
+    /// The most bytes that a reply to the session of this name has: its msize, and 43 before a
+    /// version. It is `None` where no session of this name is open.
+    pub fn reply_max(&self, name: u32) -> Option<usize>
+        ensures max { result ≡ reply_room name self.now.state }
+        ensures live { IsSome result ↔ IsSome (session_at name self.now.state.sessions) }
+        ensures small { IfSome result (λ size. size ≤ msize_max) }
+    {
+        self.export.reply_max(name)
+    }
+
     /// Opens a session.
     ///
     /// A session of this name that is open is [`OpenError::Live`]; an allocation that fails is
@@ -140,14 +151,15 @@ impl<T: Tree> Guard<T> {
 
     /// Answers one frame of an open session: writes the reply at the front of the buffer, and
     /// returns its length, which is no more than the session's msize, and before a version than 43.
-    /// What the buffer holds behind the reply is undefined, and is not to be handed on.
+    /// What the buffer holds behind the reply is undefined, and is not to be handed on. The buffer
+    /// has as many bytes as [`Guard::reply_max`] says.
     ///
     /// Every frame gets exactly one reply. Where that is [`p9_base::Fault::OutOfMemory`], an
     /// allocation failed, and the guard is unchanged.
     pub fn answer(&mut self, name: u32, frame: &[u8], now: u32, reply: &mut [u8]) -> usize
         requires live { IsSome (session_at name self.old.state.sessions) }
         requires whole { IsTrue (is_frame frame.now) }
-        requires room { msize_max ≤ length reply.old }
+        requires room { unwrap_or (reply_room name self.old.state) 0 ≤ length reply.old }
         ensures within { result ≤ length reply.old }
         ensures short { IfSome (session_at name self.old.state.sessions) (λ session. result
             ≤ reply_max session) }

@@ -11,7 +11,6 @@ use crate::guard::Guard;
 use p9_base::NoMemory;
 use p9_export::{Event, is_frame};
 use p9_tree::Tree;
-use p9_wire::MSIZE_MAX;
 use std::alloc::Allocator;
 use thiserror::Error;
 
@@ -115,10 +114,13 @@ impl<T: Tree> Guard<T> {
             self.new.state reply) }
         ensures err { OnErr result (self.new ≡ self.old) }
     {
-        if !is_frame(frame) || !self.live(name) {
+        let Some(room) = self.reply_max(name) else {
+            return Ok(0);
+        };
+        if !is_frame(frame) {
             return Ok(0);
         }
-        bytes.resize(used + MSIZE_MAX as usize, 0)?;
+        bytes.resize(used + room, 0)?;
         let reply = &mut bytes.as_mut_slice()[used..];
         Ok(self.answer(name, frame, now, reply))
     }

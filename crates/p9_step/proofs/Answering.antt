@@ -130,7 +130,7 @@ tag-small frame bytes =
     go k (inl within) = rw (there k) (bytes (5 + k) 0 within)
     go k (inr past) = rw (there k, get_or_past frame (5 + k) 0 past) (omega arith)
 
-length-spelling : (tag : ℕ) (m : RMessage) → length (r_spelling tag m) ≡ 7 + r_len m
+pub length-spelling : (tag : ℕ) (m : RMessage) → length (r_spelling tag m) ≡ 7 + r_len m
 unfolding r_spelling
 length-spelling tag m =
     length-frame (r_type m) tag (r_body m) ∙ ap (λ (n : ℕ). 7 + n) (length-r_body m)

@@ -1,8 +1,11 @@
-use Rattle.std.proofs.Common.{◌<◌, arith, map, take}
+use Rattle.std.proofs.Common.{◌<◌, ◌≤◌, IfSome, arith, drop, length, map, subst, sym, take}
 use Rattle.std.proofs.lemmas.List.Elements.{All-from_get_or}
 use Rattle.p9_wire.specs.Laws.{IsBytes}
-use Rattle.p9_step.specs.State.{State}
+use Rattle.p9_wire.specs.Spelling.{read_header}
+use Rattle.p9_step.specs.Laws.{reply_max}
+use Rattle.p9_step.specs.State.{State, session_at}
 use Rattle.p9_step.specs.Sound.{IsState}
+use Rattle.p9_export.proofs.Rooms.{among-room, if-open}
 use Rattle.p9_export.proofs.Sounds.{reply-short, served-among}
 use Rattle.p9_step.proofs.Sounds.{each-session-served}
 use Rattle.p9_export.proofs.Steps.{among-makes}
@@ -13,6 +16,34 @@ answer-answered-requires-clause-sound g c =
     each-session-served c.self.inside.setting
     (map g.T.Tree.state c.self.inside.forest.trees.items) c.self.inside.sessions.entries c.args.name
     c.self.invariant
+
+pub answer-answered-requires-clause-room : goal.answer-answered-requires-clause-room
+answer-answered-requires-clause-room g c =
+    if-open (session_at c.args.name c.self.inside.sessions.entries) (length c.args.reply.now)
+    (rw (← c.self.view_is) at c.requires.room)
+
+pub write_reply-requires-clause-room : goal.write_reply-requires-clause-room
+write_reply-requires-clause-room g c =
+    let old : State = record {
+      setting = c.self.inside.setting;
+      forest = map g.T.Tree.state c.self.inside.forest.trees.items;
+      sessions = c.self.inside.sessions.entries;
+    } in
+    let its : IsState old = record {
+      forest = c.well_formed-2.ensures;
+      served = c.self.invariant;
+    } in
+    among-room old c.args.name c.args.now c.args.frame.now (length c.answer-answered.new.reply)
+    (map g.T.Tree.state c.answer-answered.new.forest.trees.items)
+    c.answer-answered.new.sessions.entries (drop read_header c.answer-answered.new.reply)
+    c.answer-answered.result its
+    (All-from_get_or (λ b. b < 256) c.args.frame.now 0 (λ i lt. omega (arith, c.type_inv.frame i)))
+    c.requires.whole (rw (← c.self.view_is) at c.requires.live)
+    (subst (λ n. IfSome (session_at c.args.name c.self.inside.sessions.entries)
+    (λ s. reply_max s ≤ n)) (sym c.answer-answered.ensures.len)
+    (if-open (session_at c.args.name c.self.inside.sessions.entries) (length c.args.reply.now)
+    (rw (← c.self.view_is) at c.requires.room)))
+    c.answer-answered.ensures.data c.answer-answered.ensures.answer
 
 pub invariant_of-self : goal.invariant_of-self
 invariant_of-self g c =

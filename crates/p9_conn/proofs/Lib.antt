@@ -1,0 +1,5 @@
+mod Buffers
+mod Facts
+mod Histories
+mod Orders
+mod Outcomes

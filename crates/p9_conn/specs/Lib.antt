@@ -1,0 +1,5 @@
+pub mod Turn
+pub mod Device
+pub mod Conn
+pub mod History
+pub mod Laws

@@ -1,0 +1,193 @@
+//! One connection.
+
+ghost use Rattle.std.specs.Prelude.{◌≡◌, ◌<◌, [], IfErr, IfOk, false, length};
+ghost use Rattle.p9_conn.specs.Conn.{ComesTo, HasTurned, IsEnded, new_connection};
+ghost use Rattle.p9_conn.specs.Turn.{Answering, Ending, Receiving, Sending, phase_of};
+ghost use Rattle.p9_wire.specs.Frame.{first_frame};
+ghost use Rattle.p9_wire.specs.declared.frame.Frame.TheVariants.{Need, Whole};
+
+use crate::input::Input;
+use crate::output::Output;
+use p9_base::NoMemory;
+use p9_guard::Guard;
+use p9_tree::Tree;
+use p9_wire::Frame;
+use std::alloc::Allocator;
+use std::io;
+use std::io::{ErrorKind, Read, Write};
+use std::marker::Model;
+
+/// What a turn came to.
+#[derive(Clone, Copy, Debug, PartialEq, Eq)]
+pub enum Turn {
+    /// Nothing moved.
+    Idle,
+    /// Bytes moved, or a frame was answered.
+    Moved,
+    /// The connection is closed.
+    Closed,
+}
+
+/// A connection, which serves one session of a guard over a stream.
+///
+/// It has one buffer for what it reads and one pending reply. Both have room for the greatest
+/// frame; real memory is used as far as they are filled.
+#[derive(Drop)]
+pub struct Conn<S, A: Allocator + Copy> {
+    stream: S,
+    session: u32,
+    input: Input<A>,
+    output: Output<A>,
+    closed: bool,
+}
+
+impl<S, A: Allocator + Copy> Model for Conn<S, A> {
+    ghost use Rattle.p9_conn.specs.Conn.{Connection};
+
+    ghost Value = { Connection S };
+
+    ghost view = { λ c. record {
+      stream = c.stream;
+      session = c.session;
+      link = record { buffer = c.input; pending = c.output; closed = c.closed };
+    } };
+}
+
+impl<S: Read + Write + Drop, A: Allocator + Copy> Conn<S, A> {
+    /// A connection over a stream, which serves the session of this name. It has read and written
+    /// nothing yet.
+    ///
+    /// Both buffers are taken here. Where an allocation fails, the stream is given back unchanged.
+    pub fn new(alloc: A, stream: S, session: u32) -> Result<Conn<S, A>, (S, NoMemory)>
+        ensures ok { IfOk result (λ conn. conn ≡ new_connection stream session) }
+        ensures err { IfErr result (λ refused. refused.0 ≡ stream) }
+    {
+        match buffers(alloc) {
+            Ok((input, output)) => Ok(Conn {
+                stream,
+                session,
+                input,
+                output,
+                closed: false,
+            }),
+            Err(refused) => Err((stream, refused)),
+        }
+    }
+
+    /// The name of the session that the connection serves.
+    pub fn session(&self) -> u32
+        ensures { result ≡ self.now.session }
+    {
+        self.session
+    }
+
+    /// Whether the connection is closed.
+    pub fn is_closed(&self) -> bool
+        ensures { result ≡ self.now.link.closed }
+    {
+        self.closed
+    }
+
+    /// The stream.
+    pub fn stream(&self) -> &S
+        ensures { result.now ≡ self.now.stream }
+    {
+        &self.stream
+    }
+
+    /// Does the first of these that can be done, and returns what it came to.
+    ///
+    /// A closed connection does nothing. A reply that is pending is written, in one write. A whole
+    /// frame is taken out of the buffer and answered at this reading of the clock; its reply is
+    /// pending then. Where a size comes that no frame has, session and connection are closed. Else
+    /// one read puts bytes into the buffer.
+    ///
+    /// A stream that would block or was interrupted changes nothing. One that fails otherwise, or
+    /// moves no byte, closes the connection and its session, and no other. This takes no memory,
+    /// except for what an answer may take.
+    pub fn turn<T: Tree>(&mut self, guard: &mut Guard<T>, now: u32) -> Turn
+        ensures { HasTurned S.remaining S.contents (phase_of self.old.link) now self.old guard.old
+            self.new guard.new result }
+    {
+        if self.closed {
+            return Turn::Closed;
+        }
+        if !self.output.is_empty() {
+            return self.send(guard, now);
+        }
+        match self.input.front() {
+            Frame::Need => self.receive(guard, now),
+            Frame::Whole(size) => self.answer(guard, now, size),
+            Frame::Broken => self.end(guard, now),
+        }
+    }
+
+    // Writes of what is pending.
+    fn send<T: Tree>(&mut self, guard: &mut Guard<T>, now: u32) -> Turn
+        requires open { self.old.link.closed ≡ false }
+        requires pending { 0 < length self.old.link.pending }
+        ensures { HasTurned S.remaining S.contents Sending now self.old guard.old self.new guard.new
+            result }
+    {
+        let written = self.output.send(&mut self.stream);
+        self.after(written, guard, now)
+    }
+
+    // Answers the frame at the front of the buffer.
+    fn answer<T: Tree>(&mut self, guard: &mut Guard<T>, now: u32, size: usize) -> Turn
+        requires open { self.old.link.closed ≡ false }
+        requires none { length self.old.link.pending ≡ 0 }
+        requires whole { first_frame self.old.link.buffer ≡ Whole size }
+        ensures { HasTurned S.remaining S.contents (Answering size) now self.old guard.old self.new
+            guard.new result }
+    {
+        let frame = &self.input.bytes()[..size];
+        self.output.answer(guard, self.session, frame, now);
+        self.input.skip(size);
+        Turn::Moved
+    }
+
+    // Reads.
+    fn receive<T: Tree>(&mut self, guard: &mut Guard<T>, now: u32) -> Turn
+        requires open { self.old.link.closed ≡ false }
+        requires need { first_frame self.old.link.buffer ≡ Need }
+        ensures { HasTurned S.remaining S.contents Receiving now self.old guard.old self.new
+            guard.new result }
+    {
+        let read = self.input.receive(&mut self.stream);
+        self.after(read, guard, now)
+    }
+
+    // What a call of the stream comes to.
+    fn after<T: Tree>(&mut self, moved: io::Result<usize>, guard: &mut Guard<T>, now: u32) -> Turn
+        requires { self.old.link.closed ≡ false }
+        ensures { ComesTo moved now self.old guard.old self.new guard.new result }
+    {
+        match moved {
+            Ok(0) => self.end(guard, now),
+            Ok(_) => Turn::Moved,
+            Err(error) => match error.kind() {
+                ErrorKind::WouldBlock | ErrorKind::Interrupted => Turn::Idle,
+                _ => self.end(guard, now),
+            },
+        }
+    }
+
+    // Closes the session, if it is open, and the connection.
+    fn end<T: Tree>(&mut self, guard: &mut Guard<T>, now: u32) -> Turn
+        ensures ended { IsEnded now self.old guard.old self.new guard.new result }
+    {
+        if guard.live(self.session) {
+            guard.close(self.session, now);
+        }
+        self.closed = true;
+        Turn::Closed
+    }
+}
+
+// The two buffers of a connection.
+fn buffers<A: Allocator + Copy>(alloc: A) -> Result<(Input<A>, Output<A>), NoMemory>
+    ensures { IfOk result (λ both. (both.0 ≡ []) × (both.1 ≡ [])) }
+{
+    Ok((Input::new(alloc)?, Output::new(alloc)?))
+}

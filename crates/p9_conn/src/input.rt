@@ -1,0 +1,150 @@
+//! The bytes that a connection has read.
+
+ghost use Rattle.std.specs.Prelude.{◌≡◌, ◌<◌, ◌≤◌, ◌+◌, ◌-◌, [], IfOk, OnErr, drop, length, take};
+ghost use Rattle.std.specs.Prelude.{vec_capacity, vec_len};
+ghost use Rattle.std.specs.Io.KnownBytes.{Consumes, Keeps};
+ghost use Rattle.p9_conn.specs.Device.{HasRead};
+ghost use Rattle.p9_wire.specs.Frame.{first_frame, msize_max};
+
+use crate::room::{lengthen, with_room};
+use p9_base::NoMemory;
+use p9_wire::{Frame, MSIZE_MAX, frame_of};
+use std::alloc::Allocator;
+use std::io;
+use std::io::Read;
+use std::marker::Model;
+
+// How long the buffer is when it is first written to.
+const FIRST: usize = 16_384;
+
+/// Bytes that were read from a stream and are in no frame yet, at most as many as the greatest
+/// frame has.
+///
+/// Bytes are not moved when a frame before them is taken out, but before the next read at the
+/// latest.
+#[derive(Drop)]
+pub(crate) struct Input<A: Allocator + Copy> {
+    // As long as it was ever filled; its room is taken from the beginning on.
+    bytes: Vec<u8, A>,
+    // Where the bytes begin and end.
+    start: usize,
+    end: usize,
+}
+
+impl<A: Allocator + Copy> Model for Input<A> {
+    ghost use Rattle.std.specs.Prelude.{◌≤◌, ◌-◌, List, drop, length, take};
+    ghost use Rattle.std.specs.Prelude.{vec_capacity, vec_len, ℕ};
+    ghost use Rattle.p9_wire.specs.Frame.{msize_max};
+
+    ghost Value = { List ℕ };
+
+    ghost view = { λ b. take (b.end - b.start) (drop b.start b.bytes.items) };
+
+    ghost invariant = { λ b. (b.start ≤ b.end) × (b.end ≤ vec_len b.bytes)
+        × (vec_len b.bytes ≤ msize_max) × (msize_max ≤ vec_capacity b.bytes) };
+}
+
+impl<A: Allocator + Copy> Input<A> {
+    /// An empty buffer with room for the greatest frame.
+    pub fn new(alloc: A) -> Result<Input<A>, NoMemory>
+        ensures { IfOk result (λ input. input ≡ []) }
+    {
+        Ok(Input {
+            bytes: with_room(alloc)?,
+            start: 0,
+            end: 0,
+        })
+    }
+
+    /// The bytes.
+    pub fn bytes(&self) -> &[u8]
+        ensures { result.now ≡ self.now }
+    {
+        &self.bytes[self.start..self.end]
+    }
+
+    /// What is at the front of the bytes.
+    pub fn front(&self) -> Frame
+        ensures { result ≡ first_frame self.now }
+    {
+        frame_of(self.bytes())
+    }
+
+    /// Takes bytes out at the front.
+    pub fn skip(&mut self, count: usize)
+        requires { count ≤ length self.old }
+        ensures { self.new ≡ drop count self.old }
+    {
+        self.start += count;
+        if self.start == self.end {
+            self.start = 0;
+            self.end = 0;
+        }
+    }
+
+    /// Reads once, behind the bytes, and returns how many came. An error of the stream changes no
+    /// byte.
+    pub fn receive<S: Read>(&mut self, stream: &mut S) -> io::Result<usize>
+        requires { length self.old < msize_max }
+        ensures { HasRead (S.remaining stream.old) (S.remaining stream.new) result self.old
+            self.new }
+    {
+        let filled = self.end - self.start;
+        move_to_front(&mut self.bytes, self.start, self.end);
+        self.start = 0;
+        self.end = filled;
+        make_room(&mut self.bytes, filled);
+        let count = read_behind(stream, &mut self.bytes, filled)?;
+        self.end = filled + count;
+        Ok(count)
+    }
+}
+
+// Moves some bytes of a buffer to its front.
+fn move_to_front<A: Allocator>(bytes: &mut Vec<u8, A>, from: usize, to: usize)
+    requires ordered { from ≤ to }
+    requires within { to ≤ vec_len bytes.old }
+    ensures len { vec_len bytes.new ≡ vec_len bytes.old }
+    ensures room { vec_capacity bytes.new ≡ vec_capacity bytes.old }
+    ensures front { take (to - from) bytes.new.items
+        ≡ take (to - from) (drop from bytes.old.items) }
+{
+    if from > 0 {
+        bytes.copy_within(from..to, 0);
+    }
+}
+
+// Lengthens a buffer that is full: it becomes twice as long, at first `FIRST` bytes, and at most as
+// long as the greatest frame.
+fn make_room<A: Allocator>(bytes: &mut Vec<u8, A>, filled: usize)
+    requires within { filled ≤ vec_len bytes.old }
+    requires less { filled < msize_max }
+    requires small { vec_len bytes.old ≤ msize_max }
+    requires room { msize_max ≤ vec_capacity bytes.old }
+    ensures more { filled < vec_len bytes.new }
+    ensures small { vec_len bytes.new ≤ msize_max }
+    ensures room { msize_max ≤ vec_capacity bytes.new }
+    ensures kept { take filled bytes.new.items ≡ take filled bytes.old.items }
+{
+    if filled == bytes.len() {
+        lengthen(bytes, (filled * 2).clamp(FIRST, MSIZE_MAX as usize));
+    }
+}
+
+// Reads behind the first bytes of a buffer.
+fn read_behind<S: Read, A: Allocator>(
+    stream: &mut S,
+    bytes: &mut Vec<u8, A>,
+    filled: usize,
+) -> io::Result<usize>
+    requires { filled < vec_len bytes.old }
+    ensures len { vec_len bytes.new ≡ vec_len bytes.old }
+    ensures room { vec_capacity bytes.new ≡ vec_capacity bytes.old }
+    ensures count { IfOk result (λ count. filled + count ≤ vec_len bytes.old) }
+    ensures kept { take filled bytes.new.items ≡ take filled bytes.old.items }
+    ensures read { IfOk result (λ count. Consumes (S.remaining stream.old)
+        (S.remaining stream.new) (drop filled (take (filled + count) bytes.new.items))) }
+    ensures err { OnErr result (Keeps (S.remaining stream.old) (S.remaining stream.new)) }
+{
+    stream.read(&mut bytes[filled..])
+}
