@@ -1,6 +1,7 @@
 //! Requests that come near a hidden directory: what is in it changes no reply.
 
 use crate::worlds::{COVERED_VAULT, Row, VAULT, guard_of, replies, run, session, world_of};
+use p9_base::NodeRef;
 use p9_tree::PlainTree;
 use p9_world::World;
 use std::alloc::Global;
@@ -48,6 +49,32 @@ fn a_vault_does_not_tell_whether_it_is_empty(rt: HostRuntime) {
         let world = world_of(&rt, alloc, text);
         are_replies(&rt, alloc, world, None, NEAR_THE_VAULT);
     }
+}
+
+#[test]
+fn a_vault_does_not_tell_that_its_key_is_gone(rt: HostRuntime) {
+    let alloc = rt.alloc();
+    let key = NodeRef {
+        server: 0,
+        number: 3,
+    };
+    let world = without(&rt, world_of(&rt, alloc, VAULT), key);
+    assert!(rt; world.forest.node(key).is_none());
+    assert_eq!(rt; world.forest.next_of(0), 4);
+    are_replies(&rt, alloc, world, None, NEAR_THE_VAULT);
+}
+
+// A world without one of its files.
+fn without(
+    rt: &impl Abort,
+    mut world: World<PlainTree<Global>>,
+    at: NodeRef,
+) -> World<PlainTree<Global>> {
+    world.well_formed();
+    assert!(rt; at.number != 0);
+    assert!(rt; world.forest.after(at, None).is_none());
+    world.forest.drop_leaf(at);
+    world
 }
 
 // A directory is bound over the vault: a file beside it is made and renamed, the bound directory is
