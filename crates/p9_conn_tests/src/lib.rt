@@ -1,0 +1,22 @@
+//! Tests of connections: bytes that come and go in pieces, streams that fail, many connections, and
+//! allocations that fail. There is nothing else here.
+#![tactic(auto)]
+
+#[cfg(test)]
+mod buffers;
+#[cfg(test)]
+mod faults;
+#[cfg(test)]
+mod pieces;
+#[cfg(test)]
+mod refused;
+#[cfg(test)]
+mod rows;
+#[cfg(test)]
+mod scripted;
+#[cfg(test)]
+mod serving;
+#[cfg(test)]
+mod sizes;
+#[cfg(test)]
+mod thousand;
