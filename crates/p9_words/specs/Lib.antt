@@ -1,0 +1,5 @@
+pub mod Form
+pub mod Key
+pub mod Verb
+pub mod Class
+pub mod Reading
