@@ -183,13 +183,15 @@ unfoldable pub item_at : Item → Reader (List ℕ)
 item_at item.Name rest = text_at rest >>= λ s. Ok (text s.0, s.1)
 item_at item.Qid rest = qid_at rest >>= λ q. Ok (qid_bytes q.0, q.1)
 
+-- the same behind its index
+unfoldable pub indexed_at : Item → ℕ → Reader (List ℕ)
+indexed_at item i text = index_at i text >>= λ rest. item_at item rest
+
 -- the bytes of so many, from an index on, behind those before them
 abbrev pub items_from : Item → List ℕ → ℕ → ℕ → Reader (List ℕ)
 items_from item bytes i zero text = Ok (bytes, text)
 items_from item bytes i (suc n) text =
-    index_at i text >>= λ rest.
-    item_at item rest >>= λ x.
-    items_from item (bytes ++ x.0) (i + 1) n x.1
+    indexed_at item i text >>= λ x. items_from item (bytes ++ x.0) (i + 1) n x.1
 
 -- how many there are, and each
 unfoldable pub several_at : Item → Reader (List ℕ)
@@ -245,9 +247,9 @@ unfoldable pub value_at : Form → Reader (List ℕ)
 value_at (form.Number width) rest =
     number_at Decimal (256 ^ bytes_of width - 1) rest >>= λ n. Ok (number (bytes_of width) n.0, n.1)
 value_at form.Octal rest = number_at Octal (2 ^ 32 - 1) rest >>= λ n. Ok (number 4 n.0, n.1)
-value_at form.Text rest = text_at rest >>= λ s. Ok (text s.0, s.1)
+value_at form.Text rest = item_at item.Name rest
 value_at form.Data rest = data_at rest >>= λ s. Ok (counted s.0, s.1)
-value_at form.Qid rest = qid_at rest >>= λ q. Ok (qid_bytes q.0, q.1)
+value_at form.Qid rest = item_at item.Qid rest
 value_at form.Names rest = several_at item.Name rest
 value_at form.Qids rest = several_at item.Qid rest
 value_at form.Stat rest = stat_at rest

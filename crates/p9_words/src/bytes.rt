@@ -2,7 +2,7 @@
 //! there.
 
 ghost use Rattle.std.specs.Prelude.{◌≡◌, ◌≤◌, ◌<◌, ◌-◌, ◌^◌, ◌++◌, OnOk, length};
-ghost use Rattle.p9_wire.specs.Fields.{number, text, qid_bytes};
+ghost use Rattle.p9_wire.specs.Fields.{number, text, counted, qid_bytes};
 ghost use Rattle.p9_words.specs.Form.{bytes_of};
 
 use crate::form::Width;
@@ -60,4 +60,14 @@ pub fn put_qid<A: Allocator + Copy>(qid: Qid, out: &mut Vec<u8, A>) -> Result<()
     put_number(Width::U8, u64::from(qid.kind), out)?;
     put_number(Width::U32, u64::from(qid.version), out)?;
     put_number(Width::U64, qid.path, out)
+}
+
+/// Data behind four bytes of its count.
+pub fn put_counted<A: Allocator + Copy>(data: &[u8], out: &mut Vec<u8, A>) -> Result<(), NoMemory>
+    requires { length «data».now < 2 ^ 32 }
+    ensures { OnOk result (out.new.items ≡ out.old.items ++ counted «data».now) }
+{
+    put_number(Width::U32, data.len() as u64, out)?;
+    out.extend_from_slice(data)?;
+    Ok(())
 }

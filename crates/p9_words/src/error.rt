@@ -42,6 +42,15 @@ pub enum Expected {
     End,
 }
 
+/// Why a line of words is no message.
+#[derive(Clone, Copy, Debug, PartialEq, Eq)]
+pub enum WordsError {
+    /// Something else was expected behind the first `at` bytes of the line.
+    Unexpected { at: usize, expected: Expected },
+    /// An allocation failed.
+    NoMemory,
+}
+
 /// A place where something else was expected, told by how many bytes are left there.
 #[derive(Clone, Copy, Debug, PartialEq, Eq)]
 pub struct Fault {

@@ -7,10 +7,13 @@ mod error;
 mod field;
 mod form;
 mod key;
+mod line;
+mod stat;
 mod verb;
 mod word;
 
-pub use error::Expected;
+pub use error::{Expected, WordsError};
 pub use form::{Base, Form, Width};
 pub use key::Key;
+pub use line::read_words;
 pub use verb::Verb;
