@@ -5,3 +5,5 @@ pub mod Class
 pub mod Reading
 pub mod Stat
 pub mod Line
+pub mod Words
+pub mod Value

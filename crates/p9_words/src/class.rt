@@ -1,7 +1,7 @@
 //! Kinds of bytes, and how far they go from the front of a text.
 
 ghost use Rattle.std.specs.Prelude.{◌≡◌, ◌≤◌, length};
-ghost use Rattle.std.specs.List.{prefix_len};
+ghost use Rattle.std.specs.List.{list_all, prefix_len};
 ghost use Rattle.p9_words.specs.Class.{is_in, skip_blanks};
 
 use crate::form::Base;
@@ -19,6 +19,8 @@ pub enum Class {
     Bare,
     /// Any byte but a quote.
     Unquoted,
+    /// Any byte but a control byte.
+    Shown,
 }
 
 impl Class {
@@ -34,6 +36,7 @@ impl Class {
                 byte > b' ' && byte < 127 && byte != b'\'' && byte != b'(' && byte != b')'
             }
             Class::Unquoted => byte != b'\'',
+            Class::Shown => 32 <= byte && byte != 127,
         }
     }
 }
@@ -57,4 +60,11 @@ pub fn skip_blanks(text: &[u8]) -> &[u8]
     ensures { result.now ≡ skip_blanks text.now }
 {
     &text[run(Class::Blank, text)..]
+}
+
+/// Whether each byte is of the kind.
+pub fn all_in(class: Class, text: &[u8]) -> bool
+    ensures { result ≡ list_all (is_in class) text.now }
+{
+    text.iter().all(|byte| class.contains(*byte))
 }

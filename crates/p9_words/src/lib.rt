@@ -8,7 +8,10 @@ mod field;
 mod form;
 mod key;
 mod line;
+mod message;
+mod print;
 mod stat;
+mod value;
 mod verb;
 mod word;
 
@@ -16,4 +19,5 @@ pub use error::{Expected, WordsError};
 pub use form::{Base, Form, Width};
 pub use key::Key;
 pub use line::read_words;
+pub use message::{print_reply, print_request};
 pub use verb::Verb;
