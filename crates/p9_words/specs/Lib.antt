@@ -7,3 +7,4 @@ pub mod Stat
 pub mod Line
 pub mod Words
 pub mod Value
+pub mod Laws

@@ -7,6 +7,7 @@ mod error;
 mod field;
 mod form;
 mod key;
+pub mod laws;
 mod line;
 mod message;
 mod print;

@@ -1,0 +1,6 @@
+use Rattle.p9_words.proofs.Fields.{qid-law}
+use Rattle.p9_words.proofs.Numbers.{number-law}
+use Rattle.p9_words.proofs.laws.requests_are_read_back.Goals as goal
+
+pub returns : goal.returns
+returns c = ?
