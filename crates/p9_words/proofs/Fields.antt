@@ -130,18 +130,18 @@ step : (item : Item) (bytes : List ℕ) (i n : ℕ) (text x rest : List ℕ)
 step item bytes i n text x rest read = rw read refl
 
 -- items may end a word
-items-ends : {A : Type 0} (f : A → List ℕ) (i : ℕ) (xs : List A) (rest : List ℕ)
+pub items-ends : {A : Type 0} (f : A → List ℕ) (i : ℕ) (xs : List A) (rest : List ℕ)
     → ends rest ≡ true → ends (items_words f i xs ++ rest) ≡ true
 items-ends f i [] rest e = e
 items-ends f i (x ∷ xs) rest e = refl
 
 -- an item that is read wherever its words stand
-abbrev IsRead : {A : Type 0} → Item → (A → List ℕ) → (A → List ℕ) → (A → Type 0) → Type 0
+abbrev pub IsRead : {A : Type 0} → Item → (A → List ℕ) → (A → List ℕ) → (A → Type 0) → Type 0
 IsRead {A} item f g Good =
     (x : A) (rest : List ℕ) → Good x → ends rest ≡ true → item_at item (f x ++ rest) ≡ Ok (g x, rest)
 
 -- so are items
-items-law : {A : Type 0} (item : Item) (f g : A → List ℕ) (Good : A → Type 0)
+pub items-law : {A : Type 0} (item : Item) (f g : A → List ℕ) (Good : A → Type 0)
     → IsRead item f g Good → (xs : List A) (bytes : List ℕ) (i : ℕ) (rest : List ℕ)
     → i + length xs ≤ 16 → AllByRecursion Good xs → ends rest ≡ true
     → items_from item bytes i (length xs) (items_words f i xs ++ rest)

@@ -10,7 +10,7 @@ use Rattle.std.proofs.lemmas.Fmt.{digits_is_IsNumeral}
 use Rattle.p9_words.specs.Class.{is_in, skip_blanks}
 use Rattle.p9_words.specs.Form.{radix_of}
 use Rattle.p9_words.specs.Reading.{digits_at, number_at}
-use Rattle.p9_words.specs.Words.{number_words}
+use Rattle.p9_words.specs.Words.{number_words, octal_words}
 use Rattle.p9_words.specs.declared.class.Class.TheVariants.{Digit}
 use Rattle.p9_words.specs.declared.form.Base.{Base}
 use Rattle.p9_words.specs.declared.form.Base.TheVariants.{Octal, Decimal, Hexadecimal}
@@ -70,14 +70,32 @@ digits-law base n most ds rest value some fits =
     rw (take_at ds rest (length ds) refl, drop_at ds rest (length ds) refl, value, no,
       le-ltb most n fits) refl
 
+-- digits at the front that write a number are read as it
+numeral-law : (base : Base) (ds : List ℕ) (n most : ℕ) (text rest : List ℕ)
+    → IsNumeral (radix_of base) ds → digits_value (radix_of base) ds ≡ n
+    → skip_blanks text ≡ ds ++ rest → prefix_len (is_in (Digit base)) rest ≡ 0 → n ≤ most
+    → number_at base most text ≡ Ok (n, rest)
+unfolding number_at
+numeral-law base ds n most text rest is value here behind fits =
+    let len =
+    prefix_len-front (is_in (Digit base)) ds rest (list_all-digits (radix_of base) ds is.1)
+    behind in
+    rw (here, len) (digits-law base n most ds rest value is.0 fits)
+
 -- a number that is printed is read back
 pub number-law : (base : Base) (n most : ℕ) (text rest : List ℕ)
     → skip_blanks text ≡ number_words base n ++ rest → n < 2 ^ 64
     → prefix_len (is_in (Digit base)) rest ≡ 0 → n ≤ most → number_at base most text ≡ Ok (n, rest)
-unfolding number_at
 number-law base n most text rest here small behind fits =
-    let len = prefix_len-front (is_in (Digit base)) (number_words base n) rest
-      (number-digits base n small) behind in
-    rw (here, len)
-    (digits-law base n most (number_words base n) rest (numeral base n small).1
-    (numeral base n small).0.0 fits)
+    let is = numeral base n small in
+    numeral-law base (number_words base n) n most text rest is.0 is.1 here behind fits
+
+-- and so are permissions and flags
+pub octal-law : (n most : ℕ) (text rest : List ℕ) → skip_blanks text ≡ octal_words n ++ rest
+    → n < 2 ^ 64 → prefix_len (is_in (Digit Octal)) rest ≡ 0 → n ≤ most
+    → number_at Octal most text ≡ Ok (n, rest)
+octal-law n most text rest here small behind fits =
+    let is = numeral Octal n small in
+    let all : AllDigits 8 (48 ∷ number_words Octal n) = (omega arith, is.0.1) in
+    numeral-law Octal (48 ∷ number_words Octal n) n most text rest (omega arith, all) is.1 here
+    behind fits

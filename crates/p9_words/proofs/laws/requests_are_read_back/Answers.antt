@@ -1,4 +1,4 @@
-use Rattle.p9_words.proofs.Fields.{qid-law}
+use Rattle.p9_words.proofs.Values.{key-law}
 use Rattle.p9_words.proofs.Numbers.{number-law}
 use Rattle.p9_words.proofs.laws.requests_are_read_back.Goals as goal
 
