@@ -59,7 +59,7 @@ next-number base n most rest small fits e =
 -- the parts of a qid
 qid-parts : (q : Qid) (rest : List ℕ) → qid_words q ++ rest
     ≡ 40 ∷ (number_words Hexadecimal q.path ++ 32 ∷ (number_words Decimal q.version
-      ++ 32 ∷ (number_words Hexadecimal q.kind ++ 41 ∷ rest)))
+    ++ 32 ∷ (number_words Hexadecimal q.kind ++ 41 ∷ rest)))
 unfolding qid_words
 qid-parts q rest = simp append_assoc
 
@@ -145,7 +145,7 @@ pub items-law : {A : Type 0} (item : Item) (f g : A → List ℕ) (Good : A → 
     → IsRead item f g Good → (xs : List A) (bytes : List ℕ) (i : ℕ) (rest : List ℕ)
     → i + length xs ≤ 16 → AllByRecursion Good xs → ends rest ≡ true
     → items_from item bytes i (length xs) (items_words f i xs ++ rest)
-      ≡ Ok (bytes ++ flat_map g xs, rest)
+    ≡ Ok (bytes ++ flat_map g xs, rest)
 items-law item f g Good each [] bytes i rest few all e =
     ap (λ b. Ok (b, rest)) (sym (append-nil bytes))
 items-law item f g Good each (x ∷ xs) bytes i rest few all e =

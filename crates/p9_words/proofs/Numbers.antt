@@ -67,8 +67,13 @@ digits-law : (base : Base) (n most : ℕ) (ds rest : List ℕ) → digits_value 
 unfolding digits_at
 digits-law base n most ds rest value some fits =
     let no : eqb (length ds) 0 ≡ false = ne_eqb _ _ (λ e. omega arith) in
-    rw (take_at ds rest (length ds) refl, drop_at ds rest (length ds) refl, value, no,
-      le-ltb most n fits) refl
+    rw (
+      take_at ds rest (length ds) refl,
+      drop_at ds rest (length ds) refl,
+      value,
+      no,
+      le-ltb most n fits,
+    ) refl
 
 -- digits at the front that write a number are read as it
 numeral-law : (base : Base) (ds : List ℕ) (n most : ℕ) (text rest : List ℕ)

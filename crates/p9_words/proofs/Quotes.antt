@@ -64,8 +64,8 @@ unquoted-law (b ∷ s) bytes rest e =
 -- a text in quotes
 pub quoted-law : (s rest : List ℕ) → ends rest ≡ true
     → where_behind (behind (codes "'") (quoted s ++ rest)) (unquoted_from false [])
-      (where_behind (behind (codes "x'") (quoted s ++ rest)) pairs_at bare_at) (quoted s ++ rest)
-      ≡ Ok (s, rest)
+    (where_behind (behind (codes "x'") (quoted s ++ rest)) pairs_at bare_at) (quoted s ++ rest)
+    ≡ Ok (s, rest)
 unfolding behind
 quoted-law s rest e =
     ap (unquoted_from false []) (append_assoc (flat_map between_quotes s) (39 ∷ []) rest)
@@ -93,14 +93,18 @@ unfolding pairs_at behind
 pairs-law s rest bytes =
     let e = encode_lower s in
     let len = prefix_len-front (is_in Unquoted) e (39 ∷ rest) (pairs-unquoted s) refl in
-    rw (len, take_at e (39 ∷ rest) (length e) refl, drop_at e (39 ∷ rest) (length e) refl,
-      decode_of-encode_lower s (each_below s bytes)) refl
+    rw (
+      len,
+      take_at e (39 ∷ rest) (length e) refl,
+      drop_at e (39 ∷ rest) (length e) refl,
+      decode_of-encode_lower s (each_below s bytes),
+    ) refl
 
 -- the same behind its mark
 pub paired-law : (s rest : List ℕ) → IsBytes s
     → where_behind (behind (codes "'") (paired s ++ rest)) (unquoted_from false [])
-      (where_behind (behind (codes "x'") (paired s ++ rest)) pairs_at bare_at) (paired s ++ rest)
-      ≡ Ok (s, rest)
+    (where_behind (behind (codes "x'") (paired s ++ rest)) pairs_at bare_at) (paired s ++ rest)
+    ≡ Ok (s, rest)
 unfolding behind
 paired-law s rest bytes =
     ap pairs_at (append_assoc (encode_lower s) (39 ∷ []) rest) ∙ pairs-law s rest bytes
@@ -153,8 +157,8 @@ bare-law s rest all some e =
 -- the same where it is looked for behind the marks
 bare_word-law : (s rest : List ℕ) → list_all is_bare s ≡ true → 0 < length s → ends rest ≡ true
     → where_behind (behind (codes "'") (s ++ rest)) (unquoted_from false [])
-      (where_behind (behind (codes "x'") (s ++ rest)) pairs_at bare_at) (s ++ rest)
-      ≡ Ok (s, rest)
+    (where_behind (behind (codes "x'") (s ++ rest)) pairs_at bare_at) (s ++ rest)
+    ≡ Ok (s, rest)
 bare_word-law s rest all some e =
     rw (no-mark s rest all some, no-marks s rest all some e) (bare-law s rest all some e)
 

@@ -7,8 +7,10 @@ use Rattle.std.specs.List.{flat_map, AllByRecursion}
 use Rattle.std.proofs.lemmas.Bool.{lt-ltb}
 use Rattle.std.proofs.lemmas.List.{append-nil}
 use Rattle.p9_base.specs.declared.qid.Qid.{Qid}
+use Rattle.p9_wire.specs.Fields.{text as text_spelling}
 use Rattle.p9_wire.specs.Fields.{number, text, counted, several, sized, qid_bytes, stat_bytes}
 use Rattle.p9_wire.specs.Fields.{stat_fields, FitsText, FitsNames, FitsStat, QidNumbersFit}
+use Rattle.p9_wire.specs.Fields.{stat_len}
 use Rattle.p9_wire.specs.Fields.{StatNumbersFit}
 use Rattle.p9_wire.specs.Laws.{IsBytes}
 use Rattle.p9_wire.specs.Message.{StatFields}
@@ -127,22 +129,26 @@ several-law item f g Good each xs text rest here few all e =
     let parts : skip_blanks text ≡ number_words Decimal (length xs) ++ others =
     here ∙ append_assoc (number_words Decimal (length xs)) (items_words f 0 xs) rest in
     rw (ended-number Decimal (length xs) 16 text others parts (omega arith) few
-      (items-ends f 0 xs rest e))
+    (items-ends f 0 xs rest e))
     (items-law item f g Good each xs (number 2 (length xs)) 0 rest (omega (arith, few)) all e)
 
 -- names that fit, of bytes
 names-good : (names : List (List ℕ)) → AllByRecursion FitsText names → IsBytes (flat_map text names)
     → AllByRecursion (λ s. FitsText s × IsBytes s) names
 names-good [] fits bytes = tt
-names-good (n ∷ names) fits bytes =
-    ((fits.0, IsBytes-back (number 2 (length n)) n
-      (IsBytes-front (text n) (flat_map text names) bytes)),
-    names-good names fits.1 (IsBytes-back (text n) (flat_map text names) bytes))
+names-good (n ∷ names) fits bytes = (
+  (
+    fits.0,
+    IsBytes-back (number 2 (length n)) n
+        (IsBytes-front (text n) (flat_map text names) bytes),
+  ),
+  names-good names fits.1 (IsBytes-back (text n) (flat_map text names) bytes),
+)
 
 -- the texts of a stat, and what stands behind them
 stat-texts : (a b c d n rest : List ℕ)
     → ((a ++ codes " " ++ b ++ codes " " ++ c ++ codes " " ++ d) ++ n) ++ rest
-      ≡ a ++ 32 ∷ (b ++ 32 ∷ (c ++ 32 ∷ (d ++ (n ++ rest))))
+    ≡ a ++ 32 ∷ (b ++ 32 ∷ (c ++ 32 ∷ (d ++ (n ++ rest))))
 stat-texts a b c d n rest = simp append_assoc
 
 -- its numbers, and what stands behind them
@@ -227,3 +233,171 @@ stat_fields-law s text rest here fits numbers bytes e =
       keyed_number-law key.Dev s.dev 4294967295 rest (omega (arith, n.dev)) (omega (arith, n.dev))
           e,
     ) refl
+
+-- a stat begins with no blank
+stat-starts : (s : StatFields) (rest : List ℕ) → starts (stat_words s ++ rest) ≡ true
+stat-starts s rest =
+    ap starts
+    (stat-texts (shown s.name) (shown s.uid) (shown s.gid) (shown s.muid) (stat_numbers_words s) rest)
+    ∙ shown-starts s.name _
+
+-- a stat that is printed is read back
+stat-law : (s : StatFields) (text rest : List ℕ) → skip_blanks text ≡ stat_words s ++ rest
+    → FitsStat s → StatNumbersFit s → StatBytes s → ends rest ≡ true
+    → stat_at text ≡ Ok (sized stat_bytes s, rest)
+unfolding stat_at
+stat-law s text rest here fits numbers bytes e =
+    rw (
+      here,
+      stat_fields-law s (stat_words s ++ rest) rest (skip-none _ (stat-starts s rest)) fits numbers
+          bytes e,
+      lt-ltb (stat_len s) 65536 fits.short,
+    ) refl
+
+-- what a field of a message holds
+abbrev pub form_of : Value → Form
+form_of (NumberOf width n) = form.Number width
+form_of (OctalOf n) = form.Octal
+form_of (TextOf s) = form.Text
+form_of (DataOf s) = form.Data
+form_of (QidOf q) = form.Qid
+form_of (NamesOf names) = form.Names
+form_of (QidsOf qids) = form.Qids
+form_of (StatOf s) = form.Stat
+
+-- the bytes of a frame that have the value
+abbrev pub value_bytes : Value → List ℕ
+value_bytes (NumberOf width n) = number (bytes_of width) n
+value_bytes (OctalOf n) = number 4 n
+value_bytes (TextOf s) = text s
+value_bytes (DataOf s) = counted s
+value_bytes (QidOf q) = qid_bytes q
+value_bytes (NamesOf names) = several text names
+value_bytes (QidsOf qids) = several qid_bytes qids
+value_bytes (StatOf s) = sized stat_bytes s
+
+-- which values have such bytes
+abbrev pub Fits : Value → Type 0
+Fits (NumberOf width n) = n < 256 ^ bytes_of width
+Fits (OctalOf n) = n < 2 ^ 32
+Fits (TextOf s) = FitsText s
+Fits (DataOf s) = length s < 2 ^ 32
+Fits (QidOf q) = QidNumbersFit q
+Fits (NamesOf names) = FitsNames names
+Fits (QidsOf qids) = (length qids ≤ 16) × AllByRecursion QidNumbersFit qids
+Fits (StatOf s) = FitsStat s × StatNumbersFit s
+
+-- 64 bits hold a number of any width
+width-small : (width : Width) (n : ℕ) → n < 256 ^ bytes_of width → n < 2 ^ 64
+width-small U8 n lt = omega arith
+width-small U16 n lt = omega arith
+width-small U32 n lt = omega arith
+width-small U64 n lt = lt
+
+-- the greatest number of a width is no less
+width-most : (width : Width) (n : ℕ) → n < 256 ^ bytes_of width → n ≤ 256 ^ bytes_of width - 1
+width-most U8 n lt = omega arith
+width-most U16 n lt = omega arith
+width-most U32 n lt = omega arith
+width-most U64 n lt = omega arith
+
+-- what is printed of a value begins with no blank
+value-starts : (v : Value) (rest : List ℕ) → Fits v → starts (value_words v ++ rest) ≡ true
+unfolding value_words
+value-starts (NumberOf width n) rest fits = number-starts Decimal n rest (width-small width n fits)
+value-starts (OctalOf n) rest fits = refl
+value-starts (TextOf s) rest fits = shown-starts s rest
+value-starts (DataOf s) rest fits =
+    let count = number_words Decimal (length s) in
+    ap starts
+    (append_assoc (count ++ codes " ") (shown s) rest
+    ∙ append_assoc count (codes " ") (shown s ++ rest))
+    ∙ number-starts Decimal (length s) (codes " " ++ (shown s ++ rest)) (omega arith)
+value-starts (QidOf q) rest fits = qid-starts q rest
+value-starts (NamesOf names) rest fits =
+    ap starts (append_assoc (number_words Decimal (length names)) (items_words name_words 0 names) rest)
+    ∙ number-starts Decimal (length names) _ (omega (arith, fits.few))
+value-starts (QidsOf qids) rest fits =
+    ap starts (append_assoc (number_words Decimal (length qids)) (items_words qid_words 0 qids) rest)
+    ∙ number-starts Decimal (length qids) _ (omega (arith, fits.0))
+value-starts (StatOf s) rest fits = stat-starts s rest
+
+-- and is read back
+value-law : (v : Value) (text rest : List ℕ) → skip_blanks text ≡ value_words v ++ rest → Fits v
+    → IsBytes (value_bytes v) → ends rest ≡ true
+    → value_at (form_of v) text ≡ Ok (value_bytes v, rest)
+unfolding value_words value_at item_at
+value-law (NumberOf width n) text rest here fits bytes e =
+    rw (ended-number Decimal n (256 ^ bytes_of width - 1) text rest here (width-small width n fits)
+    (width-most width n fits) e) refl
+value-law (OctalOf n) text rest here fits bytes e =
+    rw (octal-law n 4294967295 text rest here (omega arith)
+    (prefix_len-ends (is_in (Digit Octal)) rest refl refl e) (omega arith)) refl
+value-law (TextOf s) text rest here fits bytes e =
+    rw (shown_text-law s text rest here (IsBytes-back (number 2 (length s)) s bytes) e fits) refl
+value-law (DataOf s) text rest here fits bytes e =
+    rw (data-law s text rest here (IsBytes-back (number 4 (length s)) s bytes) fits e) refl
+value-law (QidOf q) text rest here fits bytes e = rw (qid-law q text rest here fits) refl
+value-law (NamesOf names) text rest here fits bytes e =
+    several-law item.Name name_words text_spelling (λ s. FitsText s × IsBytes s) name-read names text
+    rest here fits.few
+    (names-good names fits.each
+    (IsBytes-back (number 2 (length names)) (flat_map text_spelling names) bytes)) e
+value-law (QidsOf qids) text rest here fits bytes e =
+    several-law item.Qid qid_words qid_bytes QidNumbersFit qid-read qids text rest here fits.0 fits.1
+    e
+value-law (StatOf s) text rest here fits bytes e =
+    stat-law s text rest here fits.0 fits.1 (stat-bytes s bytes) e
+
+-- a field that is printed is read back
+pub field-law : (key : Key) (v : Value) (rest : List ℕ) → Fits v → IsBytes (value_bytes v)
+    → ends rest ≡ true → field_at (key, form_of v) (field_words (key, v) ++ rest)
+    ≡ Ok (value_bytes v, rest)
+unfolding field_at
+field-law key v rest fits bytes e =
+    rw (key-law key (value_words v) rest)
+    (value-law v (32 ∷ (value_words v ++ rest)) rest (skip-one _ (value-starts v rest fits)) fits bytes
+    e)
+
+-- fields may end a word
+pub fields-ends : (fields : List (Key × Value)) (rest : List ℕ) → ends rest ≡ true
+    → ends (flat_map field_words fields ++ rest) ≡ true
+fields-ends [] rest e = e
+fields-ends (f ∷ fields) rest e = refl
+
+-- what the fields are, without their values
+abbrev pub forms : List (Key × Value) → List (Key × Form)
+forms fields = map (λ f. (f.0, form_of f.1)) fields
+
+-- the bytes of fields
+abbrev pub fields_bytes : List (Key × Value) → List ℕ
+fields_bytes fields = flat_map (λ f. value_bytes f.1) fields
+
+-- each has bytes
+abbrev pub FieldsFit : List (Key × Value) → Type 0
+FieldsFit fields = AllByRecursion (λ f. Fits f.1) fields
+
+-- one field, and those behind it
+fields-step : (field : Key × Form) (bytes : List ℕ) (fields : List (Key × Form))
+    (text x rest : List ℕ) → field_at field text ≡ Ok (x, rest)
+    → fields_from bytes (field ∷ fields) text ≡ fields_from (bytes ++ x) fields rest
+fields-step field bytes fields text x rest read = rw read refl
+
+-- fields that are printed are read back
+pub fields-law : (fields : List (Key × Value)) (bytes rest : List ℕ) → FieldsFit fields
+    → IsBytes (fields_bytes fields) → ends rest ≡ true
+    → fields_from bytes (forms fields) (flat_map field_words fields ++ rest)
+    ≡ Ok (bytes ++ fields_bytes fields, rest)
+fields-law [] bytes rest fits are e = ap (λ b. Ok (b, rest)) (sym (append-nil bytes))
+fields-law (f ∷ fields) bytes rest fits are e =
+    let others = flat_map field_words fields ++ rest in
+    let one : field_at (f.0, form_of f.1) (flat_map field_words (f ∷ fields) ++ rest)
+    ≡ Ok (value_bytes f.1, others) =
+    ap (field_at (f.0, form_of f.1)) (append_assoc (field_words f) (flat_map field_words fields) rest)
+    ∙ field-law f.0 f.1 others fits.0
+    (IsBytes-front (value_bytes f.1) (fields_bytes fields) are) (fields-ends fields rest e) in
+    fields-step (f.0, form_of f.1) bytes (forms fields)
+    (flat_map field_words (f ∷ fields) ++ rest) (value_bytes f.1) others one
+    ∙ fields-law fields (bytes ++ value_bytes f.1) rest fits.1
+    (IsBytes-back (value_bytes f.1) (fields_bytes fields) are) e
+    ∙ ap (λ b. Ok (b, rest)) (append_assoc bytes (value_bytes f.1) (fields_bytes fields))
