@@ -6,6 +6,8 @@ use crate::form::Base;
 use crate::key::Key;
 use p9_base::NoMemory;
 use std::alloc::{AllocError, AllocFailed};
+use std::fmt;
+use thiserror::Error;
 
 /// What was expected at a place of a line.
 #[derive(Clone, Copy, Debug, PartialEq, Eq)]
@@ -42,12 +44,42 @@ pub enum Expected {
     End,
 }
 
+impl fmt::Display for Expected {
+    fn fmt<W: fmt::Write>(&self, f: &mut fmt::Formatter<W>) -> fmt::Result {
+        match self {
+            Expected::Verb => write!(f, "the name of a message"),
+            Expected::Key(key) => {
+                let word = key.text();
+                write!(f, "'{word}'")
+            }
+            Expected::Number(base, most) => {
+                let digits = base.name();
+                write!(f, "a number in {digits} digits, at most {most},")
+            }
+            Expected::Word => write!(f, "a text"),
+            Expected::Quote => write!(f, "a quote"),
+            Expected::Pairs => write!(f, "pairs of hexadecimal digits"),
+            Expected::Text => write!(f, "UTF-8 without NUL of at most 65535 bytes"),
+            Expected::Count(count) => write!(f, "{count} bytes"),
+            Expected::Open => write!(f, "'('"),
+            Expected::Close => write!(f, "')'"),
+            Expected::Index(index) => write!(f, "the index {index}"),
+            Expected::Colon => write!(f, "':'"),
+            Expected::ShortStat => write!(f, "a stat of at most 65535 bytes"),
+            Expected::ShortMessage => write!(f, "a message of less than 4294967296 bytes"),
+            Expected::End => write!(f, "the end of the line"),
+        }
+    }
+}
+
 /// Why a line of words is no message.
-#[derive(Clone, Copy, Debug, PartialEq, Eq)]
+#[derive(Clone, Copy, Debug, PartialEq, Eq, Error)]
 pub enum WordsError {
     /// Something else was expected behind the first `at` bytes of the line.
+    #[error("{expected} expected behind byte {at}")]
     Unexpected { at: usize, expected: Expected },
     /// An allocation failed.
+    #[error("out of memory")]
     NoMemory,
 }
 

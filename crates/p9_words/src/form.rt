@@ -45,6 +45,15 @@ impl Base {
             Base::Hexadecimal => 16,
         }
     }
+
+    /// Its name.
+    pub fn name(self) -> &'static str {
+        match self {
+            Base::Octal => "octal",
+            Base::Decimal => "decimal",
+            Base::Hexadecimal => "hexadecimal",
+        }
+    }
 }
 
 /// What a field of a message holds, and so how it stands in words and in bytes.
