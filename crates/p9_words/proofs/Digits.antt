@@ -1,8 +1,8 @@
 -- Digits at the front of a text, and the number that they write.
-use Rattle.std.proofs.Common.{◌≡◌, ℕ, zero, suc, ◌+◌, ◌*◌, ◌<◌, ◌≤◌, ◌^◌, Bool, true, false, cond, ltb}
+use Rattle.std.proofs.Common.{◌≡◌, ℕ, zero, suc, ◌+◌, ◌*◌, ◌<◌, ◌≤◌, ◌^◌, Bool, true, false, cond}
 use Rattle.std.proofs.Common.{List, [], ◌∷◌, length, take, get_or, refl, sym, subst, arith}
 use Rattle.std.specs.Char.{digit_value, is_digit}
-use Rattle.std.specs.List.{prefix_len, take_while}
+use Rattle.std.specs.List.{take_while}
 use Rattle.std.specs.Str.Parse.{AllDigits, digits_value}
 use Rattle.p9_words.specs.Form.{radix_of}
 use Rattle.p9_words.specs.declared.form.Base.{Base}

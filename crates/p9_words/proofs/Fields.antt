@@ -1,32 +1,27 @@
 -- A field that is printed is read back.
-use Rattle.std.proofs.Common.{◌≡◌, ℕ, zero, suc, ◌+◌, ◌-◌, ◌<◌, ◌≤◌, ◌^◌, Bool, true, false, cond, eqb}
+use Rattle.std.proofs.Common.{◌≡◌, ℕ, suc, ◌+◌, ◌<◌, ◌≤◌, ◌^◌, true}
 use Rattle.std.proofs.Common.{List, [], ◌∷◌, ◌++◌, length, Ok, refl, sym, ap, ◌∙◌, append_assoc}
 use Rattle.std.proofs.Common.{arith}
-use Rattle.std.specs.Prelude.{codes}
-use Rattle.std.specs.List.{prefix_len, flat_map, AllByRecursion}
-use Rattle.std.proofs.lemmas.Bool.{eq-eqb, lt-ltb}
+use Rattle.std.specs.List.{flat_map, AllByRecursion}
+use Rattle.std.proofs.lemmas.Bool.{eq-eqb}
 use Rattle.std.proofs.lemmas.List.{append-nil}
 use Rattle.p9_base.specs.declared.qid.Qid.{Qid}
-use Rattle.p9_wire.specs.Fields.{text, number, qid_bytes, FitsText, QidNumbersFit}
+use Rattle.p9_wire.specs.Fields.{text, QidNumbersFit}
 use Rattle.p9_wire.specs.Laws.{IsBytes}
 use Rattle.p9_words.specs.Class.{is_in, skip_blanks}
-use Rattle.p9_words.specs.Key.{key_text}
-use Rattle.p9_words.specs.Reading.{behind, mark_at, key_at, number_at, word_at, data_at, qid_at}
-use Rattle.p9_words.specs.Reading.{index_at, item_at, indexed_at, items_from, several_at, keyed_at}
-use Rattle.p9_words.specs.Words.{number_words, octal_words, shown, name_words, data_words, qid_words}
-use Rattle.p9_words.specs.Words.{item_words, items_words, several_words, keyed}
+use Rattle.p9_words.specs.Reading.{behind, mark_at, number_at, data_at, qid_at}
+use Rattle.p9_words.specs.Reading.{index_at, item_at, indexed_at, items_from}
+use Rattle.p9_words.specs.Words.{number_words, shown, data_words, qid_words}
+use Rattle.p9_words.specs.Words.{items_words}
 use Rattle.p9_words.specs.declared.class.Class.TheVariants.{Digit}
 use Rattle.p9_words.specs.declared.error.Expected.{Expected}
 use Rattle.p9_words.specs.declared.error.Expected.TheVariants as expected
 use Rattle.p9_words.specs.declared.form.Base.{Base}
-use Rattle.p9_words.specs.declared.form.Base.TheVariants.{Octal, Decimal, Hexadecimal}
+use Rattle.p9_words.specs.declared.form.Base.TheVariants.{Decimal, Hexadecimal}
 use Rattle.p9_words.specs.declared.form.Item.{Item}
-use Rattle.p9_words.specs.declared.form.Item.TheVariants as item
-use Rattle.p9_words.specs.declared.key.Key.{Key}
-use Rattle.p9_words.specs.declared.key.Key.TheVariants as key
 use Rattle.p9_words.proofs.Fronts.{ends, starts, prefix_len-ends, skip-none, skip-one}
 use Rattle.p9_words.proofs.Numbers.{number-law, number-starts, blank-digit, closing-digit}
-use Rattle.p9_words.proofs.Quotes.{shown-law, shown-starts, name_text-law, name-starts}
+use Rattle.p9_words.proofs.Quotes.{shown-law, shown-starts}
 
 -- a mark of one byte
 mark-law : (c : ℕ) (expected : Expected) (text rest : List ℕ) → skip_blanks text ≡ c ∷ rest

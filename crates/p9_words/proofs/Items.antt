@@ -1,5 +1,5 @@
 -- Items read one after the other, as a loop does.
-use Rattle.std.proofs.Common.{◌≡◌, ℕ, suc, ◌-◌, ◌+◌, ◌≤◌, ◌<◌, List, ◌++◌, Result, Ok, Err, refl, sym}
+use Rattle.std.proofs.Common.{◌≡◌, ℕ, suc, ◌-◌, ◌+◌, ◌<◌, List, ◌++◌, Result, Ok, Err, refl, sym}
 use Rattle.std.proofs.Common.{◌∙◌, arith}
 use Rattle.p9_words.specs.Reading.{Fails, indexed_at, items_from}
 use Rattle.p9_words.specs.declared.error.Fault.{Fault}

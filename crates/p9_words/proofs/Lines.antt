@@ -1,5 +1,5 @@
 -- A line that is printed is read back.
-use Rattle.std.proofs.Common.{◌≡◌, ℕ, ◌+◌, ◌<◌, ◌≤◌, ◌^◌, Bool, true, false, cond, List, [], ◌∷◌, ◌++◌}
+use Rattle.std.proofs.Common.{◌≡◌, ℕ, ◌+◌, ◌<◌, ◌^◌, true, List, [], ◌∷◌, ◌++◌}
 use Rattle.std.proofs.Common.{length, Ok, refl, sym, ap, subst, ◌∙◌, append_assoc, arith}
 use Rattle.std.specs.List.{flat_map}
 use Rattle.std.proofs.lemmas.Bool.{lt-ltb}
@@ -11,7 +11,7 @@ use Rattle.p9_wire.proofs.Bytes.{IsBytes-back, IsBytes-front, length-number}
 use Rattle.p9_words.specs.Class.{skip_blanks}
 use Rattle.p9_words.specs.Reading.{verb_at, field_at, fields_from, tag_field, framed, frame_at}
 use Rattle.p9_words.specs.Reading.{frame_of_words}
-use Rattle.p9_words.specs.Verb.{verb_text, verbs, type_of, fields_of}
+use Rattle.p9_words.specs.Verb.{verb_text, type_of, fields_of}
 use Rattle.p9_words.specs.Words.{Value, NumberOf, field_words, line_words}
 use Rattle.p9_words.specs.declared.form.Width.TheVariants.{U16}
 use Rattle.p9_words.specs.declared.key.Key.{Key}
@@ -19,7 +19,7 @@ use Rattle.p9_words.specs.declared.key.Key.TheVariants as key
 use Rattle.p9_words.specs.declared.verb.Verb.{Verb}
 use Rattle.p9_words.specs.declared.verb.Verb.TheVariants as verb
 use Rattle.p9_words.proofs.Fronts.{ends, skip-nothing}
-use Rattle.p9_words.proofs.Values.{form_of, forms, value_bytes, fields_bytes, FieldsFit, field-law}
+use Rattle.p9_words.proofs.Values.{forms, fields_bytes, FieldsFit, field-law}
 use Rattle.p9_words.proofs.Values.{fields-law, fields-ends}
 
 -- the name of a message

@@ -1,6 +1,6 @@
 -- A number that is printed is read back.
-use Rattle.std.proofs.Common.{◌≡◌, ℕ, ◌<◌, ◌≤◌, ◌^◌, Bool, true, false, cond, eqb, ltb, List, [], ◌∷◌}
-use Rattle.std.proofs.Common.{◌++◌, length, take, drop, Ok, refl, sym, ap, ◌∙◌, arith}
+use Rattle.std.proofs.Common.{◌≡◌, ℕ, ◌<◌, ◌≤◌, ◌^◌, true, false, eqb, List, [], ◌∷◌}
+use Rattle.std.proofs.Common.{◌++◌, length, Ok, refl, arith}
 use Rattle.std.specs.Char.{is_digit}
 use Rattle.std.specs.List.{prefix_len, list_all}
 use Rattle.std.specs.Str.Parse.{AllDigits, IsNumeral, digits_value}

@@ -1,17 +1,14 @@
 -- A text that is printed is read back: in quotes, in hexadecimal digits, or as a bare word.
-use Rattle.std.proofs.Common.{◌≡◌, ℕ, zero, suc, ◌<◌, ◌^◌, Bool, true, false, not, ◌&&◌, cond, eqb, ltb}
-use Rattle.std.proofs.Common.{List, [], ◌∷◌, ◌++◌, length, take, drop, get_or, Some, None, Ok, refl}
+use Rattle.std.proofs.Common.{◌≡◌, ℕ, zero, suc, ◌<◌, Bool, true, false, not, ◌&&◌, eqb, ltb}
+use Rattle.std.proofs.Common.{List, [], ◌∷◌, ◌++◌, length, get_or, None, Ok, refl}
 use Rattle.std.proofs.Common.{sym, ap, subst, ◌∙◌, append_assoc, arith, ⊎_elim, ◌/◌, ◌%◌}
-use Rattle.std.specs.Prelude.{codes, slice_index}
+use Rattle.std.specs.Prelude.{codes}
 use Rattle.std.specs.List.{prefix_len, list_all, flat_map}
-use Rattle.std.specs.Result.{result_ok}
-use Rattle.std.specs.Str.{bytes_eq}
 use Rattle.std.proofs.lemmas.Bool.{and_parts, and_from, not-true, eqb-true, eqb-false, ne_eqb, or_cases}
-use Rattle.std.proofs.lemmas.Bool.{cases_Bool, and_right, lt-ltb, not_from_false}
+use Rattle.std.proofs.lemmas.Bool.{cases_Bool, and_right, lt-ltb}
 use Rattle.std.proofs.lemmas.List.{append-nil, take_at, drop_at}
 use Rattle.hex.specs.Hex.{encode_lower, encode_with, lower_digits}
 use Rattle.hex.proofs.HexLemmas.{decode_of-encode_lower}
-use Rattle.p9_base.specs.Text.{is_text}
 use Rattle.p9_wire.specs.Fields.{FitsText}
 use Rattle.p9_wire.specs.Laws.{IsBytes}
 use Rattle.p9_wire.proofs.Bytes.{each_below}

@@ -1,11 +1,11 @@
 -- A request that is printed is read as its frame.
-use Rattle.std.proofs.Common.{◌≡◌, ℕ, ◌+◌, ◌<◌, ◌^◌, List, [], ◌∷◌, ◌++◌, length, Ok, refl, arith}
+use Rattle.std.proofs.Common.{◌≡◌, ℕ, ◌+◌, ◌<◌, ◌^◌, List, length, Ok, refl, arith}
 use Rattle.std.proofs.Common.{append_assoc}
 use Rattle.std.proofs.lemmas.List.{append-nil}
 use Rattle.p9_wire.specs.Laws.{IsBytes}
 use Rattle.p9_wire.specs.Message.{TMessage, Tversion, Tauth, Tattach, Tflush, Twalk, Topen, Tcreate}
 use Rattle.p9_wire.specs.Message.{Tread, Twrite, Tclunk, Tremove, Tstat, Twstat}
-use Rattle.p9_wire.specs.Spelling.{t_type, t_body, t_len, TNumbersFit, TFits, t_spelling, TSpells}
+use Rattle.p9_wire.specs.Spelling.{t_type, t_body, TNumbersFit, TFits, t_spelling, TSpells}
 use Rattle.p9_wire.proofs.Lengths.{length-t_body, t_len-fits}
 use Rattle.p9_words.specs.Reading.{frame_of_words}
 use Rattle.p9_words.specs.Verb.{type_of, fields_of}

@@ -1,5 +1,5 @@
 -- The bytes of a stat, part by part.
-use Rattle.std.proofs.Common.{◌≡◌, ℕ, ◌-◌, ◌+◌, List, ◌++◌, length, refl, sym, ap, ◌∙◌, append_assoc}
+use Rattle.std.proofs.Common.{◌≡◌, ℕ, ◌-◌, List, ◌++◌, length, sym, ap, ◌∙◌, append_assoc}
 use Rattle.std.proofs.Common.{arith}
 use Rattle.p9_wire.specs.Fields.{number, sized, stat_bytes, stat_fields, stat_len}
 use Rattle.p9_wire.specs.Message.{StatFields}

@@ -1,12 +1,11 @@
 -- The value of a field that is printed is read back, and so is a field behind its word.
-use Rattle.std.proofs.Common.{◌≡◌, ℕ, suc, ◌+◌, ◌-◌, ◌<◌, ◌≤◌, ◌^◌, Bool, true, false, cond, ltb, List}
-use Rattle.std.proofs.Common.{[], ◌∷◌, ◌++◌, length, map, Ok, refl, sym, ap, subst, ◌∙◌, append_assoc}
+use Rattle.std.proofs.Common.{◌≡◌, ℕ, ◌-◌, ◌<◌, ◌≤◌, ◌^◌, true, List}
+use Rattle.std.proofs.Common.{[], ◌∷◌, ◌++◌, length, map, Ok, refl, sym, ap, ◌∙◌, append_assoc}
 use Rattle.std.proofs.Common.{arith}
 use Rattle.std.specs.Prelude.{codes}
 use Rattle.std.specs.List.{flat_map, AllByRecursion}
 use Rattle.std.proofs.lemmas.Bool.{lt-ltb}
 use Rattle.std.proofs.lemmas.List.{append-nil}
-use Rattle.p9_base.specs.declared.qid.Qid.{Qid}
 use Rattle.p9_wire.specs.Fields.{text as text_spelling}
 use Rattle.p9_wire.specs.Fields.{number, text, counted, several, sized, qid_bytes, stat_bytes}
 use Rattle.p9_wire.specs.Fields.{stat_fields, FitsText, FitsNames, FitsStat, QidNumbersFit}
@@ -26,8 +25,7 @@ use Rattle.p9_words.specs.Words.{number_words, octal_words, shown, name_words, q
 use Rattle.p9_words.specs.Words.{items_words, several_words, stat_words, stat_numbers_words}
 use Rattle.p9_words.specs.Words.{value_words, field_words, Value, NumberOf, OctalOf, TextOf, DataOf}
 use Rattle.p9_words.specs.Words.{QidOf, NamesOf, QidsOf, StatOf}
-use Rattle.p9_words.specs.declared.form.Base.{Base}
-use Rattle.p9_words.specs.declared.form.Base.TheVariants.{Octal, Decimal, Hexadecimal}
+use Rattle.p9_words.specs.declared.form.Base.TheVariants.{Octal, Decimal}
 use Rattle.p9_words.specs.declared.form.Form.{Form}
 use Rattle.p9_words.specs.declared.form.Form.TheVariants as form
 use Rattle.p9_words.specs.declared.form.Item.{Item}

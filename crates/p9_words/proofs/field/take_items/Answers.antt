@@ -1,4 +1,3 @@
-use Rattle.std.proofs.Common.{◌∙◌}
 use Rattle.std.proofs.lemmas.Result.{err_from_is_err_and}
 use Rattle.p9_words.specs.Reading.{items_from}
 use Rattle.p9_words.proofs.Items.{goes_on, fails}

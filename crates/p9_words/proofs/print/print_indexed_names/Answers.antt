@@ -1,4 +1,4 @@
-use Rattle.std.proofs.Common.{◌∙◌, ap}
+use Rattle.std.proofs.Common.{◌∙◌}
 use Rattle.p9_words.specs.Words.{name_words}
 use Rattle.p9_words.proofs.Printing.{one_more}
 use Rattle.p9_words.proofs.print.print_indexed_names.Goals as goal

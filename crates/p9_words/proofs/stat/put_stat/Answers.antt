@@ -1,4 +1,4 @@
-use Rattle.std.proofs.Common.{◌≡◌, ◌++◌, ap, sym, ◌∙◌, rules}
+use Rattle.std.proofs.Common.{◌++◌, ap, sym, ◌∙◌}
 use Rattle.p9_words.specs.Stat.{parts_view}
 use Rattle.p9_words.proofs.Stats.{four, sized-parts}
 use Rattle.p9_words.proofs.stat.put_stat.Goals as goal

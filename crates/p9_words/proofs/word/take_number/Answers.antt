@@ -1,5 +1,3 @@
-use Rattle.std.proofs.Common.{◌≡◌, take}
-use Rattle.std.specs.Char.{is_digit}
 use Rattle.p9_words.specs.Form.{radix_of}
 use Rattle.p9_words.proofs.Digits.{AllDigits-front}
 use Rattle.p9_words.proofs.word.take_number.Goals as goal
