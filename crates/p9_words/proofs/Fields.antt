@@ -133,7 +133,10 @@ items-ends f i (x ∷ xs) rest e = refl
 -- an item that is read wherever its words stand
 abbrev pub IsRead : {A : Type 0} → Item → (A → List ℕ) → (A → List ℕ) → (A → Type 0) → Type 0
 IsRead {A} item f g Good =
-    (x : A) (rest : List ℕ) → Good x → ends rest ≡ true → item_at item (f x ++ rest) ≡ Ok (g x, rest)
+    (x : A) (rest : List ℕ) → Good x → ends rest ≡ true → item_at item (f x ++ rest) ≡ Ok (
+      g x,
+      rest,
+    )
 
 -- so are items
 pub items-law : {A : Type 0} (item : Item) (f g : A → List ℕ) (Good : A → Type 0)

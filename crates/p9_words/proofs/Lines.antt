@@ -23,7 +23,11 @@ use Rattle.p9_words.proofs.Values.{forms, fields_bytes, FieldsFit, field-law}
 use Rattle.p9_words.proofs.Values.{fields-law, fields-ends}
 
 -- the name of a message
-verb-at : (verb : Verb) (rest : List ℕ) → verb_at (verb_text verb ++ 32 ∷ rest) ≡ Ok (verb, 32 ∷ rest)
+verb-at : (verb : Verb) (rest : List ℕ) → verb_at (verb_text verb ++ 32 ∷ rest) ≡ Ok (
+  verb,
+  32 ∷
+      rest,
+)
 unfolding verb_at skip_blanks
 verb-at verb.Tversion rest = refl
 verb-at verb.Rversion rest = refl
@@ -84,12 +88,14 @@ line-law verb tag fields same small fits are short =
     rw (first, second, last) (frame-law verb (number 2 tag ++ fields_bytes fields) short)
 
 -- the same frame, as the grammar spells it
-framed-frame : (kind tag : ℕ) (body : List ℕ) → framed kind (number 2 tag ++ body) ≡ frame kind tag body
+framed-frame : (kind tag : ℕ) (body : List ℕ) → framed kind (number 2 tag ++ body) ≡ frame kind
+    tag body
 framed-frame kind tag body =
     let size : 5 + length (number 2 tag ++ body) ≡ 7 + length body =
     omega (arith, length-append (number 2 tag) body, length-number 2 tag) in
     ap (λ n. number 4 n ++ (number 1 kind ++ (number 2 tag ++ body))) size
-    ∙ ap (λ b. number 4 (7 + length body) ++ b) (sym (append_assoc (number 1 kind) (number 2 tag) body))
+    ∙ ap (λ b. number 4 (7 + length body) ++ b) (sym (append_assoc (number 1 kind) (number 2
+    tag) body))
 
 -- what is printed of a message with these fields is read as its frame
 pub message-law : (verb : Verb) (tag : ℕ) (fields : List (Key × Value)) (kind : ℕ)

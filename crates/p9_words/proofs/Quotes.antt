@@ -4,7 +4,8 @@ use Rattle.std.proofs.Common.{List, [], ◌∷◌, ◌++◌, length, get_or, Non
 use Rattle.std.proofs.Common.{sym, ap, subst, ◌∙◌, append_assoc, arith, ⊎_elim, ◌/◌, ◌%◌}
 use Rattle.std.specs.Prelude.{codes}
 use Rattle.std.specs.List.{prefix_len, list_all, flat_map}
-use Rattle.std.proofs.lemmas.Bool.{and_parts, and_from, not-true, eqb-true, eqb-false, ne_eqb, or_cases}
+use Rattle.std.proofs.lemmas.Bool.{and_parts, and_from, not-true, eqb-true, eqb-false, ne_eqb}
+use Rattle.std.proofs.lemmas.Bool.{or_cases}
 use Rattle.std.proofs.lemmas.Bool.{cases_Bool, and_right, lt-ltb}
 use Rattle.std.proofs.lemmas.List.{append-nil, take_at, drop_at}
 use Rattle.hex.specs.Hex.{encode_lower, encode_with, lower_digits}
@@ -44,7 +45,8 @@ unquoted-law (b ∷ s) bytes rest e =
     ⊎_elim
     (λ (is : eqb b 39 ≡ true).
     let same : b ≡ 39 = eqb-true _ _ is in
-    let step : unquoted_from false bytes ((between_quotes b ++ flat_map between_quotes s) ++ 39 ∷ rest)
+    let step : unquoted_from false bytes ((between_quotes b ++ flat_map between_quotes s) ++ 39
+    ∷ rest)
     ≡ unquoted_from false (bytes ++ 39 ∷ []) (flat_map between_quotes s ++ 39 ∷ rest) =
     rw is refl in
     step
@@ -52,7 +54,8 @@ unquoted-law (b ∷ s) bytes rest e =
     (λ x. unquoted_from false (bytes ++ x ∷ []) (flat_map between_quotes s ++ 39 ∷ rest)
     ≡ Ok (bytes ++ b ∷ s, rest)) same (ih ∙ whole))
     (λ (is : eqb b 39 ≡ false).
-    let step : unquoted_from false bytes ((between_quotes b ++ flat_map between_quotes s) ++ 39 ∷ rest)
+    let step : unquoted_from false bytes ((between_quotes b ++ flat_map between_quotes s) ++ 39
+    ∷ rest)
     ≡ unquoted_from false (bytes ++ b ∷ []) (flat_map between_quotes s ++ 39 ∷ rest) =
     rw (is, is) refl in
     step ∙ (ih ∙ whole))
@@ -109,7 +112,8 @@ paired-law s rest bytes =
 -- bytes of a bare word, as their test says
 bare-parts : (c : ℕ) → is_bare c ≡ true → eqb c 39 ≡ false
 bare-parts c is =
-    let a = and_parts (ltb 32 c && ltb c 127 && not (eqb c 39) && not (eqb c 40)) (not (eqb c 41)) is in
+    let a = and_parts (ltb 32 c && ltb c 127 && not (eqb c 39) && not (eqb c 40)) (not (eqb c
+    41)) is in
     let b = and_parts (ltb 32 c && ltb c 127 && not (eqb c 39)) (not (eqb c 40)) a.0 in
     let d = and_parts (ltb 32 c && ltb c 127) (not (eqb c 39)) b.0 in
     not-true _ d.1
@@ -163,7 +167,8 @@ bare_word-law s rest all some e =
 pub shown-starts : (s rest : List ℕ) → starts (shown s ++ rest) ≡ true
 unfolding shown
 shown-starts s rest =
-    ⊎_elim (λ (is : is_printable s ≡ true). rw is refl) (λ (is : is_printable s ≡ false). rw is refl)
+    ⊎_elim (λ (is : is_printable s ≡ true). rw is refl) (λ (is : is_printable s ≡ false). rw is
+    refl)
     (cases_Bool (is_printable s))
 
 -- and is read back

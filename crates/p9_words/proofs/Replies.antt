@@ -3,7 +3,8 @@ use Rattle.std.proofs.Common.{◌≡◌, ℕ, ◌+◌, ◌<◌, ◌^◌, List, l
 use Rattle.std.proofs.Common.{append_assoc}
 use Rattle.std.proofs.lemmas.List.{append-nil}
 use Rattle.p9_wire.specs.Laws.{IsBytes}
-use Rattle.p9_wire.specs.Message.{RMessage, Rversion, Rattach, Rerror, Rflush, Rwalk, Ropen, Rcreate}
+use Rattle.p9_wire.specs.Message.{RMessage, Rversion, Rattach, Rerror, Rflush, Rwalk, Ropen}
+use Rattle.p9_wire.specs.Message.{Rcreate}
 use Rattle.p9_wire.specs.Message.{Rread, Rwrite, Rclunk, Rremove, Rstat, Rwstat}
 use Rattle.p9_wire.specs.Spelling.{r_type, r_body, RNumbersFit, RFits, r_spelling, RSpells}
 use Rattle.p9_wire.proofs.Lengths.{length-r_body, r_len-fits}

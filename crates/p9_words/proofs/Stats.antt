@@ -17,7 +17,8 @@ fields-parts s = simp append_assoc
 
 -- a stat behind its length, part by part
 pub sized-parts : (s : StatFields) (size : ℕ) → size ≡ stat_len s
-    → sized stat_bytes s ≡ number 2 size ++ (number 2 (size - 2) ++ (stat_numbers s ++ stat_texts s))
+    → sized stat_bytes s ≡ number 2 size ++ (number 2 (size - 2) ++ (stat_numbers s ++
+    stat_texts s))
 sized-parts s size is =
     let inner : length (stat_fields s) ≡ size - 2 = omega (arith, length-stat_fields s) in
     let outer : length (stat_bytes s) ≡ size = length-stat_bytes s ∙ sym is in

@@ -41,7 +41,8 @@ use Rattle.p9_words.proofs.Fields.{ended-number, next-number, data-law, qid-law,
 use Rattle.p9_words.proofs.Fields.{items-law, items-ends}
 
 -- the word of a field
-key-at : (key : Key) (rest : List ℕ) → key_at key (32 ∷ (key_text key ++ 32 ∷ rest)) ≡ Ok (32 ∷ rest)
+key-at : (key : Key) (rest : List ℕ) → key_at key (32 ∷ (key_text key ++ 32 ∷ rest)) ≡ Ok (32 ∷
+    rest)
 unfolding key_at skip_blanks
 key-at key.Tag rest = refl
 key-at key.Msize rest = refl
@@ -87,13 +88,15 @@ keyed_number-law : (key : Key) (n most : ℕ) (rest : List ℕ) → n < 2 ^ 64 �
     → keyed_at key Decimal most (keyed key (number_words Decimal n) ++ rest) ≡ Ok (n, rest)
 unfolding keyed_at
 keyed_number-law key n most rest small fits e =
-    rw (key-law key (number_words Decimal n) rest, next-number Decimal n most rest small fits e) refl
+    rw (key-law key (number_words Decimal n) rest, next-number Decimal n most rest small fits e)
+    refl
 
 -- a blank and permissions and flags
 next-octal : (n most : ℕ) (rest : List ℕ) → n < 2 ^ 64 → n ≤ most → ends rest ≡ true
     → number_at Octal most (32 ∷ (octal_words n ++ rest)) ≡ Ok (n, rest)
 next-octal n most rest small fits e =
-    octal-law n most (32 ∷ (octal_words n ++ rest)) rest (skip-one (octal_words n ++ rest) refl) small
+    octal-law n most (32 ∷ (octal_words n ++ rest)) rest (skip-one (octal_words n ++ rest) refl)
+    small
     (prefix_len-ends (is_in (Digit Octal)) rest refl refl e) fits
 
 -- permissions and flags behind their word
@@ -107,7 +110,8 @@ keyed_octal-law key n most rest small fits e =
 name-read : IsRead item.Name name_words text (λ s. FitsText s × IsBytes s)
 unfolding item_at
 name-read s rest good e =
-    rw (name_text-law s (name_words s ++ rest) rest (skip-none _ (name-starts s rest)) good.1 e good.0)
+    rw (name_text-law s (name_words s ++ rest) rest (skip-none _ (name-starts s rest)) good.1 e
+    good.0)
     refl
 
 -- qids
@@ -151,7 +155,8 @@ stat-texts a b c d n rest = simp append_assoc
 
 -- its numbers, and what stands behind them
 stat-numbers : (a b c d e f g rest : List ℕ)
-    → (a ++ b ++ c ++ d ++ e ++ f ++ g) ++ rest ≡ a ++ (b ++ (c ++ (d ++ (e ++ (f ++ (g ++ rest))))))
+    → (a ++ b ++ c ++ d ++ e ++ f ++ g) ++ rest ≡ a ++ (b ++ (c ++ (d ++ (e ++ (f ++ (g ++
+    rest))))))
 stat-numbers a b c d e f g rest = simp append_assoc
 
 -- each text of a stat is of bytes
@@ -205,11 +210,14 @@ stat_fields-law s text rest here fits numbers bytes e =
     let t2 = shown s.uid ++ 32 ∷ t3 in
     let parts : skip_blanks text ≡ shown s.name ++ 32 ∷ t2 =
     here
-    ∙ stat-texts (shown s.name) (shown s.uid) (shown s.gid) (shown s.muid) (stat_numbers_words s) rest
+    ∙ stat-texts (shown s.name) (shown s.uid) (shown s.gid) (shown s.muid) (stat_numbers_words
+    s) rest
     ∙ ap (λ r. shown s.name ++ 32 ∷ (shown s.uid ++ 32 ∷ (shown s.gid ++ 32 ∷ (shown s.muid ++ r))))
     (stat-numbers (keyed key.StatQid (qid_words s.qid)) (keyed key.StatMode (octal_words s.mode))
-    (keyed key.Atime (number_words Decimal s.atime)) (keyed key.Mtime (number_words Decimal s.mtime))
-    (keyed key.Length (number_words Decimal s.length)) (keyed key.Kind (number_words Decimal s.kind))
+    (keyed key.Atime (number_words Decimal s.atime)) (keyed key.Mtime (number_words Decimal
+    s.mtime))
+    (keyed key.Length (number_words Decimal s.length)) (keyed key.Kind (number_words Decimal
+    s.kind))
     (keyed key.Dev (number_words Decimal s.dev)) rest) in
     rw (
       shown_text-law s.name text (32 ∷ t2) parts bytes.name refl fits.name,
@@ -236,7 +244,8 @@ stat_fields-law s text rest here fits numbers bytes e =
 stat-starts : (s : StatFields) (rest : List ℕ) → starts (stat_words s ++ rest) ≡ true
 stat-starts s rest =
     ap starts
-    (stat-texts (shown s.name) (shown s.uid) (shown s.gid) (shown s.muid) (stat_numbers_words s) rest)
+    (stat-texts (shown s.name) (shown s.uid) (shown s.gid) (shown s.muid) (stat_numbers_words s)
+    rest)
     ∙ shown-starts s.name _
 
 -- a stat that is printed is read back
@@ -313,10 +322,12 @@ value-starts (DataOf s) rest fits =
     ∙ number-starts Decimal (length s) (codes " " ++ (shown s ++ rest)) (omega arith)
 value-starts (QidOf q) rest fits = qid-starts q rest
 value-starts (NamesOf names) rest fits =
-    ap starts (append_assoc (number_words Decimal (length names)) (items_words name_words 0 names) rest)
+    ap starts (append_assoc (number_words Decimal (length names)) (items_words name_words 0
+    names) rest)
     ∙ number-starts Decimal (length names) _ (omega (arith, fits.few))
 value-starts (QidsOf qids) rest fits =
-    ap starts (append_assoc (number_words Decimal (length qids)) (items_words qid_words 0 qids) rest)
+    ap starts (append_assoc (number_words Decimal (length qids)) (items_words qid_words 0 qids)
+    rest)
     ∙ number-starts Decimal (length qids) _ (omega (arith, fits.0))
 value-starts (StatOf s) rest fits = stat-starts s rest
 
@@ -337,12 +348,14 @@ value-law (DataOf s) text rest here fits bytes e =
     rw (data-law s text rest here (IsBytes-back (number 4 (length s)) s bytes) fits e) refl
 value-law (QidOf q) text rest here fits bytes e = rw (qid-law q text rest here fits) refl
 value-law (NamesOf names) text rest here fits bytes e =
-    several-law item.Name name_words text_spelling (λ s. FitsText s × IsBytes s) name-read names text
+    several-law item.Name name_words text_spelling (λ s. FitsText s × IsBytes s) name-read names
+    text
     rest here fits.few
     (names-good names fits.each
     (IsBytes-back (number 2 (length names)) (flat_map text_spelling names) bytes)) e
 value-law (QidsOf qids) text rest here fits bytes e =
-    several-law item.Qid qid_words qid_bytes QidNumbersFit qid-read qids text rest here fits.0 fits.1
+    several-law item.Qid qid_words qid_bytes QidNumbersFit qid-read qids text rest here fits.0
+    fits.1
     e
 value-law (StatOf s) text rest here fits bytes e =
     stat-law s text rest here fits.0 fits.1 (stat-bytes s bytes) e
@@ -354,7 +367,8 @@ pub field-law : (key : Key) (v : Value) (rest : List ℕ) → Fits v → IsBytes
 unfolding field_at
 field-law key v rest fits bytes e =
     rw (key-law key (value_words v) rest)
-    (value-law v (32 ∷ (value_words v ++ rest)) rest (skip-one _ (value-starts v rest fits)) fits bytes
+    (value-law v (32 ∷ (value_words v ++ rest)) rest (skip-one _ (value-starts v rest fits))
+    fits bytes
     e)
 
 -- fields may end a word
@@ -391,7 +405,8 @@ fields-law (f ∷ fields) bytes rest fits are e =
     let others = flat_map field_words fields ++ rest in
     let one : field_at (f.0, form_of f.1) (flat_map field_words (f ∷ fields) ++ rest)
     ≡ Ok (value_bytes f.1, others) =
-    ap (field_at (f.0, form_of f.1)) (append_assoc (field_words f) (flat_map field_words fields) rest)
+    ap (field_at (f.0, form_of f.1)) (append_assoc (field_words f) (flat_map field_words fields)
+    rest)
     ∙ field-law f.0 f.1 others fits.0
     (IsBytes-front (value_bytes f.1) (fields_bytes fields) are) (fields-ends fields rest e) in
     fields-step (f.0, form_of f.1) bytes (forms fields)

@@ -1,9 +1,12 @@
 -- The words that stand before the fields of a message.
 use Rattle.std.specs.Prelude.{ℕ, List, codes}
 use Rattle.p9_words.specs.declared.key.Key.{Key}
-use Rattle.p9_words.specs.declared.key.Key.TheVariants.{Tag, Msize, Version, Afid, Uname, Aname, Fid, Oldtag}
-use Rattle.p9_words.specs.declared.key.Key.TheVariants.{Newfid, Nwname, Mode, Name, Perm, Offset, Count, Stat}
-use Rattle.p9_words.specs.declared.key.Key.TheVariants.{Qid, Ename, Nwqid, Iounit, StatQid, StatMode, Atime, Mtime}
+use Rattle.p9_words.specs.declared.key.Key.TheVariants.{Tag, Msize, Version, Afid, Uname, Aname}
+use Rattle.p9_words.specs.declared.key.Key.TheVariants.{Fid, Oldtag}
+use Rattle.p9_words.specs.declared.key.Key.TheVariants.{Newfid, Nwname, Mode, Name, Perm, Offset}
+use Rattle.p9_words.specs.declared.key.Key.TheVariants.{Count, Stat}
+use Rattle.p9_words.specs.declared.key.Key.TheVariants.{Qid, Ename, Nwqid, Iounit, StatQid}
+use Rattle.p9_words.specs.declared.key.Key.TheVariants.{StatMode, Atime, Mtime}
 use Rattle.p9_words.specs.declared.key.Key.TheVariants.{Length, Kind, Dev}
 
 -- the word

@@ -58,7 +58,8 @@ abbrev pub missing : {A : Type 0} → Expected → List ℕ → Result A Fault
 missing expected text = Err (record { left = length text; expected = expected })
 
 -- goes on with the value, or this was expected where these bytes are left
-abbrev pub found : {A B : Type 0} → Option A → Expected → List ℕ → (A → Result B Fault) → Result B Fault
+abbrev pub found : {A B : Type 0} → Option A → Expected → List ℕ → (A → Result B Fault) → Result
+    B Fault
 found None expected text f = missing expected text
 found (Some x) expected text f = f x
 

@@ -6,9 +6,12 @@ use Rattle.p9_words.specs.declared.form.Width.TheVariants.{U8, U16, U32, U64}
 use Rattle.p9_words.specs.declared.key.Key.{Key}
 use Rattle.p9_words.specs.declared.key.Key.TheVariants as key
 use Rattle.p9_words.specs.declared.verb.Verb.{Verb}
-use Rattle.p9_words.specs.declared.verb.Verb.TheVariants.{Tversion, Rversion, Tauth, Tattach, Rattach, Rerror, Tflush}
-use Rattle.p9_words.specs.declared.verb.Verb.TheVariants.{Rflush, Twalk, Rwalk, Topen, Ropen, Tcreate, Rcreate}
-use Rattle.p9_words.specs.declared.verb.Verb.TheVariants.{Tread, Rread, Twrite, Rwrite, Tclunk, Rclunk, Tremove}
+use Rattle.p9_words.specs.declared.verb.Verb.TheVariants.{Tversion, Rversion, Tauth, Tattach}
+use Rattle.p9_words.specs.declared.verb.Verb.TheVariants.{Rattach, Rerror, Tflush}
+use Rattle.p9_words.specs.declared.verb.Verb.TheVariants.{Rflush, Twalk, Rwalk, Topen, Ropen}
+use Rattle.p9_words.specs.declared.verb.Verb.TheVariants.{Tcreate, Rcreate}
+use Rattle.p9_words.specs.declared.verb.Verb.TheVariants.{Tread, Rread, Twrite, Rwrite, Tclunk}
+use Rattle.p9_words.specs.declared.verb.Verb.TheVariants.{Rclunk, Tremove}
 use Rattle.p9_words.specs.declared.verb.Verb.TheVariants.{Rremove, Tstat, Rstat, Twstat, Rwstat}
 
 -- the word
