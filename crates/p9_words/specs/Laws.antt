@@ -1,0 +1,10 @@
+-- The words of the laws.
+use Rattle.std.specs.Prelude.{◌≡◌, ℕ, List, Ok}
+use Rattle.p9_wire.specs.Laws.{IsBytes, Spelling}
+use Rattle.p9_words.specs.Reading.{frame_of_words}
+
+-- what is printed of a message is read as the frame that spells it
+abbrev pub ReadsBack : {M : Type 0} → (ℕ → M → List ℕ) → Spelling M → Type 0
+ReadsBack {M} words Spells =
+    (frame : List ℕ) (tag : ℕ) (m : M) → IsBytes frame → Spells frame tag m
+    → frame_of_words (words tag m) ≡ Ok frame

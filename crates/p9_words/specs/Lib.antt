@@ -1,0 +1,10 @@
+pub mod Form
+pub mod Key
+pub mod Verb
+pub mod Class
+pub mod Reading
+pub mod Stat
+pub mod Line
+pub mod Words
+pub mod Value
+pub mod Laws

@@ -1,0 +1,141 @@
+//! Why a line is no message.
+
+ghost use Rattle.std.specs.Prelude.{◌≡◌, length};
+
+use crate::form::Base;
+use crate::key::Key;
+use p9_base::NoMemory;
+use std::alloc::{AllocError, AllocFailed};
+use std::fmt;
+use thiserror::Error;
+
+/// What was expected at a place of a line.
+#[derive(Clone, Copy, Debug, PartialEq, Eq)]
+pub enum Expected {
+    /// The name of a message.
+    Verb,
+    /// This word.
+    Key(Key),
+    /// A number in digits of this base, and at most so great.
+    Number(Base, u64),
+    /// A text: in quotes, in hexadecimal digits, or a bare word.
+    Word,
+    /// The quote that ends a text.
+    Quote,
+    /// Pairs of hexadecimal digits.
+    Pairs,
+    /// A text that a message may have: UTF-8 without NUL, of at most 65,535 bytes.
+    Text,
+    /// So many bytes as the count before them says.
+    Count(u64),
+    /// `(`.
+    Open,
+    /// `)`.
+    Close,
+    /// This index.
+    Index(u64),
+    /// A colon behind an index.
+    Colon,
+    /// A stat of at most 65,535 bytes.
+    ShortStat,
+    /// A message of less than 2^32 bytes.
+    ShortMessage,
+    /// The end of the line.
+    End,
+}
+
+impl fmt::Display for Expected {
+    fn fmt<W: fmt::Write>(&self, f: &mut fmt::Formatter<W>) -> fmt::Result {
+        match self {
+            Expected::Verb => write!(f, "the name of a message"),
+            Expected::Key(key) => {
+                let word = key.text();
+                write!(f, "'{word}'")
+            }
+            Expected::Number(base, most) => {
+                let digits = base.name();
+                write!(f, "a number in {digits} digits, at most {most},")
+            }
+            Expected::Word => write!(f, "a text"),
+            Expected::Quote => write!(f, "a quote"),
+            Expected::Pairs => write!(f, "pairs of hexadecimal digits"),
+            Expected::Text => write!(f, "UTF-8 without NUL of at most 65535 bytes"),
+            Expected::Count(count) => write!(f, "{count} bytes"),
+            Expected::Open => write!(f, "'('"),
+            Expected::Close => write!(f, "')'"),
+            Expected::Index(index) => write!(f, "the index {index}"),
+            Expected::Colon => write!(f, "':'"),
+            Expected::ShortStat => write!(f, "a stat of at most 65535 bytes"),
+            Expected::ShortMessage => write!(f, "a message of less than 4294967296 bytes"),
+            Expected::End => write!(f, "the end of the line"),
+        }
+    }
+}
+
+/// Why a line of words is no message.
+#[derive(Clone, Copy, Debug, PartialEq, Eq, Error)]
+pub enum WordsError {
+    /// Something else was expected behind the first `at` bytes of the line.
+    #[error("{expected} expected behind byte {at}")]
+    Unexpected { at: usize, expected: Expected },
+    /// An allocation failed.
+    #[error("out of memory")]
+    NoMemory,
+}
+
+/// A place where something else was expected, told by how many bytes are left there.
+#[derive(Clone, Copy, Debug, PartialEq, Eq)]
+pub struct Fault {
+    pub left: usize,
+    pub expected: Expected,
+}
+
+/// Why reading stopped.
+#[derive(Clone, Copy, Debug, PartialEq, Eq)]
+pub enum ReadError {
+    Unexpected(Fault),
+    NoMemory,
+}
+
+/// Something else was expected where these bytes are left.
+pub fn unexpected(expected: Expected, text: &[u8]) -> ReadError
+    ensures { result ≡ ReadError.Unexpected (record { left = length text.now; expected = expected }) }
+{
+    ReadError::Unexpected(Fault {
+        left: text.len(),
+        expected,
+    })
+}
+
+impl From<NoMemory> for ReadError {
+    ghost use Rattle.std.specs.Prelude.{◌≡◌};
+    ghost use Rattle.p9_words.specs.declared.error.ReadError.TheVariants.{NoMemory};
+
+    ghost from_gives = { λ _ error. error ≡ NoMemory };
+
+    fn from(_error: NoMemory) -> ReadError {
+        ReadError::NoMemory
+    }
+}
+
+impl From<AllocError> for ReadError {
+    ghost use Rattle.std.specs.Prelude.{◌≡◌};
+    ghost use Rattle.p9_words.specs.declared.error.ReadError.TheVariants.{NoMemory};
+
+    ghost from_gives = { λ _ error. error ≡ NoMemory };
+
+    fn from(_error: AllocError) -> ReadError {
+        ReadError::NoMemory
+    }
+}
+
+impl<T: Drop> From<AllocFailed<T>> for ReadError {
+    ghost use Rattle.std.specs.Prelude.{◌≡◌};
+    ghost use Rattle.p9_words.specs.declared.error.ReadError.TheVariants.{NoMemory};
+
+    ghost from_gives = { λ _ error. error ≡ NoMemory };
+
+    fn from(_error: AllocFailed<T>) -> ReadError {
+        ReadError::NoMemory
+    }
+}

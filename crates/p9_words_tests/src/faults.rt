@@ -1,0 +1,104 @@
+//! Bad lines: where something else was expected, and what.
+
+use p9_words::{Base, Expected, Key, WordsError, read_words};
+
+#[test]
+fn bad_lines_tell_the_place(rt: HostRuntime) {
+    let u32_max = 4_294_967_295;
+    for (line, at, expected) in [
+        ("", 0, Expected::Verb),
+        ("  Rauth tag 1", 2, Expected::Verb),
+        ("tversion tag 1", 0, Expected::Verb),
+        ("Tversionx tag 1", 0, Expected::Verb),
+        ("Tclunk fid 1", 7, Expected::Key(Key::Tag)),
+        ("Tclunk", 6, Expected::Key(Key::Tag)),
+        ("Tclunk tag 1 afid 1", 13, Expected::Key(Key::Fid)),
+        (
+            "Tclunk tag 65536 fid 1",
+            11,
+            Expected::Number(Base::Decimal, 65_535),
+        ),
+        (
+            "Tclunk tag -1 fid 1",
+            11,
+            Expected::Number(Base::Decimal, 65_535),
+        ),
+        (
+            "Tclunk tag 1 fid 4294967296",
+            17,
+            Expected::Number(Base::Decimal, u32_max),
+        ),
+        (
+            "Tclunk tag 1 fid 99999999999999999999999",
+            17,
+            Expected::Number(Base::Decimal, u32_max),
+        ),
+        ("Tclunk tag 1 fid 1 fid 2", 19, Expected::End),
+        (
+            "Topen tag 1 fid 1 mode 256",
+            23,
+            Expected::Number(Base::Decimal, 255),
+        ),
+        (
+            "Tcreate tag 1 fid 1 name a perm 8 mode 0",
+            32,
+            Expected::Number(Base::Octal, u32_max),
+        ),
+        ("Rerror tag 1 ename 'no", 22, Expected::Quote),
+        ("Rerror tag 1 ename", 18, Expected::Word),
+        ("Rerror tag 1 ename (", 19, Expected::Word),
+        ("Rerror tag 1 ename x'6'", 21, Expected::Pairs),
+        ("Rerror tag 1 ename x'6g'", 21, Expected::Pairs),
+        ("Rerror tag 1 ename x'61", 23, Expected::Quote),
+        ("Rerror tag 1 ename x'00'", 19, Expected::Text),
+        ("Rerror tag 1 ename x'ff'", 19, Expected::Text),
+        ("Rread tag 1 count 2 'a'", 20, Expected::Count(2)),
+        ("Rattach tag 1 qid 1 0 80", 18, Expected::Open),
+        ("Rattach tag 1 qid (1 0 80", 25, Expected::Close),
+        (
+            "Rattach tag 1 qid (1 0 100)",
+            23,
+            Expected::Number(Base::Hexadecimal, 255),
+        ),
+        (
+            "Twalk tag 1 fid 0 newfid 1 nwname 17",
+            34,
+            Expected::Number(Base::Decimal, 16),
+        ),
+        (
+            "Twalk tag 1 fid 0 newfid 1 nwname 2 0:a 2:b",
+            40,
+            Expected::Index(1),
+        ),
+        (
+            "Twalk tag 1 fid 0 newfid 1 nwname 1 0 a",
+            38,
+            Expected::Colon,
+        ),
+        ("Tstat tag 1 fid 0 stat", 18, Expected::End),
+    ] {
+        let Err(error) = read_words(rt.alloc(), line) else {
+            panic!(rt; "{line}");
+        };
+        assert_eq!(rt; error, WordsError::Unexpected { at, expected }, "{line}");
+    }
+}
+
+#[test]
+fn an_error_says_what_was_expected(rt: HostRuntime) {
+    for (line, text) in [
+        ("Tclunk tag 1 afid 1", "'fid' expected behind byte 13"),
+        (
+            "Tclunk tag 65536 fid 1",
+            "a number in decimal digits, at most 65535, expected behind byte 11",
+        ),
+        ("Rread tag 1 count 2 'a'", "2 bytes expected behind byte 20"),
+    ] {
+        let Err(error) = read_words(rt.alloc(), line) else {
+            panic!(rt; "{line}");
+        };
+        let mut out = String::new(rt.alloc());
+        let _ = write!(out, "{error}");
+        assert_eq!(rt; out.as_str(), text);
+    }
+}
