@@ -1,0 +1,2 @@
+mod Sessions
+mod Keyed

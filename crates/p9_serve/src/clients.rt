@@ -1,0 +1,162 @@
+//! The clients of a guard: a connection for each, with a session of its own.
+
+ghost use Rattle.std.specs.Prelude.{◌≡◌, ◌<◌, ◌≤◌, ◌+◌, ◌^◌, [], None, count_by, length, slice_set};
+ghost use Rattle.p9_serve.specs.Serving.{EndAt, HasTurns, IsFinished, TakesIn, TurnAt};
+ghost use Rattle.p9_serve.specs.Serving.{is_closed, is_moved, listed, slot_at};
+
+use p9_conn::{Conn, Turn};
+use p9_guard::Guard;
+use p9_tree::Tree;
+use slab::Slab;
+use std::alloc::Allocator;
+use std::io::{Read, Write};
+use std::marker::Model;
+
+/// How many turns of one round came to something.
+#[derive(Clone, Copy, Debug, PartialEq, Eq)]
+pub struct Tally {
+    /// The turns that moved bytes or answered a frame.
+    pub moved: u64,
+    /// The connections that were closed.
+    pub closed: u64,
+}
+
+impl Tally {
+    // One turn more.
+    fn with(self, turn: Option<Turn>) -> Tally
+        requires moved { self.moved + 1 < 2 ^ 64 }
+        requires closed { self.closed + 1 < 2 ^ 64 }
+        ensures moved { result.moved ≡ self.moved + count_by is_moved (listed turn) }
+        ensures closed { result.closed ≡ self.closed + count_by is_closed (listed turn) }
+        ensures few_moved { result.moved ≤ self.moved + 1 }
+        ensures few_closed { result.closed ≤ self.closed + 1 }
+    {
+        match turn {
+            Some(Turn::Moved) => Tally {
+                moved: self.moved + 1,
+                closed: self.closed,
+            },
+            Some(Turn::Closed) => Tally {
+                moved: self.moved,
+                closed: self.closed + 1,
+            },
+            Some(Turn::Idle) | None => self,
+        }
+    }
+}
+
+/// The clients of a guard. Each has a connection in a slab, whose key is the name of its session.
+/// A connection that is closed is dropped, and its key may name a new one.
+#[derive(Drop)]
+pub struct Clients<S, T: Tree> {
+    alloc: T::Alloc,
+    guard: Guard<T>,
+    conns: Slab<Conn<S, T::Alloc>, T::Alloc>,
+}
+
+impl<S, T: Tree> Model for Clients<S, T> {
+    ghost use Rattle.p9_serve.specs.Serving.{AreKeyed, Serving};
+
+    ghost Value = { Serving S };
+
+    ghost view = { λ c. record { guard = c.guard; slots = c.conns.slots } };
+
+    ghost invariant = { λ c. AreKeyed c.conns.slots c.guard.state.sessions };
+}
+
+impl<S: Read + Write + Drop, T: Tree> Clients<S, T> {
+    /// No clients of a guard, whose sessions stay as they are. This takes no memory.
+    pub fn new(alloc: T::Alloc, guard: Guard<T>) -> Clients<S, T>
+        ensures { result ≡ record { guard = guard; slots = [] } }
+    {
+        Clients {
+            alloc,
+            guard,
+            conns: Slab::new(alloc),
+        }
+    }
+
+    /// Takes in a client with its stream, and opens its session; returns whether it did.
+    ///
+    /// Where there is no memory for its buffers, its place or its session, where its key has more
+    /// than 32 bits, or where the key names a session that is open, the stream is dropped, and
+    /// nothing is changed.
+    pub fn take_in(&mut self, stream: S) -> bool
+        ensures { TakesIn stream self.old self.new result }
+    {
+        if self.conns.reserve(1).is_err() {
+            return false;
+        }
+        let Ok(session) = u32::try_from(self.conns.vacant_key()) else {
+            return false;
+        };
+        let Ok(conn) = Conn::new(self.alloc, stream, session) else {
+            return false;
+        };
+        if self.guard.open(session).is_err() {
+            return false;
+        }
+        let _key = self.conns.insert_reserved(conn);
+        true
+    }
+
+    /// Gives each client's connection a turn, by rising key, at this reading of the clock.
+    pub fn turns(&mut self, now: u32) -> Tally
+        ensures { HasTurns S.remaining S.contents now self.old self.new result }
+    {
+        let mut tally = Tally {
+            moved: 0,
+            closed: 0,
+        };
+        for key in 0..self.bound() {
+            tally = tally.with(self.turn_at(key, now));
+        }
+        tally
+    }
+
+    /// Closes each client's session by rising key, drops the connections, and returns the guard.
+    pub fn finish(mut self, now: u32) -> Guard<T>
+        ensures { IsFinished now self result }
+    {
+        for key in 0..self.bound() {
+            self.end_at(key, now);
+        }
+        self.guard
+    }
+
+    // No key is as great as this one.
+    fn bound(&self) -> usize
+        ensures { length self.now.slots ≤ result }
+    {
+        self.conns.capacity()
+    }
+
+    // A turn of the connection of this key, if there is one.
+    fn turn_at(&mut self, key: usize, now: u32) -> Option<Turn>
+        ensures { TurnAt S.remaining S.contents now key (slot_at self.old.slots key) self.old
+            self.new result }
+    {
+        let conn = self.conns.get_mut(key)?;
+        let turn = conn.turn(&mut self.guard, now);
+        if turn == Turn::Closed {
+            drop_at(&mut self.conns, key);
+        }
+        Some(turn)
+    }
+
+    // Closes the session of this key, if there is a connection, and drops that.
+    fn end_at(&mut self, key: usize, now: u32)
+        ensures { EndAt now key (slot_at self.old.slots key) self.old self.new }
+    {
+        if let Some(conn) = self.conns.try_remove(key) {
+            self.guard.close(conn.session(), now);
+        }
+    }
+}
+
+// Drops the value at a key, if there is one.
+fn drop_at<C: Drop, A: Allocator>(values: &mut Slab<C, A>, key: usize)
+    ensures { values.new.slots ≡ slice_set values.old.slots key None }
+{
+    let _value = values.try_remove(key);
+}
