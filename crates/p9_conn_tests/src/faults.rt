@@ -87,7 +87,7 @@ fn ends_at(rt: &impl Abort, alloc: Global, before: u64, answer: Answer) {
     let stream = stream_with(rt, alloc, before, answer);
     let conns = work(rt, alloc, &mut guard, stream);
     is_closed(rt, alloc, &guard, &conns[0], &WORK);
-    assert_eq!(rt; conns[0].stream().calls(), before + 1);
+    assert_eq!(rt; conns[0].stream().calls(), before.saturating_add(1));
     is_answered(rt, alloc, &guard, &conns[1], &ASIDE);
     look(rt, alloc, &mut guard, GONE);
 }
