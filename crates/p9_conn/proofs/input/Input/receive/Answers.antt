@@ -16,8 +16,12 @@ returns g c =
     record {
       read = read;
       count_is = gained-length bytes filled c.in_ok-count.count
-          (omega (arith, c.in_ok-count.ensures.count, c.in_ok-count.ensures.len,
-          c.read_behind.new.bytes.ok.0));
+          (omega (
+            arith,
+            c.in_ok-count.ensures.count,
+            c.in_ok-count.ensures.len,
+            c.read_behind.new.bytes.ok.0,
+          ));
       behind = ap (λ (n : ℕ). take n bytes) all
           ∙ gained c.args.self.now bytes filled c.in_ok-count.count kept;
       consumed = c.in_ok-count.ensures.read;
