@@ -1,13 +1,15 @@
--- The entries of a directory, looked for one by one.
+-- The entries of a directory, member by member.
 use Rattle.p9_space.specs.Rights.{Who}
 use Rattle.std.proofs.Common.{◌≡◌, ℕ, suc, ◌+◌, ◌-◌, ◌<◌, ◌≤◌, Bool, true, false, cond, ◌&&◌, List}
 use Rattle.std.proofs.Common.{[], ◌∷◌, ◌++◌, length, map, get_or, take, drop, drop-cons, Option}
 use Rattle.std.proofs.Common.{Some, None, refl, sym, ap, append_assoc, ◌∙◌, subst, arith, All}
 use Rattle.std.proofs.Common.{AllPairs}
-use Rattle.std.specs.Prelude.{⊤, is_some, slice_get, filter, find, nat_le, unwrap_or}
+use Rattle.std.specs.Prelude.{⊤, zero, IfSome, nat_lt, slice_get, filter, find, nat_le, unwrap_or}
 use Rattle.std.specs.Option.{option_map}
 use Rattle.std.specs.List.{flat_map}
+use Rattle.std.proofs.lemmas.Grind.{flat_map-append}
 use Rattle.std.proofs.lemmas.List.{append-nil, length-append, length-drop, length-take-le, take_at}
+use Rattle.std.proofs.lemmas.List.{drop_all, take-append-drop}
 use Rattle.std.proofs.lemmas.Slice.{take-put_mid_below}
 use borrow.Rule.Slice.PartMut.{post_of, put_mid}
 use Rattle.std.proofs.lemmas.Bool.Decides.{nat_tests}
@@ -16,7 +18,6 @@ use Rattle.std.proofs.lemmas.List.Elements.{All-filter, All-weaker, filter-appen
 use Rattle.std.proofs.lemmas.List.Kept.{AllPairs-filter}
 use Rattle.p9_base.specs.declared.node_ref.NodeRef.{NodeRef}
 use Rattle.p9_base.specs.NodeRef.{beside}
-use Rattle.p9_tree.specs.Bytes.{put_front}
 use Rattle.p9_tree.specs.Node.{Node, is_in, is_above}
 use Rattle.p9_tree.specs.Server.{Server}
 use Rattle.p9_tree.specs.Forest.{IsForest, child_in_after, no_server, server_at}
@@ -25,10 +26,12 @@ use Rattle.p9_fids.specs.declared.opened.Cursor.{Cursor}
 use Rattle.p9_tree.specs.Forest.{children_of}
 use Rattle.p9_step.specs.Listing.{Entry, cursor_of, entries_from, entries_of}
 use Rattle.p9_step.specs.Listing.{entry_at, is_behind, is_listed, left_of}
-use Rattle.p9_wire.specs.Fields.{stat_bytes, stat_len}
+use Rattle.p9_wire.specs.Fields.{stat_bytes}
 use Rattle.p9_wire.proofs.Lengths.{length-stat_bytes}
 use Rattle.p9_step.specs.Qid.{stat_of}
-use Rattle.p9_step.specs.Read.{cursor_after, end_of, entry_bytes, fitting}
+use Rattle.p9_step.specs.Read.{cursor_after, entry_bytes, fitting}
+use Rattle.p9_export.specs.Listing.{Gives, IsFloor, IsReached, PutsStat}
+use Rattle.p9_export.specs.declared.listing.Given.{Given}
 
 -- Lists.
 
@@ -71,11 +74,6 @@ all_kept p (x ∷ xs) all =
 
 -- One member.
 
--- what is above the floor is behind the cursor
-abbrev pub IsFloor : Option Cursor → ℕ → Option ℕ → Type 0
-IsFloor cursor position floor =
-    (member : NodeRef) (n : Node) → is_behind cursor (entry_at position member n) ≡ is_above floor n
-
 pub floor-none : (position : ℕ) → IsFloor None position None
 floor-none position member n = refl
 
@@ -86,22 +84,21 @@ pub floor-here : (c : Cursor) (position : ℕ) → c.member ≡ position
     → IsFloor (Some c) position (Some c.number)
 floor-here c position same member n = grind (arith, nat_tests)
 
-pub first_in_listed : (cursor : Option Cursor) (floor : Option ℕ) (forest : List Server)
-    (who : Who) (position : ℕ) (m : Member) → IsFloor cursor position floor
-    → is_listed forest who position m ≡ true
-    → slice_get (filter (is_behind cursor) (entries_of forest who position m)) 0
-    ≡ option_map (entry_at position m.node) (child_in_after m.node floor forest)
-first_in_listed cursor floor forest who position m fits listed =
-    ap
-    (λ b. slice_get
-    (filter (is_behind cursor)
-    (cond b (map (entry_at position m.node) (children_of m.node forest)) [])) 0) listed
-    ∙ first_mapped (is_behind cursor) (entry_at position m.node) (is_in m.node.number)
-    (server_at m.node.server forest).nodes
-    ∙ ap (option_map (entry_at position m.node))
-    (find_agree (λ n. is_in m.node.number n && is_behind cursor (entry_at position m.node n))
-    (λ n. is_in m.node.number n && is_above floor n) (server_at m.node.server forest).nodes
-    (λ n. ap (λ b. is_in m.node.number n && b) (fits m.node n)))
+-- the entries of a directory, as of the member at the position
+abbrev pub entries_in : List Server → ℕ → NodeRef → List Entry
+entries_in forest position dir = map (entry_at position dir) (children_of dir forest)
+
+pub first_in : (cursor : Option Cursor) (floor : Option ℕ) (forest : List Server) (position : ℕ)
+    (dir : NodeRef) → IsFloor cursor position floor
+    → slice_get (filter (is_behind cursor) (entries_in forest position dir)) 0
+    ≡ option_map (entry_at position dir) (child_in_after dir floor forest)
+first_in cursor floor forest position dir fits =
+    first_mapped (is_behind cursor) (entry_at position dir) (is_in dir.number)
+    (server_at dir.server forest).nodes
+    ∙ ap (option_map (entry_at position dir))
+    (find_agree (λ n. is_in dir.number n && is_behind cursor (entry_at position dir n))
+    (λ n. is_in dir.number n && is_above floor n) (server_at dir.server forest).nodes
+    (λ n. ap (λ b. is_in dir.number n && b) (fits dir n)))
 
 -- each entry of a member has its position
 at_position : (forest : List Server) (who : Who) (position : ℕ) (m : Member)
@@ -115,74 +112,42 @@ at_position forest who position m =
       | false ↦ All-nil (λ e. e.position ≡ position)
     ]
 
-pub first_in_earlier : (c : Cursor) (forest : List Server) (who : Who) (position : ℕ)
-    (m : Member) → position < c.member
-    → slice_get (filter (is_behind (Some c)) (entries_of forest who position m)) 0 ≡ None
-first_in_earlier c forest who position m lt =
-    ap (λ es. slice_get es 0)
-    (none_kept (is_behind (Some c)) (entries_of forest who position m)
-    (All-weaker (λ e. e.position ≡ position) (λ e. is_behind (Some c) e ≡ false)
-    (λ e at. grind (arith, nat_tests)) (entries_of forest who position m)
-    (at_position forest who position m)))
-
 -- Members.
 
--- a list without a first element is empty
-none_first : {X : Type 0} (xs : List X) → slice_get xs 0 ≡ None → xs ≡ []
-none_first [] e = refl
-none_first (x ∷ xs) e = absurd (cc)
+-- a member before the cursor's has none left
+before_cursor : (c : Cursor) (forest : List Server) (who : Who) (position : ℕ)
+    (m : Member) → position < c.member
+    → filter (is_behind (Some c)) (entries_of forest who position m) ≡ []
+before_cursor c forest who position m lt =
+    none_kept (is_behind (Some c)) (entries_of forest who position m)
+    (All-weaker (λ e. e.position ≡ position) (λ e. is_behind (Some c) e ≡ false)
+    (λ e at. grind (arith, nat_tests)) (entries_of forest who position m)
+    (at_position forest who position m))
 
-first_append : {X : Type 0} (xs ys : List X) (x : X) → slice_get xs 0 ≡ Some x
-    → slice_get (xs ++ ys) 0 ≡ Some x
-first_append [] ys x e = absurd (cc)
-first_append (y ∷ xs) ys x e = e
+skipped : (c : Cursor) (forest : List Server) (who : Who) (k p q : ℕ) (ms : List Member)
+    → p + k ≡ q → q ≤ c.member
+    → filter (is_behind (Some c)) (entries_from forest who p ms)
+    ≡ filter (is_behind (Some c)) (entries_from forest who q (drop k ms))
+skipped c forest who zero p q ms same le =
+    let here : p ≡ q = omega arith in
+    ap (λ n. filter (is_behind (Some c)) (entries_from forest who n ms)) here
+skipped c forest who (suc k) p q [] same le = refl
+skipped c forest who (suc k) p q (m ∷ ms) same le =
+    filter-append (is_behind (Some c)) (entries_of forest who p m)
+    (entries_from forest who (suc p) ms)
+    ∙ ap (λ es. es ++ filter (is_behind (Some c)) (entries_from forest who (suc p) ms))
+    (before_cursor c forest who p m (omega arith))
+    ∙ skipped c forest who k (suc p) q ms (omega arith) le
 
-module _ (cursor : Option Cursor) (forest : List Server) (who : Who) (position : ℕ) (m : Member)
-    (ms : List Member) where
-  -- a member that has none left is passed over
-  passed_over : slice_get (filter (is_behind cursor) (entries_of forest who position m)) 0 ≡ None
-      → filter (is_behind cursor) (entries_from forest who position (m ∷ ms))
-      ≡ filter (is_behind cursor) (entries_from forest who (suc position) ms)
-  passed_over none =
-      filter-append (is_behind cursor) (entries_of forest who position m)
-      (entries_from forest who (suc position) ms)
-      ∙ ap (λ es. es ++ filter (is_behind cursor) (entries_from forest who (suc position) ms))
-      (none_first _ none)
-
-  found_in : (e : Entry)
-      → slice_get (filter (is_behind cursor) (entries_of forest who position m)) 0 ≡ Some e
-      → slice_get (filter (is_behind cursor) (entries_from forest who position (m ∷ ms))) 0
-      ≡ Some e
-  found_in e first =
-      ap (λ es. slice_get es 0)
-      (filter-append (is_behind cursor) (entries_of forest who position m)
-      (entries_from forest who (suc position) ms))
-      ∙ first_append _ (filter (is_behind cursor) (entries_from forest who (suc position) ms)) e
-      first
-
-module _ (cursor : Option Cursor) (forest : List Server) (who : Who) (position : ℕ)
-    (ms : List Member) (d : Member) (within : position < length ms) where
-  pub member_passed : slice_get
-      (filter (is_behind cursor) (entries_of forest who position (get_or ms position d))) 0 ≡ None
-      → filter (is_behind cursor) (entries_from forest who position (drop position ms))
-      ≡ filter (is_behind cursor) (entries_from forest who (position + 1) (drop (position + 1) ms))
-  member_passed none =
-      let next : suc position ≡ position + 1 = omega arith in
-      ap (λ l. filter (is_behind cursor) (entries_from forest who position l))
-      (drop-cons ms position d within)
-      ∙ passed_over cursor forest who position (get_or ms position d) (drop (suc position) ms) none
-      ∙ ap (λ k. filter (is_behind cursor) (entries_from forest who k (drop k ms))) next
-
-  pub member_found : (e : Entry)
-      → slice_get
-      (filter (is_behind cursor) (entries_of forest who position (get_or ms position d))) 0
-      ≡ Some e
-      → slice_get (filter (is_behind cursor) (entries_from forest who position (drop position ms)))
-      0 ≡ Some e
-  member_found e first =
-      ap (λ l. slice_get (filter (is_behind cursor) (entries_from forest who position l)) 0)
-      (drop-cons ms position d within)
-      ∙ found_in cursor forest who position (get_or ms position d) (drop (suc position) ms) e first
+-- what is left begins in the cursor's member
+pub left_reached : (cursor : Option Cursor) (forest : List Server) (who : Who) (ms : List Member)
+    (position : ℕ) → IsReached cursor position
+    → left_of forest who cursor ms
+    ≡ filter (is_behind cursor) (entries_from forest who position (drop position ms))
+left_reached None forest who ms position at =
+    ap (λ p. filter (is_behind None) (entries_from forest who p (drop p ms))) (sym at)
+left_reached (Some c) forest who ms position at =
+    skipped c forest who position 0 position ms (omega arith) (omega arith)
 
 -- Order.
 
@@ -223,17 +188,6 @@ server_rising forest sound server = go (slice_get forest server) refl
     go None e = λ i j d lt within. absurd (omega arith)
     go (Some s) e = (sound.servers server s e).rising
 
-Rising-member : (forest : List Server) (who : Who) (position : ℕ) (m : Member) → IsForest forest
-    → Rising (entries_of forest who position m)
-Rising-member forest who position m sound =
-    elim (is_listed forest who position m) as
-    (λ b. Rising (cond b (map (entry_at position m.node) (children_of m.node forest)) [])) [
-      | true ↦ Rising-map position m.node (children_of m.node forest)
-          (AllPairs-filter (λ a b. a.number < b.number) (is_in m.node.number)
-          (server_at m.node.server forest).nodes (server_rising forest sound m.node.server))
-      | false ↦ tt
-    ]
-
 from_position : (forest : List Server) (who : Who) (position : ℕ) (ms : List Member)
     → All (λ e. position ≤ e.position) (entries_from forest who position ms)
 from_position forest who position [] = All-nil (λ e. position ≤ e.position)
@@ -244,22 +198,6 @@ from_position forest who position (m ∷ ms) =
     (entries_of forest who position m) (at_position forest who position m))
     (All-weaker (λ e. suc position ≤ e.position) (λ e. position ≤ e.position) (λ e le. omega arith)
     (entries_from forest who (suc position) ms) (from_position forest who (suc position) ms))
-
-Rising-members : (forest : List Server) (who : Who) (position : ℕ) (ms : List Member)
-    → IsForest forest → Rising (entries_from forest who position ms)
-Rising-members forest who position [] sound = tt
-Rising-members forest who position (m ∷ ms) sound =
-    Rising-append (entries_of forest who position m) (entries_from forest who (suc position) ms)
-    (Rising-member forest who position m sound)
-    (Rising-members forest who (suc position) ms sound)
-    (All-weaker (λ e. e.position ≡ position)
-    (λ x. All (λ y. is_behind (Some (cursor_of x)) y ≡ true)
-    (entries_from forest who (suc position) ms))
-    (λ x at. All-weaker (λ e. suc position ≤ e.position)
-    (λ y. is_behind (Some (cursor_of x)) y ≡ true)
-    (λ y le. let lt : x.position < y.position = omega arith in grind (arith, nat_tests))
-    (entries_from forest who (suc position) ms) (from_position forest who (suc position) ms))
-    (entries_of forest who position m) (at_position forest who position m))
 
 behind_both : (c : Option Cursor) (x y : Entry) → is_behind c x ≡ true
     → is_behind (Some (cursor_of x)) y ≡ true → is_behind c y ≡ true
@@ -311,57 +249,138 @@ others_left c (x ∷ xs) e es rising left = go (is_behind c x) refl (others_left
 
 -- What has room.
 
--- the first that is given, and room for the others
-pub record GivesFirst (room : ℕ) (left : List Entry) (e : Entry) (others : List Entry) :
-    Type 0 where
-  pub gives : fitting room left ≡ e ∷ fitting (room - length (entry_bytes e)) others
-  pub has_room : length (entry_bytes e) ≤ room
+-- these are given, and there is room for others behind them
+pub record GivesSome (room : ℕ) (left given others : List Entry) : Type 0 where
+  pub gives : fitting room left
+      ≡ given ++ fitting (room - length (flat_map entry_bytes given)) others
+  pub counted : length left ≡ length given + length others
+  pub has_room : length (flat_map entry_bytes given) ≤ room
 
-first_fits : (room : ℕ) (x : Entry) (xs : List Entry) → nat_le (length (entry_bytes x)) room ≡ true
-    → GivesFirst room (x ∷ xs) x xs
-first_fits room x xs fits = record {
-  gives = ap (λ b. cond b (x ∷ fitting (room - length (entry_bytes x)) xs) []) fits;
-  has_room = grind (arith, nat_tests);
+abbrev pub is_short : ℕ → List Entry → Bool
+is_short room left = nat_lt (length (fitting room left)) (length left)
+
+no_bytes_less : (room : ℕ) (left : List Entry) → fitting room left ≡ fitting (room - 0) left
+no_bytes_less room left =
+    let same : room ≡ room - 0 = omega arith in ap (λ n. fitting n left) same
+
+gives_more : (room : ℕ) (e : Entry) (left given others : List Entry)
+    → nat_le (length (entry_bytes e)) room ≡ true
+    → GivesSome (room - length (entry_bytes e)) left given others
+    → GivesSome room (e ∷ left) (e ∷ given) others
+gives_more room e left given others fits some =
+    let long : length (flat_map entry_bytes (e ∷ given))
+    ≡ length (entry_bytes e) + length (flat_map entry_bytes given) =
+    length-append (entry_bytes e) (flat_map entry_bytes given) in
+    let has_room = some.has_room in
+    let counted = some.counted in
+    let le : length (entry_bytes e) ≤ room = grind (arith, nat_tests) in
+    let less : (room - length (entry_bytes e)) - length (flat_map entry_bytes given)
+    ≡ room - length (flat_map entry_bytes (e ∷ given)) = omega arith in
+    record {
+      gives = ap (λ b. cond b (e ∷ fitting (room - length (entry_bytes e)) left) []) fits
+          ∙ ap (λ es. e ∷ es) (some.gives ∙ ap (λ n. given ++ fitting n others) less);
+      counted = omega arith;
+      has_room = omega arith;
+    }
+
+gives_none : (room : ℕ) (left : List Entry) → GivesSome room left [] left
+gives_none room left = record {
+  gives = no_bytes_less room left;
+  counted = omega arith;
+  has_room = omega arith;
 }
 
-pub first_given : (room : ℕ) (forest : List Server) (who : Who) (cursor : Option Cursor)
-    (ms : List Member) (e : Entry) → IsForest forest
-    → slice_get (fitting room (left_of forest who cursor ms)) 0 ≡ Some e
-    → GivesFirst room (left_of forest who cursor ms) e
-    (left_of forest who (Some (cursor_of e)) ms)
-first_given room forest who cursor ms e sound first = go (left_of forest who cursor ms) refl
+pub gives_one : (room : ℕ) (e : Entry) (others : List Entry) → length (entry_bytes e) ≤ room
+    → GivesSome room (e ∷ others) (e ∷ []) others
+gives_one room e others le =
+    let fits : nat_le (length (entry_bytes e)) room ≡ true = grind (arith, nat_tests) in
+    gives_more room e others [] others fits
+    (gives_none (room - length (entry_bytes e)) others)
+
+-- where all of the first ones have room, the others are given behind them
+gives_whole : (room : ℕ) (xs ys : List Entry) → is_short room xs ≡ false
+    → GivesSome room (xs ++ ys) xs ys
+gives_whole room [] ys whole = gives_none room ys
+gives_whole room (x ∷ xs) ys whole =
+    go (gives_whole (room - length (entry_bytes x)) xs ys)
+    (nat_le (length (entry_bytes x)) room) refl
   where
-    go : (left : List Entry) → left_of forest who cursor ms ≡ left
-        → GivesFirst room (left_of forest who cursor ms) e
-        (left_of forest who (Some (cursor_of e)) ms)
-    go [] is =
-        let none : None ≡ Some e = ap (λ l. slice_get (fitting room l) 0) (sym is) ∙ first in
-        absurd (cc)
-    go (x ∷ xs) is = by_room (nat_le (length (entry_bytes x)) room) refl
-      where
-        by_room : (b : Bool) → nat_le (length (entry_bytes x)) room ≡ b
-            → GivesFirst room (left_of forest who cursor ms) e
-            (left_of forest who (Some (cursor_of e)) ms)
-        by_room true fits =
-            let found : Some x ≡ Some e =
-            ap (λ (b : Bool). slice_get
-            (cond b (x ∷ fitting (room - length (entry_bytes x)) xs) []) 0) (sym fits)
-            ∙ ap (λ l. slice_get (fitting room l) 0) (sym is) ∙ first in
-            let same : x ≡ e = cc in
-            let others : left_of forest who (Some (cursor_of x)) ms ≡ xs =
-            others_left cursor (entries_from forest who 0 ms) x xs
-            (Rising-members forest who 0 ms sound) is in
-            subst (λ z. GivesFirst room (left_of forest who cursor ms) z
-            (left_of forest who (Some (cursor_of z)) ms)) same
-            (subst (λ l. GivesFirst room l x (left_of forest who (Some (cursor_of x)) ms)) (sym is)
-            (subst (λ l. GivesFirst room (x ∷ xs) x l) (sym others)
-            (first_fits room x xs fits)))
-        by_room false fits =
-            let none : None ≡ Some e =
-            ap (λ (b : Bool). slice_get
-            (cond b (x ∷ fitting (room - length (entry_bytes x)) xs) []) 0) (sym fits)
-            ∙ ap (λ l. slice_get (fitting room l) 0) (sym is) ∙ first in
-            absurd (cc)
+    go : (is_short (room - length (entry_bytes x)) xs ≡ false
+        → GivesSome (room - length (entry_bytes x)) (xs ++ ys) xs ys) → (b : Bool)
+        → nat_le (length (entry_bytes x)) room ≡ b → GivesSome room (x ∷ (xs ++ ys)) (x ∷ xs) ys
+    go further true fits =
+        let short : nat_lt (suc (length (fitting (room - length (entry_bytes x)) xs)))
+        (suc (length xs)) ≡ false =
+        ap (λ b. nat_lt
+        (length (cond b (x ∷ fitting (room - length (entry_bytes x)) xs) [])) (suc (length xs)))
+        (sym fits) ∙ whole in
+        gives_more room x (xs ++ ys) xs ys fits (further (grind (arith, nat_tests)))
+    go further false fails =
+        let short : nat_lt 0 (suc (length xs)) ≡ false =
+        ap (λ b. nat_lt
+        (length (cond b (x ∷ fitting (room - length (entry_bytes x)) xs) [])) (suc (length xs)))
+        (sym fails) ∙ whole in
+        absurd (grind (arith, nat_tests))
+
+-- where one of the first ones has no room, none behind it is given
+record Stops (room : ℕ) (xs ys others : List Entry) : Type 0 where
+  gives : GivesSome room (xs ++ ys) (fitting room xs) others
+  ends : fitting (room - length (flat_map entry_bytes (fitting room xs))) others ≡ []
+  more : 0 < length others
+
+stops_here : (room : ℕ) (x : Entry) (xs ys : List Entry)
+    → nat_le (length (entry_bytes x)) room ≡ false
+    → (given : List Entry) → given ≡ []
+    → (GivesSome room (x ∷ (xs ++ ys)) given (x ∷ (xs ++ ys)))
+    × (fitting (room - length (flat_map entry_bytes given)) (x ∷ (xs ++ ys)) ≡ [])
+stops_here room x xs ys fails given none =
+    let none_fits : fitting room (x ∷ (xs ++ ys)) ≡ [] =
+    ap (λ b. cond b (x ∷ fitting (room - length (entry_bytes x)) (xs ++ ys)) []) fails in
+    subst (λ g. (GivesSome room (x ∷ (xs ++ ys)) g (x ∷ (xs ++ ys)))
+    × (fitting (room - length (flat_map entry_bytes g)) (x ∷ (xs ++ ys)) ≡ [])) (sym none)
+    (gives_none room (x ∷ (xs ++ ys)), sym (no_bytes_less room (x ∷ (xs ++ ys))) ∙ none_fits)
+
+gives_part : (room : ℕ) (xs ys : List Entry) → is_short room xs ≡ true
+    → (others : List Entry) × Stops room xs ys others
+gives_part room [] ys short = absurd (grind (arith, nat_tests))
+gives_part room (x ∷ xs) ys short =
+    go (gives_part (room - length (entry_bytes x)) xs ys) (nat_le (length (entry_bytes x)) room)
+    refl
+  where
+    go : (is_short (room - length (entry_bytes x)) xs ≡ true
+        → (others : List Entry) × Stops (room - length (entry_bytes x)) xs ys others)
+        → (b : Bool) → nat_le (length (entry_bytes x)) room ≡ b
+        → (others : List Entry) × Stops room (x ∷ xs) ys others
+    go further true fits =
+        let given : fitting room (x ∷ xs) ≡ x ∷ fitting (room - length (entry_bytes x)) xs =
+        ap (λ b. cond b (x ∷ fitting (room - length (entry_bytes x)) xs) []) fits in
+        let less : nat_lt (suc (length (fitting (room - length (entry_bytes x)) xs)))
+        (suc (length xs)) ≡ true =
+        ap (λ es. nat_lt (length es) (suc (length xs))) (sym given) ∙ short in
+        let (others, stops) = further (grind (arith, nat_tests)) in
+        let long =
+        length-append (entry_bytes x)
+        (flat_map entry_bytes (fitting (room - length (entry_bytes x)) xs)) in
+        let behind : room
+        - length (flat_map entry_bytes (x ∷ fitting (room - length (entry_bytes x)) xs))
+        ≡ (room - length (entry_bytes x))
+        - length (flat_map entry_bytes (fitting (room - length (entry_bytes x)) xs)) =
+        omega (arith, long) in (
+          others,
+          record {
+            gives = subst (λ g. GivesSome room (x ∷ (xs ++ ys)) g others) (sym given)
+                (gives_more room x (xs ++ ys) (fitting (room - length (entry_bytes x)) xs) others fits
+                stops.gives);
+            ends = ap (λ es. fitting (room - length (flat_map entry_bytes es)) others) given
+                ∙ ap (λ k. fitting k others) behind ∙ stops.ends;
+            more = stops.more;
+          },
+        )
+    go further false fails =
+        let given : fitting room (x ∷ xs) ≡ [] =
+        ap (λ b. cond b (x ∷ fitting (room - length (entry_bytes x)) xs) []) fails in
+        let here = stops_here room x xs ys fails (fitting room (x ∷ xs)) given in
+        (x ∷ (xs ++ ys), record { gives = here.0; ends = here.1; more = omega arith })
 
 -- where one is left, and none is given, there is no room for it
 pub first_has_no_room : (room : ℕ) (e : Entry) (left : List Entry) → slice_get left 0 ≡ Some e
@@ -374,100 +393,17 @@ first_has_no_room room e (x ∷ xs) first short =
     let fails : nat_le (length (entry_bytes x)) room ≡ false = grind (arith, nat_tests) in
     ap (λ b. cond b (x ∷ fitting (room - length (entry_bytes x)) xs) []) fails
 
-pub first_has_room : (room : ℕ) (e : Entry) (left : List Entry) → slice_get left 0 ≡ Some e
-    → length (entry_bytes e) ≤ room → slice_get (fitting room left) 0 ≡ Some e
-first_has_room room e [] first fits = absurd (cc)
-first_has_room room e (x ∷ xs) first fits =
-    let same : x ≡ e = cc in
-    let short : length (entry_bytes x) ≤ room =
-    subst (λ z. length (entry_bytes z) ≤ room) (sym same) fits in
-    let passes : nat_le (length (entry_bytes x)) room ≡ true = grind (arith, nat_tests) in
-    ap (λ b. slice_get (cond b (x ∷ fitting (room - length (entry_bytes x)) xs) []) 0) passes
-    ∙ first
-
-pub fitting-none : (room : ℕ) (left : List Entry) → slice_get left 0 ≡ None → fitting room left ≡ []
-fitting-none room [] e = refl
-fitting-none room (x ∷ xs) e = absurd (cc)
-
--- What is told of the first that is given, and what is put for it.
-
-pub no_end : (given : List Entry) → given ≡ [] → None ≡ option_map end_of (slice_get given 0)
-no_end given none = sym (ap (λ es. option_map end_of (slice_get es 0)) none)
-
-pub nothing_put : (given : List Entry) (buffer : List ℕ) → given ≡ []
-    → buffer ≡ put_front (flat_map entry_bytes (take 1 given)) buffer
-nothing_put given buffer none =
-    sym (ap (λ es. put_front (flat_map entry_bytes (take 1 es)) buffer) none)
-
-first_put : (given : List Entry) (e : Entry) (old new : List ℕ) → slice_get given 0 ≡ Some e
-    → new ≡ put_front (entry_bytes e) old
-    → new ≡ put_front (flat_map entry_bytes (take 1 given)) old
-first_put [] e old new first put = absurd (cc)
-first_put (x ∷ xs) e old new first put =
-    let same : e ≡ x = cc in
-    put ∙ ap (λ z. put_front (entry_bytes z) old) same
-    ∙ ap (λ bytes. put_front bytes old) (sym (append-nil (entry_bytes x)))
-
-bytes_of_entry : (e : Entry) (number : ℕ) → number ≡ e.node.number
-    → entry_bytes e ≡ stat_bytes
-    (stat_of (record { server = e.member.server; number = number }) e.node)
-unfolding entry_bytes
-bytes_of_entry e number same =
-    ap (λ k. stat_bytes (stat_of (record { server = e.member.server; number = k }) e.node))
-    (sym same)
-
-module _ (room : ℕ) (left : List Entry) (e : Entry) (number size : ℕ)
-    (first : slice_get left 0 ≡ Some e) (same : number ≡ e.node.number)
-    (sized : size ≡ stat_len
-    (stat_of (record { server = e.member.server; number = number }) e.node)) where
-  length-entry : length (entry_bytes e) ≡ size
-  length-entry =
-      ap length (bytes_of_entry e number same) ∙ length-stat_bytes (stat_of (record {
-        server = e.member.server;
-        number = number;
-      }) e.node) ∙ sym sized
-
-  pub no_room : room < size → fitting room left ≡ []
-  no_room short =
-      first_has_no_room room e left first (subst (λ n. room < n) (sym length-entry) short)
-
-  given_first : size ≤ room → slice_get (fitting room left) 0 ≡ Some e
-  given_first fits =
-      first_has_room room e left first (subst (λ n. n ≤ room) (sym length-entry) fits)
-
-  pub gives_end : size ≤ room
-      → Some (record { member = e.position; number = number }, size)
-      ≡ option_map end_of (slice_get (fitting room left) 0)
-  gives_end fits =
-      ap (λ k. Some (record { member = e.position; number = k }, size)) same
-      ∙ ap (λ n. Some (cursor_of e, n)) (sym length-entry)
-      ∙ sym (ap (option_map end_of) (given_first fits))
-
-  pub gives_bytes : (old new : List ℕ) → size ≤ room → new ≡ stat_bytes (stat_of (record {
-    server = e.member.server;
-    number = number;
-  }) e.node) ++ drop size old
-      → new ≡ put_front (flat_map entry_bytes (take 1 (fitting room left))) old
-  gives_bytes old new fits put =
-      first_put (fitting room left) e old new (given_first fits)
-      (put ∙ ap (λ bytes. bytes ++ drop size old) (sym (bytes_of_entry e number same))
-      ∙ ap (λ n. entry_bytes e ++ drop n old) (sym length-entry))
-
 -- Filling a buffer.
 
-only_first : (given : List Entry) (e : Entry) → slice_get given 0 ≡ Some e
-    → flat_map entry_bytes (take 1 given) ≡ entry_bytes e
-only_first [] e first = absurd (cc)
-only_first (x ∷ xs) e first =
-    let same : x ≡ e = cc in
-    append-nil (entry_bytes x) ∙ ap entry_bytes same
-
+-- so many bytes of the buffer are filled, and this is left
 pub record Filling (room : ℕ) (all : List Entry) (from : Option Cursor) (buffer : List ℕ) (size : ℕ)
     (cursor : Option Cursor) (left : List Entry) : Type 0 where
   pub within : size ≤ length buffer
   pub bytes : flat_map entry_bytes (fitting room all) ≡ take size buffer
       ++ flat_map entry_bytes (fitting (room - size) left)
   pub last : cursor_after from (fitting room all) ≡ cursor_after cursor (fitting (room - size) left)
+  pub count : length all + length (fitting (room - size) left)
+      ≡ length (fitting room all) + length left
 
 pub filling-start : (all : List Entry) (from : Option Cursor) (buffer : List ℕ)
     → Filling (length buffer) all from buffer 0 from all
@@ -477,7 +413,15 @@ filling-start all from buffer =
       within = omega arith;
       bytes = ap (λ n. flat_map entry_bytes (fitting n all)) whole;
       last = ap (λ n. cursor_after from (fitting n all)) whole;
+      count =
+          let same = ap (λ n. length (fitting n all)) whole in
+          omega arith;
     }
+
+cursor_after-append : (from : Option Cursor) (xs ys : List Entry)
+    → cursor_after from (xs ++ ys) ≡ cursor_after (cursor_after from xs) ys
+cursor_after-append from [] ys = refl
+cursor_after-append from (x ∷ xs) ys = cursor_after-append (Some (cursor_of x)) xs ys
 
 -- bytes put behind the first ones
 put_behind : (size : ℕ) (buffer bytes sub : List ℕ) → size ≤ length buffer
@@ -488,6 +432,18 @@ put_behind size buffer bytes sub within =
     (append_assoc bytes sub (post_of size (length buffer - size) buffer))
     ∙ sym (append_assoc (take size buffer) bytes
     (sub ++ post_of size (length buffer - size) buffer))
+
+length-put_mid : (size : ℕ) (buffer new : List ℕ) → size ≤ length buffer
+    → length new ≡ length buffer - size
+    → length (put_mid size (length buffer - size) buffer new) ≡ length buffer
+length-put_mid size buffer new within long =
+    let behind = post_of size (length buffer - size) buffer in
+    let front = length-take-le size buffer within in
+    let all = length-append (take size buffer) (new ++ behind) in
+    let middle = length-append new behind in
+    let none = length-drop (length buffer - size) (drop size buffer) in
+    let rest = length-drop size buffer in
+    all ∙ omega arith
 
 module _ (all : List Entry) (from : Option Cursor) (room : ℕ) (buffer : List ℕ) (size : ℕ)
     (cursor : Option Cursor) (left : List Entry) (whole : length buffer ≡ room)
@@ -501,69 +457,69 @@ module _ (all : List Entry) (from : Option Cursor) (room : ℕ) (buffer : List �
       length-take-le (length buffer - size) (drop size buffer)
       (omega (arith, length-drop size buffer)) ∙ omega arith
 
-  pub filling-more : (e : Entry) (others : List Entry) (new : List ℕ)
-      → GivesFirst (length rest_of) left e others
-      → new ≡ entry_bytes e ++ drop (length (entry_bytes e)) rest_of
-      → Filling room all from (put_mid size (length buffer - size) buffer new)
-      (size + length (entry_bytes e)) (Some (cursor_of e)) others
-  filling-more e others new first put =
+  -- entries are given in the rest of the buffer
+  filling-more : (given others : List Entry) (n : ℕ) (new : List ℕ) (last : Option Cursor)
+      → GivesSome (length rest_of) left given others
+      → take n new ≡ flat_map entry_bytes given → length new ≡ length rest_of → n ≤ length rest_of
+      → last ≡ cursor_after cursor given
+      → Filling room all from (put_mid size (length buffer - size) buffer new) (size + n) last others
+  filling-more given others n new last some put long fits last_is =
       let within = filling.within in
-      let n = length (entry_bytes e) in
-      let behind = drop n rest_of ++ post_of size (length buffer - size) buffer in
-      let is : put_mid size (length buffer - size) buffer new ≡ (take size buffer ++ entry_bytes e)
-      ++ behind = ap (put_mid size (length buffer - size) buffer) put
-      ∙ put_behind size buffer (entry_bytes e) (drop n rest_of) within in
+      let counted = some.counted in
+      let count = filling.count in
+      let bytes = flat_map entry_bytes given in
+      let sized : n ≡ length bytes =
+      sym (length-take-le n new (omega arith)) ∙ ap length put in
+      let behind = drop n new ++ post_of size (length buffer - size) buffer in
+      let is : put_mid size (length buffer - size) buffer new ≡ (take size buffer ++ bytes)
+      ++ behind = ap (put_mid size (length buffer - size) buffer)
+      (sym (take-append-drop n new) ∙ ap (λ xs. xs ++ drop n new) put)
+      ∙ put_behind size buffer bytes (drop n new) within in
       let front : length (take size buffer) ≡ size = length-take-le size buffer within in
-      let both : length (take size buffer ++ entry_bytes e) ≡ size + n =
-      length-append (take size buffer) (entry_bytes e) ∙ ap (λ k. k + n) front in
-      let less : length rest_of - n ≡ room - (size + n) = ap (λ k. k - n) rest_room ∙ omega arith in
-      let gives : fitting (room - size) left ≡ e ∷ fitting (room - (size + n)) others =
-      ap (λ k. fitting k left) (sym rest_room) ∙ first.gives
-      ∙ ap (λ k. e ∷ fitting k others) less in
+      let both : length (take size buffer ++ bytes) ≡ size + n =
+      length-append (take size buffer) bytes ∙ omega arith in
+      let less : length rest_of - length bytes ≡ room - (size + n) =
+      ap (λ k. k - length bytes) rest_room ∙ omega arith in
+      let gives : fitting (room - size) left ≡ given ++ fitting (room - (size + n)) others =
+      ap (λ k. fitting k left) (sym rest_room) ∙ some.gives
+      ∙ ap (λ k. given ++ fitting k others) less in
       record {
         within =
-            let long = ap length is in
-            omega (arith, long, both, length-append (take size buffer ++ entry_bytes e) behind);
+            let all_long = ap length is in
+            omega (arith, all_long, both, length-append (take size buffer ++ bytes) behind);
         bytes = filling.bytes
             ∙ ap (λ es. take size buffer ++ flat_map entry_bytes es) gives
-            ∙ sym (append_assoc (take size buffer) (entry_bytes e)
+            ∙ ap (λ bs. take size buffer ++ bs)
+            (flat_map-append entry_bytes given (fitting (room - (size + n)) others))
+            ∙ sym (append_assoc (take size buffer) bytes
             (flat_map entry_bytes (fitting (room - (size + n)) others)))
-            ∙ ap (λ bytes. bytes ++ flat_map entry_bytes (fitting (room - (size + n)) others))
+            ∙ ap (λ bs. bs ++ flat_map entry_bytes (fitting (room - (size + n)) others))
             (sym (ap (take (size + n)) is
-            ∙ take_at (take size buffer ++ entry_bytes e) behind (size + n) both));
-        last = filling.last ∙ ap (cursor_after cursor) gives;
+            ∙ take_at (take size buffer ++ bytes) behind (size + n) both));
+        last = filling.last ∙ ap (cursor_after cursor) gives
+            ∙ cursor_after-append cursor given (fitting (room - (size + n)) others)
+            ∙ ap (λ c. cursor_after c (fitting (room - (size + n)) others)) (sym last_is);
+        count =
+            let more : length (fitting (room - size) left)
+            ≡ length given + length (fitting (room - (size + n)) others) =
+            ap length gives ∙ length-append given (fitting (room - (size + n)) others) in
+            omega arith;
       }
 
-  ended : None ≡ option_map end_of (slice_get (fitting (length rest_of) left) 0)
-      → fitting (room - size) left ≡ []
-  ended none =
-      ap (λ k. fitting k left) (sym rest_room) ∙ no_first (fitting (length rest_of) left) none
-    where
-      no_first : (es : List Entry) → None ≡ option_map end_of (slice_get es 0) → es ≡ []
-      no_first [] e = refl
-      no_first (x ∷ xs) e = absurd (cc)
-
-  pub filled-bytes : (new : List ℕ)
-      → None ≡ option_map end_of (slice_get (fitting (length rest_of) left) 0)
-      → take size (put_mid size (length buffer - size) buffer new)
-      ≡ flat_map entry_bytes (fitting room all)
-  filled-bytes new none =
-      take-put_mid_below size (length buffer - size) buffer new size (omega arith) filling.within
-      ∙ sym (append-nil (take size buffer))
-      ∙ sym (filling.bytes ∙ ap (λ es. take size buffer ++ flat_map entry_bytes es) (ended none))
-
-  pub filled-cursor : None ≡ option_map end_of (slice_get (fitting (length rest_of) left) 0)
-      → cursor ≡ cursor_after from (fitting room all)
-  filled-cursor none = sym (filling.last ∙ ap (cursor_after cursor) (ended none))
-
-not_none : {A : Type 0} (x : A) → Some x ≡ None → ⊥
-not_none x e = cc
-
-pair_is : {A B : Type 0} (a a' : A) (b b' : B)
-    → ◌≡◌ {A = Option (A × B)} (Some (a, b)) (Some (a', b')) → (a' ≡ a) × (b' ≡ b)
-pair_is {A} {B} a a' b b' e =
-    let same : ◌≡◌ {A = A × B} (a, b) (a', b') = cc in
-    (ap (λ x. x.0) (sym same), ap (λ x. x.1) (sym same))
+  -- nothing more has room
+  filled : (is_full : Bool) → fitting (room - size) left ≡ [] → is_full ≡ nat_lt 0 (length left)
+      → Gives room all from buffer (record { size = size; cursor = cursor; is_full = is_full })
+  filled is_full none full =
+      let within = filling.within in
+      let count = filling.count in
+      let empty : length (fitting (room - size) left) ≡ 0 = ap length none in
+      record {
+        within = omega arith;
+        bytes = sym (append-nil (take size buffer))
+            ∙ sym (filling.bytes ∙ ap (λ es. take size buffer ++ flat_map entry_bytes es) none);
+        last = sym (filling.last ∙ ap (cursor_after cursor) none);
+        full = full ∙ grind (arith, nat_tests);
+      }
 
 -- no entry is empty
 some_bytes : (e : Entry) → 0 < length (entry_bytes e)
@@ -572,96 +528,312 @@ some_bytes e =
     let long = length-stat_bytes (stat_of (beside e.member e.node.number) e.node) in
     omega (arith, long)
 
-pub filling-smaller : (forest : List Server) (who : Who) (ms : List Member) (room : ℕ)
-    (buffer : List ℕ) (size : ℕ) (cursor : Option Cursor) (last : Cursor) (n : ℕ)
-    → IsForest forest → length buffer ≡ room → size ≤ length buffer
-    → Some (last, n) ≡ option_map end_of
-    (slice_get
-    (fitting (length (take (length buffer - size) (drop size buffer)))
-    (left_of forest who cursor ms)) 0)
-    → room - (size + n) < room - size
-filling-smaller forest who ms room buffer size cursor last n sound whole within told =
-    go
-    (slice_get
-    (fitting (length (take (length buffer - size) (drop size buffer)))
-    (left_of forest who cursor ms)) 0) refl
-  where
-    go : (o : Option Entry)
-        → slice_get
-        (fitting (length (take (length buffer - size) (drop size buffer)))
-        (left_of forest who cursor ms)) 0 ≡ o → room - (size + n) < room - size
-    go None e = absurd (not_none (last, n) (told ∙ ap (option_map end_of) e))
-    go (Some e) first =
-        let ends : ◌≡◌ {A = Option (Cursor × ℕ)} (Some (last, n)) (Some (end_of e)) =
-        told ∙ ap (option_map end_of) first in
-        let n_is : length (entry_bytes e) ≡ n =
-        (pair_is last (cursor_of e) n (length (entry_bytes e)) ends).1 in
-        let has_room =
-        (first_given (length (take (length buffer - size) (drop size buffer))) forest who
-        cursor ms e sound first).has_room in
-        let long : length (take (length buffer - size) (drop size buffer)) ≡ length buffer - size =
-        length-take-le (length buffer - size) (drop size buffer)
-        (omega (arith, length-drop size buffer)) in
-        let some = some_bytes e in
-        omega (arith, n_is, has_room, long, some, whole, within)
+-- The loop over the members.
 
--- the loop goes on: what was told of the first entry is its end
-pub filling-next : (forest : List Server) (who : Who) (ms : List Member) (from : Option Cursor)
-    (room : ℕ) (buffer : List ℕ) (size : ℕ) (cursor : Option Cursor) (last : Cursor) (n : ℕ)
-    (new : List ℕ)
-    → IsForest forest → length buffer ≡ room
-    → Filling room (left_of forest who from ms) from buffer size cursor
-    (left_of forest who cursor ms)
-    → Some (last, n) ≡ option_map end_of
-    (slice_get
-    (fitting (length (take (length buffer - size) (drop size buffer)))
-    (left_of forest who cursor ms)) 0)
-    → new ≡ put_front
-    (flat_map entry_bytes
-    (take 1
-    (fitting (length (take (length buffer - size) (drop size buffer)))
-    (left_of forest who cursor ms)))) (take (length buffer - size) (drop size buffer))
-    → Filling room (left_of forest who from ms) from
-    (put_mid size (length buffer - size) buffer new) (size + n) (Some last)
-    (left_of forest who (Some last) ms)
-filling-next forest who ms from room buffer size cursor last n new sound whole filling told put =
-    go
-    (slice_get
-    (fitting (length (take (length buffer - size) (drop size buffer)))
-    (left_of forest who cursor ms)) 0) refl
-  where
-    go : (o : Option Entry)
-        → slice_get
-        (fitting (length (take (length buffer - size) (drop size buffer)))
-        (left_of forest who cursor ms)) 0 ≡ o
+abbrev pub IsAtMost : Option Cursor → ℕ → Type 0
+IsAtMost cursor position = IfSome cursor (λ last. last.member ≤ position)
+
+later : (cursor : Option Cursor) (p q : ℕ) → p ≤ q → IsAtMost cursor p → IsAtMost cursor q
+later None p q le reached = tt
+later (Some c) p q le reached = omega arith
+
+pub reached-start : (cursor : Option Cursor) (position : ℕ) → IsReached cursor position
+    → IsAtMost cursor position
+reached-start None position at = tt
+reached-start (Some c) position at = omega arith
+
+-- the cursor after what is given of a member is in no later one
+reached-given : (position room : ℕ) (cursor : Option Cursor) (es : List Entry)
+    → All (λ e. e.position ≡ position) es → IsAtMost cursor position
+    → IsAtMost (cursor_after cursor (fitting room es)) position
+reached-given position room cursor [] all reached = reached
+reached-given position room cursor (e ∷ es) all reached =
+    let here : e.position ≡ position = All-head (λ e. e.position ≡ position) e es all in
+    let le : e.position ≤ position = omega arith in
+    elim (nat_le (length (entry_bytes e)) room) as
+    (λ b. IsAtMost
+    (cursor_after cursor (cond b (e ∷ fitting (room - length (entry_bytes e)) es) [])) position) [
+      | true ↦ reached-given position (room - length (entry_bytes e)) (Some (cursor_of e)) es
+          (All-tail (λ e. e.position ≡ position) e es all) le
+      | false ↦ reached
+    ]
+
+-- the entries of later members are behind the cursor
+later_kept : (cursor : Option Cursor) (forest : List Server) (who : Who) (position : ℕ)
+    (ms : List Member) → IsAtMost cursor position
+    → filter (is_behind cursor) (entries_from forest who (suc position) ms)
+    ≡ entries_from forest who (suc position) ms
+later_kept None forest who position ms reached =
+    all_kept (is_behind None) (entries_from forest who (suc position) ms)
+    (All-weaker (λ e. suc position ≤ e.position) (λ e. is_behind None e ≡ true) (λ e le. refl)
+    (entries_from forest who (suc position) ms) (from_position forest who (suc position) ms))
+later_kept (Some c) forest who position ms reached =
+    all_kept (is_behind (Some c)) (entries_from forest who (suc position) ms)
+    (All-weaker (λ e. suc position ≤ e.position) (λ e. is_behind (Some c) e ≡ true)
+    (λ e le. let lt : c.member < e.position = omega arith in grind (arith, nat_tests))
+    (entries_from forest who (suc position) ms) (from_position forest who (suc position) ms))
+
+-- what is left at a member: of it, and of those behind it
+left_split : (cursor : Option Cursor) (forest : List Server) (who : Who) (position : ℕ)
+    (ms : List Member) (d : Member) → position < length ms → IsAtMost cursor position
+    → filter (is_behind cursor) (entries_from forest who position (drop position ms))
+    ≡ filter (is_behind cursor) (entries_of forest who position (get_or ms position d))
+    ++ entries_from forest who (suc position) (drop (suc position) ms)
+left_split cursor forest who position ms d within reached =
+    ap (λ l. filter (is_behind cursor) (entries_from forest who position l))
+    (drop-cons ms position d within)
+    ∙ filter-append (is_behind cursor) (entries_of forest who position (get_or ms position d))
+    (entries_from forest who (suc position) (drop (suc position) ms))
+    ∙ ap (λ es. filter (is_behind cursor) (entries_of forest who position (get_or ms position d))
+    ++ es) (later_kept cursor forest who position (drop (suc position) ms) reached)
+
+fits_whole : (room : ℕ) (xs : List Entry) → is_short room xs ≡ false → fitting room xs ≡ xs
+fits_whole room xs whole =
+    ap (fitting room) (sym (append-nil xs)) ∙ (gives_whole room xs [] whole).gives ∙ append-nil xs
+
+module _ (forest : List Server) (who : Who) (ms : List Member) (from : Option Cursor) (room : ℕ)
+    (buffer : List ℕ) (size : ℕ) (cursor : Option Cursor) (position : ℕ)
+    (whole : length buffer ≡ room)
+    (filling : Filling room (left_of forest who from ms) from buffer size cursor
+    (filter (is_behind cursor) (entries_from forest who position (drop position ms)))) where
+  abbrev rest : List ℕ
+  rest = take (length buffer - size) (drop size buffer)
+
+  -- no member is left
+  pub members-end : length ms ≤ position
+      → Gives room (left_of forest who from ms) from buffer (record {
+        size = size;
+        cursor = cursor;
+        is_full = false;
+      })
+  members-end end =
+      let none : filter (is_behind cursor) (entries_from forest who position (drop position ms)) ≡ [] =
+      ap (λ l. filter (is_behind cursor) (entries_from forest who position l))
+      (drop_all position ms end) in
+      filled (left_of forest who from ms) from room buffer size cursor [] whole
+      (subst (Filling room (left_of forest who from ms) from buffer size cursor) none filling) false
+      refl refl
+
+  module _ (d : Member) (more : Given) (new : List ℕ) (within : position < length ms)
+      (reached : IsAtMost cursor position) (long : length new ≡ length rest)
+      (given : Gives (length rest)
+      (filter (is_behind cursor) (entries_of forest who position (get_or ms position d))) cursor new
+      more) where
+    abbrev here : List Entry
+    here = filter (is_behind cursor) (entries_of forest who position (get_or ms position d))
+
+    abbrev behind : List Entry
+    behind = entries_from forest who (suc position) (drop (suc position) ms)
+
+    split : Filling room (left_of forest who from ms) from buffer size cursor (here ++ behind)
+    split =
+        subst (Filling room (left_of forest who from ms) from buffer size cursor)
+        (left_split cursor forest who position ms d within reached) filling
+
+    reached-here : IsAtMost more.cursor position
+    reached-here =
+        subst (λ c. IsAtMost c position) (sym given.last)
+        (reached-given position (length rest) cursor here
+        (All-filter (is_behind cursor) (λ e. e.position ≡ position)
+        (entries_of forest who position (get_or ms position d))
+        (at_position forest who position (get_or ms position d))) reached)
+
+    pub members-reached : IsAtMost more.cursor (position + 1)
+    members-reached = later more.cursor position (position + 1) (omega arith) reached-here
+
+    -- all of the member is given
+    pub members-next : more.is_full ≡ false
         → Filling room (left_of forest who from ms) from
-        (put_mid size (length buffer - size) buffer new) (size + n) (Some last)
-        (left_of forest who (Some last) ms)
-    go None e = absurd (not_none (last, n) (told ∙ ap (option_map end_of) e))
-    go (Some e) first =
-        let ends : ◌≡◌ {A = Option (Cursor × ℕ)} (Some (last, n)) (Some (end_of e)) =
-        told ∙ ap (option_map end_of) first in
-        let last_is : cursor_of e ≡ last =
-        (pair_is last (cursor_of e) n (length (entry_bytes e)) ends).0 in
-        let n_is : length (entry_bytes e) ≡ n =
-        (pair_is last (cursor_of e) n (length (entry_bytes e)) ends).1 in
-        let more =
-        filling-more (left_of forest who from ms) from room buffer size cursor
-        (left_of forest who cursor ms) whole filling e
-        (left_of forest who (Some (cursor_of e)) ms) new
-        (first_given (length (take (length buffer - size) (drop size buffer))) forest who cursor ms
-        e sound first)
-        (put
-        ∙ ap (λ bytes. put_front bytes (take (length buffer - size) (drop size buffer)))
-        (only_first
-        (fitting (length (take (length buffer - size) (drop size buffer)))
-        (left_of forest who cursor ms)) e first)) in
-        subst (λ k. Filling room (left_of forest who from ms) from
-        (put_mid size (length buffer - size) buffer new) (size + k) (Some last)
-        (left_of forest who (Some last) ms)) n_is
-        (subst (λ l. Filling room (left_of forest who from ms) from
-        (put_mid size (length buffer - size) buffer new) (size + length (entry_bytes e))
-        (Some l) (left_of forest who (Some l) ms)) last_is more)
+        (put_mid size (length buffer - size) buffer new) (size + more.size) more.cursor
+        (filter (is_behind more.cursor)
+        (entries_from forest who (position + 1) (drop (position + 1) ms)))
+    members-next not_full =
+        let short : is_short (length rest) here ≡ false = sym given.full ∙ not_full in
+        let all : fitting (length rest) here ≡ here = fits_whole (length rest) here short in
+        let next : suc position ≡ position + 1 = omega arith in
+        subst (Filling room (left_of forest who from ms) from
+        (put_mid size (length buffer - size) buffer new) (size + more.size) more.cursor)
+        (sym (later_kept more.cursor forest who position (drop (suc position) ms) reached-here)
+        ∙ ap (λ k. filter (is_behind more.cursor) (entries_from forest who k (drop k ms))) next)
+        (filling-more (left_of forest who from ms) from room buffer size cursor (here ++ behind)
+        whole split here behind more.size new more.cursor
+        (gives_whole (length rest) here behind short)
+        (given.bytes ∙ ap (flat_map entry_bytes) all) long given.within
+        (given.last ∙ ap (cursor_after cursor) all))
+
+    -- an entry of the member has no room
+    pub members-full : more.is_full ≡ true
+        → Gives room (left_of forest who from ms) from
+        (put_mid size (length buffer - size) buffer new) (record {
+          size = size + more.size;
+          cursor = more.cursor;
+          is_full = more.is_full;
+        })
+    members-full full =
+        let within = filling.within in
+        let whole' : length (put_mid size (length buffer - size) buffer new) ≡ room =
+        length-put_mid size buffer new within
+        (long
+        ∙ length-take-le (length buffer - size) (drop size buffer)
+        (omega (arith, length-drop size buffer))) ∙ whole in
+        let (others, stops) =
+        gives_part (length rest) here behind (sym given.full ∙ full) in
+        let some = stops.more in
+        let fits = given.within in
+        let sized : more.size ≡ length (flat_map entry_bytes (fitting (length rest) here)) =
+        sym (length-take-le more.size new (omega arith)) ∙ ap length given.bytes in
+        let room_is : length rest ≡ room - size =
+        length-take-le (length buffer - size) (drop size buffer)
+        (omega (arith, length-drop size buffer)) ∙ omega arith in
+        let less : room - (size + more.size)
+        ≡ length rest - length (flat_map entry_bytes (fitting (length rest) here)) = omega arith in
+        filled (left_of forest who from ms) from room
+        (put_mid size (length buffer - size) buffer new) (size + more.size) more.cursor others
+        whole'
+        (filling-more (left_of forest who from ms) from room buffer size cursor (here ++ behind)
+        whole split (fitting (length rest) here) others more.size new more.cursor stops.gives
+        given.bytes long fits given.last) more.is_full
+        (ap (λ k. fitting k others) less ∙ stops.ends) (full ∙ grind (arith, nat_tests))
+
+-- The loop over the entries of a directory.
+
+entry_bytes-stat : (position : ℕ) (dir : NodeRef) (n : Node)
+    → entry_bytes (entry_at position dir n) ≡ stat_bytes (stat_of (beside dir n.number) n)
+unfolding entry_bytes
+entry_bytes-stat position dir n = refl
+
+first_and_others : (es : List Entry) (e : Entry) → slice_get es 0 ≡ Some e
+    → (others : List Entry) × (es ≡ e ∷ others)
+first_and_others [] e first = absurd (cc)
+first_and_others (x ∷ xs) e first = (xs, cc)
+
+none_first : (es : List Entry) → slice_get es 0 ≡ None → es ≡ []
+none_first [] none = refl
+none_first (x ∷ xs) none = absurd (cc)
+
+gives_kept : (room : ℕ) (left : List Entry) (from : Option Cursor) (buffer buffer' : List ℕ)
+    (given : Given) → take given.size buffer' ≡ take given.size buffer
+    → Gives room left from buffer given → Gives room left from buffer' given
+gives_kept room left from buffer buffer' given same gives = record {
+  within = gives.within;
+  bytes = same ∙ gives.bytes;
+  last = gives.last;
+  full = gives.full;
+}
+
+module _ (forest : List Server) (position : ℕ) (dir : NodeRef) (from : Option Cursor) (room : ℕ)
+    (buffer : List ℕ) (size : ℕ) (cursor : Option Cursor) (whole : length buffer ≡ room)
+    (filling : Filling room (filter (is_behind from) (entries_in forest position dir)) from buffer
+    size cursor (filter (is_behind cursor) (entries_in forest position dir))) where
+  abbrev remainder : List ℕ
+  remainder = take (length buffer - size) (drop size buffer)
+
+  abbrev all_in : List Entry
+  all_in = filter (is_behind from) (entries_in forest position dir)
+
+  remainder_is : length remainder ≡ room - size
+  remainder_is =
+      let within = filling.within in
+      length-take-le (length buffer - size) (drop size buffer)
+      (omega (arith, length-drop size buffer)) ∙ omega arith
+
+  -- no entry is left
+  pub dir-end : (floor : Option ℕ) → IsFloor cursor position floor
+      → child_in_after dir floor forest ≡ None
+      → Gives room all_in from buffer (record { size = size; cursor = cursor; is_full = false })
+  dir-end floor fits none =
+      let empty : filter (is_behind cursor) (entries_in forest position dir) ≡ [] =
+      none_first _
+      (first_in cursor floor forest position dir fits
+      ∙ ap (option_map (entry_at position dir)) none) in
+      filled all_in from room buffer size cursor [] whole
+      (subst (Filling room all_in from buffer size cursor) empty filling) false refl refl
+
+  module _ (floor : Option ℕ) (n : Node) (fits : IsFloor cursor position floor)
+      (found : child_in_after dir floor forest ≡ Some n) where
+    abbrev entry : Entry
+    entry = entry_at position dir n
+
+    first : slice_get (filter (is_behind cursor) (entries_in forest position dir)) 0 ≡ Some entry
+    first =
+        first_in cursor floor forest position dir fits
+        ∙ ap (option_map (entry_at position dir)) found
+
+    -- the first entry has no room
+    pub dir-full : (new : List ℕ)
+        → PutsStat (stat_bytes (stat_of (beside dir n.number) n)) remainder new None
+        → Gives room all_in from (put_mid size (length buffer - size) buffer new) (record {
+          size = size;
+          cursor = cursor;
+          is_full = true;
+        })
+    dir-full new puts =
+        let within = filling.within in
+        let (others, left_is) = first_and_others _ entry first in
+        let short : room - size < length (entry_bytes entry) =
+        subst (λ k. k < length (entry_bytes entry)) remainder_is
+        (subst (λ bytes. length remainder < length bytes) (sym (entry_bytes-stat position dir n))
+        puts.0) in
+        let some : nat_lt 0 (length (entry ∷ others)) ≡ true = grind (arith, nat_tests) in
+        gives_kept room all_in from buffer (put_mid size (length buffer - size) buffer new)
+        (record { size = size; cursor = cursor; is_full = true })
+        (take-put_mid_below size (length buffer - size) buffer new size (omega arith)
+        filling.within)
+        (filled all_in from room buffer size cursor
+        (filter (is_behind cursor) (entries_in forest position dir)) whole filling true
+        (first_has_no_room (room - size) entry
+        (filter (is_behind cursor) (entries_in forest position dir)) first short)
+        (sym (ap (λ es. nat_lt 0 (length es)) left_is ∙ some)))
+
+    module _ (k : ℕ) (new : List ℕ)
+        (puts : PutsStat (stat_bytes (stat_of (beside dir n.number) n)) remainder new (Some k))
+      where
+        given_entry : IsForest forest → length new ≡ length remainder
+            → Filling room all_in from (put_mid size (length buffer - size) buffer new) (size + k)
+            (Some (cursor_of entry))
+            (filter (is_behind (Some (cursor_of entry))) (entries_in forest position dir))
+        given_entry sound long =
+            let (others, left_is) = first_and_others _ entry first in
+            let bytes_are = entry_bytes-stat position dir n in
+            let sized : k ≡ length (entry_bytes entry) = puts.0 ∙ ap length (sym bytes_are) in
+            let fits_in : k ≤ length remainder = puts.1 in
+            let enough : length (entry_bytes entry) ≤ length remainder =
+            subst (λ n. n ≤ length remainder) sized fits_in in
+            subst (Filling room all_in from (put_mid size (length buffer - size) buffer new)
+            (size + k) (Some (cursor_of entry)))
+            (sym (others_left cursor (entries_in forest position dir) entry others
+            (Rising-map position dir (children_of dir forest)
+            (AllPairs-filter (λ a b. a.number < b.number) (is_in dir.number)
+            (server_at dir.server forest).nodes (server_rising forest sound dir.server))) left_is))
+            (filling-more all_in from room buffer size cursor (entry ∷ others) whole
+            (subst (Filling room all_in from buffer size cursor) left_is filling) (entry ∷ []) others
+            k new (Some (cursor_of entry)) (gives_one (length remainder) entry others enough)
+            (ap (take k) puts.2
+            ∙ take_at (stat_bytes (stat_of (beside dir n.number) n)) (drop k remainder) k (sym puts.0)
+            ∙ sym bytes_are ∙ sym (append-nil (entry_bytes entry))) long fits_in refl)
+
+        -- the first entry is given
+        pub dir-next : IsForest forest → length new ≡ length remainder
+            → (number : ℕ) → number ≡ n.number
+            → Filling room all_in from (put_mid size (length buffer - size) buffer new) (size + k)
+            (Some (record { member = position; number = number }))
+            (filter (is_behind (Some (record { member = position; number = number })))
+            (entries_in forest position dir))
+        dir-next sound long number same =
+            subst (λ (m : ℕ). Filling room all_in from
+            (put_mid size (length buffer - size) buffer new) (size + k)
+            (Some (record { member = position; number = m }))
+            (filter (is_behind (Some (record { member = position; number = m })))
+            (entries_in forest position dir))) (sym same) (given_entry sound long)
+
+        pub dir-smaller : room - (size + k) < room - size
+        dir-smaller =
+            let some = some_bytes entry in
+            let sized : k ≡ length (entry_bytes entry) =
+            puts.0 ∙ ap length (sym (entry_bytes-stat position dir n)) in
+            let fits_in : k ≤ length remainder = puts.1 in
+            let is = remainder_is in
+            omega arith
 
 -- What a read of a directory says of an empty answer.
 
@@ -681,10 +853,12 @@ pub something_given : (given : List Entry) (buffer : List ℕ) (size : ℕ)
 something_given given buffer size bytes within none =
     sym (length-take-le size buffer within) ∙ ap length (bytes ∙ ap (flat_map entry_bytes) none)
 
-pub some_left : (left : List Entry) → is_some (slice_get left 0) ≡ true → left ≡ [] → ⊥
-some_left [] some e = cc
-some_left (x ∷ xs) some e = cc
+-- where an entry has no room, one is left
+pub some_short : (room : ℕ) (left : List Entry) → is_short room left ≡ true → left ≡ [] → ⊥
+some_short room [] short none = grind (arith, nat_tests)
+some_short room (x ∷ xs) short none = cc
 
-pub none_left : (left : List Entry) → is_some (slice_get left 0) ≡ false → left ≡ []
-none_left [] none = refl
-none_left (x ∷ xs) none = absurd (cc)
+-- where all have room and none is given, none is left
+pub none_short : (room : ℕ) (left : List Entry) → is_short room left ≡ false
+    → fitting room left ≡ [] → left ≡ []
+none_short room left whole none = sym (fits_whole room left whole) ∙ none

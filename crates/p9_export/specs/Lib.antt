@@ -2,3 +2,4 @@ pub mod Event
 pub mod Wstat
 pub mod Answers
 pub mod Room
+pub mod Listing

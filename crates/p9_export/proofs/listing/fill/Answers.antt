@@ -1,45 +1,45 @@
 use Rattle.p9_space.specs.Rights.{who_view}
-use Rattle.std.proofs.Common.{map, length}
+use Rattle.std.proofs.Common.{map, length, refl, subst}
 use Rattle.p9_step.specs.Listing.{left_of}
-use Rattle.p9_export.proofs.Listings.{filled-bytes, filled-cursor, filling-next, filling-smaller}
-use Rattle.p9_export.proofs.Listings.{filling-start}
+use Rattle.p9_export.proofs.Listings.{Filling, filling-start, left_reached, members-full}
+use Rattle.p9_export.proofs.Listings.{members-next, members-reached, reached-start}
 use Rattle.p9_export.proofs.listing.fill.Goals as goal
 
-pub loop-last-init : goal.loop-last-init
-loop-last-init g c =
-    filling-start
-    (left_of (map g.T.Tree.state c.args.forest.now.trees.items) (who_view c.args.who) c.args.cursor
-    c.args.members.now) c.args.cursor c.args.buffer.now
+pub loop-position-init : goal.loop-position-init
+loop-position-init g c =
+    let forest = map g.T.Tree.state c.args.forest.now.trees.items in
+    let all = left_of forest (who_view c.args.who) c.args.cursor c.args.members.now in (
+      subst (Filling (length c.args.buffer.now) all c.args.cursor c.args.buffer.now 0 c.args.cursor)
+          (left_reached c.args.cursor forest (who_view c.args.who) c.args.members.now
+          c.first_position-position.result c.first_position-position.ensures)
+          (filling-start all c.args.cursor c.args.buffer.now),
+      reached-start c.args.cursor c.first_position-position.result
+          c.first_position-position.ensures,
+      refl,
+    )
 
-pub loop-last-preserved : goal.loop-last-preserved
-loop-last-preserved g c =
-    filling-next (map g.T.Tree.state c.args.forest.now.trees.items) (who_view c.args.who)
-    c.args.members.now c.args.cursor (length c.args.buffer.now) c.loop-last.buffer
-    c.loop-last.given.size c.loop-last.given.cursor c.in-Some.last c.in-Some.size
-    c.give.new.buffer
-    c.well_formed-2.ensures c.loop-last.auto.buffer c.loop-last.invariant c.in-Some.ensures.last
-    c.in-Some.ensures.bytes
+pub returns-then-more : goal.returns-then-more
+returns-then-more g c =
+    members-full (map g.T.Tree.state c.args.forest.now.trees.items) (who_view c.args.who)
+    c.args.members.now c.args.cursor (length c.args.buffer.now) c.loop-position.buffer
+    c.loop-position.given.size c.loop-position.given.cursor c.loop-position.position
+    c.loop-position.auto.buffer c.loop-position.invariant.0 _ c.fill_member-more.result
+    c.fill_member-more.new.buffer c.loop-position-test.true c.loop-position.invariant.1
+    c.fill_member-more.auto.buffer c.fill_member-more.ensures c.if-more.true
 
-pub returns-clause-bytes : goal.returns-clause-bytes
-returns-clause-bytes g c =
-    let left = left_of (map g.T.Tree.state c.args.forest.now.trees.items) (who_view c.args.who) in
-    filled-bytes (left c.args.cursor c.args.members.now) c.args.cursor (length c.args.buffer.now)
-    c.loop-last.buffer c.loop-last.given.size c.loop-last.given.cursor
-    (left c.loop-last.given.cursor c.args.members.now)
-    c.loop-last.auto.buffer c.loop-last.invariant c.give.new.buffer c.in_default.ensures.last
-
-pub returns-clause-cursor : goal.returns-clause-cursor
-returns-clause-cursor g c =
-    let left = left_of (map g.T.Tree.state c.args.forest.now.trees.items) (who_view c.args.who) in
-    filled-cursor (left c.args.cursor c.args.members.now) c.args.cursor (length c.args.buffer.now)
-    c.loop-last.buffer c.loop-last.given.size c.loop-last.given.cursor
-    (left c.loop-last.given.cursor c.args.members.now)
-    c.loop-last.auto.buffer c.loop-last.invariant c.in_default.ensures.last
-
-pub loop-last-smaller : goal.loop-last-smaller
-loop-last-smaller g c =
-    filling-smaller (map g.T.Tree.state c.args.forest.now.trees.items) (who_view c.args.who)
-    c.args.members.now (length c.args.buffer.now) c.loop-last.buffer c.loop-last.given.size
-    c.loop-last.given.cursor c.in-Some.last c.in-Some.size
-    c.well_formed-2.ensures c.loop-last.auto.buffer c.loop-last.invariant.within
-    c.in-Some.ensures.last
+pub loop-position-preserved : goal.loop-position-preserved
+loop-position-preserved g c = (
+  members-next (map g.T.Tree.state c.args.forest.now.trees.items) (who_view c.args.who)
+      c.args.members.now c.args.cursor (length c.args.buffer.now) c.loop-position.buffer
+      c.loop-position.given.size c.loop-position.given.cursor c.loop-position.position
+      c.loop-position.auto.buffer c.loop-position.invariant.0 _ c.fill_member-more.result
+      c.fill_member-more.new.buffer c.loop-position-test.true c.loop-position.invariant.1
+      c.fill_member-more.auto.buffer c.fill_member-more.ensures c.if-more.false,
+  members-reached (map g.T.Tree.state c.args.forest.now.trees.items) (who_view c.args.who)
+      c.args.members.now c.args.cursor (length c.args.buffer.now) c.loop-position.buffer
+      c.loop-position.given.size c.loop-position.given.cursor c.loop-position.position
+      c.loop-position.auto.buffer c.loop-position.invariant.0 _ c.fill_member-more.result
+      c.fill_member-more.new.buffer c.loop-position-test.true c.loop-position.invariant.1
+      c.fill_member-more.auto.buffer c.fill_member-more.ensures,
+  c.if-more.false,
+)

@@ -1,0 +1,15 @@
+use Rattle.std.proofs.Common.{◌≡◌, ◌-◌, false, map, length}
+use Rattle.std.specs.Prelude.{filter}
+use Rattle.p9_step.specs.Listing.{is_behind}
+use Rattle.p9_export.proofs.Listings.{Filling, IsAtMost, entries_in}
+use Rattle.p9_export.proofs.listing.fill_dir.Given as goal
+
+abbrev pub invariant-loop-node : goal.invariant-loop-node
+invariant-loop-node g l =
+    let es = entries_in (map g.T.Tree.state l.forest.trees.items) l.position l.dir in
+    Filling (length l.fn.buffer) (filter (is_behind l.fn.cursor) es) l.fn.cursor l.buffer
+    l.given.size l.given.cursor (filter (is_behind l.given.cursor) es)
+    × IsAtMost l.given.cursor l.position × (l.given.is_full ≡ false)
+
+abbrev pub decreases-loop-node : goal.decreases-loop-node
+decreases-loop-node g l = length l.fn.buffer - l.given.size

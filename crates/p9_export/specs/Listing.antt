@@ -1,0 +1,36 @@
+-- What the functions that read a directory give.
+use Rattle.std.specs.Prelude.{◌≡◌, ℕ, ◌<◌, ◌≤◌, nat_lt, List, ◌++◌, Option, Some, None, length, take}
+use Rattle.std.specs.Prelude.{drop}
+use Rattle.std.specs.List.{flat_map}
+use Rattle.p9_base.specs.declared.node_ref.NodeRef.{NodeRef}
+use Rattle.p9_tree.specs.Node.{Node, is_above}
+use Rattle.p9_fids.specs.declared.opened.Cursor.{Cursor}
+use Rattle.p9_step.specs.Listing.{Entry, entry_at, is_behind}
+use Rattle.p9_step.specs.Read.{cursor_after, entry_bytes, fitting}
+use Rattle.p9_export.specs.declared.listing.Given.{Given}
+
+-- as many of the entries that are left are at the front of the buffer as have room; whether one
+-- has none
+pub record Gives (room : ℕ) (left : List Entry) (from : Option Cursor) (buffer : List ℕ)
+    (given : Given) : Type 0 where
+  pub within : given.size ≤ room
+  pub bytes : take given.size buffer ≡ flat_map entry_bytes (fitting room left)
+  pub last : given.cursor ≡ cursor_after from (fitting room left)
+  pub full : given.is_full ≡ nat_lt (length (fitting room left)) (length left)
+
+-- the position of the cursor's member, or the first
+abbrev pub IsReached : Option Cursor → ℕ → Type 0
+IsReached None position = position ≡ 0
+IsReached (Some last) position = position ≡ last.member
+
+-- of a node in the member at the position: it is above the floor where its entry is behind the
+-- cursor
+abbrev pub IsFloor : Option Cursor → ℕ → Option ℕ → Type 0
+IsFloor cursor position floor =
+    (member : NodeRef) (n : Node) → is_behind cursor (entry_at position member n) ≡ is_above floor n
+
+-- the bytes of a stat are at the front of the buffer, or have no room there
+abbrev pub PutsStat : List ℕ → List ℕ → List ℕ → Option ℕ → Type 0
+PutsStat bytes old new None = (length old < length bytes) × (new ≡ old)
+PutsStat bytes old new (Some size) =
+    (size ≡ length bytes) × (size ≤ length old) × (new ≡ bytes ++ drop size old)
