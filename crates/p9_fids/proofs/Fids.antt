@@ -2,13 +2,15 @@
 use Rattle.std.proofs.Common.{◌≡◌, ℕ, ◌+◌, ◌<◌, ◌≤◌, ◌^◌, Bool, true, false, List, [], length}
 use Rattle.std.proofs.Common.{Option}
 use Rattle.std.proofs.Common.{Some, None, refl, is_some, sym, subst, arith}
-use Rattle.std.specs.Prelude.{◌==◌, nat_le, if◌then◌else◌}
-use Rattle.std.specs.List.{AllByRecursion}
+use Rattle.std.proofs.Common.{◌∷◌}
+use Rattle.std.specs.Prelude.{◌==◌, count_by, nat_le, nat_lt, if◌then◌else◌}
+use Rattle.std.specs.List.{AllByRecursion, list_any}
 use Rattle.std.specs.List.Sorted.{IsStrictlySortedBy}
 use Rattle.std.specs.Ordering.{nat_cmp}
 use Rattle.std.specs.Map.{keys_of, set_value}
 use Rattle.std.specs.BTreeMap.{is_at}
 use Rattle.std.proofs.lemmas.Bool.Decides.{nat_tests}
+use Rattle.std.proofs.lemmas.List.Sums.{sum_by-cons}
 use Rattle.std.proofs.lemmas.Map.{length-set_value}
 use Rattle.p9_base.specs.declared.fault.Fault.{Fault}
 use Rattle.p9_base.specs.declared.fault.Fault.TheVariants.{FidInUse, TooManyFids, UnknownFid}
@@ -88,3 +90,12 @@ fids-changed fid f fids kept = go (fid_at fid fids) refl
     go : (o : Option Fid) → fid_at fid fids ≡ o → IsFids (changed_fid fid f fids)
     go None e = rw e kept
     go (Some v) e = rw e (fids-set (is_at (nat_cmp fid)) fids (f v) kept)
+
+-- some pass where their count is above 0
+pub any-counted : {X : Type 0} (p : X → Bool) (xs : List X)
+    → list_any p xs ≡ nat_lt 0 (count_by p xs)
+any-counted p [] = refl
+any-counted p (x ∷ xs) =
+    let step : count_by p (x ∷ xs) ≡ (if p x then 1 else 0) + count_by p xs =
+    sum_by-cons (λ y. if p y then 1 else 0) x xs in
+    grind (arith, nat_tests, step, any-counted p xs)

@@ -1,11 +1,14 @@
 //! The fids of a session.
 
 ghost use Rattle.std.specs.Prelude.{◌≡◌, ◌⊎◌, [], None, Some, length, slice_get, IfErr, IfSome};
-ghost use Rattle.std.specs.Prelude.{IsSome};
+ghost use Rattle.std.specs.Prelude.{IsSome, nat_lt};
 ghost use Rattle.std.specs.Prelude.{OnErr, OnOk};
 ghost use Rattle.std.specs.Option.{option_copied, option_map};
 ghost use Rattle.p9_base.specs.declared.fault.Fault.TheVariants.{OutOfMemory};
-ghost use Rattle.p9_fids.specs.Fid.{IsFids, IsLeast, changed_fid, fid_at, open_count, opened_as};
+ghost use Rattle.std.specs.List.{list_any};
+ghost use Rattle.std.specs.Map.{values_of};
+ghost use Rattle.p9_fids.specs.Fid.{IsFids, IsLeast, changed_fid, fid_at, is_open_on, open_count};
+ghost use Rattle.p9_fids.specs.Fid.{opened_as};
 ghost use Rattle.p9_fids.specs.Fid.{put_fault, trailed, with_fid, without_fid};
 
 use crate::fid::Fid;
@@ -136,6 +139,19 @@ impl<A: Allocator + Copy> FidTable<A> {
         held.opened = Some(opened);
     }
 
+    /// Whether an open fid has the node as its file. This asks no fid behind the first that has.
+    pub fn has_open(&self, table: &MountTable<A>, node: NodeRef) -> bool
+        ensures { result ≡ nat_lt 0 (open_count table.now node self.now) }
+    {
+        self.any_open(table, node)
+    }
+
+    fn any_open(&self, table: &MountTable<A>, node: NodeRef) -> bool
+        ensures { result ≡ list_any (is_open_on table.now node) (values_of self.now) }
+    {
+        self.fids.values().any(|fid| is_open_on(fid, table, node))
+    }
+
     /// How many open fids have the node as their file: the first member of the place where their
     /// trail ends.
     pub fn open_count(&self, table: &MountTable<A>, node: NodeRef) -> usize
@@ -143,7 +159,14 @@ impl<A: Allocator + Copy> FidTable<A> {
     {
         self.fids
             .values()
-            .filter(|fid| fid.opened.is_some() && table.file(fid.trail.here()) == node)
+            .filter(|fid| is_open_on(fid, table, node))
             .count()
     }
+}
+
+// Whether the fid is open, and has the node as its file.
+fn is_open_on<A: Allocator + Copy>(fid: &Fid<A>, table: &MountTable<A>, node: NodeRef) -> bool
+    ensures { result ≡ is_open_on table.now node fid.now }
+{
+    fid.opened.is_some() && table.file(fid.trail.here()) == node
 }

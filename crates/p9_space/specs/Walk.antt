@@ -1,7 +1,7 @@
 -- Walks over the servers and the mount table, as walk(5).
 use Rattle.std.specs.Prelude.{ℕ, ◌==◌, ◌&&◌, Bool, true, false, not, List, [], ◌∷◌, Option}
-use Rattle.std.specs.Prelude.{None, Result, Ok, Err, is_some, codes, length, if◌then◌else◌}
-use Rattle.std.specs.Option.{option_map, option_map_or, option_or}
+use Rattle.std.specs.Prelude.{None, Some, Result, Ok, Err, is_some, codes, length, if◌then◌else◌}
+use Rattle.std.specs.Option.{option_and_then, option_map, option_map_or, option_or}
 use Rattle.std.specs.List.{list_any}
 use Rattle.std.specs.Str.{bytes_eq}
 use Rattle.p9_base.specs.declared.node_ref.NodeRef.{NodeRef}
@@ -38,6 +38,13 @@ module _ (forest : List Server) where
   child_ref dir name =
       option_map (λ n. record { server = dir.server; number = n.number }) (child_in dir name forest)
 
+  -- why no walk goes on from the members: none is alive, or none is an alive directory
+  abbrev pub dir_fault : List Member → Option Fault
+  dir_fault ms =
+      if not (list_any is_alive ms) then Some PhaseError
+      else if not (list_any is_alive_dir ms) then Some NotDirectory
+      else None
+
   module _ (who : Option Who) where
     -- an alive directory that the user may search
     abbrev pub is_searched : Member → Bool
@@ -48,6 +55,15 @@ module _ (forest : List Server) where
     child_among name [] = None
     child_among name (m ∷ ms) =
         option_or (if is_searched m then child_ref m.node name else None) (child_among name ms)
+
+    -- the child of a name, if there is one, in a member that may be searched
+    abbrev pub named_child : Option (List ℕ) → Member → Option NodeRef
+    named_child name m =
+        if is_searched m then option_and_then (child_ref m.node) name else None
+
+    -- the same among members
+    abbrev pub named_among : Option (List ℕ) → List Member → Option NodeRef
+    named_among name ms = option_and_then (λ n. child_among n ms) name
 
     -- where a name other than `..` leads from the members of the last place
     abbrev pub step_down : List NodeRef → List ℕ → List Member → Result Step Fault

@@ -18,4 +18,4 @@ pub use rights::{TO_EXECUTE, TO_READ, TO_WRITE, Who, may, rules};
 pub use row::{Member, Members, Order};
 pub use table::{MountTable, UnmountError};
 pub use trail::{PLACES_MAX, ROOT_PLACE, Step, Trail};
-pub use walk::{find_step, has_alive, has_alive_dir, resolve};
+pub use walk::{Arrival, dir_fault, find_arrival, find_step, resolve};

@@ -1,14 +1,18 @@
 //! Walks along names, as walk(5).
 
 ghost use Rattle.std.specs.Prelude.{◌≡◌, ◌≤◌, ◌⊎◌, Ok, Err, OnOk, OnErr, IfOk, IfErr, map, length};
-ghost use Rattle.std.specs.Prelude.{is_some};
-ghost use Rattle.std.specs.Option.{option_map};
+ghost use Rattle.std.specs.Prelude.{codes, false, Some};
+ghost use Rattle.std.specs.Option.{option_and_then, option_copied, option_map};
 ghost use Rattle.std.specs.List.{list_any};
+ghost use Rattle.std.specs.Str.{bytes_eq};
 ghost use Rattle.p9_base.specs.declared.fault.Fault.TheVariants.{OutOfMemory};
 ghost use Rattle.p9_space.specs.Rights.{who_view};
 ghost use Rattle.p9_space.specs.Trail.{here, stepped};
-ghost use Rattle.p9_space.specs.Walk.{child_among, child_ref, is_alive, is_alive_dir, is_searched};
-ghost use Rattle.p9_space.specs.Walk.{may_search, step_among, step_down, step_of, walk};
+ghost use Rattle.p9_space.specs.Walk.{child_among, child_ref, dir_fault, is_alive, is_alive_dir};
+ghost use Rattle.p9_space.specs.Walk.{is_searched, may_search, named_among, named_child};
+ghost use Rattle.p9_space.specs.Walk.{step_among, step_of, walk};
+ghost use Rattle.p9_space.specs.Place.{file_ref};
+ghost use Rattle.p9_tree.specs.Forest.{node_of};
 
 use crate::rights::{TO_EXECUTE, Who, may};
 use crate::row::Member;
@@ -28,103 +32,122 @@ fn may_search<A: Allocator, B: Allocator + Copy>(who: Option<Who<'_, B>>, node: 
     }
 }
 
-// A member is alive while its node exists.
-fn is_alive<T: Tree>(forest: &Forest<T>, member: &Member) -> bool
-    ensures { result ≡ is_alive (map T.state forest.now.trees.items) member.now }
-{
-    forest.node(member.node).is_some()
+// What a walk by a name finds in one member of a place, or in all of them.
+#[derive(Clone, Copy)]
+struct Found {
+    // One exists.
+    alive: bool,
+    // One that exists is a directory.
+    dir: bool,
+    // The user may search one of these directories.
+    searched: bool,
+    // The child of the name in the first of those that has one.
+    child: Option<NodeRef>,
 }
 
-fn is_alive_dir<T: Tree>(forest: &Forest<T>, member: &Member) -> bool
-    ensures { result ≡ is_alive_dir (map T.state forest.now.trees.items) member.now }
-{
-    forest.node(member.node).is_some_and(|node| node.is_dir())
-}
-
-// Whether the member is a directory that exists and that the user may search.
-fn is_searched<T: Tree, A: Allocator + Copy>(
+// What a walk finds in a member. Without a name there is no child.
+fn find_in<T: Tree, A: Allocator + Copy>(
     forest: &Forest<T>,
     member: &Member,
+    name: Option<&Name>,
     who: Option<Who<'_, A>>,
-) -> bool
-    ensures { result ≡ is_searched (map T.state forest.now.trees.items)
+) -> Found
+    ensures alive { result.alive ≡ is_alive (map T.state forest.now.trees.items) member.now }
+    ensures dir { result.dir ≡ is_alive_dir (map T.state forest.now.trees.items) member.now }
+    ensures searched { result.searched ≡ is_searched (map T.state forest.now.trees.items)
         (option_map who_view who.entry) member.now }
+    ensures child { result.child ≡ named_child (map T.state forest.now.trees.items)
+        (option_map who_view who.entry) (option_copied name.entry) member.now }
 {
-    match forest.node(member.node) {
-        Some(node) => node.is_dir() && may_search(who, node),
-        None => false,
+    let Some(node) = forest.node(member.node) else {
+        return Found {
+            alive: false,
+            dir: false,
+            searched: false,
+            child: None,
+        };
+    };
+    let dir = node.is_dir();
+    let searched = dir && may_search(who, node);
+    Found {
+        alive: true,
+        dir,
+        searched,
+        child: if searched {
+            child_ref(forest, member.node, name)
+        } else {
+            None
+        },
     }
 }
 
-/// Whether some member exists.
-pub fn has_alive<T: Tree>(forest: &Forest<T>, members: &[Member]) -> bool
-    ensures { result ≡ list_any (is_alive (map T.state forest.now.trees.items)) members.now }
-{
-    members.iter().any(|m| is_alive(forest, m))
-}
-
-/// Whether some member is a directory that exists.
-pub fn has_alive_dir<T: Tree>(forest: &Forest<T>, members: &[Member]) -> bool
-    ensures { result ≡ list_any (is_alive_dir (map T.state forest.now.trees.items)) members.now }
-{
-    members.iter().any(|m| is_alive_dir(forest, m))
-}
-
-fn has_searched<T: Tree, A: Allocator + Copy>(
-    forest: &Forest<T>,
-    members: &[Member],
-    who: Option<Who<'_, A>>,
-) -> bool
-    ensures { result ≡ list_any (is_searched (map T.state forest.now.trees.items)
-        (option_map who_view who.entry)) members.now }
-{
-    members.iter().any(|m| is_searched(forest, m, who))
-}
-
-// The node of the name in the directory, as a place.
-fn child_ref<T: Tree>(forest: &Forest<T>, dir: NodeRef, name: &Name) -> Option<NodeRef>
-    ensures { result ≡ child_ref (map T.state forest.now.trees.items) dir name.now }
+// The node of the name in the directory, as a place. Without a name there is none.
+fn child_ref<T: Tree>(forest: &Forest<T>, dir: NodeRef, name: Option<&Name>) -> Option<NodeRef>
+    ensures { result ≡ option_and_then (child_ref (map T.state forest.now.trees.items) dir)
+        (option_copied name.entry) }
 {
     forest
-        .child(dir, name)
+        .child(dir, name?)
         .map(|node| dir.beside(node.number()))
 }
 
-// The child of the name in the first member that may be searched and has one.
-fn child_among<T: Tree, A: Allocator + Copy>(
+// What a walk finds in the members, up to the first that has a child of the name.
+fn find_among<T: Tree, A: Allocator + Copy>(
     forest: &Forest<T>,
     members: &[Member],
-    name: &Name,
+    name: Option<&Name>,
     who: Option<Who<'_, A>>,
-) -> Option<NodeRef>
-    ensures { result ≡ child_among (map T.state forest.now.trees.items)
-        (option_map who_view who.entry) name.now members.now }
+) -> Found
+    ensures alive { result.alive
+        ≡ list_any (is_alive (map T.state forest.now.trees.items)) members.now }
+    ensures dir { result.dir
+        ≡ list_any (is_alive_dir (map T.state forest.now.trees.items)) members.now }
+    ensures searched { result.searched ≡ list_any (is_searched (map T.state forest.now.trees.items)
+        (option_map who_view who.entry)) members.now }
+    ensures child { result.child ≡ named_among (map T.state forest.now.trees.items)
+        (option_map who_view who.entry) (option_copied name.entry) members.now }
 {
+    let mut alive = false;
+    let mut dir = false;
+    let mut searched = false;
     for member in members {
-        if is_searched(forest, member, who) {
-            if let Some(child) = child_ref(forest, member.node, name) {
-                return Some(child);
-            }
+        let found = find_in(forest, member, name, who);
+        if found.child.is_some() {
+            return found;
         }
+        alive = alive || found.alive;
+        dir = dir || found.dir;
+        searched = searched || found.searched;
     }
-    None
+    Found {
+        alive,
+        dir,
+        searched,
+        child: None,
+    }
 }
 
 // The same for any text: one that is no valid name belongs to no node.
-fn find_child<T: Tree, A: Allocator + Copy>(
+fn find_by<T: Tree, A: Allocator + Copy>(
     forest: &Forest<T>,
     members: &[Member],
     name: &str,
     who: Option<Who<'_, A>>,
-) -> Option<NodeRef>
-    ensures { result ≡ child_among (map T.state forest.now.trees.items)
+) -> Found
+    ensures alive { result.alive
+        ≡ list_any (is_alive (map T.state forest.now.trees.items)) members.now }
+    ensures dir { result.dir
+        ≡ list_any (is_alive_dir (map T.state forest.now.trees.items)) members.now }
+    ensures searched { result.searched ≡ list_any (is_searched (map T.state forest.now.trees.items)
+        (option_map who_view who.entry)) members.now }
+    ensures child { result.child ≡ child_among (map T.state forest.now.trees.items)
         (option_map who_view who.entry) name.now members.now }
 {
     match Name::new(name) {
-        Some(name) => child_among(forest, members, &name, who),
+        Some(name) => find_among(forest, members, Some(&name), who),
         None => {
             forest.well_formed();
-            None
+            find_among(forest, members, None, who)
         }
     }
 }
@@ -137,15 +160,23 @@ fn step_down<T: Tree, A: Allocator + Copy>(
     name: &str,
     who: Option<Who<'_, A>>,
 ) -> Result<Step, Fault>
-    requires { length trail.now ≤ PLACES_MAX }
+    requires few { length trail.now ≤ PLACES_MAX }
+    requires other { bytes_eq name.now (codes "..") ≡ false }
     ensures room { IfOk result (λ step. length (stepped trail.now step) ≤ PLACES_MAX) }
-    ensures step { result ≡ step_down (map T.state forest.now.trees.items)
+    ensures step { result ≡ step_among (map T.state forest.now.trees.items)
         (option_map who_view who.entry) trail.now name.now members.now }
 {
-    if !has_searched(forest, members, who) {
+    let found = find_by(forest, members, name, who);
+    if !found.alive {
+        return Err(Fault::PhaseError);
+    }
+    if !found.dir {
+        return Err(Fault::NotDirectory);
+    }
+    if !found.searched {
         return Err(Fault::PermissionDenied);
     }
-    match find_child(forest, members, name, who) {
+    match found.child {
         None => Err(Fault::NotFound),
         Some(place) => {
             if trail.len() == PLACES_MAX {
@@ -154,6 +185,27 @@ fn step_down<T: Tree, A: Allocator + Copy>(
                 Ok(Step::To(place))
             }
         }
+    }
+}
+
+/// Why no walk goes on from the members of a place, if so: none exists, [`Fault::PhaseError`]; or
+/// none that exists is a directory, [`Fault::NotDirectory`].
+pub fn dir_fault<T: Tree>(forest: &Forest<T>, members: &[Member]) -> Option<Fault>
+    ensures { result ≡ dir_fault (map T.state forest.now.trees.items) members.now }
+{
+    let mut alive = false;
+    for member in members {
+        if let Some(node) = forest.node(member.node) {
+            if node.is_dir() {
+                return None;
+            }
+            alive = true;
+        }
+    }
+    if alive {
+        Some(Fault::NotDirectory)
+    } else {
+        Some(Fault::PhaseError)
     }
 }
 
@@ -170,26 +222,66 @@ fn step_among<T: Tree, A: Allocator + Copy>(
     ensures step { result ≡ step_among (map T.state forest.now.trees.items)
         (option_map who_view who.entry) trail.now name.now members.now }
 {
-    if !has_alive(forest, members) {
-        return Err(Fault::PhaseError);
+    if name != ".." {
+        return step_down(forest, trail, members, name, who);
     }
-    if !has_alive_dir(forest, members) {
-        return Err(Fault::NotDirectory);
+    match dir_fault(forest, members) {
+        Some(fault) => Err(fault),
+        None => Ok(Step::Up),
     }
-    if name == ".." {
-        return Ok(Step::Up);
-    }
-    step_down(forest, trail, members, name, who)
 }
 
-/// One step of a walk from the last place of a trail, by any text as a name. Without a user it
-/// isn't tested whether a directory may be searched.
+/// Where a step of a walk arrives.
+#[derive(Drop)]
+pub struct Arrival<'a, A: Allocator + Copy> {
+    /// The step.
+    pub step: Step,
+    /// The file of the place that it leads to.
+    pub at: NodeRef,
+    /// The node of that file.
+    pub file: &'a Node<A>,
+}
+
+/// One step of a walk from the last place of a trail, by any text as a name, and the file where it
+/// arrives. Without a user it isn't tested whether a directory may be searched.
 ///
 /// The first that applies is the fault: no member of the last place exists: [`Fault::PhaseError`];
 /// none that exists is a directory: [`Fault::NotDirectory`]; for a name other than `..`, none of
 /// these directories may be searched by the user: [`Fault::PermissionDenied`]; none that may has a
 /// child of the name: [`Fault::NotFound`]; the trail has [`PLACES_MAX`] places:
 /// [`Fault::PathTooDeep`]; and the file of the new last place doesn't exist: [`Fault::PhaseError`].
+pub fn find_arrival<'a, T: Tree, A: Allocator + Copy, B: Allocator + Copy>(
+    forest: &'a Forest<T>,
+    table: &MountTable<A>,
+    trail: &Trail<B>,
+    name: &str,
+    who: Option<Who<'_, B>>,
+) -> Result<Arrival<'a, T::Alloc>, Fault>
+    ensures ok { IfOk result (λ arrival. step_of (map T.state forest.now.trees.items) table.now
+        (option_map who_view who.entry) trail.now name.now ≡ Ok arrival.step) }
+    ensures err { IfErr result (λ fault. step_of (map T.state forest.now.trees.items) table.now
+        (option_map who_view who.entry) trail.now name.now ≡ Err fault) }
+    ensures at { IfOk result (λ arrival. arrival.at
+        ≡ file_ref (here (stepped trail.now arrival.step)) table.now) }
+    ensures file { IfOk result (λ arrival. node_of arrival.at (map T.state forest.now.trees.items)
+        ≡ Some arrival.file.now) }
+    ensures room { IfOk result (λ arrival. length (stepped trail.now arrival.step) ≤ PLACES_MAX) }
+{
+    let step = step_among(
+        forest,
+        trail,
+        table.members(trail.here()).as_slice(),
+        name,
+        who,
+    )?;
+    let at = table.file(trail.place_after(step));
+    match forest.node(at) {
+        Some(file) => Ok(Arrival { step, at, file }),
+        None => Err(Fault::PhaseError),
+    }
+}
+
+/// The step alone of [`find_arrival`].
 pub fn find_step<T: Tree, A: Allocator + Copy, B: Allocator + Copy>(
     forest: &Forest<T>,
     table: &MountTable<A>,
@@ -201,17 +293,10 @@ pub fn find_step<T: Tree, A: Allocator + Copy, B: Allocator + Copy>(
         (option_map who_view who.entry) trail.now name.now }
     ensures room { IfOk result (λ step. length (stepped trail.now step) ≤ PLACES_MAX) }
 {
-    let step = step_among(
-        forest,
-        trail,
-        table.members(trail.here()).as_slice(),
-        name,
-        who,
-    )?;
-    if forest.node(table.file(trail.place_after(step))).is_none() {
-        return Err(Fault::PhaseError);
+    match find_arrival(forest, table, trail, name, who) {
+        Ok(arrival) => Ok(arrival.step),
+        Err(fault) => Err(fault),
     }
-    Ok(step)
 }
 
 /// Walks from a trail along names, each any text; the answer is a trail of its own. The fault is

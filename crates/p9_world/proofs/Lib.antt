@@ -3,3 +3,5 @@ pub mod Lists
 pub mod Worlds
 pub mod Readings
 pub mod Members
+pub mod TextPositions
+pub mod Readers

@@ -1,6 +1,6 @@
 -- The world of a text, once its statements are read.
 use Rattle.std.proofs.Common.{◌≡◌, ℕ, ◌<◌, ◌≤◌, List, length, drop, map, Result, Ok, Err, refl, sym}
-use Rattle.std.proofs.Common.{Bool, arith, true, ◌==◌, ◌∙◌}
+use Rattle.std.proofs.Common.{Bool, arith, false, true, ◌==◌, ◌∙◌}
 use Rattle.std.proofs.lemmas.Bool.{lt-ltb}
 use Rattle.std.proofs.lemmas.Bool.Decides.{nat_tests}
 use Rattle.p9_base.specs.Statement.{statements_of}
@@ -52,3 +52,7 @@ Tells-world_of NoMemory text step told comes = tt
 -- a test of emptiness that holds
 pub is-zero : (tested : Bool) (n : ℕ) → tested ≡ (n == 0) → tested ≡ true → n ≡ 0
 is-zero tested n is holds = grind (arith, nat_tests)
+
+-- one that doesn't hold
+pub is-positive : (tested : Bool) (n : ℕ) → tested ≡ (n == 0) → tested ≡ false → 0 < n
+is-positive tested n is fails = grind (arith, nat_tests)

@@ -9,4 +9,6 @@ pub mod User
 pub mod Group
 pub mod Hide
 pub mod Variable
+pub mod Positions
+pub mod Reader
 pub mod Read

@@ -11,7 +11,7 @@ ghost use Rattle.p9_world.specs.Path.{last_and_rest};
 use crate::error::{LineError, LineFault};
 use crate::mode::{file_mode_in, permissions_in};
 use crate::path::{dir_of, last_and_rest, names_of};
-use crate::world::World;
+use crate::reader::Reader;
 use p9_base::{Kind, Mode, Name, NoMemory, Permissions, User};
 use p9_tree::{FILE_MAX, NEXT_MAX, New, Tree};
 use std::alloc::Allocator;
@@ -19,7 +19,7 @@ use std::alloc::Allocator;
 /// A directory joins the last server, or the root of that server is changed.
 pub(crate) fn add_dir<T: Tree>(
     alloc: T::Alloc,
-    world: &mut World<T>,
+    world: &mut Reader<T>,
     path: &str,
     mode: &str,
     uid: &str,
@@ -37,7 +37,7 @@ pub(crate) fn add_dir<T: Tree>(
 /// A file joins the last server.
 pub(crate) fn add_file<T: Tree>(
     alloc: T::Alloc,
-    world: &mut World<T>,
+    world: &mut Reader<T>,
     path: &str,
     mode: &str,
     uid: &str,

@@ -7,7 +7,7 @@ ghost use Rattle.p9_world.specs.Group.{IsBadUser, are_distinct, group_line};
 ghost use Rattle.p9_world.specs.Meaning.{Makes};
 
 use crate::error::{LineError, LineFault};
-use crate::world::World;
+use crate::reader::Reader;
 use p9_base::{Group, User};
 use p9_tree::Tree;
 use std::alloc::Allocator;
@@ -15,7 +15,7 @@ use std::alloc::Allocator;
 /// A group of this name, leader and members joins those that are listed.
 pub(crate) fn add_group<T: Tree>(
     alloc: T::Alloc,
-    world: &mut World<T>,
+    world: &mut Reader<T>,
     name: &str,
     leader: &str,
     members: &[&str],

@@ -2,27 +2,25 @@
 
 ghost use Rattle.std.specs.Prelude.{◌≡◌, ◌<◌, Ok};
 ghost use Rattle.p9_tree.specs.Forest.{next_of};
-ghost use Rattle.p9_world.specs.Hide.{hide_line, is_hidden_by, with_hidden};
-ghost use Rattle.p9_base.specs.NodeRef.{same_node};
+ghost use Rattle.p9_world.specs.Hide.{hide_line, with_hidden};
 ghost use Rattle.p9_world.specs.Meaning.{Makes};
 
 use crate::error::{LineError, LineFault};
 use crate::path::{dir_of, names_of};
-use crate::server::server_number;
-use crate::world::World;
+use crate::reader::Reader;
 use p9_base::NodeRef;
 use p9_tree::Tree;
 
 /// The directory joins those that are hidden.
 pub(crate) fn hide<T: Tree>(
     alloc: T::Alloc,
-    world: &mut World<T>,
+    world: &mut Reader<T>,
     server: &str,
     path: &str,
 ) -> Result<(), LineError>
     ensures { Makes (hide_line server.now path.now world.old) world.old world.new result }
 {
-    let Some(server) = server_number(server, world.servers.as_slice()) else {
+    let Some(server) = world.server_positions.of(server) else {
         return Err(LineError::Bad(LineFault::NoServer));
     };
     let Some(names) = names_of(alloc, path)? else {
@@ -41,20 +39,15 @@ pub(crate) fn hide<T: Tree>(
 }
 
 // Adds a directory that isn't hidden yet.
-fn add_hidden<T: Tree>(world: &mut World<T>, node: NodeRef) -> Result<(), LineError>
+fn add_hidden<T: Tree>(world: &mut Reader<T>, node: NodeRef) -> Result<(), LineError>
     requires { node.number < next_of node.server world.old.forest }
     ensures { Makes (with_hidden node world.old) world.old world.new result }
 {
-    if is_hidden_by(world.hidden.as_slice(), node) {
+    if world.hidden_set.contains(&node) {
         return Err(LineError::Bad(LineFault::Duplicate));
     }
-    world.hidden.push(node)?;
+    world.hidden.reserve(1)?;
+    world.hidden_set.insert(node)?;
+    world.hidden.push(node).unwrap();
     Ok(())
-}
-
-// Whether the directory is hidden already.
-fn is_hidden_by(hidden: &[NodeRef], node: NodeRef) -> bool
-    ensures { result ≡ is_hidden_by hidden.now node }
-{
-    hidden.iter().any(|other| *other == node)
 }

@@ -10,6 +10,7 @@ use crate::entry::{add_dir, add_file};
 use crate::error::{LineError, LineFault, WorldError};
 use crate::group::add_group;
 use crate::hide::hide;
+use crate::reader::Reader;
 use crate::server::add_server;
 use crate::user::add_user;
 use crate::variable::set_variable;
@@ -32,7 +33,7 @@ pub fn read_world<T: Tree>(alloc: T::Alloc, text: &str) -> Result<World<T>, Worl
     ensures ok { IfOk result (λ world. world_of text.now ≡ Ok world) }
     ensures err { IfErr result (λ error. Tells error (world_of text.now)) }
 {
-    let mut world = World::new(alloc);
+    let mut world = Reader::new(alloc);
     for statement in &statements(alloc, text)? {
         read_statement(alloc, &mut world, statement)?;
     }
@@ -42,13 +43,13 @@ pub fn read_world<T: Tree>(alloc: T::Alloc, text: &str) -> Result<World<T>, Worl
             kind: LineFault::NoServer,
         });
     }
-    Ok(world)
+    Ok(world.into_world())
 }
 
 // Makes the change of one statement.
 fn read_statement<T: Tree, A: Allocator>(
     alloc: T::Alloc,
-    world: &mut World<T>,
+    world: &mut Reader<T>,
     statement: &Statement<'_, A>,
 ) -> Result<(), WorldError>
     ensures { Steps (read_statement world.old (statement_view statement.now)) world.new result }
@@ -78,7 +79,7 @@ enum Operation {
 // Makes the change of a line of these words.
 fn read_line<T: Tree>(
     alloc: T::Alloc,
-    world: &mut World<T>,
+    world: &mut Reader<T>,
     words: &[&str],
 ) -> Result<(), LineError>
     ensures { Makes (line_meaning (map (λ w. w.now) words.now) world.old) world.old world.new
@@ -119,7 +120,7 @@ fn operation_of(word: &str) -> Option<Operation>
 // Does an operation on the words that follow.
 fn operate<T: Tree>(
     alloc: T::Alloc,
-    world: &mut World<T>,
+    world: &mut Reader<T>,
     operation: Operation,
     words: &[&str],
 ) -> Result<(), LineError>

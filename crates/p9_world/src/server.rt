@@ -1,15 +1,14 @@
 //! Lines `server NAME`.
 
-ghost use Rattle.std.specs.Prelude.{◌≡◌, map, string_bytes};
+ghost use Rattle.std.specs.Prelude.{◌≡◌};
 ghost use Rattle.std.specs.List.{list_any};
 ghost use Rattle.p9_world.specs.Meaning.{Makes};
-ghost use Rattle.p9_world.specs.Server.{is_reserved, is_server_name, server_line, server_number};
+ghost use Rattle.p9_world.specs.Server.{is_reserved, is_server_name, server_line};
 
 use crate::error::{LineError, LineFault};
-use crate::world::World;
+use crate::reader::Reader;
 use p9_base::SERVERS_MAX;
 use p9_tree::Tree;
-use std::alloc::Allocator;
 
 // The most bytes of a server's name.
 const SERVER_NAME_MAX: usize = 63;
@@ -17,7 +16,7 @@ const SERVER_NAME_MAX: usize = 63;
 /// A server of this name, with a root of mode 755 that belongs to `sys`, joins behind the others.
 pub(crate) fn add_server<T: Tree>(
     alloc: T::Alloc,
-    world: &mut World<T>,
+    world: &mut Reader<T>,
     name: &str,
 ) -> Result<(), LineError>
     ensures { Makes (server_line name.now world.old) world.old world.new result }
@@ -25,25 +24,20 @@ pub(crate) fn add_server<T: Tree>(
     if !is_server_name(name) {
         return Err(LineError::Bad(LineFault::BadName));
     }
-    if server_number(name, world.servers.as_slice()).is_some() {
+    if world.server_positions.has(name) {
         return Err(LineError::Bad(LineFault::Duplicate));
     }
     if world.servers.len() >= SERVERS_MAX {
         return Err(LineError::Bad(LineFault::TooMany));
     }
     let tree = T::with_root(alloc)?;
-    let name = String::from_str(alloc, name)?;
+    let owned = String::from_str(alloc, name)?;
     world.forest.trees.reserve(1)?;
-    world.servers.push(name)?;
+    world.servers.reserve(1)?;
+    world.server_positions.insert(name, world.servers.len())?;
+    world.servers.push(owned).unwrap();
     world.forest.trees.push(tree).unwrap();
     Ok(())
-}
-
-/// The number of the server of this name.
-pub(crate) fn server_number<A: Allocator>(name: &str, servers: &[String<A>]) -> Option<usize>
-    ensures { result ≡ server_number name.now (map string_bytes servers.now) }
-{
-    servers.iter().position(|other| other.as_str() == name)
 }
 
 // Whether a server may be called so.

@@ -3,18 +3,16 @@
 ghost use Rattle.std.specs.Prelude.{◌≡◌, ◌==◌, ◌||◌};
 ghost use Rattle.std.specs.List.{list_any};
 ghost use Rattle.p9_world.specs.Meaning.{Makes};
-ghost use Rattle.p9_world.specs.Variable.{is_set, is_variable_name, set_line};
-ghost use Rattle.p9_base.specs.Variable.{variables_of};
+ghost use Rattle.p9_world.specs.Variable.{is_variable_name, set_line};
 
 use crate::error::{LineError, LineFault};
-use crate::world::World;
+use crate::reader::Reader;
 use p9_tree::Tree;
-use std::alloc::Allocator;
 
 /// A variable of this name and value joins the others.
 pub(crate) fn set_variable<T: Tree>(
     alloc: T::Alloc,
-    world: &mut World<T>,
+    world: &mut Reader<T>,
     name: &str,
     value: &str,
 ) -> Result<(), LineError>
@@ -23,20 +21,15 @@ pub(crate) fn set_variable<T: Tree>(
     if !is_variable_name(name) {
         return Err(LineError::Bad(LineFault::BadName));
     }
-    if is_set(name, world.vars.as_slice()) {
+    if world.variable_positions.has(name) {
         return Err(LineError::Bad(LineFault::Duplicate));
     }
-    let name = String::from_str(alloc, name)?;
+    let owned = String::from_str(alloc, name)?;
     let value = String::from_str(alloc, value)?;
-    world.vars.push((name, value))?;
+    world.vars.reserve(1)?;
+    world.variable_positions.insert(name, world.vars.len())?;
+    world.vars.push((owned, value)).unwrap();
     Ok(())
-}
-
-// Whether a variable of this name has a value already.
-fn is_set<A: Allocator>(name: &str, vars: &[(String<A>, String<A>)]) -> bool
-    ensures { result ≡ is_set name.now (variables_of vars.now) }
-{
-    vars.iter().any(|var| var.0.as_str() == name)
 }
 
 // Whether a variable may be called so.

@@ -1,7 +1,6 @@
 //! A world, as the lines of its text make it.
 
-ghost use Rattle.std.specs.Prelude.{◌≡◌};
-ghost use Rattle.p9_world.specs.World.{IsWorld, empty_world};
+ghost use Rattle.p9_world.specs.World.{IsWorld};
 
 use p9_base::{Groups, NodeRef, User};
 use p9_tree::{Forest, Tree};
@@ -42,22 +41,6 @@ impl<T: Tree> Model for World<T> {
 }
 
 impl<T: Tree> World<T> {
-    // The world of no lines. This takes no memory.
-    pub(crate) fn new(alloc: T::Alloc) -> World<T>
-        ensures { result ≡ empty_world }
-    {
-        World {
-            forest: Forest {
-                trees: Vec::new(alloc),
-            },
-            users: Vec::new(alloc),
-            groups: Groups::new(alloc),
-            hidden: Vec::new(alloc),
-            vars: Vec::new(alloc),
-            servers: Vec::new(alloc),
-        }
-    }
-
     /// Each tree has one name, which no other has, and each hidden number lies below its server's
     /// next number. This does nothing when it runs; it is for a caller that has to know so.
     pub fn well_formed(&self)

@@ -7,10 +7,17 @@ pub invariant_of-world-2 : goal.invariant_of-world-2
 invariant_of-world-2 g c =
     let some : 0 < length c.world.inside.forest.trees.items =
     omega (arith, c.in-Some.ensures.variant.0 refl, c.world.inside.forest.trees.ok.0) in
-    IsWorld-last g.T.Tree.state c.world.inside.forest.trees.items c.in-Some.tree.now
-    c.add_file_to.new.tree _ c.world.inside.forest.trees.ok.0 some c.in-Some.ensures.value
-    _ _ _ _ _
-    c.world.invariant c.add_file_to.ensures.next
+    record {
+      world =
+          IsWorld-last g.T.Tree.state c.world.inside.forest.trees.items c.in-Some.tree.now
+          c.add_file_to.new.tree _ c.world.inside.forest.trees.ok.0 some c.in-Some.ensures.value
+          _ _ _ _ _
+          c.world.invariant.world c.add_file_to.ensures.next;
+      users = c.world.invariant.users;
+      vars = c.world.invariant.vars;
+      servers = c.world.invariant.servers;
+      hidden = c.world.invariant.hidden;
+    }
 
 pub returns : goal.returns
 returns g c =

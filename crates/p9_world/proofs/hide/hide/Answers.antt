@@ -1,4 +1,4 @@
-use Rattle.std.proofs.Common.{◌≡◌, ◌<◌, map, Some, sym, subst, string_bytes}
+use Rattle.std.proofs.Common.{◌≡◌, ◌<◌, map, Some, sym, subst, ◌∙◌, string_bytes}
 use Rattle.p9_tree.specs.Forest.{server_at}
 use Rattle.p9_tree.specs.Server.{Server}
 use Rattle.p9_world.specs.Path.{dir_of, names_of}
@@ -9,13 +9,14 @@ use Rattle.p9_world.proofs.hide.hide.Goals as goal
 pub add_hidden-requires : goal.add_hidden-requires
 add_hidden-requires g c =
     let at : server_number c.args.server.now (map string_bytes c.world.inside.servers.items)
-    ≡ Some c.in-Some.server = rw (← c.as_slice.ensures.value) (sym c.in-Some.ensures) in
+    ≡ Some c.in-Some.server =
+    sym (c.in-Some.ensures ∙ c.world.invariant.servers c.args.server.now) in
     let here =
     server_at-named g.T.Tree.state c.args.server.now c.world.inside.forest.trees.items
-    c.world.inside.servers.items c.in-Some.server c.index.result.now c.world.invariant.named at
+    c.world.inside.servers.items c.in-Some.server c.index.result.now c.world.invariant.world.named at
     c.index.ensures in
     let below : c.in-Some-dir_of.number < (g.T.Tree.state c.index.result.now).next =
-    dir_of-below c.as_slice-2.result.now (g.T.Tree.state c.index.result.now)
+    dir_of-below c.as_slice.result.now (g.T.Tree.state c.index.result.now)
     c.in-Some-dir_of.number (g.met.T.Tree.well_formed c.index.result.now)
     c.in-Some-dir_of.ensures in
     rw (← c.world.view_is)
@@ -24,10 +25,11 @@ add_hidden-requires g c =
 pub returns : goal.returns
 returns g c =
     let at : server_number c.args.server.now (map string_bytes c.world.inside.servers.items)
-    ≡ Some c.in-Some.server = rw (← c.as_slice.ensures.value) (sym c.in-Some.ensures) in
+    ≡ Some c.in-Some.server =
+    sym (c.in-Some.ensures ∙ c.world.invariant.servers c.args.server.now) in
     let here =
     server_at-named g.T.Tree.state c.args.server.now c.world.inside.forest.trees.items
-    c.world.inside.servers.items c.in-Some.server c.index.result.now c.world.invariant.named at
+    c.world.inside.servers.items c.in-Some.server c.index.result.now c.world.invariant.world.named at
     c.index.ensures in
     let names : names_of c.args.path.now ≡ Some c.in-Some-2.names.items =
     sym (rw c.in-Some-2.is at c.in_ok-names.ensures) in
@@ -35,6 +37,6 @@ returns g c =
     ≡ Some c.in-Some.server = rw (← c.world.view_is) at in
     let dir : Some c.in-Some-dir_of.number
     ≡ dir_of c.in-Some-2.names.items (server_at c.in-Some.server c.args.world.now.forest) =
-    rw (← c.world.view_is, here, ← c.as_slice-2.ensures.value) c.in-Some-dir_of.ensures in
+    rw (← c.world.view_is, here, ← c.as_slice.ensures.value) c.in-Some-dir_of.ensures in
     rw (hide_line-found c.args.server.now c.args.path.now c.args.world.now c.in-Some.server
     c.in-Some-dir_of.number c.in-Some-2.names.items at_world names dir) c.add_hidden.ensures

@@ -1,5 +1,4 @@
 use Rattle.std.proofs.Common.{◌≡◌, ◌<◌, length, map, sym, ap, ◌∙◌, arith, string_bytes}
-use Rattle.std.proofs.lemmas.Bool.Decides.{nat_tests}
 use Rattle.std.proofs.lemmas.List.{length-map}
 use Rattle.std.proofs.lemmas.Result.{err_from_is_err_and}
 use Rattle.p9_base.specs.Statement.{statement_view, statements_of}
@@ -7,7 +6,7 @@ use Rattle.p9_base.specs.Results.{try_fold}
 use Rattle.p9_base.proofs.Results.{try_fold-err, try_fold-ok}
 use Rattle.p9_world.specs.Read.{read_statement}
 use Rattle.p9_world.specs.World.{World}
-use Rattle.p9_world.proofs.Readings.{Tells-world_of, is-zero, world_of-none, world_of-ok}
+use Rattle.p9_world.proofs.Readings.{Tells-world_of, is-positive, is-zero, world_of-none, world_of-ok}
 use Rattle.p9_world.proofs.read.read_world.Goals as goal
 
 pub loop-statement-init : goal.loop-statement-init
@@ -67,7 +66,13 @@ returns-clause-ok g c =
     sym (ap (λ (w : World). length w.servers) c.world-2.view_is)
     ∙ length-map c.world-2.inside.servers.items string_bytes in
     let some : 0 < length c.loop-statement.world.servers =
-    grind (arith, nat_tests, c.world-2.inside.servers.ok.0) in
-    world_of-ok statement_view c.deref-statement-items.result.now c.args.text.now same
+    omega (
+      arith,
+      count,
+      c.world-2.inside.servers.ok.0,
+      is-positive c.is_empty.result _ c.is_empty.ensures c.if-is_empty.false,
+    ) in
+    rw c.into_world.ensures
+    (world_of-ok statement_view c.deref-statement-items.result.now c.args.text.now same
     c.loop-statement.world c.loop-statement.statement-index c.loop-statement-test.false
-    c.loop-statement.invariant some
+    c.loop-statement.invariant some)

@@ -1,41 +1,64 @@
-use Rattle.std.proofs.Common.{◌≡◌, ◌<◌, false, true, map, ◌∙◌, sym}
+use Rattle.std.proofs.Common.{◌≡◌, ◌<◌, false, true, map, ap, ◌∙◌, sym}
 use Rattle.std.proofs.Common.{string_bytes, arith, length, is_some}
 use Rattle.std.proofs.lemmas.List.{length-map}
 use Rattle.p9_tree.specs.Server.{rooted}
 use Rattle.p9_world.specs.Server.{is_server_name, server_number}
 use Rattle.p9_base.specs.NodeRef.{servers_max}
 use Rattle.p9_world.proofs.Lists.{map-joined}
+use Rattle.p9_world.specs.Positions.{position_at}
+use Rattle.p9_world.proofs.Readers.{no-position}
+use Rattle.p9_world.proofs.TextPositions.{Indexes-joined}
 use Rattle.p9_world.proofs.Worlds.{IsWorld-with_server, server_line-ok}
 use Rattle.p9_world.proofs.server.add_server.Goals as goal
 
 pub invariant_of-world-2 : goal.invariant_of-world-2
 invariant_of-world-2 g c =
-    let trees = rw (c.unwrap.ensures, c.reserve.ensures.items) at c.push-2.ensures.items in
-    let names = rw (c.in_ok-push.was) at c.push.ensures.items in
+    let trees = rw (c.unwrap-2.ensures, c.reserve.ensures.items) at c.push-2.ensures.items in
+    let names = rw (c.unwrap.ensures, c.reserve-2.ensures.items) at c.push.ensures.items in
     let forest = map-joined g.T.Tree.state _ _ _ rooted trees c.in_ok-tree.ensures in
-    let servers = map-joined string_bytes _ _ _ c.args.name.now names c.in_ok-name.ensures.ok in
+    let servers = map-joined string_bytes _ _ _ c.args.name.now names c.in_ok-owned.ensures.ok in
     let absent : is_some
     (server_number c.args.name.now (map string_bytes c.world.inside.servers.items))
-    ≡ false = rw (← c.as_slice.ensures.value, ← c.server_number.ensures, ← c.is_some.ensures)
-    c.if-is_some.false in
+    ≡ false = ap is_some (sym (c.world.invariant.servers c.args.name.now)) ∙ sym c.has.ensures
+    ∙ c.if-has.false in
     let room : length (map string_bytes c.world.inside.servers.items) < servers_max =
     omega (
       arith,
       length-map c.world.inside.servers.items string_bytes,
       c.world.inside.servers.ok.0,
     ) in
-    rw (forest, servers) (IsWorld-with_server c.args.name.now _ c.world.invariant absent room)
+    record {
+      world = rw (forest, servers)
+          (IsWorld-with_server c.args.name.now _ c.world.invariant.world absent room);
+      users = c.world.invariant.users;
+      vars = c.world.invariant.vars;
+      servers = rw servers
+          (Indexes-joined (map string_bytes c.world.inside.servers.items) c.args.name.now
+          c.len-2.result c.world.inside.server_positions c.insert.new.self
+          c.world.invariant.servers
+          (no-position (position_at c.world.inside.server_positions c.args.name.now)
+          (sym c.has.ensures ∙ c.if-has.false))
+          (omega (
+            arith,
+            c.len-2.ensures,
+            c.reserve-2.ensures.len,
+            length-map c.world.inside.servers.items string_bytes,
+            c.world.inside.servers.ok.0,
+          ))
+          c.in_ok-insert.ensures.ok);
+      hidden = c.world.invariant.hidden;
+    }
 
 pub returns : goal.returns
 returns g c =
-    let trees = rw (c.unwrap.ensures, c.reserve.ensures.items) at c.push-2.ensures.items in
-    let names = rw (c.in_ok-push.was) at c.push.ensures.items in
+    let trees = rw (c.unwrap-2.ensures, c.reserve.ensures.items) at c.push-2.ensures.items in
+    let names = rw (c.unwrap.ensures, c.reserve-2.ensures.items) at c.push.ensures.items in
     let forest = map-joined g.T.Tree.state _ _ _ rooted trees c.in_ok-tree.ensures in
-    let servers = map-joined string_bytes _ _ _ c.args.name.now names c.in_ok-name.ensures.ok in
+    let servers = map-joined string_bytes _ _ _ c.args.name.now names c.in_ok-owned.ensures.ok in
     let absent : is_some
     (server_number c.args.name.now (map string_bytes c.world.inside.servers.items))
-    ≡ false = rw (← c.as_slice.ensures.value, ← c.server_number.ensures, ← c.is_some.ensures)
-    c.if-is_some.false in
+    ≡ false = ap is_some (sym (c.world.invariant.servers c.args.name.now)) ∙ sym c.has.ensures
+    ∙ c.if-has.false in
     let room : length (map string_bytes c.world.inside.servers.items) < servers_max =
     omega (
       arith,

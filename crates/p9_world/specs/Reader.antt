@@ -1,0 +1,32 @@
+-- A world as far as its text is read, with what finds a second line of a name.
+use Rattle.std.specs.Prelude.{◌≡◌, ℕ, List, map}
+use Rattle.std.specs.BTreeSet.{BTreeSet, contains}
+use Rattle.std.specs.declared.cmp.Ordering.{Ordering}
+use Rattle.std.specs.Ordering.{nat_cmp, ordering_then}
+use Rattle.p9_base.specs.declared.node_ref.NodeRef.{NodeRef}
+use Rattle.p9_base.specs.Variable.{Variable}
+use Rattle.p9_world.specs.declared.positions.Positions.{Positions}
+use Rattle.p9_world.specs.Hide.{is_hidden_by}
+use Rattle.p9_world.specs.Positions.{Indexes}
+use Rattle.p9_world.specs.World.{IsWorld, World}
+
+-- nodes by their servers, then by their numbers
+abbrev pub node_cmp : NodeRef → NodeRef → Ordering
+node_cmp a b = ordering_then (nat_cmp a.server b.server) (nat_cmp a.number b.number)
+
+-- the names of variables
+abbrev pub names_of : List Variable → List (List ℕ)
+names_of vars = map (λ var. var.0) vars
+
+-- the set has the hidden directories
+abbrev pub HasHidden : BTreeSet NodeRef → List NodeRef → Type 0
+HasHidden set hidden = (node : NodeRef) → contains node_cmp set node ≡ is_hidden_by hidden node
+
+-- users, variables and servers have their positions, and the set has the hidden directories
+pub record IsReader {Z : Type 0} (w : World) (user_positions var_positions : Positions Z)
+    (server_positions : Positions Z) (hidden_set : BTreeSet NodeRef) : Type 0 where
+  pub world : IsWorld w
+  pub users : Indexes user_positions w.users
+  pub vars : Indexes var_positions (names_of w.vars)
+  pub servers : Indexes server_positions w.servers
+  pub hidden : HasHidden hidden_set w.hidden
