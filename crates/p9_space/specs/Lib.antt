@@ -4,5 +4,6 @@ pub mod Trail
 pub mod Place
 pub mod Rights
 pub mod Walk
+pub mod Channel
 pub mod Given
 pub use Rattle.p9_clean.specs.Path

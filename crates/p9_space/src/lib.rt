@@ -5,6 +5,7 @@
 //! path needs neither, so [`clean`] is p9_clean's.
 #![tactic(auto)]
 
+mod channel;
 mod given;
 mod rights;
 mod row;
@@ -12,6 +13,7 @@ mod table;
 mod trail;
 mod walk;
 
+pub use channel::{Channels, advance, find_arrival_from};
 pub use given::is_table_given;
 pub use p9_clean::clean;
 pub use rights::{TO_EXECUTE, TO_READ, TO_WRITE, Who, may, rules};

@@ -3,6 +3,7 @@
 ghost use Rattle.std.specs.Prelude.{◌≡◌, ◌++◌, ◌<◌, ◌↔◌, [], IsTrue, IsSome, is_some, length};
 ghost use Rattle.std.specs.Prelude.{remove, slice_get, OnOk, OnErr, IfOk, IfErr};
 ghost use Rattle.std.specs.Bool.{OnFalse};
+ghost use Rattle.p9_space.specs.Channel.{row_position};
 ghost use Rattle.p9_space.specs.Place.{file_ref};
 ghost use Rattle.p9_space.specs.Row.{brought, joined};
 ghost use Rattle.p9_space.specs.Table.{IsTable, bound, standing, unmounted, members_of, row_of};
@@ -195,6 +196,30 @@ impl<A: Allocator + Copy> MountTable<A> {
         ensures not_empty { 0 < length result }
     {
         Members::new(self.rows.get(&key).map(|row| row.as_slice()), key)
+    }
+
+    /// The position of the key's row in the table, if it has one.
+    pub fn position(&self, key: NodeRef) -> Option<usize>
+        ensures { result ≡ row_position key self.now }
+    {
+        self.rows.get_index_of(&key)
+    }
+
+    /// The same as [`MountTable::members`], without a look-up of the key, by the position of its
+    /// row, if it has one.
+    pub fn members_at(&self, row: Option<usize>, key: NodeRef) -> Members<'_>
+        requires { row ≡ row_position key self.now }
+        ensures members { result ≡ members_of key self.now }
+        ensures not_empty { 0 < length result }
+    {
+        let row = match row {
+            Some(position) => self.rows.get_index(position),
+            None => None,
+        };
+        match row {
+            Some((_, row)) => Members::new(Some(row.as_slice()), key),
+            None => Members::new(None, key),
+        }
     }
 
     /// The file of a place: its first member, whether it exists or not.

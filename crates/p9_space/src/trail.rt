@@ -84,6 +84,18 @@ impl<A: Allocator + Copy> Trail<A> {
         self.places.len()
     }
 
+    /// The places.
+    pub(crate) fn as_slice(&self) -> &[NodeRef]
+        ensures { result.now ≡ self.now }
+    {
+        self.places.as_slice()
+    }
+
+    /// The allocator that the places are kept in.
+    pub(crate) fn allocator(&self) -> A {
+        *self.places.allocator()
+    }
+
     /// The place at a position, counted from 0, the place of attachment.
     pub fn get(&self, position: usize) -> Option<NodeRef>
         ensures { result ≡ slice_get self.now position }

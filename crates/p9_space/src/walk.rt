@@ -12,6 +12,7 @@ ghost use Rattle.p9_space.specs.Walk.{child_among, child_ref, dir_fault, is_aliv
 ghost use Rattle.p9_space.specs.Walk.{is_searched, may_search, named_among, named_child};
 ghost use Rattle.p9_space.specs.Walk.{step_among, step_of, walk};
 ghost use Rattle.p9_space.specs.Place.{file_ref};
+ghost use Rattle.p9_space.specs.Table.{members_of};
 ghost use Rattle.p9_tree.specs.Forest.{node_of};
 
 use crate::rights::{TO_EXECUTE, Who, may};
@@ -267,13 +268,38 @@ pub fn find_arrival<'a, T: Tree, A: Allocator + Copy, B: Allocator + Copy>(
         ≡ Some arrival.file.now) }
     ensures room { IfOk result (λ arrival. length (stepped trail.now arrival.step) ≤ PLACES_MAX) }
 {
-    let step = step_among(
+    arrival_among(
         forest,
+        table,
         trail,
         table.members(trail.here()).as_slice(),
         name,
         who,
-    )?;
+    )
+}
+
+/// The same from the members of the last place.
+pub(crate) fn arrival_among<'a, T: Tree, A: Allocator + Copy, B: Allocator + Copy>(
+    forest: &'a Forest<T>,
+    table: &MountTable<A>,
+    trail: &Trail<B>,
+    members: &[Member],
+    name: &str,
+    who: Option<Who<'_, B>>,
+) -> Result<Arrival<'a, T::Alloc>, Fault>
+    requires { members.now ≡ members_of (here trail.now) table.now }
+    ensures ok { IfOk result (λ arrival. step_of (map T.state forest.now.trees.items) table.now
+        (option_map who_view who.entry) trail.now name.now ≡ Ok arrival.step) }
+    ensures err { IfErr result (λ fault. step_of (map T.state forest.now.trees.items) table.now
+        (option_map who_view who.entry) trail.now name.now ≡ Err fault) }
+    ensures at { IfOk result (λ arrival. arrival.at
+        ≡ file_ref (here (stepped trail.now arrival.step)) table.now) }
+    ensures file { IfOk result (λ arrival. node_of arrival.at (map T.state forest.now.trees.items)
+        ≡ Some arrival.file.now) }
+    ensures room { IfOk result (λ arrival. length (stepped trail.now arrival.step) ≤ PLACES_MAX) }
+{
+    trail.len();
+    let step = step_among(forest, trail, members, name, who)?;
     let at = table.file(trail.place_after(step));
     match forest.node(at) {
         Some(file) => Ok(Arrival { step, at, file }),

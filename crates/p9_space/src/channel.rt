@@ -1,0 +1,223 @@
+//! Channels: a trail whose places remember where their rows are in a mount table.
+
+ghost use Rattle.std.specs.Prelude.{◌≡◌, ◌++◌, ◌∷◌, ◌<◌, ◌≤◌, ◌⊎◌, [], List, Ok, Err, IfErr, IfOk, IfSome};
+ghost use Rattle.std.specs.Prelude.{OnErr, OnOk, length, map, slice_get};
+ghost use Rattle.std.specs.Option.{option_map};
+ghost use Rattle.p9_base.specs.declared.fault.Fault.TheVariants.{OutOfMemory};
+ghost use Rattle.p9_space.specs.Channel.{Fits, row_position, trail_of};
+ghost use Rattle.p9_space.specs.Place.{file_ref};
+ghost use Rattle.p9_space.specs.Rights.{who_view};
+ghost use Rattle.p9_space.specs.Table.{MountRow, members_of};
+ghost use Rattle.p9_space.specs.Trail.{IsTrail, here, stepped, upward};
+ghost use Rattle.p9_space.specs.Walk.{step_of, walk};
+ghost use Rattle.p9_tree.specs.Forest.{node_of};
+
+use crate::rights::Who;
+use crate::row::Members;
+use crate::table::MountTable;
+use crate::trail::{PLACES_MAX, Step, Trail};
+use crate::walk::{Arrival, arrival_among};
+use p9_base::{Fault, NoMemory, NodeRef};
+use p9_tree::{Forest, Tree};
+use std::alloc::Allocator;
+use std::marker::Model;
+
+/// A trail, and for each of its places the position of its row in a mount table, if it has one
+/// there.
+///
+/// As long as the mount table doesn't change, what is mounted at a place is found by its row,
+/// without a look-up of its key.
+#[derive(Drop)]
+pub struct Channels<A: Allocator> {
+    trail: Trail<A>,
+    rows: Vec<Option<usize>, A>,
+}
+
+impl<A: Allocator> Model for Channels<A> {
+    ghost use Rattle.p9_space.specs.Channel.{Channels as ChannelsOf};
+
+    ghost Value = { ChannelsOf };
+
+    ghost view = { λ c. record { trail = c.trail; rows = c.rows.items } };
+}
+
+impl<A: Allocator + Copy> Channels<A> {
+    /// The trail with the rows of its places.
+    pub fn of<B: Allocator + Copy>(
+        table: &MountTable<B>,
+        trail: Trail<A>,
+    ) -> Result<Channels<A>, NoMemory>
+        ensures trail { IfOk result (λ channels. trail_of channels ≡ trail) }
+        ensures fits { IfOk result (λ channels. Fits table.now channels) }
+    {
+        let mut rows = Vec::new(trail.allocator());
+        for key in trail.as_slice() {
+            rows.push(table.position(*key))?;
+        }
+        Ok(Channels { trail, rows })
+    }
+
+    /// Other channels of the same places and rows.
+    pub fn copy(&self) -> Result<Channels<A>, NoMemory>
+        ensures { IfOk result (λ copy. copy ≡ self.now) }
+    {
+        Ok(Channels {
+            trail: self.trail.copy()?,
+            rows: self.rows.clone()?,
+        })
+    }
+
+    /// The places.
+    pub fn trail(&self) -> &Trail<A>
+        ensures { result.now ≡ trail_of self.now }
+    {
+        &self.trail
+    }
+
+    /// What is mounted at the last place: the members of its row, or its key alone.
+    pub fn members<'a, B: Allocator + Copy>(&self, table: &'a MountTable<B>) -> Members<'a>
+        requires { Fits table.now self.now }
+        ensures members { result ≡ members_of (here (trail_of self.now)) table.now }
+        ensures not_empty { 0 < length result }
+    {
+        let row = self.rows[self.trail.len() - 1];
+        table.members_at(row, self.trail.here())
+    }
+
+    /// The file of the last place: its first member, whether it exists or not.
+    pub fn file<B: Allocator + Copy>(&self, table: &MountTable<B>) -> NodeRef
+        requires { Fits table.now self.now }
+        ensures { result ≡ file_ref (here (trail_of self.now)) table.now }
+    {
+        match self.members(table).get(0) {
+            Some(member) => member.node,
+            None => self.trail.here(),
+        }
+    }
+
+    /// Goes on to a place. Where an allocation fails the channels are unchanged.
+    pub fn push<B: Allocator + Copy>(
+        &mut self,
+        table: &MountTable<B>,
+        place: NodeRef,
+    ) -> Result<(), NoMemory>
+        requires { length (trail_of self.old) < PLACES_MAX }
+        ensures ok { OnOk result (trail_of self.new ≡ trail_of self.old ++ place ∷ []) }
+        ensures fits { OnOk result (Fits table.now self.old → Fits table.now self.new) }
+        ensures err { OnErr result (self.new ≡ self.old) }
+    {
+        self.rows.reserve(1)?;
+        self.trail.push(place)?;
+        self.rows.push(table.position(place))?;
+        Ok(())
+    }
+
+    /// Goes back by one place, as `..` does; at the place of attachment it stays. This takes no
+    /// memory.
+    pub fn step_up(&mut self)
+        ensures trail { trail_of self.new ≡ upward (trail_of self.old) }
+        ensures fits { (table : List MountRow) → Fits table self.old → Fits table self.new }
+    {
+        self.trail.step_up();
+        self.rows.truncate(self.trail.len());
+    }
+
+    /// Takes a step. Where an allocation fails the channels are unchanged.
+    pub fn take<B: Allocator + Copy>(
+        &mut self,
+        table: &MountTable<B>,
+        step: Step,
+    ) -> Result<(), NoMemory>
+        requires { length (stepped (trail_of self.old) step) ≤ PLACES_MAX }
+        ensures ok { OnOk result (trail_of self.new ≡ stepped (trail_of self.old) step) }
+        ensures fits { OnOk result (Fits table.now self.old → Fits table.now self.new) }
+        ensures err { OnErr result (self.new ≡ self.old) }
+    {
+        match step {
+            Step::Up => {
+                self.step_up();
+                Ok(())
+            }
+            Step::To(place) => self.push(table, place),
+        }
+    }
+}
+
+/// One step from the last place, as [`crate::find_arrival`]. The channels are unchanged.
+pub fn find_arrival_from<'a, T: Tree, A: Allocator + Copy, B: Allocator + Copy>(
+    forest: &'a Forest<T>,
+    table: &MountTable<A>,
+    channels: &Channels<B>,
+    name: &str,
+    who: Option<Who<'_, B>>,
+) -> Result<Arrival<'a, T::Alloc>, Fault>
+    requires { Fits table.now channels.now }
+    ensures ok { IfOk result (λ arrival. step_of (map T.state forest.now.trees.items) table.now
+        (option_map who_view who.entry) (trail_of channels.now) name.now ≡ Ok arrival.step) }
+    ensures err { IfErr result (λ fault. step_of (map T.state forest.now.trees.items) table.now
+        (option_map who_view who.entry) (trail_of channels.now) name.now ≡ Err fault) }
+    ensures at { IfOk result (λ arrival. arrival.at
+        ≡ file_ref (here (stepped (trail_of channels.now) arrival.step)) table.now) }
+    ensures file { IfOk result (λ arrival. node_of arrival.at (map T.state forest.now.trees.items)
+        ≡ Some arrival.file.now) }
+    ensures room { IfOk result (λ arrival. length (stepped (trail_of channels.now) arrival.step)
+        ≤ PLACES_MAX) }
+{
+    arrival_among(
+        forest,
+        table,
+        channels.trail(),
+        channels.members(table).as_slice(),
+        name,
+        who,
+    )
+}
+
+/// Walks on from the last place along names, as [`crate::resolve`]. Where a step is refused or an
+/// allocation fails, the channels are unchanged.
+pub fn advance<T: Tree, A: Allocator + Copy, B: Allocator + Copy>(
+    forest: &Forest<T>,
+    table: &MountTable<A>,
+    channels: &mut Channels<B>,
+    names: &[&str],
+    who: Option<Who<'_, B>>,
+) -> Result<(), Fault>
+    requires { Fits table.now channels.old }
+    ensures ok { OnOk result (walk (map T.state forest.now.trees.items) table.now
+        (option_map who_view who.entry) (trail_of channels.old) (map (λ n. n.now) names.now)
+        ≡ Ok (trail_of channels.new)) }
+    ensures fits { Fits table.now channels.new }
+    ensures err { IfErr result (λ fault. (fault ≡ OutOfMemory)
+        ⊎ (walk (map T.state forest.now.trees.items) table.now (option_map who_view who.entry)
+        (trail_of channels.old) (map (λ n. n.now) names.now) ≡ Err fault)) }
+    ensures unchanged { OnErr result (channels.new ≡ channels.old) }
+{
+    let walked = walked_along(forest, table, channels, names, who)?;
+    *channels = walked;
+    Ok(())
+}
+
+// The channels that a walk along names leads to.
+fn walked_along<T: Tree, A: Allocator + Copy, B: Allocator + Copy>(
+    forest: &Forest<T>,
+    table: &MountTable<A>,
+    start: &Channels<B>,
+    names: &[&str],
+    who: Option<Who<'_, B>>,
+) -> Result<Channels<B>, Fault>
+    requires { Fits table.now start.now }
+    ensures ok { IfOk result (λ walked. walk (map T.state forest.now.trees.items) table.now
+        (option_map who_view who.entry) (trail_of start.now) (map (λ n. n.now) names.now)
+        ≡ Ok (trail_of walked)) }
+    ensures fits { IfOk result (λ walked. Fits table.now walked) }
+    ensures err { IfErr result (λ fault. (fault ≡ OutOfMemory)
+        ⊎ (walk (map T.state forest.now.trees.items) table.now (option_map who_view who.entry)
+        (trail_of start.now) (map (λ n. n.now) names.now) ≡ Err fault)) }
+{
+    let mut walked = start.copy()?;
+    for name in names {
+        let arrival = find_arrival_from(forest, table, &walked, name, who)?;
+        walked.take(table, arrival.step)?;
+    }
+    Ok(walked)
+}
