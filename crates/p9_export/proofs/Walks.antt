@@ -11,16 +11,17 @@ use Rattle.p9_base.specs.declared.node_ref.NodeRef.{NodeRef}
 use Rattle.p9_base.specs.declared.qid.Qid.{Qid}
 use Rattle.p9_base.specs.Results.{and_then, given, need, unless}
 use Rattle.p9_tree.specs.Node.{Node}
+use Rattle.p9_tree.specs.Forest.{node_of}
 use Rattle.p9_tree.specs.Server.{Server}
 use Rattle.p9_space.specs.declared.trail.Step.{Step}
-use Rattle.p9_space.specs.Place.{file_of}
-use Rattle.p9_space.specs.Table.{MountRow, members_of}
+use Rattle.p9_space.specs.Place.{file_ref}
+use Rattle.p9_space.specs.Table.{MountRow}
 use Rattle.p9_space.specs.Trail.{here, stepped}
-use Rattle.p9_space.specs.Walk.{arrived, step_among, step_of}
+use Rattle.p9_space.specs.Walk.{step_of}
 use Rattle.p9_fids.specs.declared.opened.Opened.{Opened}
 use Rattle.p9_fids.specs.Fid.{Fid, fid_at}
 use Rattle.p9_step.specs.State.{Setting, Session}
-use Rattle.p9_step.specs.Qid.{qid_at}
+use Rattle.p9_step.specs.Qid.{qid_at, qid_of}
 use Rattle.p9_step.specs.Walk.{Walked, ended_walk, newfid_fault, walk_answer, walk_outcome}
 use Rattle.p9_step.specs.Walk.{walked}
 
@@ -28,25 +29,11 @@ use Rattle.p9_step.specs.Walk.{walked}
 abbrev pub so_far : List Qid → Walked → Walked
 so_far qids rest = record { qids = qids ++ rest.qids; trail = rest.trail; stopped = rest.stopped }
 
--- a step arrives at a file
-pub file-step_of : (forest : List Server) (table : List MountRow) (who : Option Who)
-    (trail : List NodeRef) (name : List ℕ) (step : Step)
-    → step_of forest table who trail name ≡ Ok step
-    → IsSome (file_of (here (stepped trail step)) table forest)
-file-step_of forest table who trail name step found =
-    go (step_among forest who trail name (members_of (here trail) table)) found
-  where
-    by : (s : Step) (file : Option Node) → file_of (here (stepped trail s)) table forest ≡ file
-        → arrived forest table trail s ≡ Ok step
-        → IsSome (file_of (here (stepped trail step)) table forest)
-    by s None e is = let none : Err PhaseError ≡ Ok step = rw e at is in cc
-    by s (Some n) e is =
-        let same : s ≡ step = (let ok : Ok s ≡ Ok step = rw e at is in cc) in rw (← same, e) refl
-
-    go : (r : Result Step Fault) → and_then r (arrived forest table trail) ≡ Ok step
-        → IsSome (file_of (here (stepped trail step)) table forest)
-    go (Err fault) is = cc
-    go (Ok s) is = by s (file_of (here (stepped trail s)) table forest) refl is
+-- the qid of the file where a step arrives
+pub qid-arrived : (table : List MountRow) (forest : List Server) (place at : NodeRef) (n : Node)
+    (qid : Qid) → at ≡ file_ref place table → node_of at forest ≡ Some n → qid ≡ qid_of at n
+    → qid_at table forest place ≡ Some qid
+qid-arrived table forest place at n qid is found told = rw (← is, found, told) refl
 
 module _ (setting : Setting) (forest : List Server) (user : List ℕ) where
   -- one step further

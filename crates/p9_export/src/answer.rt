@@ -1,23 +1,25 @@
 //! The answer to a frame of one session among all.
 
-ghost use Rattle.std.specs.Prelude.{◌≡◌, ◌≤◌, IsSome, IfSome, drop, length, map};
+ghost use Rattle.std.specs.Prelude.{◌≡◌, ◌≤◌, List, IsSome, IfSome, drop, false, length, map};
+ghost use Rattle.std.specs.Option.{option_map_or};
 ghost use Rattle.p9_wire.specs.Message.{t_view};
 ghost use Rattle.p9_wire.specs.Spelling.{read_header};
 ghost use Rattle.p9_export.specs.Answers.{AnswersAmong, CanWrite, frame_among, replied, reply_view};
 ghost use Rattle.p9_export.specs.Room.{IsDataWithin};
 ghost use Rattle.p9_step.specs.Laws.{reply_max};
 ghost use Rattle.p9_step.specs.Sound.{IsSession};
-ghost use Rattle.p9_step.specs.State.{room_of, session_at};
+ghost use Rattle.p9_step.specs.State.{SessionRow, room_of, session_at};
+ghost use Rattle.p9_step.specs.Open.{is_in_use};
 ghost use Rattle.p9_step.specs.Memory.{ran_out};
 ghost use Rattle.p9_step.specs.Step.{finds_taken};
 
 use crate::frame::request_of;
 use crate::message::message;
-use crate::open::is_taken;
+use crate::open::{exclusive_file, is_in_use};
 use crate::reply::Reply;
 use crate::session::Session;
 use crate::setting::Setting;
-use p9_base::Fault;
+use p9_base::{Fault, NodeRef};
 use p9_tree::{Forest, Tree};
 use p9_wire::{READ_HEADER, TMsg};
 use std::collections::BTreeMap;
@@ -51,27 +53,30 @@ pub fn answer<T: Tree>(
         AnswersAmong name answer (ran_out frame.now answer) old new sessions.old.entries
         sessions.new.entries (replied (reply_view new (drop read_header reply.new)) result) }
 {
-    let session = sessions.get(&name).unwrap();
-    let request = request_of(session, frame)?;
-    let taken = finds_taken(setting, forest, sessions, session, &request);
-    let session = sessions.get_mut(&name).unwrap();
     let (_, buffer) = reply.split_at_mut(READ_HEADER);
+    let session = sessions.get_mut(&name).unwrap();
+    let request = request_of(session, frame)?;
+    let Some(at) = wanted_alone(setting, forest, session, &request) else {
+        return message(setting, forest, session, false, now, &request, buffer);
+    };
+    let taken = is_in_use(&setting.table, at, sessions);
+    let session = sessions.get_mut(&name).unwrap();
     message(setting, forest, session, taken, now, &request, buffer)
 }
 
-// Whether an open finds its file taken, by a fid of any session.
-fn finds_taken<T: Tree>(
+// The file that an open asks for, if it is for one fid at a time.
+fn wanted_alone<T: Tree>(
     setting: &Setting<T::Alloc>,
     forest: &Forest<T>,
-    sessions: &BTreeMap<u32, Session<T::Alloc>, T::Alloc>,
     session: &Session<T::Alloc>,
     request: &TMsg<'_>,
-) -> bool
-    ensures { result ≡ finds_taken setting.now
-        (map T.state forest.now.trees.items) sessions.now.entries session.now (t_view request.now) }
+) -> Option<NodeRef>
+    ensures { (sessions : List SessionRow) → finds_taken setting.now
+        (map T.state forest.now.trees.items) sessions session.now (t_view request.now)
+        ≡ option_map_or (λ at. is_in_use setting.now.table at sessions) result false }
 {
     match request {
-        TMsg::Open { fid, .. } => is_taken(setting, forest, sessions, session, *fid),
-        _ => false,
+        TMsg::Open { fid, .. } => exclusive_file(setting, forest, session, *fid),
+        _ => None,
     }
 }

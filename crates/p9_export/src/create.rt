@@ -16,12 +16,12 @@ ghost use Rattle.p9_step.specs.Qid.{qid_of};
 ghost use Rattle.p9_step.specs.Memory.{is_done};
 
 use crate::inherit::inherited;
-use crate::qid::qid_of;
+use crate::qid::new_qid;
 use crate::session::Session;
 use crate::setting::Setting;
 use p9_base::{Fault, Mode, Name, NoMemory, NodeRef, Qid, User};
 use p9_fids::Fid;
-use p9_space::{Member, PLACES_MAX, TO_WRITE, Trail, has_alive, has_alive_dir, may};
+use p9_space::{Member, PLACES_MAX, TO_WRITE, Trail, dir_fault, may};
 use p9_step::Opening;
 use p9_tree::{Forest, NEXT_MAX, New, Node, Tree};
 use std::alloc::Allocator;
@@ -86,11 +86,8 @@ pub fn create<T: Tree>(
 fn target_among<T: Tree>(forest: &Forest<T>, members: &[Member]) -> Result<NodeRef, Fault>
     ensures { result ≡ target_among (map T.state forest.now.trees.items) members.now }
 {
-    if !has_alive(forest, members) {
-        return Err(Fault::PhaseError);
-    }
-    if !has_alive_dir(forest, members) {
-        return Err(Fault::NotDirectory);
+    if let Some(fault) = dir_fault(forest, members) {
+        return Err(fault);
     }
     permitting(members)
         .map(|member| member.node)
@@ -128,18 +125,19 @@ fn create_in<T: Tree>(
     let Some(dir) = forest.node(target) else {
         return Err(Fault::PhaseError);
     };
-    if let Some(fault) = fault_in(setting, forest, held, &name, target, dir) {
+    let next = forest.next_of(target.server);
+    if let Some(fault) = fault_in(setting, forest, held, &name, target, dir, next) {
         return Err(fault);
     }
     let new = new_in(dir, name, asked, held.user, now);
-    let place = target.beside(forest.next_of(target.server));
-    let trail = trail_to(&held.trail, place)?;
+    let trail = trail_to(&held.trail, target.beside(next))?;
     let qid = add_to(forest, target, &new)?;
     enter(session, fid, trail, opening);
     Ok((qid, session.room()))
 }
 
-// Why the fid's user can't make a node of the name in the directory.
+// Why the fid's user can't make a node of the name in the directory, where the server's next number
+// is this.
 fn fault_in<T: Tree>(
     setting: &Setting<T::Alloc>,
     forest: &Forest<T>,
@@ -147,7 +145,9 @@ fn fault_in<T: Tree>(
     name: &Name,
     target: NodeRef,
     dir: &Node<T::Alloc>,
+    next: u64,
 ) -> Option<Fault>
+    requires { next ≡ next_of target.server (map T.state forest.now.trees.items) }
     ensures { result ≡ fault_in setting.now (map T.state forest.now.trees.items) held.now name.now
         target
         dir.now }
@@ -158,7 +158,7 @@ fn fault_in<T: Tree>(
         Some(Fault::PermissionDenied)
     } else if forest.child(target, name).is_some() {
         Some(Fault::FileExists)
-    } else if forest.next_of(target.server) >= NEXT_MAX {
+    } else if next >= NEXT_MAX {
         Some(Fault::QidsUsedUp)
     } else if held.trail.len() >= PLACES_MAX {
         Some(Fault::PathTooDeep)
@@ -213,11 +213,9 @@ fn add_to<T: Tree>(forest: &mut Forest<T>, target: NodeRef, new: &New<'_>) -> Re
     ensures err { OnErr result (map T.state forest.new.trees.items
         ≡ map T.state forest.old.trees.items) }
 {
-    forest.well_formed();
     let at = forest.add(target, new)?;
-    let qid = qid_of(at, forest.node(at).unwrap());
     forest.bump(target, new.muid, new.mtime);
-    Ok(qid)
+    Ok(new_qid(at, new.mode))
 }
 
 // Takes the fid to the end of the trail, where it is open.

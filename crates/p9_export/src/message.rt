@@ -29,7 +29,7 @@ use p9_tree::{Forest, Tree};
 use p9_wire::{RMsg, TMsg};
 
 /// Answers a request of a session. `taken` says that the file that an open asks for is taken
-/// ([`crate::open::is_taken`]). What a read gives is put at the front of `buffer`.
+/// ([`crate::open::exclusive_file`]). What a read gives is put at the front of `buffer`.
 ///
 /// An auth is [`Fault::NoAuthentication`]. A flush has nothing to do, since each request is
 /// answered before the next one. An `Err` leaves the forest and the session.

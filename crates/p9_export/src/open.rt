@@ -1,6 +1,7 @@
 //! The answer to an open, as open(5).
 
-ghost use Rattle.std.specs.Prelude.{◌≡◌, map, false, IfSome, IsSome};
+ghost use Rattle.std.specs.Prelude.{◌≡◌, List, map, false, IfSome, IsSome};
+ghost use Rattle.std.specs.Option.{option_map_or};
 ghost use Rattle.p9_tree.specs.Forest.{node_of};
 ghost use Rattle.p9_export.specs.Answers.{Answers, replied};
 ghost use Rattle.p9_space.specs.Rights.{who_view};
@@ -8,6 +9,7 @@ ghost use Rattle.p9_step.specs.Change.{all_applied};
 ghost use Rattle.p9_step.specs.Open.{is_append_only, is_cut, is_exclusive, is_in_use, is_taken};
 ghost use Rattle.p9_step.specs.Open.{may_open, open_answer, open_reply, truncated, truncation};
 ghost use Rattle.p9_step.specs.Qid.{qid_of};
+ghost use Rattle.p9_step.specs.State.{SessionRow};
 
 use crate::qid::qid_of;
 use crate::rights::may_write_parent;
@@ -22,7 +24,8 @@ use std::collections::BTreeMap;
 
 /// Opens a fid for what the mode's bits ask, and answers the qid of its file and the session's
 /// iounit ([`Session::room`]). Truncation cuts the file to nothing and marks it, but leaves an
-/// append-only file. `taken` says that the file is taken ([`is_taken`]).
+/// append-only file. `taken` says that the file is
+/// taken ([`exclusive_file`]).
 ///
 /// The first that applies refuses, and leaves all: there is no such fid, [`Fault::UnknownFid`]; it
 /// is open, [`Fault::FidOpen`]; its file doesn't exist, [`Fault::PhaseError`]; the mode means
@@ -147,8 +150,8 @@ fn is_exclusive<A: Allocator>(file: &Node<A>) -> bool
     }
 }
 
-// Whether a fid of some session has the file open.
-fn is_in_use<A: Allocator + Copy>(
+/// Whether a fid of some session has the file open.
+pub fn is_in_use<A: Allocator + Copy>(
     table: &MountTable<A>,
     at: NodeRef,
     sessions: &BTreeMap<u32, Session<A>, A>,
@@ -157,26 +160,23 @@ fn is_in_use<A: Allocator + Copy>(
 {
     sessions
         .values()
-        .any(|session| session.fids.open_count(table, at) > 0)
+        .any(|session| session.fids.has_open(table, at))
 }
 
-/// Whether the file of the fid is for one fid at a time, and a fid of some session has it open.
-pub fn is_taken<T: Tree>(
+/// The file of the fid, if it is for one fid at a time: it is taken where a fid of some session has
+/// it open.
+pub fn exclusive_file<T: Tree>(
     setting: &Setting<T::Alloc>,
     forest: &Forest<T>,
-    sessions: &BTreeMap<u32, Session<T::Alloc>, T::Alloc>,
     session: &Session<T::Alloc>,
     fid: u32,
-) -> bool
-    ensures { result ≡ is_taken setting.now (map T.state forest.now.trees.items)
-        sessions.now.entries session.now fid }
+) -> Option<NodeRef>
+    ensures { (sessions : List SessionRow) → is_taken setting.now
+        (map T.state forest.now.trees.items) sessions session.now fid
+        ≡ option_map_or (λ at. is_in_use setting.now.table at sessions) result false }
 {
-    let Some(held) = session.fids.get(fid) else {
-        return false;
-    };
+    let held = session.fids.get(fid)?;
     let at = setting.file(held);
-    match forest.node(at) {
-        Some(file) => is_exclusive(file) && is_in_use(&setting.table, at, sessions),
-        None => false,
-    }
+    let file = forest.node(at)?;
+    if is_exclusive(file) { Some(at) } else { None }
 }

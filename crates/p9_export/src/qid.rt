@@ -1,11 +1,12 @@
 //! The qids of files, and what is told of them, as intro(5) and stat(5).
 
-ghost use Rattle.std.specs.Prelude.{◌≡◌, ◌<◌, ◌≤◌, ◌^◌};
+ghost use Rattle.std.specs.Prelude.{◌≡◌, ◌+◌, ◌*◌, ◌<◌, ◌≤◌, ◌^◌};
+ghost use Rattle.p9_base.specs.Mode.{qid_kind};
 ghost use Rattle.p9_step.specs.Qid.{qid_of, stat_max, stat_of};
 ghost use Rattle.p9_wire.specs.Fields.{FitsStat, stat_len};
 ghost use Rattle.p9_wire.specs.Message.{stat_view};
 
-use p9_base::{NodeRef, Qid};
+use p9_base::{Mode, NodeRef, Qid};
 use p9_tree::Node;
 use p9_wire::Stat;
 use std::alloc::Allocator;
@@ -19,8 +20,32 @@ pub fn qid_of<A: Allocator>(at: NodeRef, file: &Node<A>) -> Qid
     Qid {
         kind: file.mode().qid_kind(),
         version: file.version(),
-        path: (u64::from(at.server) << 48) + at.number,
+        path: path_of(at),
     }
+}
+
+/// The qid of a new file of this mode.
+pub fn new_qid(at: NodeRef, mode: Mode) -> Qid
+    requires { at.number < 2 ^ 48 }
+    ensures { result ≡ record {
+      kind = qid_kind mode;
+      version = 0;
+      path = at.server * 2 ^ 48 + at.number;
+    } }
+{
+    Qid {
+        kind: mode.qid_kind(),
+        version: 0,
+        path: path_of(at),
+    }
+}
+
+// The identity of a file among those of all servers.
+fn path_of(at: NodeRef) -> u64
+    requires { at.number < 2 ^ 48 }
+    ensures { result ≡ at.server * 2 ^ 48 + at.number }
+{
+    (u64::from(at.server) << 48) + at.number
 }
 
 /// What is told of a file, as stat(5). A directory has no bytes.

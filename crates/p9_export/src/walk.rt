@@ -4,12 +4,12 @@ ghost use Rattle.std.specs.Prelude.{◌≡◌, ◌≤◌, List, None, Some, IfOk
 ghost use Rattle.std.specs.Prelude.{length, map, true};
 ghost use Rattle.p9_base.specs.declared.fault.Fault.TheVariants.{OutOfMemory};
 ghost use Rattle.p9_fids.specs.Fid.{fid_at};
-ghost use Rattle.p9_space.specs.Place.{file_of};
-ghost use Rattle.p9_space.specs.Trail.{here, stepped};
+ghost use Rattle.p9_space.specs.Trail.{stepped};
+ghost use Rattle.p9_tree.specs.Forest.{node_of};
 ghost use Rattle.p9_tree.specs.Server.{Server};
 ghost use Rattle.p9_wire.specs.Message.{Rwalk};
 ghost use Rattle.p9_export.specs.Answers.{Answers, replied};
-ghost use Rattle.p9_step.specs.Qid.{qid_at};
+ghost use Rattle.p9_step.specs.Qid.{qid_of};
 ghost use Rattle.p9_step.specs.Walk.{moved, newfid_fault, walk_answer, walk_outcome, walked};
 
 use crate::qid::qid_of;
@@ -17,7 +17,7 @@ use crate::session::Session;
 use crate::setting::Setting;
 use p9_base::{Fault, NOFID, NoMemory, Qid, User};
 use p9_fids::Fid;
-use p9_space::{PLACES_MAX, Step, Trail, find_step};
+use p9_space::{Arrival, PLACES_MAX, Trail, find_arrival};
 use p9_tree::{Forest, Tree};
 use p9_wire::{Names, Qids};
 use std::alloc::Allocator;
@@ -28,7 +28,7 @@ use std::marker::Model;
 ///
 /// The first that applies refuses: the fid isn't there, [`Fault::UnknownFid`]; it is open,
 /// [`Fault::FidOpen`]; newfid is [`NOFID`], [`Fault::UnknownFid`]; newfid is another fid and can't
-/// be added ([`p9_fids::FidTable::put_fault`]); the first step is refused ([`find_step`]). In the
+/// be added ([`p9_fids::FidTable::put_fault`]); the first step is refused ([`find_arrival`]). In the
 /// place of any answer memory may be refused, [`Fault::OutOfMemory`]. A refusal leaves the session.
 pub fn walk<T: Tree>(
     setting: &Setting<T::Alloc>,
@@ -102,14 +102,14 @@ fn walk_along<T: Tree>(
     let mut qids = Qids::new();
     let mut trail = start.copy()?;
     for name in names.as_slice() {
-        match find_step(
+        match find_arrival(
             forest,
             &setting.table,
             &trail,
             name,
             Some(setting.who(user)),
         ) {
-            Ok(step) => qids.push(arrive(setting, forest, &mut trail, step)?),
+            Ok(arrival) => qids.push(arrive(forest, &mut trail, arrival)?),
             Err(fault) => {
                 return Ok(Walked {
                     qids,
@@ -128,24 +128,20 @@ fn walk_along<T: Tree>(
 
 // Takes a step to where a file is, and gives its qid. A refusal leaves the trail.
 fn arrive<T: Tree>(
-    setting: &Setting<T::Alloc>,
     forest: &Forest<T>,
     trail: &mut Trail<T::Alloc>,
-    step: Step,
+    arrival: Arrival<'_, T::Alloc>,
 ) -> Result<Qid, NoMemory>
-    requires room { length (stepped trail.old step) ≤ PLACES_MAX }
-    requires file { IsSome (file_of (here (stepped trail.old step)) setting.now.table
-        (map T.state forest.now.trees.items)) }
-    ensures qid { IfOk result (λ qid. qid_at setting.now.table (map T.state forest.now.trees.items)
-        (here (stepped trail.old step)) ≡ Some qid) }
-    ensures ok { OnOk result (trail.new ≡ stepped trail.old step) }
+    requires room { length (stepped trail.old arrival.step) ≤ PLACES_MAX }
+    requires file { node_of arrival.at (map T.state forest.now.trees.items)
+        ≡ Some arrival.file.now }
+    ensures qid { IfOk result (λ qid. qid ≡ qid_of arrival.entry.at arrival.entry.file.now) }
+    ensures ok { OnOk result (trail.new ≡ stepped trail.old arrival.entry.step) }
     ensures err { OnErr result (trail.new ≡ trail.old) }
 {
-    trail.take(step)?;
-    let at = setting.table.file(trail.here());
-    let file = forest.node(at).unwrap();
+    trail.take(arrival.step)?;
     forest.well_formed();
-    Ok(qid_of(at, file))
+    Ok(qid_of(arrival.at, arrival.file))
 }
 
 // A walk that is stopped at its first name is refused; one that is stopped later moves no fid.

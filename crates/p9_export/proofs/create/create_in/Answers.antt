@@ -44,10 +44,10 @@ returns g c =
     c.new_in-new.ensures in
     let next = next_of c.args.target.server forest in
     let longer : c.in_ok-trail.trail ≡ c.held.inside.trail
-    ++ beside c.args.target c.next_of.result ∷ [] =
-    rw (← c.beside-place.ensures) c.in_ok-trail.ensures in
+    ++ beside c.args.target c.next_of-next.result ∷ [] =
+    rw (← c.beside.ensures) c.in_ok-trail.ensures in
     let trail : c.in_ok-trail.trail ≡ v.trail ++ beside c.args.target next ∷ [] =
-    rw (← c.held.view_is, ← c.next_of.ensures) longer in
+    rw (← c.held.view_is, ← c.next_of-next.ensures) longer in
     let entering : c.enter.new.session
     ≡ entered c.args.fid c.in_ok-trail.trail c.args.opening c.args.session.now =
     c.enter.ensures in

@@ -1,8 +1,9 @@
 use Rattle.p9_step.specs.State.{who_of}
 use Rattle.std.proofs.Common.{ℕ, ◌∙◌, List, [], Some, Bor, map, get_or, refl, sym, arith}
 use Rattle.std.proofs.Common.{length-append}
-use Rattle.p9_export.proofs.Walks.{file-step_of, walked-all, walked-end, walked-turn}
+use Rattle.p9_export.proofs.Walks.{qid-arrived, walked-all, walked-end, walked-turn}
 use Rattle.p9_step.specs.State.{Setting}
+use Rattle.p9_space.specs.Trail.{here, stepped}
 use Rattle.p9_export.proofs.walk.walk_along.Goals as goal
 
 -- what stands for a name past the last
@@ -14,19 +15,6 @@ loop-name-init g c = record {
   count = rw c.new-qids.ensures refl;
   walk = rw (c.new-qids.ensures, c.in_ok-trail.ensures, c.as_slice-name-items.ensures.names) refl;
 }
-
-pub arrive-requires : goal.arrive-requires
-unfolding nameless
-arrive-requires g c =
-    let step = rw c.who.ensures at c.in-Ok.ensures.step in
-    record {
-      room = c.in-Ok.ensures.room;
-      file =
-          rw (← c.setting.view_is)
-          (file-step_of _ c.setting.inside.table (Some (who_of c.args.setting.now c.args.user.now)) c.loop-name.trail
-          (get_or c.as_slice-name-items.result.now c.loop-name.name-index nameless).now c.in-Ok.step
-          (sym step));
-    }
 
 pub push-requires : goal.push-requires
 push-requires g c =
@@ -42,13 +30,17 @@ loop-name-preserved g c =
       groups = c.setting.inside.groups;
       table = c.setting.inside.table;
     } in
-    let step = rw (c.who.ensures, ← c.setting.view_is) at c.in-Ok.ensures.step in
-    let there = rw (← c.setting.view_is) at c.in_ok-arrive-in-Ok.ensures.qid in
+    let step = rw (c.who.ensures, ← c.setting.view_is) at c.in-Ok.ensures.ok in
+    let there =
+    qid-arrived c.setting.inside.table (map g.T.Tree.state c.args.forest.now.trees.items)
+    (here (stepped c.loop-name.trail c.in-Ok.arrival.step)) c.in-Ok.arrival.at
+    c.in-Ok.arrival.file.now c.in_ok-arrive-in-Ok.field-0 c.in-Ok.ensures.at c.in-Ok.ensures.file
+    c.in_ok-arrive-in-Ok.ensures.qid in
     let turn =
     walked-turn setting (map g.T.Tree.state c.args.forest.now.trees.items) c.args.user.now
     c.loop-name.qids c.push.new.self c.loop-name.trail c.arrive.new.trail
-    c.as_slice-name-items.result.now c.loop-name.name-index nameless c.in-Ok.step
-    c.in_ok-arrive-in-Ok.field-0 c.loop-name-test.true (sym step) there
+    c.as_slice-name-items.result.now c.loop-name.name-index nameless c.in-Ok.arrival.step
+    c.in_ok-arrive-in-Ok.field-0 c.loop-name-test.true step there
     c.push.ensures c.in_ok-arrive-in-Ok.ensures.ok in
     record {
       count = rw c.push.ensures (omega (arith, length-append c.loop-name.qids));
@@ -63,11 +55,11 @@ returns-in-Err g c =
       groups = c.setting.inside.groups;
       table = c.setting.inside.table;
     } in
-    let step = rw (c.who.ensures, ← c.setting.view_is) at c.in-Err.ensures.step in
+    let step = rw (c.who.ensures, ← c.setting.view_is) at c.in-Err.ensures.err in
     let end =
     walked-end setting (map g.T.Tree.state c.args.forest.now.trees.items) c.args.user.now
     c.loop-name.qids c.loop-name.trail c.as_slice-name-items.result.now c.loop-name.name-index
-    nameless c.in-Err.fault c.loop-name-test.true (sym step) in
+    nameless c.in-Err.fault c.loop-name-test.true step in
     sym (c.loop-name.invariant.walk ∙ rw (← c.setting.view_is) end)
 
 pub returns : goal.returns
