@@ -50,10 +50,11 @@ impl<A: Allocator + Copy> Channels<A> {
         ensures trail { IfOk result (λ channels. trail_of channels ≡ trail) }
         ensures fits { IfOk result (λ channels. Fits table.now channels) }
     {
-        let mut rows = Vec::new(trail.allocator());
-        for key in trail.as_slice() {
-            rows.push(table.position(*key))?;
-        }
+        let rows = trail
+            .as_slice()
+            .iter()
+            .map(|key| table.position(*key))
+            .collect(trail.allocator())?;
         Ok(Channels { trail, rows })
     }
 

@@ -3,6 +3,7 @@
 ghost use Rattle.std.specs.Prelude.{◌≡◌, ◌++◌, ◌<◌, ◌↔◌, [], IsTrue, IsSome, is_some, length};
 ghost use Rattle.std.specs.Prelude.{remove, slice_get, OnOk, OnErr, IfOk, IfErr};
 ghost use Rattle.std.specs.Bool.{OnFalse};
+ghost use Rattle.std.specs.Option.{option_copied, option_map};
 ghost use Rattle.p9_space.specs.Channel.{row_position};
 ghost use Rattle.p9_space.specs.Place.{file_ref};
 ghost use Rattle.p9_space.specs.Row.{brought, joined};
@@ -212,14 +213,18 @@ impl<A: Allocator + Copy> MountTable<A> {
         ensures members { result ≡ members_of key self.now }
         ensures not_empty { 0 < length result }
     {
-        let row = match row {
-            Some(position) => self.rows.get_index(position),
-            None => None,
-        };
+        let _rows = self.len();
         match row {
-            Some((_, row)) => Members::new(Some(row.as_slice()), key),
+            Some(position) => Members::new(self.members_of_row(position), key),
             None => Members::new(None, key),
         }
+    }
+
+    // The members of the row at a position.
+    fn members_of_row(&self, position: usize) -> Option<&[Member]>
+        ensures { option_copied result ≡ option_map (λ row. row.1) (slice_get self.now position) }
+    {
+        self.rows.get_index(position).map(|(_, row)| row.as_slice())
     }
 
     /// The file of a place: its first member, whether it exists or not.

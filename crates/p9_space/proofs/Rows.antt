@@ -1,0 +1,40 @@
+-- Rows of a mount table by their positions.
+use Rattle.std.proofs.Common.{◌≡◌, ℕ, ◌-◌, Bool, true, false, cond, List, Option, Some, None}
+use Rattle.std.proofs.Common.{sym, ap, ◌∙◌, arith, length, map, take}
+use Rattle.std.specs.Prelude.{nat_lt, slice_get}
+use Rattle.std.specs.Option.{option_map}
+use Rattle.std.proofs.lemmas.Option.{slice_get-map}
+use Rattle.std.proofs.lemmas.List.{length-take-le, take-map, take_all}
+use Rattle.indexmap.proofs.MapLemmas.{Found-position, Missing-position}
+use Rattle.p9_base.specs.declared.node_ref.NodeRef.{NodeRef}
+use Rattle.p9_base.specs.NodeRef.{same_node}
+use Rattle.p9_space.specs.Channel.{row_position, rows_of}
+use Rattle.p9_space.specs.Table.{MountRow, row_of}
+use Rattle.p9_space.specs.Trail.{upward}
+
+-- the row at the key's position is the key's
+pub row_at-position : (key : NodeRef) (table : List MountRow) (i : ℕ)
+    → row_position key table ≡ Some i
+    → option_map (λ row. row.1) (slice_get table i) ≡ row_of key table
+row_at-position key table i at =
+    sym (slice_get-map (λ (row : MountRow). row.1) table i) ∙ sym (Found-position (same_node key) table i at).value
+
+-- without a position the key has no row
+pub row_of-none : (key : NodeRef) (table : List MountRow) → row_position key table ≡ None
+    → row_of key table ≡ None
+row_of-none key table at = (Missing-position (same_node key) table at).value
+
+-- channels fit after a step back
+pub rows-upward : (table : List MountRow) (trail : List NodeRef) (rows : List (Option ℕ))
+    → rows ≡ rows_of table trail → take (length (upward trail)) rows ≡ rows_of table (upward trail)
+rows-upward table trail rows fits =
+    ap (take (length (upward trail))) fits
+    ∙ take-map (λ key. row_position key table) (length (upward trail)) trail
+    ∙ ap (map (λ key. row_position key table)) (front (nat_lt 1 (length trail)))
+  where
+    front : (b : Bool)
+        → take (length (cond b (take (length trail - 1) trail) trail)) trail
+        ≡ cond b (take (length trail - 1) trail) trail
+    front true =
+        ap (λ n. take n trail) (length-take-le (length trail - 1) trail (omega arith))
+    front false = take_all (length trail) trail (omega arith)
