@@ -1,12 +1,12 @@
 //! The calls of mount tables and walks, made from lines.
 
-use crate::telling::{members, row, step, trail};
+use crate::telling::{channels_told, members, row, step, trail};
 use crate::words::{nodes, take_node, take_order, take_position, take_user, take_word};
 use crate::worlds::Space;
 use p9_base::{Fault, Groups, NoMemory, User};
 use p9_space::{
-    MountTable, ROOT_PLACE, TO_EXECUTE, TO_READ, TO_WRITE, Trail, Who, find_step, is_table_given,
-    may, resolve, rules,
+    Channels, MountTable, ROOT_PLACE, TO_EXECUTE, TO_READ, TO_WRITE, Trail, Who, advance,
+    find_step, is_table_given, may, resolve, rules,
 };
 use p9_tree::{Forest, PlainTree, Tree};
 use std::alloc::{AllocError, Allocator, Global};
@@ -30,7 +30,7 @@ fn told(
     let mut rest = words;
     let word = take_word(&mut rest);
     match word {
-        "walk" => walk(alloc, space, &mut rest),
+        "walk" => walk(rt, alloc, space, &mut rest),
         "step" => find(alloc, space, &mut rest),
         "up" => {
             space.trail.step_up();
@@ -69,11 +69,17 @@ fn find(alloc: Global, space: &Space<Global>, line: &mut &str) -> Result<String,
     Ok(step(alloc, found)?)
 }
 
-// Walks on along names, and goes there.
-fn walk(alloc: Global, space: &mut Space<Global>, line: &mut &str) -> Result<String, NoMemory> {
+// Walks on along names, by the trail and by channels, and goes there.
+fn walk(
+    rt: &impl Abort,
+    alloc: Global,
+    space: &mut Space<Global>,
+    line: &mut &str,
+) -> Result<String, NoMemory> {
     let user = take_user(line);
     let names: Vec<&str> = line.split(' ').collect(alloc)?;
-    match resolve(
+    let by_channels = walk_by_channels(alloc, space, names.as_slice(), &user)?;
+    let told = match resolve(
         &space.forest,
         &space.table,
         &space.trail,
@@ -83,8 +89,30 @@ fn walk(alloc: Global, space: &mut Space<Global>, line: &mut &str) -> Result<Str
         Ok(found) => {
             let told = trail(alloc, &space.table, &found)?;
             space.trail = found;
-            Ok(told)
+            told
         }
+        Err(fault) => format!(in alloc; "{fault}")?,
+    };
+    assert_eq!(rt; by_channels.as_str(), told.as_str());
+    Ok(told)
+}
+
+// The same walk by channels. The last place's file is told by its row.
+fn walk_by_channels(
+    alloc: Global,
+    space: &Space<Global>,
+    names: &[&str],
+    user: &Option<User>,
+) -> Result<String, NoMemory> {
+    let mut channels = Channels::of(&space.table, space.trail.copy()?)?;
+    match advance(
+        &space.forest,
+        &space.table,
+        &mut channels,
+        names,
+        who(user, &space.groups),
+    ) {
+        Ok(()) => Ok(channels_told(alloc, &space.table, &channels)?),
         Err(fault) => Ok(format!(in alloc; "{fault}")?),
     }
 }

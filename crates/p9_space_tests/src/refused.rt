@@ -6,7 +6,7 @@ use crate::words::node;
 use crate::worlds::{SMALL, Space, space_of};
 use p9_base::{Fault, NoMemory};
 use p9_refusing::{Refusing, refuse_each};
-use p9_space::{MountTable, PLACES_MAX, Trail, Who, resolve};
+use p9_space::{Channels, MountTable, PLACES_MAX, Trail, Who, advance, resolve};
 use std::alloc::{Allocator, Global};
 use std::process::Abort;
 
@@ -136,6 +136,44 @@ fn walk_again<A: Allocator + Copy>(rt: &impl Abort, alloc: Global, space: &Space
     };
     let told = trail(alloc, &space.table, &found).expect(rt, "memory");
     assert_eq!(rt; told.as_str(), "0 1 2 ");
+}
+
+// The same walk by channels.
+fn walk_by_channels<A: Allocator + Copy>(space: &Space<A>) -> Result<Channels<A>, Fault> {
+    let names = ["a", "b"];
+    let mut channels = Channels::of(&space.table, space.trail.copy()?)?;
+    advance(
+        &space.forest,
+        &space.table,
+        &mut channels,
+        &names,
+        nobody(space),
+    )?;
+    Ok(channels.copy()?)
+}
+
+// Walks so, again where it was refused.
+fn walk_by_channels_again<A: Allocator + Copy>(rt: &impl Abort, alloc: Global, space: &Space<A>) {
+    let found = match walk_by_channels(space) {
+        Ok(found) => found,
+        Err(fault) => {
+            assert_eq!(rt; fault, Fault::OutOfMemory);
+            walk_by_channels(space).expect(rt, "a walk")
+        }
+    };
+    let told = trail(alloc, &space.table, found.trail()).expect(rt, "memory");
+    assert_eq!(rt; told.as_str(), "0 1 2 ");
+}
+
+#[test]
+fn a_walk_by_channels_is_done_again_at_each_refusal(rt: HostRuntime) {
+    let memory = Refusing::new(rt.alloc());
+    let refusals = refuse_each(
+        &memory,
+        || space_of(&rt, &memory, SMALL).expect(&rt, "ample memory"),
+        |space| walk_by_channels_again(&rt, rt.alloc(), &space),
+    );
+    assert!(rt; refusals > 0);
 }
 
 #[test]

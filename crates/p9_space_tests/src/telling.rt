@@ -1,7 +1,9 @@
 //! What is told of tables and trails.
 
+ghost use Rattle.p9_space.specs.Channel.{Fits};
+
 use p9_base::Fault;
-use p9_space::{Members, MountTable, Step, Trail};
+use p9_space::{Channels, Members, MountTable, Step, Trail};
 use std::alloc::{AllocError, Allocator, Global};
 
 /// The numbers of the files of a trail's places, each before a blank.
@@ -16,6 +18,25 @@ pub fn trail<A: Allocator + Copy>(
             write!(&mut told, "{} ", table.file(place).number)?;
         }
     }
+    Ok(told)
+}
+
+/// The same of channels that fit the table. The last file is found by the row of its place.
+pub fn channels_told<A: Allocator + Copy>(
+    alloc: Global,
+    table: &MountTable<A>,
+    channels: &Channels<A>,
+) -> Result<String, AllocError>
+    requires { Fits table.now channels.now }
+{
+    let places = channels.trail();
+    let mut told = String::new(alloc);
+    for position in 0..places.len() - 1 {
+        if let Some(place) = places.get(position) {
+            write!(&mut told, "{} ", table.file(place).number)?;
+        }
+    }
+    write!(&mut told, "{} ", channels.file(table).number)?;
     Ok(told)
 }
 

@@ -52,10 +52,6 @@ abbrev pub cursor_after : Option Cursor → List Entry → Option Cursor
 cursor_after cursor [] = cursor
 cursor_after cursor (e ∷ es) = cursor_after (Some (cursor_of e)) es
 
--- where the next read goes on behind an entry, and how many bytes that is
-abbrev pub end_of : Entry → Cursor × ℕ
-end_of e = (cursor_of e, length (entry_bytes e))
-
 -- offset 0 begins anew
 abbrev pub cursor_at : ℕ → Opened → Option Cursor
 cursor_at offset opened = if offset == 0 then None else opened.cursor
