@@ -1,6 +1,6 @@
 //! Lines that are printed.
 
-ghost use Rattle.std.specs.Prelude.{◌≡◌, ◌++◌, ◌∷◌, [], OnOk};
+ghost use Rattle.std.specs.Prelude.{◌≡◌, ◌≤◌, ◌*◌, ◌++◌, ◌∷◌, [], OnOk, length};
 ghost use Rattle.hex.specs.Hex.{encode_lower};
 
 use p9_base::NoMemory;
@@ -13,19 +13,30 @@ pub(crate) fn print_line<A: Allocator + Copy>(
 ) -> Result<(), NoMemory>
     ensures { OnOk result (out.new.items ≡ out.old.items ++ (line.now ++ 10 ∷ [])) }
 {
-    out.extend_from_slice(line.as_bytes())?;
-    out.push(b'\n')?;
-    Ok(())
+    print_bytes(line.as_bytes(), out)
 }
 
 /// Prints bytes as a line of lower case hexadecimal digits. Where memory is refused, a part of it
-/// may stand there.
+/// may stand there. `digits` is a buffer with room for twice as many bytes, whose content is lost.
 pub(crate) fn print_hex<A: Allocator + Copy>(
     bytes: &[u8],
+    digits: &mut [u8],
     out: &mut Vec<u8, A>,
 ) -> Result<(), NoMemory>
-    ensures { OnOk result (out.new.items ≡ out.old.items ++ (encode_lower bytes.now ++ 10 ∷ [])) }
+    requires { 2 * length bytes.now ≤ length digits.old }
+    ensures { OnOk result
+        (out.new.items ≡ out.old.items ++ (encode_lower bytes.now ++ 10 ∷ [])) }
 {
-    let text = hex::encode(*out.allocator(), bytes)?;
-    print_line(text.as_str(), out)
+    let line = &mut digits[..2 * bytes.len()];
+    hex::encode_to_slice(bytes, line).unwrap();
+    print_bytes(line, out)
+}
+
+// Prints bytes, and a newline.
+fn print_bytes<A: Allocator + Copy>(bytes: &[u8], out: &mut Vec<u8, A>) -> Result<(), NoMemory>
+    ensures { OnOk result (out.new.items ≡ out.old.items ++ (bytes.now ++ 10 ∷ [])) }
+{
+    out.extend_from_slice(bytes)?;
+    out.push(b'\n')?;
+    Ok(())
 }

@@ -1,6 +1,6 @@
 //! Playing events.
 
-ghost use Rattle.std.specs.Prelude.{◌≡◌, ◌≤◌, ◌++◌, IfOk, OnOk, codes, length, map};
+ghost use Rattle.std.specs.Prelude.{◌≡◌, ◌≤◌, ◌*◌, ◌++◌, IfOk, OnOk, codes, length, map};
 ghost use Rattle.p9_step.specs.Event.{Open, Message, Close};
 ghost use Rattle.p9_commands.specs.Play.{Plays, PlaysAll};
 ghost use Rattle.p9_export.specs.Event.{event_view};
@@ -25,29 +25,33 @@ pub(crate) fn play_events<M: Machine, A: Allocator + Copy>(
     ensures { OnOk result
         (PlaysAll (map event_view events.now) (M.state machine.old) out.old.items out.new.items) }
 {
-    let mut buffer = zeros(*out.allocator(), MSIZE_MAX as usize)?;
-    let reply = buffer.as_mut_slice();
+    let mut reply = zeros(*out.allocator(), MSIZE_MAX as usize)?;
+    let mut digits = zeros(*out.allocator(), 2 * MSIZE_MAX as usize)?;
+    let reply = reply.as_mut_slice();
+    let digits = digits.as_mut_slice();
     for event in events {
-        play_event(machine, event, reply, out)?;
+        play_event(machine, event, reply, digits, out)?;
     }
     Ok(())
 }
 
-// A buffer for replies.
+// A buffer of this size.
 fn zeros<A: Allocator + Copy>(alloc: A, size: usize) -> Result<Vec<u8, A>, NoMemory>
     ensures { IfOk result (λ zeros. length zeros.items ≡ size) }
 {
     Ok(vec![in alloc; 0u8; size]?)
 }
 
-// Plays an event, with a buffer for its reply.
+// Plays an event, with buffers for its reply and for the digits of that.
 fn play_event<M: Machine, A: Allocator + Copy>(
     machine: &mut M,
     event: &Event<A>,
     reply: &mut [u8],
+    digits: &mut [u8],
     out: &mut Vec<u8, A>,
 ) -> Result<(), NoMemory>
-    requires { msize_max ≤ length reply.old }
+    requires reply { length reply.old ≡ msize_max }
+    requires digits { length digits.old ≡ 2 * msize_max }
     ensures { OnOk result
         (Plays (event_view event.now) (M.state machine.old) (M.state machine.new) out.old.items
         out.new.items) }
@@ -60,6 +64,7 @@ fn play_event<M: Machine, A: Allocator + Copy>(
             frame.as_slice(),
             *now,
             reply,
+            digits,
             out,
         ),
         Event::Close(name, now) => close(machine, *name, *now, out),
@@ -90,9 +95,11 @@ fn answer<M: Machine, A: Allocator + Copy>(
     frame: &[u8],
     now: u32,
     reply: &mut [u8],
+    digits: &mut [u8],
     out: &mut Vec<u8, A>,
 ) -> Result<(), NoMemory>
-    requires { msize_max ≤ length reply.old }
+    requires reply { length reply.old ≡ msize_max }
+    requires digits { length digits.old ≡ 2 * msize_max }
     ensures { OnOk result
         (Plays (Message name frame.now now) (M.state machine.old) (M.state machine.new)
         out.old.items out.new.items) }
@@ -101,7 +108,7 @@ fn answer<M: Machine, A: Allocator + Copy>(
         return skip(out);
     }
     let size = machine.answer(name, frame, now, reply);
-    print_hex(&reply[..size], out)
+    print_hex(&reply[..size], digits, out)
 }
 
 // Prints nothing for a closing that fits.
