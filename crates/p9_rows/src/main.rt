@@ -7,6 +7,7 @@ mod fault;
 mod play;
 mod reader;
 mod row;
+mod words;
 
 use play::play_rows;
 use reader::read_rows;

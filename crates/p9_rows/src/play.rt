@@ -2,14 +2,13 @@
 
 use crate::body::Ending;
 use crate::row::Row;
-use p9_base::NoMemory;
-use p9_commands::run_command;
+use crate::words::{exchange, first_not_read_back, frames, played};
 use std::alloc::{AllocError, Global};
 use std::io;
 use std::io::Write;
 
-/// Plays the rows of a file, and prints what differs in each that is not as written, and how many
-/// rows are. Returns whether all are.
+/// Plays the rows of a file, and prints what differs in each that is not as written, each frame that
+/// is not read back from its words, and how many rows are as written. Returns whether all is well.
 pub fn play_rows(rt: &HostRuntime, file: &str, rows: &[Row]) -> io::Result<bool> {
     let mut as_written = 0usize;
     for row in rows {
@@ -34,17 +33,33 @@ fn is_as_written(rt: &HostRuntime, file: &str, row: &Row) -> io::Result<bool> {
             println!(rt; "{label}: nothing differs")?;
         }
         is_well &= differs == row.is_to_differ;
+        is_well &= !print_not_read_back(rt, label.as_str(), row.body.input.as_slice())?;
+        is_well &= !print_not_read_back(rt, label.as_str(), got.out.as_slice())?;
     }
     Ok(is_well)
 }
 
-// How a command ends over an input.
+// How a command ends over an input. `frames` and `exchange` are those of p9_fcall, and all others
+// those of p9.
 fn play(alloc: Global, command: &str, input: &[u8]) -> Result<Ending, AllocError> {
-    let mut out = Vec::new(alloc);
-    let mut err = Vec::new(alloc);
-    match run_command(command, input, &mut out, &mut err) {
-        Ok(status) => Ok(Ending { out, err, status }),
-        Err(NoMemory) => Err(AllocError),
+    match command {
+        "frames" => frames(alloc, input),
+        "exchange" => exchange(alloc, input),
+        _ => played(alloc, command, input),
+    }
+}
+
+// Prints a frame of a text that is not read back from its words, and returns whether there is one.
+fn print_not_read_back(rt: &HostRuntime, label: &str, text: &[u8]) -> io::Result<bool> {
+    let Ok(text) = str::from_utf8(text) else {
+        return Ok(false);
+    };
+    match first_not_read_back(rt.alloc(), text)? {
+        Some(word) => {
+            println!(rt; "{label}: not read back: {word}")?;
+            Ok(true)
+        }
+        None => Ok(false),
     }
 }
 

@@ -7,4 +7,5 @@ pub mod Stat
 pub mod Line
 pub mod Words
 pub mod Value
+pub mod Omitted
 pub mod Laws

@@ -42,6 +42,8 @@ pub enum Expected {
     ShortMessage,
     /// The end of the line.
     End,
+    /// What begins a line of a script: `open`, `close`, `msg` or the number of a session.
+    Event,
 }
 
 impl fmt::Display for Expected {
@@ -68,6 +70,7 @@ impl fmt::Display for Expected {
             Expected::ShortStat => write!(f, "a stat of at most 65535 bytes"),
             Expected::ShortMessage => write!(f, "a message of less than 4294967296 bytes"),
             Expected::End => write!(f, "the end of the line"),
+            Expected::Event => write!(f, "'open', 'close', 'msg' or the number of a session"),
         }
     }
 }

@@ -67,8 +67,12 @@ fn qid_bytes<A: Allocator + Copy>(alloc: A, qid: Qid) -> Result<Vec<u8, A>, NoMe
     Ok(bytes)
 }
 
-// The bytes of a number.
-fn number_bytes<A: Allocator + Copy>(alloc: A, width: Width, n: u64) -> Result<Vec<u8, A>, NoMemory>
+/// The bytes of a number.
+pub fn number_bytes<A: Allocator + Copy>(
+    alloc: A,
+    width: Width,
+    n: u64,
+) -> Result<Vec<u8, A>, NoMemory>
     requires { n ≤ 256 ^ bytes_of width - 1 }
     ensures { IfOk result (λ v. v.items ≡ number (bytes_of width) n) }
 {

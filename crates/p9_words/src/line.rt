@@ -48,9 +48,9 @@ fn read_frame<A: Allocator + Copy>(alloc: A, text: &[u8]) -> Result<Vec<u8, A>, 
     finish(alloc, verb, bytes.as_slice(), rest)
 }
 
-// The frame of these bytes, where the line ends here and four bytes hold its size.
+/// The frame of these bytes, where the line ends here and four bytes hold its size.
 #[tactic(auto, unfolding(crate::specs::Reading::frame_at))]
-fn finish<A: Allocator + Copy>(
+pub fn finish<A: Allocator + Copy>(
     alloc: A,
     verb: Verb,
     bytes: &[u8],

@@ -22,7 +22,7 @@ use p9_wire::{Names, Qids, Stat};
 use std::alloc::Allocator;
 use std::str::from_utf8;
 
-/// Bytes as they are.
+/// Prints bytes as they are behind what `out` has.
 pub fn print<A: Allocator + Copy>(word: &[u8], out: &mut Vec<u8, A>) -> Result<(), NoMemory>
     ensures { OnOk result (out.new.items ≡ out.old.items ++ word.now) }
 {
@@ -30,7 +30,7 @@ pub fn print<A: Allocator + Copy>(word: &[u8], out: &mut Vec<u8, A>) -> Result<(
     Ok(())
 }
 
-/// The digits of a number.
+/// Prints the digits of a number, without leading zeros.
 pub fn print_number<A: Allocator + Copy>(
     base: Base,
     n: u64,
@@ -89,8 +89,8 @@ fn print_byte<A: Allocator + Copy>(byte: u8, out: &mut Vec<u8, A>) -> Result<(),
     Ok(())
 }
 
-// Bytes as pairs of hexadecimal digits.
-fn print_paired<A: Allocator + Copy>(bytes: &[u8], out: &mut Vec<u8, A>) -> Result<(), NoMemory>
+/// Prints bytes as pairs of hexadecimal digits in quotes behind an `x`.
+pub fn print_paired<A: Allocator + Copy>(bytes: &[u8], out: &mut Vec<u8, A>) -> Result<(), NoMemory>
     ensures { OnOk result (out.new.items ≡ out.old.items ++ paired bytes.now) }
 {
     let digits = hex::encode(*out.allocator(), bytes)?;

@@ -1,0 +1,5 @@
+mod Inputs
+mod Numbered
+mod Copies
+mod Talks
+mod Sections

@@ -1,0 +1,36 @@
+-- The lines of an input, and where its sections begin.
+use Rattle.std.specs.Prelude.{ℕ, ◌+◌, ◌-◌, ◌==◌, ◌&&◌, Bool, not, nat_lt, List, [], length, take}
+use Rattle.std.specs.Prelude.{drop, codes, if◌then◌else◌}
+use Rattle.std.specs.List.{prefix_len, slice_index_or}
+use Rattle.std.specs.Str.{bytes_eq}
+use Rattle.p9_base.specs.Line.{lines_of}
+
+-- whether the last line is empty
+abbrev pub ends_empty : List (List ℕ) → Bool
+ends_empty lines =
+    nat_lt 0 (length lines) && length (slice_index_or lines (length lines - 1) []) == 0
+
+-- the lines of a text: behind a newline at its end there is none
+unfoldable pub whole_lines : List ℕ → List (List ℕ)
+whole_lines text =
+    let lines = lines_of text in
+    if ends_empty lines then take (length lines - 1) lines else lines
+
+-- how many lines stand before the first one that is this head
+abbrev pub lines_before : List ℕ → List (List ℕ) → ℕ
+lines_before head lines = prefix_len (λ line. not (bytes_eq head line)) lines
+
+-- the line that begins a script, and the one that begins what was printed for it
+abbrev pub script_head : List ℕ
+script_head = codes "%% script"
+
+abbrev pub replies_head : List ℕ
+replies_head = codes "%% replies"
+
+-- the lines up to the one that begins the script
+unfoldable pub head_lines : List (List ℕ) → List (List ℕ)
+head_lines lines = take (lines_before script_head lines + 1) lines
+
+-- and those behind it
+unfoldable pub script_lines : List (List ℕ) → List (List ℕ)
+script_lines lines = drop (lines_before script_head lines + 1) lines

@@ -1,0 +1,7 @@
+pub mod Line
+pub mod Refusal
+pub mod Input
+pub mod Script
+pub mod Message
+pub mod Talk
+pub mod Exchange

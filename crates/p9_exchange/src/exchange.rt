@@ -1,0 +1,106 @@
+//! The exchange of a script in words and of what was printed for it.
+
+ghost use Rattle.std.specs.Prelude.{◌≡◌, ◌≤◌, IfErr, IfOk, OnOk, Ok, length, map};
+ghost use Rattle.p9_exchange.specs.Exchange.{talked, all_told, exchange_of_lines, exchange_in};
+ghost use Rattle.p9_exchange.specs.Exchange.{exchange_of};
+ghost use Rattle.p9_exchange.specs.Refusal.{IsStop, Makes};
+ghost use Rattle.p9_exchange.specs.Talk.{talk_view};
+
+use crate::input::{REPLIES, SCRIPT, lines_before, split_behind, text_of, whole_lines};
+use crate::refusal::{Awaited, Refusal, Stop};
+use crate::script::read_line;
+use crate::talk::Talk;
+use std::alloc::Allocator;
+
+// The exchange goes on with the line of the script of this number.
+fn talk_of<A: Allocator + Copy>(
+    alloc: A,
+    replies: &[&str],
+    number: usize,
+    line: &str,
+    talk: &mut Talk<A>,
+) -> Result<(), Stop>
+    requires { talk.old.told ≤ length replies.now }
+    ensures ok { OnOk result
+        (talked (map (λ reply. reply.now) replies.now) (talk_view talk.old) (number, line.now)
+        ≡ Ok (talk_view talk.new)) }
+    ensures stop { IfErr result (IsStop
+        (talked (map (λ reply. reply.now) replies.now) (talk_view talk.old)
+        (number, line.now))) }
+    ensures within { OnOk result (talk.new.told ≤ length replies.now) }
+{
+    let said = read_line(alloc, number, talk.turn, line)?;
+    talk.say(replies, number, &said)
+}
+
+// The text, where each line of the replies is told.
+fn all_told<A: Allocator + Copy>(replies: &[&str], talk: Talk<A>) -> Result<Vec<u8, A>, Stop>
+    requires { talk.told ≤ length replies.now }
+    ensures { Makes (λ text. text.items) result
+        (all_told (map (λ reply. reply.now) replies.now) (talk_view talk)) }
+{
+    if talk.told == replies.len() {
+        let Talk { text, .. } = talk;
+        return Ok(text);
+    }
+    Err(Stop::Refused(Refusal::BadReply {
+        line: talk.told + 1,
+        awaited: Awaited::End,
+    }))
+}
+
+// The exchange of the lines of a script and of the replies.
+#[tactic(auto, unfolding(crate::specs::Exchange::exchange_of_lines))]
+fn exchange_of_lines<A: Allocator + Copy>(
+    alloc: A,
+    replies: &[&str],
+    script: &[&str],
+) -> Result<Vec<u8, A>, Stop>
+    ensures { Makes (λ text. text.items) result
+        (exchange_of_lines (map (λ reply. reply.now) replies.now)
+        (map (λ line. line.now) script.now)) }
+{
+    let mut talk = Talk::new(alloc);
+    for (position, line) in script.iter().enumerate() {
+        talk_of(alloc, replies, position + 1, line, &mut talk)?;
+    }
+    all_told(replies, talk)
+}
+
+// The exchange of the lines of an input: the script, and the replies behind their head.
+fn exchange_in<A: Allocator + Copy>(alloc: A, lines: &[&str]) -> Result<Vec<u8, A>, Stop>
+    ensures { Makes (λ text. text.items) result
+        (exchange_in (map (λ line. line.now) lines.now)) }
+{
+    let n = lines_before(REPLIES, lines);
+    if n == lines.len() {
+        return Err(Stop::Refused(Refusal::NoReplies));
+    }
+    let (before, _) = lines.split_at(n);
+    let (_, replies) = split_behind(REPLIES, lines);
+    let (_, script) = split_behind(SCRIPT, before);
+    exchange_of_lines(alloc, replies, script)
+}
+
+/// The exchange of a script and of what `p9 play` printed for it, a line for each request, reply
+/// and `skip`.
+///
+/// The input is what [`crate::write_script`] takes, a line `%% replies`, and what was printed for
+/// its script. `L <-S- WORDS` is what session S was asked by line L of the script: `open`, `close`
+/// or a message. `L -S-> WORDS` is what came of it: a reply, or `skip:` and the reason. A frame
+/// that is no message is shown in hexadecimal digits.
+///
+/// [`Refusal::NotUtf8`] is told of an input that is no text, [`Refusal::NoReplies`] of one without
+/// that line, and else [`Refusal::BadLine`] of the first bad line of the script, or
+/// [`Refusal::BadReply`] of the first line of the replies that the script does not call for,
+/// whichever of the two comes first. [`Stop::NoMemory`] says that an allocation failed.
+#[tactic(auto, unfolding(crate::specs::Exchange::exchange_of))]
+pub fn show_exchange<A: Allocator + Copy>(alloc: A, input: &[u8]) -> Result<Vec<u8, A>, Stop>
+    ensures { Makes (λ text. text.items) result (exchange_of input.now) }
+{
+    let Some(text) = text_of(input) else {
+        return Err(Stop::Refused(Refusal::NotUtf8));
+    };
+    let lines = whole_lines(alloc, text)?;
+    exchange_in(alloc, lines.as_slice())
+}

@@ -1,0 +1,94 @@
+//! Why nothing is written, and how it is told.
+
+use p9_base::NoMemory;
+use p9_words::Expected;
+use std::alloc::{AllocError, AllocFailed};
+use std::fmt;
+use thiserror::Error;
+
+/// What the next line of the replies was to be.
+#[derive(Clone, Copy, Debug, PartialEq, Eq)]
+pub enum Awaited {
+    /// A reply, in hexadecimal digits, to the message of this line of the script.
+    Reply(usize),
+    /// `skip`, for the event of this line of the script.
+    Skip(usize),
+    /// None: there is one for each event already.
+    End,
+}
+
+impl fmt::Display for Awaited {
+    fn fmt<W: fmt::Write>(&self, f: &mut fmt::Formatter<W>) -> fmt::Result {
+        match self {
+            Awaited::Reply(line) => write!(f, "the reply to line {line} of the script"),
+            Awaited::Skip(line) => write!(f, "'skip' for line {line} of the script"),
+            Awaited::End => write!(f, "the end"),
+        }
+    }
+}
+
+/// Why nothing is written. Lines count from 1, behind the line that begins the section.
+#[derive(Clone, Copy, Debug, PartialEq, Eq, Error)]
+pub enum Refusal {
+    /// The input is no text.
+    #[error("input: not UTF-8")]
+    NotUtf8,
+    /// In this line of the script something else was expected behind its first `at` bytes.
+    #[error("script:{line}: {expected} expected behind byte {at}")]
+    BadLine {
+        line: usize,
+        at: usize,
+        expected: Expected,
+    },
+    /// The input has no line `%% replies`.
+    #[error("replies: missing")]
+    NoReplies,
+    /// Something else was awaited in this line of the replies.
+    #[error("replies:{line}: {awaited} expected")]
+    BadReply {
+        line: usize,
+        awaited: Awaited,
+    },
+}
+
+/// What keeps from writing.
+#[derive(Clone, Copy, Debug, PartialEq, Eq)]
+pub enum Stop {
+    /// Something is wrong in the input.
+    Refused(Refusal),
+    /// An allocation failed.
+    NoMemory,
+}
+
+impl From<NoMemory> for Stop {
+    ghost use Rattle.std.specs.Prelude.{◌≡◌};
+    ghost use Rattle.p9_exchange.specs.declared.refusal.Stop.TheVariants.{NoMemory};
+
+    ghost from_gives = { λ _ stop. stop ≡ NoMemory };
+
+    fn from(_error: NoMemory) -> Stop {
+        Stop::NoMemory
+    }
+}
+
+impl From<AllocError> for Stop {
+    ghost use Rattle.std.specs.Prelude.{◌≡◌};
+    ghost use Rattle.p9_exchange.specs.declared.refusal.Stop.TheVariants.{NoMemory};
+
+    ghost from_gives = { λ _ stop. stop ≡ NoMemory };
+
+    fn from(_error: AllocError) -> Stop {
+        Stop::NoMemory
+    }
+}
+
+impl<T: Drop> From<AllocFailed<T>> for Stop {
+    ghost use Rattle.std.specs.Prelude.{◌≡◌};
+    ghost use Rattle.p9_exchange.specs.declared.refusal.Stop.TheVariants.{NoMemory};
+
+    ghost from_gives = { λ _ stop. stop ≡ NoMemory };
+
+    fn from(_error: AllocFailed<T>) -> Stop {
+        Stop::NoMemory
+    }
+}
