@@ -9,3 +9,4 @@ mod NameSpaces
 mod Machines
 mod Tasks
 mod Judgements
+mod Offers

@@ -10,3 +10,4 @@ pub mod Listing
 pub mod Judgement
 pub mod Task
 pub mod Command
+pub mod Offer

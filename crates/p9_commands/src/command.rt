@@ -10,10 +10,9 @@ ghost use Rattle.p9_export.specs.Event.{event_view};
 
 use crate::bundle::Bundle;
 use crate::input::{name_space, script, sections, text};
-use crate::line::print_line;
 use crate::name_space::NameSpace;
 use crate::play::play_events;
-use crate::refusal::{Refusal, Stop};
+use crate::refusal::{Refusal, Stop, tell};
 use crate::task::{Command, Task};
 use p9_base::NoMemory;
 use p9_cert::Certificate;
@@ -58,8 +57,7 @@ pub fn run_command<A: Allocator + Copy>(
     match run(word, input, out, err) {
         Ok(status) => Ok(status),
         Err(Stop::Refused(refusal)) => {
-            let text = refusal.text(*err.allocator())?;
-            print_line(text.as_str(), err)?;
+            tell(refusal, err)?;
             Ok(refusal.status())
         }
         Err(Stop::NoMemory) => Err(NoMemory),

@@ -11,6 +11,7 @@ mod line;
 mod listing;
 mod machine;
 mod name_space;
+mod offer;
 mod path;
 mod play;
 mod refusal;
@@ -21,4 +22,5 @@ mod task;
 
 pub use bundle::{Bundle, BundleError, split_bundle};
 pub use command::run_command;
+pub use offer::served_guard;
 pub use script::{ScriptError, read_script};

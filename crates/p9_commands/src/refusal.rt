@@ -1,9 +1,10 @@
 //! Why a command does nothing, and how it is told.
 
-ghost use Rattle.std.specs.Prelude.{◌≡◌, IfOk};
+ghost use Rattle.std.specs.Prelude.{◌≡◌, ◌++◌, ◌∷◌, [], IfOk, OnOk};
 ghost use Rattle.std.specs.String.{string_bytes};
 ghost use Rattle.p9_commands.specs.Refusal.{at_line, refusal_text, status_of};
 
+use crate::line::print_line;
 use p9_base::NoMemory;
 use p9_cert::Gap;
 use p9_nsfile::BadForm;
@@ -65,6 +66,17 @@ impl Refusal {
             Refusal::Unverified(gap) => format!(in alloc; "cert: {gap}"),
         }
     }
+}
+
+/// Tells why a command does nothing, in a line. Where an allocation fails, a part of it may be told.
+pub(crate) fn tell<A: Allocator + Copy>(
+    refusal: Refusal,
+    err: &mut Vec<u8, A>,
+) -> Result<(), NoMemory>
+    ensures { OnOk result (err.new.items ≡ err.old.items ++ (refusal_text refusal ++ 10 ∷ [])) }
+{
+    let text = refusal.text(*err.allocator())?;
+    print_line(text.as_str(), err)
 }
 
 /// What is told of a line of a section.
