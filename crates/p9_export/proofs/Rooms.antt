@@ -1,6 +1,6 @@
 -- There is room for each reply.
 use Rattle.std.proofs.Common.{◌≡◌, ◌≤◌, ◌+◌, ◌-◌, ℕ, List, Option, Some, None, IfSome, IsSome, Result, Ok}
-use Rattle.std.proofs.Common.{Err, true, false, length, refl, subst, sym, ap, arith}
+use Rattle.std.proofs.Common.{Err, true, false, length, refl, subst, sym, arith}
 use Rattle.std.specs.Prelude.{unwrap_or}
 use Rattle.std.specs.Option.{option_map, option_map_or}
 use Rattle.p9_base.specs.declared.fault.Fault.{Fault}
@@ -9,13 +9,11 @@ use Rattle.p9_wire.specs.Frame.{is_frame, msize_max}
 use Rattle.p9_wire.specs.Laws.{IsBytes}
 use Rattle.p9_wire.specs.Message.{RMessage, r_view}
 use Rattle.p9_wire.specs.Spelling.{r_len, r_spelling, read_header}
-use Rattle.p9_step.specs.Event.{Message as MessageEvent}
 use Rattle.p9_step.specs.Laws.{refusal_max, reply_max}
 use Rattle.p9_step.specs.Memory.{is_no_memory_reply, ran_out}
 use Rattle.p9_step.specs.Request.{tag_of}
 use Rattle.p9_step.specs.Sound.{IsMsize, IsSession, IsState}
 use Rattle.p9_step.specs.State.{Session, SessionRow, Setting, State, io_header, room_of, session_at}
-use Rattle.p9_step.specs.Step.{step}
 use Rattle.p9_step.proofs.Answering.{every-frame-is-answered, length-spelling}
 use Rattle.p9_step.proofs.Sounds.{session-served}
 use Rattle.p9_export.specs.declared.reply.Reply.{Reply}

@@ -1,15 +1,13 @@
 -- Walks, step by step.
-use Rattle.p9_space.specs.Rights.{Who}
 use Rattle.p9_step.specs.State.{who_of}
-use Rattle.std.proofs.Common.{◌≡◌, ℕ, List, [], ◌∷◌, ◌++◌, true, false, Option, Some, None, Result}
-use Rattle.std.proofs.Common.{Ok, Err, IsSome, is_none, is_some, length, map, drop, get_or, suc}
+use Rattle.std.proofs.Common.{◌≡◌, ℕ, List, [], ◌∷◌, ◌++◌, true, false, Option, Some, None}
+use Rattle.std.proofs.Common.{Ok, Err, is_none, is_some, length, map, drop, get_or, suc}
 use Rattle.std.proofs.Common.{◌+◌, ◌<◌, ◌≤◌, Bor, refl, append_assoc, add-one, drop-cons}
 use Rattle.std.proofs.lemmas.List.{append-nil, drop_all}
 use Rattle.p9_base.specs.declared.fault.Fault.{Fault}
-use Rattle.p9_base.specs.declared.fault.Fault.TheVariants.{PhaseError}
 use Rattle.p9_base.specs.declared.node_ref.NodeRef.{NodeRef}
 use Rattle.p9_base.specs.declared.qid.Qid.{Qid}
-use Rattle.p9_base.specs.Results.{and_then, given, need, unless}
+use Rattle.p9_base.specs.Results.{given, need, unless}
 use Rattle.p9_tree.specs.Node.{Node}
 use Rattle.p9_tree.specs.Forest.{node_of}
 use Rattle.p9_tree.specs.Server.{Server}

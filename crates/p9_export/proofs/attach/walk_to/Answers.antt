@@ -1,4 +1,4 @@
-use Rattle.std.proofs.Common.{◌≡◌, ap, map, subst, sym, ◌∙◌}
+use Rattle.std.proofs.Common.{◌≡◌, ap, map, ◌∙◌}
 use Rattle.std.proofs.Common.{Bor, List, ℕ}
 use Rattle.p9_clean.specs.Path.{cleaned_elements}
 use Rattle.p9_step.specs.State.{Setting}

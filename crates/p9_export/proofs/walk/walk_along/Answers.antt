@@ -1,5 +1,4 @@
-use Rattle.p9_step.specs.State.{who_of}
-use Rattle.std.proofs.Common.{ℕ, ◌∙◌, List, [], Some, Bor, map, get_or, refl, sym, arith}
+use Rattle.std.proofs.Common.{ℕ, ◌∙◌, List, [], Bor, map, refl, sym, arith}
 use Rattle.std.proofs.Common.{length-append}
 use Rattle.p9_export.proofs.Walks.{qid-arrived, walked-all, walked-end, walked-turn}
 use Rattle.p9_step.specs.State.{Setting}

@@ -1,5 +1,5 @@
 use Rattle.std.specs.List.{list_all}
-use Rattle.std.proofs.Common.{ap, subst, ◌≡◌, true}
+use Rattle.std.proofs.Common.{subst, ◌≡◌, true}
 use Rattle.p9_base.specs.User.{is_user}
 use Rattle.p9_export.proofs.export.Export.new.Goals as goal
 
