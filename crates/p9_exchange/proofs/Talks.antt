@@ -1,5 +1,5 @@
 -- What an exchange comes to.
-use Rattle.std.proofs.Common.{◌≡◌, true, false, List, ℕ, Bool, Result, Ok, IfErr, sym, ap, ◌∙◌}
+use Rattle.std.proofs.Common.{◌≡◌, true, false, List, ℕ, Result, Ok, IfErr, sym, ap, ◌∙◌}
 use Rattle.std.proofs.Common.{subst, codes, slice_get}
 use Rattle.std.proofs.Common.{◌++◌}
 use Rattle.p9_wire.specs.Frame.{is_frame}
