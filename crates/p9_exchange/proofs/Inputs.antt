@@ -1,5 +1,6 @@
 -- The line that is a head.
-use Rattle.std.proofs.Common.{◌≡◌, ℕ, ◌<◌, ◌≤◌, Bool, true, false, not, Bor, List, [], length, get_or}
+use Rattle.std.proofs.Common.{◌≡◌, ℕ, ◌<◌, ◌≤◌, Bool, true, false, not, Bor, List, [], length}
+use Rattle.std.proofs.Common.{get_or}
 use Rattle.std.proofs.Common.{map, sym, ap, ◌∙◌, ◌+◌, arith, below_more}
 use Rattle.std.specs.List.{prefix_len}
 use Rattle.std.specs.Str.{bytes_eq}

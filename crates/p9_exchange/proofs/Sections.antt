@@ -1,9 +1,11 @@
 -- The sections of an input, by reference.
-use Rattle.std.proofs.Common.{◌≡◌, ℕ, ◌+◌, Bor, List, length, take, drop, map, Err, refl, sym, ap, ◌∙◌}
+use Rattle.std.proofs.Common.{◌≡◌, ℕ, ◌+◌, Bor, List, length, take, drop, map, Err, refl, sym, ap}
+use Rattle.std.proofs.Common.{◌∙◌}
 use Rattle.std.proofs.lemmas.Bool.{eq-eqb, ne_eqb}
 use Rattle.std.proofs.lemmas.List.{length-map, take-map, drop-map}
 use Rattle.p9_exchange.specs.Exchange.{exchange_in, exchange_of_lines}
-use Rattle.p9_exchange.specs.Input.{lines_before, script_head, replies_head, head_lines, script_lines}
+use Rattle.p9_exchange.specs.Input.{lines_before, script_head, replies_head, head_lines}
+use Rattle.p9_exchange.specs.Input.{script_lines}
 use Rattle.p9_exchange.specs.declared.refusal.Refusal.TheVariants.{NoReplies}
 
 -- what a reference points to

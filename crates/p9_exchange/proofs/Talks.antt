@@ -1,10 +1,12 @@
 -- What an exchange comes to.
-use Rattle.std.proofs.Common.{◌≡◌, true, false, List, ℕ, Bool, Result, Ok, IfErr, sym, ap, ◌∙◌, subst, codes, slice_get}
+use Rattle.std.proofs.Common.{◌≡◌, true, false, List, ℕ, Result, Ok, IfErr, sym, ap, ◌∙◌}
+use Rattle.std.proofs.Common.{subst, codes, slice_get}
 use Rattle.std.proofs.Common.{◌++◌}
 use Rattle.p9_wire.specs.Frame.{is_frame}
 use Rattle.p9_exchange.specs.Message.{message_words}
 use Rattle.p9_exchange.specs.Refusal.{IsStop}
-use Rattle.p9_exchange.specs.Talk.{Talk, asking, telling, behind, with_told, is_open, is_skip, skipped}
+use Rattle.p9_exchange.specs.Talk.{Talk, asking, telling, behind, with_told, is_open, is_skip}
+use Rattle.p9_exchange.specs.Talk.{skipped}
 use Rattle.p9_exchange.specs.Talk.{opened, closed, sent}
 use Rattle.p9_exchange.specs.declared.refusal.Refusal.{Refusal}
 use Rattle.p9_exchange.specs.declared.refusal.Stop.{Stop}
@@ -44,7 +46,8 @@ module _ (replies : List (List ℕ)) (line session : ℕ) (talk asked : Talk) wh
       rw q (ap (skipped replies line session (codes "no such session")) same)
 
   -- a session gets no frame
-  pub send-skips : (frame : List ℕ) → asked ≡ behind talk (asking line session (message_words frame))
+  pub send-skips : (frame : List ℕ)
+      → asked ≡ behind talk (asking line session (message_words frame))
       → is_frame frame ≡ true → is_open session asked ≡ false
       → skipped replies line session (codes "no such session") asked
       ≡ sent replies line session frame talk

@@ -1,14 +1,15 @@
 -- What a line of a script in words says.
-use Rattle.std.specs.Prelude.{ℕ, ◌+◌, ◌-◌, ◌^◌, ◌==◌, Bool, true, nat_lt, List, [], ◌∷◌, length, take}
-use Rattle.std.specs.Prelude.{drop, codes, Result, Ok, if◌then◌else◌}
+use Rattle.std.specs.Prelude.{ℕ, ◌+◌, ◌-◌, ◌^◌, ◌==◌, Bool, true, nat_lt, List, [], ◌∷◌, length}
+use Rattle.std.specs.Prelude.{codes, Result, Ok, if◌then◌else◌}
 use Rattle.std.specs.List.{prefix_len}
 use Rattle.std.specs.Result.{result_ok}
 use Rattle.std.specs.Str.{bytes_eq}
 use Rattle.hex.specs.Hex.{decode_of}
 use Rattle.p9_words.specs.Class.{is_in, skip_blanks}
 use Rattle.p9_words.specs.Omitted.{message_of_words}
-use Rattle.p9_words.specs.Reading.{◌>>=◌, Reader, missing, found, number_at, first_word, behind_word}
-use Rattle.p9_words.specs.declared.class.Class.TheVariants.{Digit, Filled}
+use Rattle.p9_words.specs.Reading.{◌>>=◌, Reader, missing, found, number_at, first_word}
+use Rattle.p9_words.specs.Reading.{behind_word}
+use Rattle.p9_words.specs.declared.class.Class.TheVariants.{Digit}
 use Rattle.p9_words.specs.declared.error.Expected.TheVariants as expected
 use Rattle.p9_words.specs.declared.error.Fault.{Fault}
 use Rattle.p9_words.specs.declared.form.Base.TheVariants.{Decimal}

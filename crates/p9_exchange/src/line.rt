@@ -2,7 +2,8 @@
 
 ghost use Rattle.std.specs.Prelude.{◌≡◌, ◌==◌, length};
 ghost use Rattle.p9_words.specs.Reading.{Gives, first_word, behind_word};
-ghost use Rattle.p9_exchange.specs.Line.{line_view, short_at, end_at, bytes_at, session_at, open_at};
+ghost use Rattle.p9_exchange.specs.Line.{line_view, short_at, end_at, bytes_at, session_at};
+ghost use Rattle.p9_exchange.specs.Line.{open_at};
 ghost use Rattle.p9_exchange.specs.Line.{close_at, msg_at, words_at, is_skipped, line_at};
 ghost use Rattle.p9_exchange.specs.Line.{turn_behind};
 

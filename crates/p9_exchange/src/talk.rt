@@ -8,7 +8,8 @@ ghost use Rattle.p9_exchange.specs.Line.{line_view};
 ghost use Rattle.p9_exchange.specs.Message.{message_words};
 ghost use Rattle.p9_exchange.specs.Refusal.{IsStop};
 ghost use Rattle.p9_exchange.specs.Talk.{talk_view, nothing_said, asking, telling, behind};
-ghost use Rattle.p9_exchange.specs.Talk.{with_told, is_open, is_skip, reply_in, skipped, replied, opened};
+ghost use Rattle.p9_exchange.specs.Talk.{with_told, is_open, is_skip, reply_in, skipped, replied};
+ghost use Rattle.p9_exchange.specs.Talk.{opened};
 ghost use Rattle.p9_exchange.specs.Talk.{closed, sent, done, with_said};
 
 use crate::line::Line;

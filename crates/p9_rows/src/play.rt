@@ -7,8 +7,8 @@ use std::alloc::{AllocError, Global};
 use std::io;
 use std::io::Write;
 
-/// Plays the rows of a file, and prints what differs in each that is not as written, each frame that
-/// is not read back from its words, and how many rows are as written. Returns whether all is well.
+/// Plays the rows of a file, and prints what differs in each that is not as written, a frame that is
+/// not read back from its words, and how many rows are as written. Returns whether all is well.
 pub fn play_rows(rt: &HostRuntime, file: &str, rows: &[Row]) -> io::Result<bool> {
     let mut as_written = 0usize;
     for row in rows {

@@ -12,7 +12,8 @@ use Rattle.p9_words.specs.Key.{key_text}
 use Rattle.p9_words.specs.Laws.{ReadsTheSame}
 use Rattle.p9_words.specs.Omitted.{tag_for, is_next, given_at, given_from, message_of_words}
 use Rattle.p9_words.specs.Reading.{verb_at, key_at, field_at, fields_from, tag_field, frame_at}
-use Rattle.p9_words.specs.Reading.{frame_of_words, ◌>>=◌, value_at, first_word, behind_word, missing}
+use Rattle.p9_words.specs.Reading.{frame_of_words, ◌>>=◌, value_at, first_word, behind_word}
+use Rattle.p9_words.specs.Reading.{missing}
 use Rattle.p9_words.specs.Verb.{fields_of}
 
 -- a word that is read is next

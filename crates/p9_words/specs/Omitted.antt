@@ -11,7 +11,8 @@ use Rattle.p9_words.specs.declared.verb.Verb.{Verb}
 use Rattle.p9_words.specs.declared.verb.Verb.TheVariants as verb
 use Rattle.p9_words.specs.Class.{skip_blanks}
 use Rattle.p9_words.specs.Key.{key_text}
-use Rattle.p9_words.specs.Reading.{◌>>=◌, Reader, first_word, verb_at, field_at, tag_field, frame_at}
+use Rattle.p9_words.specs.Reading.{◌>>=◌, Reader, first_word, verb_at, field_at, tag_field}
+use Rattle.p9_words.specs.Reading.{frame_at}
 use Rattle.p9_words.specs.Verb.{fields_of}
 
 -- a version has no tag, which is 65535, and any other message the tag that is its turn

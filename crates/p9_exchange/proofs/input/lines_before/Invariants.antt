@@ -1,4 +1,4 @@
-use Rattle.std.proofs.Common.{◌≡◌, ℕ, ◌<◌, true, not, get_or, map, List, []}
+use Rattle.std.proofs.Common.{◌≡◌, ℕ, ◌<◌, true, not, get_or, map, []}
 use Rattle.std.specs.Str.{bytes_eq}
 use Rattle.p9_exchange.proofs.input.lines_before.Given as goal
 

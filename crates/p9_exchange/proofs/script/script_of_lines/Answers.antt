@@ -1,6 +1,5 @@
-use Rattle.std.proofs.Common.{◌∙◌, sym, ap}
-use Rattle.std.specs.List.{flat_map}
-use Rattle.p9_exchange.specs.Script.{ended, script_of_lines}
+use Rattle.std.proofs.Common.{sym}
+use Rattle.p9_exchange.specs.Script.{script_of_lines}
 use Rattle.p9_exchange.proofs.Sections.{front-is, back-is}
 use Rattle.p9_exchange.proofs.script.script_of_lines.Goals as goal
 
