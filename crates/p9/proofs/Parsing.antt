@@ -6,6 +6,7 @@ use Rattle.std.specs.Prelude.{Box}
 use Rattle.std.specs.Box.{box_value}
 use Rattle.std.specs.Str.{bytes_eq}
 use Rattle.clap.specs.Words.{Text, is_simple, subcommand_name_of, subcommand_of, subcommand_rows, subcommand_rows_of, takes}
+use Rattle.clap.specs.Faults.{is_simple_and_free}
 use Rattle.clap.specs.declared.parser.matches.ArgMatches.{ArgMatches}
 use Rattle.clap.specs.declared.parser.matches.ArgMatches.TheViews.{out-ArgMatches, out-SubCommand}
 use Rattle.clap.specs.declared.parser.matches.SubCommand.{SubCommand}
@@ -19,6 +20,10 @@ name_read words = option_map (λ p. p.0) (subcommand_of program_app words)
 pub program_is_simple : is_simple program_app ≡ true
 unfolding clap_on_literals
 program_is_simple = refl
+
+pub program_is_free : is_simple_and_free program_app ≡ true
+unfolding clap_on_literals
+program_is_free = refl
 
 -- ---- the words that ask for a command
 

@@ -1,22 +1,21 @@
-//! The program `p9`: it runs the command that its words ask for over its standard input.
+//! The program `p9`: it runs the command that its words ask for over its standard input, or serves
+//! that to clients.
 #![tactic(auto)]
 
 mod words;
 
 use p9_base::NoMemory;
 use p9_commands::run_command;
+use p9_serve::{run_serve, tell_failure};
 use std::alloc::AllocError;
 use std::io::{ErrorKind, Read, Write};
+use std::net::SocketAddr;
 use std::process::ExitCode;
 use std::{env, io};
-use words::command_asked;
+use words::{Asked, command_asked};
 
-// The exit statuses, besides those of a command.
+// The exit status of a bad command line.
 const BAD_COMMAND_LINE: u8 = 2;
-
-const OUT_OF_MEMORY: u8 = 3;
-
-const INPUT_OR_OUTPUT_FAILED: u8 = 4;
 
 fn main(rt: HostRuntime) -> ExitCode {
     ExitCode::from(status_of(&rt))
@@ -26,21 +25,15 @@ fn main(rt: HostRuntime) -> ExitCode {
 fn status_of(rt: &HostRuntime) -> u8 {
     match run(rt) {
         Ok(status) => status,
-        Err(error) if error.kind() == ErrorKind::OutOfMemory => {
-            let _ = eprintln!(rt; "out of memory");
-            OUT_OF_MEMORY
-        }
-        Err(_) => {
-            let _ = eprintln!(rt; "input or output failed");
-            INPUT_OR_OUTPUT_FAILED
-        }
+        Err(error) => tell_failure(&error, &mut rt.stderr()),
     }
 }
 
-// Runs the command that the words ask for, and answers the exit status.
+// Does what the words ask for, and answers the exit status.
 fn run(rt: &HostRuntime) -> io::Result<u8> {
     match asked(rt)? {
-        Some(command) => run_over_input(rt, command),
+        Some(Asked::Command(command)) => run_over_input(rt, command),
+        Some(Asked::Serve { address, rounds }) => serve_input(rt, address, rounds),
         None => {
             eprintln!(rt; "p9: bad command line")?;
             Ok(BAD_COMMAND_LINE)
@@ -48,8 +41,8 @@ fn run(rt: &HostRuntime) -> io::Result<u8> {
     }
 }
 
-// The command that the words ask for. Words that are no text ask for none.
-fn asked(rt: &HostRuntime) -> io::Result<Option<&'static str>> {
+// What the words ask for. Words that are no text ask for nothing.
+fn asked(rt: &HostRuntime) -> io::Result<Option<Asked>> {
     let words = match env::args(rt) {
         Ok(words) => words,
         Err(error) if error.kind() == ErrorKind::OutOfMemory => return Err(error),
@@ -59,10 +52,9 @@ fn asked(rt: &HostRuntime) -> io::Result<Option<&'static str>> {
     Ok(command_asked(rt.alloc(), words.as_slice())?)
 }
 
-// Runs a command over the standard input, which is read whole, and then prints what it gives.
+// Runs a command over the standard input, and then prints what it gives.
 fn run_over_input(rt: &HostRuntime, command: &str) -> io::Result<u8> {
-    let mut input = Vec::new(rt.alloc());
-    rt.stdin().read_to_end(&mut input)?;
+    let input = input(rt)?;
     let mut out = Vec::new(rt.alloc());
     let mut err = Vec::new(rt.alloc());
     let status = match run_command(command, input.as_slice(), &mut out, &mut err) {
@@ -73,4 +65,25 @@ fn run_over_input(rt: &HostRuntime, command: &str) -> io::Result<u8> {
     rt.stdout().flush()?;
     rt.stderr().write_all(err.as_slice())?;
     Ok(status)
+}
+
+// Serves the standard input.
+fn serve_input(rt: &HostRuntime, address: SocketAddr, rounds: u64) -> io::Result<u8> {
+    let input = input(rt)?;
+    let status = run_serve(
+        rt,
+        address,
+        rounds,
+        input.as_slice(),
+        &mut rt.stdout(),
+        &mut rt.stderr(),
+    );
+    Ok(status)
+}
+
+// The standard input, which is read whole.
+fn input(rt: &HostRuntime) -> io::Result<Vec<u8>> {
+    let mut input = Vec::new(rt.alloc());
+    rt.stdin().read_to_end(&mut input)?;
+    Ok(input)
 }

@@ -43,6 +43,10 @@ pub record Offer : Type 0 where
   pub space : NameSpace
   pub state : Result State Refusal
 
+-- an offer, or the first reason against its name space
+abbrev pub Offered : Type 0
+Offered = Result Offer Refusal
+
 abbrev pub offer : Texts → NameSpace → Offer
 offer texts space = record { space = space; state = served_in texts space }
 

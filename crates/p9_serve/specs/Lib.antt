@@ -1,1 +1,3 @@
 pub mod Serving
+pub mod Rounds
+pub mod Run

@@ -1,7 +1,12 @@
-//! Clients served over streams, one turn each in a round, by one guard.
+//! A guard served to clients over sockets: connections in a slab, one turn each in a round.
 #![tactic(auto)]
 
 mod clients;
+mod clock;
+mod run;
+mod server;
 
 pub use clients::{Clients, Tally};
 pub use p9_conn::{Conn, Turn, laws};
+pub use run::{run_serve, tell_failure};
+pub use server::{Round, Server};
