@@ -1,6 +1,6 @@
 //! The exchange of a script in words and of what was printed for it.
 
-ghost use Rattle.std.specs.Prelude.{◌≡◌, ◌≤◌, IfErr, IfOk, OnOk, Ok, length, map};
+ghost use Rattle.std.specs.Prelude.{◌≡◌, ◌≤◌, IfErr, OnOk, Ok, length, map};
 ghost use Rattle.p9_exchange.specs.Exchange.{talked, all_told, exchange_of_lines, exchange_in};
 ghost use Rattle.p9_exchange.specs.Exchange.{exchange_of};
 ghost use Rattle.p9_exchange.specs.Refusal.{IsStop, Makes};

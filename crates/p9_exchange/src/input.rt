@@ -1,10 +1,9 @@
 //! An input as lines, and where its sections begin.
 
-ghost use Rattle.std.specs.Prelude.{◌≡◌, ◌+◌, ◌≤◌, IfErr, IfOk, IfNone, IfSome, length, map, take};
+ghost use Rattle.std.specs.Prelude.{◌≡◌, ◌+◌, ◌≤◌, IfOk, IfNone, IfSome, length, map, take};
 ghost use Rattle.std.specs.Prelude.{drop, true, false};
 ghost use Rattle.std.specs.Str.{is_utf8};
-ghost use Rattle.p9_exchange.specs.Input.{ends_empty, whole_lines, lines_before, script_head};
-ghost use Rattle.p9_exchange.specs.Input.{replies_head};
+ghost use Rattle.p9_exchange.specs.Input.{ends_empty, whole_lines, lines_before};
 
 use p9_base::lines;
 use std::alloc::{AllocError, Allocator};

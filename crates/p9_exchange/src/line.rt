@@ -1,6 +1,6 @@
 //! Lines of a script in words.
 
-ghost use Rattle.std.specs.Prelude.{◌≡◌, ◌==◌, length};
+ghost use Rattle.std.specs.Prelude.{◌≡◌};
 ghost use Rattle.p9_words.specs.Reading.{Gives, first_word, behind_word};
 ghost use Rattle.p9_exchange.specs.Line.{line_view, short_at, end_at, bytes_at, session_at};
 ghost use Rattle.p9_exchange.specs.Line.{open_at};

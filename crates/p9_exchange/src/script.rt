@@ -3,7 +3,7 @@
 ghost use Rattle.std.specs.Prelude.{◌≡◌, ◌++◌, IfErr, IfOk, OnOk, Ok, map};
 ghost use Rattle.std.specs.List.{flat_map};
 ghost use Rattle.std.specs.String.{string_bytes};
-ghost use Rattle.p9_exchange.specs.Input.{whole_lines, head_lines, script_lines};
+ghost use Rattle.p9_exchange.specs.Input.{whole_lines};
 ghost use Rattle.p9_exchange.specs.Line.{line_view, line_at};
 ghost use Rattle.p9_exchange.specs.Refusal.{IsStop, Makes, or_refused};
 ghost use Rattle.p9_exchange.specs.Script.{ended, line_text, with_line, written_behind};

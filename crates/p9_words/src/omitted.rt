@@ -1,6 +1,6 @@
 //! Messages in words of which the tag and the msize may be left out.
 
-ghost use Rattle.std.specs.Prelude.{◌≡◌, IfOk, Some, option_map, map};
+ghost use Rattle.std.specs.Prelude.{◌≡◌, IfOk, Some, option_map};
 ghost use Rattle.p9_words.specs.Reading.{Gives};
 ghost use Rattle.p9_words.specs.Omitted.{tag_for, omitted, is_next, given_at, given_from};
 ghost use Rattle.p9_words.specs.Omitted.{message_of_words};
