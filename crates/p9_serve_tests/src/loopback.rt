@@ -1,0 +1,133 @@
+//! A server on loopback, and clients of it in the same process.
+
+use crate::rows::Row;
+use mio::net::{TcpListener, TcpStream};
+use p9_commands::served_guard;
+use p9_index::IndexTree;
+use p9_serve::Server;
+use std::alloc::Global;
+use std::io::{ErrorKind, Read, Write};
+use std::net::{Ipv4Addr, Net, SocketAddr};
+use std::process::Abort;
+
+// More rounds than any test takes.
+const ROUNDS: u64 = 10_000;
+
+/// The address of a port that the system chooses.
+pub fn any_port() -> SocketAddr {
+    SocketAddr::from((Ipv4Addr::LOCALHOST, 0))
+}
+
+/// A server, and what its rounds came to.
+#[derive(Drop)]
+pub struct Loopback {
+    server: Server<IndexTree<Global>>,
+    pub rounds: u64,
+    pub accepted: u64,
+    pub moved: u64,
+    pub closed: u64,
+}
+
+impl Loopback {
+    /// A server of an input.
+    pub fn new(rt: &(impl Abort + AllocGlobal + Net), input: &str) -> Loopback {
+        let mut told = Vec::new(rt.alloc());
+        let guard = served_guard(input.as_bytes(), &mut told)
+            .expect(rt, "memory")
+            .expect(rt, "a guard");
+        let listener = TcpListener::bind(rt, any_port()).expect(rt, "a listener");
+        Loopback {
+            server: Server::new(rt.alloc(), listener, guard),
+            rounds: 0,
+            accepted: 0,
+            moved: 0,
+            closed: 0,
+        }
+    }
+
+    /// A client that has connected, and does not wait.
+    pub fn connect(&self, rt: &(impl Abort + AllocGlobal + Net)) -> TcpStream {
+        let address = self.server.local_addr().expect(rt, "an address");
+        TcpStream::connect(rt, address).expect(rt, "a connection")
+    }
+
+    /// Takes a round, counts, and returns whether something moved.
+    pub fn round(&mut self) -> bool {
+        let round = self.server.round(0);
+        self.rounds = self.rounds.saturating_add(1);
+        self.accepted = self.accepted.saturating_add(round.accepted);
+        self.moved = self.moved.saturating_add(round.moved);
+        self.closed = self.closed.saturating_add(round.closed);
+        round.moved > 0
+    }
+
+    /// Takes rounds until a client has got a reply, which is to be this one.
+    pub fn reply(&mut self, rt: &(impl Abort + AllocGlobal), client: &mut TcpStream, digits: &str) {
+        let wanted = bytes(rt, digits);
+        let mut got = Vec::new(rt.alloc());
+        for _ in self.rounds..ROUNDS {
+            let _ = self.round();
+            receive(rt, client, &mut got);
+            if got.len() >= wanted.len() {
+                break;
+            }
+        }
+        assert_eq!(rt; got.as_slice(), wanted.as_slice());
+    }
+
+    /// Sends requests, one behind the other, each when the reply to the one before is there.
+    pub fn ask(&mut self, rt: &(impl Abort + AllocGlobal), client: &mut TcpStream, rows: &[Row]) {
+        for row in rows {
+            send(rt, client, bytes(rt, row.0).as_slice());
+            self.reply(rt, client, row.1);
+        }
+    }
+
+    /// Takes rounds until nothing moves.
+    pub fn settle(&mut self) {
+        for _ in self.rounds..ROUNDS {
+            if !self.round() {
+                break;
+            }
+        }
+    }
+
+    /// Takes rounds until so many connections are closed.
+    pub fn close(&mut self, rt: &impl Abort, count: u64) {
+        for _ in self.rounds..ROUNDS {
+            if self.closed == count {
+                break;
+            }
+            let _ = self.round();
+        }
+        assert_eq!(rt; self.closed, count);
+    }
+
+    /// Closes all, and compares that no session of the first keys is open.
+    pub fn finish(self, rt: &impl Abort, keys: u32) {
+        let Loopback { server, .. } = self;
+        let guard = server.finish(0);
+        for key in 0..keys {
+            assert!(rt; !guard.live(key));
+        }
+    }
+}
+
+/// Sends bytes, of which the system takes all at once.
+pub fn send(rt: &impl Abort, client: &mut TcpStream, bytes: &[u8]) {
+    assert_eq!(rt; client.write(bytes).ok(), Some(bytes.len()));
+}
+
+/// Takes what has come.
+fn receive(rt: &impl Abort, client: &mut TcpStream, got: &mut Vec<u8>) {
+    let mut buffer = [0u8; 512];
+    match client.read(&mut buffer) {
+        Ok(count) => assert!(rt; got.extend_from_slice(&buffer[..count]).is_ok()),
+        Err(error) => assert_eq!(rt; error.kind(), ErrorKind::WouldBlock),
+    }
+}
+
+/// The bytes of hexadecimal digits.
+pub fn bytes(rt: &(impl Abort + AllocGlobal), digits: &str) -> Vec<u8> {
+    hex::decode(rt.alloc(), digits).expect(rt, "hexadecimal digits")
+}
