@@ -52,7 +52,8 @@ const REFUSED: [(&str, &str); 5] = [
     ("%% cert\n", "cert:1: bad line\n"),
     (
         "%% cert\ncert 1\ndir 0 0\n",
-        "cert: gap row 1 child 0 1 member 0 1 missing\n",
+        "cert: gap row \
+1 child 0 1 member 0 1 missing\n",
     ),
     (
         "%% cert\ncert 1\ndir 0 0\n%% script\nclose\n",
