@@ -43,7 +43,7 @@ Served offered w status =
 -- and of a failure: an allocation failed, or the system
 abbrev pub failure_status : ErrorKind → ℕ
 failure_status OutOfMemory = 3
-failure_status other = 4
+failure_status kind = 4
 
 -- the exit status of a failure
 abbrev pub IsFailure : ℕ → Type 0
