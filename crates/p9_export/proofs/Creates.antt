@@ -77,6 +77,15 @@ module _ (setting : Setting) (forest : List Server) (v : Fid) (name : List ℕ) 
         short = below places_max (length v.trail) all.3;
       }
 
+  -- nothing refuses the creation
+  pub created_in-done : (now : ℕ) (asked : Mode) → node_of target forest ≡ Some dir
+      → (session : Session) (fid : ℕ) (o : Opening)
+      → fault_in setting forest v name target dir ≡ None
+      → created_in setting forest session now fid v name asked o target
+      ≡ creation forest session now fid v target dir name asked o
+  unfolding given unless
+  created_in-done now asked found session fid o none = rw (found, none) refl
+
   module _ (now : ℕ) (asked : Mode) (new : New)
       (made : new_node 0 dir.number new ≡ created v.user now 0 dir name asked)
       (found : node_of target forest ≡ Some dir) where
@@ -103,14 +112,6 @@ module _ (setting : Setting) (forest : List Server) (v : Fid) (name : List ℕ) 
           empty_dir = λ h. empty;
         }
 
-    -- nothing refuses the creation
-    created_in-done : (session : Session) (fid : ℕ) (o : Opening)
-        → fault_in setting forest v name target dir ≡ None
-        → created_in setting forest session now fid v name asked o target
-        ≡ creation forest session now fid v target dir name asked o
-    unfolding given unless
-    created_in-done session fid o none = rw (found, none) refl
-
     -- the fid's trail goes on to it, and is open
     pub creation-did : (answer : Answer) (forest' : List Server) (session session' : Session)
         (fid : ℕ) (o : Opening) (qid : Qid) (room : ℕ)
@@ -130,7 +131,7 @@ module _ (setting : Setting) (forest : List Server) (v : Fid) (name : List ℕ) 
     creation-did answer forest' session session' fid o qid room none is changed went qid_is
         room_is =
         let next = next_of target.server forest in
-        let done = created_in-done session fid o none in
+        let done = created_in-done now asked found session fid o none in
         let did : answer ≡ creation forest session now fid v target dir name asked o = is ∙ done in
         let q : qid ≡ qid_of (beside target next) (created v.user now next dir name asked) =
         qid_is ∙ ap (qid_of (beside target next)) (node_is next) in

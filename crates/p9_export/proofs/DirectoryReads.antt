@@ -115,7 +115,7 @@ module _ (setting : Setting) (forest : List Server) (old : Session) (fid : ℕ) 
         reply = Rread bs;
       })) (sym bytes))
 
--- The data of a read stand at the front of the buffer.
+-- The data of a read are at the front of the buffer.
 pub data_kept : (sub rest : List ℕ) (result : Result ℕ Fault)
     → IfOk result (λ count. count ≤ length sub)
     → replied (data_reply (sub ++ rest)) result ≡ replied (data_reply sub) result
@@ -123,7 +123,7 @@ data_kept sub rest (Ok count) within =
     ap (λ bytes. Ok (Rread bytes)) (take-append-le count sub rest within)
 data_kept sub rest (Err fault) within = refl
 
--- What a fid that is open for reading stands on.
+-- What a fid that is open for reading is on.
 pub record IsReadable (setting : Setting) (forest : List Server) (session : Session) (fid : ℕ)
     (v : Fid) (o : Opened) (n : Node) : Type 0 where
   pub there : fid_at fid session.fids ≡ Some v

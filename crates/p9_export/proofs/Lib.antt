@@ -6,6 +6,7 @@ mod Listings
 mod Places
 mod Removals
 mod Rooms
+mod Sessions
 mod Sounds
 mod Steps
 mod Truncation

@@ -151,7 +151,7 @@ left_reached (Some c) forest who ms position at =
 
 -- Order.
 
--- each entry stands behind those before it
+-- each entry is behind those before it
 abbrev Rising : List Entry → Type 0
 Rising [] = ⊤
 Rising (e ∷ es) = All (λ x. is_behind (Some (cursor_of e)) x ≡ true) es × Rising es
@@ -211,7 +211,7 @@ not_both x y e = grind (arith, nat_tests)
 not_itself : (x : Entry) → is_behind (Some (cursor_of x)) x ≡ false
 not_itself x = grind (arith, nat_tests)
 
--- behind the first that is left stand the others
+-- behind the first that is left are the others
 others_left : (c : Option Cursor) (xs : List Entry) (e : Entry) (es : List Entry) → Rising xs
     → filter (is_behind c) xs ≡ e ∷ es → filter (is_behind (Some (cursor_of e))) xs ≡ es
 others_left c [] e es rising left = absurd (cc)

@@ -36,7 +36,7 @@ node_of-below forest at n sound found = go (slice_get forest at.server) refl
         let few = well.few in
         omega arith
 
--- the number of a node that stands in a directory is below 2^48
+-- the number of a node that is in a directory is below 2^48
 pub child_in_after-below : (forest : List Server) (dir : NodeRef) (floor : Option ℕ) (n : Node)
     → IsForest forest → child_in_after dir floor forest ≡ Some n → n.number < 2 ^ 48
 child_in_after-below forest dir floor n sound found = go (slice_get forest dir.server) refl

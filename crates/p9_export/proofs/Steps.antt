@@ -61,7 +61,7 @@ module _ (state : State) (name : ℕ) (forest : List Server) (rows : List Sessio
   same_rows : changed_session name session state.sessions ≡ state.sessions
   same_rows = set_value-same (is_at (nat_cmp name)) state.sessions session there
 
-  -- want of memory
+  -- a failed allocation
   without_memory : (answer : Answer) (refused : Bool) → forest ≡ state.forest
       → rows ≡ state.sessions → refused ≡ true → ran_out frame answer ≡ true
       → bytes ≡ no_memory_reply frame → Makes refused answer
@@ -91,7 +91,7 @@ module _ (state : State) (name : ℕ) (forest : List Server) (rows : List Sessio
             bytes_are = written;
           })
 
-  -- a reply that is no refusal isn't want of memory's
+  -- a reply that is no refusal isn't that of a failed allocation
   unmarked : (answer : Answer) (m : RMessage) → Plain (ran_out frame answer) (Ok m)
       → bytes ≡ r_spelling (tag_of frame) m
       → (is_no_memory_reply frame bytes && ran_out frame answer) ≡ false

@@ -71,7 +71,7 @@ pub write-did : (answer : Answer) (forest forest' : List Server) (session : Sess
 unfolding applied edited
 write-did answer forest forest' session now bytes v at place done changed = rw done (refl, changed)
 
--- memory was refused where no refusal is due
+-- an allocation failed where no refusal is due
 pub memory_refused : {X : Type 0} (reply : X → RMessage) (answer : Answer) (o : Outcome)
     (forest forest' : List Server) (old new : Session) (result : Result X Fault) (fault : Fault)
     → answer ≡ Ok o → result ≡ Err fault → fault ≡ OutOfMemory → forest' ≡ forest → new ≡ old

@@ -26,7 +26,7 @@ changes_of (Ok outcome) = outcome.changes
 changes_of (Err fault) = []
 
 -- the forest, the session and the reply are the outcome's; a refusal has the answer's fault, or is
--- want of memory where that may be answered, and leaves both
+-- a failed allocation where that may be answered, and leaves both
 abbrev pub Answers : Answer → Bool → List Server → List Server → Session → Session
     → Result RMessage Fault → Type 0
 Answers answer may_run_out forest forest' old new (Ok reply) =
@@ -67,7 +67,7 @@ stat_reply forest at =
 abbrev pub data_reply : List ℕ → ℕ → RMessage
 data_reply bytes count = Rread (take count bytes)
 
--- the reply that is made of what stands in the forest, and of the data
+-- the reply that is made of what is in the forest, and of the data
 abbrev pub reply_view : List Server → List ℕ → Reply → RMessage
 reply_view forest bytes (Message m) = r_view m
 reply_view forest bytes (Data count) = data_reply bytes count

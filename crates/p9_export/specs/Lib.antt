@@ -3,3 +3,4 @@ pub mod Wstat
 pub mod Answers
 pub mod Room
 pub mod Listing
+pub mod Held

@@ -4,6 +4,7 @@ ghost use Rattle.std.specs.Prelude.{◌≡◌, ◌≤◌, List, IsSome, IfSome, 
 ghost use Rattle.std.specs.Option.{option_map_or};
 ghost use Rattle.p9_wire.specs.Message.{t_view};
 ghost use Rattle.p9_wire.specs.Spelling.{read_header};
+ghost use Rattle.p9_export.specs.Held.{SessionFits, SessionsFit, sessions_in};
 ghost use Rattle.p9_export.specs.Answers.{AnswersAmong, CanWrite, frame_among, replied, reply_view};
 ghost use Rattle.p9_export.specs.Room.{IsDataWithin};
 ghost use Rattle.p9_step.specs.Laws.{reply_max};
@@ -28,7 +29,7 @@ use std::collections::BTreeMap;
 /// [`READ_HEADER`] bytes of the reply.
 ///
 /// A frame that is no request is refused as by [`request_of`], a request by the first test of its
-/// own function that fails. An `Err` leaves the forest and all sessions.
+/// own function that fails. At an `Err` the forest and all sessions are unchanged.
 pub fn answer<T: Tree>(
     setting: &Setting<T::Alloc>,
     forest: &mut Forest<T>,
@@ -38,20 +39,22 @@ pub fn answer<T: Tree>(
     frame: &[u8],
     reply: &mut [u8],
 ) -> Result<Reply, Fault>
-    requires live { IsSome (session_at name sessions.old.entries) }
-    requires sound { IfSome (session_at name sessions.old.entries) (IsSession setting.now
+    requires channels { SessionsFit setting.now.table sessions.old.entries }
+    requires live { IsSome (session_at name (sessions_in sessions.old.entries)) }
+    requires sound { IfSome (session_at name (sessions_in sessions.old.entries)) (IsSession setting.now
         (map T.state forest.old.trees.items)) }
-    requires room { IfSome (session_at name sessions.old.entries) (λ session. reply_max session
+    requires room { IfSome (session_at name (sessions_in sessions.old.entries)) (λ session. reply_max session
         ≤ length reply.old) }
+    ensures channels { SessionsFit setting.now.table sessions.new.entries }
     ensures reply { CanWrite result }
-    ensures data { IfSome (session_at name sessions.old.entries) (λ session. IsDataWithin
+    ensures data { IfSome (session_at name (sessions_in sessions.old.entries)) (λ session. IsDataWithin
         (room_of session) result) }
     ensures len { length reply.new ≡ length reply.old }
     ensures answer { let old = map T.state forest.old.trees.items in
         let new = map T.state forest.new.trees.items in
-        let answer = frame_among setting.now old sessions.old.entries name now frame.now in
-        AnswersAmong name answer (ran_out frame.now answer) old new sessions.old.entries
-        sessions.new.entries (replied (reply_view new (drop read_header reply.new)) result) }
+        let answer = frame_among setting.now old (sessions_in sessions.old.entries) name now frame.now in
+        AnswersAmong name answer (ran_out frame.now answer) old new
+        (sessions_in sessions.old.entries) (sessions_in sessions.new.entries) (replied (reply_view new (drop read_header reply.new)) result) }
 {
     let (_, buffer) = reply.split_at_mut(READ_HEADER);
     let session = sessions.get_mut(&name).unwrap();
@@ -71,8 +74,9 @@ fn wanted_alone<T: Tree>(
     session: &Session<T::Alloc>,
     request: &TMsg<'_>,
 ) -> Option<NodeRef>
+    requires { SessionFits setting.now.table session.now }
     ensures { (sessions : List SessionRow) → finds_taken setting.now
-        (map T.state forest.now.trees.items) sessions session.now (t_view request.now)
+        (map T.state forest.now.trees.items) sessions session.now.session (t_view request.now)
         ≡ option_map_or (λ at. is_in_use setting.now.table at sessions) result false }
 {
     match request {

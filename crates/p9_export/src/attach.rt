@@ -8,6 +8,7 @@ ghost use Rattle.p9_fids.specs.Fid.{put_fault};
 ghost use Rattle.p9_wire.specs.Message.{Rattach};
 ghost use Rattle.p9_step.specs.Attach.{attach_answer, attach_walk, attached_at, is_attach_name};
 ghost use Rattle.p9_step.specs.Attach.{listed_user};
+ghost use Rattle.p9_export.specs.Held.{SessionFits};
 ghost use Rattle.p9_export.specs.Answers.{Answers, replied};
 
 use crate::qid::qid_of;
@@ -16,7 +17,7 @@ use crate::setting::Setting;
 use p9_base::{Fault, NOFID, NodeRef, Qid, User};
 use p9_clean::cleaned_elements;
 use p9_fids::Fid;
-use p9_space::{ROOT_PLACE, Trail, resolve};
+use p9_space::{Channels, ROOT_PLACE, Trail, resolve};
 use p9_tree::{Forest, Tree};
 
 /// Makes a fid for a directory of the name space, held by a listed user: the root, or the one that
@@ -38,9 +39,11 @@ pub fn attach<T: Tree>(
     uname: &str,
     aname: &str,
 ) -> Result<Qid, Fault>
-    ensures { let forest = map T.state forest.now.trees.items in
-        Answers (attach_answer setting.now forest session.old fid afid uname.now aname.now) true
-        forest forest session.old session.new (replied Rattach result) }
+    requires channels { SessionFits setting.now.table session.old }
+    ensures channels { SessionFits setting.now.table session.new }
+    ensures answer { let forest = map T.state forest.now.trees.items in
+        Answers (attach_answer setting.now forest session.old.session fid afid uname.now aname.now) true
+        forest forest session.old.session session.new.session (replied Rattach result) }
 {
     if let Some(fault) = session.fids.put_fault(fid) {
         return Err(fault);
@@ -100,10 +103,12 @@ fn attach_at<T: Tree>(
     user: User,
     place: NodeRef,
 ) -> Result<Qid, Fault>
-    requires { put_fault fid session.old.fids ≡ None }
-    ensures { let forest = map T.state forest.now.trees.items in
-        Answers (attached_at setting.now forest session.old fid user place) true forest forest
-        session.old session.new (replied Rattach result) }
+    requires channels { SessionFits setting.now.table session.old }
+    requires free { put_fault fid session.old.session.fids ≡ None }
+    ensures channels { SessionFits setting.now.table session.new }
+    ensures answer { let forest = map T.state forest.now.trees.items in
+        Answers (attached_at setting.now forest session.old.session fid user place) true forest forest
+        session.old.session session.new.session (replied Rattach result) }
 {
     let at = setting.table.file(place);
     let Some(file) = forest.node(at) else {
@@ -115,11 +120,12 @@ fn attach_at<T: Tree>(
     forest.well_formed();
     let qid = qid_of(at, file);
     let trail = Trail::at(setting.alloc, place)?;
+    let channels = Channels::of(&setting.table, trail)?;
     session.fids.put(
         fid,
         Fid {
             user,
-            trail,
+            channels,
             opened: None,
         },
     )?;

@@ -2,6 +2,7 @@
 
 ghost use Rattle.std.specs.Prelude.{◌≡◌, false, map};
 ghost use Rattle.p9_wire.specs.Message.{Rclunk};
+ghost use Rattle.p9_export.specs.Held.{SessionFits};
 ghost use Rattle.p9_export.specs.Answers.{Answers, replied};
 ghost use Rattle.p9_step.specs.Clunk.{clunk_answer};
 ghost use Rattle.p9_step.specs.Sound.{FidsFit};
@@ -14,8 +15,8 @@ use p9_tree::{Forest, Tree};
 
 /// Lets a fid go, with what its end does ([`end_fid`]).
 ///
-/// A fid that isn't there is [`Fault::UnknownFid`], and leaves all. Nothing else refuses, and it
-/// takes no memory.
+/// A fid that isn't there is [`Fault::UnknownFid`], and nothing changes. Nothing else refuses, and
+/// it takes no memory.
 pub fn clunk<T: Tree>(
     setting: &Setting<T::Alloc>,
     forest: &mut Forest<T>,
@@ -23,11 +24,13 @@ pub fn clunk<T: Tree>(
     now: u32,
     fid: u32,
 ) -> Result<(), Fault>
-    requires { FidsFit setting.now.table (map T.state forest.old.trees.items) session.old.fids }
-    ensures { let old = map T.state forest.old.trees.items in
+    requires opened { FidsFit setting.now.table (map T.state forest.old.trees.items) session.old.session.fids }
+    requires channels { SessionFits setting.now.table session.old }
+    ensures channels { SessionFits setting.now.table session.new }
+    ensures answer { let old = map T.state forest.old.trees.items in
         let new = map T.state forest.new.trees.items in
-        Answers (clunk_answer setting.now old session.old now fid) false old new session.old
-        session.new (replied (λ _. Rclunk) result) }
+        Answers (clunk_answer setting.now old session.old.session now fid) false old new session.old.session
+        session.new.session (replied (λ _. Rclunk) result) }
 {
     let Some(ended) = session.fids.take(fid) else {
         return Err(Fault::UnknownFid);

@@ -1,6 +1,6 @@
 //! The answer to a create, as open(5).
 
-ghost use Rattle.std.specs.Prelude.{◌≡◌, ◌<◌, ◌++◌, ◌∷◌, [], IfOk, IfSome, IsSome, OnErr, OnOk};
+ghost use Rattle.std.specs.Prelude.{◌≡◌, ◌<◌, ◌++◌, ◌∷◌, [], List, IfOk, IfSome, IsSome, OnErr, OnOk};
 ghost use Rattle.std.specs.Prelude.{length, map};
 ghost use Rattle.std.specs.Option.{option_copied};
 ghost use Rattle.p9_tree.specs.Forest.{forest_changed_at, next_of, server_at, tree_changed_at};
@@ -8,7 +8,10 @@ ghost use Rattle.p9_base.specs.NodeRef.{beside};
 ghost use Rattle.p9_tree.specs.New.{new_node};
 ghost use Rattle.p9_tree.specs.Node.{marked};
 ghost use Rattle.p9_tree.specs.Server.{CanAdd, added};
+ghost use Rattle.p9_space.specs.Channel.{Fits, trail_of};
+ghost use Rattle.p9_space.specs.Table.{MountRow};
 ghost use Rattle.p9_fids.specs.Fid.{fid_at};
+ghost use Rattle.p9_export.specs.Held.{SessionFits};
 ghost use Rattle.p9_export.specs.Answers.{Answers, replied};
 ghost use Rattle.p9_step.specs.Create.{create_answer, create_reply, created, created_in, entered};
 ghost use Rattle.p9_step.specs.Create.{fault_in, permitting, target_among};
@@ -21,24 +24,25 @@ use crate::session::Session;
 use crate::setting::Setting;
 use p9_base::{Fault, Mode, Name, NoMemory, NodeRef, Qid, User};
 use p9_fids::Fid;
-use p9_space::{Member, PLACES_MAX, TO_WRITE, Trail, dir_fault, may};
+use p9_space::{Channels, Member, MountTable, PLACES_MAX, TO_WRITE, dir_fault, may};
 use p9_step::Opening;
 use p9_tree::{Forest, NEXT_MAX, New, Node, Tree};
 use std::alloc::Allocator;
 
-/// Makes a file or directory where the fid stands, in the first member that permits creation, and
+/// Makes a file or directory where the fid is, in the first member that permits creation, and
 /// goes on to it: the fid is then open for what the mode's bits ask. It answers the new qid and the
 /// session's iounit ([`Session::room`]).
 ///
-/// The first that applies refuses, and leaves all: there is no such fid, [`Fault::UnknownFid`]; it
-/// is open, [`Fault::FidOpen`]; the name isn't valid, [`Fault::BadFileName`]; the mode or `perm`
-/// means nothing, [`Fault::BadOpenMode`]; a directory is asked for anything but to be read,
-/// [`Fault::IsDirectory`]; no member exists, [`Fault::PhaseError`]; none is a directory,
-/// [`Fault::NotDirectory`]; none permits creation, [`Fault::CreationForbidden`]; the first that
-/// does doesn't exist, [`Fault::PhaseError`], or is no directory, [`Fault::NotDirectory`]; the user
-/// may not write it, [`Fault::PermissionDenied`]; it has that name, [`Fault::FileExists`]; the
-/// server's numbers are used up, [`Fault::QidsUsedUp`]; the fid's trail has [`PLACES_MAX`] places,
-/// [`Fault::PathTooDeep`]. Else memory may be refused, [`Fault::OutOfMemory`].
+/// The first that applies refuses, and nothing changes: there is no such fid,
+/// [`Fault::UnknownFid`]; it is open, [`Fault::FidOpen`]; the name isn't valid,
+/// [`Fault::BadFileName`]; the mode or `perm` means nothing, [`Fault::BadOpenMode`]; a directory is
+/// asked for anything but to be read, [`Fault::IsDirectory`]; no member exists,
+/// [`Fault::PhaseError`]; none is a directory, [`Fault::NotDirectory`]; none permits creation,
+/// [`Fault::CreationForbidden`]; the first that does doesn't exist, [`Fault::PhaseError`], or is no
+/// directory, [`Fault::NotDirectory`]; the user may not write it, [`Fault::PermissionDenied`]; it
+/// has that name, [`Fault::FileExists`]; the server's numbers are used up, [`Fault::QidsUsedUp`];
+/// the fid's trail has [`PLACES_MAX`] places, [`Fault::PathTooDeep`]. Else memory may be refused,
+/// [`Fault::OutOfMemory`].
 pub fn create<T: Tree>(
     setting: &Setting<T::Alloc>,
     forest: &mut Forest<T>,
@@ -49,10 +53,12 @@ pub fn create<T: Tree>(
     perm: u32,
     bits: u8,
 ) -> Result<(Qid, u32), Fault>
-    ensures { let old = map T.state forest.old.trees.items in
+    requires channels { SessionFits setting.now.table session.old }
+    ensures channels { SessionFits setting.now.table session.new }
+    ensures answer { let old = map T.state forest.old.trees.items in
         let new = map T.state forest.new.trees.items in
-        let answer = create_answer setting.now old session.old now fid name.now perm bits in
-        Answers answer (is_done answer) old new session.old session.new
+        let answer = create_answer setting.now old session.old.session now fid name.now perm bits in
+        Answers answer (is_done answer) old new session.old.session session.new.session
         (replied create_reply result) }
 {
     let Some(held) = session.fids.get(fid) else {
@@ -73,7 +79,7 @@ pub fn create<T: Tree>(
     if asked.is_dir() && !opening.is_plain_read() {
         return Err(Fault::IsDirectory);
     }
-    let members = setting.table.members(held.trail.here());
+    let members = held.channels.members(&setting.table);
     match target_among(forest, members.as_slice()) {
         Ok(target) => create_in(
             setting, forest, session, now, fid, name, asked, opening, target,
@@ -82,7 +88,7 @@ pub fn create<T: Tree>(
     }
 }
 
-// The directory where a node is to be made, among the members that stand there.
+// The directory where a node is to be made, among the members that are there.
 fn target_among<T: Tree>(forest: &Forest<T>, members: &[Member]) -> Result<NodeRef, Fault>
     ensures { result ≡ target_among (map T.state forest.now.trees.items) members.now }
 {
@@ -113,12 +119,14 @@ fn create_in<T: Tree>(
     opening: Opening,
     target: NodeRef,
 ) -> Result<(Qid, u32), Fault>
-    requires { IsSome (fid_at fid session.old.fids) }
-    ensures { let old = map T.state forest.old.trees.items in
+    requires there { IsSome (fid_at fid session.old.session.fids) }
+    requires channels { SessionFits setting.now.table session.old }
+    ensures channels { SessionFits setting.now.table session.new }
+    ensures answer { let old = map T.state forest.old.trees.items in
         let new = map T.state forest.new.trees.items in
-        IfSome (fid_at fid session.old.fids) (λ v.
-        let answer = created_in setting.now old session.old now fid v
-        name asked opening target in Answers answer (is_done answer) old new session.old session.new
+        IfSome (fid_at fid session.old.session.fids) (λ v.
+        let answer = created_in setting.now old session.old.session now fid v
+        name asked opening target in Answers answer (is_done answer) old new session.old.session session.new.session
         (replied create_reply result)) }
 {
     let held = session.fids.get(fid).unwrap();
@@ -130,9 +138,9 @@ fn create_in<T: Tree>(
         return Err(fault);
     }
     let new = new_in(dir, name, asked, held.user, now);
-    let trail = trail_to(&held.trail, target.beside(next))?;
+    let channels = channels_to(&setting.table, &held.channels, target.beside(next))?;
     let qid = add_to(forest, target, &new)?;
-    enter(session, fid, trail, opening);
+    enter(session, fid, channels, opening);
     Ok((qid, session.room()))
 }
 
@@ -148,7 +156,7 @@ fn fault_in<T: Tree>(
     next: u64,
 ) -> Option<Fault>
     requires { next ≡ next_of target.server (map T.state forest.now.trees.items) }
-    ensures { result ≡ fault_in setting.now (map T.state forest.now.trees.items) held.now name.now
+    ensures { result ≡ fault_in setting.now (map T.state forest.now.trees.items) held.now.fid name.now
         target
         dir.now }
 {
@@ -160,7 +168,7 @@ fn fault_in<T: Tree>(
         Some(Fault::FileExists)
     } else if next >= NEXT_MAX {
         Some(Fault::QidsUsedUp)
-    } else if held.trail.len() >= PLACES_MAX {
+    } else if held.channels.trail().len() >= PLACES_MAX {
         Some(Fault::PathTooDeep)
     } else {
         None
@@ -189,13 +197,19 @@ fn new_in<A: Allocator>(
     }
 }
 
-// A trail of its own that goes on from this one to a place.
-fn trail_to<A: Allocator + Copy>(trail: &Trail<A>, place: NodeRef) -> Result<Trail<A>, NoMemory>
-    requires { length trail.now < PLACES_MAX }
-    ensures { IfOk result (λ longer. longer ≡ trail.now ++ place ∷ []) }
+// Channels of their own that go on from these to a place.
+fn channels_to<A: Allocator + Copy>(
+    table: &MountTable<A>,
+    channels: &Channels<A>,
+    place: NodeRef,
+) -> Result<Channels<A>, NoMemory>
+    requires fits { Fits table.now channels.now }
+    requires room { length (trail_of channels.now) < PLACES_MAX }
+    ensures trail { IfOk result (λ longer. trail_of longer ≡ trail_of channels.now ++ place ∷ []) }
+    ensures fits { IfOk result (λ longer. Fits table.now longer) }
 {
-    let mut longer = trail.copy()?;
-    longer.push(place)?;
+    let mut longer = channels.copy()?;
+    longer.push(table, place)?;
     Ok(longer)
 }
 
@@ -218,11 +232,18 @@ fn add_to<T: Tree>(forest: &mut Forest<T>, target: NodeRef, new: &New<'_>) -> Re
     Ok(new_qid(at, new.mode))
 }
 
-// Takes the fid to the end of the trail, where it is open.
-fn enter<A: Allocator + Copy>(session: &mut Session<A>, fid: u32, trail: Trail<A>, opening: Opening)
-    requires { IsSome (fid_at fid session.old.fids) }
-    ensures { session.new ≡ entered fid trail opening session.old }
+// Takes the fid to where the channels lead, and there it is open.
+fn enter<A: Allocator + Copy>(
+    session: &mut Session<A>,
+    fid: u32,
+    channels: Channels<A>,
+    opening: Opening,
+)
+    requires { IsSome (fid_at fid session.old.session.fids) }
+    ensures entered { session.new.session
+        ≡ entered fid (trail_of channels) opening session.old.session }
+    ensures channels { (table : List MountRow) → SessionFits table session.old →
+        Fits table channels → SessionFits table session.new }
 {
-    session.fids.move_to(fid, trail);
-    session.fids.set_opened(fid, opening.opened());
+    session.fids.open_at(fid, channels, opening.opened());
 }

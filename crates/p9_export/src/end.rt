@@ -1,6 +1,7 @@
 //! The end of fids, and removal on close, as clunk(5).
 
 ghost use Rattle.std.specs.Prelude.{◌≡◌, [], map};
+ghost use Rattle.p9_fids.specs.Held.{AllFit, HeldFits};
 ghost use Rattle.p9_step.specs.Change.{all_applied};
 ghost use Rattle.p9_step.specs.Sound.{FidFits, FidsFit};
 ghost use Rattle.p9_step.specs.End.{on_end, on_ends, parent_marked};
@@ -21,10 +22,11 @@ pub fn end_fid<T: Tree>(
     fid: &Fid<T::Alloc>,
     now: u32,
 )
-    requires { FidFits setting.now.table (map T.state forest.old.trees.items) fid.now }
+    requires opened { FidFits setting.now.table (map T.state forest.old.trees.items) fid.now.fid }
+    requires channels { HeldFits setting.now.table fid.now }
     ensures { let old = map T.state forest.old.trees.items in
         map T.state forest.new.trees.items ≡ all_applied
-        (on_end setting.now.table now old fid.now) old }
+        (on_end setting.now.table now old fid.now.fid) old }
 {
     if !removes_on_close(fid) {
         return;
@@ -40,12 +42,12 @@ pub fn end_fid<T: Tree>(
 }
 
 fn removes_on_close<A: Allocator + Copy>(fid: &Fid<A>) -> bool
-    ensures { result ≡ removes_on_close fid.now }
+    ensures { result ≡ removes_on_close fid.now.fid }
 {
     fid.opened.is_some_and(|opened| opened.remove_on_close)
 }
 
-/// Marks the directory that a node stands in, by its number at the same server, if it stands in
+/// Marks the directory that a node is in, by its number at the same server, if it is in
 /// one.
 #[tactic(auto, unfolding(p9_step::specs::Change::applied, p9_step::specs::Change::edited))]
 pub fn mark_parent<T: Tree>(
@@ -70,11 +72,13 @@ pub fn end_fids<T: Tree>(
     fids: &mut FidTable<T::Alloc>,
     now: u32,
 )
-    requires { FidsFit setting.now.table (map T.state forest.old.trees.items) fids.old }
+    requires opened { FidsFit setting.now.table (map T.state forest.old.trees.items) fids.old.fids }
+    requires channels { AllFit setting.now.table fids.old }
     ensures forest { let old = map T.state forest.old.trees.items in
         map T.state forest.new.trees.items ≡ all_applied
-        (on_ends setting.now.table now old fids.old) old }
-    ensures fids { fids.new ≡ [] }
+        (on_ends setting.now.table now old fids.old.fids) old }
+    ensures fids { fids.new.fids ≡ [] }
+    ensures channels { AllFit setting.now.table fids.new }
 {
     while let Some(number) = fids.first() {
         forest.well_formed();

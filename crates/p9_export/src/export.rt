@@ -34,7 +34,7 @@ pub enum OpenError {
     /// A session of this name is open.
     #[error("session is open")]
     Live,
-    /// Memory was refused.
+    /// An allocation failed.
     #[error("out of memory")]
     NoMemory,
 }
@@ -50,18 +50,18 @@ pub struct Export<T: Tree> {
 
 impl<T: Tree> Model for Export<T> {
     ghost use Rattle.std.specs.Prelude.{map};
-    ghost use Rattle.p9_step.specs.Sound.{IsServed};
     ghost use Rattle.p9_step.specs.State.{State};
+    ghost use Rattle.p9_export.specs.Held.{IsKept, sessions_in};
 
     ghost Value = { State };
 
     ghost view = { λ e. record {
       setting = e.setting;
       forest = map T.state e.forest.trees.items;
-      sessions = e.sessions.entries;
+      sessions = sessions_in e.sessions.entries;
     } };
 
-    ghost invariant = { λ e. IsServed e.setting (map T.state e.forest.trees.items)
+    ghost invariant = { λ e. IsKept e.setting (map T.state e.forest.trees.items)
         e.sessions.entries };
 }
 
@@ -127,8 +127,8 @@ impl<T: Tree> Export<T> {
 
     /// Opens a session.
     ///
-    /// A session of this name that is open is [`OpenError::Live`]; want of memory is
-    /// [`OpenError::NoMemory`]. Both leave the exporter.
+    /// A session of this name that is open is [`OpenError::Live`]; a failed allocation is
+    /// [`OpenError::NoMemory`]. The exporter is unchanged then.
     pub fn open(&mut self, name: u32) -> Result<(), OpenError>
         ensures ok { OnOk result ((session_at name self.old.sessions ≡ None) × (self.new
             ≡ (step self.old (Open name) false).state)) }

@@ -24,7 +24,7 @@ pub fn request_of<'a, A: Allocator + Copy>(
     session: &Session<A>,
     frame: &'a [u8],
 ) -> Result<TMsg<'a>, Fault>
-    ensures { request_view result ≡ request_of session.now frame.now }
+    ensures { request_view result ≡ request_of session.now.session frame.now }
 {
     if session
         .msize

@@ -3,6 +3,7 @@
 ghost use Rattle.std.specs.Prelude.{◌≡◌, ◌≤◌, ◌+◌, length, map};
 ghost use Rattle.p9_wire.specs.Frame.{msize_max};
 ghost use Rattle.p9_wire.specs.Message.{t_view};
+ghost use Rattle.p9_export.specs.Held.{SessionFits};
 ghost use Rattle.p9_export.specs.Answers.{Answers, CanWrite, replied, reply_view};
 ghost use Rattle.p9_export.specs.Room.{IsDataWithin};
 ghost use Rattle.p9_step.specs.Sound.{FidsFit};
@@ -42,16 +43,18 @@ pub fn message<T: Tree>(
     request: &TMsg<'_>,
     buffer: &mut [u8],
 ) -> Result<Reply, Fault>
+    requires channels { SessionFits setting.now.table session.old }
     requires fids { FidsFit setting.now.table
-        (map T.state forest.old.trees.items) session.old.fids }
-    requires buffer { room_of session.old ≤ length buffer.old }
-    requires room { io_header + room_of session.old ≤ msize_max }
+        (map T.state forest.old.trees.items) session.old.session.fids }
+    requires buffer { room_of session.old.session ≤ length buffer.old }
+    requires room { io_header + room_of session.old.session ≤ msize_max }
+    ensures channels { SessionFits setting.now.table session.new }
     ensures reply { CanWrite result }
-    ensures data { IsDataWithin (room_of session.old) result }
+    ensures data { IsDataWithin (room_of session.old.session) result }
     ensures answer { let old = map T.state forest.old.trees.items in
         let new = map T.state forest.new.trees.items in
-        let answer = session_answer setting.now old taken session.old now (t_view request.now) in
-        Answers answer (may_run_out (t_view request.now) answer) old new session.old session.new
+        let answer = session_answer setting.now old taken session.old.session now (t_view request.now) in
+        Answers answer (may_run_out (t_view request.now) answer) old new session.old.session session.new.session
         (replied (reply_view new buffer.new) result) }
 {
     match request {

@@ -1,8 +1,12 @@
 //! The answer to an open, as open(5).
 
-ghost use Rattle.std.specs.Prelude.{◌≡◌, List, map, false, IfSome, IsSome};
+ghost use Rattle.std.specs.Prelude.{◌≡◌, List, map, false, nat_lt, IfSome, IsSome};
+ghost use Rattle.std.specs.List.{All, list_any};
+ghost use Rattle.std.specs.Map.{values_of};
 ghost use Rattle.std.specs.Option.{option_map_or};
+ghost use Rattle.p9_fids.specs.Fid.{open_count};
 ghost use Rattle.p9_tree.specs.Forest.{node_of};
+ghost use Rattle.p9_export.specs.Held.{SessionFits, SessionsFit, sessions_in};
 ghost use Rattle.p9_export.specs.Answers.{Answers, replied};
 ghost use Rattle.p9_space.specs.Rights.{who_view};
 ghost use Rattle.p9_step.specs.Change.{all_applied};
@@ -27,11 +31,11 @@ use std::collections::BTreeMap;
 /// append-only file. `taken` says that the file is
 /// taken ([`exclusive_file`]).
 ///
-/// The first that applies refuses, and leaves all: there is no such fid, [`Fault::UnknownFid`]; it
-/// is open, [`Fault::FidOpen`]; its file doesn't exist, [`Fault::PhaseError`]; the mode means
-/// nothing, [`Fault::BadOpenMode`]; a directory is asked for anything but to be read,
-/// [`Fault::IsDirectory`]; the user lacks a right, [`Fault::PermissionDenied`]; the file is taken,
-/// [`Fault::ExclusiveUse`]. It takes no memory.
+/// The first that applies refuses, and nothing changes: there is no such fid,
+/// [`Fault::UnknownFid`]; it is open, [`Fault::FidOpen`]; its file doesn't exist,
+/// [`Fault::PhaseError`]; the mode means nothing, [`Fault::BadOpenMode`]; a directory is asked for
+/// anything but to be read, [`Fault::IsDirectory`]; the user lacks a right,
+/// [`Fault::PermissionDenied`]; the file is taken, [`Fault::ExclusiveUse`]. It takes no memory.
 pub fn open<T: Tree>(
     setting: &Setting<T::Alloc>,
     forest: &mut Forest<T>,
@@ -41,10 +45,12 @@ pub fn open<T: Tree>(
     fid: u32,
     bits: u8,
 ) -> Result<(Qid, u32), Fault>
-    ensures { let old = map T.state forest.old.trees.items in
+    requires channels { SessionFits setting.now.table session.old }
+    ensures channels { SessionFits setting.now.table session.new }
+    ensures answer { let old = map T.state forest.old.trees.items in
         let new = map T.state forest.new.trees.items in
-        Answers (open_answer setting.now old taken session.old now fid bits) false old new
-        session.old session.new (replied open_reply result) }
+        Answers (open_answer setting.now old taken session.old.session now fid bits) false old new
+        session.old.session session.new.session (replied open_reply result) }
 {
     let Some(held) = session.fids.get(fid) else {
         return Err(Fault::UnknownFid);
@@ -97,7 +103,7 @@ fn is_cut<A: Allocator>(file: &Node<A>, opening: Opening) -> bool
     opening.truncates && !is_append_only(file)
 }
 
-// Cuts the file where the opening truncates it, and answers its qid after that.
+// Cuts the file where the opening truncates it, and returns its qid after that.
 fn truncated_qid<T: Tree>(
     forest: &mut Forest<T>,
     at: NodeRef,
@@ -156,7 +162,20 @@ pub fn is_in_use<A: Allocator + Copy>(
     at: NodeRef,
     sessions: &BTreeMap<u32, Session<A>, A>,
 ) -> bool
-    ensures { result ≡ is_in_use table.now at sessions.now.entries }
+    requires { SessionsFit table.now sessions.now.entries }
+    ensures { result ≡ is_in_use table.now at (sessions_in sessions.now.entries) }
+{
+    any_has_open(table, at, sessions)
+}
+
+fn any_has_open<A: Allocator + Copy>(
+    table: &MountTable<A>,
+    at: NodeRef,
+    sessions: &BTreeMap<u32, Session<A>, A>,
+) -> bool
+    requires { All (SessionFits table.now) (values_of sessions.now.entries) }
+    ensures { result ≡ list_any (λ held. nat_lt 0 (open_count table.now at held.session.fids))
+        (values_of sessions.now.entries) }
 {
     sessions
         .values()
@@ -171,8 +190,9 @@ pub fn exclusive_file<T: Tree>(
     session: &Session<T::Alloc>,
     fid: u32,
 ) -> Option<NodeRef>
+    requires { SessionFits setting.now.table session.now }
     ensures { (sessions : List SessionRow) → is_taken setting.now
-        (map T.state forest.now.trees.items) sessions session.now fid
+        (map T.state forest.now.trees.items) sessions session.now.session fid
         ≡ option_map_or (λ at. is_in_use setting.now.table at sessions) result false }
 {
     let held = session.fids.get(fid)?;

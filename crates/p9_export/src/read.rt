@@ -8,6 +8,7 @@ ghost use Rattle.p9_fids.specs.Fid.{fid_at};
 ghost use Rattle.p9_tree.specs.Bytes.{read_from};
 ghost use Rattle.p9_tree.specs.Forest.{bytes_of, forest_changed_at};
 ghost use Rattle.p9_tree.specs.Node.{touched};
+ghost use Rattle.p9_export.specs.Held.{SessionFits};
 ghost use Rattle.p9_export.specs.Answers.{Answers, data_reply, replied};
 ghost use Rattle.p9_step.specs.State.{room_of};
 ghost use Rattle.p9_step.specs.Read.{cursor_at, read_answer, read_dir, readable};
@@ -26,7 +27,7 @@ use p9_tree::{Forest, Tree};
 /// was last read (its atime). A directory gives whole stats of the entries of its union that are
 /// left; offset 0 begins anew. This takes no memory.
 ///
-/// The first that applies refuses, and leaves everything: no such fid, [`Fault::UnknownFid`]; not
+/// The first that applies refuses, and nothing changes: no such fid, [`Fault::UnknownFid`]; not
 /// open for reading, [`Fault::FidNotOpen`]; the file is gone, [`Fault::PhaseError`]; in a
 /// directory, an offset that is neither 0 nor where the last read ended,
 /// [`Fault::BadDirectoryOffset`]; there, an entry that is left and no room for it,
@@ -41,12 +42,14 @@ pub fn read<T: Tree>(
     count: u32,
     buffer: &mut [u8],
 ) -> Result<u32, Fault>
-    requires { room_of session.old ≤ length buffer.old }
-    ensures size { IfOk result (λ count. count ≤ room_of session.old) }
+    requires channels { SessionFits setting.now.table session.old }
+    requires room { room_of session.old.session ≤ length buffer.old }
+    ensures channels { SessionFits setting.now.table session.new }
+    ensures size { IfOk result (λ count. count ≤ room_of session.old.session) }
     ensures answer { let old = map T.state forest.old.trees.items in
         let new = map T.state forest.new.trees.items in
-        Answers (read_answer setting.now old session.old now fid offset count) false old new
-        session.old session.new (replied (data_reply buffer.new) result) }
+        Answers (read_answer setting.now old session.old.session now fid offset count) false old new
+        session.old.session session.new.session (replied (data_reply buffer.new) result) }
 {
     let Some(held) = session.fids.get(fid) else {
         return Err(Fault::UnknownFid);
@@ -113,20 +116,22 @@ fn read_dir<T: Tree>(
     offset: u64,
     buffer: &mut [u8],
 ) -> Result<u32, Fault>
-    requires there { IsSome (fid_at fid session.old.fids) }
+    requires channels { SessionFits setting.now.table session.old }
+    requires there { IsSome (fid_at fid session.old.session.fids) }
     requires short { length buffer.old < 2 ^ 32 }
+    ensures channels { SessionFits setting.now.table session.new }
     ensures size { IfOk result (λ count. count ≤ length buffer.old) }
     ensures answer { let forest = map T.state forest.now.trees.items in
-        Answers (given (fid_at fid session.old.fids) UnknownFid
-        (λ v. read_dir setting.now forest session.old fid v opened offset
-        (length buffer.old))) false forest forest session.old session.new (replied
+        Answers (given (fid_at fid session.old.session.fids) UnknownFid
+        (λ v. read_dir setting.now forest session.old.session fid v opened offset
+        (length buffer.old))) false forest forest session.old.session session.new.session (replied
         (data_reply buffer.new) result) }
 {
     if !may_begin(offset, &opened) {
         return Err(Fault::BadDirectoryOffset);
     }
     let held = session.fids.get(fid).unwrap();
-    let members = setting.table.members(held.trail.here());
+    let members = held.channels.members(&setting.table);
     let cursor = cursor_at(offset, &opened);
     let given = list(
         forest,

@@ -1,7 +1,9 @@
 //! The answer to a remove, as remove(5).
 
 ghost use Rattle.std.specs.Prelude.{◌≡◌, IfOk, false, map};
+ghost use Rattle.p9_fids.specs.Held.{HeldFits};
 ghost use Rattle.p9_wire.specs.Message.{Rremove, r_view};
+ghost use Rattle.p9_export.specs.Held.{SessionFits};
 ghost use Rattle.p9_export.specs.Answers.{Answers, ReplyFits, replied};
 ghost use Rattle.p9_step.specs.Remove.{remove_answer, removal};
 ghost use Rattle.p9_step.specs.State.{Session as SessionOf};
@@ -15,7 +17,7 @@ use p9_fids::Fid;
 use p9_tree::{Forest, Tree};
 use p9_wire::RMsg;
 
-/// Removes the file of a fid, and marks the directory that it stood in. The fid ends in every case,
+/// Removes the file of a fid, and marks the directory that it was in. The fid ends in every case,
 /// and removes nothing on its close: so why the file stays is told in the answer, and a fault is
 /// only that the fid isn't there, [`Fault::UnknownFid`], which leaves all.
 ///
@@ -29,11 +31,13 @@ pub fn remove<T: Tree>(
     now: u32,
     fid: u32,
 ) -> Result<RMsg<'static>, Fault>
+    requires channels { SessionFits setting.now.table session.old }
+    ensures channels { SessionFits setting.now.table session.new }
     ensures reply { IfOk result (λ reply. ReplyFits (r_view reply)) }
     ensures answer { let old = map T.state forest.old.trees.items in
         let new = map T.state forest.new.trees.items in
-        Answers (remove_answer setting.now old session.old now fid) false old new session.old
-        session.new (replied r_view result) }
+        Answers (remove_answer setting.now old session.old.session now fid) false old new session.old.session
+        session.new.session (replied r_view result) }
 {
     let Some(ended) = session.fids.take(fid) else {
         return Err(Fault::UnknownFid);
@@ -53,9 +57,10 @@ fn remove_file<T: Tree>(
     fid: &Fid<T::Alloc>,
     now: u32,
 ) -> Result<(), Fault>
+    requires { HeldFits setting.now.table fid.now }
     ensures { let old = map T.state forest.old.trees.items in
         let new = map T.state forest.new.trees.items in
-        (left : SessionOf) → Answers (removal setting.now old left now fid.now) false old new left
+        (left : SessionOf) → Answers (removal setting.now old left now fid.now.fid) false old new left
         left (replied (λ _. Rremove) result) }
 {
     let at = setting.file(fid);

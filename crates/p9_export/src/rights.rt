@@ -1,4 +1,4 @@
-//! Rights in the directory that a file stands in, as intro(5).
+//! Rights in the directory that a file is in, as intro(5).
 
 ghost use Rattle.std.specs.Prelude.{◌≡◌, map};
 ghost use Rattle.p9_space.specs.Rights.{who_view};
@@ -18,7 +18,7 @@ pub fn may_write<T: Tree>(who: Who<'_, T::Alloc>, forest: &Forest<T>, at: NodeRe
     }
 }
 
-/// Whether the user may change the entries of the directory that the file stands in. A root stands
+/// Whether the user may change the entries of the directory that the file is in. A root is
 /// in none.
 pub fn may_write_parent<T: Tree>(
     who: Who<'_, T::Alloc>,

@@ -2,7 +2,8 @@
 
 ghost use Rattle.std.specs.Prelude.{◌≡◌};
 ghost use Rattle.p9_step.specs.Laws.{reply_max};
-ghost use Rattle.p9_step.specs.State.{fresh, room_of};
+ghost use Rattle.p9_step.specs.State.{room_of};
+ghost use Rattle.p9_export.specs.Held.{fresh_held};
 
 use p9_fids::FidTable;
 use p9_wire::{HEADER, IOHDRSZ};
@@ -12,7 +13,7 @@ use std::marker::Model;
 // The most bytes of a refusal: its header, the length of its text, and the longest text of a fault.
 const REFUSAL_MAX: usize = HEADER + 2 + 34;
 
-/// A session, as version(5).
+/// A session, as version(5). It is seen as that, with the rows of the fids' places beside it.
 #[derive(Drop)]
 pub struct Session<A: Allocator + Copy> {
     /// The greatest frame, once the version is set.
@@ -22,17 +23,20 @@ pub struct Session<A: Allocator + Copy> {
 }
 
 impl<A: Allocator + Copy> Model for Session<A> {
-    ghost use Rattle.p9_step.specs.State.{Session as SessionOf};
+    ghost use Rattle.p9_export.specs.Held.{HeldSession};
 
-    ghost Value = { SessionOf };
+    ghost Value = { HeldSession };
 
-    ghost view = { λ s. record { msize = s.msize; fids = s.fids } };
+    ghost view = { λ s. record {
+      session = record { msize = s.msize; fids = s.fids.fids };
+      rows = s.fids.rows;
+    } };
 }
 
 impl<A: Allocator + Copy> Session<A> {
     /// A session whose version isn't set. This takes no memory.
     pub fn new(alloc: A) -> Session<A>
-        ensures { result ≡ fresh }
+        ensures { result ≡ fresh_held }
     {
         Session {
             msize: None,
@@ -42,7 +46,7 @@ impl<A: Allocator + Copy> Session<A> {
 
     /// How many bytes a read or a write of the session may carry: its iounit, as open(5).
     pub fn room(&self) -> u32
-        ensures { result ≡ room_of self.now }
+        ensures { result ≡ room_of self.now.session }
     {
         match self.msize {
             Some(msize) => msize.saturating_sub(IOHDRSZ),
@@ -52,7 +56,7 @@ impl<A: Allocator + Copy> Session<A> {
 
     /// The most bytes that a reply to the session has: its msize, and 43 before a version.
     pub fn reply_max(&self) -> usize
-        ensures { result ≡ reply_max self.now }
+        ensures { result ≡ reply_max self.now.session }
     {
         match self.msize {
             Some(msize) => msize as usize,

@@ -2,7 +2,9 @@
 
 ghost use Rattle.std.specs.Prelude.{◌≡◌};
 ghost use Rattle.p9_space.specs.Rights.{who_view};
-ghost use Rattle.p9_step.specs.State.{fresh, fid_ref, who_of};
+ghost use Rattle.p9_fids.specs.Held.{HeldFits};
+ghost use Rattle.p9_step.specs.State.{fid_ref, who_of};
+ghost use Rattle.p9_export.specs.Held.{fresh_held};
 
 use crate::session::Session;
 use p9_base::{Groups, NodeRef, User};
@@ -34,7 +36,7 @@ impl<A: Allocator + Copy> Model for Setting<A> {
 impl<A: Allocator + Copy> Setting<A> {
     /// A session whose version isn't set. This takes no memory.
     pub fn session(&self) -> Session<A>
-        ensures { result ≡ fresh }
+        ensures { result ≡ fresh_held }
     {
         Session::new(self.alloc)
     }
@@ -52,8 +54,9 @@ impl<A: Allocator + Copy> Setting<A> {
     /// The file of a fid, whether it exists or not: the first member of the place where its trail
     /// ends.
     pub fn file(&self, fid: &Fid<A>) -> NodeRef
-        ensures { result ≡ fid_ref self.now.table fid.now }
+        requires { HeldFits self.now.table fid.now }
+        ensures { result ≡ fid_ref self.now.table fid.now.fid }
     {
-        self.table.file(fid.trail.here())
+        fid.channels.file(&self.table)
     }
 }

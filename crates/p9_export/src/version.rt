@@ -4,6 +4,7 @@ ghost use Rattle.std.specs.Prelude.{◌≡◌, IfOk, false, map};
 ghost use Rattle.p9_wire.specs.Message.{r_view};
 ghost use Rattle.p9_step.specs.Sound.{FidsFit};
 ghost use Rattle.p9_step.specs.Version.{is_known, version_answer};
+ghost use Rattle.p9_export.specs.Held.{SessionFits};
 ghost use Rattle.p9_export.specs.Answers.{Answers, ReplyFits, replied};
 
 use crate::end::end_fids;
@@ -30,12 +31,14 @@ pub fn version<T: Tree>(
     msize: u32,
     version: &str,
 ) -> Result<RMsg<'static>, Fault>
-    requires { FidsFit setting.now.table (map T.state forest.old.trees.items) session.old.fids }
+    requires channels { SessionFits setting.now.table session.old }
+    requires opened { FidsFit setting.now.table (map T.state forest.old.trees.items) session.old.session.fids }
+    ensures channels { SessionFits setting.now.table session.new }
     ensures reply { IfOk result (λ reply. ReplyFits (r_view reply)) }
     ensures answer { let old = map T.state forest.old.trees.items in
         let new = map T.state forest.new.trees.items in
-        Answers (version_answer setting.now old session.old now msize version.now) false old new
-        session.old session.new (replied r_view result) }
+        Answers (version_answer setting.now old session.old.session now msize version.now) false old new
+        session.old.session session.new.session (replied r_view result) }
 {
     if msize < MSIZE_MIN {
         return Err(Fault::SmallMsize);

@@ -4,10 +4,13 @@ ghost use Rattle.std.specs.Prelude.{◌≡◌, ◌≤◌, List, None, Some, IfOk
 ghost use Rattle.std.specs.Prelude.{length, map, true};
 ghost use Rattle.p9_base.specs.declared.fault.Fault.TheVariants.{OutOfMemory};
 ghost use Rattle.p9_fids.specs.Fid.{fid_at};
+ghost use Rattle.p9_space.specs.Channel.{Fits, trail_of};
+ghost use Rattle.p9_space.specs.Table.{MountRow};
 ghost use Rattle.p9_space.specs.Trail.{stepped};
 ghost use Rattle.p9_tree.specs.Forest.{node_of};
 ghost use Rattle.p9_tree.specs.Server.{Server};
 ghost use Rattle.p9_wire.specs.Message.{Rwalk};
+ghost use Rattle.p9_export.specs.Held.{SessionFits, WalkFits};
 ghost use Rattle.p9_export.specs.Answers.{Answers, replied};
 ghost use Rattle.p9_step.specs.Qid.{qid_of};
 ghost use Rattle.p9_step.specs.Walk.{moved, newfid_fault, walk_answer, walk_outcome, walked};
@@ -17,7 +20,7 @@ use crate::session::Session;
 use crate::setting::Setting;
 use p9_base::{Fault, NOFID, NoMemory, Qid, User};
 use p9_fids::Fid;
-use p9_space::{Arrival, PLACES_MAX, Trail, find_arrival};
+use p9_space::{Arrival, Channels, PLACES_MAX, find_arrival_from};
 use p9_tree::{Forest, Tree};
 use p9_wire::{Names, Qids};
 use std::alloc::Allocator;
@@ -28,8 +31,9 @@ use std::marker::Model;
 ///
 /// The first that applies refuses: the fid isn't there, [`Fault::UnknownFid`]; it is open,
 /// [`Fault::FidOpen`]; newfid is [`NOFID`], [`Fault::UnknownFid`]; newfid is another fid and can't
-/// be added ([`p9_fids::FidTable::put_fault`]); the first step is refused ([`find_arrival`]). In the
-/// place of any answer memory may be refused, [`Fault::OutOfMemory`]. A refusal leaves the session.
+/// be added ([`p9_fids::FidTable::put_fault`]); the first step is refused
+/// ([`p9_space::find_arrival`]). In the place of any answer an allocation may fail,
+/// [`Fault::OutOfMemory`]. At a refusal the session is unchanged.
 pub fn walk<T: Tree>(
     setting: &Setting<T::Alloc>,
     forest: &Forest<T>,
@@ -38,9 +42,11 @@ pub fn walk<T: Tree>(
     newfid: u32,
     names: &Names<'_>,
 ) -> Result<Qids, Fault>
-    ensures { let forest = map T.state forest.now.trees.items in
-        Answers (walk_answer setting.now forest session.old fid newfid names.now) true forest forest
-        session.old session.new (replied Rwalk result) }
+    requires channels { SessionFits setting.now.table session.old }
+    ensures channels { SessionFits setting.now.table session.new }
+    ensures answer { let forest = map T.state forest.now.trees.items in
+        Answers (walk_answer setting.now forest session.old.session fid newfid names.now) true forest forest
+        session.old.session session.new.session (replied Rwalk result) }
 {
     let Some(held) = session.fids.get(fid) else {
         return Err(Fault::UnknownFid);
@@ -52,13 +58,13 @@ pub fn walk<T: Tree>(
         return Err(fault);
     }
     let user = held.user;
-    let walked = walk_along(setting, forest, &user, &held.trail, names)?;
+    let walked = walk_along(setting, forest, &user, &held.channels, names)?;
     end_walk(session, fid, newfid, user, walked)
 }
 
 // Why newfid can't be where the walk leads; the fid itself always can.
 fn newfid_fault<A: Allocator + Copy>(session: &Session<A>, fid: u32, newfid: u32) -> Option<Fault>
-    ensures { result ≡ newfid_fault fid newfid session.now.fids }
+    ensures { result ≡ newfid_fault fid newfid session.now.session.fids }
 {
     if newfid == NOFID {
         return Some(Fault::UnknownFid);
@@ -75,45 +81,51 @@ struct Walked<A: Allocator + Copy> {
     // The qid of each file where a step arrived.
     qids: Qids,
     // Where the last of these steps arrived.
-    trail: Trail<A>,
+    channels: Channels<A>,
     // Why the next step is refused, if one is.
     stopped: Option<Fault>,
 }
 
 impl<A: Allocator + Copy> Model for Walked<A> {
-    ghost use Rattle.p9_step.specs.Walk.{Walked as WalkedOf};
+    ghost use Rattle.p9_space.specs.Channel.{trail_of};
+    ghost use Rattle.p9_export.specs.Held.{HeldWalk};
 
-    ghost Value = { WalkedOf };
+    ghost Value = { HeldWalk };
 
-    ghost view = { λ w. record { qids = w.qids; trail = w.trail; stopped = w.stopped } };
+    ghost view = { λ w. record {
+      walked = record { qids = w.qids; trail = trail_of w.channels; stopped = w.stopped };
+      rows = w.channels.rows;
+    } };
 }
 
-// One step after another from a trail, up to the first that is refused.
+// One step after another from channels, up to the first that is refused.
 fn walk_along<T: Tree>(
     setting: &Setting<T::Alloc>,
     forest: &Forest<T>,
     user: &User,
-    start: &Trail<T::Alloc>,
+    start: &Channels<T::Alloc>,
     names: &Names<'_>,
 ) -> Result<Walked<T::Alloc>, NoMemory>
-    ensures { IfOk result (λ w. w ≡ walked setting.now
-        (map T.state forest.now.trees.items) user.now start.now names.now) }
+    requires { Fits setting.now.table start.now }
+    ensures walked { IfOk result (λ w. w.walked ≡ walked setting.now
+        (map T.state forest.now.trees.items) user.now (trail_of start.now) names.now) }
+    ensures fits { IfOk result (WalkFits setting.now.table) }
 {
     let mut qids = Qids::new();
-    let mut trail = start.copy()?;
+    let mut channels = start.copy()?;
     for name in names.as_slice() {
-        match find_arrival(
+        match find_arrival_from(
             forest,
             &setting.table,
-            &trail,
+            &channels,
             name,
             Some(setting.who(user)),
         ) {
-            Ok(arrival) => qids.push(arrive(forest, &mut trail, arrival)?),
+            Ok(arrival) => qids.push(arrive(setting, forest, &mut channels, arrival)?),
             Err(fault) => {
                 return Ok(Walked {
                     qids,
-                    trail,
+                    channels,
                     stopped: Some(fault),
                 });
             }
@@ -121,25 +133,30 @@ fn walk_along<T: Tree>(
     }
     Ok(Walked {
         qids,
-        trail,
+        channels,
         stopped: None,
     })
 }
 
-// Takes a step to where a file is, and gives its qid. A refusal leaves the trail.
+// Takes a step to where a file is, and gives its qid. Where an allocation fails, the channels are
+// unchanged.
 fn arrive<T: Tree>(
+    setting: &Setting<T::Alloc>,
     forest: &Forest<T>,
-    trail: &mut Trail<T::Alloc>,
+    channels: &mut Channels<T::Alloc>,
     arrival: Arrival<'_, T::Alloc>,
 ) -> Result<Qid, NoMemory>
-    requires room { length (stepped trail.old arrival.step) ≤ PLACES_MAX }
+    requires room { length (stepped (trail_of channels.old) arrival.step) ≤ PLACES_MAX }
     requires file { node_of arrival.at (map T.state forest.now.trees.items)
         ≡ Some arrival.file.now }
     ensures qid { IfOk result (λ qid. qid ≡ qid_of arrival.entry.at arrival.entry.file.now) }
-    ensures ok { OnOk result (trail.new ≡ stepped trail.old arrival.entry.step) }
-    ensures err { OnErr result (trail.new ≡ trail.old) }
+    ensures ok { OnOk result (trail_of channels.new
+        ≡ stepped (trail_of channels.old) arrival.entry.step) }
+    ensures fits { OnOk result (Fits setting.now.table channels.old →
+        Fits setting.now.table channels.new) }
+    ensures err { OnErr result (channels.new ≡ channels.old) }
 {
-    trail.take(arrival.step)?;
+    channels.take(&setting.table, arrival.step)?;
     forest.well_formed();
     Ok(qid_of(arrival.at, arrival.file))
 }
@@ -152,15 +169,18 @@ fn end_walk<A: Allocator + Copy>(
     user: User,
     walked: Walked<A>,
 ) -> Result<Qids, Fault>
-    requires there { IsSome (fid_at fid session.old.fids) }
-    requires free { newfid_fault fid newfid session.old.fids ≡ None }
-    ensures { (forest : List Server) → Answers (walk_outcome fid newfid
-        (record { user = user; trail = walked.trail; opened = None }) session.old walked) true
-        forest forest session.old session.new (replied Rwalk result) }
+    requires there { IsSome (fid_at fid session.old.session.fids) }
+    requires free { newfid_fault fid newfid session.old.session.fids ≡ None }
+    ensures answer { (forest : List Server) → Answers (walk_outcome fid newfid
+        (record { user = user; trail = walked.walked.trail; opened = None }) session.old.session
+        walked.walked) true forest forest session.old.session session.new.session
+        (replied Rwalk result) }
+    ensures channels { (table : List MountRow) → SessionFits table session.old →
+        WalkFits table walked → SessionFits table session.new }
 {
     match walked.stopped {
         None => {
-            move_fid(session, fid, newfid, user, walked.trail)?;
+            move_fid(session, fid, newfid, user, walked.channels)?;
             Ok(walked.qids)
         }
         Some(fault) => {
@@ -173,31 +193,34 @@ fn end_walk<A: Allocator + Copy>(
     }
 }
 
-// The fid goes to the end of the trail itself, or newfid is added there. Want of memory leaves the
-// session.
+// The fid itself goes to where the channels lead, or newfid is added there. Where an allocation
+// fails, the session is unchanged.
 fn move_fid<A: Allocator + Copy>(
     session: &mut Session<A>,
     fid: u32,
     newfid: u32,
     user: User,
-    trail: Trail<A>,
+    channels: Channels<A>,
 ) -> Result<(), Fault>
-    requires there { IsSome (fid_at fid session.old.fids) }
-    requires free { newfid_fault fid newfid session.old.fids ≡ None }
-    ensures ok { OnOk result (session.new ≡ moved fid newfid
-        (record { user = user; trail = trail; opened = None }) trail session.old) }
+    requires there { IsSome (fid_at fid session.old.session.fids) }
+    requires free { newfid_fault fid newfid session.old.session.fids ≡ None }
+    ensures ok { OnOk result (session.new.session ≡ moved fid newfid
+        (record { user = user; trail = trail_of channels; opened = None }) (trail_of channels)
+        session.old.session) }
     ensures err { IfErr result (λ fault. fault ≡ OutOfMemory) }
-    ensures unchanged { OnErr result (session.new ≡ session.old) }
+    ensures unchanged { OnErr result (session.new.session ≡ session.old.session) }
+    ensures channels { (table : List MountRow) → SessionFits table session.old →
+        Fits table channels → SessionFits table session.new }
 {
     if newfid == fid {
-        session.fids.move_to(fid, trail);
+        session.fids.move_to(fid, channels);
         return Ok(());
     }
     session.fids.put(
         newfid,
         Fid {
             user,
-            trail,
+            channels,
             opened: None,
         },
     )

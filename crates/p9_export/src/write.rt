@@ -3,6 +3,7 @@
 ghost use Rattle.std.specs.Prelude.{◌≡◌, ◌+◌, length, map, nat_le};
 ghost use Rattle.p9_fids.specs.Opened.{writes};
 ghost use Rattle.p9_wire.specs.Message.{Rwrite};
+ghost use Rattle.p9_export.specs.Held.{SessionFits};
 ghost use Rattle.p9_export.specs.Answers.{Answers, replied};
 ghost use Rattle.p9_step.specs.Sound.{FidsFit};
 ghost use Rattle.p9_step.specs.Memory.{is_done};
@@ -21,10 +22,10 @@ use std::alloc::Allocator;
 /// before the offset is filled with zeros, and the file is marked. It answers how many bytes were
 /// written: all of them. No bytes change nothing.
 ///
-/// The first that applies refuses, and leaves all: there is no such fid, [`Fault::UnknownFid`]; it
-/// isn't open for writing, [`Fault::FidNotOpen`]; its file doesn't exist, [`Fault::PhaseError`];
-/// the file would have more than [`FILE_MAX`] bytes, [`Fault::FileTooLarge`]. Else memory may be
-/// refused, [`Fault::OutOfMemory`].
+/// The first that applies refuses, and nothing changes: there is no such fid,
+/// [`Fault::UnknownFid`]; it isn't open for writing, [`Fault::FidNotOpen`]; its file doesn't exist,
+/// [`Fault::PhaseError`]; the file would have more than [`FILE_MAX`] bytes,
+/// [`Fault::FileTooLarge`]. Else memory may be refused, [`Fault::OutOfMemory`].
 pub fn write<T: Tree>(
     setting: &Setting<T::Alloc>,
     forest: &mut Forest<T>,
@@ -34,11 +35,12 @@ pub fn write<T: Tree>(
     offset: u64,
     bytes: &[u8],
 ) -> Result<u32, Fault>
-    requires { FidsFit setting.now.table (map T.state forest.old.trees.items) session.now.fids }
+    requires channels { SessionFits setting.now.table session.now }
+    requires opened { FidsFit setting.now.table (map T.state forest.old.trees.items) session.now.session.fids }
     ensures { let old = map T.state forest.old.trees.items in
         let new = map T.state forest.new.trees.items in
-        let answer = write_answer setting.now old session.now now fid offset bytes.now in
-        Answers answer (is_done answer) old new session.now session.now (replied Rwrite result) }
+        let answer = write_answer setting.now old session.now.session now fid offset bytes.now in
+        Answers answer (is_done answer) old new session.now.session session.now.session (replied Rwrite result) }
 {
     let Some(held) = session.fids.get(fid) else {
         return Err(Fault::UnknownFid);
@@ -64,7 +66,7 @@ pub fn write<T: Tree>(
 
 // Whether the fid is open for writing.
 fn is_writable<A: Allocator + Copy>(fid: &Fid<A>) -> bool
-    ensures { result ≡ is_writable fid.now }
+    ensures { result ≡ is_writable fid.now.fid }
 {
     fid.opened.is_some_and(|opened| opened.mode.writes())
 }

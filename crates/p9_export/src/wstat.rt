@@ -7,6 +7,7 @@ ghost use Rattle.p9_base.specs.Name.{is_name};
 ghost use Rattle.p9_base.specs.User.{is_user};
 ghost use Rattle.p9_space.specs.Rights.{who_view};
 ghost use Rattle.p9_wire.specs.Message.{Rwstat, stat_view};
+ghost use Rattle.p9_export.specs.Held.{SessionFits};
 ghost use Rattle.p9_export.specs.Answers.{Answers, replied};
 ghost use Rattle.p9_step.specs.Memory.{is_done};
 ghost use Rattle.p9_step.specs.Wstat.{gid_fault, has_sibling, is_any, is_number_touched};
@@ -37,11 +38,11 @@ struct Touched<'a> {
     gid: Option<&'a str>,
 }
 
-/// Changes what is told of a fid's file, all at once, and marks the directory that it stands in.
-/// A field is untouched that holds its greatest number, or is empty, or holds what stands there;
+/// Changes what is told of a fid's file, all at once, and marks the directory that it is in.
+/// A field is untouched that holds its greatest number, or is empty, or holds what is there;
 /// where all are, nothing changes.
 ///
-/// The first that applies refuses, by the file as it is, and leaves all: there is no such fid,
+/// The first that applies refuses, by the file as it is, and nothing changes: there is no such fid,
 /// [`Fault::UnknownFid`]; its file doesn't exist, [`Fault::PhaseError`]; a field is touched that
 /// no wstat changes, or the mode means nothing, or is a directory's for a file or a file's for a
 /// directory, [`Fault::FixedField`]; a name is for a server's root, [`Fault::IsRoot`], or not
@@ -59,10 +60,11 @@ pub fn wstat<T: Tree>(
     fid: u32,
     wanted: &Stat<'_>,
 ) -> Result<(), Fault>
+    requires channels { SessionFits setting.now.table session.now }
     ensures { let old = map T.state forest.old.trees.items in
         let new = map T.state forest.new.trees.items in
-        let answer = wstat_answer setting.now old session.now now fid (stat_view wanted.now) in
-        Answers answer (is_done answer) old new session.now session.now (replied
+        let answer = wstat_answer setting.now old session.now.session now fid (stat_view wanted.now) in
+        Answers answer (is_done answer) old new session.now.session session.now.session (replied
         (λ _. Rwstat) result) }
 {
     let Some(held) = session.fids.get(fid) else {
@@ -148,14 +150,14 @@ fn touched_text<'a>(there: &str, wanted: &'a str) -> Option<&'a str>
     is_text_touched(there, wanted).then_some(wanted)
 }
 
-// Whether a number is neither the greatest of its field nor the one that stands there.
+// Whether a number is neither the greatest of its field nor the one that is there.
 fn is_number_touched(greatest: u64, there: u64, wanted: u64) -> bool
     ensures { result ≡ is_number_touched greatest there wanted }
 {
     !(wanted == greatest || wanted == there)
 }
 
-// Whether a text is neither empty nor the one that stands there.
+// Whether a text is neither empty nor the one that is there.
 fn is_text_touched(there: &str, wanted: &str) -> bool
     ensures { result ≡ is_text_touched there.now wanted.now }
 {

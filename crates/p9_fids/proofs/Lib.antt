@@ -1,1 +1,3 @@
 pub mod Fids
+pub mod Values
+pub mod Holding

@@ -44,7 +44,7 @@ abbrev pub changed_fid : ℕ → (Fid → Fid) → List FidRow → List FidRow
 changed_fid fid f fids =
     option_map_or (λ v. set_value (is_at (nat_cmp fid)) fids (f v)) (fid_at fid fids) fids
 
--- the fid stands where the trail leads
+-- the fid is where the trail leads
 abbrev pub trailed : List NodeRef → Fid → Fid
 trailed trail v = record v { trail = trail }
 

@@ -1,2 +1,3 @@
 pub mod Opened
 pub mod Fid
+pub mod Held

@@ -1,20 +1,23 @@
 //! The fids of a session.
 
-ghost use Rattle.std.specs.Prelude.{◌≡◌, ◌⊎◌, [], None, Some, length, slice_get, IfErr, IfSome};
-ghost use Rattle.std.specs.Prelude.{IsSome, nat_lt};
+ghost use Rattle.std.specs.Prelude.{◌≡◌, ◌⊎◌, ◌≤◌, None, Some, List, length, slice_get, IfErr, IfSome};
+ghost use Rattle.std.specs.Prelude.{IsSome, count_by, nat_lt};
 ghost use Rattle.std.specs.Prelude.{OnErr, OnOk};
 ghost use Rattle.std.specs.Option.{option_copied, option_map};
 ghost use Rattle.p9_base.specs.declared.fault.Fault.TheVariants.{OutOfMemory};
-ghost use Rattle.std.specs.List.{list_any};
-ghost use Rattle.std.specs.Map.{values_of};
+ghost use Rattle.std.specs.List.{All, AllByRecursion, list_any};
+ghost use Rattle.std.specs.Map.{keys_of, values_of};
+ghost use Rattle.p9_space.specs.Channel.{Fits, trail_of};
+ghost use Rattle.p9_space.specs.Table.{MountRow};
 ghost use Rattle.p9_fids.specs.Fid.{IsFids, IsLeast, changed_fid, fid_at, is_open_on, open_count};
 ghost use Rattle.p9_fids.specs.Fid.{opened_as};
 ghost use Rattle.p9_fids.specs.Fid.{put_fault, trailed, with_fid, without_fid};
+ghost use Rattle.p9_fids.specs.Held.{AllFit, HeldFits, fid_of, no_fids};
 
 use crate::fid::Fid;
 use crate::opened::Opened;
 use p9_base::{Fault, NOFID, NodeRef};
-use p9_space::{MountTable, Trail};
+use p9_space::{Channels, MountTable};
 use std::alloc::Allocator;
 use std::collections::BTreeMap;
 use std::marker::Model;
@@ -23,27 +26,31 @@ use std::marker::Model;
 pub const FIDS_MAX: usize = 1024;
 
 /// The fids of a session: at most [`FIDS_MAX`], by strictly rising number, none of them [`NOFID`].
-/// It is seen as the list of the fids with their numbers, and so as a finite map.
+/// It is seen as the list of the fids with their numbers, and so as a finite map, and beside that
+/// as the list of the rows that their places have in a mount table.
+///
+/// It keeps to a mount table whose rows these are: a fid that is found, changed or taken has its
+/// rows there as long as each that is added or moved has.
 #[derive(Drop)]
 pub struct FidTable<A: Allocator + Copy> {
-    fids: BTreeMap<u32, Fid<A>, A>,
+    fids: Fids<A>,
 }
 
 impl<A: Allocator + Copy> Model for FidTable<A> {
-    ghost use Rattle.std.specs.Prelude.{List};
-    ghost use Rattle.p9_fids.specs.Fid.{FidRow, IsFids};
+    ghost use Rattle.p9_fids.specs.Fid.{IsFids};
+    ghost use Rattle.p9_fids.specs.Held.{HeldFids, fid_of, held_fids, map_values};
 
-    ghost Value = { List FidRow };
+    ghost Value = { HeldFids };
 
-    ghost view = { λ t. t.fids.entries };
+    ghost view = { λ t. held_fids t.fids.entries };
 
-    ghost invariant = { λ t. IsFids t.fids.entries };
+    ghost invariant = { λ t. IsFids (map_values fid_of t.fids.entries) };
 }
 
 impl<A: Allocator + Copy> FidTable<A> {
     /// No fids. This takes no memory.
     pub fn new(alloc: A) -> FidTable<A>
-        ensures { result ≡ [] }
+        ensures { result ≡ no_fids }
     {
         FidTable {
             fids: BTreeMap::new(alloc),
@@ -52,14 +59,16 @@ impl<A: Allocator + Copy> FidTable<A> {
 
     /// How many fids there are.
     pub fn len(&self) -> usize
-        ensures { result ≡ length self.now }
+        ensures { result ≡ length self.now.fids }
     {
         self.fids.len()
     }
 
     /// The fid of this number, or `None` where there is none.
     pub fn get(&self, fid: u32) -> Option<&Fid<A>>
-        ensures { option_copied result ≡ fid_at fid self.now }
+        ensures fid { option_map fid_of (option_copied result) ≡ fid_at fid self.now.fids }
+        ensures fits { (table : List MountRow) → AllFit table self.now →
+            IfSome (option_copied result) (HeldFits table) }
     {
         self.fids.get(&fid)
     }
@@ -67,24 +76,24 @@ impl<A: Allocator + Copy> FidTable<A> {
     /// What is kept of each table: its numbers rise strictly, none is [`NOFID`], and there are at
     /// most [`FIDS_MAX`]. This does nothing when it runs; it is for a caller that has to know so.
     pub fn well_formed(&self)
-        ensures { IsFids self.now }
+        ensures { IsFids self.now.fids }
     {
         let _fids = &self.fids;
     }
 
     /// The least number of a fid, or `None` where there is no fid.
     pub fn first(&self) -> Option<u32>
-        ensures first { result ≡ option_map (λ row. row.0) (slice_get self.now 0) }
-        ensures least { IfSome result (IsLeast self.now) }
+        ensures first { result ≡ option_map (λ row. row.0) (slice_get self.now.fids 0) }
+        ensures least { IfSome result (IsLeast self.now.fids) }
     {
-        self.fids.first_key_value().map(|(fid, _)| *fid)
+        first_of(&self.fids)
     }
 
     /// Why this fid can't be added: [`NOFID`] is [`Fault::UnknownFid`]; a fid that is there,
     /// [`Fault::FidInUse`]; more than [`FIDS_MAX`] of them, [`Fault::TooManyFids`]; tested in this
     /// order.
     pub fn put_fault(&self, fid: u32) -> Option<Fault>
-        ensures { result ≡ put_fault fid self.now }
+        ensures { result ≡ put_fault fid self.now.fids }
     {
         if fid == NOFID {
             Some(Fault::UnknownFid)
@@ -97,14 +106,17 @@ impl<A: Allocator + Copy> FidTable<A> {
         }
     }
 
-    /// Adds a fid, unless [`FidTable::put_fault`] tells why not, or memory is refused, which is
-    /// [`Fault::OutOfMemory`]. A refusal leaves the fids, and drops the new one.
+    /// Adds a fid, unless [`FidTable::put_fault`] tells why not, or an allocation fails, which is
+    /// [`Fault::OutOfMemory`]. At a refusal the fids are unchanged, and the new one is
+    /// dropped.
     pub fn put(&mut self, fid: u32, held: Fid<A>) -> Result<(), Fault>
-        ensures ok { OnOk result ((put_fault fid self.old ≡ None) × (self.new
-            ≡ with_fid fid held self.old)) }
-        ensures err { IfErr result (λ fault. (put_fault fid self.old ≡ Some fault)
-            ⊎ ((put_fault fid self.old ≡ None) × (fault ≡ OutOfMemory))) }
+        ensures ok { OnOk result ((put_fault fid self.old.fids ≡ None) × (self.new.fids
+            ≡ with_fid fid held.fid self.old.fids)) }
+        ensures err { IfErr result (λ fault. (put_fault fid self.old.fids ≡ Some fault)
+            ⊎ ((put_fault fid self.old.fids ≡ None) × (fault ≡ OutOfMemory))) }
         ensures unchanged { OnErr result (self.new ≡ self.old) }
+        ensures fits { (table : List MountRow) → AllFit table self.old → HeldFits table held →
+            AllFit table self.new }
     {
         if let Some(fault) = self.put_fault(fid) {
             return Err(fault);
@@ -115,58 +127,106 @@ impl<A: Allocator + Copy> FidTable<A> {
 
     /// Ends a fid, and gives what it was, or `None` where there is none. The others stay.
     pub fn take(&mut self, fid: u32) -> Option<Fid<A>>
-        ensures value { result ≡ fid_at fid self.old }
-        ensures after { self.new ≡ without_fid fid self.old }
+        ensures value { option_map fid_of result ≡ fid_at fid self.old.fids }
+        ensures after { self.new.fids ≡ without_fid fid self.old.fids }
+        ensures value_fits { (table : List MountRow) → AllFit table self.old →
+            IfSome result (HeldFits table) }
+        ensures after_fits { (table : List MountRow) → AllFit table self.old →
+            AllFit table self.new }
     {
         self.fids.remove(&fid)
     }
 
-    /// Makes a fid stand where the trail leads. What it is open for stays.
-    pub fn move_to(&mut self, fid: u32, trail: Trail<A>)
-        requires { IsSome (fid_at fid self.old) }
-        ensures { self.new ≡ changed_fid fid (trailed trail) self.old }
+    /// Moves a fid to where the channels lead. What it is open for stays.
+    pub fn move_to(&mut self, fid: u32, channels: Channels<A>)
+        requires { IsSome (fid_at fid self.old.fids) }
+        ensures moved { self.new.fids ≡ changed_fid fid (trailed (trail_of channels)) self.old.fids }
+        ensures fits { (table : List MountRow) → AllFit table self.old → Fits table channels →
+            AllFit table self.new }
     {
         let held = self.fids.get_mut(&fid).unwrap();
-        held.trail = trail;
+        held.channels = channels;
     }
 
-    /// Says what a fid is open for, whatever it was open for. It stands where it stood.
+    /// Says what a fid is open for, whatever it was open for. It is where it was.
     pub fn set_opened(&mut self, fid: u32, opened: Opened)
-        requires { IsSome (fid_at fid self.old) }
-        ensures { self.new ≡ changed_fid fid (opened_as opened) self.old }
+        requires { IsSome (fid_at fid self.old.fids) }
+        ensures opened { self.new.fids ≡ changed_fid fid (opened_as opened) self.old.fids }
+        ensures fits { (table : List MountRow) → AllFit table self.old → AllFit table self.new }
     {
         let held = self.fids.get_mut(&fid).unwrap();
         held.opened = Some(opened);
     }
 
-    /// Whether an open fid has the node as its file. This asks no fid behind the first that has.
-    pub fn has_open(&self, table: &MountTable<A>, node: NodeRef) -> bool
-        ensures { result ≡ nat_lt 0 (open_count table.now node self.now) }
+    /// Moves a fid to where the channels lead, and says what it is open for there.
+    pub fn open_at(&mut self, fid: u32, channels: Channels<A>, opened: Opened)
+        requires { IsSome (fid_at fid self.old.fids) }
+        ensures opened { self.new.fids ≡ changed_fid fid (λ held. opened_as opened
+            (trailed (trail_of channels) held)) self.old.fids }
+        ensures fits { (table : List MountRow) → AllFit table self.old → Fits table channels →
+            AllFit table self.new }
     {
-        self.any_open(table, node)
+        let held = self.fids.get_mut(&fid).unwrap();
+        *held = Fid {
+            user: held.user,
+            channels,
+            opened: Some(opened),
+        };
     }
 
-    fn any_open(&self, table: &MountTable<A>, node: NodeRef) -> bool
-        ensures { result ≡ list_any (is_open_on table.now node) (values_of self.now) }
+    /// Whether an open fid has the node as its file. This asks no fid behind the first that has.
+    pub fn has_open(&self, table: &MountTable<A>, node: NodeRef) -> bool
+        requires { AllFit table.now self.now }
+        ensures { result ≡ nat_lt 0 (open_count table.now node self.now.fids) }
     {
-        self.fids.values().any(|fid| is_open_on(fid, table, node))
+        any_open(&self.fids, table, node)
     }
 
     /// How many open fids have the node as their file: the first member of the place where their
     /// trail ends.
     pub fn open_count(&self, table: &MountTable<A>, node: NodeRef) -> usize
-        ensures { result ≡ open_count table.now node self.now }
+        requires { AllFit table.now self.now }
+        ensures { result ≡ open_count table.now node self.now.fids }
     {
-        self.fids
-            .values()
-            .filter(|fid| is_open_on(fid, table, node))
-            .count()
+        count_open(&self.fids, table, node)
     }
+}
+
+type Fids<A> = BTreeMap<u32, Fid<A>, A>;
+
+// The least number.
+fn first_of<A: Allocator + Copy>(fids: &Fids<A>) -> Option<u32>
+    ensures first { result ≡ option_map (λ entry. entry.0) (slice_get fids.now.entries 0) }
+    ensures least { IfSome result (λ fid. AllByRecursion (λ other. fid ≤ other)
+        (keys_of fids.now.entries)) }
+{
+    fids.first_key_value().map(|(fid, _)| *fid)
+}
+
+// Whether a fid is open, and has the node as its file.
+fn any_open<A: Allocator + Copy>(fids: &Fids<A>, table: &MountTable<A>, node: NodeRef) -> bool
+    requires { All (HeldFits table.now) (values_of fids.now.entries) }
+    ensures { result ≡ list_any (λ held. is_open_on table.now node held.fid)
+        (values_of fids.now.entries) }
+{
+    fids.values().any(|fid| is_open_on(fid, table, node))
+}
+
+// How many fids are open, and have the node as their file.
+fn count_open<A: Allocator + Copy>(fids: &Fids<A>, table: &MountTable<A>, node: NodeRef) -> usize
+    requires { All (HeldFits table.now) (values_of fids.now.entries) }
+    ensures { result ≡ count_by (λ held. is_open_on table.now node held.fid)
+        (values_of fids.now.entries) }
+{
+    fids.values()
+        .filter(|fid| is_open_on(fid, table, node))
+        .count()
 }
 
 // Whether the fid is open, and has the node as its file.
 fn is_open_on<A: Allocator + Copy>(fid: &Fid<A>, table: &MountTable<A>, node: NodeRef) -> bool
-    ensures { result ≡ is_open_on table.now node fid.now }
+    requires { HeldFits table.now fid.now }
+    ensures { result ≡ is_open_on table.now node fid.now.fid }
 {
-    fid.opened.is_some() && table.file(fid.trail.here()) == node
+    fid.opened.is_some() && fid.channels.file(table) == node
 }

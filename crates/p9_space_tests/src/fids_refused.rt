@@ -1,21 +1,25 @@
-//! Fids where memory is refused.
+//! Fids where an allocation fails.
 
 use crate::fids::fid_on;
 use crate::words::node;
-use p9_base::Fault;
+use p9_base::{Fault, NoMemory};
 use p9_fids::{Fid, FidTable};
 use p9_refusing::{Refusing, refuse_each};
-use p9_space::Trail;
+use p9_space::{Channels, MountTable, Trail};
 use std::alloc::{Allocator, Global};
 use std::process::Abort;
 
-// A fid, made again where memory was refused.
+fn channels_at<A: Allocator + Copy>(memory: A) -> Result<Channels<A>, NoMemory> {
+    Channels::of(&MountTable::new(memory), Trail::at(memory, node(1))?)
+}
+
+// A fid, made again where an allocation failed.
 fn make_again<A: Allocator + Copy>(rt: &impl Abort, memory: A) -> Fid<A> {
-    let trail = match Trail::at(memory, node(1)) {
-        Ok(trail) => trail,
-        Err(_) => Trail::at(memory, node(1)).expect(rt, "a trail"),
+    let channels = match channels_at(memory) {
+        Ok(channels) => channels,
+        Err(_) => channels_at(memory).expect(rt, "channels"),
     };
-    fid_on(rt, trail)
+    fid_on(rt, channels)
 }
 
 // Adds a fid, again where it was refused: it isn't there before then.

@@ -1,5 +1,5 @@
 //! Tests of p9_space, p9_fids and p9_nsfile: mount tables, walks, fids, and what they do where
-//! memory is refused.
+//! an allocation fails.
 //!
 //! A test is a text with a call in each line, and behind `=` what is to be told of it. So a proof
 //! loads one literal, whatever a test has in it, which costs much less than a table of values. The

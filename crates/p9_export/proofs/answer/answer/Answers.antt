@@ -1,62 +1,116 @@
-use Rattle.std.proofs.Common.{◌≡◌, ◌∙◌, ◌++◌, sym, ap, subst, map, drop, false, Some, Err, Ok}
+use Rattle.std.proofs.Common.{arith, ◌≡◌, ◌∙◌, ◌++◌, sym, ap, subst, map, drop, false, Some, Err, Ok}
 use Rattle.std.proofs.lemmas.Result.{err_from_is_err_and}
 use Rattle.std.proofs.Math.Seq.{drop-append_seam}
 use Rattle.std.specs.BTreeMap.{is_at}
 use Rattle.std.specs.Option.{option_copied_mut, option_map_or}
 use Rattle.std.specs.Ordering.{nat_cmp}
+use Rattle.std.specs.Map.{lookup, set_value}
 use Rattle.p9_base.proofs.Rows.{set_value-same}
+use Rattle.p9_fids.proofs.Values.{set-mapped}
+use Rattle.p9_export.specs.Held.{SessionsFit, session_in, sessions_in}
+use Rattle.p9_export.proofs.Sessions.{fits-lookup, fits-set, session-held, session-there}
 use Rattle.p9_wire.specs.Message.{t_view}
 use Rattle.p9_wire.specs.Spelling.{read_header}
 use Rattle.p9_step.specs.Open.{is_in_use}
 use Rattle.p9_step.specs.Request.{request_of}
-use Rattle.p9_step.specs.State.{changed_session, session_at}
+use Rattle.p9_step.specs.State.{session_at}
 use Rattle.p9_step.specs.Step.{finds_taken}
 use Rattle.p9_export.specs.Answers.{request_view}
-use Rattle.p9_export.proofs.Among.{among-none, among-request}
+use Rattle.p9_export.proofs.Among.{among-none, among-request, room_of-small}
+use Rattle.p9_export.proofs.Rooms.{data-room}
 use Rattle.p9_step.proofs.Settled.{fits-of}
 use Rattle.p9_export.proofs.answer.answer.Goals as goal
 
 pub returns-in_err-request-clause-answer : goal.returns-in_err-request-clause-answer
 returns-in_err-request-clause-answer g c =
-    let there : session_at c.args.name c.args.sessions.now.entries
-    ≡ Some c.unwrap-session.result.now = sym c.get_mut.ensures.value
-    ∙ ap option_copied_mut c.unwrap-session.ensures in
-    let unchanged : (c.get_mut.follows.lender c.unwrap-session.result.now).entries
-    ≡ c.args.sessions.now.entries = (c.get_mut.follows.holds c.unwrap-session.result.now).0
-    ∙ set_value-same (is_at (nat_cmp c.args.name)) c.args.sessions.now.entries
-    c.unwrap-session.result.now there in
-    let is : Err c.in_err-request.field-0.0
-    ≡ request_of c.unwrap-session.result.now c.args.frame.now = sym
-    (ap request_view c.in_err-request.was) ∙ c.request_of.ensures in
+    let test = is_at (nat_cmp c.args.name) in
+    let rows = c.args.sessions.now.entries in
+    let its = c.unwrap-session.result.now in
+    let found : lookup test rows ≡ Some its =
+    sym c.get_mut.ensures.value ∙ ap option_copied_mut c.unwrap-session.ensures in
+    let there : session_at c.args.name (sessions_in rows) ≡ Some its.session =
+    session-there c.args.name rows its found in
+    let unchanged : (c.get_mut.follows.lender its).entries ≡ rows =
+    (c.get_mut.follows.holds its).0 ∙ set_value-same test rows its found in
+    let is : Err c.in_err-request.field-0.0 ≡ request_of its.session c.args.frame.now =
+    sym (ap request_view c.in_err-request.was) ∙ c.request_of.ensures in
     let p = err_from_is_err_and c.from_residual.result c.from_residual.ensures.1 in
     rw (p.1, p.2, unchanged)
     (among-none c.args.setting.now (map g.T.Tree.state c.args.forest.now.trees.items)
-    c.args.sessions.now.entries c.args.name c.args.now c.unwrap-session.result.now c.args.frame.now
+    (sessions_in rows) c.args.name c.args.now its.session c.args.frame.now
     c.in_err-request.field-0.0 there is)
+
+pub returns-in_err-request-clause-channels : goal.returns-in_err-request-clause-channels
+returns-in_err-request-clause-channels g c =
+    let test = is_at (nat_cmp c.args.name) in
+    let rows = c.args.sessions.now.entries in
+    let its = c.unwrap-session.result.now in
+    let found : lookup test rows ≡ Some its =
+    sym c.get_mut.ensures.value ∙ ap option_copied_mut c.unwrap-session.ensures in
+    let unchanged : (c.get_mut.follows.lender its).entries ≡ rows =
+    (c.get_mut.follows.holds its).0 ∙ set_value-same test rows its found in
+    subst (SessionsFit c.args.setting.now.table) (sym unchanged) c.requires.channels
+
+pub wanted_alone-requires : goal.wanted_alone-requires
+wanted_alone-requires g c =
+    let test = is_at (nat_cmp c.args.name) in
+    let rows = c.args.sessions.now.entries in
+    let its = c.unwrap-session.result.now in
+    let found : lookup test rows ≡ Some its =
+    sym c.get_mut.ensures.value ∙ ap option_copied_mut c.unwrap-session.ensures in
+    fits-lookup c.args.setting.now.table test rows its c.requires.channels found
+
+pub message-requires-clause-channels : goal.message-requires-clause-channels
+message-requires-clause-channels g c =
+    let test = is_at (nat_cmp c.args.name) in
+    let rows = c.args.sessions.now.entries in
+    let its = c.unwrap-session.result.now in
+    let found : lookup test rows ≡ Some its =
+    sym c.get_mut.ensures.value ∙ ap option_copied_mut c.unwrap-session.ensures in
+    fits-lookup c.args.setting.now.table test rows its c.requires.channels found
 
 pub message-requires-clause-fids : goal.message-requires-clause-fids
 message-requires-clause-fids g c =
-    let there : session_at c.args.name c.args.sessions.now.entries
-    ≡ Some c.unwrap-session.result.now = sym c.get_mut.ensures.value
-    ∙ ap option_copied_mut c.unwrap-session.ensures in
+    let test = is_at (nat_cmp c.args.name) in
+    let rows = c.args.sessions.now.entries in
+    let its = c.unwrap-session.result.now in
+    let found : lookup test rows ≡ Some its =
+    sym c.get_mut.ensures.value ∙ ap option_copied_mut c.unwrap-session.ensures in
+    let there : session_at c.args.name (sessions_in rows) ≡ Some its.session =
+    session-there c.args.name rows its found in
     let sound = rw there at c.requires.sound in
-    fits-of c.args.setting.now (map g.T.Tree.state c.args.forest.now.trees.items)
-    c.unwrap-session.result.now.fids sound.each
+    fits-of c.args.setting.now (map g.T.Tree.state c.args.forest.now.trees.items) its.session.fids
+    sound.each
+
+pub returns-in_default-clause-channels : goal.returns-in_default-clause-channels
+returns-in_default-clause-channels g c =
+    let test = is_at (nat_cmp c.args.name) in
+    let rows = c.args.sessions.now.entries in
+    let its = c.unwrap-session.result.now in
+    let found : lookup test rows ≡ Some its =
+    sym c.get_mut.ensures.value ∙ ap option_copied_mut c.unwrap-session.ensures in
+    subst (SessionsFit c.args.setting.now.table)
+    (sym (c.get_mut.follows.holds c.message.new.session).0)
+    (fits-set c.args.setting.now.table test rows c.message.new.session c.requires.channels
+    c.message.ensures.channels)
 
 pub returns-in_default-clause-answer : goal.returns-in_default-clause-answer
 returns-in_default-clause-answer g c =
-    let there : session_at c.args.name c.args.sessions.now.entries
-    ≡ Some c.unwrap-session.result.now = sym c.get_mut.ensures.value
-    ∙ ap option_copied_mut c.unwrap-session.ensures in
-    let is : Ok (t_view c.in_ok-request.request)
-    ≡ request_of c.unwrap-session.result.now c.args.frame.now = sym
-    (ap request_view c.in_ok-request.was) ∙ c.request_of.ensures in
+    let test = is_at (nat_cmp c.args.name) in
+    let rows = c.args.sessions.now.entries in
+    let its = c.unwrap-session.result.now in
+    let found : lookup test rows ≡ Some its =
+    sym c.get_mut.ensures.value ∙ ap option_copied_mut c.unwrap-session.ensures in
+    let there : session_at c.args.name (sessions_in rows) ≡ Some its.session =
+    session-there c.args.name rows its found in
+    let is : Ok (t_view c.in_ok-request.request) ≡ request_of its.session c.args.frame.now =
+    sym (ap request_view c.in_ok-request.was) ∙ c.request_of.ensures in
     let takes : false
     ≡ finds_taken c.args.setting.now (map g.T.Tree.state c.args.forest.now.trees.items)
-    c.args.sessions.now.entries c.unwrap-session.result.now (t_view c.in_ok-request.request) =
-    sym (c.wanted_alone.ensures c.args.sessions.now.entries
+    (sessions_in rows) its.session (t_view c.in_ok-request.request) =
+    sym (c.wanted_alone.ensures (sessions_in rows)
     ∙ ap (λ o. option_map_or
-    (λ at. is_in_use c.args.setting.now.table at c.args.sessions.now.entries) o false)
+    (λ at. is_in_use c.args.setting.now.table at (sessions_in rows)) o false)
     c.in_default.is) in
     let behind : drop read_header (c.split_at_mut-buffer.result.0.now ++ c.message.new.buffer)
     ≡ c.message.new.buffer = subst
@@ -65,54 +119,102 @@ returns-in_default-clause-answer g c =
     (drop-append_seam c.split_at_mut-buffer.result.0.now c.message.new.buffer) in
     rw behind
     (among-request c.args.setting.now (map g.T.Tree.state c.args.forest.now.trees.items)
-    (map g.T.Tree.state c.message.new.forest.trees.items) c.args.sessions.now.entries
-    (c.get_mut.follows.lender c.message.new.session).entries c.args.name c.args.now
-    c.unwrap-session.result.now c.unwrap-session.result.now c.message.new.session
+    (map g.T.Tree.state c.message.new.forest.trees.items) (sessions_in rows)
+    (sessions_in (c.get_mut.follows.lender c.message.new.session).entries) c.args.name c.args.now
+    its.session its.session c.message.new.session.session
     c.args.frame.now (t_view c.in_ok-request.request) false _ there there is takes
-    (c.get_mut.follows.holds c.message.new.session).0 c.message.ensures.answer)
+    (ap sessions_in (c.get_mut.follows.holds c.message.new.session).0
+    ∙ set-mapped session_in test rows c.message.new.session) c.message.ensures.answer)
+
+pub is_in_use-taken-requires : goal.is_in_use-taken-requires
+is_in_use-taken-requires g c =
+    let test = is_at (nat_cmp c.args.name) in
+    let rows = c.args.sessions.now.entries in
+    let its = c.unwrap-session.result.now in
+    let found : lookup test rows ≡ Some its =
+    sym c.get_mut.ensures.value ∙ ap option_copied_mut c.unwrap-session.ensures in
+    let unchanged : (c.get_mut.follows.lender its).entries ≡ rows =
+    (c.get_mut.follows.holds its).0 ∙ set_value-same test rows its found in
+    subst (SessionsFit c.setting.inside.table) (sym unchanged)
+    (rw (← c.setting.view_is) at c.requires.channels)
+
+pub message-requires-2-clause-channels : goal.message-requires-2-clause-channels
+message-requires-2-clause-channels g c =
+    let test = is_at (nat_cmp c.args.name) in
+    let rows = c.args.sessions.now.entries in
+    let its = c.unwrap-session.result.now in
+    let found : lookup test rows ≡ Some its =
+    sym c.get_mut.ensures.value ∙ ap option_copied_mut c.unwrap-session.ensures in
+    let unchanged : (c.get_mut.follows.lender its).entries ≡ rows =
+    (c.get_mut.follows.holds its).0 ∙ set_value-same test rows its found in
+    let same = c.unwrap-session-2.result.now in
+    let found_again : lookup test rows ≡ Some same = ap (lookup test) (sym unchanged)
+    ∙ sym c.get_mut-2.ensures.value ∙ ap option_copied_mut c.unwrap-session-2.ensures in
+    fits-lookup c.args.setting.now.table test rows same c.requires.channels found_again
 
 pub message-requires-2-clause-fids : goal.message-requires-2-clause-fids
 message-requires-2-clause-fids g c =
-    let there : session_at c.args.name c.args.sessions.now.entries
-    ≡ Some c.unwrap-session.result.now = sym c.get_mut.ensures.value
-    ∙ ap option_copied_mut c.unwrap-session.ensures in
-    let unchanged : (c.get_mut.follows.lender c.unwrap-session.result.now).entries
-    ≡ c.args.sessions.now.entries = (c.get_mut.follows.holds c.unwrap-session.result.now).0
-    ∙ set_value-same (is_at (nat_cmp c.args.name)) c.args.sessions.now.entries
-    c.unwrap-session.result.now there in
-    let again : session_at c.args.name c.args.sessions.now.entries
-    ≡ Some c.unwrap-session-2.result.now = ap (session_at c.args.name) (sym unchanged)
+    let test = is_at (nat_cmp c.args.name) in
+    let rows = c.args.sessions.now.entries in
+    let its = c.unwrap-session.result.now in
+    let found : lookup test rows ≡ Some its =
+    sym c.get_mut.ensures.value ∙ ap option_copied_mut c.unwrap-session.ensures in
+    let unchanged : (c.get_mut.follows.lender its).entries ≡ rows =
+    (c.get_mut.follows.holds its).0 ∙ set_value-same test rows its found in
+    let same = c.unwrap-session-2.result.now in
+    let found_again : lookup test rows ≡ Some same = ap (lookup test) (sym unchanged)
     ∙ sym c.get_mut-2.ensures.value ∙ ap option_copied_mut c.unwrap-session-2.ensures in
+    let again : session_at c.args.name (sessions_in rows) ≡ Some same.session =
+    session-there c.args.name rows same found_again in
     let sound = rw again at c.requires.sound in
-    fits-of c.args.setting.now (map g.T.Tree.state c.args.forest.now.trees.items)
-    c.unwrap-session-2.result.now.fids sound.each
+    fits-of c.args.setting.now (map g.T.Tree.state c.args.forest.now.trees.items) same.session.fids
+    sound.each
+
+pub returns-clause-channels : goal.returns-clause-channels
+returns-clause-channels g c =
+    let test = is_at (nat_cmp c.args.name) in
+    let rows = c.args.sessions.now.entries in
+    let its = c.unwrap-session.result.now in
+    let found : lookup test rows ≡ Some its =
+    sym c.get_mut.ensures.value ∙ ap option_copied_mut c.unwrap-session.ensures in
+    let unchanged : (c.get_mut.follows.lender its).entries ≡ rows =
+    (c.get_mut.follows.holds its).0 ∙ set_value-same test rows its found in
+    subst (SessionsFit c.args.setting.now.table)
+    (sym ((c.get_mut-2.follows.holds c.message-2.new.session).0
+    ∙ ap (λ rs. set_value test rs c.message-2.new.session) unchanged))
+    (fits-set c.args.setting.now.table test rows c.message-2.new.session c.requires.channels
+    c.message-2.ensures.channels)
 
 pub returns-clause-answer : goal.returns-clause-answer
 returns-clause-answer g c =
-    let there : session_at c.args.name c.args.sessions.now.entries
-    ≡ Some c.unwrap-session.result.now = sym c.get_mut.ensures.value
-    ∙ ap option_copied_mut c.unwrap-session.ensures in
-    let unchanged : (c.get_mut.follows.lender c.unwrap-session.result.now).entries
-    ≡ c.args.sessions.now.entries = (c.get_mut.follows.holds c.unwrap-session.result.now).0
-    ∙ set_value-same (is_at (nat_cmp c.args.name)) c.args.sessions.now.entries
-    c.unwrap-session.result.now there in
-    let again : session_at c.args.name c.args.sessions.now.entries
-    ≡ Some c.unwrap-session-2.result.now = ap (session_at c.args.name) (sym unchanged)
+    let test = is_at (nat_cmp c.args.name) in
+    let rows = c.args.sessions.now.entries in
+    let its = c.unwrap-session.result.now in
+    let found : lookup test rows ≡ Some its =
+    sym c.get_mut.ensures.value ∙ ap option_copied_mut c.unwrap-session.ensures in
+    let there : session_at c.args.name (sessions_in rows) ≡ Some its.session =
+    session-there c.args.name rows its found in
+    let unchanged : (c.get_mut.follows.lender its).entries ≡ rows =
+    (c.get_mut.follows.holds its).0 ∙ set_value-same test rows its found in
+    let same = c.unwrap-session-2.result.now in
+    let found_again : lookup test rows ≡ Some same = ap (lookup test) (sym unchanged)
     ∙ sym c.get_mut-2.ensures.value ∙ ap option_copied_mut c.unwrap-session-2.ensures in
-    let is : Ok (t_view c.in_ok-request.request)
-    ≡ request_of c.unwrap-session.result.now c.args.frame.now = sym
-    (ap request_view c.in_ok-request.was) ∙ c.request_of.ensures in
+    let again : session_at c.args.name (sessions_in rows) ≡ Some same.session =
+    session-there c.args.name rows same found_again in
+    let is : Ok (t_view c.in_ok-request.request) ≡ request_of its.session c.args.frame.now =
+    sym (ap request_view c.in_ok-request.was) ∙ c.request_of.ensures in
     let used : c.is_in_use-taken.result
-    ≡ is_in_use c.args.setting.now.table c.in-Some.at c.args.sessions.now.entries =
+    ≡ is_in_use c.args.setting.now.table c.in-Some.at (sessions_in rows) =
     rw (← c.setting.view_is)
-    (c.is_in_use-taken.ensures ∙ ap (is_in_use c.setting.inside.table c.in-Some.at) unchanged) in
+    (c.is_in_use-taken.ensures
+    ∙ ap (λ rs. is_in_use c.setting.inside.table c.in-Some.at (sessions_in rs)) unchanged) in
     let takes : c.is_in_use-taken.result
     ≡ finds_taken c.args.setting.now (map g.T.Tree.state c.args.forest.now.trees.items)
-    c.args.sessions.now.entries c.unwrap-session.result.now (t_view c.in_ok-request.request) =
+    (sessions_in rows) its.session (t_view c.in_ok-request.request) =
     used
-    ∙ sym (c.wanted_alone.ensures c.args.sessions.now.entries
+    ∙ sym (c.wanted_alone.ensures (sessions_in rows)
     ∙ ap (λ o. option_map_or
-    (λ at. is_in_use c.args.setting.now.table at c.args.sessions.now.entries) o false)
+    (λ at. is_in_use c.args.setting.now.table at (sessions_in rows)) o false)
     c.in-Some.is) in
     let behind : drop read_header (c.split_at_mut-buffer.result.0.now ++ c.message-2.new.buffer)
     ≡ c.message-2.new.buffer = subst
@@ -121,11 +223,108 @@ returns-clause-answer g c =
     (drop-append_seam c.split_at_mut-buffer.result.0.now c.message-2.new.buffer) in
     rw behind
     (among-request c.args.setting.now (map g.T.Tree.state c.args.forest.now.trees.items)
-    (map g.T.Tree.state c.message-2.new.forest.trees.items) c.args.sessions.now.entries
-    (c.get_mut-2.follows.lender c.message-2.new.session).entries c.args.name c.args.now
-    c.unwrap-session.result.now c.unwrap-session-2.result.now c.message-2.new.session
+    (map g.T.Tree.state c.message-2.new.forest.trees.items) (sessions_in rows)
+    (sessions_in (c.get_mut-2.follows.lender c.message-2.new.session).entries) c.args.name
+    c.args.now its.session same.session c.message-2.new.session.session
     c.args.frame.now (t_view c.in_ok-request.request) c.is_in_use-taken.result _ there again is
     takes
-    ((c.get_mut-2.follows.holds c.message-2.new.session).0
-    ∙ ap (changed_session c.args.name c.message-2.new.session) unchanged)
+    (ap sessions_in ((c.get_mut-2.follows.holds c.message-2.new.session).0
+    ∙ ap (λ rs. set_value test rs c.message-2.new.session) unchanged)
+    ∙ set-mapped session_in test rows c.message-2.new.session)
     c.message-2.ensures.answer)
+
+pub unwrap-session-requires : goal.unwrap-session-requires
+unwrap-session-requires g c =
+    session-held c.args.name c.args.sessions.now.entries c.get_mut.result c.get_mut.ensures.value
+    c.requires.live
+
+pub message-requires-clause-buffer : goal.message-requires-clause-buffer
+message-requires-clause-buffer g c =
+    let test = is_at (nat_cmp c.args.name) in
+    let rows = c.args.sessions.now.entries in
+    let its = c.unwrap-session.result.now in
+    let found : lookup test rows ≡ Some its =
+    sym c.get_mut.ensures.value ∙ ap option_copied_mut c.unwrap-session.ensures in
+    let there : session_at c.args.name (sessions_in rows) ≡ Some its.session =
+    session-there c.args.name rows its found in
+    let sound = rw there at c.requires.sound in
+    let most = data-room its.session sound.msize in
+    let enough = rw there at c.requires.room in
+    let back = c.split_at_mut-buffer.ensures.back_len in
+    omega (arith, most, enough, back)
+
+pub message-requires-clause-room : goal.message-requires-clause-room
+message-requires-clause-room g c =
+    let test = is_at (nat_cmp c.args.name) in
+    let rows = c.args.sessions.now.entries in
+    let its = c.unwrap-session.result.now in
+    let found : lookup test rows ≡ Some its =
+    sym c.get_mut.ensures.value ∙ ap option_copied_mut c.unwrap-session.ensures in
+    let there : session_at c.args.name (sessions_in rows) ≡ Some its.session =
+    session-there c.args.name rows its found in
+    let sound = rw there at c.requires.sound in
+    room_of-small its.session sound.msize
+
+pub returns-in_default-clause-data : goal.returns-in_default-clause-data
+returns-in_default-clause-data g c =
+    let test = is_at (nat_cmp c.args.name) in
+    let rows = c.args.sessions.now.entries in
+    let its = c.unwrap-session.result.now in
+    let found : lookup test rows ≡ Some its =
+    sym c.get_mut.ensures.value ∙ ap option_copied_mut c.unwrap-session.ensures in
+    let there : session_at c.args.name (sessions_in rows) ≡ Some its.session =
+    session-there c.args.name rows its found in
+    rw there c.message.ensures.data
+
+pub message-requires-2-clause-buffer : goal.message-requires-2-clause-buffer
+message-requires-2-clause-buffer g c =
+    let test = is_at (nat_cmp c.args.name) in
+    let rows = c.args.sessions.now.entries in
+    let its = c.unwrap-session.result.now in
+    let found : lookup test rows ≡ Some its =
+    sym c.get_mut.ensures.value ∙ ap option_copied_mut c.unwrap-session.ensures in
+    let unchanged : (c.get_mut.follows.lender its).entries ≡ rows =
+    (c.get_mut.follows.holds its).0 ∙ set_value-same test rows its found in
+    let same = c.unwrap-session-2.result.now in
+    let found_again : lookup test rows ≡ Some same = ap (lookup test) (sym unchanged)
+    ∙ sym c.get_mut-2.ensures.value ∙ ap option_copied_mut c.unwrap-session-2.ensures in
+    let again : session_at c.args.name (sessions_in rows) ≡ Some same.session =
+    session-there c.args.name rows same found_again in
+    let sound = rw again at c.requires.sound in
+    let most = data-room same.session sound.msize in
+    let enough = rw again at c.requires.room in
+    let back = c.split_at_mut-buffer.ensures.back_len in
+    omega (arith, most, enough, back)
+
+pub message-requires-2-clause-room : goal.message-requires-2-clause-room
+message-requires-2-clause-room g c =
+    let test = is_at (nat_cmp c.args.name) in
+    let rows = c.args.sessions.now.entries in
+    let its = c.unwrap-session.result.now in
+    let found : lookup test rows ≡ Some its =
+    sym c.get_mut.ensures.value ∙ ap option_copied_mut c.unwrap-session.ensures in
+    let unchanged : (c.get_mut.follows.lender its).entries ≡ rows =
+    (c.get_mut.follows.holds its).0 ∙ set_value-same test rows its found in
+    let same = c.unwrap-session-2.result.now in
+    let found_again : lookup test rows ≡ Some same = ap (lookup test) (sym unchanged)
+    ∙ sym c.get_mut-2.ensures.value ∙ ap option_copied_mut c.unwrap-session-2.ensures in
+    let again : session_at c.args.name (sessions_in rows) ≡ Some same.session =
+    session-there c.args.name rows same found_again in
+    let sound = rw again at c.requires.sound in
+    room_of-small same.session sound.msize
+
+pub returns-clause-data : goal.returns-clause-data
+returns-clause-data g c =
+    let test = is_at (nat_cmp c.args.name) in
+    let rows = c.args.sessions.now.entries in
+    let its = c.unwrap-session.result.now in
+    let found : lookup test rows ≡ Some its =
+    sym c.get_mut.ensures.value ∙ ap option_copied_mut c.unwrap-session.ensures in
+    let unchanged : (c.get_mut.follows.lender its).entries ≡ rows =
+    (c.get_mut.follows.holds its).0 ∙ set_value-same test rows its found in
+    let same = c.unwrap-session-2.result.now in
+    let found_again : lookup test rows ≡ Some same = ap (lookup test) (sym unchanged)
+    ∙ sym c.get_mut-2.ensures.value ∙ ap option_copied_mut c.unwrap-session-2.ensures in
+    let again : session_at c.args.name (sessions_in rows) ≡ Some same.session =
+    session-there c.args.name rows same found_again in
+    rw again c.message-2.ensures.data

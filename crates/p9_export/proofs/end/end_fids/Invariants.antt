@@ -1,4 +1,5 @@
 use Rattle.std.proofs.Common.{◌≡◌, map, length}
+use Rattle.p9_fids.specs.Held.{AllFit}
 use Rattle.p9_step.specs.Change.{all_applied}
 use Rattle.p9_step.specs.Sound.{FidsFit}
 use Rattle.p9_step.specs.End.{on_ends}
@@ -8,9 +9,10 @@ abbrev pub invariant-loop-number : goal.invariant-loop-number
 invariant-loop-number g l =
     let here = map g.T.Tree.state l.forest.trees.items in
     let start = map g.T.Tree.state l.fn.forest.trees.items in
-    FidsFit l.setting.table here l.fids
-    × (all_applied (on_ends l.setting.table l.now here l.fids) here
-    ≡ all_applied (on_ends l.fn.setting.table l.fn.now start l.fn.fids) start)
+    FidsFit l.setting.table here l.fids.fids
+    × (all_applied (on_ends l.setting.table l.now here l.fids.fids) here
+    ≡ all_applied (on_ends l.fn.setting.table l.fn.now start l.fn.fids.fids) start)
+    × AllFit l.setting.table l.fids
 
 abbrev pub decreases-loop-number : goal.decreases-loop-number
-decreases-loop-number g l = length l.fids
+decreases-loop-number g l = length l.fids.fids

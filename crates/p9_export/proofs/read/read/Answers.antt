@@ -17,23 +17,23 @@ use Rattle.p9_export.proofs.read.read.Goals as goal
 pub returns-then-is_dir-clause-answer : goal.returns-then-is_dir-clause-answer
 returns-then-is_dir-clause-answer g c =
     let forest = map g.T.Tree.state c.args.forest.now.trees.items in
-    let r : IsReadable c.args.setting.now forest c.args.session.now c.args.fid c.in-Some.held.now
+    let r : IsReadable c.args.setting.now forest c.args.session.now.session c.args.fid c.in-Some.held.now.fid
     c.in-Some-readable.opened c.in-Some-node.file.now = record {
-      there = sym (ap (λ s. fid_at c.args.fid s.fids) c.session.view_is) ∙ sym c.in-Some.ensures;
-      open_as = sym (ap (λ w. readable w.opened) c.held.view_is) ∙ sym c.in-Some-readable.ensures;
+      there = sym (ap (λ s. fid_at c.args.fid s.session.fids) c.session.view_is) ∙ sym c.in-Some.ensures.fid;
+      open_as = sym (ap (λ w. readable w.fid.opened) c.held.view_is) ∙ sym c.in-Some-readable.ensures;
       alive =
           sym (ap (λ (at : NodeRef). node_of at forest) c.file-at.ensures)
           ∙ sym c.in-Some-node.ensures;
     } in
-    let room_is : c.min-room.result ≡ min c.args.count (room_of c.args.session.now) =
+    let room_is : c.min-room.result ≡ min c.args.count (room_of c.args.session.now.session) =
     c.min-room.ensures ∙ ap (min c.args.count) c.room.ensures in
-    let enough = c.requires in
+    let enough = c.requires.room in
     let fits : c.min-room.result ≤ length c.args.buffer.now = omega (arith, room_is, enough) in
     let long : length (take c.min-room.result c.args.buffer.now) ≡ c.min-room.result =
     length-take-le c.min-room.result c.args.buffer.now fits in
     let same =
-    reads_dir c.args.setting.now forest c.args.session.now c.args.now c.args.fid c.args.offset
-    c.args.count c.in-Some.held.now c.in-Some-readable.opened c.in-Some-node.file.now r
+    reads_dir c.args.setting.now forest c.args.session.now.session c.args.now c.args.fid c.args.offset
+    c.args.count c.in-Some.held.now.fid c.in-Some-readable.opened c.in-Some-node.file.now r
     (length (take c.min-room.result c.args.buffer.now))
     (sym c.is_dir.ensures ∙ c.if-is_dir.true) (long ∙ room_is) in
     let kept = c.read_dir.auto.buffer in
@@ -42,35 +42,35 @@ returns-then-is_dir-clause-answer g c =
     (subst (λ n. IfOk c.read_dir.result (λ count. count ≤ n)) (sym kept)
     c.read_dir.ensures.size) in
     subst (λ reply. Answers
-    (read_answer c.args.setting.now forest c.args.session.now c.args.now c.args.fid
-    c.args.offset c.args.count) false forest forest c.args.session.now c.read_dir.new.session
+    (read_answer c.args.setting.now forest c.args.session.now.session c.args.now c.args.fid
+    c.args.offset c.args.count) false forest forest c.args.session.now.session c.read_dir.new.session.session
     reply) (sym front)
-    (subst (λ (answer : Answer). Answers answer false forest forest c.args.session.now
-    c.read_dir.new.session (replied (data_reply c.read_dir.new.buffer) c.read_dir.result))
+    (subst (λ (answer : Answer). Answers answer false forest forest c.args.session.now.session
+    c.read_dir.new.session.session (replied (data_reply c.read_dir.new.buffer) c.read_dir.result))
     (sym same) c.read_dir.ensures.answer)
 
 pub returns-else-is_dir-clause-answer : goal.returns-else-is_dir-clause-answer
 returns-else-is_dir-clause-answer g c =
     let forest = map g.T.Tree.state c.args.forest.now.trees.items in
-    let r : IsReadable c.args.setting.now forest c.args.session.now c.args.fid c.in-Some.held.now
+    let r : IsReadable c.args.setting.now forest c.args.session.now.session c.args.fid c.in-Some.held.now.fid
     c.in-Some-readable.opened c.in-Some-node.file.now = record {
-      there = sym (ap (λ s. fid_at c.args.fid s.fids) c.session.view_is) ∙ sym c.in-Some.ensures;
-      open_as = sym (ap (λ w. readable w.opened) c.held.view_is) ∙ sym c.in-Some-readable.ensures;
+      there = sym (ap (λ s. fid_at c.args.fid s.session.fids) c.session.view_is) ∙ sym c.in-Some.ensures.fid;
+      open_as = sym (ap (λ w. readable w.fid.opened) c.held.view_is) ∙ sym c.in-Some-readable.ensures;
       alive =
           sym (ap (λ (at : NodeRef). node_of at forest) c.file-at.ensures)
           ∙ sym c.in-Some-node.ensures;
     } in
-    let room_is : c.min-room.result ≡ min c.args.count (room_of c.args.session.now) =
+    let room_is : c.min-room.result ≡ min c.args.count (room_of c.args.session.now.session) =
     c.min-room.ensures ∙ ap (min c.args.count) c.room.ensures in
-    let enough = c.requires in
+    let enough = c.requires.room in
     let fits : c.min-room.result ≤ length c.args.buffer.now = omega (arith, room_is, enough) in
     let long : length (take c.min-room.result c.args.buffer.now) ≡ c.min-room.result =
     length-take-le c.min-room.result c.args.buffer.now fits in
     let size = c.read_file.ensures.size in
     let kept = c.read_file.auto.buffer in
     let within : c.read_file.result ≤ length c.read_file.new.buffer = omega (arith, size, kept) in
-    reads_file c.args.setting.now forest c.args.session.now c.args.now c.args.fid c.args.offset
-    c.args.count c.in-Some.held.now c.in-Some-readable.opened c.in-Some-node.file.now r
+    reads_file c.args.setting.now forest c.args.session.now.session c.args.now c.args.fid c.args.offset
+    c.args.count c.in-Some.held.now.fid c.in-Some-readable.opened c.in-Some-node.file.now r
     (length (take c.min-room.result c.args.buffer.now)) c.read_file.result
     (c.read_file.new.buffer ++ drop c.min-room.result c.args.buffer.now)
     (map g.T.Tree.state c.read_file.new.forest.trees.items)

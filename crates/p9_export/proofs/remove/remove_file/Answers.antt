@@ -29,14 +29,14 @@ returns g c = λ left.
     let asked : may_write_parent (who_view c.who.result) forest c.file-at.result
     c.in-Some.file.now ≡ true =
     sym c.may_write_parent.ensures ∙ c.if-not-may_write_parent.false in
-    let permitted : may_write_parent (who_of c.args.setting.now c.args.fid.now.user) forest
+    let permitted : may_write_parent (who_of c.args.setting.now c.args.fid.now.fid.user) forest
     c.file-at.result c.in-Some.file.now ≡ true = rw (← c.fid.view_is)
     (subst (λ w. may_write_parent w forest c.file-at.result c.in-Some.file.now ≡ true)
     c.who.ensures asked) in
     let gone : c.after.result ≡ None = absent _ (sym c.is_some.ensures ∙ c.if-is_some.false) in
     let none = rw gone at c.after.ensures in
     let empty : has_children_of c.file-at.result forest ≡ false = rw (← none) refl in
-    removal-made c.args.setting.now forest _ _ left c.args.now c.args.fid.now c.file-at.result
+    removal-made c.args.setting.now forest _ _ left c.args.now c.args.fid.now.fid c.file-at.result
     c.in-Some.file.now c.file-at.ensures found (rw (← c.parent-parent.ensures) inner) permitted
     empty c.drop_leaf.ensures
     (rw (← c.parent-parent.ensures, ← c.fid.view_is) c.mark_parent.ensures)

@@ -1,4 +1,5 @@
 use Rattle.std.proofs.Common.{◌≡◌, drop, length, map}
+use Rattle.p9_space.specs.Channel.{Fits, trail_of}
 use Rattle.p9_step.specs.Walk.{walked}
 use Rattle.p9_export.proofs.Walks.{so_far}
 use Rattle.p9_export.proofs.walk.walk_along.Given as goal
@@ -10,6 +11,7 @@ invariant-loop-name g l =
     let walk = walked l.setting forest l.user in
     record {
       count : length l.qids ≡ l.name-index;
-      walk : walk l.start l.names
-          ≡ so_far l.qids (walk l.trail (map (λ n. n.now) (drop l.name-index l.name-items)));
+      walk : walk (trail_of l.start) l.names
+          ≡ so_far l.qids (walk (trail_of l.channels) (map (λ n. n.now) (drop l.name-index l.name-items)));
+      fits : Fits l.setting.table l.channels;
     }

@@ -14,44 +14,44 @@ use Rattle.p9_export.proofs.write.write.Goals as goal
 pub write-requires-clause-file : goal.write-requires-clause-file
 write-requires-clause-file g c =
     let forest = map g.T.Tree.state c.args.forest.now.trees.items in
-    let v = c.in-Some.held.now in
-    let found : fid_at c.args.fid c.args.session.now.fids ≡ Some v =
-    rw (← c.session.view_is) (sym c.in-Some.ensures) in
+    let v = c.in-Some.held.now.fid in
+    let found : fid_at c.args.fid c.args.session.now.session.fids ≡ Some v =
+    rw (← c.session.view_is) (sym c.in-Some.ensures.fid) in
     let there : node_of (fid_ref c.args.setting.now.table v) forest ≡ Some c.in-Some-node.file.now =
     rw (← c.file-at.ensures) (sym c.in-Some-node.ensures) in
     let opens : is_writable v ≡ true = sym c.is_writable.ensures ∙ c.if-not-is_writable.false in
     rw c.file-at.ensures
     (writable_file c.args.setting.now.table forest v c.in-Some-node.file.now there
-    (FidsFit-fid_at c.args.setting.now.table forest c.args.session.now.fids c.args.fid v
-    c.requires found) opens)
+    (FidsFit-fid_at c.args.setting.now.table forest c.args.session.now.session.fids c.args.fid v
+    c.requires.opened found) opens)
 
 pub returns-in_err-write : goal.returns-in_err-write
 returns-in_err-write g c =
     let forest = map g.T.Tree.state c.args.forest.now.trees.items in
-    let v = c.in-Some.held.now in
-    let found : fid_at c.args.fid c.args.session.now.fids ≡ Some v =
-    rw (← c.session.view_is) (sym c.in-Some.ensures) in
+    let v = c.in-Some.held.now.fid in
+    let found : fid_at c.args.fid c.args.session.now.session.fids ≡ Some v =
+    rw (← c.session.view_is) (sym c.in-Some.ensures.fid) in
     let opens : is_writable v ≡ true = sym c.is_writable.ensures ∙ c.if-not-is_writable.false in
     let done =
-    write_answer-done c.args.setting.now forest c.args.session.now c.args.now c.args.fid
+    write_answer-done c.args.setting.now forest c.args.session.now.session c.args.now c.args.fid
     c.args.offset c.args.bytes.now v c.in-Some-node.file.now c.file-at.result
     c.write_place-place.result c.file-at.ensures c.write_place-place.ensures found opens
     (sym c.in-Some-node.ensures) (sym c.is_empty.ensures ∙ c.if-is_empty.false)
     (sym c.fits.ensures ∙ c.if-not-fits.false) in
     let refused = err_from_is_err_and c.from_residual.result c.from_residual.ensures.1 in
     memory_refused Rwrite _ _ forest (map g.T.Tree.state c.write.new.self.trees.items)
-    c.args.session.now c.args.session.now c.from_residual.result refused.0 done refused.1
+    c.args.session.now.session c.args.session.now.session c.from_residual.result refused.0 done refused.1
     refused.2 c.in_err-write.ensures.err refl
 
 pub returns : goal.returns
 returns g c =
     let forest = map g.T.Tree.state c.args.forest.now.trees.items in
-    let v = c.in-Some.held.now in
-    let found : fid_at c.args.fid c.args.session.now.fids ≡ Some v =
-    rw (← c.session.view_is) (sym c.in-Some.ensures) in
+    let v = c.in-Some.held.now.fid in
+    let found : fid_at c.args.fid c.args.session.now.session.fids ≡ Some v =
+    rw (← c.session.view_is) (sym c.in-Some.ensures.fid) in
     let opens : is_writable v ≡ true = sym c.is_writable.ensures ∙ c.if-not-is_writable.false in
     let done =
-    write_answer-done c.args.setting.now forest c.args.session.now c.args.now c.args.fid
+    write_answer-done c.args.setting.now forest c.args.session.now.session c.args.now c.args.fid
     c.args.offset c.args.bytes.now v c.in-Some-node.file.now c.file-at.result
     c.write_place-place.result c.file-at.ensures c.write_place-place.ensures found opens
     (sym c.in-Some-node.ensures) (sym c.is_empty.ensures ∙ c.if-is_empty.false)
@@ -65,5 +65,5 @@ returns g c =
     (forest_changed_at c.file-at.result
     (with_bytes (overwritten c.write_place-place.result c.args.bytes.now)) forest) = rw
     (← c.held.view_is) bumped in
-    write-did _ forest new c.args.session.now c.args.now c.args.bytes.now v c.file-at.result
+    write-did _ forest new c.args.session.now.session c.args.now c.args.bytes.now v c.file-at.result
     c.write_place-place.result done changed

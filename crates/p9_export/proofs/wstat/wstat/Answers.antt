@@ -68,10 +68,10 @@ returns-in_err-change g c =
     let t : Touched = touched_view c.touched_of-touched.result in
     let none : wstat_fault (who_of c.args.setting.now c.held.inside.user) forest at n t ≡ None =
     rw c.who.ensures at (sym c.wstat_fault.ensures ∙ c.in_default-wstat_fault.is) in
-    let v = c.in-Some.held.now in
+    let v = c.in-Some.held.now.fid in
     let wanted : StatFields = stat_view c.args.wanted.now in
-    let held : fid_at c.args.fid c.args.session.now.fids ≡ Some v =
-    rw (← c.session.view_is) (sym c.in-Some.ensures) in
+    let held : fid_at c.args.fid c.args.session.now.session.fids ≡ Some v =
+    rw (← c.session.view_is) (sym c.in-Some.ensures.fid) in
     let fixed : touches_fixed (stat_of at n) wanted ≡ false =
     ap (λ (s : StatFields). touches_fixed s wanted) (sym c.stat_of-there.ensures.value)
     ∙ (sym c.touches_fixed.ensures ∙ c.if-touches_fixed.false) in
@@ -80,11 +80,11 @@ returns-in_err-change g c =
     ∙ ap (λ (s : StatFields). touched_of s wanted) c.stat_of-there.ensures.value in
     let free : wstat_fault (who_of c.args.setting.now v.user) forest at n t ≡ None = rw (← c.held.view_is) none in
     let done =
-    wstat_answer-done c.args.setting.now forest c.args.session.now c.args.now c.args.fid wanted
+    wstat_answer-done c.args.setting.now forest c.args.session.now.session c.args.now c.args.fid wanted
     v n at t c.file-at.ensures held (sym c.in-Some-node.ensures) fixed t_is free in
     let refused = err_from_is_err_and c.from_residual.result c.from_residual.ensures.1 in
     memory_refused (λ _. Rwstat) _ _ forest (map g.T.Tree.state c.change.new.self.trees.items)
-    c.args.session.now c.args.session.now c.from_residual.result refused.0 done refused.1
+    c.args.session.now.session c.args.session.now.session c.from_residual.result refused.0 done refused.1
     refused.2 c.in_err-change.ensures.err refl
 
 pub returns : goal.returns
@@ -95,10 +95,10 @@ returns g c =
     let t : Touched = touched_view c.touched_of-touched.result in
     let none : wstat_fault (who_of c.args.setting.now c.held.inside.user) forest at n t ≡ None =
     rw c.who.ensures at (sym c.wstat_fault.ensures ∙ c.in_default-wstat_fault.is) in
-    let v = c.in-Some.held.now in
+    let v = c.in-Some.held.now.fid in
     let wanted : StatFields = stat_view c.args.wanted.now in
-    let held : fid_at c.args.fid c.args.session.now.fids ≡ Some v =
-    rw (← c.session.view_is) (sym c.in-Some.ensures) in
+    let held : fid_at c.args.fid c.args.session.now.session.fids ≡ Some v =
+    rw (← c.session.view_is) (sym c.in-Some.ensures.fid) in
     let fixed : touches_fixed (stat_of at n) wanted ≡ false =
     ap (λ (s : StatFields). touches_fixed s wanted) (sym c.stat_of-there.ensures.value)
     ∙ (sym c.touches_fixed.ensures ∙ c.if-touches_fixed.false) in
@@ -107,7 +107,7 @@ returns g c =
     ∙ ap (λ (s : StatFields). touched_of s wanted) c.stat_of-there.ensures.value in
     let free : wstat_fault (who_of c.args.setting.now v.user) forest at n t ≡ None = rw (← c.held.view_is) none in
     let done =
-    wstat_answer-done c.args.setting.now forest c.args.session.now c.args.now c.args.fid wanted
+    wstat_answer-done c.args.setting.now forest c.args.session.now.session c.args.now c.args.fid wanted
     v n at t c.file-at.ensures held (sym c.in-Some-node.ensures) fixed t_is free in
     let some : is_any t ≡ true = sym c.is_any.ensures ∙ c.if-not-is_any.false in
     let middle = map g.T.Tree.state c.change.new.self.trees.items in
@@ -124,4 +124,4 @@ returns g c =
     c.parent-parent.ensures in
     let mark : new ≡ all_applied (parent_marked v.user c.args.now at n.parent) middle =
     rw (← c.held.view_is) marked in
-    wstat-did _ forest middle new c.args.session.now v.user c.args.now at n t done some change mark
+    wstat-did _ forest middle new c.args.session.now.session v.user c.args.now at n t done some change mark

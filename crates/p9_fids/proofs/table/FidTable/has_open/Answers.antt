@@ -1,10 +1,20 @@
-use Rattle.std.proofs.Common.{◌∙◌}
+use Rattle.std.proofs.Common.{◌∙◌, map, sym}
 use Rattle.std.specs.Map.{values_of}
 use Rattle.p9_fids.specs.Fid.{is_open_on}
+use Rattle.p9_fids.specs.Held.{fid_of}
 use Rattle.p9_fids.proofs.Fids.{any-counted}
+use Rattle.p9_fids.proofs.Holding.{fit-all}
+use Rattle.p9_fids.proofs.Values.{any-mapped, values-mapped}
 use Rattle.p9_fids.proofs.table.FidTable.has_open.Goals as goal
 
 pub returns : goal.returns
 returns g c =
-    c.any_open.ensures
-    ∙ any-counted (is_open_on c.args.table.now c.args.node) (values_of c.args.self.now)
+    let entries = c.self.inside.fids.entries in
+    let test = is_open_on c.args.table.now c.args.node in
+    rw (← c.self.view_is, values-mapped fid_of entries)
+    (c.any_open.ensures ∙ sym (any-mapped fid_of test (values_of entries))
+    ∙ any-counted test (map fid_of (values_of entries)))
+
+pub any_open-requires : goal.any_open-requires
+any_open-requires g c =
+    fit-all c.args.table.now c.self.inside.fids.entries (rw (← c.self.view_is) at c.requires)
