@@ -1,0 +1,223 @@
+-- A file that was removed is gone.
+use Rattle.std.proofs.Common.{◌≡◌, ℕ, zero, suc, Bool, true, false, List, [], ◌∷◌, Option, Some, None, Ok, Err}
+use Rattle.std.proofs.Common.{Result, ◌⊎◌, inl, inr, refl, ap, sym, ◌∙◌, subst, arith, is_some, set}
+use Rattle.std.proofs.lemmas.Bool.Decides.{nat_tests}
+use Rattle.p9_base.specs.declared.fault.Fault.{Fault}
+use Rattle.p9_base.specs.declared.fault.Fault.TheVariants.{PhaseError}
+use Rattle.p9_base.specs.declared.node_ref.NodeRef.{NodeRef}
+use Rattle.p9_base.specs.Fault.{text_of}
+use Rattle.p9_base.specs.NodeRef.{beside}
+use Rattle.p9_base.specs.Results.{given, need}
+use Rattle.p9_tree.specs.Forest.{IsForest, forest_changed_at, node_of, server_at}
+use Rattle.p9_tree.specs.Node.{Node, has_number, marked}
+use Rattle.p9_tree.specs.Server.{Server, WellFormed, node_at, with_changed, with_dropped}
+use Rattle.p9_tree.proofs.Changed.{KeepsPlace, keeps-marked, node_at-changed_at}
+use Rattle.p9_tree.proofs.Dropped.{node_at-dropped_at}
+use Rattle.p9_space.specs.declared.trail.Step.{Step}
+use Rattle.p9_space.specs.Place.{file_of}
+use Rattle.p9_space.specs.Rights.{Who}
+use Rattle.p9_space.specs.Table.{MountRow, members_of}
+use Rattle.p9_space.specs.Trail.{here, stepped}
+use Rattle.p9_space.specs.Walk.{arrived, step_among, step_of, walk}
+use Rattle.p9_wire.specs.Message.{Rerror, Rremove, TMessage, Tattach, Tauth, Tclunk, Tcreate, Tflush}
+use Rattle.p9_wire.specs.Message.{Topen, Tread, Tremove, Tstat, Tversion, Twalk, Twrite, Twstat}
+use Rattle.p9_fids.specs.Fid.{Fid}
+use Rattle.p9_step.specs.Answer.{Answer, Outcome, outcome_of}
+use Rattle.p9_step.specs.Change.{DropNode, all_applied, applied, edited}
+use Rattle.p9_step.specs.Clunk.{without}
+use Rattle.p9_step.specs.End.{parent_marked}
+use Rattle.p9_step.specs.Remove.{removal}
+use Rattle.p9_step.specs.State.{Session, State, fid_file, fid_ref}
+use Rattle.p9_step.specs.Step.{message_answer}
+use Rattle.p9_step.proofs.Done.{OnDone}
+use Rattle.p9_step.proofs.Evolves.{server_well}
+use Rattle.p9_step.proofs.Members.{found-member}
+use Rattle.p9_step.proofs.Found.{server_at-tree_changed_at}
+use Rattle.p9_step.proofs.Passed.{RemovalDone, removal-done}
+use Rattle.p9_manual_laws.specs.Asked.{Asked, Has, after_outcome, asked}
+use Rattle.p9_manual_laws.specs.Removes.{AsksFile, IsGone, RemovedIsGone}
+use Rattle.p9_manual_laws.proofs.Sessions.{changed-same}
+
+-- a server is replaced, or was never there
+server_set : (k : ℕ) (forest : List Server) (new : Server)
+    → (server_at k (set forest k new) ≡ new)
+    ⊎ (server_at k (set forest k new) ≡ server_at k forest)
+server_set k [] new = inr refl
+server_set zero (s ∷ ss) new = inl refl
+server_set (suc k) (s ∷ ss) new = server_set k ss new
+
+-- a node that isn't there is not there after a change beside it
+absent_changed : (at : NodeRef) (number : ℕ) (f : Node → Node) (forest : List Server)
+    → KeepsPlace f → node_of at forest ≡ None
+    → node_of at (forest_changed_at (beside at number) f forest) ≡ None
+absent_changed at number f forest keeps none =
+    elim (server_set at.server forest (with_changed number f (server_at at.server forest))) [
+      | inl new ↦ (
+          let e =
+          node_at-changed_at number f keeps.in_dir at.number (server_at at.server forest).nodes in
+          rw new (grind (arith, nat_tests, e, none)))
+      | inr same ↦ rw same none
+    ]
+
+absent_dropped : (at : NodeRef) (forest : List Server) (n : Node) → IsForest forest
+    → node_of at forest ≡ Some n → node_of at (applied (DropNode at) forest) ≡ None
+unfolding applied
+absent_dropped at forest n sound there =
+    let s : Server = server_at at.server forest in
+    let member = (found-member (has_number at.number) s.nodes n there).0 in
+    let well : WellFormed s = server_well forest at.server n sound member in
+    let dropped = node_at-dropped_at at.number at.number s.nodes well.rising in
+    let lost : node_at at.number (with_dropped at.number s).nodes ≡ None =
+    grind (arith, nat_tests, dropped) in
+    ap (λ (t : Server). node_at at.number t.nodes)
+    (server_at-tree_changed_at at (with_dropped at.number) forest n there)
+    ∙ lost
+
+absent_marked : (at : NodeRef) (user : List ℕ) (now : ℕ) (parent : Option ℕ) (forest : List Server)
+    → node_of at forest ≡ None → node_of at (all_applied (parent_marked user now at parent) forest)
+    ≡ None
+unfolding applied edited
+absent_marked at user now None forest none = none
+absent_marked at user now (Some number) forest none =
+    absent_changed at number (marked user now) forest (keeps-marked user now) none
+
+-- a refusal changes nothing
+refused : (state : State) (name now : ℕ) (session : Session) (fid : ℕ) (v : Fid) (m : TMessage)
+    (fault : Fault) → Has state name session fid v
+    → message_answer state.setting state.forest state.sessions session now m ≡ Err fault
+    → asked state name now m ≡ record { state = state; reply = Some (Rerror (text_of fault)) }
+refused state name now session fid v m fault has is =
+    rw (has.session_is, is)
+    (ap (λ rows. record {
+      state = record state { sessions = rows };
+      reply = Some (Rerror (text_of fault));
+    }) (changed-same state name session has.session_is))
+
+-- where the file of a fid doesn't exist, a message that asks for it is refused
+no_file : (state : State) (name now : ℕ) (session : Session) (fid : ℕ) (v : Fid) (m : TMessage)
+    → Has state name session fid v → fid_file state.setting.table state.forest v ≡ None
+    → AsksFile fid v m
+    → message_answer state.setting state.forest state.sessions session now m ≡ Err PhaseError
+unfolding given need
+no_file state name now session fid v (Topen other bits) has none asks =
+    rw (asks.0, has.fid_is, asks.1, none) refl
+no_file state name now session fid v (Tread other offset count) has none asks =
+    rw (asks.0, has.fid_is, asks.1.1, none) refl
+no_file state name now session fid v (Twrite other offset bytes) has none asks =
+    rw (asks.0, has.fid_is, asks.1, none) refl
+no_file state name now session fid v (Tstat other) has none asks =
+    rw (asks, has.fid_is, none) refl
+no_file state name now session fid v (Twstat other stat) has none asks =
+    rw (asks, has.fid_is, none) refl
+no_file state name now session fid v (Tversion msize version) has none asks = absurd asks
+no_file state name now session fid v (Tauth afid uname aname) has none asks = absurd asks
+no_file state name now session fid v (Tattach new afid uname aname) has none asks = absurd asks
+no_file state name now session fid v (Tflush oldtag) has none asks = absurd asks
+no_file state name now session fid v (Twalk from newfid names) has none asks = absurd asks
+no_file state name now session fid v (Tcreate from new perm mode) has none asks = absurd asks
+no_file state name now session fid v (Tclunk from) has none asks = absurd asks
+no_file state name now session fid v (Tremove from) has none asks = absurd asks
+
+-- a walk arrives only where the file exists
+module _ (forest : List Server) (table : List MountRow) (who : Option Who) where
+  pub step_arrives : (trail : List NodeRef) (name : List ℕ) (step : Step)
+      → step_of forest table who trail name ≡ Ok step
+      → is_some (file_of (here (stepped trail step)) table forest) ≡ true
+  step_arrives trail name step is =
+      go (step_among forest who trail name (members_of (here trail) table)) refl
+    where
+      by_file : (taken : Step) (b : Bool)
+          → is_some (file_of (here (stepped trail taken)) table forest) ≡ b
+          → arrived forest table trail taken ≡ Ok step
+          → is_some (file_of (here (stepped trail step)) table forest) ≡ true
+      by_file taken true e ok =
+          let same : ◌≡◌ {A = Result Step Fault} (Ok taken) (Ok step) = rw e at ok in
+          let one : taken ≡ step = cc in
+          subst (λ s. is_some (file_of (here (stepped trail s)) table forest) ≡ true) one e
+      by_file taken false e ok = let no = rw e at ok in absurd (cc)
+
+      go : (r : Result Step Fault)
+          → step_among forest who trail name (members_of (here trail) table) ≡ r
+          → is_some (file_of (here (stepped trail step)) table forest) ≡ true
+      go (Err fault) e =
+          let no : ◌≡◌ {A = Result Step Fault} (Err fault) (Ok step) = rw e at is in absurd (cc)
+      go (Ok taken) e =
+          by_file taken (is_some (file_of (here (stepped trail taken)) table forest)) refl
+          (rw e at is)
+
+  -- so does the rest of a walk
+  still_there : (names : List (List ℕ)) (trail reached : List NodeRef)
+      → is_some (file_of (here trail) table forest) ≡ true
+      → walk forest table who trail names ≡ Ok reached
+      → is_some (file_of (here reached) table forest) ≡ true
+  still_there [] trail reached alive is =
+      let same : trail ≡ reached = cc in
+      subst (λ t. is_some (file_of (here t) table forest) ≡ true) same alive
+  still_there (name ∷ names) trail reached alive is =
+      go (step_of forest table who trail name) refl (λ next. still_there names next reached)
+    where
+      go : (r : Result Step Fault) → step_of forest table who trail name ≡ r
+          → ((next : List NodeRef) → is_some (file_of (here next) table forest) ≡ true
+          → walk forest table who next names ≡ Ok reached
+          → is_some (file_of (here reached) table forest) ≡ true)
+          → is_some (file_of (here reached) table forest) ≡ true
+      go (Err fault) e later =
+          let no : ◌≡◌ {A = Result (List NodeRef) Fault} (Err fault) (Ok reached) = rw e at is in
+          absurd (cc)
+      go (Ok step) e later =
+          later (stepped trail step) (step_arrives trail name step e) (rw e at is)
+
+  walk_arrives : (trail reached : List NodeRef) (name : List ℕ) (names : List (List ℕ))
+      → walk forest table who trail (name ∷ names) ≡ Ok reached
+      → is_some (file_of (here reached) table forest) ≡ true
+  walk_arrives trail reached name names is = go (step_of forest table who trail name) refl
+    where
+      go : (r : Result Step Fault) → step_of forest table who trail name ≡ r
+          → is_some (file_of (here reached) table forest) ≡ true
+      go (Err fault) e =
+          let no : ◌≡◌ {A = Result (List NodeRef) Fault} (Err fault) (Ok reached) = rw e at is in
+          absurd (cc)
+      go (Ok step) e =
+          still_there names (stepped trail step) reached (step_arrives trail name step e)
+          (rw e at is)
+
+-- what isn't there is gone
+gone : (state : State) (at : NodeRef) → node_of at state.forest ≡ None → IsGone state at
+gone state at none = record {
+  absent = none;
+  no_walk = λ who trail reached name names is same.
+      let there : is_some (file_of (here reached) state.setting.table state.forest) ≡ true =
+      walk_arrives state.forest state.setting.table who trail reached name names is in
+      let no : false ≡ true = rw (same, none) at there in cc;
+  stale = λ name session fid now v m has same asks.
+      let lost : fid_file state.setting.table state.forest v ≡ None =
+      ap (λ r. node_of r state.forest) same ∙ none in
+      refused state name now session fid v m PhaseError has
+      (no_file state name now session fid v m has lost asks);
+}
+
+pub removed_is_gone : RemovedIsGone
+unfolding given OnDone
+removed_is_gone state name session fid now v sound has =
+    let left : Session = without fid session in
+    let o : Outcome = outcome_of left (removal state.setting state.forest left now v) in
+    let is : asked state name now (Tremove fid) ≡ after_outcome state name o =
+    rw (has.session_is, has.fid_is) refl in
+    subst (λ (after : Asked). after.reply ≡ Some Rremove
+    → IsGone after.state (fid_ref state.setting.table v)) (sym is) (λ accepted.
+    let told : o.reply ≡ Rremove = cc in
+    gone (after_outcome state name o).state (fid_ref state.setting.table v)
+    (go left (removal state.setting state.forest left now v)
+    (removal-done state.setting state.forest left now v) told))
+  where
+    go : (left : Session) (a : Answer)
+        → OnDone (RemovalDone state.setting state.forest left now v) a
+        → (outcome_of left a).reply ≡ Rremove
+        → node_of (fid_ref state.setting.table v)
+        (all_applied (outcome_of left a).changes state.forest) ≡ None
+    go left (Err fault) done told = absurd (cc)
+    go left (Ok p) done told =
+        let at = fid_ref state.setting.table v in
+        ap (λ (q : Outcome). node_of at (all_applied q.changes state.forest)) done.is
+        ∙ absent_marked at v.user now done.n.parent (applied (DropNode at) state.forest)
+        (absent_dropped at state.forest done.n sound.forest done.there)

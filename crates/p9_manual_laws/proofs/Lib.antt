@@ -1,0 +1,14 @@
+pub mod Rows
+pub mod Frames
+pub mod Sessions
+pub mod Untouched
+pub mod Clunked
+pub mod ReadBack
+pub mod Undisturbed
+pub mod Masks
+pub mod Gone
+pub mod Walked
+pub mod Children
+pub mod Created
+pub mod Entries
+pub mod Listed

@@ -1,0 +1,9 @@
+pub mod Asked
+pub mod Clunks
+pub mod Wstats
+pub mod Files
+pub mod Removes
+pub mod Walks
+pub mod Modes
+pub mod Creates
+pub mod Listings

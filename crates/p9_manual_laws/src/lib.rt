@@ -1,0 +1,65 @@
+//! What the Plan 9 manual promises to a client, as laws of the step: each law is one of the manual's
+//! sentences, over the definitions that the exporter is proved to follow. Each function does
+//! nothing: its clauses are the laws.
+#![tactic(auto)]
+
+ghost use Rattle.p9_manual_laws.specs.Asked.{FrameIsAsked};
+ghost use Rattle.p9_manual_laws.specs.Clunks.{ClunkFreesFid};
+ghost use Rattle.p9_manual_laws.specs.Creates.{CreatedIsFound};
+ghost use Rattle.p9_manual_laws.specs.Files.{ReadsDontDisturb, WrittenIsReadBack};
+ghost use Rattle.p9_manual_laws.specs.Listings.{ReadsGiveAll};
+ghost use Rattle.p9_manual_laws.specs.Modes.{NewModeIsMasked};
+ghost use Rattle.p9_manual_laws.specs.Removes.{RemovedIsGone};
+ghost use Rattle.p9_manual_laws.specs.Walks.{WalkLeadsByTable};
+ghost use Rattle.p9_manual_laws.specs.Wstats.{UntouchedStatChangesNothing};
+
+/// A frame of an open session is answered as the message that it spells.
+pub fn a_frame_is_answered_as_its_message()
+    ensures { FrameIsAsked }
+{}
+
+/// A clunk frees its fid for a new one, as clunk(5).
+pub fn a_clunk_frees_its_fid()
+    ensures { ClunkFreesFid }
+{}
+
+/// A wstat with every field untouched changes nothing, as stat(5).
+pub fn an_untouched_stat_changes_nothing()
+    ensures { UntouchedStatChangesNothing }
+{}
+
+/// What was written is read back, by any session, as read(5).
+pub fn what_was_written_is_read_back()
+    ensures { WrittenIsReadBack }
+{}
+
+/// Reads of one file by two sessions don't disturb each other.
+pub fn reads_do_not_disturb_each_other()
+    ensures { ReadsDontDisturb }
+{}
+
+/// A file that was created is found by a walk, and listed behind the others, as open(5).
+pub fn a_created_file_is_found()
+    ensures { CreatedIsFound }
+{}
+
+/// Reads of a directory from 0 to its end give, together, all entries, as read(5).
+pub fn reads_give_all_entries()
+    ensures { ReadsGiveAll }
+{}
+
+/// A file that was removed is found by no walk, and its fids are answered 'phase error', as
+/// remove(5).
+pub fn a_removed_file_is_gone()
+    ensures { RemovedIsGone }
+{}
+
+/// A walk of a fid leads where a walk in the mount table leads, as walk(5).
+pub fn a_walk_leads_by_the_mount_table()
+    ensures { WalkLeadsByTable }
+{}
+
+/// The permissions of a new file are by the octal formula of open(5).
+pub fn a_new_mode_is_masked()
+    ensures { NewModeIsMasked }
+{}
