@@ -31,7 +31,7 @@ module _ (hidden : List NodeRef) (before after : State) where
       go (Some session) some = absurd (apart (some refl))
   opened name (Err error) live promised = tt
 
-  -- an opening that is refused: a session of the name is open, or memory was refused
+  -- an opening that is refused: a session of the name is open, or an allocation failed
   refused-open : (name : ℕ) (session : Option Session) → session_at name before.sessions ≡ session
       → IsSome session → before ≡ (step before (Open name) false).state
   refused-open name None is some = absurd (true≢false (sym some))

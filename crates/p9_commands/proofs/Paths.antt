@@ -8,7 +8,7 @@ use Rattle.std.proofs.lemmas.List.{map_push, map-append, reverse-append}
 use Rattle.p9_tree.specs.Node.{Node}
 use Rattle.p9_commands.specs.Path.{entry_at, names_below, rooted_path}
 
--- the root, and a number without a node, stand in no directory
+-- the root, and a number without a node, are in no directory
 pub names-end : (left number : ℕ) (nodes : List Node) (entry : Option (ℕ × Bor (List ℕ)))
     → option_map (λ e. (e.0, e.1.now)) entry ≡ entry_at number nodes → entry ≡ None
     → names_below left number nodes ≡ []

@@ -16,7 +16,7 @@ use Rattle.p9_commands.specs.declared.bundle.BundleError.TheVariants.{BadBundle,
 
 -- Sections.
 
--- the sections, in the order in which they stand
+-- the sections, in the order in which they are
 abbrev pub sections : List Section
 sections = World ∷ Ns ∷ Cert ∷ Script ∷ []
 
@@ -38,7 +38,7 @@ head_of Script = codes "%% script"
 abbrev pub section_of : List ℕ → Option Section
 section_of line = find (λ section. bytes_eq line (head_of section)) sections
 
--- whether a section may follow the one before, if there is one: each stands once, and in its place
+-- whether a section may follow the one before, if there is one: each is once, and in its place
 abbrev pub may_follow : Option Section → Section → Bool
 may_follow None section = true
 may_follow (Some last) section = nat_lt (place_of last) (place_of section)
@@ -125,7 +125,7 @@ bundle_view bundle = record {
 abbrev pub reader_view : {A : Type 0} → Reader A → Reading
 reader_view reader = record { texts = bundle_view reader.bundle; last = reader.last }
 
--- an error says that memory was refused, or which line is the first bad one
+-- an error says that an allocation failed, or which line is the first bad one
 abbrev pub IsBundleFault : {X : Type 0} → Result X ℕ → BundleError → Type 0
 IsBundleFault bundle NoMemory = Unit {0}
 IsBundleFault bundle (BadBundle line) = bundle ≡ Err line

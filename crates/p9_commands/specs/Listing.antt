@@ -7,7 +7,7 @@ use Rattle.p9_space.specs.Table.{MountRow}
 use Rattle.p9_world.specs.World.{World}
 use Rattle.p9_commands.specs.Path.{path_of}
 
--- the first member replaces what stood there; `c` permits creation
+-- the first member replaces what was there; `c` permits creation
 abbrev pub first_flags : Bool → List ℕ
 first_flags create = if create then codes " -c" else codes ""
 

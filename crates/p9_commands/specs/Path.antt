@@ -9,7 +9,7 @@ use Rattle.p9_tree.specs.Server.{node_at}
 use Rattle.p9_tree.specs.Forest.{server_at}
 use Rattle.p9_world.specs.World.{World}
 
--- in which directory the node of the number stands, and under which name: the root stands nowhere,
+-- in which directory the node of the number is, and under which name: the root is nowhere,
 -- nor does a number without a node
 abbrev pub entry_at : ℕ → List Node → Option (ℕ × List ℕ)
 entry_at number nodes =
@@ -22,7 +22,7 @@ names_below (suc left) number nodes =
     option_map_or (λ entry. names_below left entry.0 nodes ++ entry.1 ∷ []) (entry_at number nodes)
     []
 
--- the names that lead to a node from the root. A directory has a smaller number than what stands in
+-- the names that lead to a node from the root. A directory has a smaller number than what is in
 -- it, so there are no more than the number says
 abbrev pub names_to : ℕ → List Node → List (List ℕ)
 names_to number nodes = names_below number number nodes

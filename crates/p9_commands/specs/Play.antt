@@ -24,7 +24,7 @@ silent after = record { state = after.state; text = [] }
 abbrev pub replied : Stepped → Played
 replied after = record { state = after.state; text = encode_lower after.reply ++ 10 ∷ [] }
 
--- an event is played; refused says that memory was refused to a request, and counts for no other
+-- an event is played; refused says that an allocation failed in a request, and counts for no other
 -- event
 abbrev pub played : State → Event → Bool → Played
 played state (Open name) refused =

@@ -19,12 +19,12 @@ abbrev pub or_refused : {X E : Type 0} → (E → Refusal) → Result X E → Re
 or_refused refusal (Ok value) = Ok value
 or_refused refusal (Err bad) = Err (refusal bad)
 
--- an error says that memory was refused, or why nothing is done
+-- an error says that an allocation failed, or why nothing is done
 abbrev pub IsStop : {X : Type 0} → Result X Refusal → Stop → Type 0
 IsStop asked NoMemory = Unit {0}
 IsStop asked (Refused refusal) = asked ≡ Err refusal
 
--- an error says that memory was refused, or that this is the certificate's first gap
+-- an error says that an allocation failed, or that this is the certificate's first gap
 abbrev pub IsUnverified : Option Gap → Stop → Type 0
 IsUnverified gap NoMemory = Unit {0}
 IsUnverified gap (Refused refusal) =

@@ -69,7 +69,7 @@ with_statement events statement = joined events statement.0 (event_of statement.
 abbrev pub script_of : List ℕ → Result (List Event) ℕ
 script_of text = try_fold with_statement [] (statements_of text)
 
--- an error says that memory was refused, or which line is the first bad one
+-- an error says that an allocation failed, or which line is the first bad one
 abbrev pub IsScriptFault : Result (List Event) ℕ → ScriptError → Type 0
 IsScriptFault script NoMemory = Unit {0}
 IsScriptFault script (BadScript line) = script ≡ Err line

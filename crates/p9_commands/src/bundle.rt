@@ -20,7 +20,7 @@ pub enum BundleError {
     /// This line of the whole text is the first bad one; lines count from 1.
     #[error("line {line} begins no section")]
     BadBundle { line: u64 },
-    /// Memory was refused.
+    /// An allocation failed.
     #[error("out of memory")]
     NoMemory,
 }
@@ -34,7 +34,7 @@ pub struct Bundle<A: Allocator> {
     pub script: Option<String<A>>,
 }
 
-// The sections, in the order in which they stand.
+// The sections, in the order in which they are.
 #[derive(Clone, Copy)]
 enum Section {
     World,
@@ -114,7 +114,7 @@ impl<A: Allocator + Copy> Reader<A> {
         self.go_on(number, line)
     }
 
-    // Begins a section, if the line of this number names one that may stand there.
+    // Begins a section, if the line of this number names one that may be there.
     fn begin(&mut self, alloc: A, number: u64, section: Option<Section>) -> Result<(), BundleError>
         ensures ok { OnOk result
             (begun (reader_view self.old) number section ≡ Ok (reader_view self.new)) }

@@ -18,10 +18,11 @@ use p9_base::NoMemory;
 use p9_cert::Certificate;
 use p9_export::Event;
 use p9_index::IndexTree;
+use p9_tree::Tree;
 use std::alloc::Allocator;
 
 /// Runs a command of the program over its input, and answers the exit status. What is printed goes
-/// behind what stands in `out`, and what is told of faults, in lines, behind what stands in `err`.
+/// behind what is in `out`, and what is told of faults, in lines, behind what is in `err`.
 ///
 /// The input is a bundle. Its world, or the sample world without one, is what the lines of its
 /// namespace section are run over. An operation that fails is told as `ns:L: TEXT`, and does
@@ -54,7 +55,24 @@ pub fn run_command<A: Allocator + Copy>(
       err = err.new.items;
     })) }
 {
-    match run(word, input, out, err) {
+    run_command_over::<IndexTree<A>>(word, input, out, err)
+}
+
+/// The same with a tree of any kind for each server.
+pub fn run_command_over<T: Tree>(
+    word: &str,
+    input: &[u8],
+    out: &mut Vec<u8, T::Alloc>,
+    err: &mut Vec<u8, T::Alloc>,
+) -> Result<u8, NoMemory>
+    ensures { IfOk result (λ status. Ends (job_of word.now input.now) status (record {
+      out_before = out.old.items;
+      out = out.new.items;
+      err_before = err.old.items;
+      err = err.new.items;
+    })) }
+{
+    match run::<T>(word, input, out, err) {
         Ok(status) => Ok(status),
         Err(Stop::Refused(refusal)) => {
             tell(refusal, err)?;
@@ -65,11 +83,11 @@ pub fn run_command<A: Allocator + Copy>(
 }
 
 // Does what a command is asked, up to the reason that stops it.
-fn run<A: Allocator + Copy>(
+fn run<T: Tree>(
     word: &str,
     input: &[u8],
-    out: &mut Vec<u8, A>,
-    err: &mut Vec<u8, A>,
+    out: &mut Vec<u8, T::Alloc>,
+    err: &mut Vec<u8, T::Alloc>,
 ) -> Result<u8, Stop>
     ensures { Runs (job_of word.now input.now) (record {
       out_before = out.old.items;
@@ -79,7 +97,7 @@ fn run<A: Allocator + Copy>(
     }) result }
 {
     match command_of(word) {
-        Some(command) => run_in(command, input, out, err),
+        Some(command) => run_in::<T>(command, input, out, err),
         None => Err(Stop::Refused(Refusal::BadCommandLine)),
     }
 }
@@ -98,11 +116,11 @@ fn command_of(word: &str) -> Option<Command>
 }
 
 // The same for a command, of an input.
-fn run_in<A: Allocator + Copy>(
+fn run_in<T: Tree>(
     command: Command,
     input: &[u8],
-    out: &mut Vec<u8, A>,
-    err: &mut Vec<u8, A>,
+    out: &mut Vec<u8, T::Alloc>,
+    err: &mut Vec<u8, T::Alloc>,
 ) -> Result<u8, Stop>
     ensures { Runs (job_in command input.now) (record {
       out_before = out.old.items;
@@ -115,15 +133,15 @@ fn run_in<A: Allocator + Copy>(
         return Err(Stop::Refused(Refusal::NotUtf8));
     };
     let bundle = sections(*out.allocator(), text)?;
-    run_over(command, &bundle, out, err)
+    run_over::<T>(command, &bundle, out, err)
 }
 
 // The same for a command, of the sections of an input.
-fn run_over<A: Allocator + Copy>(
+fn run_over<T: Tree>(
     command: Command,
-    bundle: &Bundle<A>,
-    out: &mut Vec<u8, A>,
-    err: &mut Vec<u8, A>,
+    bundle: &Bundle<T::Alloc>,
+    out: &mut Vec<u8, T::Alloc>,
+    err: &mut Vec<u8, T::Alloc>,
 ) -> Result<u8, Stop>
     ensures { Runs (job_over command (bundle_view bundle.now)) (record {
       out_before = out.old.items;
@@ -132,18 +150,18 @@ fn run_over<A: Allocator + Copy>(
       err = err.new.items;
     }) result }
 {
-    let space = name_space(*out.allocator(), bundle)?;
+    let space: NameSpace<T> = name_space(*out.allocator(), bundle)?;
     run_on(command, space, bundle, out, err)
 }
 
 // The same for a command, of a name space and the other sections: what failed in the making of the
 // name space is told first.
-fn run_on<A: Allocator + Copy>(
+fn run_on<T: Tree>(
     command: Command,
-    space: NameSpace<IndexTree<A>>,
-    bundle: &Bundle<A>,
-    out: &mut Vec<u8, A>,
-    err: &mut Vec<u8, A>,
+    space: NameSpace<T>,
+    bundle: &Bundle<T::Alloc>,
+    out: &mut Vec<u8, T::Alloc>,
+    err: &mut Vec<u8, T::Alloc>,
 ) -> Result<u8, Stop>
     ensures { Runs (Ok (job command (bundle_view bundle.now) space)) (record {
       out_before = out.old.items;
@@ -159,11 +177,11 @@ fn run_on<A: Allocator + Copy>(
 }
 
 // Does a task, unless the script is to be played with a certificate that has a gap.
-fn work<A: Allocator + Copy>(
-    task: Task<A>,
-    space: NameSpace<IndexTree<A>>,
-    events: &[Event<A>],
-    out: &mut Vec<u8, A>,
+fn work<T: Tree>(
+    task: Task<T::Alloc>,
+    space: NameSpace<T>,
+    events: &[Event<T::Alloc>],
+    out: &mut Vec<u8, T::Alloc>,
 ) -> Result<u8, Stop>
     ensures ok { IfOk result (λ status. Writes (task_view task) (map event_view events.now) space
         status out.old.items out.new.items) }
@@ -180,11 +198,11 @@ fn work<A: Allocator + Copy>(
 }
 
 // Plays the script, over a guard where there is a certificate.
-fn play<A: Allocator + Copy>(
-    certificate: Option<Certificate<A>>,
-    space: NameSpace<IndexTree<A>>,
-    events: &[Event<A>],
-    out: &mut Vec<u8, A>,
+fn play<T: Tree>(
+    certificate: Option<Certificate<T::Alloc>>,
+    space: NameSpace<T>,
+    events: &[Event<T::Alloc>],
+    out: &mut Vec<u8, T::Alloc>,
 ) -> Result<u8, Stop>
     ensures ok { IfOk result (λ status. Writes (ToPlay certificate) (map event_view events.now)
         space status out.old.items out.new.items) }

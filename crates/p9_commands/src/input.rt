@@ -18,7 +18,7 @@ use crate::refusal::{Refusal, Stop};
 use crate::script::{ScriptError, read_script};
 use p9_cert::{Certificate, ReadError, read_cert};
 use p9_export::Event;
-use p9_index::IndexTree;
+use p9_tree::Tree;
 use std::alloc::Allocator;
 
 /// The input as a text.
@@ -45,10 +45,10 @@ pub(crate) fn sections<A: Allocator + Copy>(alloc: A, text: &str) -> Result<Bund
 }
 
 /// The name space of the sections, or the first bad line of the world, or of the namespace file.
-pub(crate) fn name_space<A: Allocator + Copy>(
-    alloc: A,
-    bundle: &Bundle<A>,
-) -> Result<NameSpace<IndexTree<A>>, Stop>
+pub(crate) fn name_space<T: Tree>(
+    alloc: T::Alloc,
+    bundle: &Bundle<T::Alloc>,
+) -> Result<NameSpace<T>, Stop>
     ensures ok { IfOk result (λ space.
         space_in (bundle_view bundle.now).world (bundle_view bundle.now).ns ≡ Ok space) }
     ensures stop { IfErr result

@@ -21,6 +21,6 @@ mod small;
 mod task;
 
 pub use bundle::{Bundle, BundleError, split_bundle};
-pub use command::run_command;
+pub use command::{run_command, run_command_over};
 pub use offer::served_guard;
 pub use script::{ScriptError, read_script};

@@ -6,7 +6,7 @@ ghost use Rattle.hex.specs.Hex.{encode_lower};
 use p9_base::NoMemory;
 use std::alloc::Allocator;
 
-/// Prints a line. Where memory is refused, a part of it may stand there.
+/// Prints a line. Where an allocation fails, a part of it may be there.
 pub(crate) fn print_line<A: Allocator + Copy>(
     line: &str,
     out: &mut Vec<u8, A>,
@@ -16,8 +16,8 @@ pub(crate) fn print_line<A: Allocator + Copy>(
     print_bytes(line.as_bytes(), out)
 }
 
-/// Prints bytes as a line of lower case hexadecimal digits. Where memory is refused, a part of it
-/// may stand there. `digits` is a buffer with room for twice as many bytes, whose content is lost.
+/// Prints bytes as a line of lower case hexadecimal digits. Where an allocation fails, a part of it
+/// may be there. `digits` is a buffer with room for twice as many bytes, whose content is lost.
 pub(crate) fn print_hex<A: Allocator + Copy>(
     bytes: &[u8],
     digits: &mut [u8],

@@ -10,8 +10,8 @@ use p9_space::{Member, MountTable};
 use p9_tree::Tree;
 use p9_world::World;
 
-/// Prints a mount table, a line for each member of each row. Where memory is refused, a part of it
-/// may stand there.
+/// Prints a mount table, a line for each member of each row. Where an allocation fails, a part of
+/// it may be there.
 pub(crate) fn print_table<T: Tree>(
     world: &World<T>,
     table: &MountTable<T::Alloc>,
@@ -47,7 +47,7 @@ fn print_row<T: Tree>(
     Ok(())
 }
 
-// The flags of the first member, which replaces what stood there.
+// The flags of the first member, which replaces what was there.
 fn first_flags(create: bool) -> &'static str
     ensures { result.now ≡ first_flags create }
 {

@@ -89,7 +89,7 @@ impl<T: Tree> NameSpace<T> {
         })
     }
 
-    /// Prints what failed, a line each. Where memory is refused, some of them may stand there.
+    /// Prints what failed, a line each. Where an allocation fails, some of them may be there.
     pub fn print_reports(&self, err: &mut Vec<u8, T::Alloc>) -> Result<(), NoMemory>
         ensures { OnOk result (err.new.items ≡ err.old.items ++ reports_text self.now.reports) }
     {

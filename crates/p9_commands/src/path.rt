@@ -11,7 +11,7 @@ use p9_world::World;
 use std::alloc::Allocator;
 
 /// Prints a node's path: `#`, its server's name, and from the root on a slash before each name. The
-/// root is a slash alone. Where memory is refused, a part of it may stand there.
+/// root is a slash alone. Where an allocation fails, a part of it may be there.
 pub(crate) fn print_path<T: Tree>(
     world: &World<T>,
     at: NodeRef,
@@ -70,7 +70,7 @@ fn names_from<'a, T: Tree>(
     Ok(names)
 }
 
-// In which directory a node stands, and under which name.
+// In which directory a node is, and under which name.
 fn entry<T: Tree>(forest: &Forest<T>, at: NodeRef) -> Option<(u64, &str)>
     ensures { option_map (λ e. (e.0, e.1.now)) result
         ≡ entry_at at.number (server_at at.server (map T.state forest.now.trees.items)).nodes }

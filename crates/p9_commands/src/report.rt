@@ -9,7 +9,7 @@ use p9_base::NoMemory;
 use p9_nsfile::OpFault;
 use std::alloc::Allocator;
 
-/// Prints reports, a line each. Where memory is refused, some of them may stand there.
+/// Prints reports, a line each. Where an allocation fails, some of them may be there.
 pub(crate) fn print_reports<A: Allocator + Copy>(
     reports: &[(u64, OpFault)],
     err: &mut Vec<u8, A>,

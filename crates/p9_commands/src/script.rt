@@ -20,7 +20,7 @@ pub enum ScriptError {
     /// This line says no event. It is the first such line; lines count from 1.
     #[error("line {line} is bad")]
     BadScript { line: u64 },
-    /// Memory was refused.
+    /// An allocation failed.
     #[error("out of memory")]
     NoMemory,
 }
@@ -30,7 +30,7 @@ pub enum ScriptError {
 /// A line is `open S`, `msg S NOW HEX` or `close S NOW`: a session's name and a reading of the
 /// clock are decimal numbers below 2^32, and `HEX` is one byte or more in hexadecimal digits of
 /// either case. Blank lines and lines that begin with `#` are passed over, and counted. Any other
-/// line is [`ScriptError::BadScript`]; want of memory is [`ScriptError::NoMemory`].
+/// line is [`ScriptError::BadScript`]; a failed allocation is [`ScriptError::NoMemory`].
 pub fn read_script<A: Allocator + Copy>(
     alloc: A,
     text: &str,

@@ -4,8 +4,9 @@
 use crate::exchange::{Exchange, exchange, is_reply, room, send};
 use crate::worlds::{ATTACH, Bind, VERSION, exporter, in_session};
 use p9_export::{Export, OpenError};
+use p9_index::IndexTree;
 use p9_refusing::{Refusing, refuse_each};
-use p9_tree::Tree;
+use p9_tree::{PlainTree, Tree};
 use std::alloc::Global;
 use std::process::Abort;
 
@@ -20,17 +21,31 @@ pub struct Script<'a> {
     pub rows: &'a [Exchange],
 }
 
-/// Plays the script with each request for memory refused in turn, and returns how many there are.
+/// Plays the script over each kind of tree with each request for memory refused in turn, and
+/// returns how many requests there are: the fewer of both.
 pub fn play_refused(rt: &impl Abort, alloc: Global, script: Script<'_>) -> u64 {
     let memory = Refusing::new(alloc);
+    let plain = play_over::<PlainTree<&Refusing<Global>>>(rt, alloc, &memory, &memory, script);
+    let index = play_over::<IndexTree<&Refusing<Global>>>(rt, alloc, &memory, &memory, script);
+    plain.min(index)
+}
+
+// Plays the script over one kind of tree, in the memory that refuses.
+fn play_over<T: Tree>(
+    rt: &impl Abort,
+    alloc: Global,
+    memory: &Refusing<Global>,
+    lent: T::Alloc,
+    script: Script<'_>,
+) -> u64 {
     refuse_each(
-        &memory,
-        || exporter(rt, &memory, script.world, script.binds),
+        memory,
+        || exporter::<T>(rt, lent, script.world, script.binds),
         |export| play_again(rt, alloc, export, script),
     )
 }
 
-// Begins the sessions and sends the requests, each again where memory was refused.
+// Begins the sessions and sends the requests, each again where an allocation failed.
 fn play_again<T: Tree>(rt: &impl Abort, alloc: Global, mut export: Export<T>, script: Script<'_>) {
     let mut room = room(rt, alloc);
     let reply = room.as_mut_slice();
@@ -42,7 +57,7 @@ fn play_again<T: Tree>(rt: &impl Abort, alloc: Global, mut export: Export<T>, sc
     }
 }
 
-// Begins a session, each step again where memory was refused.
+// Begins a session, each step again where an allocation failed.
 fn begin_again<T: Tree>(
     rt: &impl Abort,
     alloc: Global,
@@ -59,7 +74,7 @@ fn begin_again<T: Tree>(
     exchange_again(rt, alloc, export, now, in_session(session, ATTACH), reply);
 }
 
-// Sends a request, again where memory was refused, and compares the reply.
+// Sends a request, again where an allocation failed, and compares the reply.
 fn exchange_again<T: Tree>(
     rt: &impl Abort,
     alloc: Global,
@@ -101,7 +116,7 @@ fn may_run_out(kind: u8) -> bool {
     matches!(kind, 104 | 110 | 114 | 118 | 126)
 }
 
-// Whether the reply to the request says that memory was refused.
+// Whether the reply to the request says that an allocation failed.
 fn is_refusal(request: &[u8], reply: &[u8]) -> bool {
     reply.get(..5) == Some([22, 0, 0, 0, 107].as_slice())
         && reply.get(5..7) == request.get(5..7)

@@ -3,7 +3,9 @@
 use crate::exchange::{exchange_all, room, send};
 use crate::worlds::begun;
 use p9_export::Export;
-use p9_tree::Tree;
+use p9_index::IndexTree;
+use p9_tree::{PlainTree, Tree};
+use std::alloc::Global;
 use std::process::Abort;
 
 // Walks from fid 0 to newfid without names.
@@ -16,13 +18,12 @@ fn clone_fid<T: Tree>(rt: &impl Abort, export: &mut Export<T>, newfid: u32, repl
 }
 
 // Fid 0 and 1,023 others, and one more.
-#[test]
-fn a_session_has_1024_fids(rt: HostRuntime) {
-    let mut room = room(&rt, rt.alloc());
+fn has_1024_fids<T: Tree<Alloc = Global>>(rt: &impl Abort, alloc: Global) {
+    let mut room = room(rt, alloc);
     let reply = room.as_mut_slice();
-    let mut export = begun(&rt, rt.alloc(), reply);
+    let mut export = begun::<T>(rt, alloc, reply);
     for newfid in 1..1024 {
-        clone_fid(&rt, &mut export, newfid, reply);
+        clone_fid(rt, &mut export, newfid, reply);
     }
     let rows = &[
         (
@@ -49,5 +50,11 @@ fn a_session_has_1024_fids(rt: HostRuntime) {
             "090000006f07000000",
         ),
     ];
-    exchange_all(&rt, rt.alloc(), &mut export, 0, rows, reply);
+    exchange_all(rt, alloc, &mut export, 0, rows, reply);
+}
+
+#[test]
+fn a_session_has_1024_fids(rt: HostRuntime) {
+    has_1024_fids::<PlainTree<Global>>(&rt, rt.alloc());
+    has_1024_fids::<IndexTree<Global>>(&rt, rt.alloc());
 }

@@ -5,9 +5,10 @@ use crate::again::is_answered;
 use crate::exchange::{Exchange, exchange, exchange_all, room};
 use crate::worlds::{SMALL, begin, exporter};
 use p9_export::Export;
+use p9_index::IndexTree;
 use p9_refusing::{Refusing, refuse_each};
 use p9_tree::{PlainTree, Tree};
-use std::alloc::{Allocator, Global};
+use std::alloc::Global;
 use std::process::Abort;
 
 // Fid 1 is /a, and fid 2 its file.
@@ -105,7 +106,7 @@ const TWICE: [Exchange; 2] = [
     ),
 ];
 
-fn ready<A: Allocator + Copy>(rt: &impl Abort, alloc: Global, memory: A) -> Export<PlainTree<A>> {
+fn ready<T: Tree>(rt: &impl Abort, alloc: Global, memory: T::Alloc) -> Export<T> {
     let mut export = exporter(rt, memory, SMALL, &[]);
     let mut room = room(rt, alloc);
     let reply = room.as_mut_slice();
@@ -114,7 +115,7 @@ fn ready<A: Allocator + Copy>(rt: &impl Abort, alloc: Global, memory: A) -> Expo
     export
 }
 
-// Sends a wstat, and again where memory was refused: all is then as before.
+// Sends a wstat, and again where an allocation failed: all is then as before.
 fn grow_again<T: Tree>(
     rt: &impl Abort,
     alloc: Global,
@@ -140,13 +141,18 @@ fn grow_twice<T: Tree>(rt: &impl Abort, alloc: Global, export: &mut Export<T>) {
 }
 
 // Each growth asks for memory once, and nothing else does.
+fn grows<T: Tree>(rt: &impl Abort, alloc: Global, memory: &Refusing<Global>, lent: T::Alloc) {
+    let refusals = refuse_each(
+        memory,
+        || ready::<T>(rt, alloc, lent),
+        |mut export| grow_twice(rt, alloc, &mut export),
+    );
+    assert_eq!(rt; refusals, 2);
+}
+
 #[test]
 fn a_growth_is_done_again_at_each_refusal(rt: HostRuntime) {
     let memory = Refusing::new(rt.alloc());
-    let refusals = refuse_each(
-        &memory,
-        || ready(&rt, rt.alloc(), &memory),
-        |mut export| grow_twice(&rt, rt.alloc(), &mut export),
-    );
-    assert_eq!(rt; refusals, 2);
+    grows::<PlainTree<&Refusing<Global>>>(&rt, rt.alloc(), &memory, &memory);
+    grows::<IndexTree<&Refusing<Global>>>(&rt, rt.alloc(), &memory, &memory);
 }

@@ -4,9 +4,10 @@ use crate::again::is_answered;
 use crate::exchange::{Exchange, exchange, exchange_all, is_reply, read_at, room, send};
 use crate::worlds::{SMALL, exporter};
 use p9_export::Export;
+use p9_index::IndexTree;
 use p9_refusing::{Refusing, refuse_each};
 use p9_tree::{FILE_MAX, PlainTree, Tree};
-use std::alloc::{Allocator, Global};
+use std::alloc::Global;
 use std::process::Abort;
 
 // Session 1 asks for the greatest msize. Its fid 1 is /a/f, open for reading and writing, and takes
@@ -35,12 +36,7 @@ const BEGINNING: [Exchange; 4] = [
 ];
 
 // The sample world with session 1.
-fn ready<A: Allocator + Copy>(
-    rt: &impl Abort,
-    alloc: Global,
-    memory: A,
-    reply: &mut [u8],
-) -> Export<PlainTree<A>> {
+fn ready<T: Tree>(rt: &impl Abort, alloc: Global, memory: T::Alloc, reply: &mut [u8]) -> Export<T> {
     let mut export = exporter(rt, memory, SMALL, &[]);
     assert_eq!(rt; export.open(1), Ok(()));
     exchange_all(rt, alloc, &mut export, 0, &BEGINNING, reply);
@@ -72,26 +68,30 @@ fn gives(reply: &[u8], size: usize, data: &[u8]) -> bool {
 }
 
 // A frame of 1,048,576 bytes writes 1,048,553, of which a read gives all but one.
-#[test]
-fn the_greatest_write_is_read_back(rt: HostRuntime) {
-    let alloc = rt.alloc();
-    let mut room = room(&rt, alloc);
+fn reads_back<T: Tree<Alloc = Global>>(rt: &impl Abort, alloc: Global) {
+    let mut room = room(rt, alloc);
     let reply = room.as_mut_slice();
-    let mut export = ready(&rt, alloc, alloc, reply);
-    let data = data_of(&rt, alloc, 1_048_553);
-    let frame = write_of(&rt, alloc, data.as_slice());
+    let mut export = ready::<T>(rt, alloc, alloc, reply);
+    let data = data_of(rt, alloc, 1_048_553);
+    let frame = write_of(rt, alloc, data.as_slice());
     assert_eq!(rt; frame.len(), 1_048_576);
     assert_eq!(rt; data.len(), 1_048_553);
-    let size = send(&rt, &mut export, 1, 0, frame.as_slice(), reply);
-    let written = reply.get(..size).expect(&rt, "a reply");
-    is_reply(&rt, alloc, written, "0b000000770100e9ff0f00");
-    let size = read_at(&rt, &mut export, 1, 0, u32::MAX, reply);
+    let size = send(rt, &mut export, 1, 0, frame.as_slice(), reply);
+    let written = reply.get(..size).expect(rt, "a reply");
+    is_reply(rt, alloc, written, "0b000000770100e9ff0f00");
+    let size = read_at(rt, &mut export, 1, 0, u32::MAX, reply);
     assert_eq!(rt; size, 11 + 1_048_552);
     let (front, _) = data.as_slice().split_at(1_048_552);
     assert!(rt; gives(reply, size, front));
-    let size = read_at(&rt, &mut export, 1, 1_048_552, u32::MAX, reply);
-    let last = reply.get(..size).expect(&rt, "a reply");
-    is_reply(&rt, alloc, last, "0c000000750100010000007d");
+    let size = read_at(rt, &mut export, 1, 1_048_552, u32::MAX, reply);
+    let last = reply.get(..size).expect(rt, "a reply");
+    is_reply(rt, alloc, last, "0c000000750100010000007d");
+}
+
+#[test]
+fn the_greatest_write_is_read_back(rt: HostRuntime) {
+    reads_back::<PlainTree<Global>>(&rt, rt.alloc());
+    reads_back::<IndexTree<Global>>(&rt, rt.alloc());
 }
 
 // Three files, which are 2, 3 and 4.
@@ -265,17 +265,21 @@ const ALL_GREATEST: [Exchange; 15] = [
     ),
 ];
 
-#[test]
-fn several_files_have_the_greatest_length(rt: HostRuntime) {
-    let alloc = rt.alloc();
-    let mut room = room(&rt, alloc);
+fn makes_several<T: Tree<Alloc = Global>>(rt: &impl Abort, alloc: Global) {
+    let mut room = room(rt, alloc);
     let reply = room.as_mut_slice();
-    let mut export = exporter(&rt, alloc, THREE, &[]);
+    let mut export = exporter::<T>(rt, alloc, THREE, &[]);
     for session in 1..=3 {
         assert_eq!(rt; export.open(session), Ok(()));
     }
-    exchange_all(&rt, alloc, &mut export, 0, &GREATEST, reply);
-    exchange_all(&rt, alloc, &mut export, 0, &ALL_GREATEST, reply);
+    exchange_all(rt, alloc, &mut export, 0, &GREATEST, reply);
+    exchange_all(rt, alloc, &mut export, 0, &ALL_GREATEST, reply);
+}
+
+#[test]
+fn several_files_have_the_greatest_length(rt: HostRuntime) {
+    makes_several::<PlainTree<Global>>(&rt, rt.alloc());
+    makes_several::<IndexTree<Global>>(&rt, rt.alloc());
 }
 
 // The last byte that the file may have.
@@ -298,14 +302,18 @@ fn zeros_between<T: Tree>(rt: &impl Abort, export: &mut Export<T>, reply: &mut [
     }
 }
 
+fn fills_a_gap<T: Tree<Alloc = Global>>(rt: &impl Abort, alloc: Global) {
+    let mut room = room(rt, alloc);
+    let reply = room.as_mut_slice();
+    let mut export = ready::<T>(rt, alloc, alloc, reply);
+    exchange_all(rt, alloc, &mut export, 0, &LAST_BYTE, reply);
+    zeros_between(rt, &mut export, reply);
+}
+
 #[test]
 fn a_gap_is_filled_with_zeros(rt: HostRuntime) {
-    let alloc = rt.alloc();
-    let mut room = room(&rt, alloc);
-    let reply = room.as_mut_slice();
-    let mut export = ready(&rt, alloc, alloc, reply);
-    exchange_all(&rt, alloc, &mut export, 0, &LAST_BYTE, reply);
-    zeros_between(&rt, &mut export, reply);
+    fills_a_gap::<PlainTree<Global>>(&rt, rt.alloc());
+    fills_a_gap::<IndexTree<Global>>(&rt, rt.alloc());
 }
 
 // The file at first: its stat, and its bytes.
@@ -391,7 +399,7 @@ const TOO_LONG: Exchange = (
     "170000006b04000e0066696c6520746f6f206c61726765",
 );
 
-// Grows the file, and again where memory was refused: all is then as before.
+// Grows the file, and again where an allocation failed: all is then as before.
 fn grow_again<T: Tree>(
     rt: &impl Abort,
     alloc: Global,
@@ -418,18 +426,18 @@ fn grow_twice<T: Tree>(rt: &impl Abort, alloc: Global, export: &mut Export<T>) {
 }
 
 // Each growth asks for memory once, and nothing else does.
+fn grows<T: Tree>(rt: &impl Abort, alloc: Global, memory: &Refusing<Global>, lent: T::Alloc) {
+    let refusals = refuse_each(
+        memory,
+        || ready::<T>(rt, alloc, lent, room(rt, alloc).as_mut_slice()),
+        |mut export| grow_twice(rt, alloc, &mut export),
+    );
+    assert_eq!(rt; refusals, 2);
+}
+
 #[test]
 fn a_large_file_grows_again_at_each_refusal(rt: HostRuntime) {
     let memory = Refusing::new(rt.alloc());
-    let refusals = refuse_each(
-        &memory,
-        || ready(
-            &rt,
-            rt.alloc(),
-            &memory,
-            room(&rt, rt.alloc()).as_mut_slice(),
-        ),
-        |mut export| grow_twice(&rt, rt.alloc(), &mut export),
-    );
-    assert_eq!(rt; refusals, 2);
+    grows::<PlainTree<&Refusing<Global>>>(&rt, rt.alloc(), &memory, &memory);
+    grows::<IndexTree<&Refusing<Global>>>(&rt, rt.alloc(), &memory, &memory);
 }

@@ -1,10 +1,13 @@
 //! Tests of the exporter that no row of `p9_rows` holds: refused memory, so many files, fids,
 //! modes or bytes that a loop says it better, and calls that the program's command doesn't make.
-//! There is nothing else here.
+//! Each test runs over both kinds of tree, and wants the same bytes of both. There is nothing else
+//! here.
 #![tactic(auto)]
 
 #[cfg(test)]
 mod again;
+#[cfg(test)]
+mod directory;
 #[cfg(test)]
 mod exchange;
 #[cfg(test)]
@@ -14,6 +17,8 @@ mod growth;
 #[cfg(test)]
 mod large;
 #[cfg(test)]
+mod lent;
+#[cfg(test)]
 mod many;
 #[cfg(test)]
 mod modes;
@@ -21,6 +26,8 @@ mod modes;
 mod refused;
 #[cfg(test)]
 mod refused_scripts;
+#[cfg(test)]
+mod renamed;
 #[cfg(test)]
 mod sessions;
 #[cfg(test)]

@@ -2,11 +2,13 @@
 
 use crate::exchange::{Exchange, exchange, is_reply, room, send};
 use crate::worlds::begun;
+use p9_index::IndexTree;
+use p9_tree::{PlainTree, Tree};
 use std::alloc::Global;
 use std::process::Abort;
 
 // Opens fid 1, where a walk took it, by a mode.
-fn open_by(
+fn open_by<T: Tree<Alloc = Global>>(
     rt: &impl Abort,
     alloc: Global,
     walk: Exchange,
@@ -14,7 +16,7 @@ fn open_by(
     wanted: &str,
     reply: &mut [u8],
 ) {
-    let mut export = begun(rt, alloc, reply);
+    let mut export = begun::<T>(rt, alloc, reply);
     exchange(rt, alloc, &mut export, 0, walk, reply);
     let frame = [12, 0, 0, 0, 112, 2, 0, 1, 0, 0, 0, mode];
     let size = send(rt, &mut export, 1, 0, &frame, reply);
@@ -45,30 +47,40 @@ fn of_dir(mode: u8) -> &'static str {
     }
 }
 
-#[test]
-fn every_mode_of_a_file(rt: HostRuntime) {
+fn opens_a_file<T: Tree<Alloc = Global>>(rt: &impl Abort, alloc: Global) {
     let walk = (
         1,
         "170000006e070000000000010000000200010061010066",
         "230000006f070002008000000000010000000000000000000000000300000000000000",
     );
-    let mut room = room(&rt, rt.alloc());
+    let mut room = room(rt, alloc);
     let reply = room.as_mut_slice();
     for mode in 0..=255u8 {
-        open_by(&rt, rt.alloc(), walk, mode, of_file(mode), reply);
+        open_by::<T>(rt, alloc, walk, mode, of_file(mode), reply);
     }
 }
 
 #[test]
-fn every_mode_of_a_directory(rt: HostRuntime) {
+fn every_mode_of_a_file(rt: HostRuntime) {
+    opens_a_file::<PlainTree<Global>>(&rt, rt.alloc());
+    opens_a_file::<IndexTree<Global>>(&rt, rt.alloc());
+}
+
+fn opens_a_directory<T: Tree<Alloc = Global>>(rt: &impl Abort, alloc: Global) {
     let walk = (
         1,
         "140000006e070000000000010000000100010061",
         "160000006f0700010080000000000100000000000000",
     );
-    let mut room = room(&rt, rt.alloc());
+    let mut room = room(rt, alloc);
     let reply = room.as_mut_slice();
     for mode in 0..=255u8 {
-        open_by(&rt, rt.alloc(), walk, mode, of_dir(mode), reply);
+        open_by::<T>(rt, alloc, walk, mode, of_dir(mode), reply);
     }
+}
+
+#[test]
+fn every_mode_of_a_directory(rt: HostRuntime) {
+    opens_a_directory::<PlainTree<Global>>(&rt, rt.alloc());
+    opens_a_directory::<IndexTree<Global>>(&rt, rt.alloc());
 }

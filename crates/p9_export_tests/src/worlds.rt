@@ -4,7 +4,7 @@ use crate::exchange::{Exchange, exchange};
 use p9_base::NodeRef;
 use p9_export::Export;
 use p9_space::{MountTable, Order, is_table_given};
-use p9_tree::{PlainTree, Tree};
+use p9_tree::Tree;
 use p9_world::{World, read_world};
 use std::alloc::{Allocator, Global};
 use std::process::Abort;
@@ -28,12 +28,12 @@ pub struct Bind {
 }
 
 /// An exporter of the world of a text, whose first server has these binds.
-pub fn exporter<A: Allocator + Copy>(
+pub fn exporter<T: Tree>(
     rt: &impl Abort,
-    alloc: A,
+    alloc: T::Alloc,
     text: &str,
     binds: &[Bind],
-) -> Export<PlainTree<A>> {
+) -> Export<T> {
     let world = read_world(alloc, text).expect(rt, "a world");
     let table = table_of(rt, alloc, binds);
     assert!(rt; is_table_given(&world.forest, &table));
@@ -90,7 +90,11 @@ pub fn in_session(session: u32, row: (&'static str, &'static str)) -> Exchange {
 }
 
 /// The sample world's exporter with session 1.
-pub fn begun(rt: &impl Abort, alloc: Global, reply: &mut [u8]) -> Export<PlainTree<Global>> {
+pub fn begun<T: Tree<Alloc = Global>>(
+    rt: &impl Abort,
+    alloc: Global,
+    reply: &mut [u8],
+) -> Export<T> {
     let mut export = exporter(rt, alloc, SMALL, &[]);
     begin(rt, alloc, &mut export, 1, reply);
     export

@@ -3,6 +3,8 @@
 use crate::body::Ending;
 use crate::row::Row;
 use crate::words::{exchange, first_not_read_back, frames, played};
+use p9_index::IndexTree;
+use p9_tree::{PlainTree, Tree};
 use std::alloc::{AllocError, Global};
 use std::io;
 use std::io::Write;
@@ -21,31 +23,48 @@ pub fn play_rows(rt: &HostRuntime, file: &str, rows: &[Row]) -> io::Result<bool>
     Ok(as_written == count)
 }
 
-// Whether each command of the row ends as it is written.
+// Whether each command of the row ends as it is written, over either kind of tree, and each frame in
+// the row is read back from its words.
 fn is_as_written(rt: &HostRuntime, file: &str, row: &Row) -> io::Result<bool> {
     let name = row.name.as_str();
-    let mut is_well = true;
+    let label = format!(in rt.alloc(); "{file}: {name}")?;
+    let mut is_well = !print_not_read_back(rt, label.as_str(), row.body.input.as_slice())?;
+    is_well &= !print_not_read_back(rt, label.as_str(), row.body.wanted.out.as_slice())?;
     for command in row.commands.as_str().split('+') {
-        let got = play(rt.alloc(), command, row.body.input.as_slice())?;
         let label = format!(in rt.alloc(); "{file}: {command}: {name}")?;
-        let differs = print_differences(rt, label.as_str(), &row.body.wanted, &got)?;
-        if row.is_to_differ && !differs {
-            println!(rt; "{label}: nothing differs")?;
-        }
-        is_well &= differs == row.is_to_differ;
-        is_well &= !print_not_read_back(rt, label.as_str(), row.body.input.as_slice())?;
-        is_well &= !print_not_read_back(rt, label.as_str(), got.out.as_slice())?;
+        is_well &= ends_as_written::<IndexTree<Global>>(rt, label.as_str(), command, row)?;
+        let label = format!(in rt.alloc(); "{file}: {command} over plain trees: {name}")?;
+        is_well &= ends_as_written::<PlainTree<Global>>(rt, label.as_str(), command, row)?;
     }
     Ok(is_well)
 }
 
+// Whether a command ends over the row's input as it is written. Prints under the label what differs.
+fn ends_as_written<T: Tree<Alloc = Global>>(
+    rt: &HostRuntime,
+    label: &str,
+    command: &str,
+    row: &Row,
+) -> io::Result<bool> {
+    let got = play::<T>(rt.alloc(), command, row.body.input.as_slice())?;
+    let differs = print_differences(rt, label, &row.body.wanted, &got)?;
+    if row.is_to_differ && !differs {
+        println!(rt; "{label}: nothing differs")?;
+    }
+    Ok(differs == row.is_to_differ)
+}
+
 // How a command ends over an input. `frames` and `exchange` are those of p9_fcall, and all others
 // those of p9.
-fn play(alloc: Global, command: &str, input: &[u8]) -> Result<Ending, AllocError> {
+fn play<T: Tree<Alloc = Global>>(
+    alloc: Global,
+    command: &str,
+    input: &[u8],
+) -> Result<Ending, AllocError> {
     match command {
         "frames" => frames(alloc, input),
-        "exchange" => exchange(alloc, input),
-        _ => played(alloc, command, input),
+        "exchange" => exchange::<T>(alloc, input),
+        _ => played::<T>(alloc, command, input),
     }
 }
 

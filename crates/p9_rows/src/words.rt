@@ -3,8 +3,9 @@
 
 use crate::body::Ending;
 use p9_base::NoMemory;
-use p9_commands::run_command;
+use p9_commands::run_command_over;
 use p9_exchange::{Stop, show_exchange, write_script};
+use p9_tree::Tree;
 use p9_wire::{read_r, read_t};
 use p9_words::{WordsError, print_reply, print_request, read_words};
 use std::alloc::{AllocError, Global};
@@ -23,12 +24,15 @@ pub fn frames(alloc: Global, input: &[u8]) -> Result<Ending, AllocError> {
 
 /// How `p9_fcall exchange` ends over an input in words, of which p9 has played what
 /// [`frames`] writes.
-pub fn exchange(alloc: Global, input: &[u8]) -> Result<Ending, AllocError> {
+pub fn exchange<T: Tree<Alloc = Global>>(
+    alloc: Global,
+    input: &[u8],
+) -> Result<Ending, AllocError> {
     let written = frames(alloc, input)?;
     if written.status != 0 {
         return Ok(written);
     }
-    let played = played(alloc, "play", written.out.as_slice())?;
+    let played = played::<T>(alloc, "play", written.out.as_slice())?;
     let mut text = Vec::from_slice(alloc, input)?;
     text.extend_from_slice(b"%% replies\n")?;
     text.extend_from_slice(played.out.as_slice())?;
@@ -42,11 +46,15 @@ pub fn exchange(alloc: Global, input: &[u8]) -> Result<Ending, AllocError> {
     }
 }
 
-/// How a command of p9 ends over an input.
-pub fn played(alloc: Global, command: &str, input: &[u8]) -> Result<Ending, AllocError> {
+/// How a command of p9 ends over an input, with a tree of this kind for each server.
+pub fn played<T: Tree<Alloc = Global>>(
+    alloc: Global,
+    command: &str,
+    input: &[u8],
+) -> Result<Ending, AllocError> {
     let mut out = Vec::new(alloc);
     let mut err = Vec::new(alloc);
-    match run_command(command, input, &mut out, &mut err) {
+    match run_command_over::<T>(command, input, &mut out, &mut err) {
         Ok(status) => Ok(Ending { out, err, status }),
         Err(NoMemory) => Err(AllocError),
     }

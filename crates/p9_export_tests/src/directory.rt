@@ -1,0 +1,101 @@
+//! A directory /a of many files, each named by its number.
+
+use crate::exchange::{read_at, send};
+use p9_export::Export;
+use p9_tree::Tree;
+use std::alloc::Global;
+use std::process::Abort;
+
+/// The last four digits of a number.
+pub fn name_of(number: u32) -> [u8; 4] {
+    [
+        digit(number / 1_000),
+        digit(number / 100),
+        digit(number / 10),
+        digit(number),
+    ]
+}
+
+// The last digit of a number.
+fn digit(number: u32) -> u8 {
+    b'0' + (number % 10) as u8
+}
+
+/// A session walks to the file of this number, with its fid 1.
+pub fn walk_to<T: Tree>(
+    rt: &impl Abort,
+    export: &mut Export<T>,
+    session: u32,
+    number: u32,
+    reply: &mut [u8],
+) {
+    let mut walk = [
+        26, 0, 0, 0, 110, 1, 0, 0, 0, 0, 0, 1, 0, 0, 0, 2, 0, 1, 0, b'a', 4, 0, 0, 0, 0, 0,
+    ];
+    walk[22..].copy_from_slice(&name_of(number));
+    assert_eq!(rt; send(rt, export, session, 0, &walk, reply), 35);
+}
+
+/// A session makes a file in /a, and its number is to be this one.
+pub fn make<T: Tree>(
+    rt: &impl Abort,
+    export: &mut Export<T>,
+    session: u32,
+    number: u32,
+    reply: &mut [u8],
+) {
+    let walk = [
+        20, 0, 0, 0, 110, 1, 0, 0, 0, 0, 0, 1, 0, 0, 0, 1, 0, 1, 0, b'a',
+    ];
+    assert_eq!(rt; send(rt, export, session, 0, &walk, reply), 22);
+    let mut create = [
+        22, 0, 0, 0, 114, 1, 0, 1, 0, 0, 0, 4, 0, 0, 0, 0, 0, 0xa4, 1, 0, 0, 0,
+    ];
+    create[13..17].copy_from_slice(&name_of(number));
+    assert_eq!(rt; send(rt, export, session, 0, &create, reply), 24);
+    assert!(rt; is_numbered(reply, number));
+    clunk(rt, export, session, reply);
+}
+
+// Whether an Rcreate tells of the file of this number.
+fn is_numbered(reply: &[u8], number: u32) -> bool {
+    reply.get(12..16) == Some(number.to_le_bytes().as_slice())
+}
+
+/// A session ends its fid 1.
+pub fn clunk<T: Tree>(rt: &impl Abort, export: &mut Export<T>, session: u32, reply: &mut [u8]) {
+    let clunk = [11, 0, 0, 0, 120, 1, 0, 1, 0, 0, 0];
+    assert_eq!(rt; send(rt, export, session, 0, &clunk, reply), 7);
+}
+
+/// Reads fid 2 of session 1 on, behind what is listed of it. Returns whether there was more.
+pub fn list_on<T: Tree>(
+    rt: &impl Abort,
+    export: &mut Export<T>,
+    count: u32,
+    listing: &mut Vec<u8, Global>,
+    reply: &mut [u8],
+) -> bool {
+    let offset = u32::try_from(listing.len()).expect(rt, "an offset");
+    let size = read_at(rt, export, 2, offset, count, reply);
+    let entries = reply.get(11..size).expect(rt, "entries");
+    assert!(rt; listing.extend_from_slice(entries).is_ok());
+    !entries.is_empty()
+}
+
+/// Adds the entry of glenda's empty file of this number and name, of mode 644 and at the time 0, as
+/// stat(5) has it.
+pub fn push_entry(rt: &impl Abort, number: u32, name: [u8; 4], listing: &mut Vec<u8, Global>) {
+    // The size, the server's type and number, and the qid's kind and version.
+    push(rt, b"\x45\0\0\0\0\0\0\0\0\0\0\0\0", listing);
+    push(rt, &u64::from(number).to_le_bytes(), listing);
+    // The mode, both times, the length of the bytes and of the name.
+    push(rt, b"\xa4\x01\0\0\0\0\0\0\0\0\0\0", listing);
+    push(rt, b"\0\0\0\0\0\0\0\0\x04\0", listing);
+    push(rt, &name, listing);
+    push(rt, b"\x06\0glenda\x06\0glenda\x06\0glenda", listing);
+}
+
+fn push(rt: &impl Abort, bytes: &[u8], listing: &mut Vec<u8, Global>) {
+    assert!(rt; listing.extend_from_slice(bytes).is_ok());
+}

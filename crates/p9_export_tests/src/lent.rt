@@ -1,0 +1,128 @@
+//! What the end of a fid, a file, a session and an exporter gives back: over a heap that counts the
+//! bytes that are lent.
+
+use crate::exchange::{room, send};
+use crate::worlds::{SMALL, begin, exporter};
+use linked_list_allocator::LocalHeap;
+use p9_export::Export;
+use p9_index::IndexTree;
+use p9_tree::{PlainTree, Tree};
+use std::alloc::Global;
+use std::process::Abort;
+
+// Requests that take memory, and requests that give it back. Session 1 is then as before.
+#[derive(Clone, Copy)]
+struct Work<'a> {
+    takes: &'a str,
+    gives: &'a str,
+}
+
+// Fid 1 is opened at /a/f, and ends by a clunk.
+const CLUNK: Work<'static> = Work {
+    takes: "170000006e020000000000010000000200010061010066\n0c0000007003000100000002",
+    gives: "0b00000078050001000000",
+};
+
+// A file is made in /a, gets 9,001 bytes, and is removed.
+const REMOVE: Work<'static> = Work {
+    takes: "140000006e010000000000010000000100010061\n130000007201000100000001006ea401000002\n\
+        180000007601000100000028230000000000000100000021",
+    gives: "0b0000007a030001000000",
+};
+
+// Fid 1 is at /a, and a version ends it and fid 0, which glenda attaches again.
+const VERSION: Work<'static> = Work {
+    takes: "140000006e010000000000010000000100010061",
+    gives: "1300000064ffff002000000600395032303030\n\
+        1900000068010000000000ffffffff0600676c656e64610000",
+};
+
+// Sends requests of session 1, which all succeed.
+fn succeed<T: Tree>(
+    rt: &impl Abort,
+    alloc: Global,
+    export: &mut Export<T>,
+    requests: &str,
+    reply: &mut [u8],
+) {
+    for request in requests.lines() {
+        let frame = hex::decode(alloc, request).expect(rt, "hexadecimal digits");
+        let size = send(rt, export, 1, 0, frame.as_slice(), reply);
+        let reply = reply.get(..size).expect(rt, "a reply");
+        assert!(rt; is_answer(frame.as_slice(), reply), "{request}");
+    }
+}
+
+// Whether a reply is of the type of the request, and no error.
+fn is_answer(request: &[u8], reply: &[u8]) -> bool {
+    match (request.get(4), reply.get(4)) {
+        (Some(asked), Some(answered)) => asked.checked_add(1) == Some(*answered),
+        _ => false,
+    }
+}
+
+// Does the work, after which as much is lent as before it, and more in between. At the first time
+// a collection may keep room.
+fn repeat<T: Tree>(
+    rt: &impl Abort,
+    alloc: Global,
+    heap: &LocalHeap,
+    export: &mut Export<T>,
+    work: Work<'_>,
+    reply: &mut [u8],
+) {
+    succeed(rt, alloc, export, work.takes, reply);
+    succeed(rt, alloc, export, work.gives, reply);
+    let used = heap.used();
+    for _ in 0..50 {
+        succeed(rt, alloc, export, work.takes, reply);
+        assert!(rt; heap.used() > used);
+        succeed(rt, alloc, export, work.gives, reply);
+        assert_eq!(rt; heap.used(), used);
+    }
+}
+
+fn close<T: Tree>(rt: &impl Abort, export: &mut Export<T>) {
+    assert!(rt; export.live(2));
+    export.close(2, 0);
+}
+
+// The same of session 2: it begins, and is closed.
+fn begin_and_close<T: Tree>(
+    rt: &impl Abort,
+    alloc: Global,
+    heap: &LocalHeap,
+    export: &mut Export<T>,
+    reply: &mut [u8],
+) {
+    begin(rt, alloc, export, 2, reply);
+    close(rt, export);
+    let used = heap.used();
+    for _ in 0..50 {
+        begin(rt, alloc, export, 2, reply);
+        assert!(rt; heap.used() > used);
+        close(rt, export);
+        assert_eq!(rt; heap.used(), used);
+    }
+}
+
+// Does all of this with an exporter, which is then dropped.
+fn serve<T: Tree>(rt: &impl Abort, alloc: Global, heap: &LocalHeap, lent: T::Alloc) {
+    let mut room = room(rt, alloc);
+    let reply = room.as_mut_slice();
+    let mut export = exporter::<T>(rt, lent, SMALL, &[]);
+    begin(rt, alloc, &mut export, 1, reply);
+    repeat(rt, alloc, heap, &mut export, CLUNK, reply);
+    repeat(rt, alloc, heap, &mut export, REMOVE, reply);
+    repeat(rt, alloc, heap, &mut export, VERSION, reply);
+    begin_and_close(rt, alloc, heap, &mut export, reply);
+}
+
+#[test]
+fn what_was_taken_is_given_back(rt: HostRuntime) {
+    let heap = LocalHeap::new(rt.alloc(), 1 << 20).expect(&rt, "memory");
+    serve::<PlainTree<&LocalHeap>>(&rt, rt.alloc(), &heap, &heap);
+    assert_eq!(rt; heap.used(), 0);
+    serve::<IndexTree<&LocalHeap>>(&rt, rt.alloc(), &heap, &heap);
+    assert_eq!(rt; heap.used(), 0);
+}

@@ -1,0 +1,111 @@
+//! Many files are made, each is given another name, and all are listed.
+
+use crate::directory::{clunk, list_on, make, name_of, push_entry, walk_to};
+use crate::exchange::{Exchange, exchange_all, room, send};
+use crate::worlds::{begin, exporter};
+use p9_export::Export;
+use p9_index::IndexTree;
+use p9_tree::{PlainTree, Tree};
+use std::alloc::Global;
+use std::process::Abort;
+
+// An empty directory, which is 1.
+const EMPTY: &str = "\
+server main
+dir /a 755 glenda glenda
+user glenda
+";
+
+// The numbers of the 5,000 files are below this one, from 2 on.
+const END: u32 = 5_002;
+
+// The directory was marked 10,000 times. Fid 2 is opened at it.
+const OPENING: [Exchange; 2] = [
+    (
+        1,
+        "140000006e020000000000020000000100010061",
+        "160000006f0200010080102700000100000000000000",
+    ),
+    (
+        1,
+        "0c0000007003000200000000",
+        "1800000071030080102700000100000000000000e81f0000",
+    ),
+];
+
+// The new names fall while the numbers rise, and none of them was in use.
+fn new_name_of(number: u32) -> [u8; 4] {
+    name_of(10_003u32.saturating_sub(number))
+}
+
+// Makes each file, named by its number.
+fn make_all<T: Tree>(rt: &impl Abort, export: &mut Export<T>, reply: &mut [u8]) {
+    for number in 2..END {
+        make(rt, export, 1, number, reply);
+    }
+}
+
+// Gives a file its new name.
+fn rename<T: Tree>(rt: &impl Abort, export: &mut Export<T>, number: u32, reply: &mut [u8]) {
+    walk_to(rt, export, 1, number, reply);
+    let mut wstat = [
+        66, 0, 0, 0, 126, 1, 0, 1, 0, 0, 0, 53, 0, 51, 0, 255, 255, 255, 255, 255, 255, 255, 255,
+        255, 255, 255, 255, 255, 255, 255, 255, 255, 255, 255, 255, 255, 255, 255, 255, 255, 255,
+        255, 255, 255, 255, 255, 255, 255, 255, 255, 255, 255, 255, 255, 4, 0, 0, 0, 0, 0, 0, 0, 0,
+        0, 0, 0,
+    ];
+    wstat[56..60].copy_from_slice(&new_name_of(number));
+    assert_eq!(rt; send(rt, export, 1, 0, &wstat, reply), 7);
+    clunk(rt, export, 1, reply);
+}
+
+fn rename_all<T: Tree>(rt: &impl Abort, export: &mut Export<T>, reply: &mut [u8]) {
+    for number in 2..END {
+        rename(rt, export, number, reply);
+    }
+}
+
+// Reads the whole listing.
+fn listed<T: Tree>(
+    rt: &impl Abort,
+    alloc: Global,
+    export: &mut Export<T>,
+    reply: &mut [u8],
+) -> Vec<u8, Global> {
+    let mut listing = Vec::new(alloc);
+    for _ in 0..END {
+        if !list_on(rt, export, 8_168, &mut listing, reply) {
+            break;
+        }
+    }
+    listing
+}
+
+// The entries of all files under their new names, by rising number.
+fn entries(rt: &impl Abort, alloc: Global) -> Vec<u8, Global> {
+    let mut entries = Vec::new(alloc);
+    for number in 2..END {
+        push_entry(rt, number, new_name_of(number), &mut entries);
+    }
+    entries
+}
+
+fn renames_all<T: Tree<Alloc = Global>>(rt: &impl Abort, alloc: Global) {
+    let mut room = room(rt, alloc);
+    let reply = room.as_mut_slice();
+    let mut export = exporter::<T>(rt, alloc, EMPTY, &[]);
+    begin(rt, alloc, &mut export, 1, reply);
+    make_all(rt, &mut export, reply);
+    rename_all(rt, &mut export, reply);
+    exchange_all(rt, alloc, &mut export, 0, &OPENING, reply);
+    let listing = listed(rt, alloc, &mut export, reply);
+    let wanted = entries(rt, alloc);
+    assert_eq!(rt; listing.len(), 71 * 5_000);
+    assert!(rt; listing.as_slice() == wanted.as_slice());
+}
+
+#[test]
+fn many_files_are_renamed_and_listed(rt: HostRuntime) {
+    renames_all::<PlainTree<Global>>(&rt, rt.alloc());
+    renames_all::<IndexTree<Global>>(&rt, rt.alloc());
+}
