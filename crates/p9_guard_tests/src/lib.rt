@@ -1,12 +1,24 @@
-//! Tests of the guard: replies that hidden directories don't change, and allocations that fail.
-//! There is nothing else here.
+//! Tests of the guard: replies that hidden directories don't change, allocations that fail, and
+//! memory that is given back. There is nothing else here.
 #![tactic(auto)]
 
 #[cfg(test)]
+mod again;
+#[cfg(test)]
+mod lent;
+#[cfg(test)]
 mod pairs;
+#[cfg(test)]
+mod refusals;
 #[cfg(test)]
 mod refused;
 #[cfg(test)]
 mod rows;
+#[cfg(test)]
+mod runs;
+#[cfg(test)]
+mod scripts;
+#[cfg(test)]
+mod stops;
 #[cfg(test)]
 mod worlds;

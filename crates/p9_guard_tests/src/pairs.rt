@@ -1,7 +1,8 @@
 //! Pairs of worlds that differ only inside a hidden directory: sessions that name what may be there
 //! get the same bytes from both.
 
-use crate::worlds::{Row, guard_of, run, session, world_of};
+use crate::worlds::{CERTIFICATE, Row, guard_of, run, session, world_of};
+use p9_tree::PlainTree;
 use std::alloc::Global;
 use std::process::Abort;
 
@@ -116,8 +117,8 @@ fn are_alike(rt: &impl Abort, alloc: Global, one: usize, other: usize) {
 // The replies of the world of a number.
 fn replies_of(rt: &impl Abort, alloc: Global, number: usize) -> String<Global> {
     let text = world_text(rt, alloc, number);
-    let world = world_of(rt, alloc, text.as_str());
-    let mut guard = guard_of(rt, alloc, world, None);
+    let world = world_of::<PlainTree<Global>>(rt, alloc, text.as_str());
+    let mut guard = guard_of(rt, alloc, world, None, CERTIFICATE);
     let events = session(rt, alloc, ROWS);
     run(
         rt,

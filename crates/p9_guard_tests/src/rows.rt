@@ -1,6 +1,9 @@
 //! Requests that come near a hidden directory: what is in it changes no reply.
 
-use crate::worlds::{COVERED_VAULT, Row, VAULT, guard_of, replies, run, session, world_of};
+use crate::worlds::{
+    Bind, CERTIFICATE, COVERED_VAULT, Row, VAULT, guard_of, replace, replies, run, session,
+    world_of,
+};
 use p9_base::NodeRef;
 use p9_tree::PlainTree;
 use p9_world::World;
@@ -120,9 +123,9 @@ hide main /vault
 fn a_covered_vault_is_out_of_reach(rt: HostRuntime) {
     let alloc = rt.alloc();
     let world = world_of(&rt, alloc, COVERED_VAULT);
-    are_replies(&rt, alloc, world, Some((2, 1)), COVERED);
+    are_replies(&rt, alloc, world, Some(replace(2, 1)), COVERED);
     let world = world_of(&rt, alloc, COVERED_DIRECTORY);
-    are_replies(&rt, alloc, world, Some((2, 1)), COVERED);
+    are_replies(&rt, alloc, world, Some(replace(2, 1)), COVERED);
 }
 
 // Compares the replies to a session's requests.
@@ -130,10 +133,10 @@ fn are_replies(
     rt: &impl Abort,
     alloc: Global,
     world: World<PlainTree<Global>>,
-    bind: Option<(u64, u64)>,
+    bind: Option<Bind>,
     rows: &[Row],
 ) {
-    let mut guard = guard_of(rt, alloc, world, bind);
+    let mut guard = guard_of(rt, alloc, world, bind, CERTIFICATE);
     let mut bytes = Vec::new(alloc);
     let events = session(rt, alloc, rows);
     let text = run(rt, alloc, &mut guard, events.as_slice(), &mut bytes);

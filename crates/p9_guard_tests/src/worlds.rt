@@ -1,11 +1,12 @@
 //! Guards of small worlds, and the events of a session.
 
+use crate::scripts::Script;
 use p9_base::NodeRef;
 use p9_cert::{Certificate, read_cert};
 use p9_export::Event;
 use p9_guard::Guard;
 use p9_space::{MountTable, Order};
-use p9_tree::{PlainTree, Tree};
+use p9_tree::Tree;
 use p9_world::{World, read_world};
 use std::alloc::{Allocator, Global};
 use std::process::Abort;
@@ -51,28 +52,44 @@ const ATTACH: Row = (
 );
 
 /// The world of a text, read again where an allocation failed.
-pub fn world_of<A: Allocator + Copy>(rt: &impl Abort, alloc: A, text: &str) -> World<PlainTree<A>> {
+pub fn world_of<T: Tree>(rt: &impl Abort, alloc: T::Alloc, text: &str) -> World<T> {
     match read_world(alloc, text) {
         Ok(world) => world,
         Err(_) => read_world(alloc, text).expect(rt, "a world"),
     }
 }
 
-/// A mount table in which one node of server 0 is in the place of another, if there is a bind. It
-/// is bound again where an allocation failed.
+/// A node of server 0 that is bound at the place of another, in this order, with or without
+/// creation.
+#[derive(Clone, Copy)]
+pub struct Bind {
+    pub key: u64,
+    pub node: u64,
+    pub order: Order,
+    pub create: bool,
+}
+
+/// A bind of a node in the place of another.
+pub fn replace(key: u64, node: u64) -> Bind {
+    Bind {
+        key,
+        node,
+        order: Order::Replace,
+        create: false,
+    }
+}
+
+/// A mount table with a bind, if there is one. It is bound again where an allocation failed.
 pub fn table_of<A: Allocator + Copy>(
     rt: &impl Abort,
     alloc: A,
-    bind: Option<(u64, u64)>,
+    bind: Option<Bind>,
 ) -> MountTable<A> {
     let mut table = MountTable::new(alloc);
-    if let Some((key, node)) = bind {
-        let nodes = [node_ref(node)];
-        if table
-            .bind(node_ref(key), &nodes, Order::Replace, false)
-            .is_err()
-        {
-            let bound = table.bind(node_ref(key), &nodes, Order::Replace, false);
+    if let Some(bind) = bind {
+        let (key, nodes) = (node_ref(bind.key), [node_ref(bind.node)]);
+        if table.bind(key, &nodes, bind.order, bind.create).is_err() {
+            let bound = table.bind(key, &nodes, bind.order, bind.create);
             assert!(rt; bound.is_ok());
         }
     }
@@ -96,23 +113,30 @@ pub fn certificate_of<A: Allocator + Copy>(
 }
 
 /// The guard of a world that the certificate is good for, made again where an allocation failed.
-pub fn guard_of<A: Allocator + Copy>(
+pub fn guard_of<T: Tree>(
     rt: &impl Abort,
-    alloc: A,
-    world: World<PlainTree<A>>,
-    bind: Option<(u64, u64)>,
-) -> Guard<PlainTree<A>> {
+    alloc: T::Alloc,
+    world: World<T>,
+    bind: Option<Bind>,
+    certificate: &str,
+) -> Guard<T> {
     let table = table_of(rt, alloc, bind);
-    let certificate = certificate_of(rt, alloc, CERTIFICATE);
-    match Guard::new(world, table, certificate) {
+    let rows = certificate_of(rt, alloc, certificate);
+    match Guard::new(world, table, rows) {
         Ok(guard) => guard,
         Err((world, table, _)) => {
-            let certificate = certificate_of(rt, alloc, CERTIFICATE);
+            let certificate = certificate_of(rt, alloc, certificate);
             Guard::new(world, table, certificate)
                 .ok()
                 .expect(rt, "a guard")
         }
     }
+}
+
+/// The guard of a script's world.
+pub fn scripted<T: Tree>(rt: &impl Abort, alloc: T::Alloc, script: &Script) -> Guard<T> {
+    let world = world_of(rt, alloc, script.world);
+    guard_of(rt, alloc, world, script.bind, script.certificate)
 }
 
 /// The events of session 1: it is opened, its version is set, glenda attaches fid 0, and the rows'

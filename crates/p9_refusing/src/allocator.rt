@@ -9,7 +9,7 @@ use std::cell::Cell;
 /// An allocator over another one, which refuses one request when it is told to, and counts them.
 /// A reference to it is an allocator that can be copied.
 ///
-/// What it counts stands in a cell, of which no clause can speak: which request is refused, and
+/// What it counts is in a cell, of which no clause can speak: which request is refused, and
 /// what `requests` and `has_refused` answer, is tested. That a block which it hands out is one of
 /// the inner allocator's, and goes back to it, is proved.
 #[derive(Drop)]

@@ -49,18 +49,18 @@ fn holds_squares(squares: &BTreeMap<u64, u64, &Refusing<Global>>, length: u64) -
 #[test]
 fn the_request_that_is_named_is_refused_once(rt: HostRuntime) -> Result<(), Fail> {
     let memory = Refusing::new(rt.alloc());
-    for (n, refused) in [(1, 1), (2, 2), (5, 5), (0, 9), (6, 9)] {
+    for (n, refused) in [(1, 1), (2, 2), (5, 5), (300, 300), (0, 302), (302, 302)] {
         memory.refuse(n);
-        for request in 1..6u64 {
+        for request in 1..302u64 {
             assert_eq!(rt;
                 empty_vector(&memory).is_err(),
                 request == refused,
                 "at {n}"
             );
         }
-        assert_eq!(rt; memory.has_refused(), refused < 6, "at {n}");
+        assert_eq!(rt; memory.has_refused(), refused < 302, "at {n}");
     }
-    assert_eq!(rt; memory.requests(), 25);
+    assert_eq!(rt; memory.requests(), 6 * 301);
     Ok(())
 }
 

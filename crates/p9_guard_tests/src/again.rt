@@ -1,0 +1,109 @@
+//! Scripts over a guard with each request for memory refused in turn: a request that is answered
+//! `out of memory` is sent again, and an opening that was refused is made again.
+
+use crate::refusals::{is_refusal, may_run_out};
+use crate::scripts::{SCRIPTS, Script, Step, step_of};
+use crate::worlds::scripted;
+use p9_export::{OpenError, is_frame};
+use p9_guard::Guard;
+use p9_index::IndexTree;
+use p9_refusing::{Refusing, refuse_each};
+use p9_tree::{PlainTree, Tree};
+use std::alloc::Global;
+use std::process::Abort;
+
+// Opens a session, again where an allocation failed.
+fn open_again<T: Tree>(rt: &impl Abort, guard: &mut Guard<T>, session: u32) {
+    if guard.open(session) == Err(OpenError::NoMemory) {
+        assert!(rt; !guard.live(session));
+        assert_eq!(rt; guard.open(session), Ok(()));
+    }
+}
+
+// Answers a frame.
+fn answer<T: Tree>(
+    rt: &impl Abort,
+    guard: &mut Guard<T>,
+    session: u32,
+    frame: &[u8],
+    now: u32,
+    reply: &mut [u8],
+) -> usize {
+    assert!(rt; is_frame(frame));
+    let room = guard.reply_max(session).expect(rt, "a session");
+    assert!(rt; reply.len() >= room);
+    guard.answer(session, frame, now, reply)
+}
+
+// Answers a frame, again where an allocation failed.
+fn answer_again<T: Tree>(
+    rt: &impl Abort,
+    guard: &mut Guard<T>,
+    session: u32,
+    frame: &[u8],
+    now: u32,
+    reply: &mut [u8],
+) -> usize {
+    let size = answer(rt, guard, session, frame, now, reply);
+    if !is_refusal(frame, reply.get(..size).expect(rt, "a reply")) {
+        return size;
+    }
+    assert!(rt; may_run_out(frame));
+    answer(rt, guard, session, frame, now, reply)
+}
+
+// Does the step of a line, and compares the reply.
+fn step_again<T: Tree>(
+    rt: &impl Abort,
+    alloc: Global,
+    guard: &mut Guard<T>,
+    line: &'static str,
+    now: u32,
+    reply: &mut [u8],
+) {
+    match step_of(rt, line) {
+        Step::Open(session) => open_again(rt, guard, session),
+        Step::Send {
+            session,
+            request,
+            reply: wanted,
+        } => {
+            let frame = hex::decode(alloc, request).expect(rt, "hexadecimal digits");
+            let size = answer_again(rt, guard, session, frame.as_slice(), now, reply);
+            let told = hex::encode(alloc, reply.get(..size).expect(rt, "a reply"));
+            assert_eq!(rt; told.expect(rt, "a text").as_str(), wanted);
+        }
+    }
+}
+
+fn play_again<T: Tree>(rt: &impl Abort, alloc: Global, mut guard: Guard<T>, script: &Script) {
+    let mut room = vec![in alloc; 0u8; 8_192].expect(rt, "memory");
+    for line in script.steps.lines() {
+        step_again(rt, alloc, &mut guard, line, script.now, room.as_mut_slice());
+    }
+}
+
+// Plays the script with each request for memory refused in turn. There are several.
+fn plays<T: Tree>(
+    rt: &impl Abort,
+    alloc: Global,
+    memory: &Refusing<Global>,
+    lent: T::Alloc,
+    script: &Script,
+) {
+    let refusals = refuse_each(
+        memory,
+        || scripted::<T>(rt, lent, script),
+        |guard| play_again(rt, alloc, guard, script),
+    );
+    assert!(rt; refusals > 4);
+}
+
+#[test]
+fn a_guard_answers_again_at_each_refusal(rt: HostRuntime) {
+    let memory = Refusing::new(rt.alloc());
+    for script in &SCRIPTS {
+        plays::<PlainTree<&Refusing<Global>>>(&rt, rt.alloc(), &memory, &memory, script);
+        plays::<IndexTree<&Refusing<Global>>>(&rt, rt.alloc(), &memory, &memory, script);
+    }
+}

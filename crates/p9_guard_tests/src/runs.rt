@@ -1,0 +1,54 @@
+//! Scripts as lists of events.
+
+use crate::scripts::{Script, Step, step_of};
+use p9_export::Event;
+use std::alloc::Global;
+use std::process::Abort;
+
+/// Events, and their replies.
+#[derive(Drop)]
+pub struct Run {
+    pub events: Vec<Event<Global>, Global>,
+    pub replies: Vec<u8, Global>,
+}
+
+impl Run {
+    /// No event.
+    pub fn new(alloc: Global) -> Run {
+        Run {
+            events: Vec::new(alloc),
+            replies: Vec::new(alloc),
+        }
+    }
+
+    /// Adds an event with its reply, which is empty where it has none.
+    pub fn push(&mut self, rt: &impl Abort, event: Event<Global>, reply: &[u8]) {
+        assert!(rt; self.events.push(event).is_ok());
+        assert!(rt; self.replies.extend_from_slice(reply).is_ok());
+    }
+}
+
+/// The bytes of hexadecimal digits.
+pub fn bytes_of(rt: &impl Abort, alloc: Global, digits: &str) -> Vec<u8, Global> {
+    hex::decode(alloc, digits).expect(rt, "hexadecimal digits")
+}
+
+/// The whole script.
+pub fn whole(rt: &impl Abort, alloc: Global, script: &Script) -> Run {
+    let mut run = Run::new(alloc);
+    for line in script.steps.lines() {
+        match step_of(rt, line) {
+            Step::Open(session) => run.push(rt, Event::Open(session), b""),
+            Step::Send {
+                session,
+                request,
+                reply,
+            } => {
+                let frame = bytes_of(rt, alloc, request);
+                let event = Event::Message(session, frame, script.now);
+                run.push(rt, event, bytes_of(rt, alloc, reply).as_slice());
+            }
+        }
+    }
+    run
+}
