@@ -53,7 +53,7 @@ module _ {X : Type 0} (P : X → Type 0) where
           subst P same each.0
       go false e later = let there : lookup test rows ≡ Some x = rw e at found in later there
 
--- to put a session where it stands changes nothing
+-- to put a session where it is changes nothing
 pub set_value-same : {X : Type 0} (t : ℕ → Bool) (rows : List (ℕ × X)) (x : X)
     → lookup t rows ≡ Some x → set_value t rows x ≡ rows
 set_value-same t [] x found = refl

@@ -11,7 +11,7 @@ lines_of text = slice_split (λ b. b == 10) text
 abbrev pub is_blank : ℕ → Bool
 is_blank b = b == 32 || b == 9
 
--- the words of a line are what stands between blanks
+-- the words of a line are what is between blanks
 abbrev pub words_of : List ℕ → List (List ℕ)
 words_of line = filter (λ word. nat_lt 0 (length word)) (slice_split is_blank line)
 

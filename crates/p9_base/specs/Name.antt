@@ -4,7 +4,7 @@ use Rattle.std.specs.List.{list_any}
 use Rattle.std.specs.Str.{bytes_eq}
 use Rattle.p9_base.specs.Text.{is_text}
 
--- the byte '/', which stands between the names of a path
+-- the byte '/', which is between the names of a path
 abbrev pub slash : ℕ
 slash = 47
 

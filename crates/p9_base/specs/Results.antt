@@ -7,7 +7,7 @@ abbrev pub and_then : {S T E : Type 0} → Result S E → (S → Result T E) →
 and_then (Ok value) continue = continue value
 and_then (Err error) continue = Err error
 
--- The tests that stand before a result, one after another. They are shut in proofs, so that a proof
+-- The tests that are before a result, one after another. They are shut in proofs, so that a proof
 -- takes one test at a time.
 
 -- goes on where the test passes

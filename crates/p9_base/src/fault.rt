@@ -41,7 +41,7 @@ pub enum Fault {
     /// A read or write of a fid that is not open for it.
     #[error("fid not open for this")]
     FidNotOpen,
-    /// A file where a directory has to stand.
+    /// A file where a directory must be.
     #[error("not a directory")]
     NotDirectory,
     /// A name that no member of the directory has.
@@ -56,7 +56,7 @@ pub enum Fault {
     /// A mode to open or create with that means nothing.
     #[error("bad open mode")]
     BadOpenMode,
-    /// A directory where a file has to stand.
+    /// A directory where a file must be.
     #[error("is a directory")]
     IsDirectory,
     /// An exclusive-use file that some fid has open.
@@ -95,7 +95,7 @@ pub enum Fault {
     /// A server has given all its qid numbers.
     #[error("qid numbers used up")]
     QidsUsedUp,
-    /// Memory was refused.
+    /// An allocation failed.
     #[error("out of memory")]
     OutOfMemory,
     /// A fid is as far from its place of attachment as it may be.

@@ -1,11 +1,11 @@
-//! Want of memory, as an error of its own.
+//! A failed allocation, as an error of its own.
 
 ghost use Rattle.std.specs.Prelude.{⊤};
 
 use std::alloc::{AllocError, AllocFailed};
 use thiserror::Error;
 
-/// Memory was refused to a call that needed some. What the call was to change is as before.
+/// An allocation failed in a call. What the call was to change is as before.
 #[derive(Clone, Copy, Debug, PartialEq, Eq, Error)]
 #[error("out of memory")]
 pub struct NoMemory;

@@ -291,7 +291,7 @@ is-in n k e =
     ap (λ o. option_map_or (λ p. p == k) o false) e
     ∙ (let s : (k == k) ≡ true = grind (arith, nat_tests) in s)
 
--- a node stands in the directory that is its parent
+-- a node is in the directory that is its parent
 in-parent : (k : ℕ) (m : Node) → is_in k m ≡ true → m.parent ≡ Some k
 in-parent k m e = go m.parent refl e
   where

@@ -20,7 +20,7 @@ use Rattle.p9_cert.specs.Policy.{Policy}
 use Rattle.p9_cert.specs.Rows.{is_row}
 use Rattle.p9_cert.proofs.Basics.{same_ref}
 
--- a node is hidden where it stands in the list
+-- a node is hidden where it is in the list
 pub row_is_hidden : (hidden : List NodeRef) (at : NodeRef) → is_row hidden at ≡ is_hidden at hidden
 unfolding is_hidden
 row_is_hidden [] at = refl

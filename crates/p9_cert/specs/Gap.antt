@@ -42,7 +42,7 @@ abbrev pub where_true : {X : Type 0} → Bool → X → Option X
 where_true test x = if test then Some x else None
 
 module _ (policy : Policy) (forest : List Server) where
-  -- a listed user may alter the directory that the node stands in
+  -- a listed user may alter the directory that the node is in
   abbrev pub is_removable : NodeRef → Node → Bool
   is_removable at n =
       option_map_or

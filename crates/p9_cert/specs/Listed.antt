@@ -13,7 +13,7 @@ may_use n who = may who n to_read || may who n to_write || may who n to_execute
 abbrev pub may_pass : Node → Who → Bool
 may_pass n who = may who n to_execute || rules who n
 
--- the user may write the directory, or rules it and so may come to write it: then what stands in it
+-- the user may write the directory, or rules it and so may come to write it: then what is in it
 -- may be removed and renamed
 abbrev pub may_alter : Node → Who → Bool
 may_alter n who = may who n to_write || rules who n

@@ -21,13 +21,13 @@ pub record IsShut (policy : Policy) (n : Node) : Type 0 where
   pub unruled : IsFalse (is_owned policy.users policy.groups n)
 
 module _ (policy : Policy) (forest : List Server) where
-  -- the node is a root, or no listed user may alter the directory that it stands in
+  -- the node is a root, or no listed user may alter the directory that it is in
   abbrev pub IsGuarded : NodeRef → Node → Type 0
   IsGuarded at n = (p : ℕ) (d : Node) → n.parent ≡ Some p → node_of (beside at p) forest ≡ Some d
       → IsFalse (is_alterable policy.users policy.groups d)
 
   -- a member is not inside a hidden directory; if it is hidden, it is shut and guarded; if listed
-  -- users may pass it, it stands in the certificate. A member that is gone is no danger
+  -- users may pass it, it is in the certificate. A member that is gone is no danger
   pub record IsSafeMember (certified : Set) (at : NodeRef) : Type 0 where
     pub outside : IsFalse (is_inside at policy.hidden forest)
     pub shut : IsTrue (is_hidden at policy.hidden)

@@ -52,7 +52,7 @@ stated (first ∷ others) =
 abbrev pub certificate_of : List ℕ → Result (List NodeRef) ℕ
 certificate_of text = stated (statements_of text)
 
--- an error says that memory was refused, or which line is the first bad one
+-- an error says that an allocation failed, or which line is the first bad one
 abbrev pub IsReadError : Result (List NodeRef) ℕ → ReadError → Type 0
 IsReadError certificate NoMemory = Unit {0}
 IsReadError certificate (BadCert line) = certificate ≡ Err line

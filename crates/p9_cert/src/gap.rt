@@ -8,7 +8,7 @@ use std::error::Error;
 use std::fmt;
 
 /// What is wrong with a member of a place. Where several faults apply, the member has the one that
-/// stands first here.
+/// is first here.
 #[derive(Clone, Copy, Debug, PartialEq, Eq)]
 pub enum MemberFault {
     /// It is inside a hidden directory.
@@ -17,7 +17,7 @@ pub enum MemberFault {
     Open,
     /// It is hidden, and some listed user rules it, and so may change its mode.
     Owned,
-    /// It is hidden and no root, and some listed user may write the directory that it stands in, or
+    /// It is hidden and no root, and some listed user may write the directory that it is in, or
     /// rules that.
     Removable,
     /// It is a directory that some listed user may search or rules, and no row of the certificate.
@@ -40,7 +40,7 @@ impl MemberFault {
 }
 
 /// What is wrong with a row of a certificate. Where several faults apply, the row has the one that
-/// stands first here.
+/// is first here.
 #[derive(Clone, Copy, Debug, PartialEq, Eq)]
 pub enum RowFault {
     /// No directory has its number: a file, or nothing.

@@ -51,7 +51,7 @@ pub(crate) fn is_inside<T: Tree>(
     false
 }
 
-// The number of the directory that the node stands in.
+// The number of the directory that the node is in.
 fn parent_of<T: Tree>(forest: &Forest<T>, at: NodeRef) -> Option<u64>
     ensures { result ≡ option_and_then (λ n. n.parent)
         (node_of at (map T.state forest.now.trees.items)) }

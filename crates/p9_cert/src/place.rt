@@ -92,7 +92,7 @@ fn hidden_fault<T: Tree>(
     }
 }
 
-// Whether some listed user may write the directory that the node stands in, or rules that.
+// Whether some listed user may write the directory that the node is in, or rules that.
 fn is_removable<T: Tree>(world: &World<T>, at: NodeRef, node: &Node<T::Alloc>) -> bool
     ensures { result ≡ is_removable (policy_of world.now) world.now.forest at node.now }
 {

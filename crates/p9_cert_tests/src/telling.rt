@@ -18,7 +18,7 @@ fn lines_of(alloc: Global, head: &str, parts: &str) -> Result<String, NoMemory> 
 
 /// Tells what `verify` returns of a row: the lines of a world whose server is `main` and whose
 /// first user is `glenda`, the rows of a mount table, the groups, and the lines of a certificate
-/// behind `cert 1`. Bars stand between the four, and semicolons between lines.
+/// behind `cert 1`. Bars are between the four, and semicolons between lines.
 pub fn told(rt: &impl Abort, alloc: Global, row: &str) -> Result<String, NoMemory> {
     let (world, row) = row.split_once('|').expect(rt, "a table");
     let (table, row) = row.split_once('|').expect(rt, "groups");

@@ -28,7 +28,7 @@ data Elements : List (List ℕ) → Type 0 where
   some : {e : List ℕ} {es : List (List ℕ)} → is_element e ≡ true → HasNoSlash e → Elements es
       → Elements (e ∷ es)
 
--- a byte that is no slash may stand before the first component
+-- a byte that is no slash may be before the first component
 Parts-onto_first : (b : ℕ) (cs : List (List ℕ)) → is_slash b ≡ false → Parts cs
     → Parts (onto_first b cs)
 unfolding HasNoSlash

@@ -4,7 +4,7 @@ use Rattle.std.proofs.Common.{ap, ◌∙◌, append_assoc, append-nil}
 use Rattle.std.specs.Prelude.{◌&&◌}
 use Rattle.p9_clean.specs.Path.{is_dot_dot, in_front, reduced, below_root, shortened}
 
--- '..' takes nothing back that stands behind it
+-- '..' takes nothing back that is behind it
 pub in_front-dot_dot : (e : List ℕ) (es : List (List ℕ)) → is_dot_dot e ≡ true
     → in_front e es ≡ e ∷ es
 in_front-dot_dot e [] up = refl

@@ -5,7 +5,7 @@ use Rattle.std.specs.List.{slice_split, join_with_byte}
 use Rattle.std.specs.Str.{bytes_eq}
 use Rattle.p9_base.specs.Name.{is_slash, slash}
 
--- the bytes of what stands between two slashes
+-- the bytes of what is between two slashes
 abbrev pub Component : Type 0
 Component = List ℕ
 
@@ -14,7 +14,7 @@ abbrev pub is_rooted : List ℕ → Bool
 is_rooted [] = false
 is_rooted (b ∷ bs) = b == slash
 
--- what stands between the slashes of a path
+-- what is between the slashes of a path
 abbrev pub components_of : List ℕ → List Component
 components_of path = slice_split is_slash path
 

@@ -11,10 +11,10 @@ use std::alloc::Allocator;
 ///
 /// Repeated slashes become one, `.` goes, and a name followed by `..` goes with it. A `..` at the
 /// start goes where the path begins with a slash, and stays where it does not. A path of which
-/// nothing is left is `/` if it begins with a slash, else `.`. No slash stands at the end of any
+/// nothing is left is `/` if it begins with a slash, else `.`. No slash is at the end of any
 /// other.
 ///
-/// The only error is want of memory.
+/// The only error is a failed allocation.
 pub fn clean<A: Allocator + Copy>(alloc: A, path: &str) -> Result<String<A>, NoMemory>
     ensures { IfOk result (λ text. string_bytes text ≡ cleaned path.now) }
 {
@@ -22,11 +22,11 @@ pub fn clean<A: Allocator + Copy>(alloc: A, path: &str) -> Result<String<A>, NoM
     path_text(alloc, path.starts_with('/'), &kept)
 }
 
-/// The elements of a path, in order: what stands between its slashes, without `.` and what is
+/// The elements of a path, in order: what is between its slashes, without `.` and what is
 /// empty. Those of a cleaned path are its names, and the `..` at its start if it has no slash
 /// there.
 ///
-/// The only error is want of memory.
+/// The only error is a failed allocation.
 pub fn elements<A: Allocator + Copy>(alloc: A, path: &str) -> Result<Vec<&str, A>, NoMemory>
     ensures { IfOk result (λ found. map (λ e. e.now) found.items ≡ elements_of path.now) }
 {

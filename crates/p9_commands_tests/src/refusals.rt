@@ -18,7 +18,7 @@ const ATTACH_OUT: &str = "1300000065ffff002000000600395032303030
 ";
 
 // Plays an input whose script is the first attach, with what is told of its namespace file. Where
-// memory is refused, the command says so, or the attach's reply does.
+// an allocation fails, the command says so, or the attach's reply does.
 fn play_again<A: Allocator + Copy>(rt: &impl Abort, alloc: A, input: &str, told: &str) {
     let mut out = Vec::new(alloc);
     let mut err = Vec::new(alloc);
@@ -94,7 +94,7 @@ struct Run<'a> {
 }
 
 // Runs a command with each request for memory refused in turn, and returns how many there are.
-// Where memory is refused, the command says so, and run again it ends as it is to.
+// Where an allocation fails, the command says so, and run again it ends as it is to.
 fn refusals_of(rt: &impl Abort, alloc: Global, run: Run<'_>) -> u64 {
     let memory = Refusing::new(alloc);
     refuse_each(&memory, || (), |()| run_again(rt, &memory, run))

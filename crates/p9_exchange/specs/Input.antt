@@ -16,7 +16,7 @@ whole_lines text =
     let lines = lines_of text in
     if ends_empty lines then take (length lines - 1) lines else lines
 
--- how many lines stand before the first one that is this head
+-- how many lines are before the first one that is this head
 abbrev pub lines_before : List ℕ → List (List ℕ) → ℕ
 lines_before head lines = prefix_len (λ line. not (bytes_eq head line)) lines
 

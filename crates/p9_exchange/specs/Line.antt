@@ -55,11 +55,11 @@ session_at text =
     if prefix_len (is_in (Digit Decimal)) text == 0 then missing expected.Event text
     else short_at text
 
--- what stands behind `open`
+-- what follows `open`
 unfoldable pub open_at : List ℕ → Result Line Fault
 open_at text = short_at text >>= λ session. end_at session.1 >>= λ end. Ok (Open session.0)
 
--- what stands behind `close`
+-- what follows `close`
 unfoldable pub close_at : List ℕ → Result Line Fault
 close_at text =
     short_at text >>= λ session.
@@ -67,7 +67,7 @@ close_at text =
     end_at now.1 >>= λ end.
     Ok (Close session.0 now.0)
 
--- what stands behind `msg`
+-- what follows `msg`
 unfoldable pub msg_at : List ℕ → Result Line Fault
 msg_at text =
     short_at text >>= λ session.

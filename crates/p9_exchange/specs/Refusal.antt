@@ -12,12 +12,12 @@ or_refused numbered (Ok x) = Ok x
 or_refused numbered (Err fault) =
     Err (BadLine numbered.0 (length numbered.1 - fault.left) fault.expected)
 
--- what stops is the reason that is told, unless memory was refused
+-- what stops is the reason that is told, unless an allocation failed
 abbrev pub IsStop : {X : Type 0} → Result X Refusal → Stop → Type 0
 IsStop made NoMemory = Unit {0}
 IsStop made (Refused refusal) = made ≡ Err refusal
 
--- what a function returned, seen by view, is what is made, unless memory was refused
+-- what a function returned, seen by view, is what is made, unless an allocation failed
 abbrev pub Makes : {X Y : Type 0} → (X → Y) → Result X Stop → Result Y Refusal → Type 0
 Makes view (Ok x) made = made ≡ Ok (view x)
 Makes view (Err stop) made = IsStop made stop

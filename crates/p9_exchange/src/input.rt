@@ -47,7 +47,7 @@ pub fn whole_lines<A: Allocator + Copy>(alloc: A, text: &str) -> Result<Vec<&str
     Ok(lines)
 }
 
-/// How many lines stand before the first one that is this head.
+/// How many lines are before the first one that is this head.
 pub fn lines_before(head: &str, lines: &[&str]) -> usize
     ensures before { result ≡ lines_before head.now (map (λ line. line.now) lines.now) }
     ensures within { result ≤ length lines.now }

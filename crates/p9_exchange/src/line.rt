@@ -62,7 +62,7 @@ fn take_end(text: &[u8]) -> Result<(), ReadError>
     }
 }
 
-// The word at the front, and what stands behind it.
+// The word at the front, and what follows it.
 fn split_word(text: &[u8]) -> (&[u8], &[u8])
     ensures word { result.0.now ≡ first_word text.now }
     ensures rest { result.1.now ≡ behind_word text.now }
@@ -98,7 +98,7 @@ fn take_session(text: &[u8]) -> Result<(u32, &[u8]), ReadError>
     take_short(text)
 }
 
-// What stands behind `open`.
+// What follows `open`.
 #[tactic(auto, unfolding(crate::specs::Line::open_at))]
 fn take_open<A: Allocator + Copy>(text: &[u8]) -> Result<Line<A>, ReadError>
     ensures { Gives line_view result (open_at text.now) }
@@ -108,7 +108,7 @@ fn take_open<A: Allocator + Copy>(text: &[u8]) -> Result<Line<A>, ReadError>
     Ok(Line::Open(session))
 }
 
-// What stands behind `close`.
+// What follows `close`.
 #[tactic(auto, unfolding(crate::specs::Line::close_at))]
 fn take_close<A: Allocator + Copy>(text: &[u8]) -> Result<Line<A>, ReadError>
     ensures { Gives line_view result (close_at text.now) }
@@ -119,7 +119,7 @@ fn take_close<A: Allocator + Copy>(text: &[u8]) -> Result<Line<A>, ReadError>
     Ok(Line::Close(session, now))
 }
 
-// What stands behind `msg`.
+// What follows `msg`.
 #[tactic(auto, unfolding(crate::specs::Line::msg_at))]
 fn take_msg<A: Allocator + Copy>(alloc: A, text: &[u8]) -> Result<Line<A>, ReadError>
     ensures { Gives line_view result (msg_at text.now) }

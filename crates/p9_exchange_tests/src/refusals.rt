@@ -1,4 +1,4 @@
-//! Refused memory: a call that fails says so, and only where memory was refused. A refusal that a
+//! Refused memory: a call that fails says so, and only where an allocation failed. A refusal that a
 //! list can do without, as of more room than it needs, changes nothing.
 
 use crate::exchanges::{EXCHANGE, PLAYED};
@@ -8,7 +8,7 @@ use p9_refusing::{Refusing, refuse_each};
 use std::alloc::Allocator;
 use std::process::Abort;
 
-// Writes a script; where memory is refused, it says so.
+// Writes a script; where an allocation fails, it says so.
 fn writes<A: Allocator + Copy>(rt: &impl Abort, alloc: A) -> bool {
     match write_script(alloc, WORDS.as_bytes()) {
         Ok(text) => {
@@ -22,7 +22,7 @@ fn writes<A: Allocator + Copy>(rt: &impl Abort, alloc: A) -> bool {
     }
 }
 
-// Shows an exchange; where memory is refused, it says so.
+// Shows an exchange; where an allocation fails, it says so.
 fn shows<A: Allocator + Copy>(rt: &impl Abort, alloc: A) -> bool {
     match show_exchange(alloc, PLAYED.as_bytes()) {
         Ok(text) => {

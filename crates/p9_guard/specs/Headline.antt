@@ -9,11 +9,11 @@ use Rattle.p9_step.specs.Step.{Marked, run}
 use Rattle.p9_guard_laws.specs.Alike.{AreAlike}
 use Rattle.p9_guard.specs.Marks.{are_permitted}
 
--- Events happened one after another, each with its mark, whether memory was refused to it. Between
--- the state before and the state after these bytes were given as replies.
+-- Events happened one after another, each with its mark, whether an allocation failed in it.
+-- Between the state before and the state after these bytes were given as replies.
 pub record IsPromised (hidden : List NodeRef) (before : State) (events : List Marked)
     (after : State) (bytes : List ℕ) : Type 0 where
-  -- memory was refused only where it may be
+  -- an allocation failed only where it may be
   pub permitted : IsTrue (are_permitted before events)
   -- the new state and the replies, joined, are those of the run
   pub state_is : after ≡ (run before events).state

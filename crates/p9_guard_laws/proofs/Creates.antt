@@ -130,7 +130,7 @@ module _ (scene : Scene) where
       go true false c = refl
       go true true c = rw (c refl, keeps_next scene.hidden scene.forest t.server) refl
 
-  -- a new node in an open directory, on which its fid stands
+  -- a new node in an open directory, on which its fid is
   module _ (session : Session) (now fid : ℕ) (v : Fid) (t : NodeRef) (d : Node) (name : List ℕ)
       (asked : Mode) (opening : Opening) (h : SafeFids scene session.fids)
       (at : fid_at fid session.fids ≡ Some v) (s : SafeFid scene v)

@@ -1,4 +1,4 @@
--- The directory that a node stands in.
+-- The directory that a node is in.
 use Rattle.std.proofs.Common.{◌≡◌, ℕ, ◌<◌, true, false, List, Option, Some, None, inl, arith, refl}
 use Rattle.std.proofs.Common.{ap}
 use Rattle.std.specs.Option.{option_map_or}

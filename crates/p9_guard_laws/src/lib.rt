@@ -13,7 +13,7 @@ pub fn a_certified_state_is_guarded()
 
 /// A step of two alike states of which one is guarded gives the same bytes, and leads to alike
 /// states, of which the first is guarded; inside its hidden directories nothing changes. It is the
-/// same event in both, and memory is refused to both or to neither.
+/// same event in both, and an allocation fails in both or in neither.
 pub fn alike_states_step_alike()
     ensures { AlikeStep }
 {}

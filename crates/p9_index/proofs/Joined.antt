@@ -21,7 +21,7 @@ use Rattle.p9_tree.specs.Node.{Node, has_number, is_in}
 use Rattle.p9_tree.specs.Server.{Server, WellFormed, added, node_at, root_node}
 use Rattle.p9_tree.proofs.Lookups.{node_at-past}
 
--- the root stands in no directory
+-- the root is in no directory
 module _ {Z : Type 0} (s : Entries Z) (none : HasNone s) where
   stands_nowhere : (d k : ℕ) → stands_in d k (root_node ∷ []) ≡ false
   stands_nowhere d k = grind (arith, nat_tests)

@@ -17,7 +17,7 @@ use Rattle.p9_tree.proofs.Lookups.{node_at-found, number-node_at, passes-found}
 module _ {Z : Type 0} (es : List (ℕ × Node)) (s : Entries Z)
     (index : IsIndex es (is_listed s) (number_at s))
     (rising : AllPairs (λ m n. m.number < n.number) (values_of es)) where
-  -- the number of an entry is that of the node that stands there
+  -- the number of an entry is that of the node that is there
   pub number_of_child : (e : Entry)
       → number_at s e ≡ option_map (λ n. n.number) (child_of e.parent e.name (values_of es))
   number_of_child e =

@@ -79,7 +79,7 @@ le_number c d le same = grind (arith, nat_tests)
 pub at_itself : {K : Type 0} (R : K → K → Ordering) → IsTotalOrder R → (k : K) → is_at (R k) k ≡ true
 at_itself R total k = (eq_by_cmp_equiv total).refl k
 
--- a node stands under its own entry, and under no other
+-- a node is under its own entry, and under no other
 pub is_child-is_at : (e q : Entry) (n : Node) → n.parent ≡ Some e.parent → n.name ≡ e.name
     → is_child q.parent q.name n ≡ is_at (entry_cmp e) q
 is_child-is_at e q n in_dir named =

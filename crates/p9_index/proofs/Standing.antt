@@ -1,4 +1,4 @@
--- Where a node stands.
+-- Where a node is.
 use Rattle.std.proofs.Common.{◌≡◌, ℕ, Option, Some, None, refl, arith}
 use Rattle.std.specs.Option.{option_map}
 use Rattle.p9_tree.specs.declared.node.Entry.{Entry}

@@ -13,7 +13,7 @@ use Rattle.p9_tree.specs.Server.{Server, node_at}
 abbrev pub server_of : List (ℕ × Node) → ℕ → Server
 server_of nodes next = record { nodes = values_of nodes; next = next }
 
--- the node of the number stands in the directory
+-- the node of the number is in the directory
 abbrev pub stands_in : ℕ → ℕ → List Node → Bool
 stands_in dir number nodes = option_map_or (is_in dir) (node_at number nodes) false
 
@@ -21,8 +21,8 @@ stands_in dir number nodes = option_map_or (is_in dir) (node_at number nodes) fa
 abbrev pub stands_at : Entry → ℕ → List Node → Bool
 stands_at e number nodes = option_map_or (is_child e.parent e.name) (node_at number nodes) false
 
--- each node is kept at its number; a child is listed exactly where the node of its number stands in
--- its directory; an entry has exactly the number of the node that stands there
+-- each node is kept at its number; a child is listed exactly where the node of its number is in
+-- its directory; an entry has exactly the number of the node that is there
 pub record IsIndex (nodes : List (ℕ × Node)) (is_listed : Child → Bool)
     (number_at : Entry → Option ℕ) : Type 0 where
   pub keyed : All (λ n. n.1.number ≡ n.0) nodes
@@ -30,7 +30,7 @@ pub record IsIndex (nodes : List (ℕ × Node)) (is_listed : Child → Bool)
   pub named : (e : Entry) (k : ℕ)
       → (number_at e ≡ Some k) ↔ (stands_at e k (values_of nodes) ≡ true)
 
--- the node stands at the first entry, and the change gives it the second, of another name
+-- the node is at the first entry, and the change gives it the second, of another name
 pub record Renames (from to : Entry) (change : Change) (n : Node) : Type 0 where
   pub parent : n.parent ≡ Some from.parent
   pub name : n.name ≡ from.name

@@ -58,7 +58,7 @@ impl<A: Allocator + Copy> Entries<A> {
         }
     }
 
-    /// Enters a node under its entry. Where memory is refused, all is as before.
+    /// Enters a node under its entry. Where an allocation fails, all is as before.
     pub fn enter(&mut self, entry: Entry, number: u64) -> Result<(), NoMemory>
         requires unnamed { number_at self.old entry ≡ None }
         requires unlisted { is_listed self.old (child_at entry.parent number) ≡ false }
@@ -91,7 +91,7 @@ impl<A: Allocator + Copy> Entries<A> {
         self.unname(entry);
     }
 
-    /// Names a node by this entry. Where memory is refused, all is as before.
+    /// Names a node by this entry. Where an allocation fails, all is as before.
     pub fn name(&mut self, entry: Entry, number: u64) -> Result<(), NoMemory>
         ensures listed { OnOk result (ListsSame self.old self.new) }
         ensures named { OnOk result (Names (Some number) entry self.old self.new) }

@@ -1,4 +1,4 @@
--- A node is inside exactly where a hidden number stands in its chain of parents.
+-- A node is inside exactly where a hidden number is in its chain of parents.
 use Rattle.std.proofs.Common.{◌≡◌, ◌≢◌, ℕ, zero, suc, ◌<◌, Bool, true, false, not, ◌||◌, List, []}
 use Rattle.std.proofs.Common.{◌∷◌, Option, Some, None, IsTrue, refl, sym, ap, ◌∙◌, arith, inl, inr}
 use Rattle.std.proofs.Common.{◌⊎◌, ◌↔◌, All}
@@ -110,7 +110,7 @@ module _ (hidden other : List ℕ) (s : Server) (w : WellFormed s)
   parent_exists k p n e in_p none =
       let dir = w.parent_dir k p n e in_p in let gone = rw none at dir in cc
 
-  -- what stands in a chain of parents exists
+  -- what is in a chain of parents exists
   chain_exists : (h k : ℕ) → IsInside s.nodes h k → node_at h s.nodes ≢ None
   chain_exists h _ (Child k n e in_h) = parent_exists k h n e in_h
   chain_exists h _ (Deeper k p n e in_p up) = chain_exists h p up

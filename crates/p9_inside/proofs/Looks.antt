@@ -45,7 +45,7 @@ pub found_node : (f : List Server) → Ordered f → (s : ℕ) (test : Node → 
     → node_of (record { server = s; number = x.number }) f ≡ Some x
 found_node f o s test x e = node_at-found test (server_at s f).nodes x (o.nodes s).rising e
 
--- a node stands in the directory that is its parent
+-- a node is in the directory that is its parent
 pub in-parent : (k : ℕ) (m : Node) → is_in k m ≡ true → m.parent ≡ Some k
 in-parent k m e = go m.parent refl e
   where

@@ -105,7 +105,7 @@ owner_spares hidden forest r permissions uid gid out =
       parent = λ n. refl;
     }) out
 
--- a change of its bytes leaves a node where it stands
+-- a change of its bytes leaves a node where it is
 keeps-with_bytes : (f : List ℕ → List ℕ) → KeepsParent (with_bytes f)
 keeps-with_bytes f = record { number = λ n. refl; parent = λ n. refl }
 

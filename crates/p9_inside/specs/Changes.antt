@@ -14,7 +14,7 @@ use Rattle.p9_tree.specs.Forest.{IsForest, forest_changed_at, is_dir_of, next_of
 use Rattle.p9_tree.specs.Inside.{inner_nodes, is_among, is_barred_at, is_inside_at}
 use Rattle.p9_tree.specs.Inside.{outer_server, is_hidden, is_barred, is_inside, inner, outer}
 
--- the change of a node leaves it where it stands
+-- the change of a node leaves it where it is
 pub record KeepsParent (f : Node → Node) : Type 0 where
   pub number : (n : Node) → (f n).number ≡ n.number
   pub parent : (n : Node) → (f n).parent ≡ n.parent
@@ -35,7 +35,7 @@ pub record Spares (hidden : List NodeRef) (change : List Server → List Server)
   pub barred : (r : NodeRef) → is_barred r hidden (change forest) ≡ is_barred r hidden forest
   pub inside : (r : NodeRef) → is_inside r hidden (change forest) ≡ is_inside r hidden forest
 
--- A node that isn't inside is changed where it stands.
+-- A node that isn't inside is changed where it is.
 
 abbrev pub ServerChangeSpares : Type 0
 ServerChangeSpares = (hidden : List ℕ) (s : Server) (k : ℕ) (f : Node → Node) → KeepsParent f

@@ -82,9 +82,6 @@ KeepsChildren = (hidden : List NodeRef) (forest : List Server) (dir : NodeRef)
 
 -- Of a server.
 
-abbrev pub ServerKeepsNext : Type 0
-ServerKeepsNext = (hidden : List ℕ) (s : Server) → (outer_server hidden s).next ≡ s.next
-
 abbrev pub KeepsNext : Type 0
 KeepsNext = (hidden : List NodeRef) (forest : List Server) (server : ℕ)
     → next_of server (outer hidden forest) ≡ next_of server forest

@@ -11,7 +11,7 @@ use Rattle.p9_tree.specs.Inside.{IsInside, IsInsideAny, hidden_on, is_inner, is_
 use Rattle.p9_tree.specs.Inside.{barred_from, is_barred_at, is_inside_at, inner_nodes, outer_nodes}
 use Rattle.p9_tree.specs.Inside.{outer_server, is_hidden, is_barred, is_inside, inner, outer}
 
--- By the pass a node is inside exactly where a hidden directory stands in its chain of parents.
+-- By the pass a node is inside exactly where a hidden directory is in its chain of parents.
 
 abbrev pub ServerPassIsChain : Type 0
 ServerPassIsChain = (hidden : List ℕ) (s : Server) (k : ℕ) → WellFormed s
@@ -22,18 +22,13 @@ PassIsChain = (hidden : List NodeRef) (forest : List Server) (r : NodeRef) → I
     → IsTrue (is_inside r hidden forest)
     ↔ IsInsideAny (hidden_on r.server hidden) (server_at r.server forest).nodes r.number
 
--- What stands in a chain of parents has a smaller number, so nothing is inside itself.
+-- What is in a chain of parents has a smaller number, so nothing is inside itself.
 
 abbrev pub NothingInsideItself : Type 0
 NothingInsideItself = (s : Server) (h k : ℕ) → WellFormed s → IsInside s.nodes h k → h < k
 
 -- A node is inside exactly where its parent is hidden or inside. A node without a parent is not,
 -- nor is a number without a node.
-
-abbrev pub ServerInsideByParent : Type 0
-ServerInsideByParent = (hidden : List ℕ) (s : Server) (k : ℕ)
-    → is_inside_at k hidden s.nodes
-    ≡ option_map_or (is_inner (barred_from hidden s.nodes)) (node_at k s.nodes) false
 
 -- its parent is hidden or inside
 abbrev pub has_barred_parent : NodeRef → List NodeRef → List Server → Node → Bool

@@ -7,7 +7,7 @@ ghost use Rattle.p9_inside.specs.Changes.{ServerAddSpares, AddSpares, NewSpares,
 ghost use Rattle.p9_inside.specs.Changes.{ServerParentDecides, ParentDecides, ServerNextIsFree};
 ghost use Rattle.p9_inside.specs.Changes.{NextIsFree};
 
-/// A change of a node that is not inside, which leaves it where it stands, spares the insides.
+/// A change of a node that is not inside, which leaves it where it is, spares the insides.
 pub fn change_spares_insides()
     ensures server { ServerChangeSpares }
     ensures forest { ChangeSpares }

@@ -1,6 +1,6 @@
 //! Laws of what is inside hidden directories.
 //!
-//! A node is inside a hidden directory if that stands in its chain of parents. Whoever compares two
+//! A node is inside a hidden directory if that is in its chain of parents. Whoever compares two
 //! forests that differ only there leaves the insides out of both: these laws say that no look-up
 //! and no change outside can tell. Each function is one law, for a server and for a forest: its
 //! contract states it, and its body is empty.

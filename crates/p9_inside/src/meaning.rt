@@ -1,19 +1,19 @@
 //! What inside means.
 
 ghost use Rattle.p9_inside.specs.Meaning.{ServerPassIsChain, PassIsChain, NothingInsideItself};
-ghost use Rattle.p9_inside.specs.Meaning.{ServerInsideByParent, InsideByParent};
+ghost use Rattle.p9_inside.specs.Meaning.{InsideByParent};
 ghost use Rattle.p9_inside.specs.Meaning.{ServerInsidesAreSplit, InsidesAreSplit};
 ghost use Rattle.p9_inside.specs.Meaning.{ServerBarredIsHiddenOrInside, BarredIsHiddenOrInside};
 ghost use Rattle.p9_inside.specs.Meaning.{ServerOnlyNodesHide, OnlyNodesHide};
 
 /// The pass over the nodes by rising number finds exactly those in whose chain of parents a hidden
-/// directory stands.
+/// directory is.
 pub fn pass_is_chain()
     ensures server { ServerPassIsChain }
     ensures forest { PassIsChain }
 {}
 
-/// What stands in a chain of parents has a smaller number, so nothing is inside itself.
+/// What is in a chain of parents has a smaller number, so nothing is inside itself.
 pub fn nothing_inside_itself()
     ensures { NothingInsideItself }
 {}
@@ -21,8 +21,7 @@ pub fn nothing_inside_itself()
 /// A node is inside exactly where its parent is hidden or inside. A node without a parent is not,
 /// nor is a number without a node.
 pub fn inside_by_parent()
-    ensures server { ServerInsideByParent }
-    ensures forest { InsideByParent }
+    ensures { InsideByParent }
 {}
 
 /// The insides are the nodes inside, and leaving them out leaves the others.

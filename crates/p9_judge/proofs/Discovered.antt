@@ -58,7 +58,7 @@ module _ (policy : Policy) (f : List Server) (from : ℕ) (passed : List NodeRef
 -- The children, one after another.
 
 module _ (f : List Server) (sound : IsForest f) (dir : NodeRef) where
-  -- the next child stands in the directory
+  -- the next child is in the directory
   pub after-child : (floor : Option ℕ) (n : Node)
       → child_in_after dir floor f ≡ Some n
       → (node_of (beside dir n.number) f ≡ Some n) × (n.parent ≡ Some dir.number)

@@ -46,7 +46,7 @@ module _ (f : List Server) (sound : IsForest f) where
           let few = (well_formed_at at.server at.number n w).few in omega arith
 
   module _ (dir : NodeRef) where
-    -- what is at a position among the children is a node that stands in the directory
+    -- what is at a position among the children is a node that is in the directory
     pub child_at : (j : ℕ) (n : Node) → slice_get (children_of dir f) j ≡ Some n
         → (node_of (beside dir n.number) f ≡ Some n) × (n.parent ≡ Some dir.number)
     child_at j n e =

@@ -181,7 +181,7 @@ module _ (policy : Policy) (f : List Server) (table : List MountRow) (sound : Is
         go n w listed passes true hid = absurd (not_shut n listed passes (safe.shut hid n w))
         go n w listed passes false hid = hid
 
-    -- It stands among the members of a place, and is passed for the first time.
+    -- It is among the members of a place, and is passed for the first time.
 
     module _ (places more : List Place) (passed further : List NodeRef)
         (s : IsSearch policy f table places passed) (from : ℕ) (key : NodeRef)

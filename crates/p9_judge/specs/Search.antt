@@ -86,7 +86,7 @@ module _ (policy : Policy) (forest : List Server) where
         × IsByFirst policy forest origin.step
 
     -- the root place is there, and the children of all that was passed; what is there had to be:
-    -- each place is safe and each passed directory stands in every closed certificate
+    -- each place is safe and each passed directory is in every closed certificate
     pub record IsSearch (places : List Place) (passed : List NodeRef) : Type 0 where
       pub root : IsAmong places root_place
       pub reached : (i : ℕ) (p : Place) → slice_get places i ≡ Some p

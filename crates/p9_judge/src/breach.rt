@@ -8,7 +8,7 @@ use std::alloc::Allocator;
 use std::fmt;
 
 /// What is wrong with the member that a breach ends at. Where several apply, it is the one that
-/// stands first here.
+/// is first here.
 #[derive(Clone, Copy, Debug, PartialEq, Eq)]
 pub enum BreachKind {
     /// It is inside a hidden directory.
@@ -17,7 +17,7 @@ pub enum BreachKind {
     Open,
     /// It is hidden, and some listed user rules it, and so may change its mode.
     Owned,
-    /// It is hidden and no root, and some listed user may write the directory that it stands in, or
+    /// It is hidden and no root, and some listed user may write the directory that it is in, or
     /// rules that.
     Removable,
 }

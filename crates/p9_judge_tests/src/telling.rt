@@ -20,7 +20,7 @@ where
 }
 
 /// Reads a row: the lines of a world whose server is `main` and whose first user is `glenda`, the
-/// rows of a mount table, and the nodes that are then removed. Bars stand between the three, and
+/// rows of a mount table, and the nodes that are then removed. Bars are between the three, and
 /// semicolons between lines. In the table each node is given by its server and its number, a row's
 /// key first.
 pub fn space_of(rt: &impl Abort, alloc: Global, row: &str) -> Result<Space<Global>, NoMemory> {

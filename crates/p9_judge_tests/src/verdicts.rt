@@ -6,7 +6,7 @@ use std::alloc::Global;
 use std::process::Abort;
 use std::test::Fail;
 
-// In each line stand what is told, with `_` for blanks, and of which world, mount table and removed
+// Each line has what is told, with `_` for blanks, and of which world, mount table and removed
 // nodes.
 
 // A world without hidden directories.

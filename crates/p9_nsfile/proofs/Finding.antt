@@ -30,7 +30,7 @@ use Rattle.p9_nsfile.specs.Find.{behind_hash, found_on_server, path_fault, serve
 use Rattle.p9_nsfile.specs.Setting.{Setting}
 use Rattle.p9_nsfile.specs.Space.{Space}
 
--- a walk's fault, or want of memory
+-- a walk's fault, or a failed allocation
 pub Gives-walk_stop : (answer : Result (List NodeRef) Fault) (fault : Fault)
     → (fault ≡ OutOfMemory) ⊎ (answer ≡ Err fault) →
     Gives {X = List NodeRef} (path_fault answer) (Err (walk_stop fault))

@@ -60,7 +60,7 @@ included-more setting (suc left) line space path some =
     ap (λ k. and_then (included_lines setting space path)
     (λ lines. Ok (lines_done setting k (Some line) space lines))) less
 
--- a file whose lines aren't found: its fault, or want of memory
+-- a file whose lines aren't found: its fault, or a failed allocation
 pub Acts-no_lines : (A : Type 0) {U : Type 0} (answer : Result (List NumberedLine) OpFault)
     (next : List NumberedLine → Result Space OpFault) (space : Space) (stop : Stop)
     (r : Result U Stop) →

@@ -11,19 +11,20 @@ use Rattle.p9_nsfile.specs.declared.fault.Stop.{Stop}
 use Rattle.p9_nsfile.specs.declared.fault.Stop.TheVariants.{Fault, NoMemory}
 use Rattle.p9_nsfile.specs.Space.{Space}
 
--- the value, or the fault; want of memory says nothing
+-- the value, or the fault; a failed allocation says nothing
 abbrev pub Gives : {X : Type 0} → Result X OpFault → Result X Stop → Type 0
 Gives answer (Ok value) = answer ≡ Ok value
 Gives answer (Err (Fault fault)) = answer ≡ Err fault
 Gives answer (Err NoMemory) = Unit {0}
 
--- the name space is the answer's; a fault leaves it, and of want of memory nothing is said
+-- the name space is the answer's; at a fault it is unchanged; of a failed allocation nothing is
+-- said
 abbrev pub Acts : {U : Type 0} → Result Space OpFault → Space → Space → Result U Stop → Type 0
 Acts answer old new (Ok u) = answer ≡ Ok new
 Acts answer old new (Err (Fault fault)) = (answer ≡ Err fault) × (new ≡ old)
 Acts answer old new (Err NoMemory) = Unit {0}
 
--- want of memory, among the faults of a walk
+-- a failed allocation, among the faults of a walk
 abbrev pub is_memory : fault.Fault → Bool
 is_memory faults.OutOfMemory = true
 is_memory other = false

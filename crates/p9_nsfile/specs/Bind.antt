@@ -22,7 +22,7 @@ use Rattle.p9_nsfile.specs.Setting.{Setting}
 use Rattle.p9_nsfile.specs.Space.{Space}
 use Rattle.p9_nsfile.specs.Variable.{expanded}
 
--- whether the nodes come in the place of what stands there
+-- whether the nodes come in the place of what is there
 abbrev pub is_replace : Order → Bool
 is_replace Replace = true
 is_replace Before = false
@@ -39,7 +39,7 @@ may_hold forest order key (node ∷ nodes) =
 abbrev pub with_table : Space → List MountRow → Space
 with_table space table = record space { table = table }
 
--- the nodes in the place of the key, or before or after what stands there
+-- the nodes in the place of the key, or before or after what is there
 abbrev pub put_at : Setting → Space → NodeRef → List NodeRef → Flags → Result Space OpFault
 put_at setting space key nodes flags =
     if may_hold setting.forest flags.order key nodes

@@ -31,7 +31,7 @@ server_root servers name =
     option_map_or (λ number. Ok (record { server = number; number = 0 }))
     (position (λ server. bytes_eq server name) (take servers_max servers)) (Err UnknownServer)
 
--- what stands behind the '#' at the front, which names a server
+-- what follows the '#' at the front, which names a server
 abbrev pub behind_hash : Word → Option Word
 behind_hash [] = None
 behind_hash (b ∷ bs) = if b == 35 then Some bs else None
@@ -46,7 +46,7 @@ module _ (setting : Setting) (space : Space) where
   abbrev pub found_from : Word → Result (List NodeRef) OpFault
   found_from path = walked (if is_rooted path then root_place ∷ [] else space.current) path
 
-  -- a path that begins with a server's name; what stands behind that is rooted
+  -- a path that begins with a server's name; what follows that is rooted
   abbrev pub found_on_server : Word → Result (List NodeRef) OpFault
   found_on_server path =
       and_then (server_root setting.servers (before_first is_slash path))

@@ -39,7 +39,7 @@ lines_in text = try_fold with_line [] (statements_of text)
 abbrev pub line_view : Line → NumberedLine
 line_view line = (line.number, operation_view line.operation)
 
--- an error says that memory was refused, or which line is the first of bad form
+-- an error says that an allocation failed, or which line is the first of bad form
 abbrev pub IsNsFault : {X : Type 0} → Result X BadLineOf → NsError → Type 0
 IsNsFault answer NoMemory = Unit {0}
 IsNsFault answer (BadLine line kind) = answer ≡ Err (line, kind)

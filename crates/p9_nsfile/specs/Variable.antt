@@ -19,11 +19,11 @@ value_of vars name = option_map_or (λ var. var.1) (find (λ var. bytes_eq var.0
 abbrev pub from_slash : Word → Word
 from_slash piece = drop (position_or_len is_slash piece) piece
 
--- what stands between a dollar and the next begins with a variable's name, which ends at a slash
+-- what is between a dollar and the next begins with a variable's name, which ends at a slash
 abbrev pub with_value : List Variable → Word → Word
 with_value vars piece = value_of vars (before_first is_slash piece) ++ from_slash piece
 
--- a word from its pieces, of which all but the first stood behind a dollar
+-- a word from its pieces, of which all but the first was behind a dollar
 abbrev pub joined_pieces : List Variable → List Word → Word
 joined_pieces vars [] = []
 joined_pieces vars (first ∷ pieces) = first ++ flat_map (with_value vars) pieces

@@ -81,7 +81,7 @@ pub(crate) fn bind<T: Tree>(
     put(setting, space, to, &nodes, flags)
 }
 
-// Puts nodes in the place of the key, or before or after what stands there, if the kinds go
+// Puts nodes in the place of the key, or before or after what is there, if the kinds go
 // together.
 fn put<T: Tree>(
     setting: &Setting<'_, T>,

@@ -40,7 +40,7 @@ pub enum NsError {
     /// The first line of bad form, counted from 1.
     #[error("line {line}: {kind}")]
     BadLine { line: u64, kind: BadForm },
-    /// Memory was refused.
+    /// An allocation failed.
     #[error("out of memory")]
     NoMemory,
 }

@@ -10,7 +10,7 @@ use thiserror::Error;
 /// Why an operation fails. It is reported with its line, and changes nothing.
 #[derive(Clone, Copy, Debug, PartialEq, Eq, Error)]
 pub enum OpFault {
-    /// A path leads nowhere, or to a file where a directory has to stand.
+    /// A path leads nowhere, or to a file where a directory must be.
     #[error("{0}")]
     Path(Fault),
     /// No server has this name.
@@ -58,7 +58,7 @@ impl OpFault {
     }
 }
 
-/// Why a call ends: the operation fails, or memory is refused.
+/// Why a call ends: the operation fails, or an allocation fails.
 #[derive(Clone, Copy)]
 pub(crate) enum Stop {
     Fault(OpFault),

@@ -60,7 +60,7 @@ fn find_path<T: Tree>(
     }
 }
 
-// What stands behind the `#` at the front of a path.
+// What follows the `#` at the front of a path.
 fn behind_hash(path: &str) -> Option<&str>
     ensures { option_copied result ≡ behind_hash path.now }
 {
@@ -84,7 +84,7 @@ fn find_from<T: Tree>(
 }
 
 // The trail to the file of a path that begins with a server's name, which ends at the first slash.
-// What stands behind that is rooted.
+// What follows that is rooted.
 fn find_on_server<T: Tree>(
     setting: &Setting<'_, T>,
     space: &Space<T::Alloc>,
@@ -99,7 +99,7 @@ fn find_on_server<T: Tree>(
     }
 }
 
-// What stands before the first slash of a path, and what behind it.
+// What is before the first slash of a path, and what behind it.
 fn split_name(path: &str) -> (&str, &str)
     ensures name { result.0.now ≡ before_first is_slash path.now }
     ensures rest { result.1.now ≡ after_first is_slash path.now }
@@ -110,7 +110,7 @@ fn split_name(path: &str) -> (&str, &str)
     }
 }
 
-// Walks from a root along what stands behind a slash.
+// Walks from a root along what follows a slash.
 fn walk_rooted<T: Tree>(
     setting: &Setting<'_, T>,
     space: &Space<T::Alloc>,

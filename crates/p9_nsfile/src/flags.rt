@@ -22,7 +22,7 @@ pub(crate) fn flag_count(words: &[&str]) -> usize
     words.iter().take_while(|word| is_flag(word)).count()
 }
 
-// Whether the word is a flag, if it stands before all that are none.
+// Whether the word is a flag, if it is before all that are none.
 fn is_flag(word: &str) -> bool
     ensures { result ≡ is_flag word.now }
 {
@@ -30,7 +30,7 @@ fn is_flag(word: &str) -> bool
 }
 
 /// What the flags say. A flag without a letter or with any but `abcC` is bad, and so is `a`
-/// together with `b`. `b` puts the new members before those that stand there, `a` puts them after
+/// together with `b`. `b` puts the new members before those that are there, `a` puts them after
 /// these, `c` permits creation, and `C` has no effect.
 pub(crate) fn read_flags(flags: &[&str]) -> Option<Flags>
     ensures { result ≡ flags_of (map (λ w. w.now) flags.now) }

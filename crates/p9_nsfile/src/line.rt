@@ -18,7 +18,7 @@ pub(crate) struct Line<'a> {
 }
 
 /// The lines of a text, in order, blank lines and comments left out. The errors are the first line
-/// of bad form, [`NsError::BadLine`], and want of memory.
+/// of bad form, [`NsError::BadLine`], and a failed allocation.
 pub(crate) fn read_lines<A: Allocator + Copy>(
     alloc: A,
     text: &str,

@@ -9,7 +9,7 @@ ghost use Rattle.p9_nsfile.specs.declared.operation.Operation.TheVariants.{Bind,
 use crate::error::BadForm;
 use crate::flags::{Flags, flag_count, read_flags};
 
-/// An operation, with its words as they stand in the line: variables aren't put in.
+/// An operation, with its words as they are in the line: variables aren't put in.
 #[derive(Clone, Copy)]
 pub(crate) enum Operation<W> {
     /// Mounts the root of a server.

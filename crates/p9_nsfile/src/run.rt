@@ -35,7 +35,7 @@ pub const NESTED_MAX: u8 = 8;
 /// their numbers, which are distinct and one for each tree.
 ///
 /// Each line is read before the first acts. The first of bad form is [`NsError::BadLine`]; the
-/// other error is want of memory, [`NsError::NoMemory`]. Both leave the table.
+/// other error is a failed allocation, [`NsError::NoMemory`]. The table is unchanged after both.
 pub fn run_file<T: Tree>(
     alloc: T::Alloc,
     text: &str,
@@ -65,7 +65,7 @@ pub fn run_file<T: Tree>(
 }
 
 // Runs lines one after another. `left` is how many files may still be nested, and `outer` the line
-// of the text by which a file is included. Want of memory leaves an unfinished name space.
+// of the text by which a file is included. After a failed allocation the name space is unfinished.
 #[cycle(run)]
 fn run_lines<T: Tree>(
     setting: &Setting<'_, T>,

@@ -97,8 +97,8 @@ impl<A: Allocator + Copy> Space<A> {
         self.current = trail;
     }
 
-    /// Binds nodes in the place of the key, or before or after what stands there. A refusal leaves
-    /// the name space.
+    /// Binds nodes in the place of the key, or before or after what is there. Where an
+    /// allocation fails, the name space is unchanged.
     pub fn bind(&mut self, key: NodeRef, nodes: &[NodeRef], flags: Flags) -> Result<(), NoMemory>
         requires { 0 < length nodes.now }
         ensures ok { OnOk result (self.new ≡ with_table self.old

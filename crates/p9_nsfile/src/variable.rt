@@ -14,7 +14,7 @@ use std::alloc::Allocator;
 /// end. A name that no variable has is empty text, and of several variables of a name the first
 /// counts. What is put in is not looked at again.
 ///
-/// The only error is want of memory.
+/// The only error is a failed allocation.
 pub(crate) fn expand<A: Allocator + Copy>(
     alloc: A,
     word: &str,
@@ -33,7 +33,7 @@ pub(crate) fn expand<A: Allocator + Copy>(
     Ok(text)
 }
 
-// What stands between the dollars of a word.
+// What is between the dollars of a word.
 fn pieces<A: Allocator + Copy>(alloc: A, word: &str) -> Result<Vec<&str, A>, NoMemory>
     ensures { IfOk result (λ found. map (λ p. p.now) found.items
         ≡ slice_split (λ b. b == dollar) word.now) }
@@ -42,7 +42,7 @@ fn pieces<A: Allocator + Copy>(alloc: A, word: &str) -> Result<Vec<&str, A>, NoM
     Ok(found)
 }
 
-// Adds what stands behind a dollar, with the value in the place of the name at its front.
+// Adds what follows a dollar, with the value in the place of the name at its front.
 fn push_expanded<A: Allocator + Copy>(
     text: &mut String<A>,
     piece: &str,

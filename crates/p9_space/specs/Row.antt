@@ -19,7 +19,7 @@ abbrev pub brought : List NodeRef → Bool → List Member
 brought [] create = []
 brought (node ∷ nodes) create = member create node ∷ map (member false) nodes
 
--- what a bind makes of its new members and those that stood there
+-- what a bind makes of its new members and those that were there
 abbrev pub joined : Order → List Member → List Member → List Member
 joined Replace new old = new
 joined Before new old = new ++ old

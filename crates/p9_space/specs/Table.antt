@@ -42,7 +42,7 @@ without_row key table = remove_entry (same_node key) table
 abbrev pub standing : NodeRef → List MountRow → List Member
 standing key table = unwrap_or (row_of key table) (member false key ∷ [])
 
--- the nodes bound in the place of the key, or before or after what stands there
+-- the nodes bound in the place of the key, or before or after what is there
 abbrev pub bound : NodeRef → List NodeRef → Order → Bool → List MountRow → List MountRow
 bound key nodes order create table =
     with_row key (joined order (brought nodes create) (standing key table)) table

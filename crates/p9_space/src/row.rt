@@ -59,7 +59,7 @@ impl<A: Allocator + Copy> Row<A> {
         self.members.as_slice()
     }
 
-    /// Adds a member behind the others. A refusal leaves the row.
+    /// Adds a member behind the others. Where an allocation fails, the row is unchanged.
     pub fn push(&mut self, member: Member) -> Result<(), NoMemory>
         ensures ok { OnOk result (self.new ≡ self.old ++ member ∷ []) }
         ensures err { OnErr result (self.new ≡ self.old) }
@@ -68,7 +68,7 @@ impl<A: Allocator + Copy> Row<A> {
         Ok(())
     }
 
-    /// Adds members behind the others. A refusal leaves the row.
+    /// Adds members behind the others. Where an allocation fails, the row is unchanged.
     pub fn extend(&mut self, members: &[Member]) -> Result<(), NoMemory>
         ensures ok { OnOk result (self.new ≡ self.old ++ members.now) }
         ensures err { OnErr result (self.new ≡ self.old) }
@@ -78,7 +78,8 @@ impl<A: Allocator + Copy> Row<A> {
     }
 
     /// Adds what a bind brings behind the others: the nodes, of which the first permits creation
-    /// where `create` says so, and the others don't. A refusal leaves an unfinished row.
+    /// where `create` says so, and the others don't. Where an allocation fails, the row is
+    /// unfinished.
     pub fn push_brought(&mut self, nodes: &[NodeRef], create: bool) -> Result<(), NoMemory>
         ensures ok { OnOk result (self.new ≡ self.old ++ brought nodes.now create) }
     {

@@ -64,12 +64,12 @@ impl<A: Allocator + Copy> MountTable<A> {
         }
     }
 
-    /// Binds nodes in the place of the key, or before or after what stands there, as bind(1). The
+    /// Binds nodes in the place of the key, or before or after what is there, as bind(1). The
     /// first node permits creation where `create` says so; the others don't.
     ///
     /// A row that is replaced keeps its place in the table, and a new one goes last. A bind before
-    /// or after a key without a row finds the key itself there, without creation. A refusal leaves
-    /// the table.
+    /// or after a key without a row finds the key itself there, without creation. Where an
+    /// allocation fails, the table is unchanged.
     pub fn bind(
         &mut self,
         key: NodeRef,
@@ -129,7 +129,8 @@ impl<A: Allocator + Copy> MountTable<A> {
     /// loses its last member goes, and the rows behind one that goes close up.
     ///
     /// Without a row this is [`UnmountError::NotMounted`], and where no member is the node
-    /// [`UnmountError::NotMember`]; both leave the table. It takes no memory.
+    /// [`UnmountError::NotMember`]; the table is unchanged then. It takes no
+    /// memory.
     pub fn unmount(&mut self, key: NodeRef, node: Option<NodeRef>) -> Result<(), UnmountError>
         ensures ok { OnOk result (unmounted key node self.old ≡ Ok self.new) }
         ensures err { IfErr result (λ e. unmounted key node self.old ≡ Err e) }

@@ -66,7 +66,7 @@ impl<A: Allocator + Copy> Trail<A> {
         })
     }
 
-    /// Goes on to a place. A refusal leaves the trail.
+    /// Goes on to a place. Where an allocation fails, the trail is unchanged.
     pub fn push(&mut self, place: NodeRef) -> Result<(), NoMemory>
         requires { length self.old < PLACES_MAX }
         ensures ok { OnOk result (self.new ≡ self.old ++ place ∷ []) }
@@ -132,7 +132,7 @@ impl<A: Allocator + Copy> Trail<A> {
         }
     }
 
-    /// Takes a step. A refusal leaves the trail.
+    /// Takes a step. Where an allocation fails, the trail is unchanged.
     pub fn take(&mut self, step: Step) -> Result<(), NoMemory>
         requires { length (stepped self.old step) ≤ PLACES_MAX }
         ensures ok { OnOk result (self.new ≡ stepped self.old step) }

@@ -234,7 +234,7 @@ module _ (state : State) (name : ℕ) (session : Session) (frame : List ℕ)
     },
   )
 
-  -- the answer to a request whose refusal leaves all
+  -- the answer to a request whose refusal changes nothing
   given_by : (refused : Bool) (answer : Answer)
       → after_refusal state name session (request_of session frame) ≡ state
       → OnDone (Replies (reply_max session)) answer

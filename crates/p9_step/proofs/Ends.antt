@@ -29,7 +29,7 @@ pub record IsLeaf (at : NodeRef) (forest : List Server) : Type 0 where
   pub not_root : at.number ≢ 0
   pub empty : has_children_of at forest ≡ false
 
--- a node that stands in a directory is no root
+-- a node that is in a directory is no root
 pub node_of-inner : (forest : List Server) (at : NodeRef) (n : Node) → IsForest forest
     → node_of at forest ≡ Some n → is_some n.parent ≡ true → at.number ≢ 0
 node_of-inner forest at n sound found inner = by n.parent refl
@@ -47,7 +47,7 @@ node_of-inner forest at n sound found inner = by n.parent refl
     by None e root = let no : false ≡ true = rw e at inner in cc
     by (Some parent) e root = go (slice_get forest at.server) refl parent e root
 
--- a node stands in the directory that is its parent
+-- a node is in the directory that is its parent
 in-parent : (k : ℕ) (m : Node) → is_in k m ≡ true → m.parent ≡ Some k
 in-parent k m e = go m.parent refl
   where
@@ -68,7 +68,7 @@ module _ (s : Server) (k : ℕ) (n : Node) (well : WellFormed s) (found : node_a
       let same : is_dir_at 0 s.nodes
       ≡ false = subst (λ j. is_dir_at j s.nodes ≡ false) is not_dir in cc
 
-  -- nothing stands in it
+  -- nothing is in it
   leaf-empty : is_some (child_after k None s.nodes) ≡ false
   leaf-empty = go (child_after k None s.nodes) refl
     where

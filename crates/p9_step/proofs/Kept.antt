@@ -161,7 +161,7 @@ module _ (setting : Setting) (forest : List Server) (session : Session) (now : �
         opened = fits-shut setting.table forest _ refl;
       })))
 
-  -- the fid stands at the end of a trail
+  -- the fid is at the end of a trail
   fid-moved : (fid : ℕ) (v : Fid) (trail : List NodeRef) → fid_at fid session.fids ≡ Some v
       → v.opened ≡ None → IsGivenTrail forest trail → IsFid setting forest (trailed trail v)
   fid-moved fid v trail found shut its = record {

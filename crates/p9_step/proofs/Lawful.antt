@@ -59,7 +59,7 @@ AllLawful forest [] = Unit {0}
 AllLawful forest (change ∷ changes) =
     IsLawful forest change × AllLawful (applied change forest) changes
 
--- an edit leaves a node where it stands
+-- an edit leaves a node where it is
 pub edit_keeps : (edit : Edit) → KeepsParent (edited edit)
 unfolding edited
 edit_keeps (Mark user now) = record { number = λ n. refl; parent = λ n. refl }

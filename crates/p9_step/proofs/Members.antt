@@ -6,7 +6,7 @@ use Rattle.std.proofs.lemmas.Bool.Decides.{nat_tests}
 use Rattle.p9_tree.specs.Node.{Node, has_number}
 use Rattle.p9_tree.specs.Server.{changed_at, dropped_at, node_at}
 
--- the node stands in the list
+-- the node is in the list
 pub IsMember : Node → List Node → Type 0
 IsMember n [] = ⊥
 IsMember n (x ∷ xs) = (n ≡ x) ⊎ IsMember n xs

@@ -43,7 +43,7 @@ module _ (session : Session) (frame : List ℕ) where
       by_msize true e = by_message e (t_message_of frame) refl
       by_msize false e = let no : Err Malformed ≡ Ok m = rw e at is in absurd (cc)
 
-  -- so whether its answer may be want of memory is the request's
+  -- so whether its answer may be a failed allocation is the request's
   pub ran_out-is : (m : TMessage) (a : Answer) → request_of session frame ≡ Ok m
       → ran_out frame a ≡ may_run_out m a
   ran_out-is m a is = let r = request-is m is in rw r.read refl

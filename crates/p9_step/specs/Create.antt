@@ -54,7 +54,7 @@ created user now number dir name asked = record {
 abbrev pub permitting : List Member → Option Member
 permitting ms = find (λ m. m.create) ms
 
--- the directory where a node is to be made, among the members that stand there
+-- the directory where a node is to be made, among the members that are there
 abbrev pub target_among : List Server → List Member → Result NodeRef Fault
 target_among forest ms =
     if not (list_any (is_alive forest) ms) then Err PhaseError

@@ -11,7 +11,7 @@ use Rattle.p9_fids.specs.Fid.{Fid, FidRow}
 use Rattle.p9_step.specs.State.{fid_file, fid_ref}
 use Rattle.p9_step.specs.Change.{Change, EditNode, DropNode, Mark, all_applied}
 
--- the directory that a node stands in is marked, where there is one
+-- the directory that a node is in is marked, where there is one
 abbrev pub parent_marked : List ℕ → ℕ → NodeRef → Option ℕ → List Change
 parent_marked user now at parent =
     option_map_or (λ number. EditNode (beside at number) (Mark user now) ∷ []) parent []

@@ -61,7 +61,7 @@ after_refusal state name session request = state
 abbrev pub IsFaultText : List ℕ → Type 0
 IsFaultText ename = (fault : Fault) × (ename ≡ text_of fault)
 
--- memory was refused to a request of a session that may be answered so
+-- an allocation failed in a request of a session that may be answered so
 abbrev pub runs_out : State → Session → List ℕ → ℕ → Bool → Bool
 runs_out state session frame now refused =
     refused

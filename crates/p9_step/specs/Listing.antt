@@ -11,7 +11,7 @@ use Rattle.p9_space.specs.Rights.{Who, may, to_read}
 use Rattle.p9_space.specs.Table.{MountRow, members_of}
 use Rattle.p9_fids.specs.declared.opened.Cursor.{Cursor}
 
--- an entry: the position of the member in the union, the member, and the node that stands in it
+-- an entry: the position of the member in the union, the member, and the node that is in it
 pub record Entry : Type 0 where
   pub position : ℕ
   pub member : NodeRef
@@ -43,7 +43,7 @@ module _ (forest : List Server) (who : Who) where
 abbrev pub listing : List MountRow → List Server → Who → NodeRef → List Entry
 listing table forest who place = entries_from forest who 0 (members_of place table)
 
--- the entry stands behind the last one that was given
+-- the entry is behind the last one that was given
 abbrev pub is_behind : Option Cursor → Entry → Bool
 is_behind cursor e =
     option_map_or
@@ -60,6 +60,6 @@ listing_behind cursor table forest who place =
 abbrev pub left_of : List Server → Who → Option Cursor → List Member → List Entry
 left_of forest who cursor members = filter (is_behind cursor) (entries_from forest who 0 members)
 
--- where the entry stands
+-- where the entry is
 abbrev pub cursor_of : Entry → Cursor
 cursor_of e = record { member = e.position; number = e.node.number }

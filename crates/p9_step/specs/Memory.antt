@@ -1,4 +1,4 @@
--- Want of memory: which requests may be answered by it, and how.
+-- A failed allocation: which requests may be answered by it, and how.
 use Rattle.std.specs.Prelude.{ℕ, Bool, true, false, List, Ok, Err}
 use Rattle.std.specs.Option.{option_map_or}
 use Rattle.std.specs.Str.{bytes_eq}
@@ -15,8 +15,8 @@ abbrev pub is_done : Answer → Bool
 is_done (Ok outcome) = true
 is_done (Err fault) = false
 
--- whether a request may be answered by want of memory, in the place of the answer that it has: an
--- attach or a walk in the place of any, a create, a write or a wstat where no refusal is due
+-- whether a request may be answered by a failed allocation, in the place of the answer that it has:
+-- an attach or a walk in the place of any, a create, a write or a wstat where no refusal is due
 abbrev pub may_run_out : TMessage → Answer → Bool
 may_run_out (Tattach fid afid uname aname) answer = true
 may_run_out (Twalk fid newfid names) answer = true

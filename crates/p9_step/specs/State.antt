@@ -33,7 +33,7 @@ pub record Session : Type 0 where
 abbrev pub SessionRow : Type 0
 SessionRow = ℕ × Session
 
--- the sessions stand by rising name
+-- the sessions are by rising name
 pub record State : Type 0 where
   pub setting : Setting
   pub forest : List Server
@@ -59,7 +59,7 @@ changed_session name session sessions = set_value (is_at (nat_cmp name)) session
 abbrev pub without_session : ℕ → List SessionRow → List SessionRow
 without_session name sessions = remove_entry (is_at (nat_cmp name)) sessions
 
--- what stands around the data of a read or a write takes so many bytes at most
+-- what is around the data of a read or a write takes so many bytes at most
 abbrev pub io_header : ℕ
 io_header = 24
 

@@ -92,7 +92,7 @@ with_outcome state name frame outcome = record {
   reply = r_spelling (tag_of frame) outcome.reply;
 }
 
--- the same of an answer; where memory was refused and that may be answered, nothing changes
+-- the same of an answer; where an allocation failed and that may be answered, nothing changes
 abbrev pub answered : State → ℕ → Session → List ℕ → Bool → Answer → Stepped
 answered state name session frame refused answer =
     if refused && ran_out frame answer then record { state = state; reply = no_memory_reply frame }
@@ -114,7 +114,7 @@ closed state name now session = record {
   reply = [];
 }
 
--- refused says that memory was refused, and counts only where that may be answered
+-- refused says that an allocation failed, and counts only where that may be answered
 abbrev pub step : State → Event → Bool → Stepped
 step state (Open name) refused =
     if refused || is_some (session_at name state.sessions) then unchanged state
@@ -130,7 +130,7 @@ step state (Message name frame now) refused =
 step state (Close name now) refused =
     option_map_or (closed state name now) (session_at name state.sessions) (unchanged state)
 
--- an event, and its mark: whether memory was refused
+-- an event, and its mark: whether an allocation failed
 abbrev pub Marked : Type 0
 Marked = Event × Bool
 

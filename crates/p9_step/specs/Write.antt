@@ -24,7 +24,7 @@ is_writable v = option_map_or (λ o. writes o.mode) v.opened false
 abbrev pub write_place : ℕ → Node → ℕ
 write_place offset n = if is_append_only n then length n.bytes else offset
 
--- the bytes stand at the place, and the file is marked
+-- the bytes are at the place, and the file is marked
 abbrev pub written : Session → ℕ → Fid → NodeRef → ℕ → List ℕ → Answer
 written session now v at place bytes =
     Ok (record {

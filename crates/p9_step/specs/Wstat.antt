@@ -32,7 +32,7 @@ use Rattle.p9_step.specs.Rights.{may_write_parent}
 use Rattle.p9_tree.specs.Bytes.{file_max}
 
 -- What is touched: all but a field that holds its greatest number, or is empty, or holds what
--- stands there.
+-- is there.
 
 -- a number
 abbrev pub is_number_touched : ℕ → ℕ → ℕ → Bool
@@ -161,7 +161,7 @@ node_change user now t = record {
   now = now;
 }
 
--- if anything is touched, the directory that the file stands in is marked
+-- if anything is touched, the directory that the file is in is marked
 abbrev pub rewriting : List ℕ → ℕ → NodeRef → Node → Touched → List Change
 rewriting user now at n t =
     if is_any t

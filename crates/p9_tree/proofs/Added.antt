@@ -14,7 +14,7 @@ use Rattle.p9_tree.specs.Server.{Server, node_at, child_of, is_dir_at, IsSound, 
 use Rattle.p9_tree.specs.Server.{added}
 use Rattle.p9_tree.proofs.Lookups.{number-node_at, All-node_at, node_at-past}
 
--- where a directory has no child of a name, no node of that name stands in it
+-- where a directory has no child of a name, no node of that name is in it
 pub child_of-None : (dir k : ℕ) (xs : List Node) (n : Node) → child_of dir n.name xs ≡ None
     → node_at k xs ≡ Some n → n.parent ≡ Some dir → ⊥
 child_of-None dir k [] n free e in_dir = cc

@@ -37,7 +37,7 @@ take-padded n m xs le = elim (cases_lt n (length xs)) [
       ∙ sym (take_all n (padded n xs) whole))
 ]
 
--- what stands behind a padded list's length stood behind it before
+-- what follows a padded list's length followed it before
 drop-padded : (m : ℕ) (xs : List ℕ) → drop m (padded m xs) ≡ drop m xs
 drop-padded m xs = elim (cases_lt m (length xs)) [
   | inl lt ↦ (let none : m - length xs ≡ 0 = omega arith in

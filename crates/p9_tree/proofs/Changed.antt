@@ -1,4 +1,4 @@
--- A server of which one node is changed where it stands is well-formed.
+-- A server of which one node is changed in its place is well-formed.
 use Rattle.std.proofs.Common.{◌≡◌, ℕ, zero, suc, ◌+◌, ◌<◌, ◌≤◌, false, cond, eqb, List, [], ◌∷◌}
 use Rattle.std.proofs.Common.{◌⊎◌, length, get_or, set, Some, None, Result, Ok, Err, IsTrue}
 use Rattle.std.proofs.Common.{IsFalse, refl, sym, ap, ◌∙◌, subst, inl, inr, arith}
@@ -65,7 +65,7 @@ module _ (k : ℕ) (f : Node → Node) (keeps : KeepsParent f) where
         | Some m ↦ λ at. (m, at, grind (arith, nat_tests, node_at-changed_at j xs))
       ] refl
 
-  -- and stood in the same directory
+  -- and was in the same directory
   was_in : (j : ℕ) (m n : Node) → ((j ≡ k) × (f m ≡ n)) ⊎ (m ≡ n) → m.parent ≡ n.parent
   was_in j m n (inl changed) = sym (keeps.parent m) ∙ ap (λ (x : Node). x.parent) changed.1
   was_in j m n (inr same) = ap (λ (x : Node). x.parent) same

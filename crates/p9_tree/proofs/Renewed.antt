@@ -109,13 +109,13 @@ child_of-there dir k xs n e in_dir = go (child_of dir n.name xs) refl
     go None none = absurd (child_of-None dir k xs n none e in_dir)
     go (Some m) some = (m, some)
 
--- what stands in the directory has it for its parent
+-- what is in the directory has it for its parent
 parent-is_in : (dir : ℕ) (o : Option ℕ) → option_map_or (λ parent. parent == dir) o false ≡ true
     → o ≡ Some dir
 parent-is_in dir None is = absurd (cc)
 parent-is_in dir (Some p) is = ap Some (eqb-true p dir is)
 
--- what is found by a name stands in the directory under it
+-- what is found by a name is in the directory under it
 is_child-found : (dir : ℕ) (name : List ℕ) (xs : List Node) (n : Node)
     → child_of dir name xs ≡ Some n → (n.parent ≡ Some dir) × (n.name ≡ name)
 is_child-found dir name xs n e =

@@ -39,7 +39,7 @@ is_dir_of at forest = is_dir_at at.number (server_at at.server forest).nodes
 abbrev pub children_of : NodeRef → List Server → List Node
 children_of dir forest = filter (is_in dir.number) (server_at dir.server forest).nodes
 
--- whether a node stands in the directory
+-- whether a node is in the directory
 abbrev pub has_children_of : NodeRef → List Server → Bool
 has_children_of dir forest = has_children dir.number (server_at dir.server forest).nodes
 

@@ -1,6 +1,6 @@
 -- What is inside hidden directories, and servers without it.
 --
--- A node is inside a directory that stands in its chain of parents; so a directory is not inside
+-- A node is inside a directory that is in its chain of parents; so a directory is not inside
 -- itself. Hidden directories are named by their numbers. A number may have lost its node: since it
 -- is never given again, it then hides nothing.
 use Rattle.std.specs.Prelude.{◌≡◌, ℕ, ◌==◌, Bool, false, not, List, [], ◌∷◌, Some, IsTrue, filter}
@@ -18,7 +18,7 @@ is_among numbers number = list_any (λ k. k == number) numbers
 
 -- Inside, as a reader checks it.
 
--- the directory h stands in the chain of parents of the node
+-- the directory h is in the chain of parents of the node
 pub data IsInside (nodes : List Node) (h : ℕ) : ℕ → Type 0 where
   Child : (k : ℕ) (n : Node) → node_at k nodes ≡ Some n → n.parent ≡ Some h → IsInside nodes h k
   Deeper : (k p : ℕ) (n : Node) → node_at k nodes ≡ Some n → n.parent ≡ Some p
@@ -28,7 +28,7 @@ pub data IsInside (nodes : List Node) (h : ℕ) : ℕ → Type 0 where
 abbrev pub IsInsideAny : List ℕ → List Node → ℕ → Type 0
 IsInsideAny hidden nodes k = (h : ℕ) × IsTrue (is_among hidden h) × IsInside nodes h k
 
--- Inside, by one pass over a server's nodes. They stand by rising number, and parents have smaller
+-- Inside, by one pass over a server's nodes. They are by rising number, and parents have smaller
 -- numbers than their children.
 
 -- its parent is one of these

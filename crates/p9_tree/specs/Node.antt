@@ -35,11 +35,11 @@ is_dir n = is_dir_mode n.mode
 abbrev pub has_number : ℕ → Node → Bool
 has_number number n = n.number == number
 
--- it stands in the directory
+-- it is in the directory
 abbrev pub is_in : ℕ → Node → Bool
 is_in dir n = option_map_or (λ parent. parent == dir) n.parent false
 
--- it stands in the directory under the name
+-- it is in the directory under the name
 abbrev pub is_child : ℕ → List ℕ → Node → Bool
 is_child dir name n = is_in dir n && bytes_eq n.name name
 

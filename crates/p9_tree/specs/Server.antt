@@ -46,7 +46,7 @@ is_dir_at number nodes = option_map_or is_dir (node_at number nodes) false
 abbrev pub bytes_at : ℕ → List Node → List ℕ
 bytes_at number nodes = option_map_or (λ n. n.bytes) (node_at number nodes) []
 
--- whether a node stands in the directory
+-- whether a node is in the directory
 abbrev pub has_children : ℕ → List Node → Bool
 has_children dir nodes = is_some (child_after dir None nodes)
 
@@ -62,7 +62,7 @@ pub record IsSound (n : Node) : Type 0 where
   pub tellable : IsTellable n
 
 -- numbers rise, and lie below the next; node 0 is a directory, and the only node without a parent;
--- each other stands in a directory of smaller number, where no other has its name
+-- each other is in a directory of smaller number, where no other has its name
 pub record WellFormed (s : Server) : Type 0 where
   pub few : s.next ≤ next_max
   pub rising : AllPairs (λ m n. m.number < n.number) s.nodes

@@ -51,7 +51,7 @@ impl<A: Allocator> Bytes<A> {
         })
     }
 
-    /// Writes at the offset, and fills a gap before it with zeros. Where memory is refused, all
+    /// Writes at the offset, and fills a gap before it with zeros. Where an allocation fails, all
     /// stays as it was.
     pub fn write(&mut self, offset: u64, bytes: &[u8]) -> Result<(), NoMemory>
         requires { offset + length bytes.now ≤ FILE_MAX }
@@ -75,7 +75,7 @@ impl<A: Allocator> Bytes<A> {
         Ok(())
     }
 
-    // Copies the bytes over those that stand at the start and behind it.
+    // Copies the bytes over those that are at the start and behind it.
     fn put(&mut self, start: usize, bytes: &[u8])
         requires { start + length bytes.now ≤ length self.old }
         ensures { self.new
@@ -91,8 +91,8 @@ impl<A: Allocator> Bytes<A> {
         self.items.truncate(size as usize);
     }
 
-    /// Brings them to this number: it cuts them, or adds zeros. Where memory is refused, all stays
-    /// as it was.
+    /// Brings them to this number: it cuts them, or adds zeros. Where an allocation fails, all
+    /// stays as it was.
     pub fn resize(&mut self, size: u64) -> Result<(), NoMemory>
         requires { size ≤ FILE_MAX }
         ensures ok { OnOk result (self.new ≡ resized size self.old) }

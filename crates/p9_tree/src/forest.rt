@@ -76,7 +76,7 @@ impl<T: Tree> Forest<T> {
         }
     }
 
-    /// Makes a node of the server's next number in the directory. Where memory is refused, the
+    /// Makes a node of the server's next number in the directory. Where an allocation fails, the
     /// forest is as before.
     pub fn add(&mut self, dir: NodeRef, new: &New<'_>) -> Result<NodeRef, NoMemory>
         requires { let server = server_at dir.server (map T.state self.old.trees.items) in
@@ -106,7 +106,7 @@ impl<T: Tree> Forest<T> {
         }
     }
 
-    /// Makes all of the change in the node at once, as [`Tree::change`]. Where memory is refused,
+    /// Makes all of the change in the node at once, as [`Tree::change`]. Where an allocation fails,
     /// which it may be only where there is a node, the forest is as before.
     pub fn change(&mut self, at: NodeRef, change: &Change) -> Result<(), NoMemory>
         requires { let server = server_at at.server (map T.state self.old.trees.items) in
@@ -145,7 +145,7 @@ impl<T: Tree> Forest<T> {
     }
 
     /// Writes into a file at the offset, and fills a gap before it with zeros. It isn't marked.
-    /// Where memory is refused, which it may be only where there is a node, the forest is as
+    /// Where an allocation fails, which it may only where there is a node, the forest is as
     /// before.
     pub fn write(&mut self, at: NodeRef, offset: u64, bytes: &[u8]) -> Result<(), NoMemory>
         requires file { IsFalse (is_dir_of at (map T.state self.old.trees.items)) }

@@ -34,7 +34,7 @@ pub struct Node<A: Allocator> {
     pub(crate) bytes: Bytes<A>,
 }
 
-/// Where a node stands: in which directory, and under which name. The root stands nowhere.
+/// Where a node is: in which directory, and under which name. The root is nowhere.
 ///
 /// Entries are in the order of their directories, and in a directory in that of their names.
 #[derive(Clone, Copy, PartialEq, Eq, PartialOrd, Ord)]
@@ -74,14 +74,14 @@ impl<A: Allocator> Node<A> {
         self.number
     }
 
-    /// The number of the directory that it stands in. The root has none.
+    /// The number of the directory that it is in. The root has none.
     pub fn parent(&self) -> Option<u64>
         ensures { result ≡ self.now.parent }
     {
         self.entry.map(|e| e.parent)
     }
 
-    /// The directory that it stands in, and its name there. The root has none.
+    /// The directory that it is in, and its name there. The root has none.
     pub fn entry(&self) -> Option<Entry>
         ensures { result ≡ option_map (λ parent. record { parent = parent; name = self.now.name })
             self.now.parent }
@@ -164,14 +164,14 @@ impl<A: Allocator> Node<A> {
         self.mode.is_dir()
     }
 
-    /// Whether it stands in the directory of this number.
+    /// Whether it is in the directory of this number.
     pub fn is_in(&self, dir: u64) -> bool
         ensures { result ≡ is_in dir self.now }
     {
         self.entry.is_some_and(|e| e.parent == dir)
     }
 
-    /// Whether it stands in the directory of this number under the name.
+    /// Whether it is in the directory of this number under the name.
     pub fn is_child(&self, dir: u64, name: &Name) -> bool
         ensures { result ≡ is_child dir name.now self.now }
     {
@@ -271,7 +271,7 @@ impl<A: Allocator> Node<A> {
     }
 
     /// Writes into the file's bytes at the offset, and fills a gap before it with zeros. Where
-    /// memory is refused, the node is as before.
+    /// an allocation fails, the node is as before.
     pub fn write(&mut self, offset: u64, bytes: &[u8]) -> Result<(), NoMemory>
         requires { offset + length bytes.now ≤ FILE_MAX }
         ensures ok { OnOk result (self.new ≡ with_bytes (overwritten offset bytes.now) self.old) }
@@ -297,7 +297,7 @@ impl<A: Allocator> Node<A> {
         self.bytes.read_into(offset, buffer)
     }
 
-    /// Makes all of the change. Where memory is refused, the node is as before.
+    /// Makes all of the change. Where an allocation fails, the node is as before.
     pub fn change(&mut self, change: &Change) -> Result<(), NoMemory>
         requires named { ForSome change.now.name (λ name. IsSome self.old.parent) }
         requires small { ForSome change.now.length (λ size. size ≤ FILE_MAX) }

@@ -67,7 +67,7 @@ pub trait Tree: Sized + Drop {
         ensures { state self.new
             ≡ with_changed 0 (with_owner permissions uid gid) (state self.old) };
 
-    /// Makes a node of the next number in the directory, and answers its number.
+    /// Makes a node of the next number in the directory, and returns its number.
     fn add(&mut self, dir: u64, new: &New<'_>) -> Result<u64, NoMemory>
         requires { CanAddNew (state self.old) dir new.now }
         ensures number { IfOk result (λ number. number ≡ (state self.old).next) }

@@ -1,5 +1,5 @@
 //! Tests of p9_tree and p9_index: what trees and forests return call by call, in a vector of nodes
-//! and in ordered maps, and where memory is refused.
+//! and in ordered maps, and where an allocation fails.
 //!
 //! A test is a text with a call in each line, and behind `=` what is to be told of it. So a proof
 //! loads one literal, whatever a test has in it, which costs much less than a table of values.

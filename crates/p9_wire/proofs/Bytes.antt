@@ -18,13 +18,13 @@ each_below bytes fits i = elim (cases_lt i (length bytes)) [
   | inr le ↦ rw (get_or_past bytes i 0 le) (omega arith)
 ]
 
--- what stands behind bytes is bytes
+-- what follows bytes is bytes
 pub IsBytes-back : (front back : List ℕ) → IsBytes (front ++ back) → IsBytes back
 IsBytes-back front back h i d lt =
     rw (← get_or-append-add front back i d)
     (h (length front + i) d (omega (arith, lt, length-append front back)))
 
--- and what stands in front
+-- and what is in front
 pub IsBytes-front : (front back : List ℕ) → IsBytes (front ++ back) → IsBytes front
 IsBytes-front front back h i d lt =
     rw (← get_or_append_left front back d i lt)

@@ -90,7 +90,7 @@ number-complete n x rest lt =
 pub number-codes : (n : ℕ) → Codes (number n) (λ (x : ℕ). x < 256 ^ n) (number_at n)
 number-codes n = record { sound = number-sound n; complete = number-complete n }
 
--- bytes that were read stood at the front
+-- bytes that were read were at the front
 pub bytes-sound : (n : ℕ) (bytes : List ℕ) (x : List ℕ × List ℕ) → bytes_at n bytes ≡ Some x
     → (bytes ≡ x.0 ++ x.1) × (length x.0 ≡ n)
 bytes-sound n bytes x e =

@@ -32,7 +32,7 @@ length-qids (q ∷ qs) =
     let others = length-qids qs in
     rw (flat_map-cons qid_bytes q qs) (simp (length-append, length-number) (omega arith))
 
--- a stat's fields stand behind two bytes of size
+-- a stat's fields are behind two bytes of size
 pub length-stat_fields : (s : StatFields) → 2 + length (stat_fields s) ≡ stat_len s
 length-stat_fields s = simp (length-append, length-number) (omega arith)
 
@@ -76,7 +76,7 @@ length-r_body (Rstat stat) =
     let those = length-stat_fields stat in simp (length-append, length-number) (omega arith)
 length-r_body Rwstat = refl
 
--- seven bytes stand before a body
+-- seven bytes are before a body
 pub length-parts : (size kind tag : ℕ) (body : List ℕ)
     → length (number 4 size ++ (number 1 kind ++ number 2 tag ++ body)) ≡ 7 + length body
 length-parts size kind tag body = simp (length-append, length-number) (omega arith)

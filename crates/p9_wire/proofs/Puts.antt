@@ -27,7 +27,7 @@ puts_here bytes now old at len same size room =
           (omega arith);
     }
 
--- what is put behind another stands there as one
+-- what is put behind another is there as one
 pub puts_then : {x y : List ℕ} {a n m : ℕ} {old mid new : List ℕ} → Puts x a n old mid
     → Puts y n m mid new → Puts (x ++ y) a m old new
 puts_then {x} {y} {a} {n} {m} {old} {mid} {new} p q =
@@ -76,7 +76,7 @@ pub puts_sized : {A : Type 0} (f : A → List ℕ) (x : A) (size : ℕ) {a b c :
 puts_sized f x size {a} {b} {c} {old} {mid} {new} e p q =
     puts_then (subst (λ (n : ℕ). Puts (number 2 n) a b old mid) e p) q
 
--- what stands behind bytes may be counted to them
+-- what follows bytes may be counted to them
 pub puts_kept : (x : List ℕ) (a n k : ℕ) (old new : List ℕ) → n + k ≤ length old
     → length new ≡ length old → Puts x a n old new
     → Puts (x ++ take k (drop n old)) a (n + k) old new

@@ -37,7 +37,7 @@ pub first_frame-few : (bytes : List ℕ) → length bytes < 4 → first_frame by
 first_frame-few bytes short =
     let few : ltb (length bytes) 4 ≡ true = lt-ltb _ _ (omega arith) in rw few refl
 
--- what stands behind is looked at only behind a whole frame
+-- what follows is looked at only behind a whole frame
 frames_by-same : (f : Frame) (bytes : List ℕ) (r s : List ℕ → Frames)
     → ((size : ℕ) → f ≡ Whole size → r (drop size bytes) ≡ s (drop size bytes))
     → frames_by f bytes r ≡ frames_by f bytes s
@@ -58,7 +58,7 @@ frames_within-enough (suc k) (suc j) bytes p q =
     frames_within-enough k j (drop size bytes) (omega (arith, length-drop size bytes))
     (omega (arith, length-drop size bytes)))
 
--- the frames of a byte string begin with what stands at its front
+-- the frames of a byte string begin with what is at its front
 pub begins_frames : (bytes : List ℕ) → BeginsFrames (first_frame bytes) bytes
 unfolding frames frames_within
 begins_frames bytes = begun (first_frame bytes) refl

@@ -19,7 +19,7 @@ is_frame frame =
     nat_le header (length frame) && nat_le (length frame) msize_max
     && little_number 4 frame == length frame
 
--- what stands at the front of bytes: four of them say a frame's size, which counts itself
+-- what is at the front of bytes: four of them say a frame's size, which counts itself
 abbrev pub first_frame : List ℕ → Frame
 first_frame bytes =
     if nat_lt (length bytes) 4 then Need

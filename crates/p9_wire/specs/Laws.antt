@@ -25,9 +25,3 @@ abbrev pub HasOneMessage : {M : Type 0} → Spelling M → Type 0
 HasOneMessage {M} Spells =
     (bytes : List ℕ) (tag other : ℕ) (m n : M) → Spells bytes tag m → Spells bytes other n
     → (tag ≡ other) × (m ≡ n)
-
--- a message with a tag has one spelling
-abbrev pub HasOneSpelling : {M : Type 0} → Spelling M → Type 0
-HasOneSpelling {M} Spells =
-    (bytes others : List ℕ) (tag : ℕ) (m : M)
-    → Spells bytes tag m → Spells others tag m → bytes ≡ others

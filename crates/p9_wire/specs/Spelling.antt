@@ -79,7 +79,7 @@ TNumbersFit (Tremove fid) = fid < 2 ^ 32
 TNumbersFit (Tstat fid) = fid < 2 ^ 32
 TNumbersFit (Twstat fid stat) = (fid < 2 ^ 32) × StatNumbersFit stat
 
--- how many bytes of a Twrite stand before its data
+-- how many bytes of a Twrite are before its data
 abbrev pub write_header : ℕ
 write_header = 23
 
@@ -103,7 +103,7 @@ TFits (Twstat fid stat) = FitsStat stat
 unfoldable pub t_spelling : ℕ → TMessage → List ℕ
 t_spelling tag m = frame (t_type m) tag (t_body m)
 
--- these bytes are the request with this tag, and nothing stands behind it
+-- these bytes are the request with this tag, and nothing is behind it
 pub record TSpells (bytes : List ℕ) (tag : ℕ) (m : TMessage) : Type 0 where
   pub whole : bytes ≡ t_spelling tag m
   pub numbers : TNumbersFit m
@@ -176,7 +176,7 @@ RNumbersFit Rremove = Unit {0}
 RNumbersFit (Rstat stat) = StatNumbersFit stat
 RNumbersFit Rwstat = Unit {0}
 
--- how many bytes of an Rread stand before its data
+-- how many bytes of an Rread are before its data
 abbrev pub read_header : ℕ
 read_header = 11
 
@@ -200,7 +200,7 @@ RFits Rwstat = Unit {0}
 unfoldable pub r_spelling : ℕ → RMessage → List ℕ
 r_spelling tag m = frame (r_type m) tag (r_body m)
 
--- these bytes are the reply with this tag, and nothing stands behind it
+-- these bytes are the reply with this tag, and nothing is behind it
 pub record RSpells (bytes : List ℕ) (tag : ℕ) (m : RMessage) : Type 0 where
   pub whole : bytes ≡ r_spelling tag m
   pub numbers : RNumbersFit m

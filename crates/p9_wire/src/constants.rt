@@ -27,7 +27,7 @@ pub const QID: usize = 13;
 pub const STAT_FIXED: usize = 49;
 
 // The numbers of the message types. An Rauth (103) is never sent, and a Terror (106) is illegal, so
-// neither stands here.
+// neither is here.
 pub const TVERSION: u8 = 100;
 
 pub const RVERSION: u8 = 101;

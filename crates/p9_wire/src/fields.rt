@@ -1,4 +1,4 @@
-//! Fields taken from the front of bytes. Each answers its value and the bytes behind it, or None
+//! Fields taken from the front of bytes. Each returns its value and the bytes behind it, or None
 //! where the bytes begin with no such field.
 
 ghost use Rattle.std.specs.Prelude.{◌≡◌, ◌≤◌, ◌==◌, Some, None, nat_lt, if◌then◌else◌};
@@ -63,7 +63,7 @@ fn take_bytes(count: usize, bytes: &[u8]) -> Option<(&[u8], &[u8])>
     Some(bytes.split_at(count))
 }
 
-/// The bytes whose number stands in the two bytes before them.
+/// The bytes whose number is in the two bytes before them.
 fn take_sized(bytes: &[u8]) -> Option<(&[u8], &[u8])>
     ensures { Gives (λ x. (x.0.now, x.1.now)) result (sized_bytes_at bytes.now) }
 {

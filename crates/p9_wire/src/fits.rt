@@ -12,7 +12,7 @@ use crate::names::Names;
 use crate::put::stat_size;
 use p9_base::is_text;
 
-/// The most bytes of a text, whose length stands in two.
+/// The most bytes of a text, whose length is in two.
 const TEXT_MAX: usize = 65_535;
 
 /// The most bytes of a frame that its size can tell. A session's frames are shorter: `MSIZE_MAX`.

@@ -6,7 +6,7 @@ ghost use Rattle.p9_wire.specs.Frame.{first_frame, is_frame, BeginsFrames};
 use crate::constants::{HEADER, MSIZE_MAX};
 use byteorder::{ByteOrder, LittleEndian};
 
-/// What stands at the front of a stream.
+/// What is at the front of a stream.
 #[derive(Clone, Copy, Debug, PartialEq, Eq)]
 pub enum Frame {
     /// Less than a whole frame: more bytes are needed.
@@ -17,7 +17,7 @@ pub enum Frame {
     Broken,
 }
 
-/// What stands at the front of these bytes, by the four bytes of its size alone: whether the frame
+/// What is at the front of these bytes, by the four bytes of its size alone: whether the frame
 /// is a message is `read_t`'s and `read_r`'s answer.
 pub fn frame_of(bytes: &[u8]) -> Frame
     ensures front { result ≡ first_frame bytes.now }

@@ -7,27 +7,26 @@ ghost use Rattle.p9_wire.specs.Reading.{t_message_of, r_message_of};
 ghost use Rattle.p9_wire.specs.Frame.{first_frame, is_frame, BeginsFrames};
 ghost use Rattle.p9_wire.specs.declared.frame.Frame.TheVariants.{Need, Whole};
 ghost use Rattle.p9_wire.specs.Laws.{ReadsSpellings, ReadsEachSpelling, HasOneMessage};
-ghost use Rattle.p9_wire.specs.Laws.{HasOneSpelling};
 
-/// Requests and their spellings are one for one, and `t_message_of` reads exactly these.
+/// Each spelling is that of one request with one tag, and `t_message_of` reads exactly the spellings.
+/// A request with a tag has one spelling by definition, since `t_spelling` is a function.
 pub fn requests_are_spelled_once()
     ensures sound { ReadsSpellings t_message_of TSpells }
     ensures complete { ReadsEachSpelling t_message_of TSpells }
     ensures one_message { HasOneMessage TSpells }
-    ensures one_spelling { HasOneSpelling TSpells }
     ensures len { (tag : ℕ) (m : TMessage) → length (t_spelling tag m) ≡ 7 + t_len m }
 {}
 
-/// Replies and their spellings are one for one, and `r_message_of` reads exactly these.
+/// Each spelling is that of one reply with one tag, and `r_message_of` reads exactly the spellings.
+/// A reply with a tag has one spelling by definition, since `r_spelling` is a function.
 pub fn replies_are_spelled_once()
     ensures sound { ReadsSpellings r_message_of RSpells }
     ensures complete { ReadsEachSpelling r_message_of RSpells }
     ensures one_message { HasOneMessage RSpells }
-    ensures one_spelling { HasOneSpelling RSpells }
     ensures len { (tag : ℕ) (m : RMessage) → length (r_spelling tag m) ≡ 7 + r_len m }
 {}
 
-/// The frames of a byte string begin with what stands at its front, and bytes that come later leave
+/// The frames of a byte string begin with what is at its front, and bytes that come later leave
 /// a whole frame whole and a broken size broken.
 pub fn frames_begin_at_the_front()
     ensures first { (bytes : List ℕ) → BeginsFrames (first_frame bytes) bytes }

@@ -4,7 +4,7 @@ use crate::names::Names;
 use crate::qids::Qids;
 use p9_base::Qid;
 
-/// What a server tells of a file, or a client asks to change, as stat(5). The fields stand in the
+/// What a server tells of a file, or a client asks to change, as stat(5). The fields are in the
 /// order of their bytes.
 #[derive(Clone, Copy, Debug)]
 pub struct Stat<'a> {
@@ -83,7 +83,7 @@ pub enum TMsg<'a> {
         offset: u64,
         count: u32,
     },
-    /// Gives bytes to stand from an offset on, as read(5).
+    /// Gives bytes to be from an offset on, as read(5).
     Write {
         fid: u32,
         offset: u64,

@@ -173,8 +173,8 @@ pub fn put_sized_stat(out: &mut [u8], at: usize, stat: &Stat<'_>) -> usize
     put_stat(out, at, stat)
 }
 
-/// Writes a stat at the front of the buffer, as an entry of a directory's contents, and answers its
-/// length, as read(5) and stat(5). What stands behind it stays.
+/// Writes a stat at the front of the buffer, as an entry of a directory's contents, and returns its
+/// length, as read(5) and stat(5). What follows it stays.
 pub fn write_stat(stat: &Stat<'_>, out: &mut [u8]) -> usize
     requires fits { FitsStat (stat_view stat.now) }
     requires room { stat_len (stat_view stat.now) ≤ length out.old }

@@ -65,7 +65,7 @@ fn put_body(message: &RMsg<'_>, out: &mut [u8]) -> usize
     }
 }
 
-/// Writes a reply with its tag at the front of the buffer, and answers its length. What stands
+/// Writes a reply with its tag at the front of the buffer, and returns its length. What is
 /// behind it stays. The buffer has room for it, and it has a spelling: `size` and `fits` of `RMsg`
 /// tell both.
 pub fn write_r(message: &RMsg<'_>, tag: u16, out: &mut [u8]) -> usize
@@ -79,8 +79,8 @@ pub fn write_r(message: &RMsg<'_>, tag: u16, out: &mut [u8]) -> usize
     end
 }
 
-/// Makes the Rread of the `count` bytes that stand behind the first [`crate::READ_HEADER`] bytes of
-/// the buffer, where its header and count belong, and answers its length. The bytes and what stands
+/// Makes the Rread of the `count` bytes that are behind the first [`crate::READ_HEADER`] bytes of
+/// the buffer, where its header and count belong, and returns its length. The bytes and what is
 /// behind them stay.
 pub fn finish_read(tag: u16, count: u32, out: &mut [u8]) -> usize
     requires size { read_header + count < 2 ^ 32 }

@@ -103,7 +103,7 @@ fn put_body(message: &TMsg<'_>, out: &mut [u8]) -> usize
     }
 }
 
-/// Writes a request with its tag at the front of the buffer, and answers its length. What stands
+/// Writes a request with its tag at the front of the buffer, and returns its length. What is
 /// behind it stays. The buffer has room for it, and it has a spelling: `size` and `fits` of `TMsg`
 /// tell both.
 pub fn write_t(message: &TMsg<'_>, tag: u16, out: &mut [u8]) -> usize

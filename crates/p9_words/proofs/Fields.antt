@@ -112,7 +112,7 @@ index-law i rest few =
       mark-law 58 expected.Colon (58 ∷ rest) rest (skip-none (58 ∷ rest) refl),
     ) refl
 
--- what stands behind an index
+-- what follows an index
 item-law : (item : Item) (i : ℕ) (text rest : List ℕ) → index_at i text ≡ Ok rest
     → indexed_at item i text ≡ item_at item rest
 unfolding indexed_at
@@ -130,7 +130,7 @@ pub items-ends : {A : Type 0} (f : A → List ℕ) (i : ℕ) (xs : List A) (rest
 items-ends f i [] rest e = e
 items-ends f i (x ∷ xs) rest e = refl
 
--- an item that is read wherever its words stand
+-- an item that is read wherever its words are
 abbrev pub IsRead : {A : Type 0} → Item → (A → List ℕ) → (A → List ℕ) → (A → Type 0) → Type 0
 IsRead {A} item f g Good =
     (x : A) (rest : List ℕ) → Good x → ends rest ≡ true → item_at item (f x ++ rest) ≡ Ok (

@@ -7,7 +7,7 @@ use Rattle.std.proofs.lemmas.Bool.{and_parts, or_cases, eqb-true, not-true, not_
 use Rattle.std.proofs.lemmas.Bool.{false_from_ne_true}
 use Rattle.p9_words.specs.Class.{is_blank, skip_blanks}
 
--- what may stand behind a word: nothing, or a blank or a parenthesis first
+-- what may be behind a word: nothing, or a blank or a parenthesis first
 abbrev pub ends : List ℕ → Bool
 ends [] = true
 ends (c ∷ s) = eqb c 32 || eqb c 41

@@ -42,7 +42,7 @@ given-read : (tag : ℕ) (field : Key × Form) (text : List ℕ) (x : List ℕ �
 unfolding given_at
 given-read tag field text x read = rw (next-read field text x read) read
 
--- a field that is read stands before the others
+-- a field that is read is before the others
 one-read : (tag : ℕ) (field : Key × Form) (fields : List (Key × Form)) (bytes text : List ℕ)
     (x : List ℕ × List ℕ) (r : Result (List ℕ × List ℕ) Fault) → field_at field text ≡ r
     → ((y : List ℕ × List ℕ) → fields_from (bytes ++ y.0) fields y.1 ≡ Ok x

@@ -21,7 +21,7 @@ use Rattle.p9_words.specs.declared.class.Class.TheVariants.{Bare, Unquoted}
 use Rattle.p9_words.proofs.Fronts.{ends, starts, prefix_len-front, prefix_len-ends, starts-front}
 use Rattle.p9_words.proofs.Fronts.{skip-none}
 
--- a quote may not stand behind a word
+-- a quote may not be behind a word
 no-quote : (c : ℕ) (rest : List ℕ) → ends (c ∷ rest) ≡ true → eqb c 39 ≡ false
 no-quote c rest e =
     ne_eqb c 39
@@ -223,7 +223,7 @@ name-law s text rest here bytes e =
     let h : skip_blanks text ≡ shown s ++ rest = here ∙ rw is refl in
     shown-law s text rest h bytes e) (cases_Bool (is_word s))
 
--- a text that fits, read of what stands behind the blanks
+-- a text that fits, read of what follows the blanks
 pub text-law : (s text words rest : List ℕ) → skip_blanks text ≡ words
     → word_at words ≡ Ok (s, rest) → FitsText s → text_at text ≡ Ok (s, rest)
 unfolding text_at

@@ -147,13 +147,13 @@ names-good (n ∷ names) fits bytes = (
   names-good names fits.1 (IsBytes-back (text n) (flat_map text names) bytes),
 )
 
--- the texts of a stat, and what stands behind them
+-- the texts of a stat, and what follows them
 stat-texts : (a b c d n rest : List ℕ)
     → ((a ++ codes " " ++ b ++ codes " " ++ c ++ codes " " ++ d) ++ n) ++ rest
     ≡ a ++ 32 ∷ (b ++ 32 ∷ (c ++ 32 ∷ (d ++ (n ++ rest))))
 stat-texts a b c d n rest = simp append_assoc
 
--- its numbers, and what stands behind them
+-- its numbers, and what follows them
 stat-numbers : (a b c d e f g rest : List ℕ)
     → (a ++ b ++ c ++ d ++ e ++ f ++ g) ++ rest ≡ a ++ (b ++ (c ++ (d ++ (e ++ (f ++ (g ++
     rest))))))

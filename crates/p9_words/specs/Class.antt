@@ -16,7 +16,7 @@ abbrev pub is_bare : ℕ → Bool
 is_bare b =
     nat_lt 32 b && nat_lt b 127 && not (b == 39) && not (b == 40) && not (b == 41)
 
--- a byte that may stand between quotes: no control byte
+-- a byte that may be between quotes: no control byte
 abbrev pub is_shown : ℕ → Bool
 is_shown b = nat_le 32 b && not (b == 127)
 

@@ -1,4 +1,4 @@
--- The words that stand before the fields of a message.
+-- The words that are before the fields of a message.
 use Rattle.std.specs.Prelude.{ℕ, List, codes}
 use Rattle.p9_words.specs.declared.key.Key.{Key}
 use Rattle.p9_words.specs.declared.key.Key.TheVariants.{Tag, Msize, Version, Afid, Uname, Aname}

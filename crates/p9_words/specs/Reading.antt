@@ -39,12 +39,12 @@ abbrev pub ◌>>=◌ : {A B : Type 0} → Result A Fault → (A → Result B Fau
 (Ok x) >>= f = f x
 (Err e) >>= f = Err e
 
--- what the code says of an error is the fault, unless memory was refused
+-- what the code says of an error is the fault, unless an allocation failed
 abbrev pub Fails : {Y : Type 0} → ReadError → Result Y Fault → Type 0
 Fails NoMemory read = Unit {0}
 Fails (Unexpected fault) read = read ≡ Err fault
 
--- what a function returned, seen by view, is what reading gives, unless memory was refused
+-- what a function returned, seen by view, is what reading gives, unless an allocation failed
 abbrev pub Gives : {X Y : Type 0} → (X → Y) → Result X ReadError → Result Y Fault → Type 0
 Gives view (Ok x) read = read ≡ Ok (view x)
 Gives view (Err e) read = Fails e read
@@ -63,7 +63,7 @@ abbrev pub found : {A B : Type 0} → Option A → Expected → List ℕ → (A 
 found None expected text f = missing expected text
 found (Some x) expected text f = f x
 
--- what stands behind a mark, where the text begins with it
+-- what follows a mark, where the text begins with it
 unfoldable pub behind : List ℕ → List ℕ → Option (List ℕ)
 behind mark text =
     if bytes_eq (take (length mark) text) mark then Some (drop (length mark) text) else None
@@ -77,11 +77,11 @@ mark_at mark expected text =
 abbrev pub first_word : List ℕ → List ℕ
 first_word text = take (prefix_len (is_in class.Filled) text) text
 
--- what stands behind it
+-- what follows it
 abbrev pub behind_word : List ℕ → List ℕ
 behind_word text = drop (prefix_len (is_in class.Filled) text) text
 
--- a word that stands before a field, behind blanks
+-- a word that is before a field, behind blanks
 unfoldable pub key_at : Key → List ℕ → Result (List ℕ) Fault
 key_at key text =
     let here = skip_blanks text in
@@ -178,7 +178,7 @@ index_at i text =
     number_at Decimal 16 here >>= λ n.
     if n.0 == i then mark_at (codes ":") expected.Colon n.1 else missing (expected.Index i) here
 
--- the bytes of what stands behind an index
+-- the bytes of what follows an index
 unfoldable pub item_at : Item → Reader (List ℕ)
 item_at item.Name rest = text_at rest >>= λ s. Ok (text s.0, s.1)
 item_at item.Qid rest = qid_at rest >>= λ q. Ok (qid_bytes q.0, q.1)

@@ -1,4 +1,4 @@
--- The words that begin a line, with the fields that stand behind each.
+-- The words that begin a line, with the fields that are behind each.
 use Rattle.std.specs.Prelude.{ℕ, List, [], ◌∷◌, codes}
 use Rattle.p9_words.specs.declared.form.Form.{Form}
 use Rattle.p9_words.specs.declared.form.Form.TheVariants as form
@@ -80,7 +80,7 @@ type_of Rstat = 125
 type_of Twstat = 126
 type_of Rwstat = 127
 
--- what stands behind the tag, in order: the word before each field, and what it holds
+-- what follows the tag, in order: the word before each field, and what it holds
 abbrev pub fields_of : Verb → List (Key × Form)
 fields_of Tversion = (key.Msize, form.Number U32) ∷ (key.Version, form.Text) ∷ []
 fields_of Rversion = (key.Msize, form.Number U32) ∷ (key.Version, form.Text) ∷ []

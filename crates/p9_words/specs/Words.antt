@@ -46,7 +46,7 @@ octal_words n = codes "0" ++ number_words Octal n
 abbrev pub is_printable : List ℕ → Bool
 is_printable s = is_utf8 s && list_all is_shown s
 
--- a byte between quotes: a quote stands there twice
+-- a byte between quotes: a quote is there twice
 abbrev pub between_quotes : ℕ → List ℕ
 between_quotes b = if b == 39 then 39 ∷ 39 ∷ [] else b ∷ []
 
@@ -76,7 +76,7 @@ qid_words q =
     codes "(" ++ number_words Hexadecimal q.path ++ codes " " ++ number_words Decimal q.version
     ++ codes " " ++ number_words Hexadecimal q.kind ++ codes ")"
 
--- an index, a colon, and what stands behind it
+-- an index, a colon, and what follows it
 abbrev pub item_words : {A : Type 0} → (A → List ℕ) → ℕ → A → List ℕ
 item_words f i x = codes " " ++ number_words Decimal i ++ codes ":" ++ f x
 
@@ -89,7 +89,7 @@ items_words f i (x ∷ xs) = item_words f i x ++ items_words f (i + 1) xs
 abbrev pub several_words : {A : Type 0} → (A → List ℕ) → List A → List ℕ
 several_words f xs = number_words Decimal (length xs) ++ items_words f 0 xs
 
--- a word and what stands behind it
+-- a word and what follows it
 abbrev pub keyed : Key → List ℕ → List ℕ
 keyed key words = codes " " ++ key_text key ++ codes " " ++ words
 

@@ -1,4 +1,4 @@
-//! Fields put behind the bytes of a frame. Where memory is refused, a part of a field may stand
+//! Fields put behind the bytes of a frame. Where an allocation fails, a part of a field may be
 //! there.
 
 ghost use Rattle.std.specs.Prelude.{◌≡◌, ◌≤◌, ◌<◌, ◌-◌, ◌^◌, ◌++◌, OnOk, length};

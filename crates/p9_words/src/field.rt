@@ -91,7 +91,7 @@ fn counted_bytes<A: Allocator + Copy>(alloc: A, data: &[u8]) -> Result<Vec<u8, A
     Ok(bytes)
 }
 
-// The bytes of what stands behind an index.
+// The bytes of what follows an index.
 #[tactic(auto, unfolding(crate::specs::Reading::item_at))]
 fn take_item<A: Allocator + Copy>(
     alloc: A,

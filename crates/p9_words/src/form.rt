@@ -56,7 +56,7 @@ impl Base {
     }
 }
 
-/// What a field of a message holds, and so how it stands in words and in bytes.
+/// What a field of a message holds, and so how it is in words and in bytes.
 #[derive(Clone, Copy, Debug, PartialEq, Eq)]
 pub enum Form {
     /// A number, in decimal digits.
@@ -77,7 +77,7 @@ pub enum Form {
     Stat,
 }
 
-/// What stands behind an index in a list.
+/// What follows an index in a list.
 #[derive(Clone, Copy, Debug, PartialEq, Eq)]
 pub enum Item {
     Name,

@@ -1,9 +1,9 @@
-//! The words that stand before the fields of a message.
+//! The words that are before the fields of a message.
 
 ghost use Rattle.std.specs.Prelude.{◌≡◌};
 ghost use Rattle.p9_words.specs.Key.{key_text};
 
-/// A word that stands before a field of a message, or of a stat.
+/// A word that is before a field of a message, or of a stat.
 #[derive(Clone, Copy, Debug, PartialEq, Eq)]
 pub enum Key {
     Tag,

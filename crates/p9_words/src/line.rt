@@ -17,7 +17,7 @@ use p9_base::NoMemory;
 use std::alloc::Allocator;
 
 /// The frame of the message that a line says, in the words that [`crate::print_request`] and
-/// [`crate::print_reply`] print. Any number of blanks and tabs may stand before and behind a word.
+/// [`crate::print_reply`] print. Any number of blanks and tabs may be before and behind a word.
 /// docs/WORDS.md has the grammar.
 ///
 /// [`WordsError::Unexpected`] tells the first place where something else was expected, and

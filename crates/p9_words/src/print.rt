@@ -1,5 +1,5 @@
-//! Values in words, printed behind what is there. Where memory is refused, a part of a word may
-//! stand there.
+//! Values in words, printed behind what is there. Where an allocation fails, a part of a word may
+//! are there.
 
 ghost use Rattle.std.specs.Prelude.{◌≡◌, ◌==◌, ◌&&◌, ◌++◌, OnOk, codes, length, not};
 ghost use Rattle.std.specs.List.{flat_map, list_all};
@@ -68,7 +68,7 @@ fn print_quoted<A: Allocator + Copy>(text: &[u8], out: &mut Vec<u8, A>) -> Resul
     Ok(())
 }
 
-// The bytes between quotes, where a quote stands twice.
+// The bytes between quotes, where a quote is twice.
 fn print_between<A: Allocator + Copy>(text: &[u8], out: &mut Vec<u8, A>) -> Result<(), NoMemory>
     ensures { OnOk result (out.new.items ≡ out.old.items ++ flat_map between_quotes text.now) }
 {

@@ -1,4 +1,4 @@
-//! The words that begin a line, with the fields that stand behind each.
+//! The words that begin a line, with the fields that are behind each.
 
 ghost use Rattle.std.specs.Prelude.{◌≡◌, codes};
 ghost use Rattle.p9_words.specs.Verb.{fields_of, type_of, verb_text};

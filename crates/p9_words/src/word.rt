@@ -24,7 +24,7 @@ use p9_base::is_text;
 use std::alloc::Allocator;
 use std::str::from_utf8;
 
-/// What stands behind a mark, where the text begins with it.
+/// What follows a mark, where the text begins with it.
 #[tactic(auto, unfolding(crate::specs::Reading::behind))]
 pub fn behind<'a>(mark: &[u8], text: &'a [u8]) -> Option<&'a [u8]>
     ensures { option_map (λ x. x.now) result ≡ behind mark.now text.now }

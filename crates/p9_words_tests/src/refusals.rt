@@ -8,7 +8,7 @@ use std::alloc::Allocator;
 use std::process::Abort;
 use std::test::Fail;
 
-// Reads a line; where memory is refused, it says so.
+// Reads a line; where an allocation fails, it says so.
 fn reads<A: Allocator + Copy>(rt: &impl Abort, alloc: A, line: &str, frame: &[u8]) -> bool {
     match read_words(alloc, line) {
         Ok(read) => {
@@ -22,7 +22,8 @@ fn reads<A: Allocator + Copy>(rt: &impl Abort, alloc: A, line: &str, frame: &[u8
     }
 }
 
-// Prints the message of a frame behind a letter; where memory is refused, the letter is all there is.
+// Prints the message of a frame behind a letter; where an allocation fails, the letter is all there
+// is.
 fn prints<A: Allocator + Copy>(rt: &impl Abort, alloc: A, line: &str, frame: &[u8]) -> bool {
     let mut out = Vec::new(alloc);
     if out.push(b'>').is_err() {

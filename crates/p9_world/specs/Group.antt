@@ -28,7 +28,7 @@ group_line name leader members w =
       groups = with_group name (record { leader = leader; members = members }) w.groups;
     }))))
 
--- an error of a reader of users: one of them is none, or memory is refused
+-- an error of a reader of users: one of them is none, or an allocation fails
 abbrev pub IsBadUser : LineError → Bool → Type 0
 IsBadUser (Bad fault) valid = (fault ≡ BadUser) × (valid ≡ false)
 IsBadUser NoMemory valid = Unit {0}

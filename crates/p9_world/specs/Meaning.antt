@@ -5,7 +5,7 @@ use Rattle.p9_world.specs.declared.error.LineError.{LineError}
 use Rattle.p9_world.specs.declared.error.LineError.TheVariants.{Bad, NoMemory}
 
 -- What a function that reads a line has to do: what it makes of the old value is the line's
--- meaning, and a fault or want of memory leaves the value.
+-- meaning, and at a fault or a failed allocation the value is unchanged.
 abbrev pub Makes : {D X : Type 0} → Result X LineFault → X → X → Result D LineError → Type 0
 Makes meaning old new (Ok done) = meaning ≡ Ok new
 Makes meaning old new (Err (Bad fault)) = (meaning ≡ Err fault) × (new ≡ old)

@@ -1,4 +1,4 @@
--- Where texts stand in a list, by an index of the texts.
+-- Where texts are in a list, by an index of the texts.
 use Rattle.std.specs.Prelude.{◌≡◌, ℕ, List, Option, Some, position}
 use Rattle.std.specs.BTreeMap.{get_by_text}
 use Rattle.std.specs.Map.{update}

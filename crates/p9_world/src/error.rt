@@ -8,7 +8,7 @@ use std::alloc::{AllocError, AllocFailed};
 use thiserror::Error;
 
 /// What is wrong with a line of a world's text. Where several faults apply, the line has the one
-/// that stands first here.
+/// that is first here.
 #[derive(Clone, Copy, Debug, PartialEq, Eq, Error)]
 pub enum LineFault {
     /// The first word names no operation.
@@ -17,7 +17,7 @@ pub enum LineFault {
     /// The operation takes another number of words.
     #[error("wrong number of words")]
     WordCount,
-    /// A file or directory stands before the first server, a directory of an unknown server is to
+    /// A file or directory is before the first server, a directory of an unknown server is to
     /// be hidden, or the whole text has no server.
     #[error("no server")]
     NoServer,
@@ -40,7 +40,7 @@ pub enum LineFault {
     /// A file has more bytes than [`p9_tree::FILE_MAX`].
     #[error("file too large")]
     TooLarge,
-    /// No earlier line makes the directory in which a new file or directory is to stand; or what is
+    /// No earlier line makes the directory in which a new file or directory is to be; or what is
     /// to be hidden is no directory.
     #[error("no such directory")]
     NoParent,
@@ -82,7 +82,7 @@ pub enum WorldError {
     /// the whole text.
     #[error("line {line}: {kind}")]
     BadWorld { line: u64, kind: LineFault },
-    /// Memory was refused.
+    /// An allocation failed.
     #[error("out of memory")]
     NoMemory,
 }
@@ -109,7 +109,7 @@ impl From<AllocError> for WorldError {
     }
 }
 
-/// Why a line makes no change: what is wrong with it, or want of memory.
+/// Why a line makes no change: what is wrong with it, or a failed allocation.
 #[derive(Clone, Copy, Debug, PartialEq, Eq)]
 pub(crate) enum LineError {
     Bad(LineFault),

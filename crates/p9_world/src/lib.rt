@@ -1,7 +1,7 @@
 //! A user's own world: a text that describes servers, their trees, users, groups, hidden
 //! directories and variables, and the world that its lines make.
 //!
-//! [`read_world`] reads it. Each operation stands in a module of its own, and the definition of
+//! [`read_world`] reads it. Each operation is in a module of its own, and the definition of
 //! what it means in the file of `specs/` beside it.
 #![tactic(auto, unfolding(p9_base::specs::Results::need, p9_base::specs::Results::given))]
 

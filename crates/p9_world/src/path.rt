@@ -9,7 +9,7 @@ use p9_tree::Tree;
 use std::alloc::Allocator;
 
 /// The names along a cleaned path, or `None` where it doesn't begin with a slash or has a name that
-/// no file may have. The root has none. The only error is want of memory.
+/// no file may have. The root has none. The only error is a failed allocation.
 pub(crate) fn names_of<A: Allocator + Copy>(
     alloc: A,
     path: &str,

@@ -1,4 +1,4 @@
-//! Where texts stand in a list.
+//! Where texts are in a list.
 
 ghost use Rattle.std.specs.Prelude.{◌≡◌, [], OnErr, OnOk, is_some};
 ghost use Rattle.p9_world.specs.Positions.{HasSame, Indexes, Places, position_at};

@@ -28,7 +28,7 @@ use std::alloc::Allocator;
 ///
 /// The first bad line, and the first fault of [`LineFault`] that it has, is
 /// [`WorldError::BadWorld`]. A text without bad lines and without a server is that too, with the
-/// line 0 and [`LineFault::NoServer`]. Want of memory is [`WorldError::NoMemory`].
+/// line 0 and [`LineFault::NoServer`]. A failed allocation is [`WorldError::NoMemory`].
 pub fn read_world<T: Tree>(alloc: T::Alloc, text: &str) -> Result<World<T>, WorldError>
     ensures ok { IfOk result (λ world. world_of text.now ≡ Ok world) }
     ensures err { IfErr result (λ error. Tells error (world_of text.now)) }

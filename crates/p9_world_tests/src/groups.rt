@@ -106,7 +106,7 @@ fn the_example_of_the_guide_has_its_groups(rt: HostRuntime) -> Result<(), Fail> 
     Ok(())
 }
 
-// Reads the groups, again where memory was refused.
+// Reads the groups, again where an allocation failed.
 fn read_again(rt: &impl Abort, telling: Global, memory: &Refusing<Global>) {
     let world = match read_world::<PlainTree<&Refusing<Global>>>(memory, TEXT) {
         Ok(world) => world,

@@ -1,5 +1,5 @@
 use Rattle.p9_inside.proofs.Forests.{keeps_next}
 use Rattle.p9_inside.proofs.lookups.outer_keeps_next.Goals as goal
 
-pub returns-clause-forest : goal.returns-clause-forest
-returns-clause-forest c = keeps_next
+pub returns : goal.returns
+returns c = keeps_next

@@ -1,5 +1,5 @@
 use Rattle.p9_inside.proofs.Forests.{inside_by_parent}
 use Rattle.p9_inside.proofs.meaning.inside_by_parent.Goals as goal
 
-pub returns-clause-forest : goal.returns-clause-forest
-returns-clause-forest c = inside_by_parent
+pub returns : goal.returns
+returns c = inside_by_parent

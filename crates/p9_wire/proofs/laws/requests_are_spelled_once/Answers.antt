@@ -1,4 +1,4 @@
-use Rattle.std.proofs.Common.{ℕ, ◌+◌, ap, sym, ◌∙◌}
+use Rattle.std.proofs.Common.{ℕ, ◌+◌, ap, ◌∙◌}
 use Rattle.p9_wire.specs.Spelling.{t_type, t_body, t_spelling}
 use Rattle.p9_wire.proofs.Lengths.{length-frame, length-t_body}
 use Rattle.p9_wire.proofs.Framing.{one_tag, one_message}
@@ -15,9 +15,6 @@ pub returns-clause-one_message : goal.returns-clause-one_message
 returns-clause-one_message c =
     λ bytes s t m n p q.
     (one_tag t-decides bytes s t m n p q, one_message t-decides bytes s t m n p q)
-
-pub returns-clause-one_spelling : goal.returns-clause-one_spelling
-returns-clause-one_spelling c = λ bytes others tag m p q. p.whole ∙ sym q.whole
 
 pub returns-clause-len : goal.returns-clause-len
 unfolding t_spelling
