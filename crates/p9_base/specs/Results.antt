@@ -15,9 +15,9 @@ unfoldable pub need : {X E : Type 0} → Bool → E → Result X E → Result X 
 need test error rest = if test then rest else Err error
 
 -- goes on with the value, where there is one
-unfoldable pub given : {X Y E : Type 0} → Option X → E → (X → Result Y E) → Result Y E
-given None error rest = Err error
-given (Some x) error rest = rest x
+unfoldable pub obtain : {X Y E : Type 0} → Option X → E → (X → Result Y E) → Result Y E
+obtain None error rest = Err error
+obtain (Some x) error rest = rest x
 
 -- goes on where there is no error
 unfoldable pub unless : {X E : Type 0} → Option E → Result X E → Result X E

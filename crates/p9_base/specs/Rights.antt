@@ -19,13 +19,13 @@ rights_cover given wanted =
 
 -- a right is given by the owner's bits to the owner, by the group's to its members, by the others'
 -- to everybody
-abbrev pub is_given : (Rights → Bool) → Permissions → Bool → Bool → Bool
-is_given right p owner member =
+abbrev pub has_right : (Rights → Bool) → Permissions → Bool → Bool → Bool
+has_right right p owner member =
     (owner && right p.owner) || ((member && right p.group) || right p.others)
 
 -- each right that is wanted is given, by whichever class
 abbrev pub is_granted : Permissions → Bool → Bool → Rights → Bool
 is_granted p owner member wanted =
-    (is_given (λ r. r.read) p owner member || not wanted.read)
-    && (is_given (λ r. r.write) p owner member || not wanted.write)
-    && (is_given (λ r. r.execute) p owner member || not wanted.execute)
+    (has_right (λ r. r.read) p owner member || not wanted.read)
+    && (has_right (λ r. r.write) p owner member || not wanted.write)
+    && (has_right (λ r. r.execute) p owner member || not wanted.execute)

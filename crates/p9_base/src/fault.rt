@@ -1,7 +1,7 @@
 //! The faults that a reply can name, each with its number and its text.
 
 ghost use Rattle.std.specs.Prelude.{◌≡◌, ◌≤◌, IsTrue, length};
-ghost use Rattle.p9_base.specs.Fault.{fault_text_max, number_of, text_of};
+ghost use Rattle.p9_base.specs.Fault.{fault_text_max, fault_number, text_of};
 ghost use Rattle.p9_base.specs.Text.{is_text};
 
 use crate::memory::NoMemory;
@@ -106,7 +106,7 @@ pub enum Fault {
 impl Fault {
     /// The fault's number, from 1 to 30 in the order above.
     pub fn number(self) -> u8
-        ensures { result ≡ number_of self }
+        ensures { result ≡ fault_number self }
     {
         self as u8 + 1
     }

@@ -10,7 +10,7 @@ use Rattle.p9_world.specs.World.{World}
 use Rattle.p9_world.specs.Read.{world_of}
 use Rattle.p9_nsfile.specs.Line.{BadLineOf}
 use Rattle.p9_nsfile.specs.Run.{run_of}
-use Rattle.p9_nsfile.specs.Setting.{Setting}
+use Rattle.p9_nsfile.specs.Environment.{Environment}
 use Rattle.p9_nsfile.specs.Space.{Report}
 use Rattle.p9_step.specs.State.{State}
 use Rattle.p9_commands.specs.Refusal.{or_refused}
@@ -25,8 +25,8 @@ pub record NameSpace : Type 0 where
   pub reports : List Report
 
 -- what a namespace file is run in
-abbrev pub setting_of : World → Setting
-setting_of world = record { forest = world.forest; vars = world.vars; servers = world.servers }
+abbrev pub environment_of : World → Environment
+environment_of world = record { forest = world.forest; vars = world.vars; servers = world.servers }
 
 -- the world of a section; where it isn't there the sample world
 abbrev pub world_in : Option (List ℕ) → Result World Refusal
@@ -44,7 +44,7 @@ name_space world ran = record { world = world; table = ran.0; reports = ran.1 }
 -- the text of a namespace section is run over an empty table
 abbrev pub space_over : List ℕ → World → Result NameSpace Refusal
 space_over text world =
-    and_then (or_bad_operation (run_of (setting_of world) text []))
+    and_then (or_bad_operation (run_of (environment_of world) text []))
     (λ ran. Ok (name_space world ran))
 
 -- the name space of the sections of a world and of a namespace file, or the first reason against it

@@ -10,7 +10,7 @@ ghost use Rattle.p9_guard.specs.Guard.{new_guard};
 ghost use Rattle.p9_commands.specs.Judgement.{IsTold, SaysNo, SaysYes, verified_status};
 ghost use Rattle.p9_commands.specs.Judgement.{verified_text};
 ghost use Rattle.p9_commands.specs.Listing.{table_text};
-ghost use Rattle.p9_commands.specs.NameSpace.{exported, gap_over, or_bad_operation, setting_of};
+ghost use Rattle.p9_commands.specs.NameSpace.{exported, gap_over, or_bad_operation, environment_of};
 ghost use Rattle.p9_commands.specs.NameSpace.{space_in, space_over, world_in};
 ghost use Rattle.p9_commands.specs.Refusal.{IsStop, IsUnverified};
 ghost use Rattle.p9_commands.specs.Report.{reports_text};
@@ -193,10 +193,10 @@ fn run<T: Tree>(
     table: &mut MountTable<T::Alloc>,
 ) -> Result<Vec<(u64, OpFault), T::Alloc>, Stop>
     ensures ok { IfOk result (λ reports.
-        run_of (setting_of world.now) text.now table.old ≡ Ok (table.new, reports.items)) }
+        run_of (environment_of world.now) text.now table.old ≡ Ok (table.new, reports.items)) }
     ensures stop { IfErr result (IsStop (or_bad_operation (run_of
-        (setting_of world.now) text.now table.old))) }
-    ensures given { OnOk result (KeepsGiven (setting_of world.now) table.old table.new) }
+        (environment_of world.now) text.now table.old))) }
+    ensures given { OnOk result (KeepsGiven (environment_of world.now) table.old table.new) }
 {
     match run_file(
         alloc,

@@ -9,7 +9,7 @@ use Rattle.p9_wire.specs.declared.frame.Frame.{Frame}
 use Rattle.p9_wire.specs.declared.frame.Frame.TheVariants.{Need, Whole, Broken}
 use Rattle.p9_step.specs.Event.{IsEvent}
 use Rattle.p9_step.specs.State.{State}
-use Rattle.p9_conn.specs.Turn.{Answers, Deeds, Ends, Entry, IsIdle, IsStep, IsTurn, Link, Over}
+use Rattle.p9_conn.specs.Turn.{Answers, Deeds, Ends, Answered, IsIdle, IsStep, IsTurn, Link, Over}
 use Rattle.p9_conn.specs.Turn.{Receives, Scene, Sending, Sends, TurnBy, phase_by}
 use Rattle.p9_conn.specs.History.{Happening, Happens, Links, events_of, frames_in, replies_of}
 use Rattle.p9_conn.specs.Laws.{IsRun}
@@ -18,27 +18,27 @@ use Rattle.p9_conn.specs.Laws.{IsRun}
 pub record IsTaken (buffer : List ℕ) (deeds : Deeds) (left : List ℕ) : Type 0 where
   pub size : ℕ
   pub whole : first_frame buffer ≡ Whole size
-  pub frame : frames_in deeds.entries ≡ take size buffer ∷ []
+  pub frame : frames_in deeds.answered ≡ take size buffer ∷ []
   pub no_read : deeds.read ≡ []
   pub rest : left ≡ drop size buffer
 
 -- no frame was, and what was read is in the buffer
 pub record IsGathered (buffer : List ℕ) (deeds : Deeds) (left : List ℕ) : Type 0 where
-  pub none : frames_in deeds.entries ≡ []
+  pub none : frames_in deeds.answered ≡ []
   pub behind : buffer ++ deeds.read ≡ left
 
 pub record Common (old new : Scene) (deeds : Deeds) : Type 0 where
-  pub out : old.link.pending ++ concat (replies_of deeds.entries)
+  pub out : old.link.pending ++ concat (replies_of deeds.answered)
       ≡ deeds.written ++ new.link.pending
-  pub is_run : IsRun old.state deeds.entries new.state
-  pub fine : AllByRecursion (λ event. IsEvent event.0) (events_of deeds.entries)
+  pub is_run : IsRun old.state deeds.answered new.state
+  pub fine : AllByRecursion (λ event. IsEvent event.0) (events_of deeds.answered)
   pub comes : IsGathered old.link.buffer deeds new.link.buffer
       ⊎ IsTaken old.link.buffer deeds new.link.buffer
 
 no-run : (state : State) → IsRun state [] state
 no-run state = record { permitted = refl; state_is = refl; replies_are = refl }
 
-one-run : (entry : Entry) (old new : State) → IsStep entry old new → IsRun old (entry ∷ []) new
+one-run : (entry : Answered) (old new : State) → IsStep entry old new → IsRun old (entry ∷ []) new
 one-run entry old new step = record {
   permitted = step.permitted;
   state_is = step.state_is;

@@ -10,7 +10,7 @@ use Rattle.p9_step.specs.Step.{Marked, run, step}
 use Rattle.p9_step.proofs.Steps.{run-goes-on}
 use Rattle.p9_guard.specs.Marks.{are_permitted, may_be_refused}
 use Rattle.p9_guard.proofs.Promises.{promised}
-use Rattle.p9_conn.specs.Turn.{Entry}
+use Rattle.p9_conn.specs.Turn.{Answered}
 use Rattle.p9_conn.specs.History.{Happening, Links, Runs, events_of, history, replies_of}
 use Rattle.p9_conn.specs.Laws.{HistoryIsPromised, HistoryIsRun, IsRun}
 use Rattle.p9_conn.proofs.Facts.{turned}
@@ -26,16 +26,16 @@ permitted-both state (e ∷ events) others first later =
     rw (parts.0) (permitted-both (step state e.0 e.1).state events others parts.1 later)
 
 -- a run, and another behind it
-both : (old mid new : State) (entries others : List Entry) → IsRun old entries mid
-    → IsRun mid others new → IsRun old (entries ++ others) new
-both old mid new entries others first later =
-    let on = run-goes-on old (events_of entries) (events_of others) in
-    let split : events_of (entries ++ others) ≡ events_of entries ++ events_of others =
-    map-append (λ (entry : Entry). entry.event) entries others in
+both : (old mid new : State) (answered others : List Answered) → IsRun old answered mid
+    → IsRun mid others new → IsRun old (answered ++ others) new
+both old mid new answered others first later =
+    let on = run-goes-on old (events_of answered) (events_of others) in
+    let split : events_of (answered ++ others) ≡ events_of answered ++ events_of others =
+    map-append (λ (entry : Answered). entry.event) answered others in
     record {
       permitted =
           rw split
-          (permitted-both old (events_of entries) (events_of others) first.permitted
+          (permitted-both old (events_of answered) (events_of others) first.permitted
           (rw (← first.state_is) later.permitted));
       state_is =
           rw split
@@ -43,9 +43,9 @@ both old mid new entries others first later =
           ∙ sym on.state_is);
       replies_are =
           rw split
-          (map-append (λ (entry : Entry). entry.reply) entries others
+          (map-append (λ (entry : Answered). entry.reply) answered others
           ∙ ap (λ (zs : List (List ℕ)). zs ++ replies_of others) first.replies_are
-          ∙ ap (λ (zs : List (List ℕ)). (run old (events_of entries)).replies ++ zs)
+          ∙ ap (λ (zs : List (List ℕ)). (run old (events_of answered)).replies ++ zs)
           (later.replies_are
           ∙ ap (λ (s : State). (run s (events_of others)).replies) first.state_is)
           ∙ sym on.replies_are);
@@ -58,7 +58,7 @@ history-is-run (h ∷ hs) links links' state state' runs =
     let between = runs.0 in
     let mid = runs.1 in
     let its = turned h links between state mid runs.2 in
-    both state mid state' h.deeds.entries (history hs) its.is_run
+    both state mid state' h.deeds.answered (history hs) its.is_run
     (history-is-run hs between links' mid state' runs.3)
 
 -- events that can happen, and others
@@ -74,8 +74,8 @@ fine : (hs : List Happening) (links links' : Links) (state state' : State)
 fine [] links links' state state' runs = tt
 fine (h ∷ hs) links links' state state' runs =
     let its = turned h links runs.0 state runs.1 runs.2 in
-    rw (map-append (λ (entry : Entry). entry.event) h.deeds.entries (history hs))
-    (fine-both (events_of h.deeds.entries) (events_of (history hs)) its.fine
+    rw (map-append (λ (entry : Answered). entry.event) h.deeds.answered (history hs))
+    (fine-both (events_of h.deeds.answered) (events_of (history hs)) its.fine
     (fine hs runs.0 links' runs.1 state' runs.3))
 
 pub history-is-promised : HistoryIsPromised

@@ -10,7 +10,7 @@ use Rattle.std.specs.List.{concat}
 use Rattle.p9_wire.specs.Frame.{Next, first_frame, frames}
 use Rattle.p9_wire.specs.declared.frame.Frame.TheVariants.{Need, Whole}
 use Rattle.p9_wire.proofs.Streams.{begins_frames_as, first_frame-append, first_frame-whole}
-use Rattle.p9_conn.specs.Turn.{Deeds, Entry, Link}
+use Rattle.p9_conn.specs.Turn.{Deeds, Answered, Link}
 use Rattle.p9_conn.specs.History.{frame_in, frames_in, history_by}
 use Rattle.p9_conn.specs.History.{read_by, replies_of, written_by}
 use Rattle.p9_conn.specs.Laws.{ComeInOrder, FramesComeInOrder, RepliesGoOut}
@@ -22,35 +22,35 @@ concat-append (xs ∷ xss) yss =
     ap (λ (zs : List ℕ). xs ++ zs) (concat-append xss yss)
     ∙ sym (append_assoc xs (concat xss) (concat yss))
 
-frames_in-append : (entries others : List Entry)
-    → frames_in (entries ++ others) ≡ frames_in entries ++ frames_in others
+frames_in-append : (answered others : List Answered)
+    → frames_in (answered ++ others) ≡ frames_in answered ++ frames_in others
 frames_in-append [] others = refl
-frames_in-append (entry ∷ entries) others =
-    ap (λ (zs : List (List ℕ)). frame_in entry.event.0 ++ zs) (frames_in-append entries others)
-    ∙ sym (append_assoc (frame_in entry.event.0) (frames_in entries) (frames_in others))
+frames_in-append (entry ∷ answered) others =
+    ap (λ (zs : List (List ℕ)). frame_in entry.event.0 ++ zs) (frames_in-append answered others)
+    ∙ sym (append_assoc (frame_in entry.event.0) (frames_in answered) (frames_in others))
 
 -- One turn, and frames behind it.
 
 -- nothing was taken out
-gathered : (buffer more left end : List ℕ) (deeds : Deeds) (others : List Entry)
+gathered : (buffer more left end : List ℕ) (deeds : Deeds) (others : List Answered)
     → IsGathered buffer deeds left → ComeInOrder (frames_in others) (left ++ more) end
-    → ComeInOrder (frames_in (deeds.entries ++ others)) (buffer ++ (deeds.read ++ more)) end
+    → ComeInOrder (frames_in (deeds.answered ++ others)) (buffer ++ (deeds.read ++ more)) end
 gathered buffer more left end deeds others t later =
-    let same : frames_in (deeds.entries ++ others) ≡ frames_in others =
-    frames_in-append deeds.entries others
+    let same : frames_in (deeds.answered ++ others) ≡ frames_in others =
+    frames_in-append deeds.answered others
     ∙ ap (λ (zs : List (List ℕ)). zs ++ frames_in others) t.none in
     let bytes : buffer ++ (deeds.read ++ more) ≡ left ++ more =
     sym (append_assoc buffer deeds.read more) ∙ ap (λ (zs : List ℕ). zs ++ more) t.behind in
     rw (same, bytes) later
 
 -- a frame was
-taken : (buffer more left end : List ℕ) (deeds : Deeds) (others : List Entry)
+taken : (buffer more left end : List ℕ) (deeds : Deeds) (others : List Answered)
     → IsTaken buffer deeds left → ComeInOrder (frames_in others) (left ++ more) end
-    → ComeInOrder (frames_in (deeds.entries ++ others)) (buffer ++ (deeds.read ++ more)) end
+    → ComeInOrder (frames_in (deeds.answered ++ others)) (buffer ++ (deeds.read ++ more)) end
 taken buffer more left end deeds others t later =
     let size = t.size in
-    let same : frames_in (deeds.entries ++ others) ≡ take size buffer ∷ frames_in others =
-    frames_in-append deeds.entries others
+    let same : frames_in (deeds.answered ++ others) ≡ take size buffer ∷ frames_in others =
+    frames_in-append deeds.answered others
     ∙ ap (λ (zs : List (List ℕ)). zs ++ frames_in others) t.frame in
     let bytes : buffer ++ (deeds.read ++ more) ≡ buffer ++ more =
     ap (λ (zs : List ℕ). buffer ++ (zs ++ more)) t.no_read in
@@ -75,21 +75,21 @@ taken buffer more left end deeds others t later =
           ∙ sym (append_assoc (take size buffer) (concat (frames_in others)) end);
     })
 
-one : (buffer more left end : List ℕ) (deeds : Deeds) (others : List Entry)
+one : (buffer more left end : List ℕ) (deeds : Deeds) (others : List Answered)
     → (IsGathered buffer deeds left ⊎ IsTaken buffer deeds left)
     → ComeInOrder (frames_in others) (left ++ more) end
-    → ComeInOrder (frames_in (deeds.entries ++ others)) (buffer ++ (deeds.read ++ more)) end
+    → ComeInOrder (frames_in (deeds.answered ++ others)) (buffer ++ (deeds.read ++ more)) end
 one buffer more left end deeds others (inl t) later =
     gathered buffer more left end deeds others t later
 one buffer more left end deeds others (inr t) later =
     taken buffer more left end deeds others t later
 
 -- the same of a turn that may be another session's
-one-of : (mine : Bool) (buffer more left end : List ℕ) (deeds : Deeds) (others : List Entry)
+one-of : (mine : Bool) (buffer more left end : List ℕ) (deeds : Deeds) (others : List Answered)
     → (mine ≡ true → (IsGathered buffer deeds left ⊎ IsTaken buffer deeds left))
     → (mine ≡ false → left ≡ buffer)
     → ComeInOrder (frames_in others) (left ++ more) end
-    → ComeInOrder (frames_in ((if mine then deeds.entries else []) ++ others))
+    → ComeInOrder (frames_in ((if mine then deeds.answered else []) ++ others))
     (buffer ++ ((if mine then deeds.read else []) ++ more)) end
 one-of true buffer more left end deeds others turned same later =
     one buffer more left end deeds others (turned refl) later
@@ -116,27 +116,27 @@ frames-come-in-order (h ∷ hs) links links' state state' runs session =
 -- Replies.
 
 -- a turn, and replies behind it
-goes-out : (pending left end later : List ℕ) (deeds : Deeds) (others : List Entry)
-    → pending ++ concat (replies_of deeds.entries) ≡ deeds.written ++ left
+goes-out : (pending left end later : List ℕ) (deeds : Deeds) (others : List Answered)
+    → pending ++ concat (replies_of deeds.answered) ≡ deeds.written ++ left
     → left ++ concat (replies_of others) ≡ later ++ end
-    → pending ++ concat (replies_of (deeds.entries ++ others)) ≡ (deeds.written ++ later) ++ end
+    → pending ++ concat (replies_of (deeds.answered ++ others)) ≡ (deeds.written ++ later) ++ end
 goes-out pending left end later deeds others here behind =
-    let a = concat (replies_of deeds.entries) in
+    let a = concat (replies_of deeds.answered) in
     let b = concat (replies_of others) in
     ap (λ (zs : List (List ℕ)). pending ++ concat zs)
-    (map-append (λ (entry : Entry). entry.reply) deeds.entries others)
+    (map-append (λ (entry : Answered). entry.reply) deeds.answered others)
     ∙ ap (λ (zs : List ℕ). pending ++ zs)
-    (concat-append (replies_of deeds.entries) (replies_of others))
+    (concat-append (replies_of deeds.answered) (replies_of others))
     ∙ sym (append_assoc pending a b) ∙ ap (λ (zs : List ℕ). zs ++ b) here
     ∙ append_assoc deeds.written left b ∙ ap (λ (zs : List ℕ). deeds.written ++ zs) behind
     ∙ sym (append_assoc deeds.written later end)
 
 goes-out-of : (mine : Bool) (pending left end later : List ℕ) (deeds : Deeds)
-    (others : List Entry)
-    → (mine ≡ true → pending ++ concat (replies_of deeds.entries) ≡ deeds.written ++ left)
+    (others : List Answered)
+    → (mine ≡ true → pending ++ concat (replies_of deeds.answered) ≡ deeds.written ++ left)
     → (mine ≡ false → left ≡ pending)
     → left ++ concat (replies_of others) ≡ later ++ end
-    → pending ++ concat (replies_of ((if mine then deeds.entries else []) ++ others))
+    → pending ++ concat (replies_of ((if mine then deeds.answered else []) ++ others))
     ≡ ((if mine then deeds.written else []) ++ later) ++ end
 goes-out-of true pending left end later deeds others out same behind =
     goes-out pending left end later deeds others (out refl) behind
@@ -151,7 +151,7 @@ replies-go-out (h ∷ hs) links links' state state' runs session =
     goes-out-of (h.session == session) (links session).pending (between session).pending
     (links' session).pending (written_by session hs) h.deeds (history_by session hs)
     (λ e. let same : h.session ≡ session = eqb-true h.session session e in
-    subst (λ (s : ℕ). (links s).pending ++ concat (replies_of h.deeds.entries)
+    subst (λ (s : ℕ). (links s).pending ++ concat (replies_of h.deeds.answered)
     ≡ h.deeds.written ++ (between s).pending) same its.out)
     (λ e. ap (λ (l : Link). l.pending)
     (runs.2.others session (λ same. eqb-false h.session session e (sym same))))

@@ -15,7 +15,7 @@ use Rattle.p9_conn.specs.declared.conn.Turn.TheVariants.{Moved, Closed}
 use Rattle.p9_conn.specs.Conn.{ComesTo, Connection, HasTurned, IsAnswered, IsEnded, turn_of}
 use Rattle.p9_conn.specs.Device.{HasRead, HasWritten}
 use Rattle.p9_conn.specs.Turn.{Answering, Deeds, Ending, Link, Receiving, Sending, answering}
-use Rattle.p9_conn.specs.Turn.{closing, made, no_deeds, phase_of}
+use Rattle.p9_conn.specs.Turn.{closing, deeds_of, no_deeds, phase_of}
 use Rattle.p9_conn.proofs.Buffers.{none-appended, none-consumed}
 
 abbrev pub conn : {S : Type 0} → S → ℕ → List ℕ → List ℕ → Bool → Connection S
@@ -26,7 +26,7 @@ conn stream session buffer pending closed = record {
 }
 
 moved : (deeds : Deeds) (closed : Bool) → closed ≡ false
-    → 0 < length deeds.read + length deeds.written + length deeds.entries
+    → 0 < length deeds.read + length deeds.written + length deeds.answered
     → Moved ≡ turn_of deeds closed
 moved deeds closed is_open some = rw is_open (search (rules, some))
 
@@ -44,7 +44,7 @@ module _ {S : Type 0} (remaining contents : S → Option (List ℕ)) (now : ℕ)
       before new after result
   sending buffer pending pending' (Ok zero) w t =
       rw (t.conn_is, t.result_is) (record {
-        deeds = made (closing session now);
+        deeds = deeds_of (closing session now);
         turn = inr (inr (record {
           link_is = ap (λ (p : List ℕ).
               let l : Link = record { buffer = buffer; pending = p; closed = true } in l) w.left;
@@ -58,7 +58,7 @@ module _ {S : Type 0} (remaining contents : S → Option (List ℕ)) (now : ℕ)
       })
   sending buffer pending pending' (Ok (suc n)) w t =
       let long : length (take (suc n) pending) ≡ suc n = length-take-le (suc n) pending w.within in
-      let deeds : Deeds = record { read = []; written = take (suc n) pending; entries = [] } in
+      let deeds : Deeds = record { read = []; written = take (suc n) pending; answered = [] } in
       rw (t.conn_is, t.guard_is, t.result_is) (record {
         deeds = deeds;
         turn = inl (record {
@@ -86,7 +86,7 @@ module _ {S : Type 0} (remaining contents : S → Option (List ℕ)) (now : ℕ)
       })
   sending buffer pending pending' (Err error) w (inr t) =
       rw (t.1.conn_is, t.1.result_is) (record {
-        deeds = made (closing session now);
+        deeds = deeds_of (closing session now);
         turn = inr (inr (record {
           link_is = ap (λ (p : List ℕ).
               let l : Link = record { buffer = buffer; pending = p; closed = true } in l) w.0;
@@ -109,7 +109,7 @@ module _ {S : Type 0} (remaining contents : S → Option (List ℕ)) (now : ℕ)
       let same : buffer' ≡ buffer =
       w.behind ∙ ap (λ (zs : List ℕ). buffer ++ zs) none ∙ append-nil buffer in
       rw (t.conn_is, t.result_is) (record {
-        deeds = made (closing session now);
+        deeds = deeds_of (closing session now);
         turn = inr (inr (record {
           link_is = ap (λ (b : List ℕ).
               let l : Link = record { buffer = b; pending = pending; closed = true } in l) same;
@@ -122,7 +122,7 @@ module _ {S : Type 0} (remaining contents : S → Option (List ℕ)) (now : ℕ)
         result_is = refl;
       })
   receiving buffer buffer' pending (Ok (suc n)) w t =
-      let deeds : Deeds = record { read = w.read; written = []; entries = [] } in
+      let deeds : Deeds = record { read = w.read; written = []; answered = [] } in
       rw (t.conn_is, t.guard_is, t.result_is) (record {
         deeds = deeds;
         turn = inl (record {
@@ -150,7 +150,7 @@ module _ {S : Type 0} (remaining contents : S → Option (List ℕ)) (now : ℕ)
       })
   receiving buffer buffer' pending (Err error) w (inr t) =
       rw (t.1.conn_is, t.1.result_is) (record {
-        deeds = made (closing session now);
+        deeds = deeds_of (closing session now);
         turn = inr (inr (record {
           link_is = ap (λ (b : List ℕ).
               let l : Link = record { buffer = b; pending = pending; closed = true } in l) w.0;
@@ -177,7 +177,7 @@ module _ {S : Type 0} (remaining contents : S → Option (List ℕ)) (now : ℕ)
       rw frame_is at a in
       let entry = answering session (take size buffer) now a'.refused reply in
       rw buffer_is (record {
-        deeds = made entry;
+        deeds = deeds_of entry;
         turn = record {
           refused = a'.refused;
           link_is = refl;
@@ -187,7 +187,7 @@ module _ {S : Type 0} (remaining contents : S → Option (List ℕ)) (now : ℕ)
         stream = refl;
         session_is = refl;
         guard_is = a'.guard_is;
-        result_is = moved (made entry) closed is_open (omega arith);
+        result_is = moved (deeds_of entry) closed is_open (omega arith);
       })
 
   -- it is closed already
@@ -213,7 +213,7 @@ pub broken : {S : Type 0} (remaining contents : S → Option (List ℕ)) (now : 
     → HasTurned remaining contents Ending now old before new after result
 broken remaining contents now before old new after result t =
     rw (t.conn_is, t.result_is) (record {
-      deeds = made (closing old.session now);
+      deeds = deeds_of (closing old.session now);
       turn = record { link_is = refl; stepped = t.stepped; deeds_are = refl };
       stream = refl;
       session_is = refl;

@@ -45,7 +45,7 @@ UsesStream remaining contents Receiving old new deeds =
 abbrev pub turn_of : Deeds → Bool → Turn
 turn_of deeds closed =
     if closed then Closed
-    else (if nat_lt 0 (length deeds.read + length deeds.written + length deeds.entries) then Moved
+    else (if nat_lt 0 (length deeds.read + length deeds.written + length deeds.answered) then Moved
     else Idle)
 
 -- a connection has had a turn in this phase; its stream may tell what is left to read of it and

@@ -3,7 +3,7 @@ use Rattle.std.specs.Prelude.{◌≡◌, ◌≢◌, ℕ, ◌==◌, List, [], ◌
 use Rattle.p9_step.specs.Event.{Event, Close, Message, Open}
 use Rattle.p9_step.specs.State.{State}
 use Rattle.p9_step.specs.Step.{Marked}
-use Rattle.p9_conn.specs.Turn.{Deeds, Entry, IsTurn, Link}
+use Rattle.p9_conn.specs.Turn.{Deeds, Answered, IsTurn, Link}
 
 -- a turn of the connection of a session, at a reading of the clock, and what it did
 pub record Happening : Type 0 where
@@ -31,21 +31,21 @@ Runs (h ∷ hs) links state links' state' =
     × Runs hs between mid links' state'
 
 -- the events of all turns, in order
-abbrev pub history : List Happening → List Entry
+abbrev pub history : List Happening → List Answered
 history [] = []
-history (h ∷ hs) = h.deeds.entries ++ history hs
+history (h ∷ hs) = h.deeds.answered ++ history hs
 
-abbrev pub events_of : List Entry → List Marked
-events_of entries = map (λ entry. entry.event) entries
+abbrev pub events_of : List Answered → List Marked
+events_of answered = map (λ entry. entry.event) answered
 
-abbrev pub replies_of : List Entry → List (List ℕ)
-replies_of entries = map (λ entry. entry.reply) entries
+abbrev pub replies_of : List Answered → List (List ℕ)
+replies_of answered = map (λ entry. entry.reply) answered
 
 -- those of one session's turns, in order
-abbrev pub history_by : ℕ → List Happening → List Entry
+abbrev pub history_by : ℕ → List Happening → List Answered
 history_by session [] = []
 history_by session (h ∷ hs) =
-    (if h.session == session then h.deeds.entries else []) ++ history_by session hs
+    (if h.session == session then h.deeds.answered else []) ++ history_by session hs
 
 -- what one session's connection read, and what it wrote
 abbrev pub read_by : ℕ → List Happening → List ℕ
@@ -65,6 +65,6 @@ frame_in (Message name frame now) = frame ∷ []
 frame_in (Close name now) = []
 
 -- the frames that were answered
-abbrev pub frames_in : List Entry → List (List ℕ)
+abbrev pub frames_in : List Answered → List (List ℕ)
 frames_in [] = []
-frames_in (entry ∷ entries) = frame_in entry.event.0 ++ frames_in entries
+frames_in (entry ∷ answered) = frame_in entry.event.0 ++ frames_in answered

@@ -9,15 +9,15 @@ use Rattle.p9_guard.specs.Headline.{IsPromised}
 use Rattle.p9_guard.specs.Marks.{are_permitted}
 use Rattle.p9_guard_laws.specs.Grown.{Start}
 use Rattle.p9_guard_laws.specs.Guarded.{IsGuardedState}
-use Rattle.p9_conn.specs.Turn.{Entry}
+use Rattle.p9_conn.specs.Turn.{Answered}
 use Rattle.p9_conn.specs.History.{Happening, Links, Runs, events_of, frames_in, history, history_by}
 use Rattle.p9_conn.specs.History.{read_by, replies_of, written_by}
 
 -- events lead from a state to another, with marks that are permitted, and have these replies
-pub record IsRun (old : State) (entries : List Entry) (new : State) : Type 0 where
-  pub permitted : IsTrue (are_permitted old (events_of entries))
-  pub state_is : new ≡ (run old (events_of entries)).state
-  pub replies_are : replies_of entries ≡ (run old (events_of entries)).replies
+pub record IsRun (old : State) (answered : List Answered) (new : State) : Type 0 where
+  pub permitted : IsTrue (are_permitted old (events_of answered))
+  pub state_is : new ≡ (run old (events_of answered)).state
+  pub replies_are : replies_of answered ≡ (run old (events_of answered)).replies
 
 -- the state and the replies are those of the run of the events that the turns made
 abbrev pub HistoryIsRun : Type 0

@@ -17,7 +17,7 @@ pub record Link : Type 0 where
   pub closed : Bool
 
 -- an event, with its mark, and the reply to it
-pub record Entry : Type 0 where
+pub record Answered : Type 0 where
   pub event : Marked
   pub reply : List ℕ
 
@@ -25,13 +25,13 @@ pub record Entry : Type 0 where
 pub record Deeds : Type 0 where
   pub read : List ℕ
   pub written : List ℕ
-  pub entries : List Entry
+  pub answered : List Answered
 
 abbrev pub no_deeds : Deeds
-no_deeds = record { read = []; written = []; entries = [] }
+no_deeds = record { read = []; written = []; answered = [] }
 
-abbrev pub made : Entry → Deeds
-made entry = record { read = []; written = []; entries = entry ∷ [] }
+abbrev pub deeds_of : Answered → Deeds
+deeds_of entry = record { read = []; written = []; answered = entry ∷ [] }
 
 -- a connection beside a state
 pub record Scene : Type 0 where
@@ -39,19 +39,19 @@ pub record Scene : Type 0 where
   pub state : State
 
 -- an event that can happen made its step, with a mark that is permitted
-pub record IsStep (entry : Entry) (old new : State) : Type 0 where
+pub record IsStep (entry : Answered) (old new : State) : Type 0 where
   pub fine : IsEvent entry.event.0
   pub permitted : IsTrue (are_permitted old (entry.event ∷ []))
   pub state_is : new ≡ (step old entry.event.0 entry.event.1).state
   pub reply_is : entry.reply ≡ (step old entry.event.0 entry.event.1).reply
 
 -- a session gets a frame, and this reply
-abbrev pub answering : ℕ → List ℕ → ℕ → Bool → List ℕ → Entry
+abbrev pub answering : ℕ → List ℕ → ℕ → Bool → List ℕ → Answered
 answering session frame now refused reply =
     record { event = (Message session frame now, refused); reply = reply }
 
 -- a session is closed
-abbrev pub closing : ℕ → ℕ → Entry
+abbrev pub closing : ℕ → ℕ → Answered
 closing session now = record { event = (Close session now, false); reply = [] }
 
 -- what a turn is to do
@@ -87,7 +87,7 @@ pub record Sends (old new : Scene) (deeds : Deeds) : Type 0 where
   pub link_is : new.link ≡ record old.link { pending = new.link.pending }
   pub state_is : new.state ≡ old.state
   pub no_read : deeds.read ≡ []
-  pub no_entry : deeds.entries ≡ []
+  pub no_entry : deeds.answered ≡ []
 
 -- bytes are read, and are behind those in the buffer
 pub record Receives (old new : Scene) (deeds : Deeds) : Type 0 where
@@ -95,7 +95,7 @@ pub record Receives (old new : Scene) (deeds : Deeds) : Type 0 where
   pub link_is : new.link ≡ record old.link { buffer = old.link.buffer ++ deeds.read }
   pub state_is : new.state ≡ old.state
   pub none_written : deeds.written ≡ []
-  pub no_entry : deeds.entries ≡ []
+  pub no_entry : deeds.answered ≡ []
 
 -- the frame of this size leaves the buffer, the guard makes the step, and its reply is pending
 pub record Answers (size session now : ℕ) (old new : Scene) (deeds : Deeds) : Type 0 where
@@ -106,13 +106,13 @@ pub record Answers (size session now : ℕ) (old new : Scene) (deeds : Deeds) : 
       (answering session (take size old.link.buffer) now refused new.link.pending) old.state
       new.state
   pub deeds_are : deeds
-      ≡ made (answering session (take size old.link.buffer) now refused new.link.pending)
+      ≡ deeds_of (answering session (take size old.link.buffer) now refused new.link.pending)
 
 -- session and connection are closed
 pub record Ends (session now : ℕ) (old new : Scene) (deeds : Deeds) : Type 0 where
   pub link_is : new.link ≡ record old.link { closed = true }
   pub stepped : IsStep (closing session now) old.state new.state
-  pub deeds_are : deeds ≡ made (closing session now)
+  pub deeds_are : deeds ≡ deeds_of (closing session now)
 
 -- a turn in a phase. A stream that is to be waited for changes nothing; one that fails or moves
 -- nothing ends its connection

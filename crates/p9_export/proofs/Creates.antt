@@ -10,7 +10,7 @@ use Rattle.p9_base.specs.declared.mode.Mode.{Mode}
 use Rattle.p9_base.specs.declared.node_ref.NodeRef.{NodeRef}
 use Rattle.p9_base.specs.declared.qid.Qid.{Qid}
 use Rattle.p9_base.specs.NodeRef.{beside}
-use Rattle.p9_base.specs.Results.{given, unless}
+use Rattle.p9_base.specs.Results.{obtain, unless}
 use Rattle.p9_tree.specs.declared.new.New.{New}
 use Rattle.p9_tree.specs.New.{new_node}
 use Rattle.p9_tree.specs.Node.{Node, is_dir, marked}
@@ -24,7 +24,7 @@ use Rattle.p9_step.specs.declared.opening.Opening.{Opening}
 use Rattle.p9_step.specs.State.{Session, room_of}
 use Rattle.p9_step.specs.Answer.{Answer}
 use Rattle.p9_export.specs.Answers.{Answers}
-use Rattle.p9_step.specs.Change.{applied, edited}
+use Rattle.p9_step.specs.ForestChange.{applied, edited}
 use Rattle.p9_step.specs.Create.{create_reply, created, created_in, creation, entered, fault_in}
 use Rattle.p9_step.specs.Qid.{qid_of}
 use Rattle.p9_step.specs.Memory.{is_done}
@@ -83,7 +83,7 @@ module _ (setting : Setting) (forest : List Server) (v : Fid) (name : List ℕ) 
       → fault_in setting forest v name target dir ≡ None
       → created_in setting forest session now fid v name asked o target
       ≡ creation forest session now fid v target dir name asked o
-  unfolding given unless
+  unfolding obtain unless
   created_in-done now asked found session fid o none = rw (found, none) refl
 
   module _ (now : ℕ) (asked : Mode) (new : New)

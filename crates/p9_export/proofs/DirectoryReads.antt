@@ -9,7 +9,7 @@ use Rattle.std.proofs.lemmas.List.{length-take-le, take-append-le}
 use Rattle.p9_base.specs.declared.fault.Fault.{Fault}
 use Rattle.p9_base.specs.declared.fault.Fault.TheVariants.{BadDirectoryOffset, FidNotOpen}
 use Rattle.p9_base.specs.declared.fault.Fault.TheVariants.{PhaseError, UnknownFid}
-use Rattle.p9_base.specs.Results.{given, need}
+use Rattle.p9_base.specs.Results.{obtain, need}
 use Rattle.p9_tree.specs.Bytes.{read_from}
 use Rattle.p9_tree.specs.Forest.{bytes_of, forest_changed_at}
 use Rattle.p9_tree.specs.Node.{Node, is_dir, touched}
@@ -24,7 +24,7 @@ use Rattle.p9_fids.specs.Fid.{Fid, FidRow, changed_fid, fid_at, opened_as}
 use Rattle.p9_step.specs.State.{Setting, Session, fid_file, fid_ref, room_of}
 use Rattle.p9_step.specs.Answer.{Answer}
 use Rattle.p9_export.specs.Answers.{Answers, data_reply, replied}
-use Rattle.p9_step.specs.Change.{EditNode, Touch, applied, edited}
+use Rattle.p9_step.specs.ForestChange.{EditNode, Touch, applied, edited}
 use Rattle.p9_step.specs.Listing.{Entry, left_of}
 use Rattle.p9_step.specs.Read.{cursor_after, cursor_at, entry_bytes, fitting, given_of, listed}
 use Rattle.p9_step.specs.Read.{read_answer, read_dir, read_file, readable}
@@ -59,16 +59,16 @@ module _ (setting : Setting) (forest : List Server) (old : Session) (fid : ℕ) 
       → fids ≡ changed_fid fid
       (opened_as (record o { next_offset = offset + size; cursor = cursor })) old.fids
       → Answers
-      (given (fid_at fid old.fids) UnknownFid
+      (obtain (fid_at fid old.fids) UnknownFid
       (λ v. read_dir setting forest old fid v o offset room)) false forest forest old (record {
         msize = old.msize;
         fids = fids;
       }) (Ok (Rread (take size buffer)))
-  unfolding given need
+  unfolding obtain need
   dir_listed there begins members_are from_is room_for bytes last within fids_are =
       without_changes _ forest old (record { msize = old.msize; fids = fids })
       (Rread (take size buffer))
-      (ap (λ w. given w UnknownFid (λ v. read_dir setting forest old fid v o offset room)) there
+      (ap (λ w. obtain w UnknownFid (λ v. read_dir setting forest old fid v o offset room)) there
       ∙ ap
       (λ b. cond b
       (given_of old fid o offset (cursor_at offset o)
@@ -138,22 +138,22 @@ module _ (setting : Setting) (forest : List Server) (session : Session) (now fid
       else read_file session now (fid_ref setting.table v) n offset (min count (room_of session))
 
   reads_by_kind : read_answer setting forest session now fid offset count ≡ by_kind (is_dir n)
-  unfolding given need
+  unfolding obtain need
   reads_by_kind =
-      ap (λ w. given w UnknownFid
-      (λ v. given (readable v.opened) FidNotOpen
-      (λ o. given (fid_file setting.table forest v) PhaseError
+      ap (λ w. obtain w UnknownFid
+      (λ v. obtain (readable v.opened) FidNotOpen
+      (λ o. obtain (fid_file setting.table forest v) PhaseError
       (λ n. if is_dir n
       then read_dir setting forest session fid v o offset (min count (room_of session))
       else read_file session now (fid_ref setting.table v) n offset
       (min count (room_of session)))))) r.there
-      ∙ ap (λ w. given w FidNotOpen
-      (λ o. given (fid_file setting.table forest v) PhaseError
+      ∙ ap (λ w. obtain w FidNotOpen
+      (λ o. obtain (fid_file setting.table forest v) PhaseError
       (λ n. if is_dir n
       then read_dir setting forest session fid v o offset (min count (room_of session))
       else read_file session now (fid_ref setting.table v) n offset
       (min count (room_of session))))) r.open_as
-      ∙ ap (λ w. given w PhaseError
+      ∙ ap (λ w. obtain w PhaseError
       (λ n. if is_dir n
       then read_dir setting forest session fid v o offset (min count (room_of session))
       else read_file session now (fid_ref setting.table v) n offset
@@ -162,13 +162,13 @@ module _ (setting : Setting) (forest : List Server) (session : Session) (now fid
   -- a directory
   pub reads_dir : (room : ℕ) → is_dir n ≡ true → room ≡ min count (room_of session)
       → read_answer setting forest session now fid offset count
-      ≡ given (fid_at fid session.fids) UnknownFid
+      ≡ obtain (fid_at fid session.fids) UnknownFid
       (λ v. read_dir setting forest session fid v o offset room)
-  unfolding given
+  unfolding obtain
   reads_dir room dir room_is =
       reads_by_kind ∙ ap by_kind dir
       ∙ ap (λ k. read_dir setting forest session fid v o offset k) (sym room_is)
-      ∙ sym (ap (λ w. given w UnknownFid (λ v. read_dir setting forest session fid v o offset room))
+      ∙ sym (ap (λ w. obtain w UnknownFid (λ v. read_dir setting forest session fid v o offset room))
       r.there)
 
   -- a file

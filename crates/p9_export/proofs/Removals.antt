@@ -3,7 +3,7 @@ use Rattle.p9_step.specs.State.{who_of}
 use Rattle.std.proofs.Common.{◌≡◌, ℕ, true, false, List, Option, Some, None, Ok, is_some}
 use Rattle.std.proofs.Common.{refl}
 use Rattle.p9_base.specs.declared.node_ref.NodeRef.{NodeRef}
-use Rattle.p9_base.specs.Results.{given, need}
+use Rattle.p9_base.specs.Results.{obtain, need}
 use Rattle.p9_tree.specs.Node.{Node}
 use Rattle.p9_tree.specs.Server.{Server, with_dropped}
 use Rattle.p9_tree.specs.Forest.{has_children_of, node_of, tree_changed_at}
@@ -11,7 +11,7 @@ use Rattle.p9_fids.specs.Fid.{Fid}
 use Rattle.p9_wire.specs.Message.{Rremove}
 use Rattle.p9_step.specs.State.{Setting, Session, fid_ref}
 use Rattle.p9_export.specs.Answers.{Answers}
-use Rattle.p9_step.specs.Change.{all_applied, applied}
+use Rattle.p9_step.specs.ForestChange.{all_applied, applied}
 use Rattle.p9_step.specs.End.{parent_marked, taken_out}
 use Rattle.p9_step.specs.Remove.{removal}
 use Rattle.p9_step.specs.Rights.{may_write_parent}
@@ -38,7 +38,7 @@ pub removal-made : (setting : Setting) (old dropped new : List Server) (left : S
     dropped ≡ tree_changed_at at.server (with_dropped at.number) old
     → new ≡ all_applied (parent_marked v.user now at n.parent) dropped →
     Answers (removal setting old left now v) false old new left left (Ok Rremove)
-unfolding given need
+unfolding obtain need
 removal-made setting old dropped new left now v at n at_is found inner permitted empty drop mark =
     rw (← at_is, found, inner, permitted, empty)
     (refl, all_applied-taken_out v.user now at n old dropped new drop mark)

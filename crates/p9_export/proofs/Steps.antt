@@ -13,7 +13,7 @@ use Rattle.p9_tree.specs.Server.{Server}
 use Rattle.p9_wire.specs.Message.{RMessage, Rerror, TMessage}
 use Rattle.p9_wire.specs.Spelling.{r_spelling}
 use Rattle.p9_step.specs.State.{Session, SessionRow, State, changed_session, session_at}
-use Rattle.p9_step.specs.Change.{Change, all_applied}
+use Rattle.p9_step.specs.ForestChange.{ForestChange, all_applied}
 use Rattle.p9_step.specs.Answer.{Answer, is_error}
 use Rattle.p9_export.specs.Answers.{AnswersAmong, changes_of, frame_among, message_of}
 use Rattle.p9_export.specs.Answers.{session_of}
@@ -49,7 +49,7 @@ module _ (state : State) (name : ℕ) (forest : List Server) (rows : List Sessio
       MakesStep state forest rows bytes (answered state name session frame refused answer)
 
   -- an outcome
-  outcome : (answer : Answer) (changes : List Change) (new : Session) (m : RMessage)
+  outcome : (answer : Answer) (changes : List ForestChange) (new : Session) (m : RMessage)
       (refused : Bool) → answer ≡ Ok (record { changes = changes; session = new; reply = m })
       → forest ≡ all_applied changes state.forest → rows ≡ changed_session name new state.sessions
       → (refused && ran_out frame answer) ≡ false → bytes ≡ r_spelling (tag_of frame) m

@@ -10,7 +10,7 @@ use Rattle.p9_tree.specs.Server.{Server}
 use Rattle.p9_tree.specs.Forest.{forest_changed_at, node_of}
 use Rattle.p9_tree.proofs.Changed.{keeps-marked, keeps-with_bytes}
 use Rattle.p9_step.specs.declared.opening.Opening.{Opening}
-use Rattle.p9_step.specs.Change.{all_applied, applied, edited}
+use Rattle.p9_step.specs.ForestChange.{all_applied, applied, edited}
 use Rattle.p9_step.specs.Open.{is_cut, truncated, truncation}
 use Rattle.p9_step.specs.Qid.{qid_of}
 use Rattle.p9_step.proofs.Found.{node_of-changed}

@@ -7,7 +7,7 @@ use Rattle.std.proofs.lemmas.List.{append-nil, drop_all}
 use Rattle.p9_base.specs.declared.fault.Fault.{Fault}
 use Rattle.p9_base.specs.declared.node_ref.NodeRef.{NodeRef}
 use Rattle.p9_base.specs.declared.qid.Qid.{Qid}
-use Rattle.p9_base.specs.Results.{given, need, unless}
+use Rattle.p9_base.specs.Results.{obtain, need, unless}
 use Rattle.p9_tree.specs.Node.{Node}
 use Rattle.p9_tree.specs.Forest.{node_of}
 use Rattle.p9_tree.specs.Server.{Server}
@@ -112,7 +112,7 @@ pub walk_answer-goes : (setting : Setting) (forest : List Server) (session : Ses
     → is_some v.opened ≡ false → newfid_fault fid newfid session.fids ≡ None → v.user ≡ w.user →
     walk_answer setting forest session fid newfid names
     ≡ walk_outcome fid newfid w session (walked setting forest v.user v.trail names)
-unfolding given need unless
+unfolding obtain need unless
 walk_answer-goes setting forest session fid newfid names v w found closed free same =
     let none = closed-is_none v.opened closed in
     let walk = walked setting forest v.user v.trail names in

@@ -5,7 +5,7 @@ use Rattle.std.specs.Prelude.{◌==◌, nat_le}
 use Rattle.p9_base.specs.declared.fault.Fault.{Fault}
 use Rattle.p9_base.specs.declared.fault.Fault.TheVariants.{OutOfMemory}
 use Rattle.p9_base.specs.declared.node_ref.NodeRef.{NodeRef}
-use Rattle.p9_base.specs.Results.{given, need}
+use Rattle.p9_base.specs.Results.{obtain, need}
 use Rattle.p9_tree.specs.Bytes.{overwritten, file_max}
 use Rattle.p9_tree.specs.Node.{Node, is_dir, marked, with_bytes}
 use Rattle.p9_tree.specs.Server.{Server}
@@ -17,7 +17,7 @@ use Rattle.p9_fids.specs.Opened.{writes}
 use Rattle.p9_fids.specs.Fid.{Fid, fid_at}
 use Rattle.p9_step.specs.State.{Setting, Session, fid_ref}
 use Rattle.p9_step.specs.Answer.{Answer, Outcome}
-use Rattle.p9_step.specs.Change.{applied, edited}
+use Rattle.p9_step.specs.ForestChange.{applied, edited}
 use Rattle.p9_export.specs.Answers.{Answers, replied}
 use Rattle.p9_step.specs.Memory.{is_done}
 use Rattle.p9_step.specs.Sound.{FidFits, IsOpenOn}
@@ -51,7 +51,7 @@ pub write_answer-done : (setting : Setting) (forest : List Server) (session : Se
     → (length bytes == 0) ≡ false → nat_le (place + length bytes) file_max ≡ true
     → write_answer setting forest session now fid offset bytes
     ≡ written session now v at place bytes
-unfolding need given
+unfolding need obtain
 write_answer-done setting forest session now fid offset [] v n at place at_is place_is found opens
     there some fits = let no : true ≡ false = some in cc
 write_answer-done setting forest session now fid offset (b ∷ bs) v n at place at_is place_is found

@@ -7,7 +7,7 @@ use Rattle.p9_base.specs.declared.fault.Fault.{Fault}
 use Rattle.p9_base.specs.declared.fault.Fault.TheVariants.{FixedField, PhaseError}
 use Rattle.p9_base.specs.declared.fault.Fault.TheVariants.{UnknownFid}
 use Rattle.p9_base.specs.declared.node_ref.NodeRef.{NodeRef}
-use Rattle.p9_base.specs.Results.{given, need, unless}
+use Rattle.p9_base.specs.Results.{obtain, need, unless}
 use Rattle.p9_tree.specs.Change.{changed}
 use Rattle.p9_tree.specs.Node.{Node}
 use Rattle.p9_tree.specs.Server.{Server}
@@ -17,7 +17,7 @@ use Rattle.p9_fids.specs.Fid.{Fid, fid_at}
 use Rattle.p9_step.specs.State.{Setting, Session, fid_file, fid_ref}
 use Rattle.p9_step.specs.Answer.{Answer}
 use Rattle.p9_export.specs.Answers.{Answers}
-use Rattle.p9_step.specs.Change.{Change, EditNode, Rewrite, all_applied, applied, edited}
+use Rattle.p9_step.specs.ForestChange.{ForestChange, EditNode, Rewrite, all_applied, applied, edited}
 use Rattle.p9_step.specs.End.{parent_marked}
 use Rattle.p9_step.specs.Qid.{stat_of}
 use Rattle.p9_step.specs.Memory.{is_done}
@@ -30,10 +30,10 @@ use Rattle.p9_step.specs.Wstat.{wstat_fault}
 steps : {X Y : Type 0} (o : Option X) (x : X) (p : X → Option Y) (y : Y) (f1 f2 f3 : Fault)
     (fixed : X → Y → Bool) (fault : X → Y → Option Fault) (rest : X → Y → Answer)
     → o ≡ Some x → p x ≡ Some y → fixed x y ≡ false → fault x y ≡ None
-    → given o f1
-    (λ a. given (p a) f2 (λ b. need (not (fixed a b)) f3 (unless (fault a b) (rest a b))))
+    → obtain o f1
+    (λ a. obtain (p a) f2 (λ b. need (not (fixed a b)) f3 (unless (fault a b) (rest a b))))
     ≡ rest x y
-unfolding need given unless
+unfolding need obtain unless
 steps o x p y f1 f2 f3 fixed fault rest e1 e2 e3 e4 = rw (e1, e2, e3, e4) refl
 
 -- the outcome where every test passes
@@ -77,7 +77,7 @@ wstat_answer-done setting forest session now fid wanted v n at t at_is held foun
     subst (λ a. wstat_answer setting forest session now fid wanted
     ≡ rewritten session v.user now a n t) (sym at_is) of_fields
 
-if_some : (b : Bool) (changes : List Change) → b ≡ true → (if b then changes else []) ≡ changes
+if_some : (b : Bool) (changes : List ForestChange) → b ≡ true → (if b then changes else []) ≡ changes
 if_some true changes e = refl
 if_some false changes e = let no : false ≡ true = e in absurd (cc)
 
@@ -92,7 +92,7 @@ pub wstat-did : (answer : Answer) (forest middle forest' : List Server) (session
 unfolding applied edited
 wstat-did answer forest middle forest' session user now at n t done some change mark =
     let marks = parent_marked user now at n.parent in
-    let changes : List Change = EditNode at (Rewrite (node_change user now t)) ∷ marks in
+    let changes : List ForestChange = EditNode at (Rewrite (node_change user now t)) ∷ marks in
     let all : rewriting user now at n t ≡ changes = if_some (is_any t) changes some in
     let made : forest' ≡ all_applied changes forest = mark ∙ ap (all_applied marks) change in
     let whole : forest' ≡ all_applied (rewriting user now at n t) forest =

@@ -15,13 +15,13 @@ use Rattle.p9_wire.specs.declared.message.TMsg.{TMsg}
 use Rattle.p9_export.specs.declared.reply.Reply.{Reply}
 use Rattle.p9_export.specs.declared.reply.Reply.TheVariants.{Message, Data, StatOf}
 use Rattle.p9_step.specs.State.{Setting, Session, SessionRow, changed_session, fresh, session_at}
-use Rattle.p9_step.specs.Change.{Change, all_applied}
+use Rattle.p9_step.specs.ForestChange.{ForestChange, all_applied}
 use Rattle.p9_step.specs.Answer.{Answer}
 use Rattle.p9_step.specs.Qid.{stat_of}
 use Rattle.p9_step.specs.Step.{frame_answer}
 
 -- the changes of the forest that an answer makes: a refusal makes none
-abbrev pub changes_of : Answer → List Change
+abbrev pub changes_of : Answer → List ForestChange
 changes_of (Ok outcome) = outcome.changes
 changes_of (Err fault) = []
 

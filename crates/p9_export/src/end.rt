@@ -2,7 +2,7 @@
 
 ghost use Rattle.std.specs.Prelude.{◌≡◌, [], map};
 ghost use Rattle.p9_fids.specs.Held.{AllFit, HeldFits};
-ghost use Rattle.p9_step.specs.Change.{all_applied};
+ghost use Rattle.p9_step.specs.ForestChange.{all_applied};
 ghost use Rattle.p9_step.specs.Sound.{FidFits, FidsFit};
 ghost use Rattle.p9_step.specs.End.{on_end, on_ends, parent_marked};
 ghost use Rattle.p9_step.specs.End.{removes_on_close, taken_out};

@@ -9,7 +9,7 @@ ghost use Rattle.p9_tree.specs.Forest.{node_of};
 ghost use Rattle.p9_export.specs.Held.{SessionFits, SessionsFit, sessions_in};
 ghost use Rattle.p9_export.specs.Answers.{Answers, replied};
 ghost use Rattle.p9_space.specs.Rights.{who_view};
-ghost use Rattle.p9_step.specs.Change.{all_applied};
+ghost use Rattle.p9_step.specs.ForestChange.{all_applied};
 ghost use Rattle.p9_step.specs.Open.{is_append_only, is_cut, is_exclusive, is_in_use, is_taken};
 ghost use Rattle.p9_step.specs.Open.{may_open, open_answer, open_reply, truncated, truncation};
 ghost use Rattle.p9_step.specs.Qid.{qid_of};

@@ -3,7 +3,7 @@
 ghost use Rattle.std.specs.Prelude.{◌≡◌, ◌==◌, ◌||◌, ◌≤◌, ◌<◌, ◌^◌, false, IfOk, IsSome, length};
 ghost use Rattle.std.specs.Prelude.{map, take};
 ghost use Rattle.p9_base.specs.declared.fault.Fault.TheVariants.{UnknownFid};
-ghost use Rattle.p9_base.specs.Results.{given};
+ghost use Rattle.p9_base.specs.Results.{obtain};
 ghost use Rattle.p9_fids.specs.Fid.{fid_at};
 ghost use Rattle.p9_tree.specs.Bytes.{read_from};
 ghost use Rattle.p9_tree.specs.Forest.{bytes_of, forest_changed_at};
@@ -122,7 +122,7 @@ fn read_dir<T: Tree>(
     ensures channels { SessionFits setting.now.table session.new }
     ensures size { IfOk result (λ count. count ≤ length buffer.old) }
     ensures answer { let forest = map T.state forest.now.trees.items in
-        Answers (given (fid_at fid session.old.session.fids) UnknownFid
+        Answers (obtain (fid_at fid session.old.session.fids) UnknownFid
         (λ v. read_dir setting.now forest session.old.session fid v opened offset
         (length buffer.old))) false forest forest session.old.session session.new.session (replied
         (data_reply buffer.new) result) }

@@ -5,13 +5,13 @@ use Rattle.std.specs.Prelude.{if◌then◌else◌}
 use Rattle.std.specs.Ordering.{nat_cmp}
 use Rattle.std.specs.BTreeMap.{is_at}
 use Rattle.p9_base.specs.declared.fault.Fault.{Fault}
-use Rattle.p9_base.specs.Results.{and_then, given, need, unless}
+use Rattle.p9_base.specs.Results.{and_then, obtain, need, unless}
 use Rattle.p9_base.proofs.Rows.{each-lookup, each-set}
 use Rattle.p9_tree.specs.Server.{Server}
 use Rattle.p9_wire.specs.Message.{RMessage}
 use Rattle.p9_fids.specs.Fid.{Fid, FidRow, changed_fid, fid_at}
 use Rattle.p9_step.specs.State.{Session}
-use Rattle.p9_step.specs.Change.{Change, all_applied}
+use Rattle.p9_step.specs.ForestChange.{ForestChange, all_applied}
 use Rattle.p9_step.specs.Answer.{Answer, Outcome, outcome_of}
 use Rattle.p9_guard_laws.specs.Guarded.{House}
 use Rattle.p9_guard_laws.specs.Grown.{Start}
@@ -51,7 +51,7 @@ module _ (scene : Scene) where
   agrees_quiet session reply h = agrees_ok _ (record { lawful = tt; fids = h })
 
   -- one whose changes are lawful, with fids that were safe
-  pub agrees_changes : (changes : List Change) (session : Session) (reply : RMessage)
+  pub agrees_changes : (changes : List ForestChange) (session : Session) (reply : RMessage)
       → Lawful (house_in scene) scene.forest changes → SafeFids scene session.fids
       → Agrees (Ok (record { changes = changes; session = session; reply = reply }))
       (Ok (record { changes = changes; session = session; reply = reply }))
@@ -69,8 +69,8 @@ module _ (scene : Scene) where
   agrees_need false fault x y h = agrees_err fault
 
   pub agrees_given : {X : Type 0} (o : Option X) (fault : Fault) (x y : X → Answer)
-      → ((v : X) → o ≡ Some v → Agrees (x v) (y v)) → Agrees (given o fault x) (given o fault y)
-  unfolding given
+      → ((v : X) → o ≡ Some v → Agrees (x v) (y v)) → Agrees (obtain o fault x) (obtain o fault y)
+  unfolding obtain
   agrees_given (Some v) fault x y h = h v refl
   agrees_given None fault x y h = agrees_err fault
 

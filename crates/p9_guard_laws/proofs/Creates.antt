@@ -34,7 +34,7 @@ use Rattle.p9_space.specs.Table.{members_of}
 use Rattle.p9_space.specs.Walk.{is_alive, is_alive_dir}
 use Rattle.p9_fids.specs.Fid.{Fid, fid_at}
 use Rattle.p9_step.specs.State.{Session, fid_ref, who_of}
-use Rattle.p9_step.specs.Change.{Mark, applied, EditNode, AddNode}
+use Rattle.p9_step.specs.ForestChange.{Mark, applied, EditNode, AddNode}
 use Rattle.p9_step.specs.declared.opening.Opening.{Opening}
 use Rattle.p9_step.specs.Opening.{newly_opened, opening_of}
 use Rattle.p9_step.specs.Create.{create_answer, created, creation, fault_in, permitting}

@@ -5,8 +5,8 @@ use Rattle.p9_base.specs.NodeRef.{beside}
 use Rattle.p9_tree.specs.Node.{Node}
 use Rattle.p9_tree.specs.Forest.{node_of}
 use Rattle.p9_tree.specs.Inside.{is_inside}
-use Rattle.p9_step.specs.Change.{Change, Mark, applied, edited, Cut, Edit, EditNode, Overwrite}
-use Rattle.p9_step.specs.Change.{Touch}
+use Rattle.p9_step.specs.ForestChange.{ForestChange, Mark, applied, edited, Cut, Edit, EditNode, Overwrite}
+use Rattle.p9_step.specs.ForestChange.{Touch}
 use Rattle.p9_step.specs.End.{parent_marked}
 use Rattle.p9_guard_laws.specs.Guarded.{House}
 use Rattle.p9_guard_laws.proofs.Scene.{Scene, house_in}
@@ -87,7 +87,7 @@ module _ (scene : Scene) where
       )
 
   -- a mark of the parent after another lawful change of the node
-  pub marks_lawful : (r : NodeRef) (x : Node) (change : Change) (user : List ℕ) (now : ℕ)
+  pub marks_lawful : (r : NodeRef) (x : Node) (change : ForestChange) (user : List ℕ) (now : ℕ)
       (parent : Option ℕ) → LawfulChange (house_in scene) scene.forest change
       → node_of r scene.forest ≡ Some x → x.parent ≡ parent
       → is_inside r scene.hidden scene.forest ≡ false

@@ -13,7 +13,7 @@ use Rattle.p9_tree.specs.Forest.{node_of}
 use Rattle.p9_tree.specs.Inside.{is_inside}
 use Rattle.p9_fids.specs.Fid.{Fid, FidRow, fid_at}
 use Rattle.p9_step.specs.State.{Session, fid_file, fid_ref}
-use Rattle.p9_step.specs.Change.{DropNode, all_applied}
+use Rattle.p9_step.specs.ForestChange.{DropNode, all_applied}
 use Rattle.p9_step.specs.Clunk.{clunk_answer, without}
 use Rattle.p9_step.specs.End.{on_end, removes_on_close, taken_out, on_ends}
 use Rattle.p9_step.specs.Version.{is_known, msize_min, version_answer}

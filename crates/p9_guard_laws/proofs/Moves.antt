@@ -21,8 +21,8 @@ use Rattle.p9_inside.proofs.OrderKept.{changed_below, changed_ordered, dropped_a
 use Rattle.p9_inside.proofs.OrderKept.{joined_ordered}
 use Rattle.p9_inside.proofs.Found.{at_each, node_dropped, node_edited, node_joined}
 use Rattle.p9_space.specs.Rights.{may, rules, to_execute, to_write}
-use Rattle.p9_step.specs.Change.{AddNode, Change, Cut, DropNode, Edit, EditNode, Mark, Overwrite}
-use Rattle.p9_step.specs.Change.{Rewrite, Touch, applied, edited}
+use Rattle.p9_step.specs.ForestChange.{AddNode, ForestChange, Cut, DropNode, Edit, EditNode, Mark, Overwrite}
+use Rattle.p9_step.specs.ForestChange.{Rewrite, Touch, applied, edited}
 use Rattle.p9_cert.specs.Listed.{is_alterable, is_open, is_owned, is_passable}
 use Rattle.p9_cert.specs.Safe.{IsShut}
 use Rattle.p9_guard_laws.specs.Guarded.{House}
@@ -165,12 +165,12 @@ module _ (house : House) where
     pub open_parent : is_barred (record { server = s; number = under }) house.policy.hidden f
         ≡ false
 
-  abbrev pub LawfulChange : List Server → Change → Type 0
+  abbrev pub LawfulChange : List Server → ForestChange → Type 0
   LawfulChange f (EditNode r e) = LawfulEdit f r e
   LawfulChange f (AddNode s x) = LawfulAdd f s x
   LawfulChange f (DropNode r) = is_inside r house.policy.hidden f ≡ false
 
-  abbrev pub Lawful : List Server → List Change → Type 0
+  abbrev pub Lawful : List Server → List ForestChange → Type 0
   Lawful f [] = Unit {0}
   Lawful f (c ∷ cs) = LawfulChange f c × Lawful (applied c f) cs
 
@@ -184,7 +184,7 @@ edit_keeps (Rewrite change) = record { number = λ n. refl; parent = λ n. refl 
 
 module _ (house : House) (f : List Server) (o : Ordered f) where
   -- a lawful change spares the insides
-  pub spares : (c : Change) → LawfulChange house f c → Spares house.policy.hidden (applied c) f
+  pub spares : (c : ForestChange) → LawfulChange house f c → Spares house.policy.hidden (applied c) f
   unfolding applied is_inside
   spares (EditNode r e) l =
       change_spares house.policy.hidden f r (edited e) (edit_keeps e) l.outside
@@ -197,7 +197,7 @@ module _ (house : House) (f : List Server) (o : Ordered f) where
       (drop_spares_ordered (hidden_on r.server house.policy.hidden) (server_at r.server f) r.number
       (o.nodes r.server) l)
 
-  next_stays : (c : Change) (s : ℕ) → next_of s f ≤ next_of s (applied c f)
+  next_stays : (c : ForestChange) (s : ℕ) → next_of s f ≤ next_of s (applied c f)
   unfolding applied
   next_stays (EditNode r e) s =
       at_each (λ k t. next_of k f ≤ t.next) r.server f (with_changed r.number (edited e))
@@ -209,7 +209,7 @@ module _ (house : House) (f : List Server) (o : Ordered f) where
       at_each (λ k t. next_of k f ≤ t.next) r.server f (with_dropped r.number) (λ k. omega arith)
       (λ l. l) s
 
-  node_stays : (c : Change) → LawfulChange house f c → (q : NodeRef) (y : Node)
+  node_stays : (c : ForestChange) → LawfulChange house f c → (q : NodeRef) (y : Node)
       → node_of q (applied c f) ≡ Some y
       → ((x : Node) × (node_of q f ≡ Some x) × SameStanding house x y) ⊎ Newcomer house f q y
   unfolding applied
@@ -246,7 +246,7 @@ module _ (house : House) (f : List Server) (o : Ordered f) where
   ]
   node_stays (DropNode r) l q y found = inl (y, node_dropped f o r q y found, stands-still house y)
 
-  pub evolves : (c : Change) → LawfulChange house f c → Evolves house f (applied c f)
+  pub evolves : (c : ForestChange) → LawfulChange house f c → Evolves house f (applied c f)
   evolves c l = record {
     barred = (spares c l).barred;
     next = next_stays c;
@@ -254,7 +254,7 @@ module _ (house : House) (f : List Server) (o : Ordered f) where
   }
 
 -- and after a lawful change numbers rise as before
-pub ordered-applied : (house : House) (f : List Server) → Ordered f → (c : Change)
+pub ordered-applied : (house : House) (f : List Server) → Ordered f → (c : ForestChange)
     → LawfulChange house f c → Ordered (applied c f)
 unfolding applied
 ordered-applied house f o (EditNode r e) l = record {

@@ -8,7 +8,7 @@ use Rattle.p9_base.specs.declared.fault.Fault.TheVariants.{IsDirectory}
 use Rattle.p9_base.specs.declared.node_ref.NodeRef.{NodeRef}
 use Rattle.p9_base.specs.declared.mode.Permissions.{Permissions}
 use Rattle.p9_base.specs.declared.mode.Rights.{Rights}
-use Rattle.p9_base.specs.Rights.{is_given, is_granted}
+use Rattle.p9_base.specs.Rights.{has_right, is_granted}
 use Rattle.p9_tree.specs.Node.{Node}
 use Rattle.p9_tree.specs.Forest.{node_of}
 use Rattle.p9_tree.specs.Inside.{is_inside}
@@ -17,7 +17,7 @@ use Rattle.p9_fids.specs.Fid.{Fid, fid_at, opened_as}
 use Rattle.p9_fids.specs.declared.opened.OpenMode.{OpenMode}
 use Rattle.p9_fids.specs.declared.opened.OpenMode.TheVariants.{Execute, Read, ReadWrite, Write}
 use Rattle.p9_step.specs.State.{Session, fid_file, fid_ref, who_of}
-use Rattle.p9_step.specs.Change.{Mark, Cut, EditNode}
+use Rattle.p9_step.specs.ForestChange.{Mark, Cut, EditNode}
 use Rattle.p9_step.specs.declared.opening.Opening.{Opening}
 use Rattle.p9_step.specs.Open.{is_cut, may_open, open_answer, opened_session, truncation}
 use Rattle.p9_step.specs.Opening.{mode_rights, newly_opened, opening_of, wanted_by}
@@ -50,13 +50,13 @@ one_read false h k e = let b : false ≡ true = e in cc
 
 module _ (p : Permissions) (owner member : Bool) where
   abbrev gr : Bool
-  gr = is_given (λ r. r.read) p owner member
+  gr = has_right (λ r. r.read) p owner member
 
   abbrev gw : Bool
-  gw = is_given (λ r. r.write) p owner member
+  gw = has_right (λ r. r.write) p owner member
 
   abbrev gx : Bool
-  gx = is_given (λ r. r.execute) p owner member
+  gx = has_right (λ r. r.execute) p owner member
 
   three : (gr || gw || gx) ≡ true
       → (is_granted p owner member to_read || is_granted p owner member to_write || is_granted p

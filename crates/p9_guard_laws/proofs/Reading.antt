@@ -7,7 +7,7 @@ use Rattle.std.proofs.lemmas.Bool.{or_left, and_parts}
 use Rattle.p9_base.specs.declared.fault.Fault.TheVariants.{PhaseError, UnknownFid}
 use Rattle.p9_base.specs.declared.fault.Fault.TheVariants.{BadDirectoryOffset, FidNotOpen}
 use Rattle.p9_base.specs.User.{is_listed_user}
-use Rattle.p9_base.specs.Results.{given}
+use Rattle.p9_base.specs.Results.{obtain}
 use Rattle.p9_tree.specs.Node.{Node, is_dir}
 use Rattle.p9_tree.specs.Forest.{node_of, children_of}
 use Rattle.p9_tree.specs.Inside.{is_barred, is_hidden}
@@ -23,7 +23,7 @@ use Rattle.p9_fids.specs.declared.opened.Opened.{Opened}
 use Rattle.p9_fids.specs.Fid.{Fid, fid_at, changed_fid, opened_as}
 use Rattle.p9_fids.specs.declared.opened.Cursor.{Cursor}
 use Rattle.p9_step.specs.State.{Session, fid_file, fid_ref, who_of}
-use Rattle.p9_step.specs.Change.{Touch}
+use Rattle.p9_step.specs.ForestChange.{Touch}
 use Rattle.p9_step.specs.Listing.{Entry, entries_from, entries_of, entry_at, is_listed, listing}
 use Rattle.p9_step.specs.Read.{cursor_at, given_of, listed_session, read_answer, readable}
 use Rattle.p9_step.proofs.KeptFiles.{readable-is}

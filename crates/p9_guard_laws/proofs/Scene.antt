@@ -5,7 +5,7 @@ use Rattle.p9_tree.specs.Server.{Server}
 use Rattle.p9_tree.specs.Inside.{outer}
 use Rattle.p9_fids.specs.Fid.{Fid, FidRow}
 use Rattle.p9_step.specs.State.{Setting}
-use Rattle.p9_step.specs.Change.{Change, all_applied}
+use Rattle.p9_step.specs.ForestChange.{ForestChange, all_applied}
 use Rattle.p9_guard_laws.specs.Grown.{Start}
 use Rattle.p9_guard_laws.specs.Guarded.{House, house_of}
 use Rattle.p9_guard_laws.proofs.Good.{Good, good-all}
@@ -33,7 +33,7 @@ abbrev pub outer_of : Scene → List Server
 outer_of scene = outer scene.hidden scene.forest
 
 -- after lawful changes
-abbrev pub scene_after : (scene : Scene) (changes : List Change)
+abbrev pub scene_after : (scene : Scene) (changes : List ForestChange)
     → Lawful (house_in scene) scene.forest changes → Scene
 scene_after scene changes lawful = record {
   hidden = scene.hidden;

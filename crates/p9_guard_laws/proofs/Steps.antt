@@ -11,7 +11,7 @@ use Rattle.p9_base.proofs.Rows.{each-insert, each-lookup, each-remove, each-set}
 use Rattle.p9_tree.specs.Inside.{inner, is_inside, outer}
 use Rattle.p9_wire.specs.Frame.{is_frame}
 use Rattle.p9_step.specs.State.{Session, SessionRow, State, fresh, session_at, with_session}
-use Rattle.p9_step.specs.Change.{Change, all_applied}
+use Rattle.p9_step.specs.ForestChange.{ForestChange, all_applied}
 use Rattle.p9_step.specs.Answer.{Answer, Outcome, outcome_of}
 use Rattle.p9_step.specs.End.{on_ends}
 use Rattle.p9_step.specs.Memory.{no_memory_reply, ran_out}
@@ -74,7 +74,7 @@ module _ (hidden : List NodeRef) (start : Start) (st : State)
     inside = λ r. refl;
   }
 
-  sessions_after : (cs : List Change) → Lawful (house_in scene) st.forest cs
+  sessions_after : (cs : List ForestChange) → Lawful (house_in scene) st.forest cs
       → (rows : List SessionRow) → AllByRecursion (λ row. SafeFids scene row.1.fids) rows
       → AllByRecursion
       (λ row. HeldFids (house_in scene) start (all_applied cs st.forest) row.1.fids) rows

@@ -5,7 +5,7 @@ use Rattle.p9_base.specs.declared.fault.Fault.TheVariants.{FileTooLarge}
 use Rattle.p9_tree.specs.Node.{Node}
 use Rattle.p9_fids.specs.Fid.{Fid, fid_at}
 use Rattle.p9_step.specs.State.{Session, fid_file, fid_ref}
-use Rattle.p9_step.specs.Change.{Mark, Overwrite}
+use Rattle.p9_step.specs.ForestChange.{Mark, Overwrite}
 use Rattle.p9_step.specs.Write.{is_writable, write_answer, write_file, write_place}
 use Rattle.p9_guard_laws.proofs.Scene.{SafeFid, SafeFids, Scene, house_in, outer_of}
 use Rattle.p9_guard_laws.proofs.Agrees.{Agrees, agrees_changes, agrees_given, agrees_need}

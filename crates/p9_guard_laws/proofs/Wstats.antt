@@ -25,7 +25,7 @@ use Rattle.p9_space.specs.Rights.{rules, Who}
 use Rattle.p9_wire.specs.Message.{StatFields}
 use Rattle.p9_fids.specs.Fid.{fid_at}
 use Rattle.p9_step.specs.State.{Session, fid_file, fid_ref, who_of}
-use Rattle.p9_step.specs.Change.{edited, EditNode, Rewrite}
+use Rattle.p9_step.specs.ForestChange.{edited, EditNode, Rewrite}
 use Rattle.p9_step.specs.End.{parent_marked}
 use Rattle.p9_step.specs.Qid.{stat_of}
 use Rattle.p9_step.specs.Wstat.{Touched, gid_fault, has_sibling, is_any, length_fault, may_give}

@@ -20,16 +20,16 @@ abbrev pub read_and_write : Rights
 read_and_write = record { read = true; write = true; execute = false }
 
 -- the owner's rights, and those of the group and of all others
-abbrev pub permissions_of : Rights → Rights → Permissions
-permissions_of owner others = record { owner = owner; group = others; others = others }
+abbrev pub owner_and_others : Rights → Rights → Permissions
+owner_and_others owner others = record { owner = owner; group = others; others = others }
 
 -- a file without flags
 abbrev pub plain_file : Kind
 plain_file = File (record { append_only = false; exclusive = false; temporary = false })
 
 -- a node of the user sys, as it was made at the time 0
-abbrev pub made : ℕ → Option ℕ → List ℕ → Kind → Permissions → List ℕ → Node
-made number parent name kind permissions bytes = record {
+abbrev pub plain_node : ℕ → Option ℕ → List ℕ → Kind → Permissions → List ℕ → Node
+plain_node number parent name kind permissions bytes = record {
   number = number;
   parent = parent;
   name = name;
@@ -45,11 +45,11 @@ made number parent name kind permissions bytes = record {
 
 -- a directory, in the parent
 abbrev pub dir : ℕ → ℕ → List ℕ → Permissions → Node
-dir number parent name permissions = made number (Some parent) name Directory permissions []
+dir number parent name permissions = plain_node number (Some parent) name Directory permissions []
 
 -- the root of a server
 abbrev pub root : Permissions → Node
-root permissions = made 0 None root_name Directory permissions []
+root permissions = plain_node 0 None root_name Directory permissions []
 
 -- one server, of these nodes
 abbrev pub alone : List Node → ℕ → List Server
@@ -62,17 +62,17 @@ hidden = record { server = 0; number = 2 } ∷ []
 -- A hidden directory with a file in it, beside a public one.
 
 abbrev pub vault_root : Node
-vault_root = root (permissions_of all_rights read_and_search)
+vault_root = root (owner_and_others all_rights read_and_search)
 
 abbrev pub vault_pub : Node
-vault_pub = dir 1 0 (codes "pub") (permissions_of all_rights all_rights)
+vault_pub = dir 1 0 (codes "pub") (owner_and_others all_rights all_rights)
 
 abbrev pub vault : Node
-vault = dir 2 0 (codes "vault") (permissions_of no_rights no_rights)
+vault = dir 2 0 (codes "vault") (owner_and_others no_rights no_rights)
 
 abbrev pub vault_key : Node
 vault_key =
-    made 3 (Some 2) (codes "key") plain_file (permissions_of read_and_write no_rights) (1 ∷ [])
+    plain_node 3 (Some 2) (codes "key") plain_file (owner_and_others read_and_write no_rights) (1 ∷ [])
 
 abbrev pub vault_world : List Server
 vault_world = alone (vault_root ∷ vault_pub ∷ vault ∷ vault_key ∷ []) 4
@@ -86,17 +86,17 @@ VaultOthers = outer hidden vault_world ≡ alone (vault_root ∷ vault_pub ∷ v
 -- A hidden directory of all rights, which a bind is to cover.
 
 abbrev pub covered_root : Node
-covered_root = root (permissions_of all_rights all_rights)
+covered_root = root (owner_and_others all_rights all_rights)
 
 abbrev pub covered_empty : Node
-covered_empty = dir 1 0 (codes "empty") (permissions_of all_rights read_and_search)
+covered_empty = dir 1 0 (codes "empty") (owner_and_others all_rights read_and_search)
 
 abbrev pub covered_vault : Node
-covered_vault = dir 2 0 (codes "vault") (permissions_of all_rights all_rights)
+covered_vault = dir 2 0 (codes "vault") (owner_and_others all_rights all_rights)
 
 abbrev pub covered_key : Node
 covered_key =
-    made 3 (Some 2) (codes "key") plain_file (permissions_of read_and_write read_and_write) (1 ∷ [])
+    plain_node 3 (Some 2) (codes "key") plain_file (owner_and_others read_and_write read_and_write) (1 ∷ [])
 
 abbrev pub covered_vault_world : List Server
 covered_vault_world =
@@ -109,11 +109,11 @@ CoveredVaultInsides = inner hidden covered_vault_world ≡ (covered_key ∷ []) 
 -- The node at position 2 of the list is now another.
 
 abbrev pub new_dir : ℕ → Node
-new_dir number = dir number 1 (codes "new") (permissions_of all_rights read_and_search)
+new_dir number = dir number 1 (codes "new") (owner_and_others all_rights read_and_search)
 
 abbrev pub new_file : ℕ → Node
 new_file number =
-    made number (Some 4) (codes "f") plain_file (permissions_of read_and_write read_and_write) []
+    plain_node number (Some 4) (codes "f") plain_file (owner_and_others read_and_write read_and_write) []
 
 abbrev pub after_removal : List Server
 after_removal =
@@ -128,10 +128,10 @@ RemovedInsides = inner hidden after_removal ≡ [] ∷ []
 -- A directory inside the hidden one, which a bind is to show elsewhere.
 
 abbrev pub bound_in : Node
-bound_in = dir 3 2 (codes "in") (permissions_of all_rights read_and_search)
+bound_in = dir 3 2 (codes "in") (owner_and_others all_rights read_and_search)
 
 abbrev pub bound_u : Node
-bound_u = dir 1 0 (codes "u") (permissions_of all_rights read_and_search)
+bound_u = dir 1 0 (codes "u") (owner_and_others all_rights read_and_search)
 
 abbrev pub bound_inside_world : List Server
 bound_inside_world = alone (vault_root ∷ bound_u ∷ vault ∷ bound_in ∷ []) 4
@@ -142,10 +142,10 @@ BoundInsideInsides = inner hidden bound_inside_world ≡ (bound_in ∷ []) ∷ [
 -- A tree inside, and a server on which nothing is hidden.
 
 abbrev pub deep_file : Node
-deep_file = made 4 (Some 3) (codes "f") plain_file (permissions_of read_and_write no_rights) []
+deep_file = plain_node 4 (Some 3) (codes "f") plain_file (owner_and_others read_and_write no_rights) []
 
 abbrev pub deep_open : Node
-deep_open = dir 5 0 (codes "open") (permissions_of all_rights all_rights)
+deep_open = dir 5 0 (codes "open") (owner_and_others all_rights all_rights)
 
 abbrev pub deep_world : List Server
 deep_world =

@@ -7,7 +7,7 @@ use Rattle.std.specs.BTreeMap.{is_at}
 use Rattle.std.specs.Map.{keys_of}
 use Rattle.std.specs.Ordering.{nat_cmp}
 use Rattle.std.proofs.lemmas.Bool.Decides.{nat_tests}
-use Rattle.p9_base.specs.Results.{given}
+use Rattle.p9_base.specs.Results.{obtain}
 use Rattle.p9_base.proofs.Rows.{each-lookup}
 use Rattle.p9_fids.specs.Fid.{Fid, FidRow, IsFids, fid_at, nofid, put_fault, without_fid}
 use Rattle.p9_step.specs.Clunk.{without}
@@ -42,7 +42,7 @@ can_put_again fid fids v kept found =
     rw (other, gone, room) refl
 
 pub clunk_frees_fid : ClunkFreesFid
-unfolding given
+unfolding obtain
 clunk_frees_fid state name session fid now v sound has =
     let kept : IsSession state.setting state.forest session =
     each-lookup (IsSession state.setting state.forest) (is_at (nat_cmp name)) state.sessions session

@@ -27,7 +27,7 @@ use Rattle.p9_space.specs.Walk.{may_search, walk}
 use Rattle.p9_wire.specs.Message.{Rcreate, Tcreate}
 use Rattle.p9_fids.specs.Fid.{Fid}
 use Rattle.p9_step.specs.Answer.{Answer, Outcome, outcome_of}
-use Rattle.p9_step.specs.Change.{Change, all_applied, applied, edited}
+use Rattle.p9_step.specs.ForestChange.{ForestChange, all_applied, applied, edited}
 use Rattle.p9_step.specs.Create.{create_answer, created, target_among}
 use Rattle.p9_step.specs.State.{changed_session}
 use Rattle.p9_step.proofs.Done.{OnDone}
@@ -147,7 +147,7 @@ walks_down forest table who trail name m d n alone there dir search child plain 
     let room : (length trail == 64) ≡ false = grind (arith, nat_tests, short) in
     rw (alone, there, dir, plain, search, child, room, alive) refl
 
-abbrev changes_in : Answer → List Change
+abbrev changes_in : Answer → List ForestChange
 changes_in (Ok o) = o.changes
 changes_in (Err fault) = []
 

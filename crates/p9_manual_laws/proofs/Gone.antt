@@ -7,7 +7,7 @@ use Rattle.p9_base.specs.declared.fault.Fault.TheVariants.{PhaseError}
 use Rattle.p9_base.specs.declared.node_ref.NodeRef.{NodeRef}
 use Rattle.p9_base.specs.Fault.{text_of}
 use Rattle.p9_base.specs.NodeRef.{beside}
-use Rattle.p9_base.specs.Results.{given, need}
+use Rattle.p9_base.specs.Results.{obtain, need}
 use Rattle.p9_tree.specs.Forest.{IsForest, forest_changed_at, node_of, server_at}
 use Rattle.p9_tree.specs.Node.{Node, has_number, marked}
 use Rattle.p9_tree.specs.Server.{Server, WellFormed, node_at, with_changed, with_dropped}
@@ -23,7 +23,7 @@ use Rattle.p9_wire.specs.Message.{Rerror, Rremove, TMessage, Tattach, Tauth, Tcl
 use Rattle.p9_wire.specs.Message.{Topen, Tread, Tremove, Tstat, Tversion, Twalk, Twrite, Twstat}
 use Rattle.p9_fids.specs.Fid.{Fid}
 use Rattle.p9_step.specs.Answer.{Answer, Outcome, outcome_of}
-use Rattle.p9_step.specs.Change.{DropNode, all_applied, applied, edited}
+use Rattle.p9_step.specs.ForestChange.{DropNode, all_applied, applied, edited}
 use Rattle.p9_step.specs.Clunk.{without}
 use Rattle.p9_step.specs.End.{parent_marked}
 use Rattle.p9_step.specs.Remove.{removal}
@@ -98,7 +98,7 @@ no_file : (state : State) (name now : ℕ) (session : Session) (fid : ℕ) (v : 
     → Has state name session fid v → fid_file state.setting.table state.forest v ≡ None
     → AsksFile fid v m
     → message_answer state.setting state.forest state.sessions session now m ≡ Err PhaseError
-unfolding given need
+unfolding obtain need
 no_file state name now session fid v (Topen other bits) has none asks =
     rw (asks.0, has.fid_is, asks.1, none) refl
 no_file state name now session fid v (Tread other offset count) has none asks =
@@ -197,7 +197,7 @@ gone state at none = record {
 }
 
 pub removed_is_gone : RemovedIsGone
-unfolding given OnDone
+unfolding obtain OnDone
 removed_is_gone state name session fid now v sound has =
     let left : Session = without fid session in
     let o : Outcome = outcome_of left (removal state.setting state.forest left now v) in

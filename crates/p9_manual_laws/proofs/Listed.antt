@@ -9,7 +9,7 @@ use Rattle.std.proofs.lemmas.Grind.{flat_map-append}
 use Rattle.std.proofs.lemmas.List.Concat.{flat_map-cons}
 use Rattle.std.proofs.lemmas.List.{append_assoc, length-append}
 use Rattle.p9_base.specs.NodeRef.{beside}
-use Rattle.p9_base.specs.Results.{given, need}
+use Rattle.p9_base.specs.Results.{obtain, need}
 use Rattle.p9_tree.specs.Node.{Node, is_dir}
 use Rattle.p9_tree.specs.Server.{Server}
 use Rattle.p9_space.specs.Place.{file_of}
@@ -153,7 +153,7 @@ module _ (setting : Setting) (forest : List Server) (name fid : ℕ) (v : Fid) (
       → Stands rows offset left
       → (asked (at rows) name now (Tread fid offset count)).reply ≡ Some (Rread bytes)
       → Goes rows offset now count left bytes
-  unfolding given need
+  unfolding obtain need
   goes rows offset now count left bytes s told = by_opened (readable s.w.opened) refl
     where
       room : ℕ

@@ -5,7 +5,7 @@ use Rattle.std.specs.Prelude.{min, nat_le}
 use Rattle.std.proofs.Math.Seq.{take-append_seam, drop-append_seam}
 use Rattle.std.proofs.lemmas.List.{append_assoc, length-append, length-replicate, length-take}
 use Rattle.p9_base.specs.declared.node_ref.NodeRef.{NodeRef}
-use Rattle.p9_base.specs.Results.{given, need}
+use Rattle.p9_base.specs.Results.{obtain, need}
 use Rattle.p9_base.specs.Text.{padded}
 use Rattle.p9_tree.specs.Bytes.{file_max, overwritten, read_from}
 use Rattle.p9_tree.specs.Forest.{forest_changed_at, node_of}
@@ -16,7 +16,7 @@ use Rattle.p9_wire.specs.Message.{Rread, Rwrite, Tread, Twrite}
 use Rattle.p9_fids.specs.declared.opened.Opened.{Opened}
 use Rattle.p9_fids.specs.Fid.{Fid, fid_at}
 use Rattle.p9_step.specs.Answer.{Outcome, outcome_of}
-use Rattle.p9_step.specs.Change.{all_applied, applied, edited}
+use Rattle.p9_step.specs.ForestChange.{all_applied, applied, edited}
 use Rattle.p9_step.specs.Open.{is_append_only}
 use Rattle.p9_step.specs.Read.{readable}
 use Rattle.p9_step.specs.State.{Session, Setting, State, changed_session, fid_file, fid_ref, room_of}
@@ -94,7 +94,7 @@ write_lands : (setting : Setting) (forest : List Server) (session : Session) (no
     ≡ Rwrite (length bytes)
     → Lands forest (fid_ref setting.table v) session offset bytes n
     (outcome_of session (write_answer setting forest session now fid offset bytes))
-unfolding given need
+unfolding obtain need
 write_lands setting forest session now fid offset bytes v n found there plain accepted =
     go (is_writable v) refl
   where
@@ -113,7 +113,7 @@ pub read_gives : (state : State) (name : ℕ) (session : Session) (fid now offse
     → fid_file state.setting.table state.forest v ≡ Some n → is_dir n ≡ false
     → (asked state name now (Tread fid offset count)).reply
     ≡ Some (Rread (read_from offset (min count (room_of session)) n.bytes))
-unfolding given
+unfolding obtain
 read_gives state name session fid now offset count v opened n has held there file =
     rw (has.session_is, has.fid_is, held, there, file) refl
 

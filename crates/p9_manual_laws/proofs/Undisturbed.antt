@@ -2,7 +2,7 @@
 use Rattle.std.proofs.Common.{◌≡◌, ℕ, false, List, [], ◌∷◌, ◌⊎◌, inl, inr, Some, None, Ok, Err}
 use Rattle.std.proofs.Common.{Option, refl, ap, sym, ◌∙◌, subst}
 use Rattle.p9_base.specs.declared.node_ref.NodeRef.{NodeRef}
-use Rattle.p9_base.specs.Results.{given}
+use Rattle.p9_base.specs.Results.{obtain}
 use Rattle.p9_tree.specs.Forest.{node_of}
 use Rattle.p9_tree.specs.Node.{Node, is_dir, touched}
 use Rattle.p9_tree.specs.Server.{Server}
@@ -11,7 +11,7 @@ use Rattle.p9_wire.specs.Message.{Tread}
 use Rattle.p9_fids.specs.declared.opened.Opened.{Opened}
 use Rattle.p9_fids.specs.Fid.{Fid, fid_at}
 use Rattle.p9_step.specs.Answer.{Answer, Outcome, outcome_of}
-use Rattle.p9_step.specs.Change.{Change, EditNode, Touch, all_applied, applied, edited}
+use Rattle.p9_step.specs.ForestChange.{ForestChange, EditNode, Touch, all_applied, applied, edited}
 use Rattle.p9_step.specs.Read.{read_answer, readable}
 use Rattle.p9_step.specs.State.{Session, Setting, State, fid_file, fid_ref}
 use Rattle.p9_step.proofs.Done.{OnDone}
@@ -22,7 +22,7 @@ use Rattle.p9_manual_laws.specs.Files.{ReadsDontDisturb}
 use Rattle.p9_manual_laws.proofs.Sessions.{session_at-other}
 
 -- of a read: nothing in the forest changes, or the time of a file's last read
-Reads : List Server → NodeRef → ℕ → List Change → Type 0
+Reads : List Server → NodeRef → ℕ → List ForestChange → Type 0
 Reads forest at now changes =
     (changes ≡ [])
     ⊎ ((n : Node) × (node_of at forest ≡ Some n) × (is_dir n ≡ false)
@@ -61,7 +61,7 @@ same_touched : (setting : Setting) (forest after : List Server) (session : Sessi
     → is_dir n ≡ false → is_dir m ≡ false → m.bytes ≡ n.bytes
     → (outcome_of session (read_answer setting after session now fid offset count)).reply
     ≡ (outcome_of session (read_answer setting forest session now fid offset count)).reply
-unfolding given
+unfolding obtain
 same_touched setting forest after session now fid offset count w n m found before later plain file
     same =
     go (readable w.opened) refl
@@ -73,7 +73,7 @@ same_touched setting forest after session now fid offset count w n m found befor
     go (Some opened) e = rw (found, e, before, later, plain, file, same) refl
 
 -- so does any read of it after another read
-same_read : (setting : Setting) (forest : List Server) (at : NodeRef) (changes : List Change)
+same_read : (setting : Setting) (forest : List Server) (at : NodeRef) (changes : List ForestChange)
     (session : Session) (now later fid offset count : ℕ) (w : Fid)
     → fid_at fid session.fids ≡ Some w → fid_ref setting.table w ≡ at
     → Reads forest at now changes

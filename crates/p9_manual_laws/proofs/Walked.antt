@@ -6,7 +6,7 @@ use Rattle.std.proofs.lemmas.Bool.Decides.{nat_tests}
 use Rattle.p9_base.specs.declared.fault.Fault.{Fault}
 use Rattle.p9_base.specs.declared.node_ref.NodeRef.{NodeRef}
 use Rattle.p9_base.specs.declared.qid.Qid.{Qid}
-use Rattle.p9_base.specs.Results.{given, need, unless}
+use Rattle.p9_base.specs.Results.{obtain, need, unless}
 use Rattle.p9_tree.specs.Node.{Node}
 use Rattle.p9_tree.specs.Server.{Server}
 use Rattle.p9_space.specs.declared.trail.Step.{Step}
@@ -110,7 +110,7 @@ answered : (state : State) (name now fid newfid : ℕ) (session : Session) (v : 
     ≡ after_outcome state name (outcome_of session
     (walk_outcome fid newfid v session
     (walked state.setting state.forest v.user v.trail names)))
-unfolding given need unless
+unfolding obtain need unless
 answered state name now fid newfid session v names has shut free =
     rw (has.session_is, has.fid_is, shut, free) refl
 

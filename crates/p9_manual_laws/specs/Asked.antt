@@ -6,7 +6,7 @@ use Rattle.p9_wire.specs.Message.{RMessage, TMessage}
 use Rattle.p9_wire.specs.Spelling.{r_spelling}
 use Rattle.p9_fids.specs.Fid.{Fid, fid_at}
 use Rattle.p9_step.specs.Answer.{Outcome, outcome_of}
-use Rattle.p9_step.specs.Change.{all_applied}
+use Rattle.p9_step.specs.ForestChange.{all_applied}
 use Rattle.p9_step.specs.Event.{Message}
 use Rattle.p9_step.specs.Request.{request_of, tag_of}
 use Rattle.p9_step.specs.State.{Session, State, changed_session, session_at}

@@ -7,20 +7,20 @@ use Rattle.p9_nsfile.specs.declared.fault.OpFault.TheVariants.{SpecGiven}
 use Rattle.p9_nsfile.specs.declared.flags.Flags.{Flags}
 use Rattle.p9_nsfile.specs.Bind.{has_spec, mounted_by, root_mounted}
 use Rattle.p9_nsfile.specs.Find.{server_root}
-use Rattle.p9_nsfile.specs.Setting.{Setting}
+use Rattle.p9_nsfile.specs.Environment.{Environment}
 use Rattle.p9_nsfile.specs.Space.{Space}
 use Rattle.p9_nsfile.specs.Variable.{expanded}
 
 -- a mount whose server is known, without a spec
-pub mounted_by-root : (setting : Setting) (space : Space) (flags : Flags) (server name old : List ℕ)
+pub mounted_by-root : (environment : Environment) (space : Space) (flags : Flags) (server name old : List ℕ)
     (spec : Option (List ℕ)) (root : NodeRef) (given : Bool) →
-    name ≡ expanded setting.vars server → Ok root ≡ server_root setting.servers name
-    → given ≡ has_spec setting spec → given ≡ false →
-    mounted_by setting space flags server old spec ≡ root_mounted setting space flags root old
-mounted_by-root setting space flags server name old spec root given is there asked none =
+    name ≡ expanded environment.vars server → Ok root ≡ server_root environment.servers name
+    → given ≡ has_spec environment spec → given ≡ false →
+    mounted_by environment space flags server old spec ≡ root_mounted environment space flags root old
+mounted_by-root environment space flags server name old spec root given is there asked none =
     ap (λ answer. and_then answer
-    (λ r. if has_spec setting spec then Err SpecGiven
-    else root_mounted setting space flags r old))
-    (ap (server_root setting.servers) (sym is) ∙ sym there)
-    ∙ ap (λ b. if b then Err SpecGiven else root_mounted setting space flags root old)
+    (λ r. if has_spec environment spec then Err SpecGiven
+    else root_mounted environment space flags r old))
+    (ap (server_root environment.servers) (sym is) ∙ sym there)
+    ∙ ap (λ b. if b then Err SpecGiven else root_mounted environment space flags root old)
     (sym asked ∙ none)

@@ -26,8 +26,8 @@ use Rattle.p9_nsfile.specs.declared.fault.OpFault.TheVariants.{Path, UnknownServ
 use Rattle.p9_nsfile.specs.declared.fault.Stop.TheVariants as stops
 use Rattle.p9_base.specs.declared.node_ref.TheConstants.{SERVERS_MAX}
 use Rattle.p9_nsfile.specs.Answer.{Gives, is_memory, walk_stop}
-use Rattle.p9_nsfile.specs.Find.{behind_hash, found_on_server, path_fault, server_root, walked}
-use Rattle.p9_nsfile.specs.Setting.{Setting}
+use Rattle.p9_nsfile.specs.Find.{behind_hash, found_on_server, path_fault, server_root, walked_along}
+use Rattle.p9_nsfile.specs.Environment.{Environment}
 use Rattle.p9_nsfile.specs.Space.{Space}
 
 -- a walk's fault, or a failed allocation
@@ -58,17 +58,17 @@ behind_hash-is (b ∷ bs) None none = by_test (b == 35) refl where
   by_test false e = refl
 
 -- the file of a path that names a server
-pub found_on_server-is : (setting : Setting) (space : Space) (path name rest : List ℕ)
+pub found_on_server-is : (environment : Environment) (space : Space) (path name rest : List ℕ)
     (root : Result NodeRef OpFault) →
     name ≡ before_first is_slash path → rest ≡ after_first is_slash path
-    → root ≡ server_root setting.servers name →
-    found_on_server setting space path
-    ≡ and_then root (λ r. walked setting space (r ∷ []) (slash ∷ rest))
-found_on_server-is setting space path name rest root n r e =
+    → root ≡ server_root environment.servers name →
+    found_on_server environment space path
+    ≡ and_then root (λ r. walked_along environment space (r ∷ []) (slash ∷ rest))
+found_on_server-is environment space path name rest root n r e =
     ap (λ answer. and_then answer
-    (λ root. walked setting space (root ∷ []) (slash ∷ after_first is_slash path)))
-    (ap (server_root setting.servers) (sym n) ∙ sym e)
-    ∙ ap (λ behind. and_then root (λ root. walked setting space (root ∷ []) (slash ∷ behind)))
+    (λ root. walked_along environment space (root ∷ []) (slash ∷ after_first is_slash path)))
+    (ap (server_root environment.servers) (sym n) ∙ sym e)
+    ∙ ap (λ behind. and_then root (λ root. walked_along environment space (root ∷ []) (slash ∷ behind)))
     (sym r)
 
 -- the server of a name, among those that have a number

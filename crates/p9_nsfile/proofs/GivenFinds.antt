@@ -27,9 +27,9 @@ use Rattle.p9_space.proofs.GivenWalks.{here-given, walk-given}
 use Rattle.p9_nsfile.specs.declared.fault.OpFault.TheVariants.{UnknownServer}
 use Rattle.p9_base.specs.declared.node_ref.TheConstants.{SERVERS_MAX}
 use Rattle.p9_nsfile.specs.Find.{behind_hash, found, found_at, found_file, found_from}
-use Rattle.p9_nsfile.specs.Find.{found_on_server, path_fault, server_root, walked}
+use Rattle.p9_nsfile.specs.Find.{found_on_server, path_fault, server_root, walked_along}
 use Rattle.p9_nsfile.specs.Flags.{Word}
-use Rattle.p9_nsfile.specs.Setting.{Setting}
+use Rattle.p9_nsfile.specs.Environment.{Environment}
 use Rattle.p9_nsfile.specs.Space.{Space}
 use Rattle.p9_nsfile.specs.Variable.{expanded}
 
@@ -57,14 +57,14 @@ get-within [] i within = absurd (omega arith)
 get-within (x ∷ xs) zero within = (x, refl)
 get-within (x ∷ xs) (suc i) within = get-within xs i (omega arith)
 
-module _ (setting : Setting) (sound : IsForest setting.forest) where
+module _ (environment : Environment) (sound : IsForest environment.forest) where
   -- each server's root was made
-  pub root-given : (k : ℕ) → k < length setting.forest → is_given setting.forest (record {
+  pub root-given : (k : ℕ) → k < length environment.forest → is_given environment.forest (record {
     server = k;
     number = 0;
   }) ≡ true
   root-given k within =
-      let there = get-within setting.forest k within in
+      let there = get-within environment.forest k within in
       let well = sound.servers k there.0 there.1 in
       let below : 0 < there.0.next =
       by there.0 (node_at 0 there.0.nodes) refl well.root
@@ -84,52 +84,52 @@ module _ (setting : Setting) (sound : IsForest setting.forest) where
       by s (Some n) e dir its =
           let both = its n e in let zero_is = both.0 in let lt = both.1 in omega arith
 
-  module _ (some : 0 < length setting.forest)
-      (named : length setting.servers ≤ length setting.forest) where
+  module _ (some : 0 < length environment.forest)
+      (named : length environment.servers ≤ length environment.forest) where
     pub server_root-given : (name : Word)
-        → IfOk (server_root setting.servers name) (λ root. is_given setting.forest root ≡ true)
+        → IfOk (server_root environment.servers name) (λ root. is_given environment.forest root ≡ true)
     server_root-given name =
-        by (position (λ server. bytes_eq server name) (take SERVERS_MAX setting.servers)) refl
+        by (position (λ server. bytes_eq server name) (take SERVERS_MAX environment.servers)) refl
       where
         by : (number : Option ℕ)
-            → position (λ server. bytes_eq server name) (take SERVERS_MAX setting.servers) ≡ number
+            → position (λ server. bytes_eq server name) (take SERVERS_MAX environment.servers) ≡ number
             → IfOk (option_map_or (λ number. Ok (record { server = number; number = 0 })) number
-            (Err UnknownServer)) (λ root. is_given setting.forest root ≡ true)
+            (Err UnknownServer)) (λ root. is_given environment.forest root ≡ true)
         by None e = tt
         by (Some k) e =
-            let within : k < length (take SERVERS_MAX setting.servers) =
-            position-within (λ server. bytes_eq server name) (take SERVERS_MAX setting.servers)
+            let within : k < length (take SERVERS_MAX environment.servers) =
+            position-within (λ server. bytes_eq server name) (take SERVERS_MAX environment.servers)
             k e in
-            root-given k (omega (arith, length-take SERVERS_MAX setting.servers))
+            root-given k (omega (arith, length-take SERVERS_MAX environment.servers))
 
     -- of a name space, what its table and its current directory name was made
     pub record IsSpaceGiven (space : Space) : Type 0 where
-      pub table : is_table_given setting.forest space.table ≡ true
-      pub current : list_all (is_given setting.forest) space.current ≡ true
+      pub table : is_table_given environment.forest space.table ≡ true
+      pub current : list_all (is_given environment.forest) space.current ≡ true
 
     abbrev pub IsTrailGiven : List NodeRef → Type 0
-    IsTrailGiven trail = list_all (is_given setting.forest) trail ≡ true
+    IsTrailGiven trail = list_all (is_given environment.forest) trail ≡ true
 
     abbrev pub root_trail-given : IsTrailGiven (root_place ∷ [])
     root_trail-given = rw (root-given 0 some) refl
 
     pub last-given : (trail : List NodeRef) → IsTrailGiven trail
-        → is_given setting.forest (here trail) ≡ true
-    last-given trail all = here-given setting.forest trail (root-given 0 some) all
+        → is_given environment.forest (here trail) ≡ true
+    last-given trail all = here-given environment.forest trail (root-given 0 some) all
 
     module _ (space : Space) (made : IsSpaceGiven space) where
       walked-given : (start : List NodeRef) (path : Word) → IsTrailGiven start
-          → IfOk (walked setting space start path) IsTrailGiven
+          → IfOk (walked_along environment space start path) IsTrailGiven
       walked-given start path all =
-          by (walk setting.forest space.table None start (cleaned_elements path))
-          (walk-given setting.forest sound None space.table start (cleaned_elements path) all)
+          by (walk environment.forest space.table None start (cleaned_elements path))
+          (walk-given environment.forest sound None space.table start (cleaned_elements path) all)
         where
           by : (trail : Result (List NodeRef) Fault) → IfOk trail IsTrailGiven
               → IfOk (path_fault trail) IsTrailGiven
           by (Ok trail) all = all
           by (Err fault) all = tt
 
-      found_from-given : (path : Word) → IfOk (found_from setting space path) IsTrailGiven
+      found_from-given : (path : Word) → IfOk (found_from environment space path) IsTrailGiven
       found_from-given path =
           walked-given (if is_rooted path then root_place ∷ [] else space.current) path
           (by (is_rooted path))
@@ -138,31 +138,31 @@ module _ (setting : Setting) (sound : IsForest setting.forest) where
           by true = root_trail-given
           by false = made.current
 
-      found_on_server-given : (path : Word) → IfOk (found_on_server setting space path) IsTrailGiven
+      found_on_server-given : (path : Word) → IfOk (found_on_server environment space path) IsTrailGiven
       found_on_server-given path =
-          holds-then (λ root. is_given setting.forest root ≡ true) IsTrailGiven
-          (server_root setting.servers (before_first is_slash path))
-          (λ root. walked setting space (root ∷ []) (slash ∷ after_first is_slash path))
+          holds-then (λ root. is_given environment.forest root ≡ true) IsTrailGiven
+          (server_root environment.servers (before_first is_slash path))
+          (λ root. walked_along environment space (root ∷ []) (slash ∷ after_first is_slash path))
           (server_root-given (before_first is_slash path))
           (λ root is. walked-given (root ∷ []) (slash ∷ after_first is_slash path) (rw is refl))
 
-      pub found-given : (word : Word) → IfOk (found setting space word) IsTrailGiven
-      found-given word = by (expanded setting.vars word)
+      pub found-given : (word : Word) → IfOk (found environment space word) IsTrailGiven
+      found-given word = by (expanded environment.vars word)
         where
-          by : (path : Word) → IfOk (found_at setting space path) IsTrailGiven
+          by : (path : Word) → IfOk (found_at environment space path) IsTrailGiven
           by path = at (behind_hash path)
             where
               at : (rest : Option Word)
-                  → IfOk (option_map_or (found_on_server setting space) rest
-                  (found_from setting space path)) IsTrailGiven
+                  → IfOk (option_map_or (found_on_server environment space) rest
+                  (found_from environment space path)) IsTrailGiven
               at None = found_from-given path
               at (Some rest) = found_on_server-given rest
 
       pub found_file-given : (word : Word)
-          → IfOk (found_file setting space word) (λ file. is_given setting.forest file ≡ true)
+          → IfOk (found_file environment space word) (λ file. is_given environment.forest file ≡ true)
       found_file-given word =
-          holds-then IsTrailGiven (λ file. is_given setting.forest file ≡ true)
-          (found setting space word) (λ trail. Ok (file_ref (here trail) space.table))
+          holds-then IsTrailGiven (λ file. is_given environment.forest file ≡ true)
+          (found environment space word) (λ trail. Ok (file_ref (here trail) space.table))
           (found-given word)
-          (λ trail all. file-given setting.forest space.table made.table (here trail)
+          (λ trail all. file-given environment.forest space.table made.table (here trail)
           (last-given trail all))

@@ -14,7 +14,7 @@ use Rattle.p9_nsfile.specs.declared.fault.Stop.TheVariants as stops
 use Rattle.p9_nsfile.specs.Answer.{Acts, GivesLines}
 use Rattle.p9_nsfile.specs.Line.{NumberedLine, lines_in}
 use Rattle.p9_nsfile.specs.Run.{file_lines, included, included_lines, lines_done, or_bad_include}
-use Rattle.p9_nsfile.specs.Setting.{Setting}
+use Rattle.p9_nsfile.specs.Environment.{Environment}
 use Rattle.p9_nsfile.specs.Space.{Space}
 
 module _ (n : Node) (directory : Bool) (bytes : List ℕ) (asked : directory ≡ is_dir n)
@@ -43,22 +43,22 @@ module _ (n : Node) (directory : Bool) (bytes : List ℕ) (asked : directory ≡
     by_test false e = file_lines-by false e
 
 -- no file may be nested any more
-pub included-none : (setting : Setting) (line : ℕ) (space : Space) (path : List ℕ)
-    → included setting 0 line space path ≡ Err TooDeep
+pub included-none : (environment : Environment) (line : ℕ) (space : Space) (path : List ℕ)
+    → included environment 0 line space path ≡ Err TooDeep
 unfolding included
-included-none setting line space path = refl
+included-none environment line space path = refl
 
 -- one nested file, in which one fewer may be nested
-pub included-more : (setting : Setting) (left line : ℕ) (space : Space) (path : List ℕ) → 0 < left →
-    included setting left line space path
-    ≡ and_then (included_lines setting space path)
-    (λ lines. Ok (lines_done setting (left - 1) (Some line) space lines))
+pub included-more : (environment : Environment) (left line : ℕ) (space : Space) (path : List ℕ) → 0 < left →
+    included environment left line space path
+    ≡ and_then (included_lines environment space path)
+    (λ lines. Ok (lines_done environment (left - 1) (Some line) space lines))
 unfolding included
-included-more setting zero line space path some = absurd (omega arith)
-included-more setting (suc left) line space path some =
+included-more environment zero line space path some = absurd (omega arith)
+included-more environment (suc left) line space path some =
     let less : left ≡ suc left - 1 = omega arith in
-    ap (λ k. and_then (included_lines setting space path)
-    (λ lines. Ok (lines_done setting k (Some line) space lines))) less
+    ap (λ k. and_then (included_lines environment space path)
+    (λ lines. Ok (lines_done environment k (Some line) space lines))) less
 
 -- a file whose lines aren't found: its fault, or a failed allocation
 pub Acts-no_lines : (A : Type 0) {U : Type 0} (answer : Result (List NumberedLine) OpFault)

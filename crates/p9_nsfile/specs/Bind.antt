@@ -18,7 +18,7 @@ use Rattle.p9_nsfile.specs.declared.fault.OpFault.TheVariants.{SpecGiven}
 use Rattle.p9_nsfile.specs.declared.flags.Flags.{Flags}
 use Rattle.p9_nsfile.specs.Find.{found, found_file, server_root}
 use Rattle.p9_nsfile.specs.Flags.{Word}
-use Rattle.p9_nsfile.specs.Setting.{Setting}
+use Rattle.p9_nsfile.specs.Environment.{Environment}
 use Rattle.p9_nsfile.specs.Space.{Space}
 use Rattle.p9_nsfile.specs.Variable.{expanded}
 
@@ -40,38 +40,38 @@ abbrev pub with_table : Space → List MountRow → Space
 with_table space table = record space { table = table }
 
 -- the nodes in the place of the key, or before or after what is there
-abbrev pub put_at : Setting → Space → NodeRef → List NodeRef → Flags → Result Space OpFault
-put_at setting space key nodes flags =
-    if may_hold setting.forest flags.order key nodes
+abbrev pub put_at : Environment → Space → NodeRef → List NodeRef → Flags → Result Space OpFault
+put_at environment space key nodes flags =
+    if may_hold environment.forest flags.order key nodes
     then Ok (with_table space (bound key nodes flags.order flags.create space.table))
     else Err KindMismatch
 
 -- a spec is given where it isn't empty, with the variables' values put in
-abbrev pub has_spec : Setting → Option Word → Bool
-has_spec setting spec =
-    option_map_or (λ word. nat_lt 0 (length (expanded setting.vars word))) spec false
+abbrev pub has_spec : Environment → Option Word → Bool
+has_spec environment spec =
+    option_map_or (λ word. nat_lt 0 (length (expanded environment.vars word))) spec false
 
 -- the root on the old file
-abbrev pub root_mounted : Setting → Space → Flags → NodeRef → Word → Result Space OpFault
-root_mounted setting space flags root old =
-    and_then (found setting space old) (λ to. put_at setting space (here to) (root ∷ []) flags)
+abbrev pub root_mounted : Environment → Space → Flags → NodeRef → Word → Result Space OpFault
+root_mounted environment space flags root old =
+    and_then (found environment space old) (λ to. put_at environment space (here to) (root ∷ []) flags)
 
 -- `mount`: the server, the spec, then the old file; the server's root itself
-abbrev pub mounted_by : Setting → Space → Flags → Word → Word → Option Word → Result Space OpFault
-mounted_by setting space flags server old spec =
-    and_then (server_root setting.servers (expanded setting.vars server)) (λ root.
-    if has_spec setting spec then Err SpecGiven else root_mounted setting space flags root old)
+abbrev pub mounted_by : Environment → Space → Flags → Word → Word → Option Word → Result Space OpFault
+mounted_by environment space flags server old spec =
+    and_then (server_root environment.servers (expanded environment.vars server)) (λ root.
+    if has_spec environment spec then Err SpecGiven else root_mounted environment space flags root old)
 
 -- the nodes that stand for a place
 abbrev pub member_nodes : List MountRow → NodeRef → List NodeRef
 member_nodes table place = map (λ m. m.node) (members_of place table)
 
 -- `bind`: the new file, which is translated, then the old one, which isn't
-abbrev pub bound_by : Setting → Space → Flags → Word → Word → Result Space OpFault
-bound_by setting space flags new old =
-    and_then (found setting space new) (λ from.
-    and_then (found setting space old) (λ to.
-    put_at setting space (here to) (member_nodes space.table (here from)) flags))
+abbrev pub bound_by : Environment → Space → Flags → Word → Word → Result Space OpFault
+bound_by environment space flags new old =
+    and_then (found environment space new) (λ from.
+    and_then (found environment space old) (λ to.
+    put_at environment space (here to) (member_nodes space.table (here from)) flags))
 
 -- why nothing is unmounted
 abbrev pub unmount_fault : UnmountError → OpFault
@@ -88,9 +88,9 @@ abbrev pub taken_away : Space → NodeRef → Option NodeRef → Result Space Op
 taken_away space key node = after_unmount space (unmounted key node space.table)
 
 -- `unmount`: the file of the new place, if there is one, then the old file
-abbrev pub unmounted_by : Setting → Space → Option Word → Word → Result Space OpFault
-unmounted_by setting space None old =
-    and_then (found setting space old) (λ to. taken_away space (here to) None)
-unmounted_by setting space (Some new) old =
-    and_then (found_file setting space new) (λ file.
-    and_then (found setting space old) (λ to. taken_away space (here to) (Some file)))
+abbrev pub unmounted_by : Environment → Space → Option Word → Word → Result Space OpFault
+unmounted_by environment space None old =
+    and_then (found environment space old) (λ to. taken_away space (here to) None)
+unmounted_by environment space (Some new) old =
+    and_then (found_file environment space new) (λ file.
+    and_then (found environment space old) (λ to. taken_away space (here to) (Some file)))

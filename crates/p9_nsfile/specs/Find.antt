@@ -16,7 +16,7 @@ use Rattle.p9_space.specs.Walk.{walk}
 use Rattle.p9_nsfile.specs.declared.fault.OpFault.{OpFault}
 use Rattle.p9_nsfile.specs.declared.fault.OpFault.TheVariants.{Path, UnknownServer}
 use Rattle.p9_nsfile.specs.Flags.{Word}
-use Rattle.p9_nsfile.specs.Setting.{Setting}
+use Rattle.p9_nsfile.specs.Environment.{Environment}
 use Rattle.p9_nsfile.specs.Space.{Space}
 use Rattle.p9_nsfile.specs.Variable.{expanded}
 
@@ -36,21 +36,21 @@ abbrev pub behind_hash : Word → Option Word
 behind_hash [] = None
 behind_hash (b ∷ bs) = if b == 35 then Some bs else None
 
-module _ (setting : Setting) (space : Space) where
+module _ (environment : Environment) (space : Space) where
   -- along the cleaned path; no permission is needed
-  abbrev pub walked : List NodeRef → Word → Result (List NodeRef) OpFault
-  walked start path =
-      path_fault (walk setting.forest space.table None start (cleaned_elements path))
+  abbrev pub walked_along : List NodeRef → Word → Result (List NodeRef) OpFault
+  walked_along start path =
+      path_fault (walk environment.forest space.table None start (cleaned_elements path))
 
   -- a path from the root place, or from the current directory
   abbrev pub found_from : Word → Result (List NodeRef) OpFault
-  found_from path = walked (if is_rooted path then root_place ∷ [] else space.current) path
+  found_from path = walked_along (if is_rooted path then root_place ∷ [] else space.current) path
 
   -- a path that begins with a server's name; what follows that is rooted
   abbrev pub found_on_server : Word → Result (List NodeRef) OpFault
   found_on_server path =
-      and_then (server_root setting.servers (before_first is_slash path))
-      (λ root. walked (root ∷ []) (slash ∷ after_first is_slash path))
+      and_then (server_root environment.servers (before_first is_slash path))
+      (λ root. walked_along (root ∷ []) (slash ∷ after_first is_slash path))
 
   -- the trail to the file that a path names
   abbrev pub found_at : Word → Result (List NodeRef) OpFault
@@ -58,7 +58,7 @@ module _ (setting : Setting) (space : Space) where
 
   -- the trail to the file that a word names, with the variables' values put in
   abbrev pub found : Word → Result (List NodeRef) OpFault
-  found word = found_at (expanded setting.vars word)
+  found word = found_at (expanded environment.vars word)
 
   -- the file that a word names: the first that stands for its place
   abbrev pub found_file : Word → Result NodeRef OpFault

@@ -2,7 +2,7 @@ pub mod Flags
 pub mod Operation
 pub mod Line
 pub mod Variable
-pub mod Setting
+pub mod Environment
 pub mod Space
 pub mod Answer
 pub mod Find

@@ -19,7 +19,7 @@ use Rattle.p9_nsfile.specs.Bind.{bound_by, mounted_by, unmounted_by, with_table}
 use Rattle.p9_nsfile.specs.Find.{found, found_file}
 use Rattle.p9_nsfile.specs.Flags.{Word}
 use Rattle.p9_nsfile.specs.Line.{BadLineOf, NumberedLine, lines_in}
-use Rattle.p9_nsfile.specs.Setting.{Setting}
+use Rattle.p9_nsfile.specs.Environment.{Environment}
 use Rattle.p9_nsfile.specs.Space.{Report, Space, beginning}
 
 -- how deep included files may be nested
@@ -44,27 +44,27 @@ abbrev pub reported : ℕ → Space → Result Space OpFault → Space
 reported line space (Ok next) = next
 reported line space (Err fault) = record space { reports = space.reports ++ (line, fault) ∷ [] }
 
-module _ (setting : Setting) where
+module _ (environment : Environment) where
   -- `cd`: into a directory, by the trail on which it was found
   abbrev pub entered : Space → Word → Result Space OpFault
   entered space dir =
-      and_then (found setting space dir) (λ trail.
-      if is_dir_of (file_ref (here trail) space.table) setting.forest
+      and_then (found environment space dir) (λ trail.
+      if is_dir_of (file_ref (here trail) space.table) environment.forest
       then Ok (record space { current = trail })
       else Err (Path NotDirectory))
 
   -- the lines of the file that a word names
   abbrev pub included_lines : Space → Word → Result (List NumberedLine) OpFault
   included_lines space path =
-      and_then (found_file setting space path) (λ file. file_lines (node_of file setting.forest))
+      and_then (found_file environment space path) (λ file. file_lines (node_of file environment.forest))
 
   -- what an operation makes of the name space
   abbrev pub acted : (Space → Word → Result Space OpFault) → Space → Operation Word
       → Result Space OpFault
-  acted include space (Mount flags server old spec) = mounted_by setting space flags server old spec
-  acted include space (Bind flags new old) = bound_by setting space flags new old
+  acted include space (Mount flags server old spec) = mounted_by environment space flags server old spec
+  acted include space (Bind flags new old) = bound_by environment space flags new old
   acted include space (Cd dir) = entered space dir
-  acted include space (Unmount new old) = unmounted_by setting space new old
+  acted include space (Unmount new old) = unmounted_by environment space new old
   acted include space Clear = Ok (with_table space [])
   acted include space (Include path) = include space path
   acted include space Import = Err NotOffered

@@ -6,10 +6,10 @@ ghost use Rattle.std.specs.Option.{option_copied};
 ghost use Rattle.p9_base.specs.Name.{slash, is_slash};
 ghost use Rattle.p9_nsfile.specs.Answer.{Gives};
 ghost use Rattle.p9_nsfile.specs.Find.{behind_hash, found, found_at, found_file, found_from};
-ghost use Rattle.p9_nsfile.specs.Find.{found_on_server, walked};
+ghost use Rattle.p9_nsfile.specs.Find.{found_on_server, walked_along};
 
+use crate::environment::Environment;
 use crate::fault::Stop;
-use crate::setting::Setting;
 use crate::space::Space;
 use p9_base::{NoMemory, NodeRef};
 use p9_clean::cleaned_elements;
@@ -24,39 +24,39 @@ use std::alloc::Allocator;
 /// [`crate::OpFault::UnknownServer`], and [`crate::OpFault::Path`] with that of the first step that
 /// is refused.
 pub(crate) fn find<T: Tree>(
-    setting: &Setting<'_, T>,
+    environment: &Environment<'_, T>,
     space: &Space<T::Alloc>,
     word: &str,
 ) -> Result<Trail<T::Alloc>, Stop>
-    ensures { Gives (found setting.now space.now word.now) result }
+    ensures { Gives (found environment.now space.now word.now) result }
 {
-    let path = setting.expand(word)?;
-    find_path(setting, space, path.as_str())
+    let path = environment.expand(word)?;
+    find_path(environment, space, path.as_str())
 }
 
 /// The file that a word names: the first that stands for its place.
 pub(crate) fn find_file<T: Tree>(
-    setting: &Setting<'_, T>,
+    environment: &Environment<'_, T>,
     space: &Space<T::Alloc>,
     word: &str,
 ) -> Result<NodeRef, Stop>
-    ensures { Gives (found_file setting.now space.now word.now) result }
+    ensures { Gives (found_file environment.now space.now word.now) result }
 {
-    let place = find(setting, space, word)?.here();
+    let place = find(environment, space, word)?.here();
     Ok(space.file(place))
 }
 
 // The trail to the file that a path names.
 fn find_path<T: Tree>(
-    setting: &Setting<'_, T>,
+    environment: &Environment<'_, T>,
     space: &Space<T::Alloc>,
     path: &str,
 ) -> Result<Trail<T::Alloc>, Stop>
-    ensures { Gives (found_at setting.now space.now path.now) result }
+    ensures { Gives (found_at environment.now space.now path.now) result }
 {
     match behind_hash(path) {
-        Some(rest) => find_on_server(setting, space, rest),
-        None => find_from(setting, space, path),
+        Some(rest) => find_on_server(environment, space, rest),
+        None => find_from(environment, space, path),
     }
 }
 
@@ -69,32 +69,32 @@ fn behind_hash(path: &str) -> Option<&str>
 
 // The trail to the file of a path that names no server.
 fn find_from<T: Tree>(
-    setting: &Setting<'_, T>,
+    environment: &Environment<'_, T>,
     space: &Space<T::Alloc>,
     path: &str,
 ) -> Result<Trail<T::Alloc>, Stop>
-    ensures { Gives (found_from setting.now space.now path.now) result }
+    ensures { Gives (found_from environment.now space.now path.now) result }
 {
     if path.starts_with('/') {
-        let root = setting.trail_at(ROOT_PLACE)?;
-        walk(setting, space, &root, path)
+        let root = environment.trail_at(ROOT_PLACE)?;
+        walk(environment, space, &root, path)
     } else {
-        walk(setting, space, space.current(), path)
+        walk(environment, space, space.current(), path)
     }
 }
 
 // The trail to the file of a path that begins with a server's name, which ends at the first slash.
 // What follows that is rooted.
 fn find_on_server<T: Tree>(
-    setting: &Setting<'_, T>,
+    environment: &Environment<'_, T>,
     space: &Space<T::Alloc>,
     path: &str,
 ) -> Result<Trail<T::Alloc>, Stop>
-    ensures { Gives (found_on_server setting.now space.now path.now) result }
+    ensures { Gives (found_on_server environment.now space.now path.now) result }
 {
     let (name, rest) = split_name(path);
-    match setting.server_root(name) {
-        Ok(root) => walk_rooted(setting, space, root, rest),
+    match environment.server_root(name) {
+        Ok(root) => walk_rooted(environment, space, root, rest),
         Err(fault) => Err(Stop::Fault(fault)),
     }
 }
@@ -112,16 +112,16 @@ fn split_name(path: &str) -> (&str, &str)
 
 // Walks from a root along what follows a slash.
 fn walk_rooted<T: Tree>(
-    setting: &Setting<'_, T>,
+    environment: &Environment<'_, T>,
     space: &Space<T::Alloc>,
     root: NodeRef,
     rest: &str,
 ) -> Result<Trail<T::Alloc>, Stop>
-    ensures { Gives (walked setting.now space.now (root ∷ []) (slash ∷ rest.now)) result }
+    ensures { Gives (walked_along environment.now space.now (root ∷ []) (slash ∷ rest.now)) result }
 {
-    let root = setting.trail_at(root)?;
-    let path = rooted(setting.alloc(), rest)?;
-    walk(setting, space, &root, path.as_str())
+    let root = environment.trail_at(root)?;
+    let path = rooted(environment.alloc(), rest)?;
+    walk(environment, space, &root, path.as_str())
 }
 
 fn rooted<A: Allocator>(alloc: A, rest: &str) -> Result<String<A>, NoMemory>
@@ -134,13 +134,13 @@ fn rooted<A: Allocator>(alloc: A, rest: &str) -> Result<String<A>, NoMemory>
 
 // Walks along a path, cleaned.
 fn walk<T: Tree>(
-    setting: &Setting<'_, T>,
+    environment: &Environment<'_, T>,
     space: &Space<T::Alloc>,
     start: &Trail<T::Alloc>,
     path: &str,
 ) -> Result<Trail<T::Alloc>, Stop>
-    ensures { Gives (walked setting.now space.now start.now path.now) result }
+    ensures { Gives (walked_along environment.now space.now start.now path.now) result }
 {
-    let names = cleaned_elements(setting.alloc(), path)?;
-    setting.walk(space.table(), start, &names)
+    let names = cleaned_elements(environment.alloc(), path)?;
+    environment.walk(space.table(), start, &names)
 }

@@ -2,6 +2,7 @@
 #![tactic(auto)]
 
 mod bind;
+mod environment;
 mod error;
 mod fault;
 mod find;
@@ -9,7 +10,6 @@ mod flags;
 mod line;
 mod operation;
 mod run;
-mod setting;
 mod space;
 mod variable;
 

@@ -7,15 +7,15 @@ ghost use Rattle.p9_nsfile.specs.Line.{IsNsFault, line_view, lines_in};
 ghost use Rattle.p9_nsfile.specs.Operation.{operation_view};
 ghost use Rattle.p9_nsfile.specs.Run.{acted, entered, file_lines, included, included_lines};
 ghost use Rattle.p9_nsfile.specs.Run.{line_done, lines_done, or_bad_include, run_of};
-ghost use Rattle.p9_nsfile.specs.Setting.{setting_view};
+ghost use Rattle.p9_nsfile.specs.Environment.{environment_view};
 
 use crate::bind::{bind, mount, unmount};
+use crate::environment::Environment;
 use crate::error::NsError;
 use crate::fault::{OpFault, Stop};
 use crate::find::{find, find_file};
 use crate::line::{Line, read_lines};
 use crate::operation::Operation;
-use crate::setting::Setting;
 use crate::space::Space;
 use p9_base::{Fault, NoMemory};
 use p9_space::MountTable;
@@ -45,20 +45,20 @@ pub fn run_file<T: Tree>(
     table: &mut MountTable<T::Alloc>,
 ) -> Result<Vec<(u64, OpFault), T::Alloc>, NsError>
     ensures ok { IfOk result (λ reports.
-        run_of (setting_view T.state forest.now.trees.items vars.now servers.now)
+        run_of (environment_view T.state forest.now.trees.items vars.now servers.now)
         text.now table.old ≡ Ok (table.new, reports.items)) }
     ensures err { IfErr result (IsNsFault
-        (run_of (setting_view T.state forest.now.trees.items vars.now servers.now)
+        (run_of (environment_view T.state forest.now.trees.items vars.now servers.now)
         text.now table.old)) }
     ensures unchanged { OnErr result (table.new ≡ table.old) }
-    ensures given { OnOk result (KeepsGiven (setting_view T.state forest.now.trees.items
+    ensures given { OnOk result (KeepsGiven (environment_view T.state forest.now.trees.items
         vars.now servers.now) table.old table.new) }
 {
     forest.well_formed();
     let lines = read_lines(alloc, text)?;
-    let setting = Setting::new(alloc, forest, vars, servers);
+    let environment = Environment::new(alloc, forest, vars, servers);
     let mut space = Space::begin(alloc, table)?;
-    run_lines(&setting, NESTED_MAX, None, &lines, &mut space)?;
+    run_lines(&environment, NESTED_MAX, None, &lines, &mut space)?;
     let (made, reports) = space.into_parts();
     *table = made;
     Ok(reports)
@@ -68,17 +68,17 @@ pub fn run_file<T: Tree>(
 // of the text by which a file is included. After a failed allocation the name space is unfinished.
 #[cycle(run)]
 fn run_lines<T: Tree>(
-    setting: &Setting<'_, T>,
+    environment: &Environment<'_, T>,
     left: u8,
     outer: Option<u64>,
     lines: &[Line<'_>],
     space: &mut Space<T::Alloc>,
 ) -> Result<(), NoMemory>
-    ensures { OnOk result (space.new ≡ lines_done setting.now left outer space.old
+    ensures { OnOk result (space.new ≡ lines_done environment.now left outer space.old
         (map line_view lines.now)) }
 {
     for line in lines {
-        run_line(setting, left, outer, line, space)?;
+        run_line(environment, left, outer, line, space)?;
     }
     Ok(())
 }
@@ -86,17 +86,17 @@ fn run_lines<T: Tree>(
 // Runs a line. A fault is reported with it, or with the outermost line.
 #[cycle(run)]
 fn run_line<T: Tree>(
-    setting: &Setting<'_, T>,
+    environment: &Environment<'_, T>,
     left: u8,
     outer: Option<u64>,
     line: &Line<'_>,
     space: &mut Space<T::Alloc>,
 ) -> Result<(), NoMemory>
-    ensures { OnOk result (space.new ≡ line_done setting.now
-        (included setting.now left) outer space.old (line_view line.now)) }
+    ensures { OnOk result (space.new ≡ line_done environment.now
+        (included environment.now left) outer space.old (line_view line.now)) }
 {
     let number = outer.unwrap_or(line.number);
-    match act(setting, left, number, line.operation, space) {
+    match act(environment, left, number, line.operation, space) {
         Ok(()) => Ok(()),
         Err(Stop::Fault(fault)) => space.report(number, fault),
         Err(Stop::NoMemory) => Err(NoMemory),
@@ -106,13 +106,13 @@ fn run_line<T: Tree>(
 // What an operation does.
 #[cycle(run)]
 fn act<T: Tree>(
-    setting: &Setting<'_, T>,
+    environment: &Environment<'_, T>,
     left: u8,
     line: u64,
     operation: Operation<&str>,
     space: &mut Space<T::Alloc>,
 ) -> Result<(), Stop>
-    ensures { Acts (acted setting.now (included setting.now left line) space.old
+    ensures { Acts (acted environment.now (included environment.now left line) space.old
         (operation_view operation.entry)) space.old space.new result }
 {
     match operation {
@@ -121,25 +121,29 @@ fn act<T: Tree>(
             server,
             old,
             spec,
-        } => mount(setting, space, flags, server, old, spec),
-        Operation::Bind { flags, new, old } => bind(setting, space, flags, new, old),
-        Operation::Cd { dir } => cd(setting, space, dir),
-        Operation::Unmount { new, old } => unmount(setting, space, new, old),
+        } => mount(environment, space, flags, server, old, spec),
+        Operation::Bind { flags, new, old } => bind(environment, space, flags, new, old),
+        Operation::Cd { dir } => cd(environment, space, dir),
+        Operation::Unmount { new, old } => unmount(environment, space, new, old),
         Operation::Clear => {
             space.clear();
             Ok(())
         }
-        Operation::Include { path } => include(setting, left, line, path, space),
+        Operation::Include { path } => include(environment, left, line, path, space),
         Operation::Import => Err(Stop::Fault(OpFault::NotOffered)),
     }
 }
 
 // Makes a directory the current one.
-fn cd<T: Tree>(setting: &Setting<'_, T>, space: &mut Space<T::Alloc>, dir: &str) -> Result<(), Stop>
-    ensures { Acts (entered setting.now space.old dir.now) space.old space.new result }
+fn cd<T: Tree>(
+    environment: &Environment<'_, T>,
+    space: &mut Space<T::Alloc>,
+    dir: &str,
+) -> Result<(), Stop>
+    ensures { Acts (entered environment.now space.old dir.now) space.old space.new result }
 {
-    let trail = find(setting, space, dir)?;
-    if !setting.is_dir(space.file(trail.here())) {
+    let trail = find(environment, space, dir)?;
+    if !environment.is_dir(space.file(trail.here())) {
         return Err(Stop::Fault(OpFault::Path(Fault::NotDirectory)));
     }
     space.enter(trail);
@@ -149,33 +153,33 @@ fn cd<T: Tree>(setting: &Setting<'_, T>, space: &mut Space<T::Alloc>, dir: &str)
 // Runs the lines of a file, for the line that is reported.
 #[cycle(run)]
 fn include<T: Tree>(
-    setting: &Setting<'_, T>,
+    environment: &Environment<'_, T>,
     left: u8,
     line: u64,
     path: &str,
     space: &mut Space<T::Alloc>,
 ) -> Result<(), Stop>
-    ensures { Acts (included setting.now left line space.old path.now) space.old space.new result }
+    ensures { Acts (included environment.now left line space.old path.now) space.old space.new result }
 {
     if left == 0 {
         return Err(Stop::Fault(OpFault::TooDeep));
     }
-    let lines = find_lines(setting, space, path)?;
-    run_lines(setting, left - 1, Some(line), &lines, space)?;
+    let lines = find_lines(environment, space, path)?;
+    run_lines(environment, left - 1, Some(line), &lines, space)?;
     Ok(())
 }
 
 // The lines of the file that a word names.
 fn find_lines<'a, T: Tree>(
-    setting: &Setting<'a, T>,
+    environment: &Environment<'a, T>,
     space: &Space<T::Alloc>,
     path: &str,
 ) -> Result<Vec<Line<'a>, T::Alloc>, Stop>
-    ensures { GivesLines (included_lines setting.now space.now path.now) result }
+    ensures { GivesLines (included_lines environment.now space.now path.now) result }
 {
-    let file = find_file(setting, space, path)?;
-    match setting.node(file) {
-        Some(node) => file_lines(setting.alloc(), node),
+    let file = find_file(environment, space, path)?;
+    match environment.node(file) {
+        Some(node) => file_lines(environment.alloc(), node),
         None => Err(Stop::Fault(OpFault::Path(Fault::PhaseError))),
     }
 }

@@ -164,7 +164,7 @@ pub is-shut : (deeds : Deeds) (closed : Bool) (turn : Turn) → turn ≡ turn_of
     → turn ≡ Closed → closed ≡ true
 is-shut deeds true turn is same = refl
 is-shut deeds false turn is same =
-    go (nat_lt 0 (length deeds.read + length deeds.written + length deeds.entries)) (sym same ∙ is)
+    go (nat_lt 0 (length deeds.read + length deeds.written + length deeds.answered)) (sym same ∙ is)
   where
     go : (b : Bool) → Closed ≡ (if b then Moved else Idle) → false ≡ true
     go true e = absurd (cc)

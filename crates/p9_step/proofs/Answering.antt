@@ -13,7 +13,7 @@ use Rattle.std.specs.Prelude.{slice_index, unwrap_or, ◌&&◌}
 use Rattle.std.specs.Str.{bytes_eq}
 use Rattle.byteorder.specs.Numbers.{little_from-lt}
 use Rattle.p9_base.specs.Fault.{fault_text_max, text_of}
-use Rattle.p9_base.specs.Results.{and_then, given}
+use Rattle.p9_base.specs.Results.{and_then, obtain}
 use Rattle.p9_base.specs.declared.fault.Fault.{Fault}
 use Rattle.p9_base.specs.declared.fault.Fault.TheVariants.{BadDirectoryOffset, BadFileName}
 use Rattle.p9_base.specs.declared.fault.Fault.TheVariants.{BadOpenMode, CreationForbidden}
@@ -268,7 +268,7 @@ module _ (state : State) (name : ℕ) (session : Session) (frame : List ℕ)
       (refused && ran_out frame (remove_answer state.setting state.forest session now fid))
       (answered state name session frame refused
       (remove_answer state.setting state.forest session now fid))
-  unfolding given
+  unfolding obtain
   removed_by refused now fid sound wide is =
       rw (unmarked refused) (by_fid (fid_at fid session.fids) refl)
     where

@@ -3,8 +3,8 @@ use Rattle.std.proofs.Common.{◌≡◌, ℕ, List, [], ◌∷◌, inl, inr, Som
 use Rattle.p9_tree.specs.Node.{Node, is_dir}
 use Rattle.p9_tree.specs.Server.{Server, added, node_at, with_changed, with_dropped}
 use Rattle.p9_tree.specs.Forest.{next_of, node_of, server_at}
-use Rattle.p9_step.specs.Change.{Change, EditNode, AddNode, DropNode, Edit, Mark, applied}
-use Rattle.p9_step.specs.Change.{all_applied, edited}
+use Rattle.p9_step.specs.ForestChange.{ForestChange, EditNode, AddNode, DropNode, Edit, Mark, applied}
+use Rattle.p9_step.specs.ForestChange.{all_applied, edited}
 use Rattle.p9_step.proofs.Members.{member-changed_at, member-dropped_at, member-joined}
 use Rattle.p9_step.proofs.Evolves.{Evolved, Evolves, evolves-same, evolves-tree, evolves-twice}
 
@@ -14,13 +14,13 @@ pub record Keeps (edit : Edit) (n : Node) : Type 0 where
   pub dir : is_dir (edited edit n) ≡ is_dir n
 
 -- what lets the forest evolve
-abbrev pub IsSteady : List Server → Change → Type 0
+abbrev pub IsSteady : List Server → ForestChange → Type 0
 IsSteady forest (EditNode at edit) = (n : Node) → node_of at forest ≡ Some n → Keeps edit n
 IsSteady forest (AddNode server node) = node.number ≡ next_of server forest
 IsSteady forest (DropNode at) = Unit {0}
 
 -- the same of each of them, one after another
-abbrev pub AllSteady : List Server → List Change → Type 0
+abbrev pub AllSteady : List Server → List ForestChange → Type 0
 AllSteady forest [] = Unit {0}
 AllSteady forest (change ∷ changes) =
     IsSteady forest change × AllSteady (applied change forest) changes
@@ -60,7 +60,7 @@ evolved-add s y number = record {
 }
 
 -- after a steady change the forest has evolved
-pub evolves-applied : (forest : List Server) (change : Change) → IsSteady forest change
+pub evolves-applied : (forest : List Server) (change : ForestChange) → IsSteady forest change
     → Evolves forest (applied change forest)
 unfolding applied
 evolves-applied forest (EditNode at edit) steady =
@@ -75,7 +75,7 @@ evolves-applied forest (DropNode at) steady =
     (evolved-drop (server_at at.server forest) at.number)
 
 -- and after all of them
-pub evolves-all : (forest : List Server) (changes : List Change) → AllSteady forest changes
+pub evolves-all : (forest : List Server) (changes : List ForestChange) → AllSteady forest changes
     → Evolves forest (all_applied changes forest)
 evolves-all forest [] steady = evolves-same forest
 evolves-all forest (change ∷ changes) steady =

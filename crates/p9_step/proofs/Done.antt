@@ -5,7 +5,7 @@ use Rattle.std.specs.Str.{bytes_eq}
 use Rattle.p9_base.specs.Fault.{text_of}
 use Rattle.p9_base.specs.declared.fault.Fault.{Fault}
 use Rattle.p9_base.specs.declared.fault.Fault.TheVariants.{OutOfMemory}
-use Rattle.p9_base.specs.Results.{and_then, given, need, unless}
+use Rattle.p9_base.specs.Results.{and_then, obtain, need, unless}
 use Rattle.p9_step.specs.Answer.{Answer, Outcome}
 
 -- the fault of a test: no test is about memory
@@ -45,8 +45,8 @@ done-need P false fault rest of holds = of
 
 pub done-given : {X : Type 0} (P : Outcome → Type 0) (value : Option X) (fault : Fault)
     (rest : X → Answer) → IsOfTest fault → ((x : X) → value ≡ Some x → OnDone P (rest x))
-    → OnDone P (given value fault rest)
-unfolding OnDone given
+    → OnDone P (obtain value fault rest)
+unfolding OnDone obtain
 done-given P (Some x) fault rest of holds = holds x refl
 done-given P None fault rest of holds = of
 

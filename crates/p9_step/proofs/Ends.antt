@@ -15,7 +15,7 @@ use Rattle.p9_tree.specs.Forest.{IsForest, has_children_of, node_of}
 use Rattle.p9_space.specs.Table.{MountRow}
 use Rattle.p9_fids.specs.declared.opened.Opened.{Opened}
 use Rattle.p9_fids.specs.Fid.{Fid, FidRow, fid_at, without_fid}
-use Rattle.p9_step.specs.Change.{Change, DropNode, all_applied, applied}
+use Rattle.p9_step.specs.ForestChange.{ForestChange, DropNode, all_applied, applied}
 use Rattle.p9_step.specs.Sound.{FidFits, FidsFit}
 use Rattle.p9_step.specs.State.{fid_file, fid_ref}
 use Rattle.p9_step.specs.End.{on_end, on_ends, parent_marked}
@@ -115,13 +115,13 @@ removed_file table forest v n fits removes found = go v.opened refl
     go (Some o) is = dir_or_not o is (rw is at removes) (is_dir n) refl
 
 -- one list of changes after another
-pub applied-append : (xs ys : List Change) (forest : List Server)
+pub applied-append : (xs ys : List ForestChange) (forest : List Server)
     → all_applied (xs ++ ys) forest ≡ all_applied ys (all_applied xs forest)
 applied-append [] ys forest = refl
 applied-append (x ∷ xs) ys forest = applied-append xs ys (applied x forest)
 
 -- steady changes, one list after another, are steady
-pub steady-append : (forest : List Server) (xs ys : List Change) → AllSteady forest xs
+pub steady-append : (forest : List Server) (xs ys : List ForestChange) → AllSteady forest xs
     → AllSteady (all_applied xs forest) ys → AllSteady forest (xs ++ ys)
 steady-append forest [] ys first second = second
 steady-append forest (x ∷ xs) ys first second =

@@ -29,7 +29,7 @@ use Rattle.p9_wire.specs.Message.{Rcreate, Rread, StatFields}
 use Rattle.p9_wire.specs.Spelling.{RFits, RNumbersFit, r_len}
 use Rattle.p9_fids.specs.Fid.{Fid}
 use Rattle.p9_step.specs.Answer.{Outcome, is_error}
-use Rattle.p9_step.specs.Change.{AddNode, EditNode, Mark, edited}
+use Rattle.p9_step.specs.ForestChange.{AddNode, EditNode, Mark, edited}
 use Rattle.p9_step.specs.Create.{created, entered}
 use Rattle.p9_step.specs.Listing.{Entry}
 use Rattle.p9_step.specs.Open.{is_cut, truncated}

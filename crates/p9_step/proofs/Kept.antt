@@ -21,7 +21,7 @@ use Rattle.p9_fids.specs.Fid.{Fid, changed_fid, fid_at, nofid, put_fault, traile
 use Rattle.p9_fids.proofs.Fids.{fids-changed, fids-none, fids-with, fids-without}
 use Rattle.p9_step.specs.Answer.{Answer, Outcome, outcome_of}
 use Rattle.p9_step.specs.Attach.{attached}
-use Rattle.p9_step.specs.Change.{Change, all_applied}
+use Rattle.p9_step.specs.ForestChange.{ForestChange, all_applied}
 use Rattle.p9_step.specs.Clunk.{without}
 use Rattle.p9_step.specs.End.{on_end, on_ends, taken_out}
 use Rattle.p9_step.specs.Remove.{removal}
@@ -62,7 +62,7 @@ module _ (setting : Setting) (forest : List Server) (session : Session) (now : �
   kept-quiet left reply its = record { lawful = tt; session = its }
 
   -- one that leaves a session that is one already
-  pub kept-changes : (changes : List Change) (left : Session) (reply : RMessage)
+  pub kept-changes : (changes : List ForestChange) (left : Session) (reply : RMessage)
       → AllLawful forest changes → IsSession setting forest left
       → Kept setting forest (record { changes = changes; session = left; reply = reply })
   kept-changes changes left reply lawful its = record {

@@ -25,8 +25,8 @@ use Rattle.p9_fids.specs.declared.opened.OpenMode.{OpenMode}
 use Rattle.p9_fids.specs.declared.opened.OpenMode.TheVariants.{Execute, Read, ReadWrite, Write}
 use Rattle.p9_fids.specs.declared.opened.Opened.{Opened}
 use Rattle.p9_step.specs.Answer.{Outcome}
-use Rattle.p9_step.specs.Change.{AddNode, Change, Cut, EditNode, Mark, Overwrite, Touch}
-use Rattle.p9_step.specs.Change.{all_applied, applied}
+use Rattle.p9_step.specs.ForestChange.{AddNode, ForestChange, Cut, EditNode, Mark, Overwrite, Touch}
+use Rattle.p9_step.specs.ForestChange.{all_applied, applied}
 use Rattle.p9_step.specs.Create.{created, entered}
 use Rattle.p9_step.specs.Listing.{Entry}
 use Rattle.p9_step.specs.Open.{is_cut, truncation}
@@ -322,7 +322,7 @@ module _ (setting : Setting) (forest : List Server) (session : Session) (now : �
       node : Node
       node = created v.user now (next_of target.server forest) done.dir name done.asked
 
-      changes : List Change
+      changes : List ForestChange
       changes = AddNode target.server node ∷ EditNode target (Mark v.user now) ∷ []
 
       after : List Server

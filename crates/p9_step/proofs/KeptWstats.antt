@@ -16,7 +16,7 @@ use Rattle.p9_tree.proofs.Renewed.{apart-changed, named, sound-changed}
 use Rattle.p9_wire.specs.FieldReading.{◌then◌}
 use Rattle.p9_wire.specs.Message.{StatFields}
 use Rattle.p9_step.specs.Answer.{Outcome}
-use Rattle.p9_step.specs.Change.{EditNode, Rewrite, applied, edited}
+use Rattle.p9_step.specs.ForestChange.{EditNode, Rewrite, applied, edited}
 use Rattle.p9_step.specs.Qid.{stat_of}
 use Rattle.p9_step.specs.State.{Session, Setting, fid_ref}
 use Rattle.p9_step.specs.Wstat.{Touched, is_any, is_number_touched, node_change, rewriting}

@@ -23,8 +23,8 @@ use Rattle.p9_tree.proofs.Dropped.{WellFormed-remove}
 use Rattle.p9_tree.proofs.Lookups.{absent-dropped_at, remove-dropped_at}
 use Rattle.p9_space.specs.Table.{MountRow}
 use Rattle.p9_fids.specs.Fid.{Fid, FidRow}
-use Rattle.p9_step.specs.Change.{AddNode, Change, Cut, DropNode, Edit, EditNode, Mark, Overwrite}
-use Rattle.p9_step.specs.Change.{Rewrite, Touch, all_applied, applied, edited}
+use Rattle.p9_step.specs.ForestChange.{AddNode, ForestChange, Cut, DropNode, Edit, EditNode, Mark, Overwrite}
+use Rattle.p9_step.specs.ForestChange.{Rewrite, Touch, all_applied, applied, edited}
 use Rattle.p9_step.specs.End.{on_end, on_ends, parent_marked, removes_on_close, taken_out}
 use Rattle.p9_step.specs.Sound.{FidFits, FidsFit}
 use Rattle.p9_step.specs.State.{fid_file, fid_ref}
@@ -48,13 +48,13 @@ pub record AddFits (forest : List Server) (server : ℕ) (n : Node) : Type 0 whe
   pub told : IsTellable n
 
 -- a change that the rules permit
-abbrev pub IsLawful : List Server → Change → Type 0
+abbrev pub IsLawful : List Server → ForestChange → Type 0
 IsLawful forest (EditNode at edit) = EditFits forest at edit
 IsLawful forest (AddNode server n) = AddFits forest server n
 IsLawful forest (DropNode at) = IsLeaf at forest
 
 -- the same of each of them, one after another
-abbrev pub AllLawful : List Server → List Change → Type 0
+abbrev pub AllLawful : List Server → List ForestChange → Type 0
 AllLawful forest [] = Unit {0}
 AllLawful forest (change ∷ changes) =
     IsLawful forest change × AllLawful (applied change forest) changes
@@ -111,7 +111,7 @@ dropped-well s at forest is well leaf = go (position (has_number at.number) s.no
         (WellFormed-remove s at.number i well e leaf.not_root (rw is at leaf.empty))
 
 -- after a lawful change the forest is well-formed
-pub forest-applied : (forest : List Server) (change : Change) → IsForest forest
+pub forest-applied : (forest : List Server) (change : ForestChange) → IsForest forest
     → IsLawful forest change → IsForest (applied change forest)
 unfolding applied
 forest-applied forest (EditNode at edit) sound fits =
@@ -129,7 +129,7 @@ forest-applied forest (DropNode at) sound leaf =
     (λ s there is well. dropped-well s at forest is well leaf)
 
 -- and after all of them
-pub forest-all : (forest : List Server) (changes : List Change) → IsForest forest
+pub forest-all : (forest : List Server) (changes : List ForestChange) → IsForest forest
     → AllLawful forest changes → IsForest (all_applied changes forest)
 forest-all forest [] sound lawful = sound
 forest-all forest (change ∷ changes) sound lawful =
@@ -149,7 +149,7 @@ node-sound forest sound at n found = go (slice_get forest at.server) refl
 
 -- A lawful change is steady.
 
-pub steady : (forest : List Server) (change : Change) → IsForest forest → IsLawful forest change
+pub steady : (forest : List Server) (change : ForestChange) → IsForest forest → IsLawful forest change
     → IsSteady forest change
 steady forest (EditNode at edit) sound fits =
     λ n found. record {
@@ -159,7 +159,7 @@ steady forest (EditNode at edit) sound fits =
 steady forest (AddNode server node) sound fits = fits.number
 steady forest (DropNode at) sound leaf = tt
 
-pub all_steady : (forest : List Server) (changes : List Change) → IsForest forest
+pub all_steady : (forest : List Server) (changes : List ForestChange) → IsForest forest
     → AllLawful forest changes → AllSteady forest changes
 all_steady forest [] sound lawful = tt
 all_steady forest (change ∷ changes) sound lawful = (
@@ -169,13 +169,13 @@ all_steady forest (change ∷ changes) sound lawful = (
 )
 
 -- after lawful changes the forest has evolved
-pub evolves-lawful : (forest : List Server) (changes : List Change) → IsForest forest
+pub evolves-lawful : (forest : List Server) (changes : List ForestChange) → IsForest forest
     → AllLawful forest changes → Evolves forest (all_applied changes forest)
 evolves-lawful forest changes sound lawful =
     evolves-all forest changes (all_steady forest changes sound lawful)
 
 -- lawful changes, one list after another, are lawful
-pub lawful-append : (forest : List Server) (xs ys : List Change) → AllLawful forest xs
+pub lawful-append : (forest : List Server) (xs ys : List ForestChange) → AllLawful forest xs
     → AllLawful (all_applied xs forest) ys → AllLawful forest (xs ++ ys)
 lawful-append forest [] ys first second = second
 lawful-append forest (x ∷ xs) ys first second =

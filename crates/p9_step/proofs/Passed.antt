@@ -34,7 +34,7 @@ use Rattle.p9_fids.specs.Fid.{Fid, fid_at, put_fault}
 use Rattle.p9_fids.specs.declared.opened.Opened.{Opened}
 use Rattle.p9_step.specs.Answer.{Outcome, outcome_of}
 use Rattle.p9_step.specs.Attach.{attach_answer, attached, listed_user}
-use Rattle.p9_step.specs.Change.{EditNode, Mark, Overwrite, Touch}
+use Rattle.p9_step.specs.ForestChange.{EditNode, Mark, Overwrite, Touch}
 use Rattle.p9_step.specs.Clunk.{clunk_answer, without}
 use Rattle.p9_step.specs.Create.{create_answer, created_in, creation, fault_in, target_among}
 use Rattle.p9_step.specs.End.{on_end, on_ends, taken_out}

@@ -6,7 +6,7 @@ use Rattle.p9_wire.specs.Message.{RMessage, StatFields, TMessage, Tattach, Tauth
 use Rattle.p9_wire.specs.Message.{Tflush, Topen, Tread, Tremove, Tstat, Tversion, Twalk, Twrite}
 use Rattle.p9_wire.specs.Message.{Twstat}
 use Rattle.p9_step.specs.Answer.{Answer, Outcome, is_error}
-use Rattle.p9_step.specs.Change.{Change}
+use Rattle.p9_step.specs.ForestChange.{ForestChange}
 use Rattle.p9_step.specs.Create.{creation}
 use Rattle.p9_step.specs.Memory.{may_run_out}
 use Rattle.p9_step.specs.State.{Session, Setting}
@@ -23,7 +23,7 @@ abbrev pub IsPlain : Outcome → Type 0
 IsPlain outcome = is_error outcome.reply ≡ false
 
 -- an outcome of this reply, which is none
-plain_as : (o : Outcome) (changes : List Change) (session : Session) (m : RMessage)
+plain_as : (o : Outcome) (changes : List ForestChange) (session : Session) (m : RMessage)
     → o ≡ record { changes = changes; session = session; reply = m } → is_error m ≡ false
     → IsPlain o
 plain_as o changes session m is plain = subst IsPlain (sym is) plain

@@ -17,7 +17,7 @@ use Rattle.p9_wire.specs.Spelling.{TNumbersFit, TSpells}
 use Rattle.p9_wire.proofs.TGrammar.{t-decides}
 use Rattle.p9_fids.proofs.Fids.{fids-none}
 use Rattle.p9_step.specs.Answer.{Outcome}
-use Rattle.p9_step.specs.Change.{Change, all_applied}
+use Rattle.p9_step.specs.ForestChange.{ForestChange, all_applied}
 use Rattle.p9_step.specs.End.{on_ends}
 use Rattle.p9_step.specs.Request.{request_of}
 use Rattle.p9_step.specs.Sound.{IsServed, IsSession, IsSetting}
@@ -109,7 +109,7 @@ kept-frame setting forest rows session now frame ready bytes =
 module _ (setting : Setting) (forest : List Server) (rows : List SessionRow)
     (sound : IsForest forest) (served : IsServed setting forest rows) where
   -- after lawful changes
-  served-changes : (changes : List Change) → AllLawful forest changes
+  served-changes : (changes : List ForestChange) → AllLawful forest changes
       → IsServed setting (all_applied changes forest) rows
   served-changes changes lawful =
       let evolves = evolves-lawful forest changes sound lawful in

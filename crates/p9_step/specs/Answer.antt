@@ -4,11 +4,11 @@ use Rattle.p9_base.specs.declared.fault.Fault.{Fault}
 use Rattle.p9_base.specs.Fault.{text_of}
 use Rattle.p9_wire.specs.Message.{RMessage, Rerror}
 use Rattle.p9_step.specs.State.{Session}
-use Rattle.p9_step.specs.Change.{Change}
+use Rattle.p9_step.specs.ForestChange.{ForestChange}
 
 -- the changes of the forest, one after another, the session after the request, and the reply
 pub record Outcome : Type 0 where
-  pub changes : List Change
+  pub changes : List ForestChange
   pub session : Session
   pub reply : RMessage
 

@@ -7,7 +7,7 @@ use Rattle.p9_base.specs.declared.fault.Fault.TheVariants.{NoAuthentication, Not
 use Rattle.p9_base.specs.declared.fault.Fault.TheVariants.{PhaseError, UnknownAttachName}
 use Rattle.p9_base.specs.declared.fault.Fault.TheVariants.{UnknownUser}
 use Rattle.p9_base.specs.declared.node_ref.NodeRef.{NodeRef}
-use Rattle.p9_base.specs.Results.{and_then, given, need, unless}
+use Rattle.p9_base.specs.Results.{and_then, obtain, need, unless}
 use Rattle.p9_clean.specs.Path.{cleaned_elements, is_rooted}
 use Rattle.p9_tree.specs.Node.{is_dir}
 use Rattle.p9_tree.specs.Server.{Server}
@@ -43,7 +43,7 @@ attached fid user place session = record session {
 -- the directory at the place becomes the root of what the fid can walk
 abbrev pub attached_at : Setting → List Server → Session → ℕ → List ℕ → NodeRef → Answer
 attached_at setting forest session fid user place =
-    given (file_of place setting.table forest) PhaseError (λ file.
+    obtain (file_of place setting.table forest) PhaseError (λ file.
     need (is_dir file) NotDirectory (
     Ok (record {
       changes = [];
@@ -56,7 +56,7 @@ abbrev pub attach_answer : Setting → List Server → Session → ℕ → ℕ �
 attach_answer setting forest session fid afid uname aname =
     unless (put_fault fid session.fids) (
     need (afid == nofid) NoAuthentication (
-    given (listed_user uname setting.users) UnknownUser (λ user.
+    obtain (listed_user uname setting.users) UnknownUser (λ user.
     need (is_attach_name aname) UnknownAttachName (
     need (is_some (file_of root_place setting.table forest)) PhaseError (
     and_then (attach_walk setting forest user aname) (λ trail.

@@ -1,7 +1,7 @@
 -- Letting a fid go: clunk(5).
 use Rattle.std.specs.Prelude.{ℕ, List, Ok}
 use Rattle.p9_base.specs.declared.fault.Fault.TheVariants.{UnknownFid}
-use Rattle.p9_base.specs.Results.{given}
+use Rattle.p9_base.specs.Results.{obtain}
 use Rattle.p9_tree.specs.Server.{Server}
 use Rattle.p9_wire.specs.Message.{Rclunk}
 use Rattle.p9_fids.specs.Fid.{fid_at, without_fid}
@@ -16,7 +16,7 @@ without fid session = record session { fids = without_fid fid session.fids }
 -- the fid goes, with what its end changes
 abbrev pub clunk_answer : Setting → List Server → Session → ℕ → ℕ → Answer
 clunk_answer setting forest session now fid =
-    given (fid_at fid session.fids) UnknownFid (λ v.
+    obtain (fid_at fid session.fids) UnknownFid (λ v.
     Ok (record {
       changes = on_end setting.table now forest v;
       session = without fid session;

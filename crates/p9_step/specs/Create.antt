@@ -14,7 +14,7 @@ use Rattle.p9_base.specs.declared.node_ref.NodeRef.{NodeRef}
 use Rattle.p9_base.specs.declared.qid.Qid.{Qid}
 use Rattle.p9_base.specs.Mode.{is_dir as is_dir_mode, mode_of}
 use Rattle.p9_base.specs.Name.{is_name}
-use Rattle.p9_base.specs.Results.{and_then, given, need, unless}
+use Rattle.p9_base.specs.Results.{and_then, obtain, need, unless}
 use Rattle.p9_base.specs.NodeRef.{beside}
 use Rattle.p9_tree.specs.Node.{Node, is_dir}
 use Rattle.p9_tree.specs.Server.{Server, next_max}
@@ -29,7 +29,7 @@ use Rattle.p9_fids.specs.Fid.{Fid, changed_fid, fid_at}
 use Rattle.p9_step.specs.declared.opening.Opening.{Opening}
 use Rattle.p9_step.specs.State.{Setting, Session, room_of, who_of}
 use Rattle.p9_step.specs.Answer.{Answer}
-use Rattle.p9_step.specs.Change.{AddNode, EditNode, Mark}
+use Rattle.p9_step.specs.ForestChange.{AddNode, EditNode, Mark}
 use Rattle.p9_step.specs.Inherit.{inherited}
 use Rattle.p9_step.specs.Opening.{is_plain_read, newly_opened, opening_of}
 use Rattle.p9_step.specs.Qid.{qid_of}
@@ -96,18 +96,18 @@ abbrev pub created_in : Setting → List Server → Session → ℕ → ℕ → 
     → NodeRef
     → Answer
 created_in setting forest session now fid v name asked opening target =
-    given (node_of target forest) PhaseError (λ dir.
+    obtain (node_of target forest) PhaseError (λ dir.
     unless (fault_in setting forest v name target dir) (
     creation forest session now fid v target dir name asked opening))
 
 -- the tests in their order, up to the directory
 abbrev pub create_answer : Setting → List Server → Session → ℕ → ℕ → List ℕ → ℕ → ℕ → Answer
 create_answer setting forest session now fid name perm bits =
-    given (fid_at fid session.fids) UnknownFid (λ v.
+    obtain (fid_at fid session.fids) UnknownFid (λ v.
     need (is_none v.opened) FidOpen (
     need (is_name name) BadFileName (
-    given (opening_of bits) BadOpenMode (λ opening.
-    given (mode_of perm) BadOpenMode (λ asked.
+    obtain (opening_of bits) BadOpenMode (λ opening.
+    obtain (mode_of perm) BadOpenMode (λ asked.
     need (not (is_dir_mode asked) || is_plain_read opening) IsDirectory (
     and_then (target_among forest (members_of (here v.trail) setting.table)) (
     created_in setting forest session now fid v name asked opening)))))))

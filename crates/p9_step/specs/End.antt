@@ -9,15 +9,15 @@ use Rattle.p9_tree.specs.Server.{Server}
 use Rattle.p9_space.specs.Table.{MountRow}
 use Rattle.p9_fids.specs.Fid.{Fid, FidRow}
 use Rattle.p9_step.specs.State.{fid_file, fid_ref}
-use Rattle.p9_step.specs.Change.{Change, EditNode, DropNode, Mark, all_applied}
+use Rattle.p9_step.specs.ForestChange.{ForestChange, EditNode, DropNode, Mark, all_applied}
 
 -- the directory that a node is in is marked, where there is one
-abbrev pub parent_marked : List ℕ → ℕ → NodeRef → Option ℕ → List Change
+abbrev pub parent_marked : List ℕ → ℕ → NodeRef → Option ℕ → List ForestChange
 parent_marked user now at parent =
     option_map_or (λ number. EditNode (beside at number) (Mark user now) ∷ []) parent []
 
 -- a node is taken out, and its directory marked
-abbrev pub taken_out : List ℕ → ℕ → NodeRef → Node → List Change
+abbrev pub taken_out : List ℕ → ℕ → NodeRef → Node → List ForestChange
 taken_out user now at n = DropNode at ∷ parent_marked user now at n.parent
 
 -- the fid is open, with remove-on-close
@@ -26,7 +26,7 @@ removes_on_close v = option_map_or (λ opened. opened.remove_on_close) v.opened 
 
 -- what the end of a fid changes: a file that is open with remove-on-close goes, without a further
 -- test
-abbrev pub on_end : List MountRow → ℕ → List Server → Fid → List Change
+abbrev pub on_end : List MountRow → ℕ → List Server → Fid → List ForestChange
 on_end table now forest v =
     if removes_on_close v
     then option_map_or (taken_out v.user now (fid_ref table v)) (fid_file table forest v) []
@@ -34,7 +34,7 @@ on_end table now forest v =
 
 -- what the end of all of them changes, by rising number, each in the forest that the one before
 -- left
-abbrev pub on_ends : List MountRow → ℕ → List Server → List FidRow → List Change
+abbrev pub on_ends : List MountRow → ℕ → List Server → List FidRow → List ForestChange
 on_ends table now forest [] = []
 on_ends table now forest (row ∷ rows) =
     let changes = on_end table now forest row.1 in

@@ -11,7 +11,7 @@ use Rattle.p9_base.specs.declared.mode.Kind.{Kind}
 use Rattle.p9_base.specs.declared.mode.Kind.TheVariants.{Directory, File}
 use Rattle.p9_base.specs.declared.node_ref.NodeRef.{NodeRef}
 use Rattle.p9_base.specs.declared.qid.Qid.{Qid}
-use Rattle.p9_base.specs.Results.{given, need}
+use Rattle.p9_base.specs.Results.{obtain, need}
 use Rattle.p9_tree.specs.Node.{Node, is_dir}
 use Rattle.p9_tree.specs.Server.{Server}
 use Rattle.p9_space.specs.Rights.{Who, may}
@@ -21,7 +21,7 @@ use Rattle.p9_fids.specs.Fid.{changed_fid, fid_at, open_count, opened_as}
 use Rattle.p9_step.specs.declared.opening.Opening.{Opening}
 use Rattle.p9_step.specs.State.{Setting, Session, SessionRow, fid_file, fid_ref, room_of, who_of}
 use Rattle.p9_step.specs.Answer.{Answer}
-use Rattle.p9_step.specs.Change.{Change, Cut, EditNode, Mark, edited}
+use Rattle.p9_step.specs.ForestChange.{ForestChange, Cut, EditNode, Mark, edited}
 use Rattle.p9_step.specs.Opening.{is_plain_read, newly_opened, opening_of, wanted_by}
 use Rattle.p9_step.specs.Qid.{qid_of}
 use Rattle.p9_step.specs.Rights.{may_write_parent}
@@ -60,7 +60,7 @@ abbrev pub is_cut : Node → Opening → Bool
 is_cut n opening = opening.truncates && not (is_append_only n)
 
 -- truncation cuts the file to nothing, and marks it
-abbrev pub truncation : List ℕ → ℕ → NodeRef → Node → Opening → List Change
+abbrev pub truncation : List ℕ → ℕ → NodeRef → Node → Opening → List ForestChange
 truncation user now at n opening =
     if is_cut n opening then EditNode at (Cut 0) ∷ EditNode at (Mark user now) ∷ [] else []
 
@@ -87,10 +87,10 @@ is_taken setting forest sessions session fid =
 -- the tests in their order
 abbrev pub open_answer : Setting → List Server → Bool → Session → ℕ → ℕ → ℕ → Answer
 open_answer setting forest taken session now fid bits =
-    given (fid_at fid session.fids) UnknownFid (λ v.
+    obtain (fid_at fid session.fids) UnknownFid (λ v.
     need (is_none v.opened) FidOpen (
-    given (fid_file setting.table forest v) PhaseError (λ n.
-    given (opening_of bits) BadOpenMode (λ opening.
+    obtain (fid_file setting.table forest v) PhaseError (λ n.
+    obtain (opening_of bits) BadOpenMode (λ opening.
     need (not (is_dir n) || is_plain_read opening) IsDirectory (
     let at = fid_ref setting.table v in
     need (may_open (who_of setting v.user) forest at n opening) PermissionDenied (

@@ -6,7 +6,7 @@ use Rattle.p9_base.specs.declared.fault.Fault.TheVariants.{BadDirectoryOffset, F
 use Rattle.p9_base.specs.declared.fault.Fault.TheVariants.{PhaseError, SmallReadCount, UnknownFid}
 use Rattle.p9_base.specs.declared.node_ref.NodeRef.{NodeRef}
 use Rattle.p9_base.specs.NodeRef.{beside}
-use Rattle.p9_base.specs.Results.{given, need}
+use Rattle.p9_base.specs.Results.{obtain, need}
 use Rattle.p9_tree.specs.Bytes.{read_from}
 use Rattle.p9_tree.specs.Node.{Node, is_dir}
 use Rattle.p9_tree.specs.Server.{Server}
@@ -19,7 +19,7 @@ use Rattle.p9_fids.specs.Fid.{Fid, changed_fid, fid_at, opened_as}
 use Rattle.p9_fids.specs.Opened.{reads}
 use Rattle.p9_step.specs.State.{Setting, Session, fid_file, fid_ref, room_of, who_of}
 use Rattle.p9_step.specs.Answer.{Answer}
-use Rattle.p9_step.specs.Change.{EditNode, Touch}
+use Rattle.p9_step.specs.ForestChange.{EditNode, Touch}
 use Rattle.p9_step.specs.Listing.{Entry, cursor_of, listing_behind}
 use Rattle.p9_step.specs.Qid.{stat_of}
 
@@ -96,9 +96,9 @@ readable (Some opened) = if reads opened.mode then Some opened else None
 -- the tests in their order
 abbrev pub read_answer : Setting → List Server → Session → ℕ → ℕ → ℕ → ℕ → Answer
 read_answer setting forest session now fid offset count =
-    given (fid_at fid session.fids) UnknownFid (λ v.
-    given (readable v.opened) FidNotOpen (λ opened.
-    given (fid_file setting.table forest v) PhaseError (λ n.
+    obtain (fid_at fid session.fids) UnknownFid (λ v.
+    obtain (readable v.opened) FidNotOpen (λ opened.
+    obtain (fid_file setting.table forest v) PhaseError (λ n.
     let room = min count (room_of session) in
     if is_dir n then read_dir setting forest session fid v opened offset room
     else read_file session now (fid_ref setting.table v) n offset room)))

@@ -2,7 +2,7 @@
 use Rattle.std.specs.Prelude.{ℕ, not, List, Ok, is_some}
 use Rattle.p9_base.specs.declared.fault.Fault.TheVariants.{IsRoot, NotEmpty, PermissionDenied}
 use Rattle.p9_base.specs.declared.fault.Fault.TheVariants.{PhaseError, UnknownFid}
-use Rattle.p9_base.specs.Results.{given, need}
+use Rattle.p9_base.specs.Results.{obtain, need}
 use Rattle.p9_tree.specs.Server.{Server}
 use Rattle.p9_tree.specs.Forest.{has_children_of}
 use Rattle.p9_wire.specs.Message.{Rremove}
@@ -16,7 +16,7 @@ use Rattle.p9_step.specs.Rights.{may_write_parent}
 -- the removal, in a session that the fid has left
 abbrev pub removal : Setting → List Server → Session → ℕ → Fid → Answer
 removal setting forest left now v =
-    given (fid_file setting.table forest v) PhaseError (λ n.
+    obtain (fid_file setting.table forest v) PhaseError (λ n.
     let at = fid_ref setting.table v in
     need (is_some n.parent) IsRoot (
     need (may_write_parent (who_of setting v.user) forest at n) PermissionDenied (
@@ -26,6 +26,6 @@ removal setting forest left now v =
 -- a refused removal is answered too, since its fid ends
 abbrev pub remove_answer : Setting → List Server → Session → ℕ → ℕ → Answer
 remove_answer setting forest session now fid =
-    given (fid_at fid session.fids) UnknownFid (λ v.
+    obtain (fid_at fid session.fids) UnknownFid (λ v.
     let left = without fid session in
     Ok (outcome_of left (removal setting forest left now v)))

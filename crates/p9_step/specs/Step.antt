@@ -10,7 +10,7 @@ use Rattle.p9_wire.specs.Message.{Tread, Twrite, Tclunk, Tremove, Tstat, Twstat,
 use Rattle.p9_wire.specs.Spelling.{r_spelling}
 use Rattle.p9_step.specs.State.{Setting, Session, SessionRow, State, changed_session, fresh}
 use Rattle.p9_step.specs.State.{session_at, with_session, without_session}
-use Rattle.p9_step.specs.Change.{all_applied}
+use Rattle.p9_step.specs.ForestChange.{all_applied}
 use Rattle.p9_step.specs.Answer.{Answer, Outcome, outcome_of}
 use Rattle.p9_step.specs.End.{on_ends}
 use Rattle.p9_step.specs.Version.{version_answer}

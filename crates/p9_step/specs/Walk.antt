@@ -6,7 +6,7 @@ use Rattle.p9_base.specs.declared.fault.Fault.{Fault}
 use Rattle.p9_base.specs.declared.fault.Fault.TheVariants.{FidOpen, PhaseError, UnknownFid}
 use Rattle.p9_base.specs.declared.node_ref.NodeRef.{NodeRef}
 use Rattle.p9_base.specs.declared.qid.Qid.{Qid}
-use Rattle.p9_base.specs.Results.{and_then, given, need, unless}
+use Rattle.p9_base.specs.Results.{and_then, obtain, need, unless}
 use Rattle.p9_tree.specs.Server.{Server}
 use Rattle.p9_space.specs.declared.trail.Step.{Step}
 use Rattle.p9_space.specs.Trail.{here, stepped}
@@ -88,7 +88,7 @@ walk_outcome fid newfid v session w = ended_walk fid newfid v session w.trail w.
 -- the tests in their order
 abbrev pub walk_answer : Setting → List Server → Session → ℕ → ℕ → List (List ℕ) → Answer
 walk_answer setting forest session fid newfid names =
-    given (fid_at fid session.fids) UnknownFid (λ v.
+    obtain (fid_at fid session.fids) UnknownFid (λ v.
     need (is_none v.opened) FidOpen (
     unless (newfid_fault fid newfid session.fids) (
     walk_outcome fid newfid v session (walked setting forest v.user v.trail names))))

@@ -3,7 +3,7 @@ use Rattle.std.specs.Prelude.{ℕ, ◌+◌, Bool, false, nat_le, List, [], ◌�
 use Rattle.p9_base.specs.declared.fault.Fault.TheVariants.{FidNotOpen, FileTooLarge, PhaseError}
 use Rattle.p9_base.specs.declared.fault.Fault.TheVariants.{UnknownFid}
 use Rattle.p9_base.specs.declared.node_ref.NodeRef.{NodeRef}
-use Rattle.p9_base.specs.Results.{given, need}
+use Rattle.p9_base.specs.Results.{obtain, need}
 use Rattle.p9_tree.specs.Node.{Node}
 use Rattle.p9_tree.specs.Server.{Server}
 use Rattle.p9_wire.specs.Message.{Rwrite}
@@ -12,7 +12,7 @@ use Rattle.p9_fids.specs.Fid.{Fid, fid_at}
 use Rattle.p9_fids.specs.Opened.{writes}
 use Rattle.p9_step.specs.State.{Setting, Session, fid_file, fid_ref}
 use Rattle.p9_step.specs.Answer.{Answer}
-use Rattle.p9_step.specs.Change.{EditNode, Mark, Overwrite}
+use Rattle.p9_step.specs.ForestChange.{EditNode, Mark, Overwrite}
 use Rattle.p9_step.specs.Open.{is_append_only}
 use Rattle.p9_tree.specs.Bytes.{file_max}
 
@@ -46,7 +46,7 @@ write_file session now v at n offset (b ∷ bs) =
 -- the tests in their order
 abbrev pub write_answer : Setting → List Server → Session → ℕ → ℕ → ℕ → List ℕ → Answer
 write_answer setting forest session now fid offset bytes =
-    given (fid_at fid session.fids) UnknownFid (λ v.
+    obtain (fid_at fid session.fids) UnknownFid (λ v.
     need (is_writable v) FidNotOpen (
-    given (fid_file setting.table forest v) PhaseError (λ n.
+    obtain (fid_file setting.table forest v) PhaseError (λ n.
     write_file session now v (fid_ref setting.table v) n offset bytes)))

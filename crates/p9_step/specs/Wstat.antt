@@ -15,17 +15,17 @@ use Rattle.p9_base.specs.declared.qid.Qid.{Qid}
 use Rattle.p9_base.specs.Mode.{is_dir as is_dir_mode, mode_of}
 use Rattle.p9_base.specs.Name.{is_name}
 use Rattle.p9_base.specs.NodeRef.{beside}
-use Rattle.p9_base.specs.Results.{given, need, unless}
+use Rattle.p9_base.specs.Results.{obtain, need, unless}
 use Rattle.p9_tree.specs.Node.{Node, is_dir}
 use Rattle.p9_tree.specs.Server.{Server}
 use Rattle.p9_tree.specs.Forest.{child_in}
-use Rattle.p9_tree.specs.declared.change.Change.{Change as NodeChange}
+use Rattle.p9_tree.specs.declared.change.Change.{ForestChange as NodeChange}
 use Rattle.p9_space.specs.Rights.{Who, may, rules, to_write}
 use Rattle.p9_wire.specs.Message.{Rwstat, StatFields}
 use Rattle.p9_fids.specs.Fid.{fid_at}
 use Rattle.p9_step.specs.State.{Setting, Session, fid_file, fid_ref, who_of}
 use Rattle.p9_step.specs.Answer.{Answer}
-use Rattle.p9_step.specs.Change.{Change, EditNode, Rewrite}
+use Rattle.p9_step.specs.ForestChange.{ForestChange, EditNode, Rewrite}
 use Rattle.p9_step.specs.End.{parent_marked}
 use Rattle.p9_step.specs.Qid.{stat_of}
 use Rattle.p9_step.specs.Rights.{may_write_parent}
@@ -162,7 +162,7 @@ node_change user now t = record {
 }
 
 -- if anything is touched, the directory that the file is in is marked
-abbrev pub rewriting : List ℕ → ℕ → NodeRef → Node → Touched → List Change
+abbrev pub rewriting : List ℕ → ℕ → NodeRef → Node → Touched → List ForestChange
 rewriting user now at n t =
     if is_any t
     then EditNode at (Rewrite (node_change user now t)) ∷ parent_marked user now at n.parent
@@ -171,8 +171,8 @@ rewriting user now at n t =
 -- the tests in their order
 abbrev pub wstat_answer : Setting → List Server → Session → ℕ → ℕ → StatFields → Answer
 wstat_answer setting forest session now fid wanted =
-    given (fid_at fid session.fids) UnknownFid (λ v.
-    given (fid_file setting.table forest v) PhaseError (λ n.
+    obtain (fid_at fid session.fids) UnknownFid (λ v.
+    obtain (fid_file setting.table forest v) PhaseError (λ n.
     let at = fid_ref setting.table v in
     let there = stat_of at n in
     let t = touched_of there wanted in

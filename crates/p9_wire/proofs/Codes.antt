@@ -18,7 +18,7 @@ use Rattle.p9_base.specs.Text.{is_text}
 use Rattle.p9_wire.specs.Message.{StatFields}
 use Rattle.p9_wire.specs.Fields.{number, text, counted, several, sized, qid_bytes, stat_fields}
 use Rattle.p9_wire.specs.Fields.{stat_bytes, FitsText, FitsStat, QidNumbersFit, StatNumbersFit}
-use Rattle.p9_wire.specs.FieldReading.{◌and_then◌, Reader, number_at, bytes_at, ◌then◌, made}
+use Rattle.p9_wire.specs.FieldReading.{◌and_then◌, Reader, number_at, bytes_at, ◌then◌, mapped}
 use Rattle.p9_wire.specs.FieldReading.{text_at, nothing_at, qid_at, counted_at, times, several_at}
 use Rattle.p9_wire.specs.FieldReading.{sized_bytes_at, sized_at, stat_fields_at, stat_at}
 use Rattle.p9_wire.specs.Laws.{IsBytes}
@@ -160,7 +160,7 @@ then-codes {A} {B} {f} {F} {r} {g} {G} {s} c d = record {
 -- what a reader made of the value, and the value
 pub made-sound : {A B : Type 0} {f : A → List ℕ} {F : A → Type 0} {r : Reader A} (c : Codes f F r)
     (make : A → B) (bytes : List ℕ) (x : B × List ℕ)
-    → IsBytes bytes → made make r bytes ≡ Some x
+    → IsBytes bytes → mapped make r bytes ≡ Some x
     → (a : A) × (make a ≡ x.0) × (bytes ≡ f a ++ x.1) × F a
 made-sound {A} {B} {f} {F} {r} c make bytes x fits e =
     let a = bind_some (r bytes) (λ a. Some (make a.0, a.1)) x e in
@@ -176,7 +176,7 @@ made-sound {A} {B} {f} {F} {r} c make bytes x fits e =
 -- a value that is spelled is read, and made
 pub made-complete : {A B : Type 0} {f : A → List ℕ} {F : A → Type 0} {r : Reader A}
     (c : Codes f F r) (make : A → B) (a : A) (rest : List ℕ) → F a
-    → made make r (f a ++ rest) ≡ Some (make a, rest)
+    → mapped make r (f a ++ rest) ≡ Some (make a, rest)
 made-complete c make a rest h = rw (c.complete a rest h) refl
 
 -- a value and the fields that make it, one for one
@@ -184,7 +184,7 @@ pub same-codes : {A B : Type 0} {f : A → List ℕ} {F : A → Type 0} {r : Rea
     (c : Codes f F r) (make : A → B) (fields : B → A)
     → ((a : A) → fields (make a) ≡ a) → ((b : B) → make (fields b) ≡ b)
     → ((b : B) → F (fields b) → G b) → ((b : B) → G b → F (fields b))
-    → Codes (λ (b : B). f (fields b)) G (made make r)
+    → Codes (λ (b : B). f (fields b)) G (mapped make r)
 same-codes {A} {B} {f} {F} {r} {G} c make fields there back out in_ = record {
   sound = λ bytes x fits e.
       let t = made-sound c make bytes x fits e in

@@ -7,7 +7,7 @@ use Rattle.std.proofs.lemmas.Option.{cond_some, same_Some}
 use Rattle.p9_wire.specs.Fields.{number}
 use Rattle.p9_wire.specs.Spelling.{frame}
 use Rattle.std.specs.Prelude.{IfSome, IfNone}
-use Rattle.p9_wire.specs.FieldReading.{◌and_then◌, Gives, Reader, number_at, ◌then◌, made}
+use Rattle.p9_wire.specs.FieldReading.{◌and_then◌, Gives, Reader, number_at, ◌then◌, mapped}
 use Rattle.p9_wire.specs.Reading.{header_at, message_at}
 use Rattle.p9_wire.specs.Laws.{IsBytes}
 use Rattle.p9_wire.proofs.Bytes.{IsBytes-back}
@@ -105,7 +105,7 @@ module _ {M : Type 0} (g : Grammar M) where
       (make : A → M) {k : ℕ}
       → ((a : A) → g.kind (make a) ≡ k) → ((a : A) → g.body (make a) ≡ f a)
       → ((a : A) → F a → g.Fits (make a))
-      → IsReader k (made make r)
+      → IsReader k (mapped make r)
   taken {A} {f} {F} {r} c make {k} kind_of body_of fits_of bytes x fits e =
       let t = made-sound c make bytes x fits e in
       subst (λ (m : M). (g.kind m ≡ k) × (bytes ≡ g.body m ++ x.1) × g.Fits m) t.1

@@ -27,8 +27,8 @@ abbrev pub ◌then◌ : {A B : Type 0} → Reader A → Reader B → Reader (A �
 (r then s) bytes = r bytes and_then λ a. s a.1 and_then λ b. Some ((a.0, b.0), b.1)
 
 -- what is made of a field
-abbrev pub made : {A B : Type 0} → (A → B) → Reader A → Reader B
-made f r bytes = r bytes and_then λ a. Some (f a.0, a.1)
+abbrev pub mapped : {A B : Type 0} → (A → B) → Reader A → Reader B
+mapped f r bytes = r bytes and_then λ a. Some (f a.0, a.1)
 
 -- no field
 abbrev pub nothing_at : Reader (Unit {0})
@@ -73,13 +73,13 @@ sized_at r bytes =
 -- type, version and path
 unfoldable pub qid_at : Reader Qid
 qid_at =
-    made (λ x. record { kind = x.0.0; version = x.0.1; path = x.1 })
+    mapped (λ x. record { kind = x.0.0; version = x.0.1; path = x.1 })
     (number_at 1 then number_at 4 then number_at 8)
 
 -- what is told of a file, in the order of its bytes
 unfoldable pub stat_fields_at : Reader StatFields
 stat_fields_at =
-    made (λ x. record {
+    mapped (λ x. record {
       kind = x.0.0.0.0.0.0.0.0.0.0;
       dev = x.0.0.0.0.0.0.0.0.0.1;
       qid = x.0.0.0.0.0.0.0.0.1;

@@ -4,7 +4,7 @@ use Rattle.p9_wire.specs.Message.{TMessage, Tversion, Tauth, Tattach, Tflush, Tw
 use Rattle.p9_wire.specs.Message.{Tread, Twrite, Tclunk, Tremove, Tstat, Twstat, RMessage, Rversion}
 use Rattle.p9_wire.specs.Message.{Rattach, Rerror, Rflush, Rwalk, Ropen, Rcreate, Rread, Rwrite}
 use Rattle.p9_wire.specs.Message.{Rclunk, Rremove, Rstat, Rwstat}
-use Rattle.p9_wire.specs.FieldReading.{◌and_then◌, Reader, ◌then◌, made, nothing_at, number_at}
+use Rattle.p9_wire.specs.FieldReading.{◌and_then◌, Reader, ◌then◌, mapped, nothing_at, number_at}
 use Rattle.p9_wire.specs.FieldReading.{text_at, counted_at, several_at, qid_at, stat_at}
 
 -- type, tag and body of the bytes, where these are all of a frame
@@ -23,47 +23,47 @@ message_at body_at bytes =
 -- requests: the fields of each, in order
 
 unfoldable pub t_version_at : Reader TMessage
-t_version_at = made (λ x. Tversion x.0 x.1) (number_at 4 then text_at)
+t_version_at = mapped (λ x. Tversion x.0 x.1) (number_at 4 then text_at)
 
 unfoldable pub t_auth_at : Reader TMessage
-t_auth_at = made (λ x. Tauth x.0.0 x.0.1 x.1) (number_at 4 then text_at then text_at)
+t_auth_at = mapped (λ x. Tauth x.0.0 x.0.1 x.1) (number_at 4 then text_at then text_at)
 
 unfoldable pub t_attach_at : Reader TMessage
 t_attach_at =
-    made (λ x. Tattach x.0.0.0 x.0.0.1 x.0.1 x.1)
+    mapped (λ x. Tattach x.0.0.0 x.0.0.1 x.0.1 x.1)
     (number_at 4 then number_at 4 then text_at then text_at)
 
 unfoldable pub t_flush_at : Reader TMessage
-t_flush_at = made Tflush (number_at 2)
+t_flush_at = mapped Tflush (number_at 2)
 
 unfoldable pub t_walk_at : Reader TMessage
-t_walk_at = made (λ x. Twalk x.0.0 x.0.1 x.1) (number_at 4 then number_at 4 then several_at text_at)
+t_walk_at = mapped (λ x. Twalk x.0.0 x.0.1 x.1) (number_at 4 then number_at 4 then several_at text_at)
 
 unfoldable pub t_open_at : Reader TMessage
-t_open_at = made (λ x. Topen x.0 x.1) (number_at 4 then number_at 1)
+t_open_at = mapped (λ x. Topen x.0 x.1) (number_at 4 then number_at 1)
 
 unfoldable pub t_create_at : Reader TMessage
 t_create_at =
-    made (λ x. Tcreate x.0.0.0 x.0.0.1 x.0.1 x.1)
+    mapped (λ x. Tcreate x.0.0.0 x.0.0.1 x.0.1 x.1)
     (number_at 4 then text_at then number_at 4 then number_at 1)
 
 unfoldable pub t_read_at : Reader TMessage
-t_read_at = made (λ x. Tread x.0.0 x.0.1 x.1) (number_at 4 then number_at 8 then number_at 4)
+t_read_at = mapped (λ x. Tread x.0.0 x.0.1 x.1) (number_at 4 then number_at 8 then number_at 4)
 
 unfoldable pub t_write_at : Reader TMessage
-t_write_at = made (λ x. Twrite x.0.0 x.0.1 x.1) (number_at 4 then number_at 8 then counted_at)
+t_write_at = mapped (λ x. Twrite x.0.0 x.0.1 x.1) (number_at 4 then number_at 8 then counted_at)
 
 unfoldable pub t_clunk_at : Reader TMessage
-t_clunk_at = made Tclunk (number_at 4)
+t_clunk_at = mapped Tclunk (number_at 4)
 
 unfoldable pub t_remove_at : Reader TMessage
-t_remove_at = made Tremove (number_at 4)
+t_remove_at = mapped Tremove (number_at 4)
 
 unfoldable pub t_stat_at : Reader TMessage
-t_stat_at = made Tstat (number_at 4)
+t_stat_at = mapped Tstat (number_at 4)
 
 unfoldable pub t_wstat_at : Reader TMessage
-t_wstat_at = made (λ x. Twstat x.0 x.1) (number_at 4 then stat_at)
+t_wstat_at = mapped (λ x. Twstat x.0 x.1) (number_at 4 then stat_at)
 
 -- the body of a request of this type
 unfoldable pub t_body_at : ℕ → Reader TMessage
@@ -90,43 +90,43 @@ t_message_of bytes = message_at t_body_at bytes
 -- replies: the fields of each, in order
 
 unfoldable pub r_version_at : Reader RMessage
-r_version_at = made (λ x. Rversion x.0 x.1) (number_at 4 then text_at)
+r_version_at = mapped (λ x. Rversion x.0 x.1) (number_at 4 then text_at)
 
 unfoldable pub r_attach_at : Reader RMessage
-r_attach_at = made Rattach qid_at
+r_attach_at = mapped Rattach qid_at
 
 unfoldable pub r_error_at : Reader RMessage
-r_error_at = made Rerror text_at
+r_error_at = mapped Rerror text_at
 
 abbrev pub r_flush_at : Reader RMessage
-r_flush_at = made (λ x. Rflush) nothing_at
+r_flush_at = mapped (λ x. Rflush) nothing_at
 
 unfoldable pub r_walk_at : Reader RMessage
-r_walk_at = made Rwalk (several_at qid_at)
+r_walk_at = mapped Rwalk (several_at qid_at)
 
 unfoldable pub r_open_at : Reader RMessage
-r_open_at = made (λ x. Ropen x.0 x.1) (qid_at then number_at 4)
+r_open_at = mapped (λ x. Ropen x.0 x.1) (qid_at then number_at 4)
 
 unfoldable pub r_create_at : Reader RMessage
-r_create_at = made (λ x. Rcreate x.0 x.1) (qid_at then number_at 4)
+r_create_at = mapped (λ x. Rcreate x.0 x.1) (qid_at then number_at 4)
 
 unfoldable pub r_read_at : Reader RMessage
-r_read_at = made Rread counted_at
+r_read_at = mapped Rread counted_at
 
 unfoldable pub r_write_at : Reader RMessage
-r_write_at = made Rwrite (number_at 4)
+r_write_at = mapped Rwrite (number_at 4)
 
 abbrev pub r_clunk_at : Reader RMessage
-r_clunk_at = made (λ x. Rclunk) nothing_at
+r_clunk_at = mapped (λ x. Rclunk) nothing_at
 
 abbrev pub r_remove_at : Reader RMessage
-r_remove_at = made (λ x. Rremove) nothing_at
+r_remove_at = mapped (λ x. Rremove) nothing_at
 
 unfoldable pub r_stat_at : Reader RMessage
-r_stat_at = made Rstat stat_at
+r_stat_at = mapped Rstat stat_at
 
 abbrev pub r_wstat_at : Reader RMessage
-r_wstat_at = made (λ x. Rwstat) nothing_at
+r_wstat_at = mapped (λ x. Rwstat) nothing_at
 
 -- the body of a reply of this type
 unfoldable pub r_body_at : ℕ → Reader RMessage

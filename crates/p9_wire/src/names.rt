@@ -1,25 +1,23 @@
 //! The names of a walk, kept in place.
 
-ghost use Rattle.std.specs.Prelude.{◌≡◌, ◌==◌, ◌<◌, ◌≤◌, ◌++◌, ◌∷◌, [], ℕ, List, Some, take, map};
+ghost use Rattle.std.specs.Prelude.{◌≡◌, ◌==◌, ◌<◌, ◌≤◌, ◌++◌, ◌∷◌, [], ℕ, List, Some, map};
 ghost use Rattle.std.specs.Prelude.{length, slice_get};
 
 use crate::constants::MAXWELEM;
+use arrayvec::ArrayVec;
 use std::marker::Model;
 
 /// Up to sixteen names, as one message of walk(5) holds. A contract sees them as the list of their
 /// bytes.
 #[derive(Debug, Drop)]
 pub struct Names<'a> {
-    items: [&'a str; MAXWELEM],
-    len: usize,
+    names: ArrayVec<&'a str, MAXWELEM>,
 }
 
 impl<'a> Model for Names<'a> {
     ghost Value = { List (List ℕ) };
 
-    ghost view = { λ n. map (λ s. s.now) (take n.len n.items) };
-
-    ghost invariant = { λ n. (length n.items ≡ 16) × (n.len ≤ 16) };
+    ghost view = { λ n. map (λ s. s.now) n.names.items };
 }
 
 impl<'a> Names<'a> {
@@ -28,8 +26,7 @@ impl<'a> Names<'a> {
         ensures { result ≡ [] }
     {
         Names {
-            items: [""; MAXWELEM],
-            len: 0,
+            names: ArrayVec::new(),
         }
     }
 
@@ -38,14 +35,14 @@ impl<'a> Names<'a> {
         ensures len { result ≡ length self.now }
         ensures few { result ≤ MAXWELEM }
     {
-        self.as_slice().len()
+        self.names.len()
     }
 
     /// Whether there are none.
     pub fn is_empty(&self) -> bool
         ensures { result ≡ (length self.now == 0) }
     {
-        self.len == 0
+        self.names.is_empty()
     }
 
     /// The name of index `i`, from 0 on.
@@ -53,8 +50,7 @@ impl<'a> Names<'a> {
         requires { i < length self.now }
         ensures { slice_get self.now i ≡ Some result.now }
     {
-        let items = &self.items[..self.len];
-        items[i]
+        self.names.as_slice()[i]
     }
 
     /// The names in order.
@@ -62,7 +58,7 @@ impl<'a> Names<'a> {
         ensures names { map (λ s. s.now) result.now ≡ self.now }
         ensures few { length result.now ≤ MAXWELEM }
     {
-        &self.items[..self.len]
+        self.names.as_slice()
     }
 
     /// Adds a name behind the others.
@@ -70,8 +66,7 @@ impl<'a> Names<'a> {
         requires { length self.old < MAXWELEM }
         ensures { self.new ≡ self.old ++ name.now ∷ [] }
     {
-        self.items[self.len] = name;
-        self.len += 1;
+        self.names.push(name);
     }
 }
 

@@ -1,25 +1,23 @@
 //! The qids of a walk, kept in place.
 
-ghost use Rattle.std.specs.Prelude.{◌≡◌, ◌==◌, ◌<◌, ◌≤◌, ◌++◌, ◌∷◌, [], List, take, length};
+ghost use Rattle.std.specs.Prelude.{◌≡◌, ◌==◌, ◌<◌, ◌≤◌, ◌++◌, ◌∷◌, [], List, length};
 ghost use Rattle.p9_base.specs.declared.qid.Qid.{Qid};
 
 use crate::constants::MAXWELEM;
+use arrayvec::ArrayVec;
 use p9_base::Qid;
 use std::marker::Model;
 
 /// Up to sixteen qids, as one message of walk(5) holds. A contract sees them as a list.
 #[derive(Debug, Drop)]
 pub struct Qids {
-    items: [Qid; MAXWELEM],
-    len: usize,
+    qids: ArrayVec<Qid, MAXWELEM>,
 }
 
 impl Model for Qids {
     ghost Value = { List Qid };
 
-    ghost view = { λ q. take q.len q.items };
-
-    ghost invariant = { λ q. (length q.items ≡ 16) × (q.len ≤ 16) };
+    ghost view = { λ q. q.qids.items };
 }
 
 impl Qids {
@@ -27,14 +25,8 @@ impl Qids {
     pub fn new() -> Qids
         ensures { result ≡ [] }
     {
-        let unused = Qid {
-            kind: 0,
-            version: 0,
-            path: 0,
-        };
         Qids {
-            items: [unused; MAXWELEM],
-            len: 0,
+            qids: ArrayVec::new(),
         }
     }
 
@@ -43,14 +35,14 @@ impl Qids {
         ensures len { result ≡ length self.now }
         ensures few { result ≤ MAXWELEM }
     {
-        self.as_slice().len()
+        self.qids.len()
     }
 
     /// Whether there are none.
     pub fn is_empty(&self) -> bool
         ensures { result ≡ (length self.now == 0) }
     {
-        self.len == 0
+        self.qids.is_empty()
     }
 
     /// The qids in order.
@@ -58,7 +50,7 @@ impl Qids {
         ensures qids { result.now ≡ self.now }
         ensures few { length result.now ≤ MAXWELEM }
     {
-        &self.items[..self.len]
+        self.qids.as_slice()
     }
 
     /// Adds a qid behind the others.
@@ -66,8 +58,7 @@ impl Qids {
         requires { length self.old < MAXWELEM }
         ensures { self.new ≡ self.old ++ qid ∷ [] }
     {
-        self.items[self.len] = qid;
-        self.len += 1;
+        self.qids.push(qid);
     }
 }
 

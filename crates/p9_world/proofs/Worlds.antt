@@ -16,7 +16,7 @@ use Rattle.std.proofs.lemmas.List.Sums.{fails_before_first}
 use Rattle.p9_base.specs.Group.{GroupRow}
 use Rattle.p9_base.specs.declared.node_ref.NodeRef.{NodeRef}
 use Rattle.p9_base.specs.NodeRef.{servers_max}
-use Rattle.p9_base.specs.Results.{given, need}
+use Rattle.p9_base.specs.Results.{obtain, need}
 use Rattle.p9_tree.specs.Node.{Node}
 use Rattle.p9_tree.specs.Server.{Server, WellFormed, is_dir_at, node_at, rooted}
 use Rattle.p9_tree.proofs.ForestLemmas.{map-tree_changed_at, server_at-map}
@@ -219,6 +219,6 @@ pub hide_line-found : (server path : List ℕ) (w : World) (number dir : ℕ) (n
     → server_number server w.servers ≡ Some number → names_of path ≡ Some names
     → Some dir ≡ dir_of names (server_at number w.forest)
     → hide_line server path w ≡ with_hidden (record { server = number; number = dir }) w
-unfolding given
+unfolding obtain
 hide_line-found server path w number dir names at_server at_path at_dir =
     rw (at_server, at_path, ← at_dir) refl

@@ -6,7 +6,7 @@ use Rattle.std.specs.Str.{bytes_eq}
 use Rattle.hex.specs.Hex.{decode_of}
 use Rattle.p9_base.specs.declared.mode.Mode.{Mode}
 use Rattle.p9_base.specs.declared.mode.Permissions.{Permissions}
-use Rattle.p9_base.specs.Results.{and_then, given, need}
+use Rattle.p9_base.specs.Results.{and_then, obtain, need}
 use Rattle.p9_base.specs.User.{is_user}
 use Rattle.p9_clean.specs.Path.{Component}
 use Rattle.p9_tree.specs.Bytes.{file_max}
@@ -37,14 +37,14 @@ in_last_server change w =
 -- New nodes.
 
 -- what a line says of a node: its owner is its last changer too
-pub record Entry : Type 0 where
+pub record NodeLine : Type 0 where
   pub mode : Mode
   pub uid : List ℕ
   pub gid : List ℕ
   pub bytes : List ℕ
 
 -- the node of the server's next number in the directory, never changed since the time 0
-abbrev pub node_of : ℕ → ℕ → Component → Entry → Node
+abbrev pub node_of : ℕ → ℕ → Component → NodeLine → Node
 node_of number dir name entry = record {
   number = number;
   parent = Some dir;
@@ -60,9 +60,9 @@ node_of number dir name entry = record {
 }
 
 -- the server with a new node, of this name in the directory that the other names lead to
-abbrev pub with_entry : Component → List Component → Entry → Server → Result Server LineFault
+abbrev pub with_entry : Component → List Component → NodeLine → Server → Result Server LineFault
 with_entry name names entry server =
-    given (dir_of names server) NoParent (λ dir.
+    obtain (dir_of names server) NoParent (λ dir.
     need (not (is_some (child_of dir name server.nodes))) Duplicate (
     need (nat_lt server.next next_max) TooMany (
     Ok (added server (node_of server.next dir name entry)))))
@@ -89,8 +89,8 @@ with_dir (Some place) permissions uid gid server =
 -- what comes of the last server by 'dir PATH MODE UID GID'
 abbrev pub dir_line : List ℕ → List ℕ → List ℕ → List ℕ → Server → Result Server LineFault
 dir_line path mode uid gid server =
-    given (names_of path) BadPath (λ names.
-    given (permissions_in mode) BadMode (λ permissions.
+    obtain (names_of path) BadPath (λ names.
+    obtain (permissions_in mode) BadMode (λ permissions.
     need (is_owned uid gid) BadUser (
     with_dir (last_and_rest names) permissions uid gid server)))
 
@@ -101,11 +101,11 @@ bytes_in word = if bytes_eq word (codes "-") then Some [] else result_ok (decode
 -- what comes of it by 'file PATH MODE UID GID HEX'
 abbrev pub file_line : List ℕ → List ℕ → List ℕ → List ℕ → List ℕ → Server → Result Server LineFault
 file_line path mode uid gid hex server =
-    given (names_of path) BadPath (λ names.
-    given (last_and_rest names) BadPath (λ place.
-    given (file_mode_in mode) BadMode (λ mode.
+    obtain (names_of path) BadPath (λ names.
+    obtain (last_and_rest names) BadPath (λ place.
+    obtain (file_mode_in mode) BadMode (λ mode.
     need (is_owned uid gid) BadUser (
-    given (bytes_in hex) BadHex (λ bytes.
+    obtain (bytes_in hex) BadHex (λ bytes.
     need (nat_le (length bytes) file_max) TooLarge (
     with_entry place.0 place.1 (record { mode = mode; uid = uid; gid = gid; bytes = bytes })
     server))))))

@@ -3,7 +3,7 @@ use Rattle.std.specs.Prelude.{ℕ, Bool, not, List, [], ◌∷◌, ◌++◌, Res
 use Rattle.std.specs.List.{list_any}
 use Rattle.p9_base.specs.declared.node_ref.NodeRef.{NodeRef}
 use Rattle.p9_base.specs.NodeRef.{same_node}
-use Rattle.p9_base.specs.Results.{given, need}
+use Rattle.p9_base.specs.Results.{obtain, need}
 use Rattle.p9_tree.specs.Forest.{server_at}
 use Rattle.p9_world.specs.declared.error.LineFault.{LineFault}
 use Rattle.p9_world.specs.declared.error.LineFault.TheVariants.{NoServer, BadPath, NoParent}
@@ -25,7 +25,7 @@ with_hidden node w =
 -- what comes of a world by 'hide SERVER PATH'
 abbrev pub hide_line : List ℕ → List ℕ → World → Result World LineFault
 hide_line server path w =
-    given (server_number server w.servers) NoServer (λ number.
-    given (names_of path) BadPath (λ names.
-    given (dir_of names (server_at number w.forest)) NoParent (λ dir.
+    obtain (server_number server w.servers) NoServer (λ number.
+    obtain (names_of path) BadPath (λ names.
+    obtain (dir_of names (server_at number w.forest)) NoParent (λ dir.
     with_hidden (record { server = number; number = dir }) w)))

@@ -3,7 +3,7 @@ use Rattle.std.specs.Prelude.{◌≡◌, ℕ, nat_lt, List, [], ◌∷◌, Optio
 use Rattle.std.specs.Prelude.{length, codes, if◌then◌else◌}
 use Rattle.std.specs.Str.{bytes_eq}
 use Rattle.p9_base.specs.Statement.{statements_of}
-use Rattle.p9_base.specs.Results.{and_then, given, need, try_fold}
+use Rattle.p9_base.specs.Results.{and_then, obtain, need, try_fold}
 use Rattle.p9_world.specs.declared.error.LineFault.{LineFault}
 use Rattle.p9_world.specs.declared.error.LineFault.TheVariants.{UnknownWord, WordCount, NoServer}
 use Rattle.p9_world.specs.declared.error.WorldError.{WorldError}
@@ -47,7 +47,7 @@ operated operation words w = Err WordCount
 abbrev pub line_meaning : List (List ℕ) → World → Result World LineFault
 line_meaning [] w = Err UnknownWord
 line_meaning (word ∷ words) w =
-    given (operation_of word) UnknownWord (λ operation. operated operation words w)
+    obtain (operation_of word) UnknownWord (λ operation. operated operation words w)
 
 -- a fault with the number of its line
 abbrev pub at_line : {X : Type 0} → ℕ → Result X LineFault → Result X (ℕ × LineFault)

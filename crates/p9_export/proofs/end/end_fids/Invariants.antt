@@ -1,6 +1,6 @@
 use Rattle.std.proofs.Common.{◌≡◌, map, length}
 use Rattle.p9_fids.specs.Held.{AllFit}
-use Rattle.p9_step.specs.Change.{all_applied}
+use Rattle.p9_step.specs.ForestChange.{all_applied}
 use Rattle.p9_step.specs.Sound.{FidsFit}
 use Rattle.p9_step.specs.End.{on_ends}
 use Rattle.p9_export.proofs.end.end_fids.Given as goal

@@ -6,7 +6,7 @@ use Rattle.p9_tree.specs.Change.{changed}
 use Rattle.p9_tree.specs.Forest.{forest_changed_at}
 use Rattle.p9_wire.specs.Message.{Rwstat, StatFields, stat_view}
 use Rattle.p9_fids.specs.Fid.{fid_at}
-use Rattle.p9_step.specs.Change.{all_applied}
+use Rattle.p9_step.specs.ForestChange.{all_applied}
 use Rattle.p9_step.specs.End.{parent_marked}
 use Rattle.p9_step.specs.Qid.{stat_of}
 use Rattle.p9_export.specs.Wstat.{touched_view}

@@ -7,7 +7,7 @@ use Rattle.p9_nsfile.proofs.bind.mount.Goals as goal
 pub returns : goal.returns
 returns g c =
     subst (λ answer. Acts answer c.args.space.now c.mount_root.new.space c.mount_root.result)
-    (sym (mounted_by-root c.args.setting.now c.args.space.now c.args.flags c.args.server.now
+    (sym (mounted_by-root c.args.environment.now c.args.space.now c.args.flags c.args.server.now
     c.as_str.result.now c.args.old.now (option_copied c.args.spec) c.in-Ok.root
     c.in_ok-has_spec.field-0
     (c.as_str.ensures.value ∙ c.in_ok-server.ensures) c.in-Ok.ensures c.in_ok-has_spec.ensures

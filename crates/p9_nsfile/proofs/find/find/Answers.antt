@@ -5,5 +5,5 @@ use Rattle.p9_nsfile.proofs.find.find.Goals as goal
 
 pub returns : goal.returns
 returns g c =
-    subst (λ path. Gives (found_at c.args.setting.now c.args.space.now path) c.find_path.result)
+    subst (λ path. Gives (found_at c.args.environment.now c.args.space.now path) c.find_path.result)
     (c.as_str.ensures.value ∙ c.in_ok-path.ensures) c.find_path.ensures

@@ -6,13 +6,13 @@ use Rattle.p9_nsfile.proofs.find.find_on_server.Goals as goal
 pub returns-in-Ok : goal.returns-in-Ok
 returns-in-Ok g c =
     subst (λ answer. Gives answer c.walk_rooted.result)
-    (sym (found_on_server-is c.args.setting.now c.args.space.now c.args.path.now
+    (sym (found_on_server-is c.args.environment.now c.args.space.now c.args.path.now
     c.split_name.result.0.now c.split_name.result.1.now (Ok c.in-Ok.root)
     c.split_name.ensures.name c.split_name.ensures.rest c.in-Ok.ensures))
     c.walk_rooted.ensures
 
 pub returns-in-Err : goal.returns-in-Err
 returns-in-Err g c =
-    found_on_server-is c.args.setting.now c.args.space.now c.args.path.now c.split_name.result.0.now
+    found_on_server-is c.args.environment.now c.args.space.now c.args.path.now c.split_name.result.0.now
     c.split_name.result.1.now (Err c.in-Err.fault) c.split_name.ensures.name
     c.split_name.ensures.rest c.in-Err.ensures

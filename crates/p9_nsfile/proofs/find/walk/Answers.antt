@@ -8,7 +8,7 @@ use Rattle.p9_nsfile.proofs.find.walk.Goals as goal
 pub returns : goal.returns
 returns g c =
     let names = ap (map (λ e. e.now)) c.deref.ensures.value ∙ c.in_ok-names.ensures in
-    let forest = c.args.setting.now.forest in
+    let forest = c.args.environment.now.forest in
     let start = c.args.start.now in
     subst (λ table. Gives
     (path_fault (walk forest table None start (cleaned_elements c.args.path.now))) c.walk.result)

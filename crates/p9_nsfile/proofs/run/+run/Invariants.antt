@@ -19,5 +19,5 @@ decreases-include g l = 4 * l.left
 -- the lines that are left, from here, make what all lines make
 abbrev pub invariant-run_lines-loop-line : goal.invariant-run_lines-loop-line
 invariant-run_lines-loop-line g l =
-    lines_done l.setting l.left l.outer l.space (map line_view (drop l.line-index l.lines))
-    ≡ lines_done l.setting l.left l.outer l.initial.space (map line_view l.lines)
+    lines_done l.environment l.left l.outer l.space (map line_view (drop l.line-index l.lines))
+    ≡ lines_done l.environment l.left l.outer l.initial.space (map line_view l.lines)

@@ -1,15 +1,15 @@
 use Rattle.std.proofs.Common.{map}
 use Rattle.p9_nsfile.specs.Line.{line_view}
-use Rattle.p9_nsfile.specs.Setting.{setting_view}
+use Rattle.p9_nsfile.specs.Environment.{environment_view}
 use Rattle.p9_nsfile.proofs.GivenRuns.{KeepsGiven-lines}
 use Rattle.p9_nsfile.proofs.run.run_file.Goals as goal
 
 pub returns-clause-given : goal.returns-clause-given
 returns-clause-given g c =
-    let setting =
-    setting_view g.T.Tree.state c.args.forest.now.trees.items c.args.vars.now
+    let environment =
+    environment_view g.T.Tree.state c.args.forest.now.trees.items c.args.vars.now
     c.args.servers.now in
-    KeepsGiven-lines setting c.new-setting.result (map line_view c.deref.result.now)
+    KeepsGiven-lines environment c.new-environment.result (map line_view c.deref.result.now)
     c.args.table.now c.into_parts-made.result.0 c.in_ok-space.space c.run_lines.new.space
-    c.well_formed-2.ensures c.new-setting.ensures c.in_ok-space.ensures c.in_ok-run_lines.ensures
+    c.well_formed-2.ensures c.new-environment.ensures c.in_ok-space.ensures c.in_ok-run_lines.ensures
     c.into_parts-made.ensures.table

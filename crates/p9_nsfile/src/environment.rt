@@ -8,7 +8,7 @@ ghost use Rattle.p9_tree.specs.Forest.{is_dir_of, node_of};
 ghost use Rattle.p9_space.specs.Walk.{walk};
 ghost use Rattle.p9_nsfile.specs.Answer.{Gives, walk_stop};
 ghost use Rattle.p9_nsfile.specs.Find.{path_fault, server_root};
-ghost use Rattle.p9_nsfile.specs.Setting.{setting_view};
+ghost use Rattle.p9_nsfile.specs.Environment.{environment_view};
 ghost use Rattle.p9_nsfile.specs.Variable.{expanded};
 
 use crate::fault::{OpFault, Stop};
@@ -21,32 +21,32 @@ use std::marker::Model;
 
 /// What no operation changes: the trees of the servers, the variables and the servers' names.
 #[derive(Drop)]
-pub(crate) struct Setting<'a, T: Tree> {
+pub(crate) struct Environment<'a, T: Tree> {
     alloc: T::Alloc,
     forest: &'a Forest<T>,
     vars: &'a [(String<T::Alloc>, String<T::Alloc>)],
     servers: &'a [String<T::Alloc>],
 }
 
-impl<'a, T: Tree> Model for Setting<'a, T> {
-    ghost use Rattle.p9_nsfile.specs.Setting.{Setting as SettingOf, setting_view};
+impl<'a, T: Tree> Model for Environment<'a, T> {
+    ghost use Rattle.p9_nsfile.specs.Environment.{Environment as EnvironmentOf, environment_view};
 
-    ghost Value = { SettingOf };
+    ghost Value = { EnvironmentOf };
 
-    ghost view = { λ s. setting_view T.state s.forest.now.trees.items s.vars.now s.servers.now };
+    ghost view = { λ s. environment_view T.state s.forest.now.trees.items s.vars.now s.servers.now };
 }
 
-impl<'a, T: Tree> Setting<'a, T> {
-    /// The setting of these trees, variables and servers' names. This takes no memory.
+impl<'a, T: Tree> Environment<'a, T> {
+    /// The environment of these trees, variables and servers' names. This takes no memory.
     pub fn new(
         alloc: T::Alloc,
         forest: &'a Forest<T>,
         vars: &'a [(String<T::Alloc>, String<T::Alloc>)],
         servers: &'a [String<T::Alloc>],
-    ) -> Setting<'a, T>
-        ensures { result ≡ setting_view T.state forest.now.trees.items vars.now servers.now }
+    ) -> Environment<'a, T>
+        ensures { result ≡ environment_view T.state forest.now.trees.items vars.now servers.now }
     {
-        Setting {
+        Environment {
             alloc,
             forest,
             vars,

@@ -1,6 +1,6 @@
 use Rattle.std.proofs.Common.{None, Some}
 use Rattle.p9_nsfile.proofs.Finding.{server_root-some, min-take}
-use Rattle.p9_nsfile.proofs.setting.server_root.Goals as goal
+use Rattle.p9_nsfile.proofs.environment.server_root.Goals as goal
 
 pub returns-in-Some : goal.returns-in-Some
 returns-in-Some g c =

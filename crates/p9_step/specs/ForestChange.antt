@@ -3,7 +3,7 @@ use Rattle.std.specs.Prelude.{ℕ, List, [], ◌∷◌}
 use Rattle.p9_base.specs.declared.node_ref.NodeRef.{NodeRef}
 use Rattle.p9_tree.specs.Bytes.{cut_to, overwritten}
 use Rattle.p9_tree.specs.Change.{changed}
-use Rattle.p9_tree.specs.declared.change.Change.{Change as NodeChange}
+use Rattle.p9_tree.specs.declared.change.Change.{ForestChange as NodeChange}
 use Rattle.p9_tree.specs.Node.{Node, marked, touched, with_bytes}
 use Rattle.p9_tree.specs.Server.{Server, added, with_dropped}
 use Rattle.p9_tree.specs.Forest.{forest_changed_at, tree_changed_at}
@@ -25,18 +25,18 @@ edited (Cut size) = with_bytes (cut_to size)
 edited (Rewrite change) = changed change
 
 -- what is changed in the forest: a node, or that there is one
-pub data Change : Type 0 where
-  EditNode : (at : NodeRef) (edit : Edit) → Change
-  AddNode : (server : ℕ) (node : Node) → Change
-  DropNode : (at : NodeRef) → Change
+pub data ForestChange : Type 0 where
+  EditNode : (at : NodeRef) (edit : Edit) → ForestChange
+  AddNode : (server : ℕ) (node : Node) → ForestChange
+  DropNode : (at : NodeRef) → ForestChange
 
 -- the forest after a change
-unfoldable pub applied : Change → List Server → List Server
+unfoldable pub applied : ForestChange → List Server → List Server
 applied (EditNode at edit) forest = forest_changed_at at (edited edit) forest
 applied (AddNode server node) forest = tree_changed_at server (λ s. added s node) forest
 applied (DropNode at) forest = tree_changed_at at.server (with_dropped at.number) forest
 
 -- one change after another
-abbrev pub all_applied : List Change → List Server → List Server
+abbrev pub all_applied : List ForestChange → List Server → List Server
 all_applied [] forest = forest
 all_applied (change ∷ changes) forest = all_applied changes (applied change forest)

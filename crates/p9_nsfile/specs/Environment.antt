@@ -5,15 +5,15 @@ use Rattle.p9_base.specs.Variable.{Variable, variables_of}
 use Rattle.p9_tree.specs.Server.{Server}
 
 -- what no operation changes: the trees, the variables, and the servers' names by number
-pub record Setting : Type 0 where
+pub record Environment : Type 0 where
   pub forest : List Server
   pub vars : List Variable
   pub servers : List (List ℕ)
 
--- a setting of the code, as it is seen
-abbrev pub setting_view : {T A : Type 0} → (T → Server) → List T → List (String A × String A)
-    → List (String A) → Setting
-setting_view state trees vars servers = record {
+-- a environment of the code, as it is seen
+abbrev pub environment_view : {T A : Type 0} → (T → Server) → List T → List (String A × String A)
+    → List (String A) → Environment
+environment_view state trees vars servers = record {
   forest = map state trees;
   vars = variables_of vars;
   servers = map string_bytes servers;

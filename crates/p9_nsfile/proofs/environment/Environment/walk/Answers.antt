@@ -2,15 +2,15 @@ use Rattle.std.proofs.Common.{◌≡◌, None, Ok, Err, map, ap, sym, subst}
 use Rattle.p9_space.specs.Walk.{walk}
 use Rattle.p9_nsfile.specs.Answer.{Gives}
 use Rattle.p9_nsfile.specs.Find.{path_fault}
-use Rattle.p9_nsfile.specs.Setting.{Setting}
+use Rattle.p9_nsfile.specs.Environment.{Environment}
 use Rattle.p9_nsfile.proofs.Finding.{Gives-walk_stop}
-use Rattle.p9_nsfile.proofs.setting.Setting.walk.Goals as goal
+use Rattle.p9_nsfile.proofs.environment.Environment.walk.Goals as goal
 
 pub returns-in-Err : goal.returns-in-Err
 returns-in-Err g c =
     let names = map (λ n. n.now) c.args.names.now in
     let walked =
-    λ (s : Setting). path_fault (walk s.forest c.args.table.now None c.args.start.now names) in
+    λ (s : Environment). path_fault (walk s.forest c.args.table.now None c.args.start.now names) in
     subst (λ s. Gives (walked s) (Err c.walk_stop.result)) c.self.view_is
     (subst
     (λ stop. Gives
@@ -25,5 +25,5 @@ pub returns-in-Ok : goal.returns-in-Ok
 returns-in-Ok g c =
     let names = map (λ n. n.now) c.args.names.now in
     let walked =
-    λ (s : Setting). path_fault (walk s.forest c.args.table.now None c.args.start.now names) in
+    λ (s : Environment). path_fault (walk s.forest c.args.table.now None c.args.start.now names) in
     subst (λ s. walked s ≡ Ok c.in-Ok.trail) c.self.view_is (ap path_fault (rw c.nobody.ensures at c.in-Ok.ensures.ok))
