@@ -16,7 +16,7 @@ use Rattle.p9_judge.specs.declared.verdict.Verdict.TheVariants.{Yes, No}
 use Rattle.p9_commands.specs.NameSpace.{NameSpace, gap_over}
 
 -- this text is printed, and the exit status is this one
-abbrev pub IsTold : ℕ → List ℕ → List ℕ → List ℕ → ℕ → Type 0
+abbrev pub IsTold : (status : ℕ) (text before after : List ℕ) (result : ℕ) → Type 0
 IsTold status text before after result = (result ≡ status) × (after ≡ before ++ text)
 
 -- What the judge says.

@@ -16,7 +16,7 @@ entry_at number nodes =
     option_and_then (λ n. option_map (λ parent. (parent, n.name)) n.parent) (node_at number nodes)
 
 -- the names that lead to a node from at most so many directories above it
-abbrev pub names_below : ℕ → ℕ → List Node → List (List ℕ)
+abbrev pub names_below : (left number : ℕ) → List Node → List (List ℕ)
 names_below zero number nodes = []
 names_below (suc left) number nodes =
     option_map_or (λ entry. names_below left entry.0 nodes ++ entry.1 ∷ []) (entry_at number nodes)

@@ -19,7 +19,7 @@ file_mode = record {
 }
 
 -- a node that was glenda's from the beginning
-abbrev pub glendas : ℕ → ℕ → List ℕ → Mode → List ℕ → Node
+abbrev pub glendas : (number parent : ℕ) (name : List ℕ) → Mode → (bytes : List ℕ) → Node
 glendas number parent name mode bytes = record {
   number = number;
   parent = Some parent;

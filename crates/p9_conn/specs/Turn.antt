@@ -46,12 +46,13 @@ pub record IsStep (entry : Answered) (old new : State) : Type 0 where
   pub reply_is : entry.reply ≡ (step old entry.event.0 entry.event.1).reply
 
 -- a session gets a frame, and this reply
-abbrev pub answering : ℕ → List ℕ → ℕ → Bool → List ℕ → Answered
+abbrev pub answering : (session : ℕ) (frame : List ℕ) (now : ℕ) → Bool → (reply : List ℕ)
+    → Answered
 answering session frame now refused reply =
     record { event = (Message session frame now, refused); reply = reply }
 
 -- a session is closed
-abbrev pub closing : ℕ → ℕ → Answered
+abbrev pub closing : (session now : ℕ) → Answered
 closing session now = record { event = (Close session now, false); reply = [] }
 
 -- what a turn is to do
@@ -116,7 +117,7 @@ pub record Ends (session now : ℕ) (old new : Scene) (deeds : Deeds) : Type 0 w
 
 -- a turn in a phase. A stream that is to be waited for changes nothing; one that fails or moves
 -- nothing ends its connection
-abbrev pub TurnBy : Phase → ℕ → ℕ → Scene → Scene → Deeds → Type 0
+abbrev pub TurnBy : Phase → (session now : ℕ) → Scene → Scene → Deeds → Type 0
 TurnBy Over session now old new deeds = IsIdle old new deeds
 TurnBy Sending session now old new deeds =
     Sends old new deeds ⊎ (IsIdle old new deeds ⊎ Ends session now old new deeds)
@@ -126,5 +127,5 @@ TurnBy Receiving session now old new deeds =
     Receives old new deeds ⊎ (IsIdle old new deeds ⊎ Ends session now old new deeds)
 
 -- a turn
-abbrev pub IsTurn : ℕ → ℕ → Scene → Scene → Deeds → Type 0
+abbrev pub IsTurn : (session now : ℕ) → Scene → Scene → Deeds → Type 0
 IsTurn session now old new deeds = TurnBy (phase_of old.link) session now old new deeds

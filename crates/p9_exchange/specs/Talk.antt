@@ -37,12 +37,12 @@ abbrev pub nothing_said : Talk
 nothing_said = record { turn = 0; sessions = []; told = 0; text = [] }
 
 -- what goes to the exporter: the line of the script, the session, and words
-abbrev pub asking : ℕ → ℕ → List ℕ → List ℕ
+abbrev pub asking : (line session : ℕ) (words : List ℕ) → List ℕ
 asking line session words =
     (decimal line ++ (codes " <-" ++ (decimal session ++ codes "- "))) ++ words ++ 10 ∷ []
 
 -- what comes from it
-abbrev pub telling : ℕ → ℕ → List ℕ → List ℕ
+abbrev pub telling : (line session : ℕ) (words : List ℕ) → List ℕ
 telling line session words =
     (decimal line ++ (codes " -" ++ (decimal session ++ codes "-> "))) ++ words ++ 10 ∷ []
 
@@ -64,7 +64,8 @@ is_skip None = false
 is_skip (Some line) = bytes_eq (codes "skip") line
 
 -- an event is skipped for this reason
-unfoldable pub skipped : List (List ℕ) → ℕ → ℕ → List ℕ → Talk → Result Talk Refusal
+unfoldable pub skipped : List (List ℕ) → (line session : ℕ) (reason : List ℕ) → Talk
+    → Result Talk Refusal
 skipped replies line session reason talk =
     if is_skip (slice_get replies talk.told)
     then Ok (with_told talk (telling line session (codes "skip: " ++ reason)))
@@ -75,25 +76,25 @@ abbrev pub reply_in : List ℕ → Option (List ℕ)
 reply_in line = if length line == 0 then None else result_ok (decode_of line)
 
 -- a message gets these bytes
-abbrev pub with_reply : ℕ → ℕ → Talk → Option (List ℕ) → Result Talk Refusal
+abbrev pub with_reply : (line session : ℕ) → Talk → Option (List ℕ) → Result Talk Refusal
 with_reply line session talk None = Err (BadReply (talk.told + 1) (Reply line))
 with_reply line session talk (Some bytes) =
     Ok (with_told talk (telling line session (message_words bytes)))
 
 -- a message gets the next reply
-unfoldable pub replied : List (List ℕ) → ℕ → ℕ → Talk → Result Talk Refusal
+unfoldable pub replied : List (List ℕ) → (line session : ℕ) → Talk → Result Talk Refusal
 replied replies line session talk =
     with_reply line session talk (option_and_then reply_in (slice_get replies talk.told))
 
 -- a session is opened
-unfoldable pub opened : List (List ℕ) → ℕ → ℕ → Talk → Result Talk Refusal
+unfoldable pub opened : List (List ℕ) → (line session : ℕ) → Talk → Result Talk Refusal
 opened replies line session talk =
     let asked = behind talk (asking line session (codes "open")) in
     if is_open session talk then skipped replies line session (codes "session open already") asked
     else Ok (record asked { sessions = talk.sessions ++ session ∷ [] })
 
 -- a session is closed
-unfoldable pub closed : List (List ℕ) → ℕ → ℕ → Talk → Result Talk Refusal
+unfoldable pub closed : List (List ℕ) → (line session : ℕ) → Talk → Result Talk Refusal
 closed replies line session talk =
     let asked = behind talk (asking line session (codes "close")) in
     if is_open session talk
@@ -101,7 +102,8 @@ closed replies line session talk =
     else skipped replies line session (codes "no such session") asked
 
 -- a session gets a frame
-unfoldable pub sent : List (List ℕ) → ℕ → ℕ → List ℕ → Talk → Result Talk Refusal
+unfoldable pub sent : List (List ℕ) → (line session : ℕ) (frame : List ℕ) → Talk
+    → Result Talk Refusal
 sent replies line session frame talk =
     let asked = behind talk (asking line session (message_words frame)) in
     if not (is_frame frame) then skipped replies line session (frame_fault frame) asked

@@ -89,7 +89,8 @@ pub record ReplyFits (reply : RMessage) : Type 0 where
   pub short : 7 + r_len reply ≤ msize_max
 
 -- the answer to a frame of the session of this name
-abbrev pub frame_among : Setting → List Server → List SessionRow → ℕ → ℕ → List ℕ → Answer
+abbrev pub frame_among : Setting → List Server → List SessionRow → (name now : ℕ) (frame : List ℕ)
+    → Answer
 frame_among setting forest sessions name now frame =
     option_map_or (λ session. frame_answer setting forest sessions session now frame)
     (session_at name sessions) (Err PhaseError)

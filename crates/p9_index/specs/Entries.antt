@@ -22,7 +22,7 @@ abbrev pub entry_cmp : Entry → Entry → Ordering
 entry_cmp a b = ordering_then (nat_cmp a.parent b.parent) (slice_cmp nat_cmp a.name b.name)
 
 -- the child of the directory, by its number
-abbrev pub child_at : ℕ → ℕ → Child
+abbrev pub child_at : (dir number : ℕ) → Child
 child_at dir number = record { dir = dir; number = number }
 
 -- where the children of the directory above the floor begin among all

@@ -14,7 +14,7 @@ abbrev pub server_of : List (ℕ × Node) → ℕ → Server
 server_of nodes next = record { nodes = values_of nodes; next = next }
 
 -- the node of the number is in the directory
-abbrev pub stands_in : ℕ → ℕ → List Node → Bool
+abbrev pub stands_in : (dir number : ℕ) → List Node → Bool
 stands_in dir number nodes = option_map_or (is_in dir) (node_at number nodes) false
 
 -- and there under the name

@@ -44,7 +44,7 @@ plain_node number parent name kind permissions bytes = record {
 }
 
 -- a directory, in the parent
-abbrev pub dir : ℕ → ℕ → List ℕ → Permissions → Node
+abbrev pub dir : (number parent : ℕ) (name : List ℕ) → Permissions → Node
 dir number parent name permissions = plain_node number (Some parent) name Directory permissions []
 
 -- the root of a server

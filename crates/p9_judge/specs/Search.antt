@@ -36,7 +36,7 @@ AreEarlier places = (i : ℕ) (p : Place) (origin : Origin) → slice_get places
     → p.origin ≡ Some origin → origin.from < i
 
 -- the steps by which places were discovered, from that of the first position to that of the last
-abbrev pub IsWay : List Place → ℕ → List Step → ℕ → Type 0
+abbrev pub IsWay : List Place → (first : ℕ) → List Step → (last : ℕ) → Type 0
 IsWay places first [] last = first ≡ last
 IsWay places first (step ∷ steps) last =
     (next : ℕ) × (p : Place) × (origin : Origin) × (slice_get places next ≡ Some p)

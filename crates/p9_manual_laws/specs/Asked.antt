@@ -28,14 +28,14 @@ after_outcome state name outcome = record {
 }
 
 -- a message of an open session
-abbrev pub asked_in : State → ℕ → ℕ → TMessage → Session → Asked
+abbrev pub asked_in : State → (name now : ℕ) → TMessage → Session → Asked
 asked_in state name now m session =
     after_outcome state name
     (outcome_of session
     (message_answer state.setting state.forest state.sessions session now m))
 
 -- a message of the session of the name, at a reading of the clock
-abbrev pub asked : State → ℕ → ℕ → TMessage → Asked
+abbrev pub asked : State → (name now : ℕ) → TMessage → Asked
 asked state name now m =
     option_map_or (asked_in state name now m) (session_at name state.sessions)
     (record { state = state; reply = None })

@@ -20,7 +20,7 @@ data_before other rest = None
 
 -- the data of reads of a fid, each at a reading of the clock and with a count: the first is at the
 -- offset, and each other where the one before ended
-abbrev pub reads_from : State → ℕ → ℕ → ℕ → List (ℕ × ℕ) → Option (List (List ℕ))
+abbrev pub reads_from : State → (name fid offset : ℕ) → List (ℕ × ℕ) → Option (List (List ℕ))
 reads_from state name fid offset [] = Some []
 reads_from state name fid offset (read ∷ reads) =
     let after = asked state name read.0 (Tread fid offset read.1) in

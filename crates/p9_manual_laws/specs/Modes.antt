@@ -14,7 +14,7 @@ abbrev pub all_permissions : ℕ
 all_permissions = 511
 
 -- perm & (~mask | (dir & mask)), among the permissions
-abbrev pub masked : ℕ → ℕ → ℕ → ℕ
+abbrev pub masked : (mask perm dir : ℕ) → ℕ
 masked mask perm dir = bit_and perm (bit_or (all_permissions - mask) (bit_and dir mask))
 
 -- a file gets perm & (~0666 | (dir & 0666)), and a directory perm & (~0777 | (dir & 0777))

@@ -10,7 +10,7 @@ pub record Environment : Type 0 where
   pub vars : List Variable
   pub servers : List (List ℕ)
 
--- a environment of the code, as it is seen
+-- an environment of the code, as it is seen
 abbrev pub environment_view : {T A : Type 0} → (T → Server) → List T → List (String A × String A)
     → List (String A) → Environment
 environment_view state trees vars servers = record {

@@ -77,7 +77,7 @@ module _ (environment : Environment) where
       reported number space (acted (include number) space line.1)
 
   -- the lines of a file that is included by a line, where so many files may still be nested
-  unfoldable pub included : ℕ → ℕ → Space → Word → Result Space OpFault
+  unfoldable pub included : (left line : ℕ) → Space → Word → Result Space OpFault
   included zero line space path = Err TooDeep
   included (suc left) line space path =
       and_then (included_lines space path)

@@ -19,7 +19,7 @@ new_server serving = record { serving = serving; left = 0 }
 
 -- the rounds that are to pass after a round in which so many turns moved something: none where
 -- nothing moved; after an accept the longest wait; else one less than before
-abbrev pub left_after : ℕ → ℕ → ℕ
+abbrev pub left_after : (left moved : ℕ) → ℕ
 left_after left zero = 0
 left_after zero (suc moved) = longest_wait
 left_after (suc left) (suc moved) = left
@@ -31,7 +31,8 @@ Accepts {S} old new (suc zero) = (stream : S) × IsTakenIn stream old new
 Accepts {S} old new (suc (suc more)) = ⊥
 
 -- the same where an accept is due; else nobody is taken in
-abbrev pub AcceptsIfDue : {S : Type 0} → ℕ → Serving S → Serving S → ℕ → Type 0
+abbrev pub AcceptsIfDue : {S : Type 0} → (left : ℕ) → Serving S → Serving S → (accepted : ℕ)
+    → Type 0
 AcceptsIfDue zero old new accepted = Accepts old new accepted
 AcceptsIfDue (suc left) old new accepted = (new ≡ old) × (accepted ≡ 0)
 

@@ -58,7 +58,7 @@ pub record HasTurnAt {S : Type 0} (remaining contents : S → Option (List ℕ))
       ≡ slice_set old.slots key (if after.link.closed then None else Some after)
 
 -- the same of the connection at a key, if there is one
-abbrev pub TurnAt : {S : Type 0} → (S → Option (List ℕ)) → (S → Option (List ℕ)) → ℕ → ℕ
+abbrev pub TurnAt : {S : Type 0} → (S → Option (List ℕ)) → (S → Option (List ℕ)) → (now key : ℕ)
     → Option (Connection S) → Serving S → Serving S → Option Turn → Type 0
 TurnAt remaining contents now key None old new turn = (new ≡ old) × (turn ≡ None)
 TurnAt {S} remaining contents now key (Some conn) old new None = ⊥
@@ -70,7 +70,7 @@ listed None = []
 listed (Some turn) = turn ∷ []
 
 -- so many keys, from 0 on, had their turns, one after another; these are what they came to
-abbrev pub Turned : {S : Type 0} → (S → Option (List ℕ)) → (S → Option (List ℕ)) → ℕ → ℕ
+abbrev pub Turned : {S : Type 0} → (S → Option (List ℕ)) → (S → Option (List ℕ)) → (now keys : ℕ)
     → Serving S → Serving S → List Turn → Type 0
 Turned remaining contents now zero old new turns = (new ≡ old) × (turns ≡ [])
 Turned {S} remaining contents now (suc key) old new turns =
@@ -108,12 +108,13 @@ pub record HasEndedAt {S : Type 0} (now key : ℕ) (old new : Serving S) : Type 
   pub slots_are : new.slots ≡ slice_set old.slots key None
 
 -- that at a key, if there is one
-abbrev pub EndAt : {S : Type 0} → ℕ → ℕ → Option (Connection S) → Serving S → Serving S → Type 0
+abbrev pub EndAt : {S : Type 0} → (now key : ℕ) → Option (Connection S) → Serving S → Serving S
+    → Type 0
 EndAt now key None old new = new ≡ old
 EndAt now key (Some conn) old new = HasEndedAt now key old new
 
 -- those of so many keys, from 0 on, one after another
-abbrev pub Ended : {S : Type 0} → ℕ → ℕ → Serving S → Serving S → Type 0
+abbrev pub Ended : {S : Type 0} → (now keys : ℕ) → Serving S → Serving S → Type 0
 Ended now zero old new = new ≡ old
 Ended {S} now (suc key) old new =
     (between : Serving S) × Ended now key old between

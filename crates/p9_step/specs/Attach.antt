@@ -52,7 +52,8 @@ attached_at setting forest session fid user place =
     })))
 
 -- the tests in their order, and the fid
-abbrev pub attach_answer : Setting → List Server → Session → ℕ → ℕ → List ℕ → List ℕ → Answer
+abbrev pub attach_answer : Setting → List Server → Session → (fid afid : ℕ) (uname aname : List ℕ)
+    → Answer
 attach_answer setting forest session fid afid uname aname =
     unless (put_fault fid session.fids) (
     need (afid == nofid) NoAuthentication (

@@ -14,7 +14,7 @@ abbrev pub without : ℕ → Session → Session
 without fid session = record session { fids = without_fid fid session.fids }
 
 -- the fid goes, with what its end changes
-abbrev pub clunk_answer : Setting → List Server → Session → ℕ → ℕ → Answer
+abbrev pub clunk_answer : Setting → List Server → Session → (now fid : ℕ) → Answer
 clunk_answer setting forest session now fid =
     obtain (fid_at fid session.fids) UnknownFid (λ v.
     Ok (record {

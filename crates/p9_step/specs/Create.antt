@@ -35,7 +35,7 @@ use Rattle.p9_step.specs.Opening.{is_plain_read, newly_opened, opening_of}
 use Rattle.p9_step.specs.Qid.{qid_of}
 
 -- the node that is made: the user's, of the group of its directory
-abbrev pub created : List ℕ → ℕ → ℕ → Node → List ℕ → Mode → Node
+abbrev pub created : (user : List ℕ) (now number : ℕ) → Node → (name : List ℕ) → Mode → Node
 created user now number dir name asked = record {
   number = number;
   parent = Some dir.number;
@@ -70,8 +70,8 @@ entered fid trail opening session = record session {
 }
 
 -- the node is made in the directory, which is marked
-abbrev pub creation : List Server → Session → ℕ → ℕ → Fid → NodeRef → Node → List ℕ → Mode → Opening
-    → Answer
+abbrev pub creation : List Server → Session → (now fid : ℕ) → Fid → NodeRef → Node
+    → (name : List ℕ) → Mode → Opening → Answer
 creation forest session now fid v target dir name asked opening =
     let at = beside target (next_of target.server forest) in
     let n = created v.user now at.number dir name asked in
@@ -92,16 +92,16 @@ fault_in setting forest v name target dir =
     else None
 
 -- the node is made in this directory, if nothing there refuses it
-abbrev pub created_in : Setting → List Server → Session → ℕ → ℕ → Fid → List ℕ → Mode → Opening
-    → NodeRef
-    → Answer
+abbrev pub created_in : Setting → List Server → Session → (now fid : ℕ) → Fid → (name : List ℕ)
+    → Mode → Opening → NodeRef → Answer
 created_in setting forest session now fid v name asked opening target =
     obtain (node_of target forest) PhaseError (λ dir.
     unless (fault_in setting forest v name target dir) (
     creation forest session now fid v target dir name asked opening))
 
 -- the tests in their order, up to the directory
-abbrev pub create_answer : Setting → List Server → Session → ℕ → ℕ → List ℕ → ℕ → ℕ → Answer
+abbrev pub create_answer : Setting → List Server → Session
+    → (now fid : ℕ) (name : List ℕ) (perm bits : ℕ) → Answer
 create_answer setting forest session now fid name perm bits =
     obtain (fid_at fid session.fids) UnknownFid (λ v.
     need (is_none v.opened) FidOpen (

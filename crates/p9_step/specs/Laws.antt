@@ -48,7 +48,7 @@ abbrev pub reply_max : Session → ℕ
 reply_max session = unwrap_or session.msize refusal_max
 
 -- the state without one fid of a session
-abbrev pub without_fid_of : ℕ → Session → ℕ → State → State
+abbrev pub without_fid_of : (name : ℕ) → Session → (fid : ℕ) → State → State
 without_fid_of name session fid state =
     record state { sessions = changed_session name (without fid session) state.sessions }
 

@@ -85,7 +85,7 @@ is_taken setting forest sessions session fid =
     (fid_at fid session.fids) false
 
 -- the tests in their order
-abbrev pub open_answer : Setting → List Server → Bool → Session → ℕ → ℕ → ℕ → Answer
+abbrev pub open_answer : Setting → List Server → Bool → Session → (now fid bits : ℕ) → Answer
 open_answer setting forest taken session now fid bits =
     obtain (fid_at fid session.fids) UnknownFid (λ v.
     need (is_none v.opened) FidOpen (

@@ -26,7 +26,7 @@ use Rattle.p9_step.specs.Qid.{stat_of}
 -- A file.
 
 -- the bytes from the offset on that are there and have room; the time of the last read moves
-abbrev pub read_file : Session → ℕ → NodeRef → Node → ℕ → ℕ → Answer
+abbrev pub read_file : Session → (now : ℕ) → NodeRef → Node → (offset room : ℕ) → Answer
 read_file session now at n offset room =
     Ok (record {
       changes = EditNode at (Touch now) ∷ [];
@@ -57,7 +57,8 @@ abbrev pub cursor_at : ℕ → Opened → Option Cursor
 cursor_at offset opened = if offset == 0 then None else opened.cursor
 
 -- the next read of the directory goes on behind the entries that were given
-abbrev pub listed_session : ℕ → Opened → ℕ → Option Cursor → List Entry → Session → Session
+abbrev pub listed_session : (fid : ℕ) → Opened → (offset : ℕ) → Option Cursor → List Entry
+    → Session → Session
 listed_session fid opened offset cursor given session = record session {
   fids =
       changed_fid fid (opened_as (record opened {
@@ -67,7 +68,8 @@ listed_session fid opened offset cursor given session = record session {
 }
 
 -- the entries that are given of those that are left
-abbrev pub listed : Session → ℕ → Opened → ℕ → Option Cursor → List Entry → Answer
+abbrev pub listed : Session → (fid : ℕ) → Opened → (offset : ℕ) → Option Cursor → List Entry
+    → Answer
 listed session fid opened offset cursor given =
     Ok (record {
       changes = [];
@@ -76,12 +78,14 @@ listed session fid opened offset cursor given =
     })
 
 -- where entries are left, room for one is needed
-abbrev pub given_of : Session → ℕ → Opened → ℕ → Option Cursor → List Entry → List Entry → Answer
+abbrev pub given_of : Session → (fid : ℕ) → Opened → (offset : ℕ) → Option Cursor → List Entry
+    → List Entry → Answer
 given_of session fid opened offset cursor (e ∷ es) [] = Err SmallReadCount
 given_of session fid opened offset cursor left given = listed session fid opened offset cursor given
 
 -- a read begins anew, or where the last one ended
-abbrev pub read_dir : Setting → List Server → Session → ℕ → Fid → Opened → ℕ → ℕ → Answer
+abbrev pub read_dir : Setting → List Server → Session → (fid : ℕ) → Fid → Opened
+    → (offset room : ℕ) → Answer
 read_dir setting forest session fid v opened offset room =
     let cursor = cursor_at offset opened in
     let left = listing_behind cursor setting.table forest (who_of setting v.user) (here v.trail) in
@@ -94,7 +98,7 @@ readable None = None
 readable (Some opened) = if reads opened.mode then Some opened else None
 
 -- the tests in their order
-abbrev pub read_answer : Setting → List Server → Session → ℕ → ℕ → ℕ → ℕ → Answer
+abbrev pub read_answer : Setting → List Server → Session → (now fid offset count : ℕ) → Answer
 read_answer setting forest session now fid offset count =
     obtain (fid_at fid session.fids) UnknownFid (λ v.
     obtain (readable v.opened) FidNotOpen (λ opened.

@@ -24,7 +24,7 @@ removal setting forest left now v =
     Ok (record { changes = taken_out v.user now at n; session = left; reply = Rremove })))))
 
 -- a refused removal is answered too, since its fid ends
-abbrev pub remove_answer : Setting → List Server → Session → ℕ → ℕ → Answer
+abbrev pub remove_answer : Setting → List Server → Session → (now fid : ℕ) → Answer
 remove_answer setting forest session now fid =
     obtain (fid_at fid session.fids) UnknownFid (λ v.
     let left = without fid session in

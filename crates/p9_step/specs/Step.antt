@@ -99,13 +99,13 @@ answered state name session frame refused answer =
     else with_outcome state name frame (outcome_of session answer)
 
 -- a frame of a session that is open
-abbrev pub requested : State → ℕ → List ℕ → ℕ → Bool → Session → Stepped
+abbrev pub requested : State → (name : ℕ) (frame : List ℕ) (now : ℕ) → Bool → Session → Stepped
 requested state name frame now refused session =
     answered state name session frame refused
     (frame_answer state.setting state.forest state.sessions session now frame)
 
 -- a session ends, and its fids by rising number
-abbrev pub closed : State → ℕ → ℕ → Session → Stepped
+abbrev pub closed : State → (name now : ℕ) → Session → Stepped
 closed state name now session = record {
   state = record state {
     forest = all_applied (on_ends state.setting.table now state.forest session.fids) state.forest;

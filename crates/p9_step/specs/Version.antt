@@ -21,7 +21,7 @@ abbrev pub is_known : List ℕ → Bool
 is_known version = bytes_eq version (codes "9P2000") || starts_with nat_eq version (codes "9P2000.")
 
 -- all fids end, and frames have at most so many bytes from now on
-abbrev pub begun : Setting → List Server → Session → ℕ → ℕ → Answer
+abbrev pub begun : Setting → List Server → Session → (now msize : ℕ) → Answer
 begun setting forest session now msize = Ok (record {
   changes = on_ends setting.table now forest session.fids;
   session = record { msize = Some msize; fids = [] };
@@ -34,7 +34,8 @@ not_spoken session msize =
     Ok (record { changes = []; session = session; reply = Rversion msize (codes "unknown") })
 
 -- the tests in their order
-abbrev pub version_answer : Setting → List Server → Session → ℕ → ℕ → List ℕ → Answer
+abbrev pub version_answer : Setting → List Server → Session → (now msize : ℕ) (version : List ℕ)
+    → Answer
 version_answer setting forest session now msize version =
     need (nat_le msize_min msize) SmallMsize (
     if is_known version then begun setting forest session now (min msize msize_max)

@@ -60,21 +60,22 @@ module _ (setting : Setting) (forest : List Server) where
       going_on trail (arrived_by user trail name) (λ next. walked user next names)
 
 -- why newfid can't be where the walk leads; the fid itself always can
-abbrev pub newfid_fault : ℕ → ℕ → List FidRow → Option Fault
+abbrev pub newfid_fault : (fid newfid : ℕ) → List FidRow → Option Fault
 newfid_fault fid newfid fids =
     if newfid == nofid then Some UnknownFid
     else if newfid == fid then None
     else put_fault newfid fids
 
 -- the fid goes there itself, or newfid is added
-abbrev pub moved : ℕ → ℕ → Fid → List NodeRef → Session → Session
+abbrev pub moved : (fid newfid : ℕ) → Fid → List NodeRef → Session → Session
 moved fid newfid v trail session = record session {
   fids = if newfid == fid then changed_fid fid (trailed trail) session.fids
       else with_fid newfid (record { user = v.user; trail = trail; opened = None }) session.fids;
 }
 
 -- a walk that is stopped at its first name is refused; one that is stopped later moves no fid
-abbrev pub ended_walk : ℕ → ℕ → Fid → Session → List NodeRef → Option Fault → List Qid → Answer
+abbrev pub ended_walk : (fid newfid : ℕ) → Fid → Session → List NodeRef → Option Fault → List Qid
+    → Answer
 ended_walk fid newfid v session trail None qids =
     Ok (record { changes = []; session = moved fid newfid v trail session; reply = Rwalk qids })
 ended_walk fid newfid v session trail (Some fault) [] = Err fault
@@ -82,11 +83,12 @@ ended_walk fid newfid v session trail (Some fault) (qid ∷ qids) =
     Ok (record { changes = []; session = session; reply = Rwalk (qid ∷ qids) })
 
 -- the same, of how far the names led
-abbrev pub walk_outcome : ℕ → ℕ → Fid → Session → Walked → Answer
+abbrev pub walk_outcome : (fid newfid : ℕ) → Fid → Session → Walked → Answer
 walk_outcome fid newfid v session w = ended_walk fid newfid v session w.trail w.stopped w.qids
 
 -- the tests in their order
-abbrev pub walk_answer : Setting → List Server → Session → ℕ → ℕ → List (List ℕ) → Answer
+abbrev pub walk_answer : Setting → List Server → Session → (fid newfid : ℕ) → List (List ℕ)
+    → Answer
 walk_answer setting forest session fid newfid names =
     obtain (fid_at fid session.fids) UnknownFid (λ v.
     need (is_none v.opened) FidOpen (

@@ -25,7 +25,7 @@ abbrev pub write_place : ℕ → Node → ℕ
 write_place offset n = if is_append_only n then length n.bytes else offset
 
 -- the bytes are at the place, and the file is marked
-abbrev pub written : Session → ℕ → Fid → NodeRef → ℕ → List ℕ → Answer
+abbrev pub written : Session → (now : ℕ) → Fid → NodeRef → (place : ℕ) (bytes : List ℕ) → Answer
 written session now v at place bytes =
     Ok (record {
       changes = EditNode at (Overwrite place bytes) ∷ EditNode at (Mark v.user now) ∷ [];
@@ -34,7 +34,8 @@ written session now v at place bytes =
     })
 
 -- no bytes change nothing, at any offset
-abbrev pub write_file : Session → ℕ → Fid → NodeRef → Node → ℕ → List ℕ → Answer
+abbrev pub write_file : Session → (now : ℕ) → Fid → NodeRef → Node
+    → (offset : ℕ) (bytes : List ℕ) → Answer
 write_file session now v at n offset [] =
     Ok (record { changes = []; session = session; reply = Rwrite 0 })
 write_file session now v at n offset (b ∷ bs) =
@@ -44,7 +45,8 @@ write_file session now v at n offset (b ∷ bs) =
     written session now v at place bytes)
 
 -- the tests in their order
-abbrev pub write_answer : Setting → List Server → Session → ℕ → ℕ → ℕ → List ℕ → Answer
+abbrev pub write_answer : Setting → List Server → Session → (now fid offset : ℕ) (bytes : List ℕ)
+    → Answer
 write_answer setting forest session now fid offset bytes =
     obtain (fid_at fid session.fids) UnknownFid (λ v.
     need (is_writable v) FidNotOpen (

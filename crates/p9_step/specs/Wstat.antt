@@ -35,7 +35,7 @@ use Rattle.p9_tree.specs.Bytes.{file_max}
 -- is there.
 
 -- a number
-abbrev pub is_number_touched : ℕ → ℕ → ℕ → Bool
+abbrev pub is_number_touched : (greatest there wanted : ℕ) → Bool
 is_number_touched greatest there wanted = not (wanted == greatest || wanted == there)
 
 -- a text
@@ -43,7 +43,7 @@ abbrev pub is_text_touched : List ℕ → List ℕ → Bool
 is_text_touched there wanted = not (bytes_eq wanted [] || bytes_eq wanted there)
 
 -- what is wanted, where it is touched
-abbrev pub touched_number : ℕ → ℕ → ℕ → Option ℕ
+abbrev pub touched_number : (greatest there wanted : ℕ) → Option ℕ
 touched_number greatest there wanted =
     if is_number_touched greatest there wanted then Some wanted else None
 
@@ -169,7 +169,7 @@ rewriting user now at n t =
     else []
 
 -- the tests in their order
-abbrev pub wstat_answer : Setting → List Server → Session → ℕ → ℕ → StatFields → Answer
+abbrev pub wstat_answer : Setting → List Server → Session → (now fid : ℕ) → StatFields → Answer
 wstat_answer setting forest session now fid wanted =
     obtain (fid_at fid session.fids) UnknownFid (λ v.
     obtain (fid_file setting.table forest v) PhaseError (λ n.

@@ -7,7 +7,7 @@ abbrev pub file_max : ℕ
 file_max = 16777216
 
 -- up to count bytes from the offset on, as many as are there
-abbrev pub read_from : ℕ → ℕ → List ℕ → List ℕ
+abbrev pub read_from : (offset count : ℕ) (old : List ℕ) → List ℕ
 read_from offset count old = take count (drop offset old)
 
 -- the bytes after a write at the offset; a gap before it is filled with zeros

@@ -5,7 +5,7 @@ use Rattle.p9_tree.specs.Node.{Node}
 use Rattle.p9_tree.specs.Server.{CanAdd, Server, added}
 
 -- the node of this number in the directory
-abbrev pub new_node : ℕ → ℕ → New → Node
+abbrev pub new_node : (number dir : ℕ) → New → Node
 new_node number dir new = record {
   number = number;
   parent = Some dir;

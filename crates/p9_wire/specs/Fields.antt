@@ -7,7 +7,7 @@ use Rattle.p9_base.specs.Text.{is_text}
 use Rattle.p9_wire.specs.Message.{StatFields}
 
 -- a number in so many bytes, the lowest first
-unfoldable pub number : ℕ → ℕ → List ℕ
+unfoldable pub number : (bytes value : ℕ) → List ℕ
 number n x = little_bytes n x
 
 -- two bytes of length, and the text

@@ -10,7 +10,7 @@ use Rattle.p9_wire.specs.Fields.{stat_len, FitsText, FitsNames, FitsStat, QidNum
 use Rattle.p9_wire.specs.Fields.{StatNumbersFit}
 
 -- size, which counts itself, type, tag and body
-abbrev pub frame : ℕ → ℕ → List ℕ → List ℕ
+abbrev pub frame : (kind tag : ℕ) (body : List ℕ) → List ℕ
 frame kind tag body = number 4 (7 + length body) ++ (number 1 kind ++ number 2 tag ++ body)
 
 -- requests. Terror is none of them, so 106 spells nothing

@@ -96,7 +96,7 @@ verb_at text =
     λ v. Ok (v, behind_word here)
 
 -- a number of so many digits at the front, at most so great
-unfoldable pub digits_at : Base → ℕ → ℕ → Reader ℕ
+unfoldable pub digits_at : Base → (most digits : ℕ) → Reader ℕ
 digits_at base most n text =
     let value = digits_value (radix_of base) (take n text) in
     if n == 0 || nat_lt most value then missing (expected.Number base most) text
@@ -188,7 +188,7 @@ unfoldable pub indexed_at : Item → ℕ → Reader (List ℕ)
 indexed_at item i text = index_at i text >>= λ rest. item_at item rest
 
 -- the bytes of so many, from an index on, behind those before them
-abbrev pub items_from : Item → List ℕ → ℕ → ℕ → Reader (List ℕ)
+abbrev pub items_from : Item → (bytes : List ℕ) (index count : ℕ) → Reader (List ℕ)
 items_from item bytes i zero text = Ok (bytes, text)
 items_from item bytes i (suc n) text =
     indexed_at item i text >>= λ x. items_from item (bytes ++ x.0) (i + 1) n x.1

@@ -44,7 +44,7 @@ pub record NodeLine : Type 0 where
   pub bytes : List ℕ
 
 -- the node of the server's next number in the directory, never changed since the time 0
-abbrev pub node_of : ℕ → ℕ → Component → NodeLine → Node
+abbrev pub node_of : (number dir : ℕ) → Component → NodeLine → Node
 node_of number dir name entry = record {
   number = number;
   parent = Some dir;
