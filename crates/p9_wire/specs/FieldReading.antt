@@ -30,6 +30,17 @@ abbrev pub ◌then◌ : {A B : Type 0} → Reader A → Reader B → Reader (A �
 abbrev pub mapped : {A B : Type 0} → (A → B) → Reader A → Reader B
 mapped f r bytes = r bytes and_then λ a. Some (f a.0, a.1)
 
+-- Functions of several fields, which are read as pairs of those before the last one, and the last.
+
+abbrev pub of_two : {A B Z : Type 0} → (A → B → Z) → A × B → Z
+of_two f x = f x.0 x.1
+
+abbrev pub of_three : {A B C Z : Type 0} → (A → B → C → Z) → (A × B) × C → Z
+of_three f x = of_two f x.0 x.1
+
+abbrev pub of_four : {A B C D Z : Type 0} → (A → B → C → D → Z) → ((A × B) × C) × D → Z
+of_four f x = of_three f x.0 x.1
+
 -- no field
 abbrev pub nothing_at : Reader (Unit {0})
 nothing_at bytes = Some (tt, bytes)
@@ -73,25 +84,30 @@ sized_at r bytes =
 -- type, version and path
 unfoldable pub qid_at : Reader Qid
 qid_at =
-    mapped (λ x. record { kind = x.0.0; version = x.0.1; path = x.1 })
+    mapped (of_three (λ kind version path. record { kind = kind; version = version; path = path }))
     (number_at 1 then number_at 4 then number_at 8)
 
--- what is told of a file, in the order of its bytes
+-- what is told of a file, of its fields in the order of their bytes
+abbrev pub stat_of_fields : (kind dev : ℕ) → Qid → (mode atime mtime size : ℕ)
+    → (name uid gid muid : List ℕ) → StatFields
+stat_of_fields kind dev qid mode atime mtime size name uid gid muid = record {
+  kind = kind;
+  dev = dev;
+  qid = qid;
+  mode = mode;
+  atime = atime;
+  mtime = mtime;
+  length = size;
+  name = name;
+  uid = uid;
+  gid = gid;
+  muid = muid;
+}
+
+-- its fields are eleven: four, twice three more, and one more
 unfoldable pub stat_fields_at : Reader StatFields
 stat_fields_at =
-    mapped (λ x. record {
-      kind = x.0.0.0.0.0.0.0.0.0.0;
-      dev = x.0.0.0.0.0.0.0.0.0.1;
-      qid = x.0.0.0.0.0.0.0.0.1;
-      mode = x.0.0.0.0.0.0.0.1;
-      atime = x.0.0.0.0.0.0.1;
-      mtime = x.0.0.0.0.0.1;
-      length = x.0.0.0.0.1;
-      name = x.0.0.0.1;
-      uid = x.0.0.1;
-      gid = x.0.1;
-      muid = x.1;
-    })
+    mapped (of_two (of_four (of_four (of_four stat_of_fields))))
     (number_at 2 then number_at 4 then qid_at then number_at 4 then number_at 4 then number_at 4
     then number_at 8 then text_at then text_at then text_at then text_at)
 

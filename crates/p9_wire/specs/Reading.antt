@@ -6,6 +6,7 @@ use Rattle.p9_wire.specs.Message.{Rattach, Rerror, Rflush, Rwalk, Ropen, Rcreate
 use Rattle.p9_wire.specs.Message.{Rclunk, Rremove, Rstat, Rwstat}
 use Rattle.p9_wire.specs.FieldReading.{◌and_then◌, Reader, ◌then◌, mapped, nothing_at, number_at}
 use Rattle.p9_wire.specs.FieldReading.{text_at, counted_at, several_at, qid_at, stat_at}
+use Rattle.p9_wire.specs.FieldReading.{of_two, of_three, of_four}
 
 -- type, tag and body of the bytes, where these are all of a frame
 unfoldable pub header_at : List ℕ → Option (ℕ × ℕ × List ℕ)
@@ -23,35 +24,35 @@ message_at body_at bytes =
 -- requests: the fields of each, in order
 
 unfoldable pub t_version_at : Reader TMessage
-t_version_at = mapped (λ x. Tversion x.0 x.1) (number_at 4 then text_at)
+t_version_at = mapped (of_two Tversion) (number_at 4 then text_at)
 
 unfoldable pub t_auth_at : Reader TMessage
-t_auth_at = mapped (λ x. Tauth x.0.0 x.0.1 x.1) (number_at 4 then text_at then text_at)
+t_auth_at = mapped (of_three Tauth) (number_at 4 then text_at then text_at)
 
 unfoldable pub t_attach_at : Reader TMessage
 t_attach_at =
-    mapped (λ x. Tattach x.0.0.0 x.0.0.1 x.0.1 x.1)
+    mapped (of_four Tattach)
     (number_at 4 then number_at 4 then text_at then text_at)
 
 unfoldable pub t_flush_at : Reader TMessage
 t_flush_at = mapped Tflush (number_at 2)
 
 unfoldable pub t_walk_at : Reader TMessage
-t_walk_at = mapped (λ x. Twalk x.0.0 x.0.1 x.1) (number_at 4 then number_at 4 then several_at text_at)
+t_walk_at = mapped (of_three Twalk) (number_at 4 then number_at 4 then several_at text_at)
 
 unfoldable pub t_open_at : Reader TMessage
-t_open_at = mapped (λ x. Topen x.0 x.1) (number_at 4 then number_at 1)
+t_open_at = mapped (of_two Topen) (number_at 4 then number_at 1)
 
 unfoldable pub t_create_at : Reader TMessage
 t_create_at =
-    mapped (λ x. Tcreate x.0.0.0 x.0.0.1 x.0.1 x.1)
+    mapped (of_four Tcreate)
     (number_at 4 then text_at then number_at 4 then number_at 1)
 
 unfoldable pub t_read_at : Reader TMessage
-t_read_at = mapped (λ x. Tread x.0.0 x.0.1 x.1) (number_at 4 then number_at 8 then number_at 4)
+t_read_at = mapped (of_three Tread) (number_at 4 then number_at 8 then number_at 4)
 
 unfoldable pub t_write_at : Reader TMessage
-t_write_at = mapped (λ x. Twrite x.0.0 x.0.1 x.1) (number_at 4 then number_at 8 then counted_at)
+t_write_at = mapped (of_three Twrite) (number_at 4 then number_at 8 then counted_at)
 
 unfoldable pub t_clunk_at : Reader TMessage
 t_clunk_at = mapped Tclunk (number_at 4)
@@ -63,7 +64,7 @@ unfoldable pub t_stat_at : Reader TMessage
 t_stat_at = mapped Tstat (number_at 4)
 
 unfoldable pub t_wstat_at : Reader TMessage
-t_wstat_at = mapped (λ x. Twstat x.0 x.1) (number_at 4 then stat_at)
+t_wstat_at = mapped (of_two Twstat) (number_at 4 then stat_at)
 
 -- the body of a request of this type
 unfoldable pub t_body_at : ℕ → Reader TMessage
@@ -90,7 +91,7 @@ t_message_of bytes = message_at t_body_at bytes
 -- replies: the fields of each, in order
 
 unfoldable pub r_version_at : Reader RMessage
-r_version_at = mapped (λ x. Rversion x.0 x.1) (number_at 4 then text_at)
+r_version_at = mapped (of_two Rversion) (number_at 4 then text_at)
 
 unfoldable pub r_attach_at : Reader RMessage
 r_attach_at = mapped Rattach qid_at
@@ -105,10 +106,10 @@ unfoldable pub r_walk_at : Reader RMessage
 r_walk_at = mapped Rwalk (several_at qid_at)
 
 unfoldable pub r_open_at : Reader RMessage
-r_open_at = mapped (λ x. Ropen x.0 x.1) (qid_at then number_at 4)
+r_open_at = mapped (of_two Ropen) (qid_at then number_at 4)
 
 unfoldable pub r_create_at : Reader RMessage
-r_create_at = mapped (λ x. Rcreate x.0 x.1) (qid_at then number_at 4)
+r_create_at = mapped (of_two Rcreate) (qid_at then number_at 4)
 
 unfoldable pub r_read_at : Reader RMessage
 r_read_at = mapped Rread counted_at
