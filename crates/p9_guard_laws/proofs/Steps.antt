@@ -16,7 +16,7 @@ use Rattle.p9_step.specs.Answer.{Answer, Outcome, outcome_of}
 use Rattle.p9_step.specs.End.{on_ends}
 use Rattle.p9_step.specs.Memory.{no_memory_reply, ran_out}
 use Rattle.p9_step.specs.Event.{Close, Event, Message, Open}
-use Rattle.p9_step.specs.Step.{Stepped, answered, closed, requested, step, unchanged, with_outcome}
+use Rattle.p9_step.specs.Step.{Stepped, answered, closed, frame_answer, step, unchanged, with_outcome}
 use Rattle.p9_guard_laws.specs.Guarded.{House, house_of}
 use Rattle.p9_guard_laws.specs.Grown.{Start}
 use Rattle.p9_guard_laws.proofs.Scene.{SafeFids, Scene, house_in, scene_of}
@@ -195,9 +195,11 @@ module _ (hidden : List NodeRef) (start : Start) (st : State)
     where
       go : (b : Bool) (o : Option Session) → session_at name st.sessions ≡ o
           → Carries hidden start st
-          (if b then option_map_or (requested st° name frame now refused) o (unchanged st°)
+          (if b then option_map_or (λ session. answered st° name session frame refused
+          (frame_answer st°.setting st°.forest st°.sessions session now frame)) o (unchanged st°)
           else unchanged st°)
-          (if b then option_map_or (requested st name frame now refused) o (unchanged st)
+          (if b then option_map_or (λ session. answered st name session frame refused
+          (frame_answer st.setting st.forest st.sessions session now frame)) o (unchanged st)
           else unchanged st)
       go false o e = same_state []
       go true None e = same_state []

@@ -18,7 +18,7 @@ use Rattle.p9_step.specs.Answer.{Answer}
 use Rattle.p9_step.specs.Event.{Close, Message, Open}
 use Rattle.p9_step.specs.Memory.{ran_out}
 use Rattle.p9_step.specs.State.{Session, SessionRow, State, fresh, session_at}
-use Rattle.p9_step.specs.Step.{answered, closed, frame_answer, requested, step, unchanged}
+use Rattle.p9_step.specs.Step.{answered, closed, frame_answer, step, unchanged}
 
 -- a key is at itself, and at no other
 at_self : (n : ℕ) → is_at (nat_cmp n) n ≡ true
@@ -126,7 +126,9 @@ module _ (state : State) (k : ℕ) (there : IsSome (session_at k state.sessions)
     where
       by_session : (o : Option Session)
           → IsSome (session_at k
-          (option_map_or (requested state n frame now refused) o (unchanged state)).state.sessions)
+          (option_map_or (λ session. answered state n session frame refused
+          (frame_answer state.setting state.forest state.sessions session now frame)) o
+          (unchanged state)).state.sessions)
       by_session None = there
       by_session (Some session) =
           answered-there n session frame refused
@@ -134,7 +136,9 @@ module _ (state : State) (k : ℕ) (there : IsSome (session_at k state.sessions)
 
       by_frame : (b : Bool)
           → IsSome (session_at k (if b
-          then option_map_or (requested state n frame now refused) (session_at n state.sessions)
+          then option_map_or (λ session. answered state n session frame refused
+          (frame_answer state.setting state.forest state.sessions session now frame))
+          (session_at n state.sessions)
           (unchanged state) else unchanged state).state.sessions)
       by_frame true = by_session (session_at n state.sessions)
       by_frame false = there

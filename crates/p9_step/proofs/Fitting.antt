@@ -42,7 +42,7 @@ use Rattle.p9_step.specs.Walk.{Arrival, arrival, arrived_by, going_on, walked}
 use Rattle.p9_step.proofs.Lawful.{node-sound}
 use Rattle.p9_step.proofs.Passed.{AttachDone, ClunkDone, CreateDone, OpenDone, ReadDone}
 use Rattle.p9_step.proofs.Passed.{RemovalDone, StatDone, VersionDone, WalkDone, WriteDone}
-use Rattle.p9_step.proofs.Passed.{WstatDone, can_create}
+use Rattle.p9_step.proofs.Passed.{WstatDone}
 use Rattle.p9_step.proofs.Told.{IsSmall, node_of-small, qid-small, qid_fits, stat_fits}
 use Rattle.p9_step.proofs.Told.{stat_numbers_fit}
 
@@ -281,7 +281,7 @@ module _ (most : ℕ) (setting : Setting) (forest : List Server) (session : Sess
           })
         where
           target : NodeRef
-          target = done.target
+          target = done.member.node
 
           place : NodeRef
           place = beside target (next_of target.server forest)
@@ -303,7 +303,7 @@ module _ (most : ℕ) (setting : Setting) (forest : List Server) (session : Sess
           small : IsSmall place
           small =
               let its = node_of-small forest target done.dir sound done.there in
-              let free = (can_create setting forest done.v name target done.dir done.fits).room in
+              let free = done.can.room in
               record { server = its.server; number = omega (arith, free) }
 
           qid : QidNumbersFit (qid_of place node)

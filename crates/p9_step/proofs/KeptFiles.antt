@@ -47,7 +47,7 @@ use Rattle.p9_step.proofs.Lawful.{lawful-cut, lawful-mark, lawful-overwrite, law
 use Rattle.p9_step.proofs.Lawful.{node-sound}
 use Rattle.p9_step.proofs.Members.{IsMember, found-member, member-joined}
 use Rattle.p9_step.proofs.NodeRefs.{here-pushed, member-given, new-file, node_of-given}
-use Rattle.p9_step.proofs.Passed.{CanCreate, CreateDone, OpenDone, ReadDone, WriteDone, can_create}
+use Rattle.p9_step.proofs.Passed.{CanCreate, CreateDone, OpenDone, ReadDone, WriteDone}
 use Rattle.p9_step.proofs.Settled.{IsGivenTrail, fid-evolved, trail-pushed}
 
 -- what asks to read, and for nothing else
@@ -296,10 +296,6 @@ module _ (setting : Setting) (forest : List Server) (session : Session) (now : �
 
   -- Creates.
 
-  not_there : {X : Type 0} (o : Option X) → is_some o ≡ false → o ≡ None
-  not_there None e = refl
-  not_there (Some x) e = let no : true ≡ false = e in absurd (cc)
-
   pub kept-create : (fid : ℕ) (name : List ℕ) (o : Outcome)
       → CreateDone setting forest session now fid name o → Kept setting forest o
   kept-create fid name o done = subst (Kept setting forest) same (record {
@@ -317,7 +313,7 @@ module _ (setting : Setting) (forest : List Server) (session : Session) (now : �
       v = done.v
 
       target : NodeRef
-      target = done.target
+      target = done.member.node
 
       node : Node
       node = created v.user now (next_of target.server forest) done.dir name done.asked
@@ -342,7 +338,7 @@ module _ (setting : Setting) (forest : List Server) (session : Session) (now : �
       same = let e : Ok outcome ≡ Ok o = sym done.is in cc
 
       can : CanCreate setting forest v name target done.dir
-      can = can_create setting forest v name target done.dir done.fits
+      can = done.can
 
       user : is_user v.user ≡ true
       user = user-of setting forest session now ready fid v done.found
@@ -356,7 +352,7 @@ module _ (setting : Setting) (forest : List Server) (session : Session) (now : �
         can = record {
           room = can.room;
           into = ap (λ q. option_map_or is_dir q false) done.there ∙ can.into;
-          free = not_there (child_in target name forest) can.free;
+          free = can.free;
           small = omega arith;
           empty_dir = λ _. refl;
         };

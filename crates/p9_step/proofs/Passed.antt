@@ -13,8 +13,6 @@ use Rattle.std.specs.Prelude.{codes, if◌then◌else◌, is_none, min, nat_le, 
 use Rattle.p9_base.specs.Mode.{is_dir as is_dir_mode}
 use Rattle.p9_base.specs.Name.{is_name}
 use Rattle.p9_base.specs.declared.fault.Fault.{Fault}
-use Rattle.p9_base.specs.declared.fault.Fault.TheVariants.{FileExists, NotDirectory, PathTooDeep}
-use Rattle.p9_base.specs.declared.fault.Fault.TheVariants.{PermissionDenied, QidsUsedUp}
 use Rattle.p9_base.specs.declared.mode.Mode.{Mode}
 use Rattle.p9_base.specs.declared.node_ref.NodeRef.{NodeRef}
 use Rattle.p9_base.specs.declared.qid.Qid.{Qid}
@@ -24,6 +22,7 @@ use Rattle.p9_tree.specs.Node.{Node, is_dir}
 use Rattle.p9_tree.specs.Server.{Server, next_max}
 use Rattle.p9_space.specs.Place.{file_of, file_ref, root_place}
 use Rattle.p9_space.specs.Rights.{may, to_write}
+use Rattle.p9_space.specs.declared.row.Member.{Member}
 use Rattle.p9_space.specs.Table.{members_of}
 use Rattle.p9_space.specs.Trail.{here, places_max}
 use Rattle.p9_wire.specs.FieldReading.{◌then◌}
@@ -36,7 +35,7 @@ use Rattle.p9_step.specs.Answer.{Outcome, outcome_of}
 use Rattle.p9_step.specs.Attach.{attach_answer, attached, listed_user}
 use Rattle.p9_step.specs.ForestChange.{EditNode, Mark, Overwrite, Touch}
 use Rattle.p9_step.specs.Clunk.{clunk_answer, without}
-use Rattle.p9_step.specs.Create.{create_answer, created_in, creation, fault_in, target_among}
+use Rattle.p9_step.specs.Create.{create_answer, creation, permitting}
 use Rattle.p9_step.specs.End.{on_end, on_ends, taken_out}
 use Rattle.p9_step.specs.Listing.{Entry, listing_behind}
 use Rattle.p9_step.specs.Open.{may_open, open_answer, opened_session, truncated, truncation}
@@ -55,8 +54,8 @@ use Rattle.p9_step.specs.Wstat.{rewriting, touched_of, wstat_answer, wstat_fault
 use Rattle.p9_step.specs.declared.opening.Opening.{Opening}
 use Rattle.p9_step.proofs.Done.{OnDone, done-err, done-given, done-if, done-need, done-ok}
 use Rattle.p9_step.proofs.Done.{done-then, done-unless}
-use Rattle.p9_step.proofs.Refused.{IfFault, fault_in-of, newfid_fault-of, put_fault-of}
-use Rattle.p9_step.proofs.Refused.{target_among-of, walked-of, wstat_fault-of}
+use Rattle.p9_step.proofs.Refused.{IfFault, newfid_fault-of, put_fault-of, walked-of}
+use Rattle.p9_step.proofs.Refused.{wstat_fault-of}
 
 -- a version
 pub record VersionDone (setting : Setting) (forest : List Server) (session : Session)
@@ -127,22 +126,31 @@ pub record OpenDone (setting : Setting) (forest : List Server) (session : Sessio
         Ropen (qid_of (fid_ref setting.table v) (truncated v.user now n opening)) (room_of session);
   }
 
+-- what holds of a create that no test of its directory refuses
+pub record CanCreate (setting : Setting) (forest : List Server) (v : Fid) (name : List ℕ)
+    (target : NodeRef) (dir : Node) : Type 0 where
+  pub into : is_dir dir ≡ true
+  pub writes : may (who_of setting v.user) dir to_write ≡ true
+  pub free : child_in target name forest ≡ None
+  pub room : next_of target.server forest < next_max
+  pub short : length v.trail < places_max
+
 -- a create
 pub record CreateDone (setting : Setting) (forest : List Server) (session : Session) (now fid : ℕ)
     (name : List ℕ) (o : Outcome) : Type 0 where
   pub v : Fid
   pub opening : Opening
   pub asked : Mode
-  pub target : NodeRef
+  pub member : Member
   pub dir : Node
   pub found : fid_at fid session.fids ≡ Some v
   pub shut : v.opened ≡ None
   pub valid : is_name name ≡ true
   pub plain : (not (is_dir_mode asked) || is_plain_read opening) ≡ true
-  pub chosen : target_among forest (members_of (here v.trail) setting.table) ≡ Ok target
-  pub there : node_of target forest ≡ Some dir
-  pub fits : fault_in setting forest v name target dir ≡ None
-  pub is : Ok o ≡ creation forest session now fid v target dir name asked opening
+  pub chosen : permitting (members_of (here v.trail) setting.table) ≡ Some member
+  pub there : node_of member.node forest ≡ Some dir
+  pub can : CanCreate setting forest v name member.node dir
+  pub is : Ok o ≡ creation forest session now fid v member.node dir name asked opening
 
 -- a read, of a file or of a directory
 pub record ReadDone (setting : Setting) (forest : List Server) (session : Session)
@@ -246,46 +254,6 @@ pub record WstatDone (setting : Setting) (forest : List Server) (session : Sessi
     session = session;
     reply = Rwstat;
   }
-
--- what holds of a create that no test of its directory refuses
-pub record CanCreate (setting : Setting) (forest : List Server) (v : Fid) (name : List ℕ)
-    (target : NodeRef) (dir : Node) : Type 0 where
-  pub into : is_dir dir ≡ true
-  pub writes : may (who_of setting v.user) dir to_write ≡ true
-  pub free : is_some (child_in target name forest) ≡ false
-  pub room : next_of target.server forest < next_max
-  pub short : length v.trail < places_max
-
-none_of_five : (f1 f2 f3 f4 f5 : Fault) (a b c d e : Bool)
-    → (if not a then Some f1 else if not b then Some f2 else if c then Some f3 else if d
-    then Some f4 else if e then Some f5 else None) ≡ None
-    → (a ≡ true) × (b ≡ true) × (c ≡ false) × (d ≡ false) × (e ≡ false)
-none_of_five f1 f2 f3 f4 f5 false b c d e none = let no : Some f1 ≡ None = none in absurd (cc)
-none_of_five f1 f2 f3 f4 f5 true false c d e none = let no : Some f2 ≡ None = none in absurd (cc)
-none_of_five f1 f2 f3 f4 f5 true true true d e none = let no : Some f3 ≡ None = none in absurd (cc)
-none_of_five f1 f2 f3 f4 f5 true true false true e none =
-    let no : Some f4 ≡ None = none in absurd (cc)
-none_of_five f1 f2 f3 f4 f5 true true false false true none =
-    let no : Some f5 ≡ None = none in absurd (cc)
-none_of_five f1 f2 f3 f4 f5 true true false false false none = (refl, refl, refl, refl, refl)
-
-pub can_create : (setting : Setting) (forest : List Server) (v : Fid) (name : List ℕ)
-    (target : NodeRef) (dir : Node) → fault_in setting forest v name target dir ≡ None
-    → CanCreate setting forest v name target dir
-can_create setting forest v name target dir none =
-    let c =
-    none_of_five NotDirectory PermissionDenied FileExists QidsUsedUp PathTooDeep (is_dir dir)
-    (may (who_of setting v.user) dir to_write) (is_some (child_in target name forest))
-    (nat_le next_max (next_of target.server forest)) (nat_le places_max (length v.trail)) none in
-    let room = c.3 in
-    let short = c.4 in
-    record {
-      into = c.0;
-      writes = c.1;
-      free = c.2;
-      room = grind (arith, nat_tests, room);
-      short = grind (arith, nat_tests, short);
-    }
 
 pub is_none-None : {X : Type 0} (o : Option X) → is_none o ≡ true → o ≡ None
 is_none-None None e = refl
@@ -416,18 +384,20 @@ module _ (setting : Setting) (forest : List Server) (session : Session) where
       (λ valid. done-given (CreateDone setting forest session now fid name) _ _ _ refl
       (λ opening known. done-given (CreateDone setting forest session now fid name) _ _ _ refl
       (λ asked means. done-need (CreateDone setting forest session now fid name) _ _ _ refl
-      (λ plain. done-then (CreateDone setting forest session now fid name)
-      (target_among forest (members_of (here v.trail) setting.table))
-      (created_in setting forest session now fid v name asked opening)
-      (target_among-of forest (members_of (here v.trail) setting.table))
-      (λ target chosen. done-given (CreateDone setting forest session now fid name) _ _ _ refl
-      (λ dir there. done-unless (CreateDone setting forest session now fid name) _ _
-      (fault_in-of setting forest v name target dir) (λ fits.
-      done-ok (CreateDone setting forest session now fid name) _ (record {
+      (λ plain. done-need (CreateDone setting forest session now fid name) _ _ _ refl
+      (λ some. done-need (CreateDone setting forest session now fid name) _ _ _ refl
+      (λ some_dir. done-given (CreateDone setting forest session now fid name) _ _ _ refl
+      (λ member chosen. done-given (CreateDone setting forest session now fid name) _ _ _ refl
+      (λ dir there. done-need (CreateDone setting forest session now fid name) _ _ _ refl
+      (λ into. done-need (CreateDone setting forest session now fid name) _ _ _ refl
+      (λ writes. done-need (CreateDone setting forest session now fid name) _ _ _ refl
+      (λ free. done-need (CreateDone setting forest session now fid name) _ _ _ refl
+      (λ room. done-need (CreateDone setting forest session now fid name) _ _ _ refl
+      (λ short. done-ok (CreateDone setting forest session now fid name) _ (record {
         v = v;
         opening = opening;
         asked = asked;
-        target = target;
+        member = member;
         dir = dir;
         found = found;
         shut = is_none-None v.opened shut;
@@ -435,9 +405,15 @@ module _ (setting : Setting) (forest : List Server) (session : Session) where
         plain = plain;
         chosen = chosen;
         there = there;
-        fits = fits;
+        can = record {
+          into = into;
+          writes = writes;
+          free = is_none-None (child_in member.node name forest) free;
+          room = grind (arith, nat_tests, room);
+          short = grind (arith, nat_tests, short);
+        };
         is = refl;
-      }))))))))))
+      }))))))))))))))))
 
   pub read-done : (now fid offset count : ℕ)
       → OnDone (ReadDone setting forest session now fid offset count)

@@ -41,7 +41,7 @@ module _ (setting : Setting) (forest : List Server) (session : Session) where
   plain-create : (now fid : ℕ) (name : List ℕ) (o : Outcome)
       → CreateDone setting forest session now fid name o → IsPlain o
   plain-create now fid name o done =
-      done-is IsPlain (creation forest session now fid done.v done.target done.dir name done.asked
+      done-is IsPlain (creation forest session now fid done.v done.member.node done.dir name done.asked
       done.opening) o (done-ok IsPlain _ refl) (sym done.is)
 
   plain-write : (now fid offset : ℕ) (bytes : List ℕ) (o : Outcome)

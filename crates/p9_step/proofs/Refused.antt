@@ -27,7 +27,6 @@ use Rattle.p9_space.specs.declared.trail.Step.{Step}
 use Rattle.p9_space.specs.declared.trail.Step.TheVariants.{To}
 use Rattle.p9_fids.specs.Fid.{Fid, FidRow, put_fault}
 use Rattle.p9_wire.specs.Reading.{t_message_of}
-use Rattle.p9_step.specs.Create.{fault_in, target_among}
 use Rattle.p9_step.specs.Request.{request_of}
 use Rattle.p9_step.specs.State.{Session, Setting}
 use Rattle.p9_step.specs.Walk.{Arrival, Walked, arrival, arrived_by, going_on, newfid_fault, walked}
@@ -93,20 +92,6 @@ pub newfid_fault-of : (fid newfid : ℕ) (fids : List FidRow)
     → IfFault (newfid_fault fid newfid fids)
 newfid_fault-of fid newfid fids =
     if-of _ _ _ (some-of UnknownFid refl) (if-of _ _ _ none-of (put_fault-of newfid fids))
-
-pub fault_in-of : (setting : Setting) (forest : List Server) (v : Fid) (name : List ℕ)
-    (target : NodeRef) (dir : Node) → IfFault (fault_in setting forest v name target dir)
-fault_in-of setting forest v name target dir =
-    if-of _ _ _ (some-of NotDirectory refl)
-    (if-of _ _ _ (some-of PermissionDenied refl)
-    (if-of _ _ _ (some-of FileExists refl)
-    (if-of _ _ _ (some-of QidsUsedUp refl) (if-of _ _ _ (some-of PathTooDeep refl) none-of))))
-
-pub target_among-of : (forest : List Server) (ms : List Member) → IfErr (target_among forest ms)
-target_among-of forest ms =
-    if-err _ _ _ (err-of PhaseError refl)
-    (if-err _ _ _ (err-of NotDirectory refl)
-    (map_or-err _ _ CreationForbidden (λ m. ok-of m.node) refl))
 
 -- a wstat
 module _ (who : Who) (forest : List Server) (at : NodeRef) (n : Node) where

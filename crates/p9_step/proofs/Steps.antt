@@ -12,7 +12,7 @@ use Rattle.p9_step.specs.Laws.{IsRunOfBoth}
 use Rattle.p9_step.specs.Memory.{ran_out}
 use Rattle.p9_step.specs.Sound.{IsState}
 use Rattle.p9_step.specs.State.{Session, State, fresh, session_at, with_session}
-use Rattle.p9_step.specs.Step.{Marked, Stepped, answered, closed, frame_answer, requested, run}
+use Rattle.p9_step.specs.Step.{Marked, Stepped, answered, closed, frame_answer, run}
 use Rattle.p9_step.specs.Step.{step, with_outcome}
 use Rattle.p9_step.proofs.Done.{OnDone, done-is}
 use Rattle.p9_step.proofs.Kept.{Kept}
@@ -60,7 +60,8 @@ module _ (state : State) (its : IsState state) where
 
   after-request : (name now : ℕ) (session : Session) (frame : List ℕ) (refused : Bool)
       → session_at name state.sessions ≡ Some session → IsBytes frame → now < 2 ^ 32
-      → IsStateAfter (requested state name frame now refused session)
+      → IsStateAfter (answered state name session frame refused
+      (frame_answer state.setting state.forest state.sessions session now frame))
   after-request name now session frame refused there bytes short =
       after-answer name session frame refused
       (frame_answer state.setting state.forest state.sessions session now frame) there

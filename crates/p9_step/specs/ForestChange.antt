@@ -3,7 +3,7 @@ use Rattle.std.specs.Prelude.{ℕ, List, [], ◌∷◌}
 use Rattle.p9_base.specs.declared.node_ref.NodeRef.{NodeRef}
 use Rattle.p9_tree.specs.Bytes.{cut_to, overwritten}
 use Rattle.p9_tree.specs.Change.{changed}
-use Rattle.p9_tree.specs.declared.change.Change.{ForestChange as NodeChange}
+use Rattle.p9_tree.specs.declared.change.Change.{Change}
 use Rattle.p9_tree.specs.Node.{Node, marked, touched, with_bytes}
 use Rattle.p9_tree.specs.Server.{Server, added, with_dropped}
 use Rattle.p9_tree.specs.Forest.{forest_changed_at, tree_changed_at}
@@ -14,7 +14,7 @@ pub data Edit : Type 0 where
   Touch : (now : ℕ) → Edit
   Overwrite : (offset : ℕ) (bytes : List ℕ) → Edit
   Cut : (size : ℕ) → Edit
-  Rewrite : (change : NodeChange) → Edit
+  Rewrite : (change : Change) → Edit
 
 -- the node after an edit
 unfoldable pub edited : Edit → Node → Node

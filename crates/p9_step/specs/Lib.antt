@@ -1,5 +1,5 @@
 pub mod State
-pub mod Change
+pub mod ForestChange
 pub mod Answer
 pub mod Qid
 pub mod Rights

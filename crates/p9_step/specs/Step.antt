@@ -98,12 +98,6 @@ answered state name session frame refused answer =
     if refused && ran_out frame answer then record { state = state; reply = no_memory_reply frame }
     else with_outcome state name frame (outcome_of session answer)
 
--- a frame of a session that is open
-abbrev pub requested : State → (name : ℕ) (frame : List ℕ) (now : ℕ) → Bool → Session → Stepped
-requested state name frame now refused session =
-    answered state name session frame refused
-    (frame_answer state.setting state.forest state.sessions session now frame)
-
 -- a session ends, and its fids by rising number
 abbrev pub closed : State → (name now : ℕ) → Session → Stepped
 closed state name now session = record {
@@ -124,8 +118,10 @@ step state (Open name) refused =
     }
 step state (Message name frame now) refused =
     if is_frame frame
-    then option_map_or (requested state name frame now refused) (session_at name state.sessions)
-    (unchanged state)
+    then option_map_or
+    (λ session. answered state name session frame refused
+    (frame_answer state.setting state.forest state.sessions session now frame))
+    (session_at name state.sessions) (unchanged state)
     else unchanged state
 step state (Close name now) refused =
     option_map_or (closed state name now) (session_at name state.sessions) (unchanged state)

@@ -19,7 +19,7 @@ use Rattle.p9_base.specs.Results.{obtain, need, unless}
 use Rattle.p9_tree.specs.Node.{Node, is_dir}
 use Rattle.p9_tree.specs.Server.{Server}
 use Rattle.p9_tree.specs.Forest.{child_in}
-use Rattle.p9_tree.specs.declared.change.Change.{ForestChange as NodeChange}
+use Rattle.p9_tree.specs.declared.change.Change.{Change}
 use Rattle.p9_space.specs.Rights.{Who, may, rules, to_write}
 use Rattle.p9_wire.specs.Message.{Rwstat, StatFields}
 use Rattle.p9_fids.specs.Fid.{fid_at}
@@ -150,7 +150,7 @@ wstat_fault who forest at n t =
 -- What is changed, all at once.
 
 -- the change of the node
-abbrev pub node_change : List ℕ → ℕ → Touched → NodeChange
+abbrev pub node_change : List ℕ → ℕ → Touched → Change
 node_change user now t = record {
   name = t.name;
   mode = option_and_then mode_of t.mode;

@@ -1,7 +1,7 @@
 use Rattle.p9_step.specs.State.{who_of}
 use Rattle.std.proofs.Common.{◌≡◌, Some, None, true, false, map, refl, sym, ap, ◌∙◌}
 use Rattle.std.proofs.lemmas.Result.{err_from_is_err_and}
-use Rattle.p9_tree.specs.declared.change.Change.{Change as NodeChange}
+use Rattle.p9_tree.specs.declared.change.Change.{Change}
 use Rattle.p9_tree.specs.Change.{changed}
 use Rattle.p9_tree.specs.Forest.{forest_changed_at}
 use Rattle.p9_wire.specs.Message.{Rwstat, StatFields, stat_view}
@@ -114,7 +114,7 @@ returns g c =
     let new = map g.T.Tree.state c.mark_parent.new.forest.trees.items in
     let made : middle ≡ forest_changed_at at
     (changed (node_change c.held.inside.user c.args.now t)) forest = c.in_ok-change.ensures.ok
-    ∙ ap (λ (d : NodeChange). forest_changed_at at (changed d) forest)
+    ∙ ap (λ (d : Change). forest_changed_at at (changed d) forest)
     c.node_change-change.ensures in
     let change : middle ≡ forest_changed_at at (changed (node_change v.user c.args.now t)) forest =
     rw (← c.held.view_is) made in
