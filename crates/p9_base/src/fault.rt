@@ -5,7 +5,6 @@ ghost use Rattle.p9_base.specs.Fault.{fault_text_max, fault_number, text_of};
 ghost use Rattle.p9_base.specs.Text.{is_text};
 
 use crate::memory::NoMemory;
-use std::alloc::{AllocError, AllocFailed};
 use thiserror::Error;
 
 /// Why a request is refused. The text of each is what the reply of error(5) carries.
@@ -153,35 +152,17 @@ impl Fault {
     }
 }
 
-impl From<NoMemory> for Fault {
+/// From whatever says that an allocation failed.
+impl<E: Drop> From<E> for Fault
+where
+    NoMemory: From<E>,
+{
     ghost use Rattle.std.specs.Prelude.{◌≡◌};
     ghost use Rattle.p9_base.specs.declared.fault.Fault.TheVariants.{OutOfMemory};
 
     ghost from_gives = { λ _ fault. fault ≡ OutOfMemory };
 
-    fn from(_error: NoMemory) -> Fault {
-        Fault::OutOfMemory
-    }
-}
-
-impl From<AllocError> for Fault {
-    ghost use Rattle.std.specs.Prelude.{◌≡◌};
-    ghost use Rattle.p9_base.specs.declared.fault.Fault.TheVariants.{OutOfMemory};
-
-    ghost from_gives = { λ _ fault. fault ≡ OutOfMemory };
-
-    fn from(_error: AllocError) -> Fault {
-        Fault::OutOfMemory
-    }
-}
-
-impl<T: Drop> From<AllocFailed<T>> for Fault {
-    ghost use Rattle.std.specs.Prelude.{◌≡◌};
-    ghost use Rattle.p9_base.specs.declared.fault.Fault.TheVariants.{OutOfMemory};
-
-    ghost from_gives = { λ _ fault. fault ≡ OutOfMemory };
-
-    fn from(_error: AllocFailed<T>) -> Fault {
+    fn from(_error: E) -> Fault {
         Fault::OutOfMemory
     }
 }

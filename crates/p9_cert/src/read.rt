@@ -10,7 +10,7 @@ use crate::certificate::Certificate;
 use crate::rows::may_follow;
 use p9_base::{NoMemory, NodeRef, Statement, number, statements};
 use p9_tree::NEXT_MAX;
-use std::alloc::{AllocError, Allocator};
+use std::alloc::Allocator;
 use thiserror::Error;
 
 /// Why a text is no certificate.
@@ -25,24 +25,17 @@ pub enum ReadError {
     NoMemory,
 }
 
-impl From<NoMemory> for ReadError {
+/// From whatever says that an allocation failed.
+impl<E: Drop> From<E> for ReadError
+where
+    NoMemory: From<E>,
+{
     ghost use Rattle.std.specs.Prelude.{◌≡◌};
     ghost use Rattle.p9_cert.specs.declared.read.ReadError.TheVariants.{NoMemory as OutOfMemory};
 
     ghost from_gives = { λ _ error. error ≡ OutOfMemory };
 
-    fn from(_error: NoMemory) -> ReadError {
-        ReadError::NoMemory
-    }
-}
-
-impl From<AllocError> for ReadError {
-    ghost use Rattle.std.specs.Prelude.{◌≡◌};
-    ghost use Rattle.p9_cert.specs.declared.read.ReadError.TheVariants.{NoMemory as OutOfMemory};
-
-    ghost from_gives = { λ _ error. error ≡ OutOfMemory };
-
-    fn from(_error: AllocError) -> ReadError {
+    fn from(_error: E) -> ReadError {
         ReadError::NoMemory
     }
 }

@@ -11,7 +11,7 @@ ghost use Rattle.p9_commands.specs.Bundle.{with_line, with_line_in, with_numbere
 ghost use Rattle.p9_commands.specs.Bundle.{with_section};
 
 use p9_base::{NoMemory, lines};
-use std::alloc::{AllocError, Allocator};
+use std::alloc::Allocator;
 use thiserror::Error;
 
 /// Why a text is no bundle.
@@ -216,24 +216,17 @@ pub fn split_bundle<A: Allocator + Copy>(alloc: A, text: &str) -> Result<Bundle<
     Ok(bundle)
 }
 
-impl From<NoMemory> for BundleError {
+/// From whatever says that an allocation failed.
+impl<E: Drop> From<E> for BundleError
+where
+    NoMemory: From<E>,
+{
     ghost use Rattle.std.specs.Prelude.{◌≡◌};
     ghost use Rattle.p9_commands.specs.declared.bundle.BundleError.TheVariants.{NoMemory};
 
     ghost from_gives = { λ _ error. error ≡ NoMemory };
 
-    fn from(_error: NoMemory) -> BundleError {
-        BundleError::NoMemory
-    }
-}
-
-impl From<AllocError> for BundleError {
-    ghost use Rattle.std.specs.Prelude.{◌≡◌};
-    ghost use Rattle.p9_commands.specs.declared.bundle.BundleError.TheVariants.{NoMemory};
-
-    ghost from_gives = { λ _ error. error ≡ NoMemory };
-
-    fn from(_error: AllocError) -> BundleError {
+    fn from(_error: E) -> BundleError {
         BundleError::NoMemory
     }
 }

@@ -11,7 +11,7 @@ ghost use Rattle.p9_base.specs.Statement.{statement_view};
 use hex::FromHexError;
 use p9_base::{NoMemory, Statement, number, statements};
 use p9_export::Event;
-use std::alloc::{AllocError, AllocFailed, Allocator};
+use std::alloc::Allocator;
 use thiserror::Error;
 
 /// Why a text is no script.
@@ -147,35 +147,17 @@ fn frame_in<A: Allocator + Copy>(alloc: A, digits: &str) -> Result<Option<Vec<u8
     }
 }
 
-impl From<NoMemory> for ScriptError {
+/// From whatever says that an allocation failed.
+impl<E: Drop> From<E> for ScriptError
+where
+    NoMemory: From<E>,
+{
     ghost use Rattle.std.specs.Prelude.{◌≡◌};
     ghost use Rattle.p9_commands.specs.declared.script.ScriptError.TheVariants.{NoMemory};
 
     ghost from_gives = { λ _ error. error ≡ NoMemory };
 
-    fn from(_error: NoMemory) -> ScriptError {
-        ScriptError::NoMemory
-    }
-}
-
-impl From<AllocError> for ScriptError {
-    ghost use Rattle.std.specs.Prelude.{◌≡◌};
-    ghost use Rattle.p9_commands.specs.declared.script.ScriptError.TheVariants.{NoMemory};
-
-    ghost from_gives = { λ _ error. error ≡ NoMemory };
-
-    fn from(_error: AllocError) -> ScriptError {
-        ScriptError::NoMemory
-    }
-}
-
-impl<T: Drop> From<AllocFailed<T>> for ScriptError {
-    ghost use Rattle.std.specs.Prelude.{◌≡◌};
-    ghost use Rattle.p9_commands.specs.declared.script.ScriptError.TheVariants.{NoMemory};
-
-    ghost from_gives = { λ _ error. error ≡ NoMemory };
-
-    fn from(_error: AllocFailed<T>) -> ScriptError {
+    fn from(_error: E) -> ScriptError {
         ScriptError::NoMemory
     }
 }

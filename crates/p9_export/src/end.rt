@@ -15,7 +15,7 @@ use std::alloc::Allocator;
 
 /// What the end of a fid does: a file that it holds open with remove-on-close goes, and its
 /// directory is marked. Nothing is tested any more, and it takes no memory.
-#[tactic(auto, unfolding(p9_step::specs::Change::applied, p9_step::specs::Change::edited))]
+#[tactic(auto, unfolding(p9_step::specs::ForestChange::applied, p9_step::specs::ForestChange::edited))]
 pub fn end_fid<T: Tree>(
     setting: &Setting<T::Alloc>,
     forest: &mut Forest<T>,
@@ -49,7 +49,7 @@ fn removes_on_close<A: Allocator + Copy>(fid: &Fid<A>) -> bool
 
 /// Marks the directory that a node is in, by its number at the same server, if it is in
 /// one.
-#[tactic(auto, unfolding(p9_step::specs::Change::applied, p9_step::specs::Change::edited))]
+#[tactic(auto, unfolding(p9_step::specs::ForestChange::applied, p9_step::specs::ForestChange::edited))]
 pub fn mark_parent<T: Tree>(
     forest: &mut Forest<T>,
     at: NodeRef,

@@ -2,7 +2,7 @@
 use Rattle.std.proofs.Common.{◌≡◌, ℕ, ◌<◌, length, Bool, true, false, not, List, [], ◌∷◌, Option}
 use Rattle.std.proofs.Common.{Some, None, ◌||◌, inl, arith, refl, ap, ◌∙◌, is_some, inr, ◌++◌, Ok}
 use Rattle.std.proofs.Common.{Err, ◌⊎◌, subst}
-use Rattle.std.specs.Prelude.{is_none, if◌then◌else◌, nat_le}
+use Rattle.std.specs.Prelude.{is_none, if◌then◌else◌, nat_lt}
 use Rattle.std.specs.Option.{option_map_or}
 use Rattle.std.specs.List.{list_any}
 use Rattle.std.proofs.lemmas.Bool.{or_left, or_right}
@@ -37,11 +37,9 @@ use Rattle.p9_step.specs.State.{Session, fid_ref, who_of}
 use Rattle.p9_step.specs.ForestChange.{Mark, applied, EditNode, AddNode}
 use Rattle.p9_step.specs.declared.opening.Opening.{Opening}
 use Rattle.p9_step.specs.Opening.{newly_opened, opening_of}
-use Rattle.p9_step.specs.Create.{create_answer, created, creation, fault_in, permitting}
-use Rattle.p9_step.specs.Create.{target_among}
+use Rattle.p9_step.specs.Create.{create_answer, created, creation, permitting}
 use Rattle.p9_step.proofs.Found.{node_at-added, server_at-tree_changed_at}
 use Rattle.p9_step.proofs.NodeRefs.{here-pushed}
-use Rattle.p9_step.proofs.Passed.{can_create}
 use Rattle.p9_guard_laws.proofs.Scene.{SafeFid, SafeFids, Scene, house_in, outer_of}
 use Rattle.p9_guard_laws.proofs.Held.{HeldPlace, HeldFid}
 use Rattle.p9_guard_laws.proofs.Basics.{each_weaker}
@@ -51,9 +49,9 @@ use Rattle.p9_guard_laws.proofs.Stays.{members_new, outside_stays, fids_stay, ne
 use Rattle.p9_guard_laws.proofs.Stays.{place_stays}
 use Rattle.p9_guard_laws.proofs.Good.{Good, good-applied}
 use Rattle.p9_guard_laws.proofs.Walks.{SafeMember, here_safe, SafeMembers, node-outer, any-outer}
-use Rattle.p9_guard_laws.proofs.Walks.{each_push, err_ok, ok_same}
-use Rattle.p9_guard_laws.proofs.Agrees.{Agrees, agrees_given, agrees_need, agrees_ok, agrees_then}
-use Rattle.p9_guard_laws.proofs.Agrees.{agrees_unless, fid_found, fids_changed}
+use Rattle.p9_guard_laws.proofs.Walks.{each_push}
+use Rattle.p9_guard_laws.proofs.Agrees.{Agrees, agrees_given, agrees_need, agrees_ok}
+use Rattle.p9_guard_laws.proofs.Agrees.{fid_found, fids_changed}
 use Rattle.p9_guard_laws.proofs.Parents.{settled}
 use Rattle.p9_guard_laws.proofs.Used.{used_open}
 use Rattle.p9_guard_laws.proofs.Edits.{mark_stands}
@@ -71,31 +69,6 @@ module _ (scene : Scene) where
           h.0
       go false t later = later t
 
-  target-outer : (ms : List Member) → SafeMembers scene ms
-      → target_among (outer_of scene) ms ≡ target_among scene.forest ms
-  target-outer ms h =
-      rw (
-        any-outer scene is_some ms h,
-        any-outer scene (λ o. option_map_or is_dir o false) ms h,
-      ) refl
-
-  target_safe : (ms : List Member) → SafeMembers scene ms → (t : NodeRef)
-      → target_among scene.forest ms ≡ Ok t → SafeMember scene t
-  target_safe ms h t e =
-      go (list_any (is_alive scene.forest) ms) (list_any (is_alive_dir scene.forest) ms)
-      (permitting ms) refl e
-    where
-      go : (a b : Bool) (o : Option Member) → permitting ms ≡ o
-          → (if not a then Err PhaseError else if not b then Err NotDirectory
-          else option_map_or (λ m. Ok m.node) o (Err CreationForbidden)) ≡ Ok t
-          → SafeMember scene t
-      go false b o p q = err_ok t PhaseError q
-      go true false o p q = err_ok t NotDirectory q
-      go true true None p q = err_ok t CreationForbidden q
-      go true true (Some m) p q =
-          subst (SafeMember scene) (ok_same m.node t q)
-          (permitting_safe ms h m p)
-
   -- a directory that a listed user may write isn't hidden
   open_target : (t : NodeRef) (d : Node) (user : List ℕ) → SafeMember scene t
       → node_of t scene.forest ≡ Some d → is_listed_user scene.setting.users user ≡ true
@@ -106,29 +79,6 @@ module _ (scene : Scene) where
       used_open scene t d user h e listed
       (or_left (may who d to_read || may who d to_write) (may who d to_execute)
       (or_right (may who d to_read) (may who d to_write) can))
-
-  create_fault-outer : (v : Fid) (name : List ℕ) (t : NodeRef) (d : Node)
-      → SafeMember scene t → node_of t scene.forest ≡ Some d
-      → is_listed_user scene.setting.users v.user ≡ true
-      → fault_in scene.setting (outer_of scene) v name t d
-      ≡ fault_in scene.setting scene.forest v name t d
-  create_fault-outer v name t d h e listed =
-      go (is_dir d) (may (who_of scene.setting v.user) d to_write)
-      (λ can. keeps_child scene.hidden scene.forest t name (open_target t d v.user h e listed can))
-    where
-      go : (a b : Bool)
-          → (b ≡ true → child_in t name (outer_of scene) ≡ child_in t name scene.forest)
-          → (if not a then Some NotDirectory else if not b then Some PermissionDenied
-          else if is_some (child_in t name (outer_of scene)) then Some FileExists
-          else if nat_le next_max (next_of t.server (outer_of scene)) then Some QidsUsedUp
-          else if nat_le places_max (length v.trail) then Some PathTooDeep else None)
-          ≡ (if not a then Some NotDirectory else if not b then Some PermissionDenied
-          else if is_some (child_in t name scene.forest) then Some FileExists
-          else if nat_le next_max (next_of t.server scene.forest) then Some QidsUsedUp
-          else if nat_le places_max (length v.trail) then Some PathTooDeep else None)
-      go false b c = refl
-      go true false c = refl
-      go true true c = rw (c refl, keeps_next scene.hidden scene.forest t.server) refl
 
   -- a new node in an open directory, on which its fid is
   module _ (session : Session) (now fid : ℕ) (v : Fid) (t : NodeRef) (d : Node) (name : List ℕ)
@@ -273,17 +223,24 @@ module _ (scene : Scene) where
       agrees_given scene (opening_of bits) BadOpenMode _ _ (λ opening _.
       agrees_given scene (mode_of perm) BadOpenMode _ _ (λ asked _.
       agrees_need scene _ IsDirectory _ _ (λ _.
-      rw (target-outer (members_of (here v.trail) scene.setting.table) ms)
-      (agrees_then scene (target_among scene.forest (members_of (here v.trail) scene.setting.table))
-      _ _
-      (λ t is.
-      let pass = target_safe (members_of (here v.trail) scene.setting.table) ms t is in
+      let members = members_of (here v.trail) scene.setting.table in
+      rw (
+        any-outer scene is_some members ms,
+        any-outer scene (λ o. option_map_or is_dir o false) members ms,
+      ) (agrees_need scene (list_any (is_alive scene.forest) members) PhaseError _ _ (λ _.
+      agrees_need scene (list_any (is_alive_dir scene.forest) members) NotDirectory _ _ (λ _.
+      agrees_given scene (permitting members) CreationForbidden _ _ (λ member chosen.
+      let t = member.node in
+      let pass = permitting_safe members ms member chosen in
       rw (node-outer scene t pass)
       (agrees_given scene (node_of t scene.forest) PhaseError _ _ (λ d e.
-      rw (create_fault-outer v name t d pass e s.listed)
-      (agrees_unless scene (fault_in scene.setting scene.forest v name t d) _ _ (λ none.
-      let can : may (who_of scene.setting v.user) d to_write ≡ true =
-      (can_create scene.setting scene.forest v name t d none).writes in
-      rw (keeps_next scene.hidden scene.forest t.server)
-      (creation-agrees session now fid v t d name asked opening h at s pass e
-      (open_target t d v.user pass e s.listed can))))))))))))))
+      agrees_need scene (is_dir d) NotDirectory _ _ (λ _.
+      agrees_need scene (may (who_of scene.setting v.user) d to_write) PermissionDenied _ _ (λ can.
+      let open_dir = open_target t d v.user pass e s.listed can in
+      rw (
+        keeps_child scene.hidden scene.forest t name open_dir,
+        keeps_next scene.hidden scene.forest t.server,
+      ) (agrees_need scene (is_none (child_in t name scene.forest)) FileExists _ _ (λ _.
+      agrees_need scene (nat_lt (next_of t.server scene.forest) next_max) QidsUsedUp _ _ (λ _.
+      agrees_need scene (nat_lt (length v.trail) places_max) PathTooDeep _ _ (λ _.
+      creation-agrees session now fid v t d name asked opening h at s pass e open_dir)))))))))))))))

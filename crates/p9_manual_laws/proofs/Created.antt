@@ -28,14 +28,14 @@ use Rattle.p9_wire.specs.Message.{Rcreate, Tcreate}
 use Rattle.p9_fids.specs.Fid.{Fid}
 use Rattle.p9_step.specs.Answer.{Answer, Outcome, outcome_of}
 use Rattle.p9_step.specs.ForestChange.{ForestChange, all_applied, applied, edited}
-use Rattle.p9_step.specs.Create.{create_answer, created, target_among}
+use Rattle.p9_step.specs.Create.{create_answer, created, permitting}
 use Rattle.p9_step.specs.State.{changed_session}
 use Rattle.p9_step.proofs.Done.{OnDone}
 use Rattle.p9_step.proofs.Evolves.{server_well}
 use Rattle.p9_step.proofs.Found.{node_at-added, node_of-changed, server_at-tree_changed_at}
 use Rattle.p9_step.proofs.Members.{found-member}
 use Rattle.p9_step.proofs.NodeRefs.{here-pushed, new-file}
-use Rattle.p9_step.proofs.Passed.{CanCreate, CreateDone, can_create, create-done}
+use Rattle.p9_step.proofs.Passed.{CreateDone, create-done}
 use Rattle.p9_manual_laws.specs.Asked.{Asked, after_outcome, asked}
 use Rattle.p9_manual_laws.specs.Creates.{CreatedIsFound, IsMade}
 use Rattle.p9_manual_laws.proofs.Children.{joined_child, joined_children}
@@ -118,10 +118,6 @@ module _ (forest : List Server) (sound : IsForest forest) (target : NodeRef) (di
       ap (λ (s : Server). node_at n.number s.nodes) server_after
       ∙ grind (arith, nat_tests, kept, away, here)
 
-is_some-None : {X : Type 0} (o : Option X) → is_some o ≡ false → o ≡ None
-is_some-None None e = refl
-is_some-None (Some x) e = let no : true ≡ false = e in absurd (cc)
-
 second_false : (a b : Bool) → not (a || b) ≡ true → b ≡ false
 second_false true b e = let no : false ≡ true = e in absurd (cc)
 second_false false true e = let no : false ≡ true = e in absurd (cc)
@@ -171,16 +167,15 @@ created_is_found state name session fid now v new perm mode qid iounit sound has
         → IsMade state (after_outcome state name (outcome_of session a)).state v new
     go (Err fault) done told = absurd (cc)
     go (Ok p) done told =
-        let target = done.target in
+        let target = done.member.node in
         let dir = done.dir in
         let n : Node =
         created done.v.user now (next_of target.server state.forest) dir new done.asked in
         let mark : Node → Node = marked done.v.user now in
         let one : Some done.v ≡ Some v = sym done.found ∙ has.fid_is in
         let same : done.v ≡ v = cc in
-        let can : CanCreate state.setting state.forest done.v new target dir =
-        can_create state.setting state.forest done.v new target dir done.fits in
-        let free : child_in target new state.forest ≡ None = is_some-None _ can.free in
+        let can = done.can in
+        let free : child_in target new state.forest ≡ None = can.free in
         let parent : n.parent ≡ Some target.number =
         ap (λ k. Some k)
         (number-node_at target.number (server_at target.server state.forest).nodes dir done.there) in
@@ -199,11 +194,11 @@ created_is_found state name session fid now v new perm mode qid iounit sound has
           forest = forest;
           sessions = changed_session name p.session state.sessions;
         }) v new) (sym forest_is) (record {
-          dir = target;
+          member = done.member;
           node = n;
           chosen =
-              subst (λ (w : Fid). target_among state.forest
-              (members_of (here w.trail) state.setting.table) ≡ Ok target) same done.chosen;
+              subst (λ (w : Fid). permitting (members_of (here w.trail) state.setting.table)
+              ≡ Some done.member) same done.chosen;
           found = child;
           listed =
               children_after state.forest sound.forest target dir n done.there refl parent free mark
@@ -211,9 +206,9 @@ created_is_found state name session fid now v new perm mode qid iounit sound has
           walked = λ who trail m d alone its there search short.
               let table = state.setting.table in
               let forest = after state.forest target n mark in
-              let there_m : node_of m.node forest ≡ Some d =
-              ap (λ r. node_of r forest) its ∙ there in
-              let both : Some d ≡ Some (mark dir) = sym there ∙ dir_is in
+              let there_t : node_of target forest ≡ Some d =
+              ap (λ r. node_of r forest) (sym its) ∙ there in
+              let both : Some d ≡ Some (mark dir) = sym there_t ∙ dir_is in
               let marked_is : d ≡ mark dir = cc in
               let is_directory : is_dir d ≡ true = ap is_dir marked_is ∙ can.into in
               let child_m : child_in m.node new forest ≡ Some n =
@@ -227,7 +222,6 @@ created_is_found state name session fid now v new perm mode qid iounit sound has
               ∙ ap (λ r. is_some (node_of r forest))
               (new-file state.forest table place sound.served.given refl)
               ∙ ap is_some made in
-              walks_down forest table who trail new m d n alone there_m is_directory search child_m
-              (not_dots new done.valid) short alive
-              ∙ ap (λ r. Ok (trail ++ r ∷ [])) place_m;
+              walks_down forest table who trail new m d n alone there is_directory search child_m
+              (not_dots new done.valid) short alive;
         })

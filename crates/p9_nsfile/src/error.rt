@@ -4,7 +4,6 @@ ghost use Rattle.std.specs.Prelude.{◌≡◌};
 ghost use Rattle.p9_nsfile.specs.Text.{form_text};
 
 use p9_base::NoMemory;
-use std::alloc::{AllocError, AllocFailed};
 use thiserror::Error;
 
 /// What is wrong with the form of a line.
@@ -45,35 +44,17 @@ pub enum NsError {
     NoMemory,
 }
 
-impl From<NoMemory> for NsError {
+/// From whatever says that an allocation failed.
+impl<E: Drop> From<E> for NsError
+where
+    NoMemory: From<E>,
+{
     ghost use Rattle.std.specs.Prelude.{◌≡◌};
     ghost use Rattle.p9_nsfile.specs.declared.error.NsError.TheVariants.{NoMemory as OutOfMemory};
 
     ghost from_gives = { λ _ error. error ≡ OutOfMemory };
 
-    fn from(_error: NoMemory) -> NsError {
-        NsError::NoMemory
-    }
-}
-
-impl From<AllocError> for NsError {
-    ghost use Rattle.std.specs.Prelude.{◌≡◌};
-    ghost use Rattle.p9_nsfile.specs.declared.error.NsError.TheVariants.{NoMemory as OutOfMemory};
-
-    ghost from_gives = { λ _ error. error ≡ OutOfMemory };
-
-    fn from(_error: AllocError) -> NsError {
-        NsError::NoMemory
-    }
-}
-
-impl<T: Drop> From<AllocFailed<T>> for NsError {
-    ghost use Rattle.std.specs.Prelude.{◌≡◌};
-    ghost use Rattle.p9_nsfile.specs.declared.error.NsError.TheVariants.{NoMemory as OutOfMemory};
-
-    ghost from_gives = { λ _ error. error ≡ OutOfMemory };
-
-    fn from(_error: AllocFailed<T>) -> NsError {
+    fn from(_error: E) -> NsError {
         NsError::NoMemory
     }
 }

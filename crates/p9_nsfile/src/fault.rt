@@ -4,7 +4,6 @@ ghost use Rattle.std.specs.Prelude.{◌≡◌};
 ghost use Rattle.p9_nsfile.specs.Text.{fault_text};
 
 use p9_base::{Fault, NoMemory};
-use std::alloc::{AllocError, AllocFailed};
 use thiserror::Error;
 
 /// Why an operation fails. It is reported with its line, and changes nothing.
@@ -65,35 +64,17 @@ pub(crate) enum Stop {
     NoMemory,
 }
 
-impl From<NoMemory> for Stop {
+/// From whatever says that an allocation failed.
+impl<E: Drop> From<E> for Stop
+where
+    NoMemory: From<E>,
+{
     ghost use Rattle.std.specs.Prelude.{◌≡◌};
     ghost use Rattle.p9_nsfile.specs.declared.fault.Stop.TheVariants.{NoMemory as OutOfMemory};
 
     ghost from_gives = { λ _ stop. stop ≡ OutOfMemory };
 
-    fn from(_error: NoMemory) -> Stop {
-        Stop::NoMemory
-    }
-}
-
-impl From<AllocError> for Stop {
-    ghost use Rattle.std.specs.Prelude.{◌≡◌};
-    ghost use Rattle.p9_nsfile.specs.declared.fault.Stop.TheVariants.{NoMemory as OutOfMemory};
-
-    ghost from_gives = { λ _ stop. stop ≡ OutOfMemory };
-
-    fn from(_error: AllocError) -> Stop {
-        Stop::NoMemory
-    }
-}
-
-impl<T: Drop> From<AllocFailed<T>> for Stop {
-    ghost use Rattle.std.specs.Prelude.{◌≡◌};
-    ghost use Rattle.p9_nsfile.specs.declared.fault.Stop.TheVariants.{NoMemory as OutOfMemory};
-
-    ghost from_gives = { λ _ stop. stop ≡ OutOfMemory };
-
-    fn from(_error: AllocFailed<T>) -> Stop {
+    fn from(_error: E) -> Stop {
         Stop::NoMemory
     }
 }

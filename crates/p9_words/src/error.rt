@@ -5,7 +5,6 @@ ghost use Rattle.std.specs.Prelude.{◌≡◌, length};
 use crate::form::Base;
 use crate::key::Key;
 use p9_base::NoMemory;
-use std::alloc::{AllocError, AllocFailed};
 use std::fmt;
 use thiserror::Error;
 
@@ -110,35 +109,17 @@ pub fn unexpected(expected: Expected, text: &[u8]) -> ReadError
     })
 }
 
-impl From<NoMemory> for ReadError {
+/// From whatever says that an allocation failed.
+impl<E: Drop> From<E> for ReadError
+where
+    NoMemory: From<E>,
+{
     ghost use Rattle.std.specs.Prelude.{◌≡◌};
     ghost use Rattle.p9_words.specs.declared.error.ReadError.TheVariants.{NoMemory};
 
     ghost from_gives = { λ _ error. error ≡ NoMemory };
 
-    fn from(_error: NoMemory) -> ReadError {
-        ReadError::NoMemory
-    }
-}
-
-impl From<AllocError> for ReadError {
-    ghost use Rattle.std.specs.Prelude.{◌≡◌};
-    ghost use Rattle.p9_words.specs.declared.error.ReadError.TheVariants.{NoMemory};
-
-    ghost from_gives = { λ _ error. error ≡ NoMemory };
-
-    fn from(_error: AllocError) -> ReadError {
-        ReadError::NoMemory
-    }
-}
-
-impl<T: Drop> From<AllocFailed<T>> for ReadError {
-    ghost use Rattle.std.specs.Prelude.{◌≡◌};
-    ghost use Rattle.p9_words.specs.declared.error.ReadError.TheVariants.{NoMemory};
-
-    ghost from_gives = { λ _ error. error ≡ NoMemory };
-
-    fn from(_error: AllocFailed<T>) -> ReadError {
+    fn from(_error: E) -> ReadError {
         ReadError::NoMemory
     }
 }

@@ -4,7 +4,6 @@ ghost use Rattle.std.specs.Prelude.{◌≡◌};
 ghost use Rattle.p9_world.specs.Error.{line_fault_text};
 
 use p9_base::NoMemory;
-use std::alloc::{AllocError, AllocFailed};
 use thiserror::Error;
 
 /// What is wrong with a line of a world's text. Where several faults apply, the line has the one
@@ -87,24 +86,17 @@ pub enum WorldError {
     NoMemory,
 }
 
-impl From<NoMemory> for WorldError {
+/// From whatever says that an allocation failed.
+impl<E: Drop> From<E> for WorldError
+where
+    NoMemory: From<E>,
+{
     ghost use Rattle.std.specs.Prelude.{◌≡◌};
     ghost use Rattle.p9_world.specs.declared.error.WorldError.TheVariants.{NoMemory as OutOfMemory};
 
     ghost from_gives = { λ _ error. error ≡ OutOfMemory };
 
-    fn from(_error: NoMemory) -> WorldError {
-        WorldError::NoMemory
-    }
-}
-
-impl From<AllocError> for WorldError {
-    ghost use Rattle.std.specs.Prelude.{◌≡◌};
-    ghost use Rattle.p9_world.specs.declared.error.WorldError.TheVariants.{NoMemory as OutOfMemory};
-
-    ghost from_gives = { λ _ error. error ≡ OutOfMemory };
-
-    fn from(_error: AllocError) -> WorldError {
+    fn from(_error: E) -> WorldError {
         WorldError::NoMemory
     }
 }
@@ -116,35 +108,17 @@ pub(crate) enum LineError {
     NoMemory,
 }
 
-impl From<NoMemory> for LineError {
+/// From whatever says that an allocation failed.
+impl<E: Drop> From<E> for LineError
+where
+    NoMemory: From<E>,
+{
     ghost use Rattle.std.specs.Prelude.{◌≡◌};
     ghost use Rattle.p9_world.specs.declared.error.LineError.TheVariants.{NoMemory as OutOfMemory};
 
     ghost from_gives = { λ _ error. error ≡ OutOfMemory };
 
-    fn from(_error: NoMemory) -> LineError {
-        LineError::NoMemory
-    }
-}
-
-impl From<AllocError> for LineError {
-    ghost use Rattle.std.specs.Prelude.{◌≡◌};
-    ghost use Rattle.p9_world.specs.declared.error.LineError.TheVariants.{NoMemory as OutOfMemory};
-
-    ghost from_gives = { λ _ error. error ≡ OutOfMemory };
-
-    fn from(_error: AllocError) -> LineError {
-        LineError::NoMemory
-    }
-}
-
-impl<T: Drop> From<AllocFailed<T>> for LineError {
-    ghost use Rattle.std.specs.Prelude.{◌≡◌};
-    ghost use Rattle.p9_world.specs.declared.error.LineError.TheVariants.{NoMemory as OutOfMemory};
-
-    ghost from_gives = { λ _ error. error ≡ OutOfMemory };
-
-    fn from(_error: AllocFailed<T>) -> LineError {
+    fn from(_error: E) -> LineError {
         LineError::NoMemory
     }
 }

@@ -3,7 +3,7 @@
 //!
 //! [`read_world`] reads it. Each operation is in a module of its own, and the definition of
 //! what it means in the file of `specs/` beside it.
-#![tactic(auto, unfolding(p9_base::specs::Results::need, p9_base::specs::Results::given))]
+#![tactic(auto, unfolding(p9_base::specs::Results::need, p9_base::specs::Results::obtain))]
 
 mod entry;
 mod error;
