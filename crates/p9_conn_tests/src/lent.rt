@@ -80,7 +80,9 @@ fn end_by_caller<T: Tree>(
     rows: &[Row],
 ) {
     is_answered(rt, alloc, guard, conn, rows);
-    guard.close(conn.session(), 0);
+    let session = conn.session();
+    assert!(rt; guard.live(session));
+    guard.close(session, 0);
 }
 
 // A connection of session 1 is made, served and dropped. Its two buffers are lent in between.
