@@ -3,7 +3,7 @@
 
 use crate::rows::{ATTACH, Row, VERSION, WALK, add, requests};
 use crate::scripted::{Answer, Scripted};
-use crate::serving::{connect, guard_over, is_answered, is_closed, serve};
+use crate::serving::{connect, guard_over, is_answered, is_closed, serve_alone};
 use linked_list_allocator::LocalHeap;
 use p9_conn::Conn;
 use p9_guard::Guard;
@@ -97,13 +97,13 @@ fn serve_and_drop<T: Tree>(
 ) {
     let stream = stream_to(rt, alloc, rows, end);
     let used = heap.used();
-    let mut conns = [connect(rt, lent, guard, 1, stream)];
+    let mut conn = connect(rt, lent, guard, 1, stream);
     assert!(rt; heap.used().saturating_sub(used) >= 1 << 21);
-    serve(guard, &mut conns);
+    serve_alone(guard, &mut conn);
     if end == End::Caller {
-        end_by_caller(rt, alloc, guard, &conns[0], rows);
+        end_by_caller(rt, alloc, guard, &conn, rows);
     } else {
-        is_closed(rt, alloc, guard, &conns[0], rows);
+        is_closed(rt, alloc, guard, &conn, rows);
     }
     assert!(rt; !guard.live(1));
 }

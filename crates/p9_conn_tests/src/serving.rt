@@ -65,7 +65,7 @@ pub fn stream_of(rt: &impl Abort, alloc: Global, rows: &[Row], most: usize) -> S
 }
 
 /// Gives connections a turn each, again and again, until none has anything left to do.
-pub fn serve<T: Tree, A: Allocator + Copy>(guard: &mut Guard<T>, conns: &mut [Conn<Scripted, A>]) {
+pub fn serve<A: Allocator + Copy>(guard: &mut Served, conns: &mut [Conn<Scripted, A>]) {
     for _ in 0..TURNS {
         if !serve_round(guard, conns) {
             break;
@@ -73,11 +73,20 @@ pub fn serve<T: Tree, A: Allocator + Copy>(guard: &mut Guard<T>, conns: &mut [Co
     }
 }
 
-// Gives connections a turn each, and returns whether one of them has something left to do.
-fn serve_round<T: Tree, A: Allocator + Copy>(
+/// Gives one connection turns, until it has nothing left to do.
+pub fn serve_alone<T: Tree, A: Allocator + Copy>(
     guard: &mut Guard<T>,
-    conns: &mut [Conn<Scripted, A>],
-) -> bool {
+    conn: &mut Conn<Scripted, A>,
+) {
+    for _ in 0..TURNS {
+        if !is_served(guard, conn) {
+            break;
+        }
+    }
+}
+
+// Gives connections a turn each, and returns whether one of them has something left to do.
+fn serve_round<A: Allocator + Copy>(guard: &mut Served, conns: &mut [Conn<Scripted, A>]) -> bool {
     let mut is_busy = false;
     for conn in conns {
         is_busy |= is_served(guard, conn);
