@@ -1,11 +1,13 @@
-//! Tests of connections: bytes that come and go in pieces, streams that fail, many connections, and
-//! allocations that fail. There is nothing else here.
+//! Tests of connections: bytes that come and go in pieces, streams that fail, many connections,
+//! allocations that fail, and memory that is given back. There is nothing else here.
 #![tactic(auto)]
 
 #[cfg(test)]
 mod buffers;
 #[cfg(test)]
 mod faults;
+#[cfg(test)]
+mod lent;
 #[cfg(test)]
 mod pieces;
 #[cfg(test)]

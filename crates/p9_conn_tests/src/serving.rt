@@ -7,6 +7,7 @@ use p9_conn::{Conn, Turn};
 use p9_guard::Guard;
 use p9_index::IndexTree;
 use p9_space::MountTable;
+use p9_tree::Tree;
 use p9_world::{World, read_world};
 use std::alloc::{Allocator, Global};
 use std::process::Abort;
@@ -32,7 +33,12 @@ const TURNS: u32 = 100_000;
 
 /// A guard without sessions.
 pub fn new_guard(rt: &impl Abort, alloc: Global) -> Served {
-    let world: World<IndexTree<Global>> = read_world(alloc, VAULT).expect(rt, "a world");
+    guard_over(rt, alloc)
+}
+
+/// The same, over trees of any kind.
+pub fn guard_over<T: Tree>(rt: &impl Abort, alloc: T::Alloc) -> Guard<T> {
+    let world: World<T> = read_world(alloc, VAULT).expect(rt, "a world");
     let certificate = read_cert(alloc, CERTIFICATE).expect(rt, "a certificate");
     Guard::new(world, MountTable::new(alloc), certificate)
         .ok()
@@ -40,13 +46,13 @@ pub fn new_guard(rt: &impl Abort, alloc: Global) -> Served {
 }
 
 /// A connection of a session, which is opened.
-pub fn connect(
+pub fn connect<T: Tree>(
     rt: &impl Abort,
-    alloc: Global,
-    guard: &mut Served,
+    alloc: T::Alloc,
+    guard: &mut Guard<T>,
     session: u32,
     stream: Scripted,
-) -> Conn<Scripted, Global> {
+) -> Conn<Scripted, T::Alloc> {
     assert_eq!(rt; guard.open(session), Ok(()));
     Conn::new(alloc, stream, session)
         .ok()
@@ -67,6 +73,18 @@ pub fn serve<A: Allocator + Copy>(guard: &mut Served, conns: &mut [Conn<Scripted
     }
 }
 
+/// Gives one connection turns, until it has nothing left to do.
+pub fn serve_alone<T: Tree, A: Allocator + Copy>(
+    guard: &mut Guard<T>,
+    conn: &mut Conn<Scripted, A>,
+) {
+    for _ in 0..TURNS {
+        if !is_served(guard, conn) {
+            break;
+        }
+    }
+}
+
 // Gives connections a turn each, and returns whether one of them has something left to do.
 fn serve_round<A: Allocator + Copy>(guard: &mut Served, conns: &mut [Conn<Scripted, A>]) -> bool {
     let mut is_busy = false;
@@ -77,7 +95,10 @@ fn serve_round<A: Allocator + Copy>(guard: &mut Served, conns: &mut [Conn<Script
 }
 
 // Gives a connection a turn, and returns whether it has something left to do.
-fn is_served<A: Allocator + Copy>(guard: &mut Served, conn: &mut Conn<Scripted, A>) -> bool {
+fn is_served<T: Tree, A: Allocator + Copy>(
+    guard: &mut Guard<T>,
+    conn: &mut Conn<Scripted, A>,
+) -> bool {
     let was_used_up = conn.stream().is_used_up();
     match conn.turn(guard, 0) {
         Turn::Moved => true,
@@ -87,10 +108,10 @@ fn is_served<A: Allocator + Copy>(guard: &mut Served, conn: &mut Conn<Scripted, 
 }
 
 /// Compares what a connection wrote with the replies of rows. It is open, and so is its session.
-pub fn is_answered<A: Allocator + Copy>(
+pub fn is_answered<T: Tree, A: Allocator + Copy>(
     rt: &impl Abort,
     alloc: Global,
-    guard: &Served,
+    guard: &Guard<T>,
     conn: &Conn<Scripted, A>,
     rows: &[Row],
 ) {
@@ -101,10 +122,10 @@ pub fn is_answered<A: Allocator + Copy>(
 
 /// Compares what a connection wrote with the front of the replies of rows. It is closed, and so is
 /// its session.
-pub fn is_closed<A: Allocator + Copy>(
+pub fn is_closed<T: Tree, A: Allocator + Copy>(
     rt: &impl Abort,
     alloc: Global,
-    guard: &Served,
+    guard: &Guard<T>,
     conn: &Conn<Scripted, A>,
     rows: &[Row],
 ) {

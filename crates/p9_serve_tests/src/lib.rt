@@ -1,5 +1,5 @@
-//! Tests of the server: clients on loopback, in one process with it, and inputs that are served at
-//! an address. There is nothing else here.
+//! Tests of the server: clients on loopback, in one process with it, hostile ones among them, and
+//! inputs that are served at an address. There is nothing else here.
 #![tactic(auto)]
 
 #[cfg(test)]
@@ -10,3 +10,5 @@ mod inputs;
 mod loopback;
 #[cfg(test)]
 mod rows;
+#[cfg(test)]
+mod soak;

@@ -11,7 +11,7 @@ use std::net::{Ipv4Addr, Net, SocketAddr};
 use std::process::Abort;
 
 // More rounds than any test takes.
-const ROUNDS: u64 = 10_000;
+const ROUNDS: u64 = 200_000;
 
 /// The address of a port that the system chooses.
 pub fn any_port() -> SocketAddr {
@@ -75,6 +75,24 @@ impl Loopback {
         assert_eq!(rt; got.as_slice(), wanted.as_slice());
     }
 
+    /// Takes rounds until a client has got a whole reply, and returns it.
+    pub fn any_reply(
+        &mut self,
+        rt: &(impl Abort + AllocGlobal),
+        client: &mut TcpStream,
+    ) -> Vec<u8> {
+        let mut got = Vec::new(rt.alloc());
+        for _ in self.rounds..ROUNDS {
+            let _ = self.round();
+            receive(rt, client, &mut got);
+            if is_whole(got.as_slice()) {
+                break;
+            }
+        }
+        assert!(rt; is_whole(got.as_slice()));
+        got
+    }
+
     /// Sends requests, one behind the other, each when the reply to the one before is there.
     pub fn ask(&mut self, rt: &(impl Abort + AllocGlobal), client: &mut TcpStream, rows: &[Row]) {
         for row in rows {
@@ -103,6 +121,17 @@ impl Loopback {
         assert_eq!(rt; self.closed, count);
     }
 
+    /// Takes rounds until the server has ended a client's connection. No byte comes before that.
+    pub fn end(&mut self, rt: &impl Abort, client: &mut TcpStream) {
+        for _ in self.rounds..ROUNDS {
+            if is_ended(rt, client) {
+                break;
+            }
+            let _ = self.round();
+        }
+        assert!(rt; is_ended(rt, client));
+    }
+
     /// Closes all, and compares that no session of the first keys is open.
     pub fn finish(self, rt: &impl Abort, keys: u32) {
         let Loopback { server, .. } = self;
@@ -124,6 +153,25 @@ fn receive(rt: &impl Abort, client: &mut TcpStream, got: &mut Vec<u8>) {
     match client.read(&mut buffer) {
         Ok(count) => assert!(rt; got.extend_from_slice(&buffer[..count]).is_ok()),
         Err(error) => assert_eq!(rt; error.kind(), ErrorKind::WouldBlock),
+    }
+}
+
+// Whether bytes are as many as the size at their front says.
+fn is_whole(bytes: &[u8]) -> bool {
+    u32::try_from(bytes.len()).is_ok_and(|size| bytes.starts_with(&size.to_le_bytes()))
+}
+
+/// Whether a client's connection is ended, by the server. No byte has come.
+pub fn is_ended(rt: &impl Abort, client: &mut TcpStream) -> bool {
+    match client.read(&mut [0; 8]) {
+        Ok(count) => {
+            assert_eq!(rt; count, 0);
+            true
+        }
+        Err(error) => {
+            assert_eq!(rt; error.kind(), ErrorKind::WouldBlock);
+            false
+        }
     }
 }
 

@@ -1,0 +1,142 @@
+//! A connection that is dropped gives back all that it and its session were lent, however it ends:
+//! over a heap that counts its bytes.
+
+use crate::rows::{ATTACH, Row, VERSION, WALK, add, requests};
+use crate::scripted::{Answer, Scripted};
+use crate::serving::{connect, guard_over, is_answered, is_closed, serve_alone};
+use linked_list_allocator::LocalHeap;
+use p9_conn::Conn;
+use p9_guard::Guard;
+use p9_index::IndexTree;
+use p9_tree::{PlainTree, Tree};
+use std::alloc::Global;
+use std::process::Abort;
+
+// A version, an attach, a walk that makes fid 1, and its clunk.
+const CLUNKED: [Row; 4] = [
+    VERSION,
+    ATTACH,
+    WALK,
+    ("0b00000078030001000000", "07000000790300"),
+];
+
+// The same, but fid 1 is opened to read, and left so.
+const LEFT_OPEN: [Row; 4] = [
+    VERSION,
+    ATTACH,
+    WALK,
+    (
+        "0c0000007003000100000000",
+        "1800000071030080000000000100000000000000e81f0000",
+    ),
+];
+
+// How a connection ends.
+#[derive(Clone, Copy, Debug, PartialEq, Eq)]
+enum End {
+    // Its caller closes the session.
+    Caller,
+    // The stream ends behind the last frame.
+    Stream,
+    // The stream ends within a frame.
+    WithinFrame,
+    // A size comes that no frame has.
+    BrokenSize,
+}
+
+const ENDS: [End; 4] = [End::Caller, End::Stream, End::WithinFrame, End::BrokenSize];
+
+// What comes behind the last frame.
+fn rest_of(end: End) -> &'static str {
+    match end {
+        End::Caller | End::Stream => "",
+        End::WithinFrame => "1900000068",
+        End::BrokenSize => "ffffffff6e0200",
+    }
+}
+
+// A stream of the requests of rows. All of it comes in one read, and each reply goes out in one
+// write. Then the other end is closed, if the caller doesn't close the session.
+fn stream_to(rt: &impl Abort, alloc: Global, rows: &[Row], end: End) -> Scripted {
+    let mut input = requests(rt, alloc, rows);
+    add(rt, alloc, &mut input, rest_of(end));
+    let mut stream = Scripted::new(alloc, input, 1_000);
+    if end != End::Caller {
+        stream.then(rt, Answer::Moves(1_000));
+        for _ in rows {
+            stream.then(rt, Answer::Moves(1_000));
+        }
+        stream.then(rt, Answer::Moves(0));
+    }
+    stream
+}
+
+// Ends a connection that the stream has not ended.
+fn end_by_caller<T: Tree>(
+    rt: &impl Abort,
+    alloc: Global,
+    guard: &mut Guard<T>,
+    conn: &Conn<Scripted, T::Alloc>,
+    rows: &[Row],
+) {
+    is_answered(rt, alloc, guard, conn, rows);
+    let session = conn.session();
+    assert!(rt; guard.live(session));
+    guard.close(session, 0);
+}
+
+// A connection of session 1 is made, served and dropped. Its two buffers are lent in between.
+fn serve_and_drop<T: Tree>(
+    rt: &impl Abort,
+    alloc: Global,
+    heap: &LocalHeap,
+    guard: &mut Guard<T>,
+    lent: T::Alloc,
+    rows: &[Row],
+    end: End,
+) {
+    let stream = stream_to(rt, alloc, rows, end);
+    let used = heap.used();
+    let mut conn = connect(rt, lent, guard, 1, stream);
+    assert!(rt; heap.used().saturating_sub(used) >= 1 << 21);
+    serve_alone(guard, &mut conn);
+    if end == End::Caller {
+        end_by_caller(rt, alloc, guard, &conn, rows);
+    } else {
+        is_closed(rt, alloc, guard, &conn, rows);
+    }
+    assert!(rt; !guard.live(1));
+}
+
+// The same again and again on one guard: what is lent behind each is what was lent before. At the
+// first time a collection may keep room.
+fn repeat<T: Tree>(
+    rt: &impl Abort,
+    alloc: Global,
+    heap: &LocalHeap,
+    lent: T::Alloc,
+    rows: &[Row],
+    end: End,
+) {
+    let mut guard = guard_over::<T>(rt, lent);
+    serve_and_drop(rt, alloc, heap, &mut guard, lent, rows, end);
+    let used = heap.used();
+    for _ in 0..10 {
+        serve_and_drop(rt, alloc, heap, &mut guard, lent, rows, end);
+        assert_eq!(rt; heap.used(), used, "{end:?}");
+    }
+}
+
+// Each end, over two trees, with fid 1 clunked and with fid 1 open.
+#[test]
+fn a_dropped_connection_gives_all_back(rt: HostRuntime) {
+    let heap = LocalHeap::new(rt.alloc(), 1 << 22).expect(&rt, "memory");
+    for end in ENDS {
+        for rows in [CLUNKED.as_slice(), LEFT_OPEN.as_slice()] {
+            repeat::<PlainTree<&LocalHeap>>(&rt, rt.alloc(), &heap, &heap, rows, end);
+            assert_eq!(rt; heap.used(), 0);
+            repeat::<IndexTree<&LocalHeap>>(&rt, rt.alloc(), &heap, &heap, rows, end);
+            assert_eq!(rt; heap.used(), 0);
+        }
+    }
+}
