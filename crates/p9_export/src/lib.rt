@@ -1,6 +1,6 @@
 //! The machine that answers 9P2000 over the trees and the mount table: one state, and one whole
 //! event after another.
-#![tactic(auto, unfolding(p9_base::specs::Results::need, p9_base::specs::Results::given, p9_base::specs::Results::unless))]
+#![tactic(auto, unfolding(p9_base::specs::Results::need, p9_base::specs::Results::obtain, p9_base::specs::Results::unless))]
 
 mod answer;
 mod attach;
