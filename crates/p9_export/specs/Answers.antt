@@ -36,6 +36,11 @@ Answers answer may_run_out forest forest' old new (Err fault) =
     ((answer ≡ Err fault) ⊎ ((fault ≡ OutOfMemory) × (may_run_out ≡ true))) × (forest' ≡ forest)
     × (new ≡ old)
 
+-- the fault is the answer's, or a failed allocation where that may be answered
+abbrev pub IsRefusal : Answer → Bool → Fault → Type 0
+IsRefusal answer may_run_out fault =
+    (answer ≡ Err fault) ⊎ ((fault ≡ OutOfMemory) × (may_run_out ≡ true))
+
 -- the session after an answer that is no refusal
 abbrev pub session_of : Answer → Session
 session_of (Ok outcome) = outcome.session

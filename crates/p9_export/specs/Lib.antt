@@ -1,6 +1,7 @@
 pub mod Event
 pub mod Wstat
 pub mod Answers
+pub mod Create
 pub mod Room
 pub mod Listing
 pub mod Held

@@ -1,6 +1,6 @@
 //! The answer to a create, as open(5).
 
-ghost use Rattle.std.specs.Prelude.{◌≡◌, ◌<◌, ◌++◌, ◌∷◌, [], List, IfOk, IfSome, IsSome, OnErr, OnOk};
+ghost use Rattle.std.specs.Prelude.{◌≡◌, ◌<◌, ◌++◌, ◌∷◌, [], List, IfErr, IfOk, IsSome, OnErr, OnOk, ℕ};
 ghost use Rattle.std.specs.Prelude.{length, map};
 ghost use Rattle.std.specs.Option.{option_copied};
 ghost use Rattle.p9_tree.specs.Forest.{forest_changed_at, next_of, server_at, tree_changed_at};
@@ -11,12 +11,15 @@ ghost use Rattle.p9_tree.specs.Server.{CanAdd, added};
 ghost use Rattle.p9_space.specs.Channel.{Fits, trail_of};
 ghost use Rattle.p9_space.specs.Table.{MountRow};
 ghost use Rattle.p9_fids.specs.Fid.{fid_at};
+ghost use Rattle.p9_fids.specs.Held.{HeldFits};
 ghost use Rattle.p9_export.specs.Held.{SessionFits};
-ghost use Rattle.p9_export.specs.Answers.{Answers, replied};
-ghost use Rattle.p9_step.specs.Create.{create_answer, create_reply, created, created_in, entered};
-ghost use Rattle.p9_step.specs.Create.{fault_in, permitting, target_among};
+ghost use Rattle.p9_export.specs.Answers.{Answers, IsRefusal, replied};
+ghost use Rattle.p9_export.specs.Create.{asked_of, create_steps, created_in, place_in, plan_answer};
+ghost use Rattle.p9_export.specs.Create.{target_among};
+ghost use Rattle.p9_step.specs.Create.{create_answer, create_reply, created, entered, permitting};
 ghost use Rattle.p9_step.specs.Qid.{qid_of};
 ghost use Rattle.p9_step.specs.Memory.{is_done};
+ghost use Rattle.p9_step.specs.State.{Session as SessionOf};
 
 use crate::inherit::inherited;
 use crate::qid::new_qid;
@@ -28,6 +31,37 @@ use p9_space::{Channels, Member, MountTable, PLACES_MAX, TO_WRITE, dir_fault, ma
 use p9_step::Opening;
 use p9_tree::{Forest, NEXT_MAX, New, Node, Tree};
 use std::alloc::Allocator;
+
+/// What a create asks for.
+#[derive(Clone, Copy)]
+pub struct NewFile<'a> {
+    /// The fid that is on the directory, and goes on to the file.
+    pub fid: u32,
+    pub name: &'a str,
+    /// The bits of the new file's mode.
+    pub perm: u32,
+    /// The bits of what it is opened for.
+    pub mode: u8,
+}
+
+// What the bits and the name of a create mean.
+#[derive(Clone, Copy)]
+struct Asked {
+    name: Name,
+    mode: Mode,
+    opening: Opening,
+}
+
+// What a create does, once nothing refuses it.
+#[derive(Drop)]
+struct Plan<A: Allocator + Copy> {
+    // The directory where the node is made.
+    target: NodeRef,
+    new: New<'static>,
+    // How the fid reaches the node.
+    channels: Channels<A>,
+    opening: Opening,
+}
 
 /// Makes a file or directory where the fid is, in the first member that permits creation, and
 /// goes on to it: the fid is then open for what the mode's bits ask. It answers the new qid and the
@@ -48,44 +82,90 @@ pub fn create<T: Tree>(
     forest: &mut Forest<T>,
     session: &mut Session<T::Alloc>,
     now: u32,
-    fid: u32,
-    name: &str,
-    perm: u32,
-    bits: u8,
+    wanted: NewFile<'_>,
 ) -> Result<(Qid, u32), Fault>
     requires channels { SessionFits setting.now.table session.old }
     ensures channels { SessionFits setting.now.table session.new }
     ensures answer { let old = map T.state forest.old.trees.items in
         let new = map T.state forest.new.trees.items in
-        let answer = create_answer setting.now old session.old.session now fid name.now perm bits in
+        let answer = create_answer setting.now old session.old.session now wanted.entry.fid wanted.entry.name.now
+        wanted.entry.perm wanted.entry.mode in
         Answers answer (is_done answer) old new session.old.session session.new.session
         (replied create_reply result) }
 {
-    let Some(held) = session.fids.get(fid) else {
+    let Plan {
+        target,
+        new,
+        channels,
+        opening,
+    } = planned(setting, forest, session, now, wanted)?;
+    let qid = add_to(forest, target, &new)?;
+    enter(session, wanted.fid, channels, opening);
+    Ok((qid, session.room()))
+}
+
+// What the create does, or why it is refused.
+fn planned<T: Tree>(
+    setting: &Setting<T::Alloc>,
+    forest: &Forest<T>,
+    session: &Session<T::Alloc>,
+    now: u32,
+    wanted: NewFile<'_>,
+) -> Result<Plan<T::Alloc>, Fault>
+    requires { SessionFits setting.now.table session.now }
+    ensures there { OnOk result (IsSome (fid_at wanted.entry.fid session.now.session.fids)) }
+    ensures fits { IfOk result (λ plan. Fits setting.now.table plan.channels) }
+    ensures adds { let forest = map T.state forest.now.trees.items in
+        IfOk result (λ plan. let server = server_at plan.target.server forest in
+        CanAdd server plan.target.number (new_node server.next plan.target.number plan.new)) }
+    ensures ok { let forest = map T.state forest.now.trees.items in
+        let answer = create_steps setting.now forest session.now.session now wanted.entry.fid
+        wanted.entry.name.now wanted.entry.perm wanted.entry.mode in
+        IfOk result (λ plan. answer ≡ plan_answer forest session.now.session wanted.entry.fid plan.target
+        plan.new (trail_of plan.channels) plan.opening) }
+    ensures err { let forest = map T.state forest.now.trees.items in
+        let answer = create_steps setting.now forest session.now.session now wanted.entry.fid
+        wanted.entry.name.now wanted.entry.perm wanted.entry.mode in
+        IfErr result (λ fault. IsRefusal answer (is_done answer) fault) }
+{
+    let Some(held) = session.fids.get(wanted.fid) else {
         return Err(Fault::UnknownFid);
     };
     if held.opened.is_some() {
         return Err(Fault::FidOpen);
     }
-    let Some(name) = Name::new(name) else {
-        return Err(Fault::BadFileName);
+    let asked = match asked_of(wanted) {
+        Ok(asked) => asked,
+        Err(fault) => return Err(fault),
     };
-    let Some(opening) = Opening::from_bits(bits) else {
-        return Err(Fault::BadOpenMode);
-    };
-    let Some(asked) = Mode::from_bits(perm) else {
-        return Err(Fault::BadOpenMode);
-    };
-    if asked.is_dir() && !opening.is_plain_read() {
-        return Err(Fault::IsDirectory);
-    }
     let members = held.channels.members(&setting.table);
     match target_among(forest, members.as_slice()) {
-        Ok(target) => create_in(
-            setting, forest, session, now, fid, name, asked, opening, target,
-        ),
+        Ok(target) => plan_in(setting, forest, held, now, asked, target),
         Err(fault) => Err(fault),
     }
+}
+
+// What is asked for, or why that means nothing.
+fn asked_of(wanted: NewFile<'_>) -> Result<Asked, Fault>
+    ensures { result ≡ asked_of wanted.entry.name.now wanted.entry.perm wanted.entry.mode }
+{
+    let Some(name) = Name::new(wanted.name) else {
+        return Err(Fault::BadFileName);
+    };
+    let Some(opening) = Opening::from_bits(wanted.mode) else {
+        return Err(Fault::BadOpenMode);
+    };
+    let Some(mode) = Mode::from_bits(wanted.perm) else {
+        return Err(Fault::BadOpenMode);
+    };
+    if mode.is_dir() && !opening.is_plain_read() {
+        return Err(Fault::IsDirectory);
+    }
+    Ok(Asked {
+        name,
+        mode,
+        opening,
+    })
 }
 
 // The directory where a node is to be made, among the members that are there.
@@ -107,87 +187,83 @@ fn permitting(members: &[Member]) -> Option<&Member>
     members.iter().find(|member| member.create)
 }
 
-// Makes the node in this directory, and opens the fid on it.
-fn create_in<T: Tree>(
+// What the create does in this directory, or why it is refused there.
+fn plan_in<T: Tree>(
     setting: &Setting<T::Alloc>,
-    forest: &mut Forest<T>,
-    session: &mut Session<T::Alloc>,
+    forest: &Forest<T>,
+    held: &Fid<T::Alloc>,
     now: u32,
-    fid: u32,
-    name: Name,
-    asked: Mode,
-    opening: Opening,
+    asked: Asked,
     target: NodeRef,
-) -> Result<(Qid, u32), Fault>
-    requires there { IsSome (fid_at fid session.old.session.fids) }
-    requires channels { SessionFits setting.now.table session.old }
-    ensures channels { SessionFits setting.now.table session.new }
-    ensures answer { let old = map T.state forest.old.trees.items in
-        let new = map T.state forest.new.trees.items in
-        IfSome (fid_at fid session.old.session.fids) (λ v.
-        let answer = created_in setting.now old session.old.session now fid v
-        name asked opening target in Answers answer (is_done answer) old new session.old.session session.new.session
-        (replied create_reply result)) }
+) -> Result<Plan<T::Alloc>, Fault>
+    requires { HeldFits setting.now.table held.now }
+    ensures fits { IfOk result (λ plan. Fits setting.now.table plan.channels) }
+    ensures adds { let forest = map T.state forest.now.trees.items in
+        IfOk result (λ plan. let server = server_at plan.target.server forest in
+        CanAdd server plan.target.number (new_node server.next plan.target.number plan.new)) }
+    ensures ok { let forest = map T.state forest.now.trees.items in
+        (session : SessionOf) (fid : ℕ) → IfOk result (λ plan.
+        created_in setting.now forest session now fid held.now.fid asked target
+        ≡ plan_answer forest session fid plan.target plan.new (trail_of plan.channels)
+        plan.opening) }
+    ensures err { let forest = map T.state forest.now.trees.items in
+        (session : SessionOf) (fid : ℕ) → IfErr result (λ fault.
+        let answer = created_in setting.now forest session now fid held.now.fid asked target in
+        IsRefusal answer (is_done answer) fault) }
 {
-    let held = session.fids.get(fid).unwrap();
     let Some(dir) = forest.node(target) else {
         return Err(Fault::PhaseError);
     };
-    let next = forest.next_of(target.server);
-    if let Some(fault) = fault_in(setting, forest, held, &name, target, dir, next) {
-        return Err(fault);
-    }
-    let new = new_in(dir, name, asked, held.user, now);
-    let channels = channels_to(&setting.table, &held.channels, target.beside(next))?;
-    let qid = add_to(forest, target, &new)?;
-    enter(session, fid, channels, opening);
-    Ok((qid, session.room()))
+    let place = match place_in(setting, forest, held, &asked.name, target, dir) {
+        Ok(place) => place,
+        Err(fault) => return Err(fault),
+    };
+    let channels = channels_to(&setting.table, &held.channels, place)?;
+    Ok(Plan {
+        target,
+        new: new_in(dir, asked, held.user, now),
+        channels,
+        opening: asked.opening,
+    })
 }
 
-// Why the fid's user can't make a node of the name in the directory, where the server's next number
-// is this.
-fn fault_in<T: Tree>(
+// Where a node of the name comes to be, that the fid's user makes in the directory, or why the user
+// can't.
+fn place_in<T: Tree>(
     setting: &Setting<T::Alloc>,
     forest: &Forest<T>,
     held: &Fid<T::Alloc>,
     name: &Name,
     target: NodeRef,
     dir: &Node<T::Alloc>,
-    next: u64,
-) -> Option<Fault>
-    requires { next ≡ next_of target.server (map T.state forest.now.trees.items) }
-    ensures { result ≡ fault_in setting.now (map T.state forest.now.trees.items) held.now.fid name.now
-        target
-        dir.now }
+) -> Result<NodeRef, Fault>
+    ensures { result ≡ place_in setting.now (map T.state forest.now.trees.items) held.now.fid
+        name.now target dir.now }
 {
+    let next = forest.next_of(target.server);
     if !dir.is_dir() {
-        Some(Fault::NotDirectory)
+        Err(Fault::NotDirectory)
     } else if !may(setting.who(&held.user), dir, TO_WRITE) {
-        Some(Fault::PermissionDenied)
+        Err(Fault::PermissionDenied)
     } else if forest.child(target, name).is_some() {
-        Some(Fault::FileExists)
+        Err(Fault::FileExists)
     } else if next >= NEXT_MAX {
-        Some(Fault::QidsUsedUp)
+        Err(Fault::QidsUsedUp)
     } else if held.channels.trail().len() >= PLACES_MAX {
-        Some(Fault::PathTooDeep)
+        Err(Fault::PathTooDeep)
     } else {
-        None
+        Ok(target.beside(next))
     }
 }
 
 // What the user's new node in the directory is made of: it is of the directory's group.
-fn new_in<A: Allocator>(
-    dir: &Node<A>,
-    name: Name,
-    asked: Mode,
-    user: User,
-    now: u32,
-) -> New<'static>
-    ensures { new_node 0 dir.now.number result ≡ created user now 0 dir.now name asked }
+fn new_in<A: Allocator>(dir: &Node<A>, asked: Asked, user: User, now: u32) -> New<'static>
+    ensures { new_node 0 dir.now.number result
+        ≡ created user now 0 dir.now asked.name asked.mode }
 {
     New {
-        name,
-        mode: inherited(dir.mode().permissions, asked),
+        name: asked.name,
+        mode: inherited(dir.mode().permissions, asked.mode),
         uid: user,
         gid: *dir.gid(),
         muid: user,

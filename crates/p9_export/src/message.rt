@@ -13,7 +13,7 @@ ghost use Rattle.p9_step.specs.Step.{session_answer};
 
 use crate::attach::attach;
 use crate::clunk::clunk;
-use crate::create::create;
+use crate::create::{NewFile, create};
 use crate::open::open;
 use crate::read::read;
 use crate::remove::remove;
@@ -87,7 +87,13 @@ pub fn message<T: Tree>(
             perm,
             mode,
         } => {
-            let (qid, iounit) = create(setting, forest, session, now, *fid, name, *perm, *mode)?;
+            let wanted = NewFile {
+                fid: *fid,
+                name,
+                perm: *perm,
+                mode: *mode,
+            };
+            let (qid, iounit) = create(setting, forest, session, now, wanted)?;
             Ok(Reply::Message(RMsg::Create { qid, iounit }))
         }
         TMsg::Read { fid, offset, count } => Ok(Reply::Data(read(
