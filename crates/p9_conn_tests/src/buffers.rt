@@ -55,15 +55,15 @@ const BEGINNING: [Row; 4] = [
     ATTACH,
     WALK,
     (
-        "130000007203000100000001006ea401000002",
-        "1800000073030000000000000400000000000000e8ff0f00",
+        "13000000 72 0300 01000000 0100 6e a4010000 02",
+        "18000000 73 0300 00 00000000 0400000000000000 e8ff0f00",
     ),
 ];
 
 // A write of 20,000 bytes has 20,023, and they are read back in two parts.
-const WRITE: &str = "374e0000760400010000000000000000000000204e0000";
+const WRITE: &str = "374e0000 76 0400 01000000 0000000000000000 204e0000";
 
-const WRITTEN: &str = "0b000000770400204e0000";
+const WRITTEN: &str = "0b000000 77 0400 204e0000";
 
 const READS: &str = "17000000740500010000000000000000000000e02e0000\
     1700000074060001000000e02e000000000000e02e0000";
@@ -88,9 +88,9 @@ fn a_long_frame_comes_in_pieces(rt: HostRuntime) {
     add(&rt, alloc, &mut input, READS);
     let mut wanted = replies(&rt, alloc, &BEGINNING);
     add(&rt, alloc, &mut wanted, WRITTEN);
-    add(&rt, alloc, &mut wanted, "eb2e0000750500e02e0000");
+    add(&rt, alloc, &mut wanted, "eb2e0000 75 0500 e02e0000");
     append(&rt, &mut wanted, front);
-    add(&rt, alloc, &mut wanted, "4b1f0000750600401f0000");
+    add(&rt, alloc, &mut wanted, "4b1f0000 75 0600 401f0000");
     append(&rt, &mut wanted, back);
     let mut guard = new_guard(&rt, alloc);
     let stream = Scripted::new(alloc, input, 1_000);

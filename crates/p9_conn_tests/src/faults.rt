@@ -1,9 +1,10 @@
 //! Streams that fail, at each of their calls.
 
-use crate::rows::{ASIDE, FOUND, GONE, LOOK, WORK, bytes};
+use crate::rows::{ASIDE, FOUND, GONE, LOOK, WORK};
 use crate::scripted::{Answer, Scripted};
 use crate::serving::{Served, connect, is_answered, is_closed, new_guard, serve, stream_of};
 use p9_conn::Conn;
+use p9_digits::bytes_of;
 use std::alloc::Global;
 use std::process::Abort;
 
@@ -49,10 +50,10 @@ fn work(
 
 // A third session looks for the file, and the last of its replies is this.
 fn look(rt: &impl Abort, alloc: Global, guard: &mut Served, last: &str) {
-    let stream = Scripted::new(alloc, bytes(rt, alloc, LOOK), 100);
+    let stream = Scripted::new(alloc, bytes_of(rt, alloc, LOOK), 100);
     let mut conns = [connect(rt, alloc, guard, 3, stream)];
     serve(guard, &mut conns);
-    let wanted = bytes(rt, alloc, last);
+    let wanted = bytes_of(rt, alloc, last);
     assert!(rt; conns[0].stream().output().ends_with(wanted.as_slice()));
 }
 

@@ -1,5 +1,6 @@
 //! Requests with their replies, as hexadecimal digits from outside.
 
+use p9_digits::bytes_of;
 use std::alloc::Global;
 use std::process::Abort;
 
@@ -8,26 +9,26 @@ pub type Row = (&'static str, &'static str);
 
 /// A client asks for an msize of 8,192.
 pub const VERSION: Row = (
-    "1300000064ffff002000000600395032303030",
-    "1300000065ffff002000000600395032303030",
+    "13000000 64 ffff 00200000 0600 395032303030",
+    "13000000 65 ffff 00200000 0600 395032303030",
 );
 
 /// A client asks for the greatest msize.
 pub const GREATEST_VERSION: Row = (
-    "1300000064ffffffffffff0600395032303030",
-    "1300000065ffff000010000600395032303030",
+    "13000000 64 ffff ffffffff 0600 395032303030",
+    "13000000 65 ffff 00001000 0600 395032303030",
 );
 
 /// Glenda attaches fid 0.
 pub const ATTACH: Row = (
-    "1900000068010000000000ffffffff0600676c656e64610000",
-    "1400000069010080000000000000000000000000",
+    "19000000 68 0100 00000000 ffffffff 0600 676c656e6461 0000",
+    "14000000 69 0100 80 00000000 0000000000000000",
 );
 
 /// Fid 1 is made to be the public directory, in which nothing was made yet.
 pub const WALK: Row = (
-    "160000006e0200000000000100000001000300707562",
-    "160000006f0200010080000000000100000000000000",
+    "16000000 6e 0200 00000000 01000000 0100 0300 707562",
+    "16000000 6f 0200 0100 80 00000000 0100000000000000",
 );
 
 /// A version, an attach, and a file `n` in the public directory. It is opened for writing, to be
@@ -37,13 +38,13 @@ pub const WORK: [Row; 5] = [
     ATTACH,
     WALK,
     (
-        "130000007203000100000001006ea401000041",
-        "1800000073030000000000000400000000000000e81f0000",
+        "13000000 72 0300 01000000 0100 6e a4010000 41",
+        "18000000 73 0300 00 00000000 0400000000000000 e81f0000",
     ),
     (
         "1c000000760400010000000000000000000000050000006865\
          6c6c6f",
-        "0b00000077040005000000",
+        "0b000000 77 0400 05000000",
     ),
 ];
 
@@ -52,16 +53,19 @@ pub const WORK: [Row; 5] = [
 pub const ASIDE: [Row; 6] = [
     VERSION,
     ATTACH,
-    ("090000006c02000100", "070000006d0200"),
+    ("09000000 6c 0200 0100", "07000000 6d 0200"),
     (
-        "180000006e03000000000001000000010005007661756c74",
-        "160000006f0300010080000000000200000000000000",
+        "18000000 6e 0300 00000000 01000000 0100 0500 7661756c74",
+        "16000000 6f 0300 0100 80 00000000 0200000000000000",
     ),
     (
-        "0b0000007a040001000000",
-        "1a0000006b040011007065726d697373696f6e2064656e696564",
+        "0b000000 7a 0400 01000000",
+        "1a000000 6b 0400 1100 7065726d697373696f6e2064656e696564",
     ),
-    ("110000006e050000000000010000000000", "090000006f05000000"),
+    (
+        "11000000 6e 0500 00000000 01000000 0000",
+        "09000000 6f 0500 0000",
+    ),
 ];
 
 /// The requests of the first three above, and a walk from the public directory to `n`.
@@ -71,19 +75,14 @@ pub const LOOK: &str = "1300000064ffff002000000600395032303030\
     140000006e03000100000002000000010001006e";
 
 /// The last reply of these where `n` is there, as node 4, and was written to once.
-pub const FOUND: &str = "160000006f0300010000010000000400000000000000";
+pub const FOUND: &str = "16000000 6f 0300 0100 00 01000000 0400000000000000";
 
 /// The last reply of these where `n` isn't there: file does not exist.
-pub const GONE: &str = "1c0000006b0300130066696c6520646f6573206e6f74206578697374";
-
-/// The bytes of hexadecimal digits.
-pub fn bytes(rt: &impl Abort, alloc: Global, digits: &str) -> Vec<u8, Global> {
-    hex::decode(alloc, digits).expect(rt, "hexadecimal digits")
-}
+pub const GONE: &str = "1c000000 6b 0300 1300 66696c6520646f6573206e6f74206578697374";
 
 /// Bytes after another text's, both of hexadecimal digits.
 pub fn add(rt: &impl Abort, alloc: Global, front: &mut Vec<u8, Global>, digits: &str) {
-    let behind = bytes(rt, alloc, digits);
+    let behind = bytes_of(rt, alloc, digits);
     assert!(rt; front.extend_from_slice(behind.as_slice()).is_ok());
 }
 

@@ -4,7 +4,7 @@ use crate::rows::{Row, VERSION};
 use crate::serving::{connect, is_answered, new_guard, serve, stream_of};
 
 // A version and a flush.
-const SMALL: [Row; 2] = [VERSION, ("090000006c02000100", "070000006d0200")];
+const SMALL: [Row; 2] = [VERSION, ("09000000 6c 0200 0100", "07000000 6d 0200")];
 
 // What this takes of real memory is told in docs/COSTS.md.
 #[test]

@@ -3,6 +3,7 @@
 
 use crate::exchange::{Exchange, exchange, is_reply, room, send};
 use crate::worlds::{ATTACH, Bind, VERSION, exporter, in_session};
+use p9_digits::bytes_of;
 use p9_export::{Export, OpenError};
 use p9_index::IndexTree;
 use p9_refusing::{Refusing, refuse_each};
@@ -99,7 +100,7 @@ pub fn is_answered<T: Tree>(
     reply: &mut [u8],
 ) -> bool {
     let (session, request, wanted) = row;
-    let frame = hex::decode(alloc, request).expect(rt, "hexadecimal digits");
+    let frame = bytes_of(rt, alloc, request);
     let size = send(rt, export, session, now, frame.as_slice(), reply);
     let reply = reply.get(..size).expect(rt, "bytes");
     if is_refusal(frame.as_slice(), reply) {

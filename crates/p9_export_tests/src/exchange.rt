@@ -1,5 +1,6 @@
 //! Frames and their replies.
 
+use p9_digits::bytes_of;
 use p9_export::{Export, is_frame};
 use p9_tree::Tree;
 use p9_wire::MSIZE_MAX;
@@ -40,7 +41,7 @@ pub fn exchange<T: Tree>(
     reply: &mut [u8],
 ) {
     let (session, request, wanted) = exchange;
-    let frame = hex::decode(alloc, request).expect(rt, "hexadecimal digits");
+    let frame = bytes_of(rt, alloc, request);
     let size = send(rt, export, session, now, frame.as_slice(), reply);
     is_reply(rt, alloc, reply.get(..size).expect(rt, "bytes"), wanted);
 }
@@ -61,8 +62,8 @@ pub fn exchange_all<T: Tree>(
 
 /// Compares a reply with hexadecimal digits.
 pub fn is_reply(rt: &impl Abort, alloc: Global, reply: &[u8], wanted: &str) {
-    let text = hex::encode(alloc, reply).expect(rt, "a text");
-    assert_eq!(rt; text.as_str(), wanted);
+    let wanted = bytes_of(rt, alloc, wanted);
+    assert_eq!(rt; reply, wanted.as_slice());
 }
 
 /// Reads a fid of session 1, and returns the length of the reply.

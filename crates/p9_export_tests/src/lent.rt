@@ -4,6 +4,7 @@
 use crate::exchange::{room, send};
 use crate::worlds::{SMALL, begin, exporter};
 use linked_list_allocator::LocalHeap;
+use p9_digits::bytes_of;
 use p9_export::Export;
 use p9_index::IndexTree;
 use p9_tree::{PlainTree, Tree};
@@ -20,19 +21,19 @@ struct Work<'a> {
 // Fid 1 is opened at /a/f, and ends by a clunk.
 const CLUNK: Work<'static> = Work {
     takes: "170000006e020000000000010000000200010061010066\n0c0000007003000100000002",
-    gives: "0b00000078050001000000",
+    gives: "0b000000 78 0500 01000000",
 };
 
 // A file is made in /a, gets 9,001 bytes, and is removed.
 const REMOVE: Work<'static> = Work {
     takes: "140000006e010000000000010000000100010061\n130000007201000100000001006ea401000002\n\
         180000007601000100000028230000000000000100000021",
-    gives: "0b0000007a030001000000",
+    gives: "0b000000 7a 0300 01000000",
 };
 
 // Fid 1 is at /a, and a version ends it and fid 0, which glenda attaches again.
 const VERSION: Work<'static> = Work {
-    takes: "140000006e010000000000010000000100010061",
+    takes: "14000000 6e 0100 00000000 01000000 0100 0100 61",
     gives: "1300000064ffff002000000600395032303030\n\
         1900000068010000000000ffffffff0600676c656e64610000",
 };
@@ -46,7 +47,7 @@ fn succeed<T: Tree>(
     reply: &mut [u8],
 ) {
     for request in requests.lines() {
-        let frame = hex::decode(alloc, request).expect(rt, "hexadecimal digits");
+        let frame = bytes_of(rt, alloc, request);
         let size = send(rt, export, 1, 0, frame.as_slice(), reply);
         let reply = reply.get(..size).expect(rt, "a reply");
         assert!(rt; is_answer(frame.as_slice(), reply), "{request}");

@@ -61,14 +61,14 @@ fn node(number: u64) -> NodeRef {
 
 /// A client asks for an msize of 8,192.
 pub const VERSION: (&str, &str) = (
-    "1300000064ffff002000000600395032303030",
-    "1300000065ffff002000000600395032303030",
+    "13000000 64 ffff 00200000 0600 395032303030",
+    "13000000 65 ffff 00200000 0600 395032303030",
 );
 
 /// Glenda attaches fid 0.
 pub const ATTACH: (&str, &str) = (
-    "1900000068010000000000ffffffff0600676c656e64610000",
-    "1400000069010080000000000000000000000000",
+    "19000000 68 0100 00000000 ffffffff 0600 676c656e6461 0000",
+    "14000000 69 0100 80 00000000 0000000000000000",
 );
 
 /// A session with its version, and glenda's fid 0 at the root.

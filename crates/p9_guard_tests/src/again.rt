@@ -4,6 +4,7 @@
 use crate::refusals::{is_refusal, may_run_out};
 use crate::scripts::{SCRIPTS, Script, Step, step_of};
 use crate::worlds::scripted;
+use p9_digits::bytes_of;
 use p9_export::{OpenError, is_frame};
 use p9_guard::Guard;
 use p9_index::IndexTree;
@@ -68,10 +69,10 @@ fn step_again<T: Tree>(
             request,
             reply: wanted,
         } => {
-            let frame = hex::decode(alloc, request).expect(rt, "hexadecimal digits");
+            let frame = bytes_of(rt, alloc, request);
             let size = answer_again(rt, guard, session, frame.as_slice(), now, reply);
-            let told = hex::encode(alloc, reply.get(..size).expect(rt, "a reply"));
-            assert_eq!(rt; told.expect(rt, "a text").as_str(), wanted);
+            let wanted = bytes_of(rt, alloc, wanted);
+            assert_eq!(rt; reply.get(..size), Some(wanted.as_slice()));
         }
     }
 }

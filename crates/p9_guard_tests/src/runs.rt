@@ -1,6 +1,7 @@
 //! Scripts as lists of events.
 
 use crate::scripts::{Script, Step, step_of};
+use p9_digits::bytes_of;
 use p9_export::Event;
 use std::alloc::Global;
 use std::process::Abort;
@@ -26,11 +27,6 @@ impl Run {
         assert!(rt; self.events.push(event).is_ok());
         assert!(rt; self.replies.extend_from_slice(reply).is_ok());
     }
-}
-
-/// The bytes of hexadecimal digits.
-pub fn bytes_of(rt: &impl Abort, alloc: Global, digits: &str) -> Vec<u8, Global> {
-    hex::decode(alloc, digits).expect(rt, "hexadecimal digits")
 }
 
 /// The whole script.

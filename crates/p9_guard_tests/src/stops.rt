@@ -4,10 +4,11 @@
 //! the reply `out of memory`.
 
 use crate::refusals::{is_refusal, may_run_out};
-use crate::runs::{Run, bytes_of, whole};
+use crate::runs::{Run, whole};
 use crate::scripts::{SCRIPTS, Script, Step, step_of};
 use crate::worlds::scripted;
 use byteorder::{ByteOrder, LittleEndian};
+use p9_digits::bytes_of;
 use p9_export::Event;
 use p9_guard::{Guard, Stopped};
 use p9_index::IndexTree;

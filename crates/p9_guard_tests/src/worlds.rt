@@ -3,6 +3,7 @@
 use crate::scripts::Script;
 use p9_base::NodeRef;
 use p9_cert::{Certificate, read_cert};
+use p9_digits::bytes_of;
 use p9_export::Event;
 use p9_guard::Guard;
 use p9_space::{MountTable, Order};
@@ -41,14 +42,14 @@ pub const CERTIFICATE: &str = "cert 1\ndir 0 0\ndir 0 1\n";
 
 /// A client asks for an msize of 8,192.
 const VERSION: Row = (
-    "1300000064ffff002000000600395032303030",
-    "1300000065ffff002000000600395032303030",
+    "13000000 64 ffff 00200000 0600 395032303030",
+    "13000000 65 ffff 00200000 0600 395032303030",
 );
 
 /// Glenda attaches fid 0.
 const ATTACH: Row = (
-    "1900000068010000000000ffffffff0600676c656e64610000",
-    "1400000069010080000000000000000000000000",
+    "19000000 68 0100 00000000 ffffffff 0600 676c656e6461 0000",
+    "14000000 69 0100 80 00000000 0000000000000000",
 );
 
 /// The world of a text, read again where an allocation failed.
@@ -158,19 +159,22 @@ fn push(rt: &impl Abort, events: &mut Vec<Event<Global>, Global>, event: Event<G
 
 // A frame of session 1.
 fn message(rt: &impl Abort, alloc: Global, frame: &str) -> Event<Global> {
-    let frame = hex::decode(alloc, frame).expect(rt, "hexadecimal digits");
+    let frame = bytes_of(rt, alloc, frame);
     Event::Message(1, frame, 0)
 }
 
 /// What is wanted of these events: the replies of the version, the attach and the rows.
 pub fn replies(rt: &impl Abort, alloc: Global, rows: &[Row]) -> String<Global> {
-    let mut text = String::new(alloc);
-    assert!(rt; text.push_str(VERSION.1).is_ok());
-    assert!(rt; text.push_str(ATTACH.1).is_ok());
+    let mut bytes = bytes_of(rt, alloc, VERSION.1);
+    append(rt, &mut bytes, bytes_of(rt, alloc, ATTACH.1).as_slice());
     for row in rows {
-        assert!(rt; text.push_str(row.1).is_ok());
+        append(rt, &mut bytes, bytes_of(rt, alloc, row.1).as_slice());
     }
-    text
+    hex::encode(alloc, bytes.as_slice()).expect(rt, "a text")
+}
+
+fn append(rt: &impl Abort, bytes: &mut Vec<u8, Global>, more: &[u8]) {
+    assert!(rt; bytes.extend_from_slice(more).is_ok());
 }
 
 /// Does the events, and returns their replies as hexadecimal digits.

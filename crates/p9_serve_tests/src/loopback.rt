@@ -3,6 +3,7 @@
 use crate::rows::Row;
 use mio::net::{TcpListener, TcpStream};
 use p9_commands::served_guard;
+use p9_digits::bytes_of;
 use p9_index::IndexTree;
 use p9_serve::Server;
 use std::alloc::Global;
@@ -175,7 +176,7 @@ pub fn is_ended(rt: &impl Abort, client: &mut TcpStream) -> bool {
     }
 }
 
-/// The bytes of hexadecimal digits.
+/// The bytes of hexadecimal digits, which blanks may part.
 pub fn bytes(rt: &(impl Abort + AllocGlobal), digits: &str) -> Vec<u8> {
-    hex::decode(rt.alloc(), digits).expect(rt, "hexadecimal digits")
+    bytes_of(rt, rt.alloc(), digits)
 }
