@@ -205,6 +205,7 @@ module _ (setting : Setting) (forest : List Server) (session : Session) (now fid
           (need-then (nat_lt (next_of target.server forest) next_max) QidsUsedUp _ _
           ∙ ap (need (nat_lt (next_of target.server forest) next_max) QidsUsedUp)
           (need-then (nat_lt (length v.trail) places_max) PathTooDeep _ _))))
+
       among : (v : Fid) (asked : Asked)
           → and_then (target_among forest (members_of (here v.trail) setting.table))
           (created_in setting forest session now fid v asked)

@@ -1,10 +1,15 @@
 -- What the functions that read a directory give.
-use Rattle.std.specs.Prelude.{◌≡◌, ℕ, ◌<◌, ◌≤◌, nat_lt, List, ◌++◌, Option, Some, None, length, take}
-use Rattle.std.specs.Prelude.{drop}
+use Rattle.std.specs.Prelude.{◌≡◌, ℕ, ◌<◌, ◌≤◌, nat_lt, List, [], ◌++◌, Option, Some, None, length}
+use Rattle.std.specs.Prelude.{Ok, drop, take}
 use Rattle.std.specs.List.{flat_map}
 use Rattle.p9_base.specs.declared.node_ref.NodeRef.{NodeRef}
 use Rattle.p9_tree.specs.Node.{Node, is_above}
+use Rattle.p9_wire.specs.Message.{Rread}
 use Rattle.p9_fids.specs.declared.opened.Cursor.{Cursor}
+use Rattle.p9_fids.specs.declared.opened.Opened.{Opened}
+use Rattle.p9_fids.specs.Fid.{changed_fid, opened_as}
+use Rattle.p9_step.specs.State.{Session}
+use Rattle.p9_step.specs.Answer.{Answer}
 use Rattle.p9_step.specs.Listing.{Entry, entry_at, is_behind}
 use Rattle.p9_step.specs.Read.{cursor_after, entry_bytes, fitting}
 use Rattle.p9_export.specs.declared.listing.Given.{Given}
@@ -34,3 +39,12 @@ abbrev pub PutsStat : List ℕ → List ℕ → List ℕ → Option ℕ → Type
 PutsStat bytes old new None = (length old < length bytes) × (new ≡ old)
 PutsStat bytes old new (Some size) =
     (size ≡ length bytes) × (size ≤ length old) × (new ≡ bytes ++ drop size old)
+
+-- a read of a directory gives the bytes, and the fid is open as that from then on
+abbrev pub list_answer : Session → (fid : ℕ) → Opened → List ℕ → Answer
+list_answer session fid opened bytes =
+    Ok (record {
+      changes = [];
+      session = record session { fids = changed_fid fid (opened_as opened) session.fids };
+      reply = Rread bytes;
+    })

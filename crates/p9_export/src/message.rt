@@ -15,7 +15,7 @@ use crate::attach::attach;
 use crate::clunk::clunk;
 use crate::create::{NewFile, create};
 use crate::open::open;
-use crate::read::read;
+use crate::read::{ReadRequest, read};
 use crate::remove::remove;
 use crate::reply::Reply;
 use crate::session::Session;
@@ -96,9 +96,15 @@ pub fn message<T: Tree>(
             let (qid, iounit) = create(setting, forest, session, now, wanted)?;
             Ok(Reply::Message(RMsg::Create { qid, iounit }))
         }
-        TMsg::Read { fid, offset, count } => Ok(Reply::Data(read(
-            setting, forest, session, now, *fid, *offset, *count, buffer,
-        )?)),
+        TMsg::Read { fid, offset, count } => {
+            let wanted = ReadRequest {
+                fid: *fid,
+                offset: *offset,
+                count: *count,
+            };
+            let size = read(setting, forest, session, now, wanted, buffer)?;
+            Ok(Reply::Data(size))
+        }
         TMsg::Write { fid, offset, bytes } => {
             let count = write(setting, forest, session, now, *fid, *offset, bytes)?;
             Ok(Reply::Message(RMsg::Write { count }))

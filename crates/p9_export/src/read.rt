@@ -1,27 +1,44 @@
 //! The answer to a read, as read(5).
 
-ghost use Rattle.std.specs.Prelude.{◌≡◌, ◌==◌, ◌||◌, ◌≤◌, ◌<◌, ◌^◌, false, IfOk, IsSome, length};
-ghost use Rattle.std.specs.Prelude.{map, take};
-ghost use Rattle.p9_base.specs.declared.fault.Fault.TheVariants.{UnknownFid};
-ghost use Rattle.p9_base.specs.Results.{obtain};
-ghost use Rattle.p9_fids.specs.Fid.{fid_at};
+ghost use Rattle.std.specs.Prelude.{◌≡◌, ◌==◌, ◌||◌, ◌≤◌, ◌<◌, ◌^◌, Err, false, IfErr, IfOk, length};
+ghost use Rattle.std.specs.Prelude.{map, take, ℕ};
+ghost use Rattle.p9_fids.specs.Held.{HeldFits};
 ghost use Rattle.p9_tree.specs.Bytes.{read_from};
 ghost use Rattle.p9_tree.specs.Forest.{bytes_of, forest_changed_at};
 ghost use Rattle.p9_tree.specs.Node.{touched};
 ghost use Rattle.p9_export.specs.Held.{SessionFits};
 ghost use Rattle.p9_export.specs.Answers.{Answers, data_reply, replied};
-ghost use Rattle.p9_step.specs.State.{room_of};
+ghost use Rattle.p9_export.specs.Listing.{list_answer};
+ghost use Rattle.p9_step.specs.State.{Session as SessionOf, room_of};
 ghost use Rattle.p9_step.specs.Read.{cursor_at, read_answer, read_dir, readable};
 
 use crate::listing::list;
 use crate::session::Session;
 use crate::setting::Setting;
 use p9_base::{Fault, NodeRef};
-use p9_fids::{Cursor, Opened};
+use p9_fids::{Cursor, Fid, Opened};
 use p9_tree::{Forest, Tree};
 
+/// What a read asks for.
+#[derive(Clone, Copy)]
+pub struct ReadRequest {
+    pub fid: u32,
+    pub offset: u64,
+    /// The most bytes that are given.
+    pub count: u32,
+}
+
+// What a read of a directory gave.
+#[derive(Clone, Copy)]
+struct Listed {
+    // So many bytes at the front of the buffer.
+    size: u32,
+    // What the fid is open for from then on.
+    opened: Opened,
+}
+
 /// Puts what a fid reads at the front of the buffer, and answers how many bytes that is: at most
-/// `count`, and at most [`Session::room`].
+/// the count that is asked for, and at most [`Session::room`].
 ///
 /// A file gives its bytes from the offset on, and the reading of the clock becomes the time when it
 /// was last read (its atime). A directory gives whole stats of the entries of its union that are
@@ -37,9 +54,7 @@ pub fn read<T: Tree>(
     forest: &mut Forest<T>,
     session: &mut Session<T::Alloc>,
     now: u32,
-    fid: u32,
-    offset: u64,
-    count: u32,
+    wanted: ReadRequest,
     buffer: &mut [u8],
 ) -> Result<u32, Fault>
     requires channels { SessionFits setting.now.table session.old }
@@ -48,10 +63,11 @@ pub fn read<T: Tree>(
     ensures size { IfOk result (λ count. count ≤ room_of session.old.session) }
     ensures answer { let old = map T.state forest.old.trees.items in
         let new = map T.state forest.new.trees.items in
-        Answers (read_answer setting.now old session.old.session now fid offset count) false old new
-        session.old.session session.new.session (replied (data_reply buffer.new) result) }
+        Answers (read_answer setting.now old session.old.session now wanted.fid wanted.offset
+        wanted.count) false old new session.old.session session.new.session
+        (replied (data_reply buffer.new) result) }
 {
-    let Some(held) = session.fids.get(fid) else {
+    let Some(held) = session.fids.get(wanted.fid) else {
         return Err(Fault::UnknownFid);
     };
     let Some(opened) = readable(held.opened) else {
@@ -61,19 +77,20 @@ pub fn read<T: Tree>(
     let Some(file) = forest.node(at) else {
         return Err(Fault::PhaseError);
     };
-    let room = count.min(session.room()) as usize;
+    let room = wanted.count.min(session.room()) as usize;
     if file.is_dir() {
-        read_dir(
+        let listed = list_of(
             setting,
             forest,
-            session,
-            fid,
+            held,
             opened,
-            offset,
+            wanted.offset,
             &mut buffer[..room],
-        )
+        )?;
+        session.fids.set_opened(wanted.fid, listed.opened);
+        Ok(listed.size)
     } else {
-        Ok(read_file(forest, now, at, offset, &mut buffer[..room]))
+        Ok(read_file(forest, now, at, wanted.offset, &mut buffer[..room]))
     }
 }
 
@@ -106,31 +123,30 @@ fn read_file<T: Tree>(
     size as u32
 }
 
-// Reads the directory of a fid that is open as said, into the whole buffer.
-fn read_dir<T: Tree>(
+// Lists the directory of a fid that is open as said, into the whole buffer.
+fn list_of<T: Tree>(
     setting: &Setting<T::Alloc>,
     forest: &Forest<T>,
-    session: &mut Session<T::Alloc>,
-    fid: u32,
+    held: &Fid<T::Alloc>,
     opened: Opened,
     offset: u64,
     buffer: &mut [u8],
-) -> Result<u32, Fault>
-    requires channels { SessionFits setting.now.table session.old }
-    requires there { IsSome (fid_at fid session.old.session.fids) }
+) -> Result<Listed, Fault>
+    requires fits { HeldFits setting.now.table held.now }
     requires short { length buffer.old < 2 ^ 32 }
-    ensures channels { SessionFits setting.now.table session.new }
-    ensures size { IfOk result (λ count. count ≤ length buffer.old) }
-    ensures answer { let forest = map T.state forest.now.trees.items in
-        Answers (obtain (fid_at fid session.old.session.fids) UnknownFid
-        (λ v. read_dir setting.now forest session.old.session fid v opened offset
-        (length buffer.old))) false forest forest session.old.session session.new.session (replied
-        (data_reply buffer.new) result) }
+    ensures size { IfOk result (λ listed. listed.size ≤ length buffer.old) }
+    ensures ok { let forest = map T.state forest.now.trees.items in
+        (session : SessionOf) (fid : ℕ) → IfOk result (λ listed.
+        read_dir setting.now forest session fid held.now.fid opened offset (length buffer.old)
+        ≡ list_answer session fid listed.opened (take listed.size buffer.new)) }
+    ensures err { let forest = map T.state forest.now.trees.items in
+        (session : SessionOf) (fid : ℕ) → IfErr result (λ fault.
+        read_dir setting.now forest session fid held.now.fid opened offset (length buffer.old)
+        ≡ Err fault) }
 {
     if !may_begin(offset, &opened) {
         return Err(Fault::BadDirectoryOffset);
     }
-    let held = session.fids.get(fid).unwrap();
     let members = held.channels.members(&setting.table);
     let cursor = cursor_at(offset, &opened);
     let given = list(
@@ -140,13 +156,14 @@ fn read_dir<T: Tree>(
         cursor,
         buffer,
     )?;
-    let next = Opened {
-        next_offset: u128::from(offset) + given.size as u128,
-        cursor: given.cursor,
-        ..opened
-    };
-    session.fids.set_opened(fid, next);
-    Ok(given.size as u32)
+    Ok(Listed {
+        size: given.size as u32,
+        opened: Opened {
+            next_offset: u128::from(offset) + given.size as u128,
+            cursor: given.cursor,
+            ..opened
+        },
+    })
 }
 
 // Whether a read of a directory may begin at the offset.

@@ -1,9 +1,7 @@
-use Rattle.std.proofs.Common.{◌≡◌, ◌++◌, ◌∷◌, [], Ok, Some, map, sym, ap, ◌∙◌}
-use Rattle.p9_tree.specs.Forest.{node_of}
+use Rattle.std.proofs.Common.{◌≡◌, ◌++◌, ◌∷◌, [], map, sym}
 use Rattle.p9_tree.specs.New.{new_node}
 use Rattle.p9_space.specs.Channel.{trail_of}
 use Rattle.p9_step.specs.Create.{created}
-use Rattle.p9_export.specs.Create.{place_in}
 use Rattle.p9_export.proofs.Creates.{plan-adds, plan-is}
 use Rattle.p9_export.proofs.create.plan_in.Goals as goal
 

@@ -1,67 +1,92 @@
-use Rattle.std.proofs.Common.{◌≡◌, ◌≤◌, ◌++◌, arith, false, map, length, take, drop, min, sym, ap}
-use Rattle.std.proofs.Common.{subst, ◌∙◌}
-use Rattle.std.specs.Prelude.{IfOk}
+use Rattle.std.proofs.Common.{◌≡◌, ◌≤◌, ◌++◌, arith, map, length, take, drop, min, sym, ap}
+use Rattle.std.proofs.Common.{refl, ◌∙◌}
 use Rattle.std.proofs.lemmas.List.{length-take-le, take-append-le}
+use Rattle.std.proofs.lemmas.Result.{err_from_is_err_and}
 use Rattle.p9_base.specs.declared.node_ref.NodeRef.{NodeRef}
 use Rattle.p9_tree.specs.Bytes.{read_from}
 use Rattle.p9_tree.specs.Forest.{bytes_of, forest_changed_at, node_of}
 use Rattle.p9_tree.specs.Node.{touched}
-use Rattle.p9_fids.specs.Fid.{fid_at}
-use Rattle.p9_step.specs.Answer.{Answer}
-use Rattle.p9_export.specs.Answers.{Answers, data_reply, replied}
+use Rattle.p9_fids.specs.Fid.{changed_fid, fid_at, opened_as}
 use Rattle.p9_step.specs.State.{room_of}
-use Rattle.p9_step.specs.Read.{read_answer, readable}
-use Rattle.p9_export.proofs.DirectoryReads.{IsReadable, data_kept, reads_dir, reads_file}
+use Rattle.p9_step.specs.Read.{readable}
+use Rattle.p9_export.proofs.DirectoryReads.{IsReadable, dir_read, dir_refused, reads_file}
 use Rattle.p9_export.proofs.read.read.Goals as goal
 
-pub returns-then-is_dir-clause-answer : goal.returns-then-is_dir-clause-answer
-returns-then-is_dir-clause-answer g c =
+pub returns-in_err-listed-clause-answer : goal.returns-in_err-listed-clause-answer
+returns-in_err-listed-clause-answer g c =
     let forest = map g.T.Tree.state c.args.forest.now.trees.items in
-    let r : IsReadable c.args.setting.now forest c.args.session.now.session c.args.fid c.in-Some.held.now.fid
+    let s = c.args.session.now.session in
+    let r : IsReadable c.args.setting.now forest s c.args.wanted.fid c.in-Some.held.now.fid
     c.in-Some-readable.opened c.in-Some-node.file.now = record {
-      there = sym (ap (λ s. fid_at c.args.fid s.session.fids) c.session.view_is) ∙ sym c.in-Some.ensures.fid;
+      there = sym (ap (λ s. fid_at c.args.wanted.fid s.session.fids) c.session.view_is) ∙ sym c.in-Some.ensures.fid;
       open_as = sym (ap (λ w. readable w.fid.opened) c.held.view_is) ∙ sym c.in-Some-readable.ensures;
       alive =
           sym (ap (λ (at : NodeRef). node_of at forest) c.file-at.ensures)
           ∙ sym c.in-Some-node.ensures;
     } in
-    let room_is : c.min-room.result ≡ min c.args.count (room_of c.args.session.now.session) =
-    c.min-room.ensures ∙ ap (min c.args.count) c.room.ensures in
+    let room_is : c.min-room.result ≡ min c.args.wanted.count (room_of s) =
+    c.min-room.ensures ∙ ap (min c.args.wanted.count) c.room.ensures in
     let enough = c.requires.room in
     let fits : c.min-room.result ≤ length c.args.buffer.now = omega (arith, room_is, enough) in
     let long : length (take c.min-room.result c.args.buffer.now) ≡ c.min-room.result =
     length-take-le c.min-room.result c.args.buffer.now fits in
-    let same =
-    reads_dir c.args.setting.now forest c.args.session.now.session c.args.now c.args.fid c.args.offset
-    c.args.count c.in-Some.held.now.fid c.in-Some-readable.opened c.in-Some-node.file.now r
-    (length (take c.min-room.result c.args.buffer.now))
-    (sym c.is_dir.ensures ∙ c.if-is_dir.true) (long ∙ room_is) in
-    let kept = c.read_dir.auto.buffer in
-    let front =
-    data_kept c.read_dir.new.buffer (drop c.min-room.result c.args.buffer.now) c.read_dir.result
-    (subst (λ n. IfOk c.read_dir.result (λ count. count ≤ n)) (sym kept)
-    c.read_dir.ensures.size) in
-    subst (λ reply. Answers
-    (read_answer c.args.setting.now forest c.args.session.now.session c.args.now c.args.fid
-    c.args.offset c.args.count) false forest forest c.args.session.now.session c.read_dir.new.session.session
-    reply) (sym front)
-    (subst (λ (answer : Answer). Answers answer false forest forest c.args.session.now.session
-    c.read_dir.new.session.session (replied (data_reply c.read_dir.new.buffer) c.read_dir.result))
-    (sym same) c.read_dir.ensures.answer)
+    let size = length (take c.min-room.result c.args.buffer.now) in
+    let p = err_from_is_err_and c.from_residual.result c.from_residual.ensures.1 in
+    dir_refused c.args.setting.now forest s c.args.now c.args.wanted.fid c.args.wanted.offset
+    c.args.wanted.count c.in-Some.held.now.fid c.in-Some-readable.opened c.in-Some-node.file.now r
+    size p.0 c.from_residual.result
+    (c.list_of.new.buffer ++ drop c.min-room.result c.args.buffer.now)
+    (sym c.is_dir.ensures ∙ c.if-is_dir.true) (long ∙ room_is)
+    (rw p.2 (c.in_err-listed.ensures.err s c.args.wanted.fid)) p.1
 
-pub returns-else-is_dir-clause-answer : goal.returns-else-is_dir-clause-answer
-returns-else-is_dir-clause-answer g c =
+pub returns-in_ok-listed-clause-answer : goal.returns-in_ok-listed-clause-answer
+returns-in_ok-listed-clause-answer g c =
     let forest = map g.T.Tree.state c.args.forest.now.trees.items in
-    let r : IsReadable c.args.setting.now forest c.args.session.now.session c.args.fid c.in-Some.held.now.fid
+    let s = c.args.session.now.session in
+    let r : IsReadable c.args.setting.now forest s c.args.wanted.fid c.in-Some.held.now.fid
     c.in-Some-readable.opened c.in-Some-node.file.now = record {
-      there = sym (ap (λ s. fid_at c.args.fid s.session.fids) c.session.view_is) ∙ sym c.in-Some.ensures.fid;
+      there = sym (ap (λ s. fid_at c.args.wanted.fid s.session.fids) c.session.view_is) ∙ sym c.in-Some.ensures.fid;
       open_as = sym (ap (λ w. readable w.fid.opened) c.held.view_is) ∙ sym c.in-Some-readable.ensures;
       alive =
           sym (ap (λ (at : NodeRef). node_of at forest) c.file-at.ensures)
           ∙ sym c.in-Some-node.ensures;
     } in
-    let room_is : c.min-room.result ≡ min c.args.count (room_of c.args.session.now.session) =
-    c.min-room.ensures ∙ ap (min c.args.count) c.room.ensures in
+    let room_is : c.min-room.result ≡ min c.args.wanted.count (room_of s) =
+    c.min-room.ensures ∙ ap (min c.args.wanted.count) c.room.ensures in
+    let enough = c.requires.room in
+    let fits : c.min-room.result ≤ length c.args.buffer.now = omega (arith, room_is, enough) in
+    let long : length (take c.min-room.result c.args.buffer.now) ≡ c.min-room.result =
+    length-take-le c.min-room.result c.args.buffer.now fits in
+    let size = length (take c.min-room.result c.args.buffer.now) in
+    let short = c.in_ok-listed.ensures.size in
+    let kept = c.list_of.auto.buffer in
+    let within : c.in_ok-listed.listed.size ≤ length c.list_of.new.buffer = omega (arith, short, kept) in
+    let fids_are : c.set_opened.new.self.fids
+    ≡ changed_fid c.args.wanted.fid (opened_as c.in_ok-listed.listed.opened) c.session.inside.fids.fids =
+    c.set_opened.ensures.opened in
+    let went : record { msize = c.session.inside.msize; fids = c.set_opened.new.self.fids }
+    ≡ record s { fids = changed_fid c.args.wanted.fid (opened_as c.in_ok-listed.listed.opened) s.fids } =
+    rw (← c.session.view_is, fids_are) refl in
+    dir_read c.args.setting.now forest s c.args.now c.args.wanted.fid c.args.wanted.offset
+    c.args.wanted.count c.in-Some.held.now.fid c.in-Some-readable.opened c.in-Some-node.file.now r
+    size c.in_ok-listed.listed.size c.in_ok-listed.listed.opened c.list_of.new.buffer
+    (drop c.min-room.result c.args.buffer.now) _
+    (sym c.is_dir.ensures ∙ c.if-is_dir.true) (long ∙ room_is) within
+    (c.in_ok-listed.ensures.ok s c.args.wanted.fid) went
+
+pub returns-else-is_dir-clause-answer : goal.returns-else-is_dir-clause-answer
+returns-else-is_dir-clause-answer g c =
+    let forest = map g.T.Tree.state c.args.forest.now.trees.items in
+    let r : IsReadable c.args.setting.now forest c.args.session.now.session c.args.wanted.fid c.in-Some.held.now.fid
+    c.in-Some-readable.opened c.in-Some-node.file.now = record {
+      there = sym (ap (λ s. fid_at c.args.wanted.fid s.session.fids) c.session.view_is) ∙ sym c.in-Some.ensures.fid;
+      open_as = sym (ap (λ w. readable w.fid.opened) c.held.view_is) ∙ sym c.in-Some-readable.ensures;
+      alive =
+          sym (ap (λ (at : NodeRef). node_of at forest) c.file-at.ensures)
+          ∙ sym c.in-Some-node.ensures;
+    } in
+    let room_is : c.min-room.result ≡ min c.args.wanted.count (room_of c.args.session.now.session) =
+    c.min-room.ensures ∙ ap (min c.args.wanted.count) c.room.ensures in
     let enough = c.requires.room in
     let fits : c.min-room.result ≤ length c.args.buffer.now = omega (arith, room_is, enough) in
     let long : length (take c.min-room.result c.args.buffer.now) ≡ c.min-room.result =
@@ -69,15 +94,15 @@ returns-else-is_dir-clause-answer g c =
     let size = c.read_file.ensures.size in
     let kept = c.read_file.auto.buffer in
     let within : c.read_file.result ≤ length c.read_file.new.buffer = omega (arith, size, kept) in
-    reads_file c.args.setting.now forest c.args.session.now.session c.args.now c.args.fid c.args.offset
-    c.args.count c.in-Some.held.now.fid c.in-Some-readable.opened c.in-Some-node.file.now r
+    reads_file c.args.setting.now forest c.args.session.now.session c.args.now c.args.wanted.fid c.args.wanted.offset
+    c.args.wanted.count c.in-Some.held.now.fid c.in-Some-readable.opened c.in-Some-node.file.now r
     (length (take c.min-room.result c.args.buffer.now)) c.read_file.result
     (c.read_file.new.buffer ++ drop c.min-room.result c.args.buffer.now)
     (map g.T.Tree.state c.read_file.new.forest.trees.items)
     (sym c.is_dir.ensures ∙ c.if-is_dir.false) (long ∙ room_is)
     (take-append-le c.read_file.result c.read_file.new.buffer
     (drop c.min-room.result c.args.buffer.now) within ∙ c.read_file.ensures.bytes
-    ∙ ap (λ (at : NodeRef). read_from c.args.offset
+    ∙ ap (λ (at : NodeRef). read_from c.args.wanted.offset
     (length (take c.min-room.result c.args.buffer.now)) (bytes_of at forest)) c.file-at.ensures)
     (c.read_file.ensures.forest
     ∙ ap (λ (at : NodeRef). forest_changed_at at (touched c.args.now) forest) c.file-at.ensures)
