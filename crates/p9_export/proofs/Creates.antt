@@ -115,10 +115,6 @@ module _ (setting : Setting) (forest : List Server) (v : Fid) (name : List ℕ) 
         place = all.4;
       }
 
-  -- a place more is reached from the fid
-  pub placed-short : place_in setting forest v name target dir ≡ Ok at → length v.trail < places_max
-  placed-short placed = (permits placed).short
-
 module _ (setting : Setting) (forest : List Server) (v : Fid) (now : ℕ) (asked : Asked)
     (target : NodeRef) (dir : Node) (at : NodeRef) (new : New)
     (found : node_of target forest ≡ Some dir)
