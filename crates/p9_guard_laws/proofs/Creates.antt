@@ -243,4 +243,4 @@ module _ (scene : Scene) where
       ) (agrees_need scene (is_none (child_in t name scene.forest)) FileExists _ _ (λ _.
       agrees_need scene (nat_lt (next_of t.server scene.forest) next_max) QidsUsedUp _ _ (λ _.
       agrees_need scene (nat_lt (length v.trail) places_max) PathTooDeep _ _ (λ _.
-      creation-agrees session now fid v t d name asked opening h at s pass e open_dir)))))))))))))))
+      creation-agrees session now fid v t d name asked opening h at s pass e open_dir))))))))))))))))))
