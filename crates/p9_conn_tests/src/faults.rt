@@ -50,10 +50,14 @@ fn work(
 
 // A third session looks for the file, and the last of its replies is this.
 fn look(rt: &impl Abort, alloc: Global, guard: &mut Served, last: &str) {
-    let stream = Scripted::new(alloc, bytes_of(rt, alloc, LOOK), 100);
+    let stream = Scripted::new(
+        alloc,
+        bytes_of(alloc, LOOK).expect(rt, "hexadecimal digits"),
+        100,
+    );
     let mut conns = [connect(rt, alloc, guard, 3, stream)];
     serve(guard, &mut conns);
-    let wanted = bytes_of(rt, alloc, last);
+    let wanted = bytes_of(alloc, last).expect(rt, "hexadecimal digits");
     assert!(rt; conns[0].stream().output().ends_with(wanted.as_slice()));
 }
 

@@ -13,7 +13,7 @@ use std::process::Abort;
 
 // A stream of the work, from which three bytes were read and to which three were written before.
 fn used_stream(rt: &impl Abort, alloc: Global) -> Scripted {
-    let mut input = bytes_of(rt, alloc, "010203");
+    let mut input = bytes_of(alloc, "010203").expect(rt, "hexadecimal digits");
     let work = requests(rt, alloc, &WORK);
     assert!(rt; input.extend_from_slice(work.as_slice()).is_ok());
     let mut stream = Scripted::new(alloc, input, 3);
@@ -36,7 +36,7 @@ fn does_work(rt: &impl Abort, alloc: Global, conn: Conn<Scripted, &Refusing<Glob
     assert_eq!(rt; guard.open(7), Ok(()));
     let mut conns = [conn];
     serve(&mut guard, &mut conns);
-    let mut wanted = bytes_of(rt, alloc, "040506");
+    let mut wanted = bytes_of(alloc, "040506").expect(rt, "hexadecimal digits");
     let work = replies(rt, alloc, &WORK);
     assert!(rt; wanted.extend_from_slice(work.as_slice()).is_ok());
     assert!(rt; conns[0].stream().output() == wanted.as_slice());

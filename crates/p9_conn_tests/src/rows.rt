@@ -82,7 +82,7 @@ pub const GONE: &str = "1c000000 6b 0300 1300 66696c6520646f6573206e6f7420657869
 
 /// Bytes after another text's, both of hexadecimal digits.
 pub fn add(rt: &impl Abort, alloc: Global, front: &mut Vec<u8, Global>, digits: &str) {
-    let behind = bytes_of(rt, alloc, digits);
+    let behind = bytes_of(alloc, digits).expect(rt, "hexadecimal digits");
     assert!(rt; front.extend_from_slice(behind.as_slice()).is_ok());
 }
 

@@ -100,7 +100,7 @@ pub fn is_answered<T: Tree>(
     reply: &mut [u8],
 ) -> bool {
     let (session, request, wanted) = row;
-    let frame = bytes_of(rt, alloc, request);
+    let frame = bytes_of(alloc, request).expect(rt, "hexadecimal digits");
     let size = send(rt, export, session, now, frame.as_slice(), reply);
     let reply = reply.get(..size).expect(rt, "bytes");
     if is_refusal(frame.as_slice(), reply) {

@@ -41,7 +41,7 @@ pub fn exchange<T: Tree>(
     reply: &mut [u8],
 ) {
     let (session, request, wanted) = exchange;
-    let frame = bytes_of(rt, alloc, request);
+    let frame = bytes_of(alloc, request).expect(rt, "hexadecimal digits");
     let size = send(rt, export, session, now, frame.as_slice(), reply);
     is_reply(rt, alloc, reply.get(..size).expect(rt, "bytes"), wanted);
 }
@@ -62,7 +62,7 @@ pub fn exchange_all<T: Tree>(
 
 /// Compares a reply with hexadecimal digits.
 pub fn is_reply(rt: &impl Abort, alloc: Global, reply: &[u8], wanted: &str) {
-    let wanted = bytes_of(rt, alloc, wanted);
+    let wanted = bytes_of(alloc, wanted).expect(rt, "hexadecimal digits");
     assert_eq!(rt; reply, wanted.as_slice());
 }
 

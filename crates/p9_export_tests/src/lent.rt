@@ -47,7 +47,7 @@ fn succeed<T: Tree>(
     reply: &mut [u8],
 ) {
     for request in requests.lines() {
-        let frame = bytes_of(rt, alloc, request);
+        let frame = bytes_of(alloc, request).expect(rt, "hexadecimal digits");
         let size = send(rt, export, 1, 0, frame.as_slice(), reply);
         let reply = reply.get(..size).expect(rt, "a reply");
         assert!(rt; is_answer(frame.as_slice(), reply), "{request}");

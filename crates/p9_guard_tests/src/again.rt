@@ -69,9 +69,9 @@ fn step_again<T: Tree>(
             request,
             reply: wanted,
         } => {
-            let frame = bytes_of(rt, alloc, request);
+            let frame = bytes_of(alloc, request).expect(rt, "hexadecimal digits");
             let size = answer_again(rt, guard, session, frame.as_slice(), now, reply);
-            let wanted = bytes_of(rt, alloc, wanted);
+            let wanted = bytes_of(alloc, wanted).expect(rt, "hexadecimal digits");
             assert_eq!(rt; reply.get(..size), Some(wanted.as_slice()));
         }
     }

@@ -40,9 +40,15 @@ pub fn whole(rt: &impl Abort, alloc: Global, script: &Script) -> Run {
                 request,
                 reply,
             } => {
-                let frame = bytes_of(rt, alloc, request);
+                let frame = bytes_of(alloc, request).expect(rt, "hexadecimal digits");
                 let event = Event::Message(session, frame, script.now);
-                run.push(rt, event, bytes_of(rt, alloc, reply).as_slice());
+                run.push(
+                    rt,
+                    event,
+                    bytes_of(alloc, reply)
+                        .expect(rt, "hexadecimal digits")
+                        .as_slice(),
+                );
             }
         }
     }

@@ -65,8 +65,12 @@ fn kept<T: Tree>(
                 request,
                 ..
             } => {
-                let frame = bytes_of(rt, alloc, request);
-                let event = Event::Message(session, bytes_of(rt, alloc, request), script.now);
+                let frame = bytes_of(alloc, request).expect(rt, "hexadecimal digits");
+                let event = Event::Message(
+                    session,
+                    bytes_of(alloc, request).expect(rt, "hexadecimal digits"),
+                    script.now,
+                );
                 if guard.live(session) {
                     rest = keep_message(rt, &mut kept, event, frame.as_slice(), rest);
                 } else {

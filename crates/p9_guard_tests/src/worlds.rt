@@ -159,16 +159,28 @@ fn push(rt: &impl Abort, events: &mut Vec<Event<Global>, Global>, event: Event<G
 
 // A frame of session 1.
 fn message(rt: &impl Abort, alloc: Global, frame: &str) -> Event<Global> {
-    let frame = bytes_of(rt, alloc, frame);
+    let frame = bytes_of(alloc, frame).expect(rt, "hexadecimal digits");
     Event::Message(1, frame, 0)
 }
 
 /// What is wanted of these events: the replies of the version, the attach and the rows.
 pub fn replies(rt: &impl Abort, alloc: Global, rows: &[Row]) -> String<Global> {
-    let mut bytes = bytes_of(rt, alloc, VERSION.1);
-    append(rt, &mut bytes, bytes_of(rt, alloc, ATTACH.1).as_slice());
+    let mut bytes = bytes_of(alloc, VERSION.1).expect(rt, "hexadecimal digits");
+    append(
+        rt,
+        &mut bytes,
+        bytes_of(alloc, ATTACH.1)
+            .expect(rt, "hexadecimal digits")
+            .as_slice(),
+    );
     for row in rows {
-        append(rt, &mut bytes, bytes_of(rt, alloc, row.1).as_slice());
+        append(
+            rt,
+            &mut bytes,
+            bytes_of(alloc, row.1)
+                .expect(rt, "hexadecimal digits")
+                .as_slice(),
+        );
     }
     hex::encode(alloc, bytes.as_slice()).expect(rt, "a text")
 }

@@ -178,5 +178,5 @@ pub fn is_ended(rt: &impl Abort, client: &mut TcpStream) -> bool {
 
 /// The bytes of hexadecimal digits, which blanks may part.
 pub fn bytes(rt: &(impl Abort + AllocGlobal), digits: &str) -> Vec<u8> {
-    bytes_of(rt, rt.alloc(), digits)
+    bytes_of(rt.alloc(), digits).expect(rt, "hexadecimal digits")
 }
