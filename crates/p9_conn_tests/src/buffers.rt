@@ -65,8 +65,9 @@ const WRITE: &str = "374e0000 76 0400 01000000 0000000000000000 204e0000";
 
 const WRITTEN: &str = "0b000000 77 0400 204e0000";
 
-const READS: &str = "17000000740500010000000000000000000000e02e0000\
-    1700000074060001000000e02e000000000000e02e0000";
+const READS: &str = "\
+    17000000 74 0500 01000000 0000000000000000 e02e0000 \
+    17000000 74 0600 01000000 e02e000000000000 e02e0000";
 
 // Bytes that differ from their neighbours.
 fn data_of(rt: &impl Abort, alloc: Global, count: usize) -> Vec<u8, Global> {

@@ -125,8 +125,8 @@ fn a_bound_directory_is_walked_at_each_refusal(rt: HostRuntime) {
             ),
             (
                 1,
-                "3f0000007e04000100000032003000ffffffffffffffffffffffffffffffffffffffffffffffffff\
-                 ffffffffffffffffffffffffffff01006b000000000000",
+                "3f000000 7e 0400 01000000 3200 3000 ffff ffffffff ff ffffffff ffffffffffffffff \
+                ffffffff ffffffff ffffffff ffffffffffffffff 0100 6b 0000 0000 0000",
                 "07000000 7f 0400",
             ),
             (
@@ -187,8 +187,9 @@ fn a_file_is_appended_to_at_each_refusal(rt: HostRuntime) {
             (
                 1,
                 "0b000000 7c 0700 01000000",
-                "4f0000007d0700460044000000000000004002000000040000000000000080010040000000000000\
-                 0000040000000000000003006c6f670600676c656e64610600676c656e64610600676c656e6461",
+                "4f000000 7d 0700 4600 4400 0000 00000000 40 02000000 0400000000000000 80010040 \
+                00000000 00000000 0400000000000000 0300 6c6f67 0600 676c656e6461 0600 676c656e6461 \
+                0600 676c656e6461",
             ),
         ],
     };
@@ -211,26 +212,26 @@ fn a_wstat_is_done_again_at_each_refusal(rt: HostRuntime) {
             ),
             (
                 1,
-                "3e0000007e03000100000031002f00ffffffffffffffffffffffffffffffffffffffffffffffffff\
-                 ffffffffffffffffffffffffffff0000000000000000",
+                "3e000000 7e 0300 01000000 3100 2f00 ffff ffffffff ff ffffffff ffffffffffffffff \
+                ffffffff ffffffff ffffffff ffffffffffffffff 0000 0000 0000 0000",
                 "07000000 7f 0300",
             ),
             (
                 1,
-                "3e0000007e04000100000031002f00ffffffffffffffffffffffffffffffffffffffffffffff0500\
-                 0000ffffffffffffffffffffffff0000000000000000",
+                "3e000000 7e 0400 01000000 3100 2f00 ffff ffffffff ff ffffffff ffffffffffffffff \
+                ffffffff 05000000 ffffffff ffffffffffffffff 0000 0000 0000 0000",
                 "1f000000 6b 0400 1600 7773746174206f662061206669786564206669656c64",
             ),
             (
                 1,
-                "3f0000007e05000100000032003000ffffffffffffffffffffffffffffffffffffffffffffffffff\
-                 ffffffffffffffffffffffffffff010062000000000000",
+                "3f000000 7e 0500 01000000 3200 3000 ffff ffffffff ff ffffffff ffffffffffffffff \
+                ffffffff ffffffff ffffffff ffffffffffffffff 0100 62 0000 0000 0000",
                 "1c000000 6b 0500 1300 66696c6520616c726561647920657869737473",
             ),
             (
                 1,
-                "3f0000007e06000100000032003000ffffffffffffffffffffffffffffffffffffffffffffffffff\
-                 ffffffffffffffffffffffffffff010067000000000000",
+                "3f000000 7e 0600 01000000 3200 3000 ffff ffffffff ff ffffffff ffffffffffffffff \
+                ffffffff ffffffff ffffffff ffffffffffffffff 0100 67 0000 0000 0000",
                 "07000000 7f 0600",
             ),
             (
@@ -241,20 +242,22 @@ fn a_wstat_is_done_again_at_each_refusal(rt: HostRuntime) {
             (
                 1,
                 "0b000000 7c 0800 02000000",
-                "4d0000007d08004400420000000000000080010000000100000000000000ed010080070000000700\
-                 000000000000000000000100610600676c656e64610600676c656e64610600676c656e6461",
+                "4d000000 7d 0800 4400 4200 0000 00000000 80 01000000 0100000000000000 ed010080 \
+                07000000 07000000 0000000000000000 0100 61 0600 676c656e6461 0600 676c656e6461 \
+                0600 676c656e6461",
             ),
             (
                 1,
-                "3e0000007e09000100000031002f00ffffffffffffffffffffffffffffffffffffffffffffffffff\
-                 ffffffffffff88130000000000000000000000000000",
+                "3e000000 7e 0900 01000000 3100 2f00 ffff ffffffff ff ffffffff ffffffffffffffff \
+                ffffffff ffffffff ffffffff 8813000000000000 0000 0000 0000 0000",
                 "07000000 7f 0900",
             ),
             (
                 1,
                 "0b000000 7c 0a00 01000000",
-                "4d0000007d0a004400420000000000000000010000000300000000000000a4010000070000000700\
-                 000088130000000000000100670600676c656e64610600676c656e64610600676c656e6461",
+                "4d000000 7d 0a00 4400 4200 0000 00000000 00 01000000 0300000000000000 a4010000 \
+                07000000 07000000 8813000000000000 0100 67 0600 676c656e6461 0600 676c656e6461 \
+                0600 676c656e6461",
             ),
             (1, "09000000 6c 0b00 0a00", "07000000 6d 0b00"),
             (

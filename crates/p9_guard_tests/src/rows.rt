@@ -92,8 +92,8 @@ const COVERED: &[Row] = &[
         "18000000 73 0300 00 00000000 0400000000000000 e81f0000",
     ),
     (
-        "3f0000007e04000100000032003000ffffffffffffffffffffffffffffffffffffffffffffffffff\
-         ffffffffffffffffffffffffffff01006b000000000000",
+        "3f000000 7e 0400 01000000 3200 3000 ffff ffffffff ff ffffffff ffffffffffffffff ffffffff \
+        ffffffff ffffffff ffffffffffffffff 0100 6b 0000 0000 0000",
         "07000000 7f 0400",
     ),
     (
