@@ -58,8 +58,7 @@ impl<T: Tree> Forest<T> {
 
     /// The node of least number in the directory, above the floor if there is one.
     pub fn after(&self, dir: NodeRef, floor: Option<u64>) -> Option<&Node<T::Alloc>>
-        ensures { option_copied result
-            ≡ child_in_after dir floor self.now }
+        ensures { option_copied result ≡ child_in_after dir floor self.now }
     {
         self.trees
             .get(dir.server as usize)?
@@ -97,10 +96,8 @@ impl<T: Tree> Forest<T> {
         ensures made { let number = next_of dir.server self.old in
             IfOk result (λ made. made ≡ record { server = dir.server; number = number }) }
         ensures ok { OnOk result (self.new
-            ≡ tree_changed_at dir.server (added_new dir.number new.now)
-            self.old) }
-        ensures err { OnErr result (self.new
-            ≡ self.old) }
+            ≡ tree_changed_at dir.server (added_new dir.number new.now) self.old) }
+        ensures err { OnErr result (self.new ≡ self.old) }
     {
         let number = self.trees[dir.server as usize].add(dir.number, new)?;
         Ok(dir.beside(number))
@@ -110,9 +107,7 @@ impl<T: Tree> Forest<T> {
     pub fn drop_leaf(&mut self, at: NodeRef)
         requires not_root { at.number ≢ 0 }
         requires empty { IsFalse (has_children_of at self.old) }
-        ensures { self.new
-            ≡ tree_changed_at at.server (with_dropped at.number)
-            self.old }
+        ensures { self.new ≡ tree_changed_at at.server (with_dropped at.number) self.old }
     {
         if let Some(tree) = self.trees.get_mut(at.server as usize) {
             tree.drop_leaf(at.number);
@@ -126,10 +121,9 @@ impl<T: Tree> Forest<T> {
             CanChange server at.number change.now }
         ensures ok { OnOk result (self.new
             ≡ forest_changed_at at (changed change.entry.now) self.old) }
-        ensures err { OnErr result (self.new
-            ≡ self.old) }
-        ensures there { OnErr result (let forest = self.old in
-            IsTrue (exists_at at.number (server_at at.server forest).nodes)) }
+        ensures err { OnErr result (self.new ≡ self.old) }
+        ensures there { OnErr result (IsTrue
+            (exists_at at.number (server_at at.server self.old).nodes)) }
     {
         if let Some(tree) = self.trees.get_mut(at.server as usize) {
             tree.change(at.number, change)?;
@@ -139,8 +133,7 @@ impl<T: Tree> Forest<T> {
 
     /// Marks the node, as [`Tree::bump`].
     pub fn bump(&mut self, at: NodeRef, user: User, now: u32)
-        ensures { self.new
-            ≡ forest_changed_at at (marked user now) self.old }
+        ensures { self.new ≡ forest_changed_at at (marked user now) self.old }
     {
         if let Some(tree) = self.trees.get_mut(at.server as usize) {
             tree.bump(at.number, user, now);
@@ -149,8 +142,7 @@ impl<T: Tree> Forest<T> {
 
     /// Makes the clock reading the time when the file was last read.
     pub fn touch(&mut self, at: NodeRef, now: u32)
-        ensures { self.new
-            ≡ forest_changed_at at (touched now) self.old }
+        ensures { self.new ≡ forest_changed_at at (touched now) self.old }
     {
         if let Some(tree) = self.trees.get_mut(at.server as usize) {
             tree.touch(at.number, now);
@@ -164,12 +156,10 @@ impl<T: Tree> Forest<T> {
         requires file { IsFalse (is_dir_of at self.old) }
         requires fits { offset + length bytes.now ≤ FILE_MAX }
         ensures ok { OnOk result (self.new
-            ≡ forest_changed_at at (with_bytes (overwritten offset bytes.now))
-            self.old) }
-        ensures err { OnErr result (self.new
-            ≡ self.old) }
-        ensures there { OnErr result (let forest = self.old in
-            IsTrue (exists_at at.number (server_at at.server forest).nodes)) }
+            ≡ forest_changed_at at (with_bytes (overwritten offset bytes.now)) self.old) }
+        ensures err { OnErr result (self.new ≡ self.old) }
+        ensures there { OnErr result (IsTrue
+            (exists_at at.number (server_at at.server self.old).nodes)) }
     {
         if let Some(tree) = self.trees.get_mut(at.server as usize) {
             tree.write(at.number, offset, bytes)?;
@@ -179,8 +169,7 @@ impl<T: Tree> Forest<T> {
 
     /// Keeps the first `size` bytes of a file, or all where they are fewer. It isn't marked.
     pub fn cut(&mut self, at: NodeRef, size: u64)
-        ensures { self.new
-            ≡ forest_changed_at at (with_bytes (cut_to size)) self.old }
+        ensures { self.new ≡ forest_changed_at at (with_bytes (cut_to size)) self.old }
     {
         if let Some(tree) = self.trees.get_mut(at.server as usize) {
             tree.cut(at.number, size);

@@ -30,7 +30,7 @@ returns-in_err-change-clause-there g c =
 
 pub returns-clause-ok : goal.returns-clause-ok
 returns-clause-ok g c = elim c.match-get_mut.branch [
-    in-Some+in_ok-change w ↦
+  | in-Some+in_ok-change w ↦
       let within : c.args.at.server < length c.self.inside.trees.items =
       omega (arith, w.in-Some.ensures.variant.0 refl, c.self.inside.trees.ok.0) in
       rw (w.self-inside-is, ← c.self.view_is)
@@ -42,4 +42,4 @@ returns-clause-ok g c = elim c.match-get_mut.branch [
       (map-tree_absent g.T.Tree.state (with_changed c.args.at.number (changed c.args.change.now)) _
       c.args.at.server
       (λ lt. w.in_default.ensures.variant.1 (omega (arith, lt, c.self.inside.trees.ok.0))))
-  ]
+]

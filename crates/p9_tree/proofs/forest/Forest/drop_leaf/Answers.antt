@@ -6,7 +6,7 @@ use Rattle.p9_tree.proofs.forest.Forest.drop_leaf.Goals as goal
 
 pub returns : goal.returns
 returns g c = elim c.match-get_mut.branch [
-    in-Some w ↦
+  | in-Some w ↦
       let within : c.args.at.server < length c.self.inside.trees.items =
       omega (arith, w.in-Some.ensures.variant.0 refl, c.self.inside.trees.ok.0) in
       rw (w.self-inside-is, ← c.self.view_is)
@@ -18,4 +18,4 @@ returns g c = elim c.match-get_mut.branch [
       (map-tree_absent g.T.Tree.state (with_dropped c.args.at.number) _
       c.args.at.server
       (λ lt. w.in_default.ensures.variant.1 (omega (arith, lt, c.self.inside.trees.ok.0))))
-  ]
+]
