@@ -1,6 +1,6 @@
 //! The check of a certificate.
 
-ghost use Rattle.std.specs.Prelude.{◌≡◌, ◌↔◌, AllPairs, IsFalse, IsOk, IsTrue, OnOk, map};
+ghost use Rattle.std.specs.Prelude.{◌≡◌, ◌↔◌, AllPairs, IsFalse, IsOk, IsTrue, OnOk};
 ghost use Rattle.std.specs.Result.{result_err};
 ghost use Rattle.p9_tree.specs.Inside.{is_barred};
 ghost use Rattle.p9_cert.specs.Closed.{AreShown, IsClosed};
@@ -66,7 +66,7 @@ fn check_table<T: Tree, A: Allocator + Copy>(
     forest: &Forest<T>,
     table: &MountTable<A>,
 ) -> Result<(), Gap>
-    ensures { result_err result ≡ table_gap (map T.state forest.now.trees.items) table.now }
+    ensures { result_err result ≡ table_gap forest.now table.now }
 {
     for position in 0..table.len() {
         if let Some((key, members)) = table.row(position) {
@@ -78,8 +78,7 @@ fn check_table<T: Tree, A: Allocator + Copy>(
 
 // So are the key and the members of one row.
 fn check_mount<T: Tree>(forest: &Forest<T>, key: NodeRef, members: &[Member]) -> Result<(), Gap>
-    ensures { result_err result
-        ≡ mount_gap (map T.state forest.now.trees.items) (key, members.now) }
+    ensures { result_err result ≡ mount_gap forest.now (key, members.now) }
 {
     check_given(forest, key)?;
     check_members(forest, members)
@@ -87,8 +86,7 @@ fn check_mount<T: Tree>(forest: &Forest<T>, key: NodeRef, members: &[Member]) ->
 
 // So are members.
 fn check_members<T: Tree>(forest: &Forest<T>, members: &[Member]) -> Result<(), Gap>
-    ensures { result_err result
-        ≡ members_gap (map T.state forest.now.trees.items) members.now }
+    ensures { result_err result ≡ members_gap forest.now members.now }
 {
     for member in members {
         check_given(forest, member.node)?;
@@ -98,7 +96,7 @@ fn check_members<T: Tree>(forest: &Forest<T>, members: &[Member]) -> Result<(), 
 
 // The number of the node was given.
 fn check_given<T: Tree>(forest: &Forest<T>, at: NodeRef) -> Result<(), Gap>
-    ensures { result_err result ≡ node_gap (map T.state forest.now.trees.items) at }
+    ensures { result_err result ≡ node_gap forest.now at }
 {
     if at.number < forest.next_of(at.server) {
         Ok(())

@@ -1,6 +1,6 @@
 //! Whether a node is hidden, or inside a hidden directory.
 
-ghost use Rattle.std.specs.Prelude.{◌≡◌, ◌<◌, AllPairs, IfSome, IsTrue, map, option_and_then};
+ghost use Rattle.std.specs.Prelude.{◌≡◌, ◌<◌, AllPairs, IfSome, IsTrue, option_and_then};
 ghost use Rattle.p9_tree.specs.Forest.{node_of};
 ghost use Rattle.p9_tree.specs.Inside.{is_hidden, is_inside};
 ghost use Rattle.p9_cert.specs.Closed.{AreShown};
@@ -33,8 +33,8 @@ pub(crate) fn is_inside<T: Tree>(
     at: NodeRef,
 ) -> bool
     requires rising { AllPairs (λ a b. IsTrue (is_below a b)) shown.now }
-    requires shown { AreShown hidden.now (map T.state forest.now.trees.items) shown.now }
-    ensures { result ≡ is_inside at hidden.now (map T.state forest.now.trees.items) }
+    requires shown { AreShown hidden.now forest.now shown.now }
+    ensures { result ≡ is_inside at hidden.now forest.now }
 {
     forest.well_formed();
     let mut number = at.number;
@@ -53,8 +53,7 @@ pub(crate) fn is_inside<T: Tree>(
 
 // The number of the directory that the node is in.
 fn parent_of<T: Tree>(forest: &Forest<T>, at: NodeRef) -> Option<u64>
-    ensures { result ≡ option_and_then (λ n. n.parent)
-        (node_of at (map T.state forest.now.trees.items)) }
+    ensures { result ≡ option_and_then (λ n. n.parent) (node_of at forest.now) }
 {
     forest.node(at)?.parent()
 }

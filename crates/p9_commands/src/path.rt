@@ -42,7 +42,7 @@ fn names_to<'a, T: Tree>(
     at: NodeRef,
 ) -> Result<Vec<&'a str, T::Alloc>, NoMemory>
     ensures { IfOk result (λ names. map (λ n. n.now) names.items
-        ≡ names_to at.number (server_at at.server (map T.state forest.now.trees.items)).nodes) }
+        ≡ names_to at.number (server_at at.server forest.now).nodes) }
 {
     let mut names = names_from(alloc, forest, at)?;
     names.reverse();
@@ -56,7 +56,7 @@ fn names_from<'a, T: Tree>(
     at: NodeRef,
 ) -> Result<Vec<&'a str, T::Alloc>, NoMemory>
     ensures { IfOk result (λ names. reverse (map (λ n. n.now) names.items)
-        ≡ names_to at.number (server_at at.server (map T.state forest.now.trees.items)).nodes) }
+        ≡ names_to at.number (server_at at.server forest.now).nodes) }
 {
     let mut names = Vec::new(alloc);
     let mut here = at;
@@ -73,7 +73,7 @@ fn names_from<'a, T: Tree>(
 // In which directory a node is, and under which name.
 fn entry<T: Tree>(forest: &Forest<T>, at: NodeRef) -> Option<(u64, &str)>
     ensures { option_map (λ e. (e.0, e.1.now)) result
-        ≡ entry_at at.number (server_at at.server (map T.state forest.now.trees.items)).nodes }
+        ≡ entry_at at.number (server_at at.server forest.now).nodes }
 {
     let node = forest.node(at)?;
     Some((node.parent()?, node.name()))

@@ -1,6 +1,6 @@
 //! The answer to a frame of one session among all.
 
-ghost use Rattle.std.specs.Prelude.{◌≡◌, ◌≤◌, List, IsSome, IfSome, drop, false, length, map};
+ghost use Rattle.std.specs.Prelude.{◌≡◌, ◌≤◌, List, IsSome, IfSome, drop, false, length};
 ghost use Rattle.std.specs.Option.{option_map_or};
 ghost use Rattle.p9_wire.specs.Message.{t_view};
 ghost use Rattle.p9_wire.specs.Spelling.{read_header};
@@ -41,8 +41,8 @@ pub fn answer<T: Tree>(
 ) -> Result<Reply, Fault>
     requires channels { SessionsFit setting.now.table sessions.old.entries }
     requires live { IsSome (session_at name (sessions_in sessions.old.entries)) }
-    requires sound { IfSome (session_at name (sessions_in sessions.old.entries)) (IsSession setting.now
-        (map T.state forest.old.trees.items)) }
+    requires sound { IfSome (session_at name (sessions_in sessions.old.entries))
+        (IsSession setting.now forest.old) }
     requires room { IfSome (session_at name (sessions_in sessions.old.entries)) (λ session. reply_max session
         ≤ length reply.old) }
     ensures channels { SessionsFit setting.now.table sessions.new.entries }
@@ -50,11 +50,11 @@ pub fn answer<T: Tree>(
     ensures data { IfSome (session_at name (sessions_in sessions.old.entries)) (λ session. IsDataWithin
         (room_of session) result) }
     ensures len { length reply.new ≡ length reply.old }
-    ensures answer { let old = map T.state forest.old.trees.items in
-        let new = map T.state forest.new.trees.items in
-        let answer = frame_among setting.now old (sessions_in sessions.old.entries) name now frame.now in
-        AnswersAmong name answer (ran_out frame.now answer) old new
-        (sessions_in sessions.old.entries) (sessions_in sessions.new.entries) (replied (reply_view new (drop read_header reply.new)) result) }
+    ensures answer { let answer = frame_among setting.now forest.old
+        (sessions_in sessions.old.entries) name now frame.now in
+        AnswersAmong name answer (ran_out frame.now answer) forest.old forest.new
+        (sessions_in sessions.old.entries) (sessions_in sessions.new.entries)
+        (replied (reply_view forest.new (drop read_header reply.new)) result) }
 {
     let (_, buffer) = reply.split_at_mut(READ_HEADER);
     let session = sessions.get_mut(&name).unwrap();
@@ -75,8 +75,8 @@ fn wanted_alone<T: Tree>(
     request: &TMsg<'_>,
 ) -> Option<NodeRef>
     requires { SessionFits setting.now.table session.now }
-    ensures { (sessions : List SessionRow) → finds_taken setting.now
-        (map T.state forest.now.trees.items) sessions session.now.session (t_view request.now)
+    ensures { (sessions : List SessionRow) → finds_taken setting.now forest.now sessions
+        session.now.session (t_view request.now)
         ≡ option_map_or (λ at. is_in_use setting.now.table at sessions) result false }
 {
     match request {

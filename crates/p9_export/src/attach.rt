@@ -1,6 +1,6 @@
 //! The answer to an attach, as attach(5).
 
-ghost use Rattle.std.specs.Prelude.{◌≡◌, ◌⊎◌, Err, IfErr, IfOk, None, Ok, map, true};
+ghost use Rattle.std.specs.Prelude.{◌≡◌, ◌⊎◌, Err, IfErr, IfOk, None, Ok, true};
 ghost use Rattle.std.specs.Option.{option_copied};
 ghost use Rattle.std.specs.Str.{bytes_eq};
 ghost use Rattle.p9_base.specs.declared.fault.Fault.TheVariants.{OutOfMemory};
@@ -41,9 +41,9 @@ pub fn attach<T: Tree>(
 ) -> Result<Qid, Fault>
     requires channels { SessionFits setting.now.table session.old }
     ensures channels { SessionFits setting.now.table session.new }
-    ensures answer { let forest = map T.state forest.now.trees.items in
-        Answers (attach_answer setting.now forest session.old.session fid afid uname.now aname.now) true
-        forest forest session.old.session session.new.session (replied Rattach result) }
+    ensures answer { Answers (attach_answer setting.now forest.now session.old.session fid afid
+        uname.now aname.now) true forest.now forest.now session.old.session session.new.session
+        (replied Rattach result) }
 {
     if let Some(fault) = session.fids.put_fault(fid) {
         return Err(fault);
@@ -78,10 +78,10 @@ fn walk_to<T: Tree>(
     user: &User,
     aname: &str,
 ) -> Result<Trail<T::Alloc>, Fault>
-    ensures ok { IfOk result (λ trail. attach_walk setting.now (map T.state forest.now.trees.items)
+    ensures ok { IfOk result (λ trail. attach_walk setting.now forest.now
         user.now aname.now ≡ Ok trail) }
     ensures err { IfErr result (λ fault. (fault ≡ OutOfMemory) ⊎ (attach_walk setting.now
-        (map T.state forest.now.trees.items) user.now aname.now ≡ Err fault)) }
+        forest.now user.now aname.now ≡ Err fault)) }
 {
     let root = Trail::at(setting.alloc, ROOT_PLACE)?;
     let names = cleaned_elements(setting.alloc, aname)?;
@@ -106,9 +106,9 @@ fn attach_at<T: Tree>(
     requires channels { SessionFits setting.now.table session.old }
     requires free { put_fault fid session.old.session.fids ≡ None }
     ensures channels { SessionFits setting.now.table session.new }
-    ensures answer { let forest = map T.state forest.now.trees.items in
-        Answers (attached_at setting.now forest session.old.session fid user place) true forest forest
-        session.old.session session.new.session (replied Rattach result) }
+    ensures answer { Answers (attached_at setting.now forest.now session.old.session fid user place)
+        true forest.now forest.now session.old.session session.new.session
+        (replied Rattach result) }
 {
     let at = setting.table.file(place);
     let Some(file) = forest.node(at) else {

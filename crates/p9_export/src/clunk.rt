@@ -1,6 +1,6 @@
 //! The answer to a clunk, as clunk(5).
 
-ghost use Rattle.std.specs.Prelude.{◌≡◌, false, map};
+ghost use Rattle.std.specs.Prelude.{◌≡◌, false};
 ghost use Rattle.p9_wire.specs.Message.{Rclunk};
 ghost use Rattle.p9_export.specs.Held.{SessionFits};
 ghost use Rattle.p9_export.specs.Answers.{Answers, replied};
@@ -24,13 +24,12 @@ pub fn clunk<T: Tree>(
     now: u32,
     fid: u32,
 ) -> Result<(), Fault>
-    requires opened { FidsFit setting.now.table (map T.state forest.old.trees.items) session.old.session.fids }
+    requires opened { FidsFit setting.now.table forest.old session.old.session.fids }
     requires channels { SessionFits setting.now.table session.old }
     ensures channels { SessionFits setting.now.table session.new }
-    ensures answer { let old = map T.state forest.old.trees.items in
-        let new = map T.state forest.new.trees.items in
-        Answers (clunk_answer setting.now old session.old.session now fid) false old new session.old.session
-        session.new.session (replied (λ _. Rclunk) result) }
+    ensures answer { Answers (clunk_answer setting.now forest.old session.old.session now fid) false
+        forest.old forest.new session.old.session session.new.session
+        (replied (λ _. Rclunk) result) }
 {
     let Some(ended) = session.fids.take(fid) else {
         return Err(Fault::UnknownFid);

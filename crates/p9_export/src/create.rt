@@ -1,7 +1,7 @@
 //! The answer to a create, as open(5).
 
 ghost use Rattle.std.specs.Prelude.{◌≡◌, ◌<◌, ◌++◌, ◌∷◌, [], List, IfErr, IfOk, IsSome, OnErr, OnOk, ℕ};
-ghost use Rattle.std.specs.Prelude.{length, map};
+ghost use Rattle.std.specs.Prelude.{length};
 ghost use Rattle.std.specs.Option.{option_copied};
 ghost use Rattle.p9_tree.specs.Forest.{forest_changed_at, next_of, server_at, tree_changed_at};
 ghost use Rattle.p9_base.specs.NodeRef.{beside};
@@ -86,12 +86,10 @@ pub fn create<T: Tree>(
 ) -> Result<(Qid, u32), Fault>
     requires channels { SessionFits setting.now.table session.old }
     ensures channels { SessionFits setting.now.table session.new }
-    ensures answer { let old = map T.state forest.old.trees.items in
-        let new = map T.state forest.new.trees.items in
-        let answer = create_answer setting.now old session.old.session now wanted.entry.fid wanted.entry.name.now
-        wanted.entry.perm wanted.entry.mode in
-        Answers answer (is_done answer) old new session.old.session session.new.session
-        (replied create_reply result) }
+    ensures answer { let answer = create_answer setting.now forest.old session.old.session now
+        wanted.entry.fid wanted.entry.name.now wanted.entry.perm wanted.entry.mode in
+        Answers answer (is_done answer) forest.old forest.new session.old.session
+        session.new.session (replied create_reply result) }
 {
     let Plan {
         target,
@@ -115,17 +113,14 @@ fn planned<T: Tree>(
     requires { SessionFits setting.now.table session.now }
     ensures there { OnOk result (IsSome (fid_at wanted.entry.fid session.now.session.fids)) }
     ensures fits { IfOk result (λ plan. Fits setting.now.table plan.channels) }
-    ensures adds { let forest = map T.state forest.now.trees.items in
-        IfOk result (λ plan. let server = server_at plan.target.server forest in
+    ensures adds { IfOk result (λ plan. let server = server_at plan.target.server forest.now in
         CanAdd server plan.target.number (new_node server.next plan.target.number plan.new)) }
-    ensures ok { let forest = map T.state forest.now.trees.items in
-        let answer = create_steps setting.now forest session.now.session now wanted.entry.fid
-        wanted.entry.name.now wanted.entry.perm wanted.entry.mode in
-        IfOk result (λ plan. answer ≡ plan_answer forest session.now.session wanted.entry.fid plan.target
-        plan.new (trail_of plan.channels) plan.opening) }
-    ensures err { let forest = map T.state forest.now.trees.items in
-        let answer = create_steps setting.now forest session.now.session now wanted.entry.fid
-        wanted.entry.name.now wanted.entry.perm wanted.entry.mode in
+    ensures ok { let answer = create_steps setting.now forest.now session.now.session now
+        wanted.entry.fid wanted.entry.name.now wanted.entry.perm wanted.entry.mode in
+        IfOk result (λ plan. answer ≡ plan_answer forest.now session.now.session wanted.entry.fid
+        plan.target plan.new (trail_of plan.channels) plan.opening) }
+    ensures err { let answer = create_steps setting.now forest.now session.now.session now
+        wanted.entry.fid wanted.entry.name.now wanted.entry.perm wanted.entry.mode in
         IfErr result (λ fault. IsRefusal answer (is_done answer) fault) }
 {
     let Some(held) = session.fids.get(wanted.fid) else {
@@ -170,7 +165,7 @@ fn asked_of(wanted: NewFile<'_>) -> Result<Asked, Fault>
 
 // The directory where a node is to be made, among the members that are there.
 fn target_among<T: Tree>(forest: &Forest<T>, members: &[Member]) -> Result<NodeRef, Fault>
-    ensures { result ≡ target_among (map T.state forest.now.trees.items) members.now }
+    ensures { result ≡ target_among forest.now members.now }
 {
     if let Some(fault) = dir_fault(forest, members) {
         return Err(fault);
@@ -198,18 +193,15 @@ fn plan_in<T: Tree>(
 ) -> Result<Plan<T::Alloc>, Fault>
     requires { HeldFits setting.now.table held.now }
     ensures fits { IfOk result (λ plan. Fits setting.now.table plan.channels) }
-    ensures adds { let forest = map T.state forest.now.trees.items in
-        IfOk result (λ plan. let server = server_at plan.target.server forest in
+    ensures adds { IfOk result (λ plan. let server = server_at plan.target.server forest.now in
         CanAdd server plan.target.number (new_node server.next plan.target.number plan.new)) }
-    ensures ok { let forest = map T.state forest.now.trees.items in
-        (session : SessionOf) (fid : ℕ) → IfOk result (λ plan.
-        created_in setting.now forest session now fid held.now.fid asked target
-        ≡ plan_answer forest session fid plan.target plan.new (trail_of plan.channels)
+    ensures ok { (session : SessionOf) (fid : ℕ) → IfOk result
+        (λ plan. created_in setting.now forest.now session now fid held.now.fid asked target
+        ≡ plan_answer forest.now session fid plan.target plan.new (trail_of plan.channels)
         plan.opening) }
-    ensures err { let forest = map T.state forest.now.trees.items in
-        (session : SessionOf) (fid : ℕ) → IfErr result (λ fault.
-        let answer = created_in setting.now forest session now fid held.now.fid asked target in
-        IsRefusal answer (is_done answer) fault) }
+    ensures err { (session : SessionOf) (fid : ℕ) → IfErr result
+        (λ fault. let answer = created_in setting.now forest.now session now fid held.now.fid asked
+        target in IsRefusal answer (is_done answer) fault) }
 {
     let Some(dir) = forest.node(target) else {
         return Err(Fault::PhaseError);
@@ -237,8 +229,7 @@ fn place_in<T: Tree>(
     target: NodeRef,
     dir: &Node<T::Alloc>,
 ) -> Result<NodeRef, Fault>
-    ensures { result ≡ place_in setting.now (map T.state forest.now.trees.items) held.now.fid
-        name.now target dir.now }
+    ensures { result ≡ place_in setting.now forest.now held.now.fid name.now target dir.now }
 {
     let next = forest.next_of(target.server);
     if !dir.is_dir() {
@@ -291,17 +282,16 @@ fn channels_to<A: Allocator + Copy>(
 
 // Makes the node in the directory and marks that, and answers the node's qid.
 fn add_to<T: Tree>(forest: &mut Forest<T>, target: NodeRef, new: &New<'_>) -> Result<Qid, NoMemory>
-    requires { let server = server_at target.server (map T.state forest.old.trees.items) in
+    requires { let server = server_at target.server forest.old in
         CanAdd server target.number (new_node server.next target.number new.now) }
-    ensures ok { OnOk result (map T.state forest.new.trees.items
-        ≡ forest_changed_at target (marked new.now.muid new.now.mtime)
+    ensures ok { OnOk result (forest.new ≡ forest_changed_at target
+        (marked new.now.muid new.now.mtime)
         (tree_changed_at target.server (λ s. added s (new_node s.next target.number new.now))
-        (map T.state forest.old.trees.items))) }
-    ensures qid { let next = next_of target.server (map T.state forest.old.trees.items) in
+        forest.old)) }
+    ensures qid { let next = next_of target.server forest.old in
         IfOk result (λ qid. qid ≡ qid_of (beside target next)
         (new_node next target.number new.now)) }
-    ensures err { OnErr result (map T.state forest.new.trees.items
-        ≡ map T.state forest.old.trees.items) }
+    ensures err { OnErr result (forest.new ≡ forest.old) }
 {
     let at = forest.add(target, new)?;
     forest.bump(target, new.muid, new.mtime);

@@ -1,6 +1,6 @@
 //! The end of fids, and removal on close, as clunk(5).
 
-ghost use Rattle.std.specs.Prelude.{◌≡◌, [], map};
+ghost use Rattle.std.specs.Prelude.{◌≡◌, []};
 ghost use Rattle.p9_fids.specs.Held.{AllFit, HeldFits};
 ghost use Rattle.p9_step.specs.ForestChange.{all_applied};
 ghost use Rattle.p9_step.specs.Sound.{FidFits, FidsFit};
@@ -22,11 +22,10 @@ pub fn end_fid<T: Tree>(
     fid: &Fid<T::Alloc>,
     now: u32,
 )
-    requires opened { FidFits setting.now.table (map T.state forest.old.trees.items) fid.now.fid }
+    requires opened { FidFits setting.now.table forest.old fid.now.fid }
     requires channels { HeldFits setting.now.table fid.now }
-    ensures { let old = map T.state forest.old.trees.items in
-        map T.state forest.new.trees.items ≡ all_applied
-        (on_end setting.now.table now old fid.now.fid) old }
+    ensures { forest.new ≡ all_applied (on_end setting.now.table now forest.old fid.now.fid)
+        forest.old }
 {
     if !removes_on_close(fid) {
         return;
@@ -57,8 +56,7 @@ pub fn mark_parent<T: Tree>(
     user: User,
     now: u32,
 )
-    ensures { let old = map T.state forest.old.trees.items in
-        map T.state forest.new.trees.items ≡ all_applied (parent_marked user now at parent) old }
+    ensures { forest.new ≡ all_applied (parent_marked user now at parent) forest.old }
 {
     if let Some(number) = parent {
         forest.bump(at.beside(number), user, now);
@@ -72,11 +70,10 @@ pub fn end_fids<T: Tree>(
     fids: &mut FidTable<T::Alloc>,
     now: u32,
 )
-    requires opened { FidsFit setting.now.table (map T.state forest.old.trees.items) fids.old.fids }
+    requires opened { FidsFit setting.now.table forest.old fids.old.fids }
     requires channels { AllFit setting.now.table fids.old }
-    ensures forest { let old = map T.state forest.old.trees.items in
-        map T.state forest.new.trees.items ≡ all_applied
-        (on_ends setting.now.table now old fids.old.fids) old }
+    ensures forest { forest.new ≡ all_applied
+        (on_ends setting.now.table now forest.old fids.old.fids) forest.old }
     ensures fids { fids.new.fids ≡ [] }
     ensures channels { AllFit setting.now.table fids.new }
 {

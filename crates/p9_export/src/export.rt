@@ -2,7 +2,7 @@
 
 ghost use Rattle.std.specs.Prelude.{◌≡◌, ◌≤◌, ◌↔◌, [], Err, None, false, IfSome, IsSome, IsTrue};
 ghost use Rattle.std.specs.Prelude.{OnErr};
-ghost use Rattle.std.specs.Prelude.{OnOk, length, map, take, unwrap_or};
+ghost use Rattle.std.specs.Prelude.{OnOk, length, take, unwrap_or};
 ghost use Rattle.p9_step.specs.Event.{Open, Message, Close};
 ghost use Rattle.p9_step.specs.State.{session_at};
 ghost use Rattle.p9_step.specs.Memory.{is_no_memory_reply};
@@ -49,7 +49,6 @@ pub struct Export<T: Tree> {
 }
 
 impl<T: Tree> Model for Export<T> {
-    ghost use Rattle.std.specs.Prelude.{map};
     ghost use Rattle.p9_step.specs.State.{State};
     ghost use Rattle.p9_export.specs.Held.{IsKept, sessions_in};
 
@@ -57,12 +56,11 @@ impl<T: Tree> Model for Export<T> {
 
     ghost view = { λ e. record {
       setting = e.setting;
-      forest = map T.state e.forest.trees.items;
+      forest = e.forest;
       sessions = sessions_in e.sessions.entries;
     } };
 
-    ghost invariant = { λ e. IsKept e.setting (map T.state e.forest.trees.items)
-        e.sessions.entries };
+    ghost invariant = { λ e. IsKept e.setting e.forest e.sessions.entries };
 }
 
 impl<T: Tree> Export<T> {
@@ -75,11 +73,10 @@ impl<T: Tree> Export<T> {
         groups: Groups<T::Alloc>,
         table: MountTable<T::Alloc>,
     ) -> Export<T>
-        requires { IsTrue (is_table_given (map T.state forest.trees.items) table) }
+        requires { IsTrue (is_table_given forest table) }
         ensures { result ≡ record {
           setting = record { users = users.items; groups = groups; table = table };
-          forest
-              = map T.state forest.trees.items;
+          forest = forest;
           sessions = [];
         } }
     {

@@ -1,6 +1,6 @@
 //! Frames: the request in one, and the reply to it.
 
-ghost use Rattle.std.specs.Prelude.{◌≡◌, ◌≤◌, ◌+◌, length, map, take, drop};
+ghost use Rattle.std.specs.Prelude.{◌≡◌, ◌≤◌, ◌+◌, length, take, drop};
 ghost use Rattle.p9_base.specs.Fault.{text_of};
 ghost use Rattle.p9_wire.specs.Message.{Rerror};
 ghost use Rattle.p9_wire.specs.Spelling.{r_len, r_spelling, read_header};
@@ -59,9 +59,9 @@ pub fn write_reply<T: Tree>(
     out: &mut [u8],
 ) -> usize
     requires reply { CanWrite answered.now }
-    requires room { IsRoom (map T.state forest.now.trees.items) (length out.old) answered.now }
+    requires room { IsRoom forest.now (length out.old) answered.now }
     ensures bytes { take result out.new ≡ r_spelling tag (message_of (replied (reply_view
-        (map T.state forest.now.trees.items) (drop read_header out.old)) answered.now)) }
+        forest.now (drop read_header out.old)) answered.now)) }
     ensures within { result ≤ length out.old }
 {
     match answered {
@@ -89,9 +89,8 @@ fn write_fault(fault: Fault, tag: u16, out: &mut [u8]) -> usize
 
 // Writes the stat of a node, or, where there is none, that it is gone.
 fn write_stat_of<T: Tree>(forest: &Forest<T>, at: NodeRef, tag: u16, out: &mut [u8]) -> usize
-    requires room { 7 + r_len (stat_reply (map T.state forest.now.trees.items) at) ≤ length out.old }
-    ensures bytes { take result out.new ≡ r_spelling tag (stat_reply
-        (map T.state forest.now.trees.items) at) }
+    requires room { 7 + r_len (stat_reply forest.now at) ≤ length out.old }
+    ensures bytes { take result out.new ≡ r_spelling tag (stat_reply forest.now at) }
     ensures within { result ≤ length out.old }
 {
     let Some(file) = forest.node(at) else {

@@ -44,21 +44,17 @@ pub fn list<T: Tree>(
     buffer: &mut [u8],
 ) -> Result<Given, Fault>
     ensures size { IfOk result (λ given. given.size ≤ length buffer.old) }
-    ensures bytes { let left = left_of (map T.state forest.now.trees.items) (who_view who.entry)
-        cursor
-        members.now in IfOk result (λ given. take given.size buffer.new
+    ensures bytes { let left = left_of forest.now (who_view who.entry) cursor members.now in
+        IfOk result (λ given. take given.size buffer.new
         ≡ flat_map entry_bytes (fitting (length buffer.old) left)) }
-    ensures cursor { let left = left_of (map T.state forest.now.trees.items) (who_view who.entry)
-        cursor
-        members.now in IfOk result (λ given. given.cursor
+    ensures cursor { let left = left_of forest.now (who_view who.entry) cursor members.now in
+        IfOk result (λ given. given.cursor
         ≡ cursor_after cursor (fitting (length buffer.old) left)) }
-    ensures ok { let left = left_of (map T.state forest.now.trees.items) (who_view who.entry)
-        cursor members.now
-        in OnOk result (fitting (length buffer.old) left ≡ [] → left ≡ []) }
-    ensures err { let left = left_of (map T.state forest.now.trees.items) (who_view who.entry)
-        cursor
-        members.now in IfErr result (λ fault. (fault ≡ SmallReadCount) × (left ≢ [])
-        × (fitting (length buffer.old) left ≡ [])) }
+    ensures ok { let left = left_of forest.now (who_view who.entry) cursor members.now in
+        OnOk result (fitting (length buffer.old) left ≡ [] → left ≡ []) }
+    ensures err { let left = left_of forest.now (who_view who.entry) cursor members.now in
+        IfErr result (λ fault. (fault ≡ SmallReadCount) × (left ≢ []) ×
+        (fitting (length buffer.old) left ≡ [])) }
 {
     let given = fill(forest, members, who, cursor, buffer);
     if given.is_full && given.size == 0 {
@@ -75,8 +71,8 @@ fn fill<T: Tree>(
     cursor: Option<Cursor>,
     buffer: &mut [u8],
 ) -> Given
-    ensures { Gives (length buffer.old) (left_of (map T.state forest.now.trees.items)
-        (who_view who.entry) cursor members.now) cursor buffer.new result }
+    ensures { Gives (length buffer.old) (left_of forest.now (who_view who.entry) cursor members.now)
+        cursor buffer.new result }
 {
     forest.well_formed();
     let mut given = Given {
@@ -125,9 +121,8 @@ fn fill_member<T: Tree>(
     buffer: &mut [u8],
 ) -> Given
     requires { IfSome cursor (λ last. last.member ≤ position) }
-    ensures { Gives (length buffer.old) (filter (is_behind cursor) (entries_of
-        (map T.state forest.now.trees.items) (who_view who.entry) position member)) cursor
-        buffer.new result }
+    ensures { Gives (length buffer.old) (filter (is_behind cursor)
+        (entries_of forest.now (who_view who.entry) position member)) cursor buffer.new result }
 {
     if is_listed(forest, position, member, who) {
         fill_dir(forest, position, member.node, cursor, buffer)
@@ -150,7 +145,7 @@ fn fill_dir<T: Tree>(
 ) -> Given
     requires { IfSome cursor (λ last. last.member ≤ position) }
     ensures { Gives (length buffer.old) (filter (is_behind cursor) (map (entry_at position dir)
-        (children_of dir (map T.state forest.now.trees.items)))) cursor buffer.new result }
+        (children_of dir forest.now))) cursor buffer.new result }
 {
     forest.well_formed();
     let mut given = Given {
@@ -218,8 +213,7 @@ fn is_listed<T: Tree>(
     member: Member,
     who: Who<'_, T::Alloc>,
 ) -> bool
-    ensures { result ≡ is_listed (map T.state forest.now.trees.items) (who_view who.entry) position
-        member }
+    ensures { result ≡ is_listed forest.now (who_view who.entry) position member }
 {
     match forest.node(member.node) {
         Some(node) => node.is_dir() && (position == 0 || may(who, node, TO_READ)),

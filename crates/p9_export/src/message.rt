@@ -1,6 +1,6 @@
 //! The answer to a request, message by message.
 
-ghost use Rattle.std.specs.Prelude.{◌≡◌, ◌≤◌, ◌+◌, length, map};
+ghost use Rattle.std.specs.Prelude.{◌≡◌, ◌≤◌, ◌+◌, length};
 ghost use Rattle.p9_wire.specs.Frame.{msize_max};
 ghost use Rattle.p9_wire.specs.Message.{t_view};
 ghost use Rattle.p9_export.specs.Held.{SessionFits};
@@ -44,18 +44,16 @@ pub fn message<T: Tree>(
     buffer: &mut [u8],
 ) -> Result<Reply, Fault>
     requires channels { SessionFits setting.now.table session.old }
-    requires fids { FidsFit setting.now.table
-        (map T.state forest.old.trees.items) session.old.session.fids }
+    requires fids { FidsFit setting.now.table forest.old session.old.session.fids }
     requires buffer { room_of session.old.session ≤ length buffer.old }
     requires room { io_header + room_of session.old.session ≤ msize_max }
     ensures channels { SessionFits setting.now.table session.new }
     ensures reply { CanWrite result }
     ensures data { IsDataWithin (room_of session.old.session) result }
-    ensures answer { let old = map T.state forest.old.trees.items in
-        let new = map T.state forest.new.trees.items in
-        let answer = session_answer setting.now old taken session.old.session now (t_view request.now) in
-        Answers answer (may_run_out (t_view request.now) answer) old new session.old.session session.new.session
-        (replied (reply_view new buffer.new) result) }
+    ensures answer { let answer = session_answer setting.now forest.old taken session.old.session
+        now (t_view request.now) in Answers answer (may_run_out (t_view request.now) answer)
+        forest.old forest.new session.old.session session.new.session
+        (replied (reply_view forest.new buffer.new) result) }
 {
     match request {
         TMsg::Version {

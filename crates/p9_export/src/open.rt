@@ -1,6 +1,6 @@
 //! The answer to an open, as open(5).
 
-ghost use Rattle.std.specs.Prelude.{◌≡◌, List, map, false, nat_lt, IfSome, IsSome};
+ghost use Rattle.std.specs.Prelude.{◌≡◌, List, false, nat_lt, IfSome, IsSome};
 ghost use Rattle.std.specs.List.{All, list_any};
 ghost use Rattle.std.specs.Map.{values_of};
 ghost use Rattle.std.specs.Option.{option_map_or};
@@ -47,10 +47,9 @@ pub fn open<T: Tree>(
 ) -> Result<(Qid, u32), Fault>
     requires channels { SessionFits setting.now.table session.old }
     ensures channels { SessionFits setting.now.table session.new }
-    ensures answer { let old = map T.state forest.old.trees.items in
-        let new = map T.state forest.new.trees.items in
-        Answers (open_answer setting.now old taken session.old.session now fid bits) false old new
-        session.old.session session.new.session (replied open_reply result) }
+    ensures answer { Answers (open_answer setting.now forest.old taken session.old.session now fid
+        bits) false forest.old forest.new session.old.session session.new.session
+        (replied open_reply result) }
 {
     let Some(held) = session.fids.get(fid) else {
         return Err(Fault::UnknownFid);
@@ -89,8 +88,7 @@ fn may_open<T: Tree>(
     file: &Node<T::Alloc>,
     opening: Opening,
 ) -> bool
-    ensures { result ≡ may_open (who_view who.entry) (map T.state forest.now.trees.items) at
-        file.now opening }
+    ensures { result ≡ may_open (who_view who.entry) forest.now at file.now opening }
 {
     may(who, file, opening.wanted())
         && (!opening.remove_on_close || may_write_parent(who, forest, at, file))
@@ -111,12 +109,11 @@ fn truncated_qid<T: Tree>(
     now: u32,
     opening: Opening,
 ) -> Qid
-    requires { IsSome (node_of at (map T.state forest.old.trees.items)) }
-    ensures forest { let old = map T.state forest.old.trees.items in
-        IfSome (node_of at old) (λ n. map T.state forest.new.trees.items
-        ≡ all_applied (truncation user now at n opening) old) }
-    ensures qid { IfSome (node_of at (map T.state forest.old.trees.items)) (λ n. result
-        ≡ qid_of at (truncated user now n opening)) }
+    requires { IsSome (node_of at forest.old) }
+    ensures forest { IfSome (node_of at forest.old)
+        (λ n. forest.new ≡ all_applied (truncation user now at n opening) forest.old) }
+    ensures qid { IfSome (node_of at forest.old)
+        (λ n. result ≡ qid_of at (truncated user now n opening)) }
 {
     truncate(forest, at, user, now, opening);
     forest.well_formed();
@@ -125,10 +122,9 @@ fn truncated_qid<T: Tree>(
 
 // Cuts the file where the opening truncates it.
 fn truncate<T: Tree>(forest: &mut Forest<T>, at: NodeRef, user: User, now: u32, opening: Opening)
-    requires { IsSome (node_of at (map T.state forest.old.trees.items)) }
-    ensures { let old = map T.state forest.old.trees.items in
-        IfSome (node_of at old) (λ n. map T.state forest.new.trees.items
-        ≡ all_applied (truncation user now at n opening) old) }
+    requires { IsSome (node_of at forest.old) }
+    ensures { IfSome (node_of at forest.old)
+        (λ n. forest.new ≡ all_applied (truncation user now at n opening) forest.old) }
 {
     if is_cut(forest.node(at).unwrap(), opening) {
         forest.cut(at, 0);
@@ -191,9 +187,9 @@ pub fn exclusive_file<T: Tree>(
     fid: u32,
 ) -> Option<NodeRef>
     requires { SessionFits setting.now.table session.now }
-    ensures { (sessions : List SessionRow) → is_taken setting.now
-        (map T.state forest.now.trees.items) sessions session.now.session fid
-        ≡ option_map_or (λ at. is_in_use setting.now.table at sessions) result false }
+    ensures { (sessions : List SessionRow) → is_taken setting.now forest.now sessions
+        session.now.session fid ≡ option_map_or (λ at. is_in_use setting.now.table at sessions)
+        result false }
 {
     let held = session.fids.get(fid)?;
     let at = setting.file(held);

@@ -1,7 +1,7 @@
 //! The answer to a read, as read(5).
 
 ghost use Rattle.std.specs.Prelude.{◌≡◌, ◌==◌, ◌||◌, ◌≤◌, ◌<◌, ◌^◌, Err, false, IfErr, IfOk, length};
-ghost use Rattle.std.specs.Prelude.{map, take, ℕ};
+ghost use Rattle.std.specs.Prelude.{take, ℕ};
 ghost use Rattle.p9_fids.specs.Held.{HeldFits};
 ghost use Rattle.p9_tree.specs.Bytes.{read_from};
 ghost use Rattle.p9_tree.specs.Forest.{bytes_of, forest_changed_at};
@@ -61,11 +61,9 @@ pub fn read<T: Tree>(
     requires room { room_of session.old.session ≤ length buffer.old }
     ensures channels { SessionFits setting.now.table session.new }
     ensures size { IfOk result (λ count. count ≤ room_of session.old.session) }
-    ensures answer { let old = map T.state forest.old.trees.items in
-        let new = map T.state forest.new.trees.items in
-        Answers (read_answer setting.now old session.old.session now wanted.fid wanted.offset
-        wanted.count) false old new session.old.session session.new.session
-        (replied (data_reply buffer.new) result) }
+    ensures answer { Answers (read_answer setting.now forest.old session.old.session now wanted.fid
+        wanted.offset wanted.count) false forest.old forest.new session.old.session
+        session.new.session (replied (data_reply buffer.new) result) }
 {
     let Some(held) = session.fids.get(wanted.fid) else {
         return Err(Fault::UnknownFid);
@@ -113,10 +111,9 @@ fn read_file<T: Tree>(
 ) -> u32
     requires { length buffer.old < 2 ^ 32 }
     ensures size { result ≤ length buffer.old }
-    ensures bytes { take result buffer.new ≡ read_from offset (length buffer.old) (bytes_of at
-        (map T.state forest.old.trees.items)) }
-    ensures forest { map T.state forest.new.trees.items
-        ≡ forest_changed_at at (touched now) (map T.state forest.old.trees.items) }
+    ensures bytes { take result buffer.new
+        ≡ read_from offset (length buffer.old) (bytes_of at forest.old) }
+    ensures forest { forest.new ≡ forest_changed_at at (touched now) forest.old }
 {
     let size = forest.read_into(at, offset, buffer);
     forest.touch(at, now);
@@ -135,14 +132,12 @@ fn list_of<T: Tree>(
     requires fits { HeldFits setting.now.table held.now }
     requires short { length buffer.old < 2 ^ 32 }
     ensures size { IfOk result (λ listed. listed.size ≤ length buffer.old) }
-    ensures ok { let forest = map T.state forest.now.trees.items in
-        (session : SessionOf) (fid : ℕ) → IfOk result (λ listed.
-        read_dir setting.now forest session fid held.now.fid opened offset (length buffer.old)
-        ≡ list_answer session fid listed.opened (take listed.size buffer.new)) }
-    ensures err { let forest = map T.state forest.now.trees.items in
-        (session : SessionOf) (fid : ℕ) → IfErr result (λ fault.
-        read_dir setting.now forest session fid held.now.fid opened offset (length buffer.old)
-        ≡ Err fault) }
+    ensures ok { (session : SessionOf) (fid : ℕ) → IfOk result
+        (λ listed. read_dir setting.now forest.now session fid held.now.fid opened offset
+        (length buffer.old) ≡ list_answer session fid listed.opened (take listed.size buffer.new)) }
+    ensures err { (session : SessionOf) (fid : ℕ) → IfErr result
+        (λ fault. read_dir setting.now forest.now session fid held.now.fid opened offset
+        (length buffer.old) ≡ Err fault) }
 {
     if !may_begin(offset, &opened) {
         return Err(Fault::BadDirectoryOffset);

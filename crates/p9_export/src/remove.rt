@@ -1,6 +1,6 @@
 //! The answer to a remove, as remove(5).
 
-ghost use Rattle.std.specs.Prelude.{◌≡◌, IfOk, false, map};
+ghost use Rattle.std.specs.Prelude.{◌≡◌, IfOk, false};
 ghost use Rattle.p9_fids.specs.Held.{HeldFits};
 ghost use Rattle.p9_wire.specs.Message.{Rremove, r_view};
 ghost use Rattle.p9_export.specs.Held.{SessionFits};
@@ -34,10 +34,9 @@ pub fn remove<T: Tree>(
     requires channels { SessionFits setting.now.table session.old }
     ensures channels { SessionFits setting.now.table session.new }
     ensures reply { IfOk result (λ reply. ReplyFits (r_view reply)) }
-    ensures answer { let old = map T.state forest.old.trees.items in
-        let new = map T.state forest.new.trees.items in
-        Answers (remove_answer setting.now old session.old.session now fid) false old new session.old.session
-        session.new.session (replied r_view result) }
+    ensures answer { Answers (remove_answer setting.now forest.old session.old.session now fid)
+        false forest.old forest.new session.old.session session.new.session
+        (replied r_view result) }
 {
     let Some(ended) = session.fids.take(fid) else {
         return Err(Fault::UnknownFid);
@@ -58,10 +57,8 @@ fn remove_file<T: Tree>(
     now: u32,
 ) -> Result<(), Fault>
     requires { HeldFits setting.now.table fid.now }
-    ensures { let old = map T.state forest.old.trees.items in
-        let new = map T.state forest.new.trees.items in
-        (left : SessionOf) → Answers (removal setting.now old left now fid.now.fid) false old new left
-        left (replied (λ _. Rremove) result) }
+    ensures { (left : SessionOf) → Answers (removal setting.now forest.old left now fid.now.fid)
+        false forest.old forest.new left left (replied (λ _. Rremove) result) }
 {
     let at = setting.file(fid);
     let Some(file) = forest.node(at) else {

@@ -1,6 +1,6 @@
 //! Rights in the directory that a file is in, as intro(5).
 
-ghost use Rattle.std.specs.Prelude.{◌≡◌, map};
+ghost use Rattle.std.specs.Prelude.{◌≡◌};
 ghost use Rattle.p9_space.specs.Rights.{who_view};
 ghost use Rattle.p9_step.specs.Rights.{may_write, may_write_parent};
 
@@ -10,7 +10,7 @@ use p9_tree::{Forest, Node, Tree};
 
 /// Whether the user may write the node, which exists.
 pub fn may_write<T: Tree>(who: Who<'_, T::Alloc>, forest: &Forest<T>, at: NodeRef) -> bool
-    ensures { result ≡ may_write (who_view who.entry) (map T.state forest.now.trees.items) at }
+    ensures { result ≡ may_write (who_view who.entry) forest.now at }
 {
     match forest.node(at) {
         Some(node) => may(who, node, TO_WRITE),
@@ -26,8 +26,7 @@ pub fn may_write_parent<T: Tree>(
     at: NodeRef,
     file: &Node<T::Alloc>,
 ) -> bool
-    ensures { result ≡ may_write_parent (who_view who.entry)
-        (map T.state forest.now.trees.items) at file.now }
+    ensures { result ≡ may_write_parent (who_view who.entry) forest.now at file.now }
 {
     match file.parent() {
         Some(number) => may_write(who, forest, at.beside(number)),

@@ -1,6 +1,6 @@
 //! The answer to a stat, as stat(5).
 
-ghost use Rattle.std.specs.Prelude.{◌≡◌, false, map};
+ghost use Rattle.std.specs.Prelude.{◌≡◌, false};
 ghost use Rattle.p9_export.specs.Held.{SessionFits};
 ghost use Rattle.p9_export.specs.Answers.{Answers, replied, stat_reply};
 ghost use Rattle.p9_step.specs.Stat.{stat_answer};
@@ -21,9 +21,9 @@ pub fn stat<T: Tree>(
     fid: u32,
 ) -> Result<NodeRef, Fault>
     requires { SessionFits setting.now.table session.now }
-    ensures { let forest = map T.state forest.now.trees.items in
-        Answers (stat_answer setting.now forest session.now.session fid) false forest forest session.now.session
-        session.now.session (replied (stat_reply forest) result) }
+    ensures { Answers (stat_answer setting.now forest.now session.now.session fid) false forest.now
+        forest.now session.now.session session.now.session
+        (replied (stat_reply forest.now) result) }
 {
     let Some(held) = session.fids.get(fid) else {
         return Err(Fault::UnknownFid);

@@ -1,6 +1,6 @@
 //! The answer to a version, as version(5).
 
-ghost use Rattle.std.specs.Prelude.{◌≡◌, IfOk, false, map};
+ghost use Rattle.std.specs.Prelude.{◌≡◌, IfOk, false};
 ghost use Rattle.p9_wire.specs.Message.{r_view};
 ghost use Rattle.p9_step.specs.Sound.{FidsFit};
 ghost use Rattle.p9_step.specs.Version.{is_known, version_answer};
@@ -32,13 +32,12 @@ pub fn version<T: Tree>(
     version: &str,
 ) -> Result<RMsg<'static>, Fault>
     requires channels { SessionFits setting.now.table session.old }
-    requires opened { FidsFit setting.now.table (map T.state forest.old.trees.items) session.old.session.fids }
+    requires opened { FidsFit setting.now.table forest.old session.old.session.fids }
     ensures channels { SessionFits setting.now.table session.new }
     ensures reply { IfOk result (λ reply. ReplyFits (r_view reply)) }
-    ensures answer { let old = map T.state forest.old.trees.items in
-        let new = map T.state forest.new.trees.items in
-        Answers (version_answer setting.now old session.old.session now msize version.now) false old new
-        session.old.session session.new.session (replied r_view result) }
+    ensures answer { Answers (version_answer setting.now forest.old session.old.session now msize
+        version.now) false forest.old forest.new session.old.session session.new.session
+        (replied r_view result) }
 {
     if msize < MSIZE_MIN {
         return Err(Fault::SmallMsize);

@@ -1,7 +1,7 @@
 //! The answer to a walk, as walk(5).
 
 ghost use Rattle.std.specs.Prelude.{◌≡◌, ◌≤◌, List, None, Some, IfOk, IfErr, IsSome, OnErr, OnOk};
-ghost use Rattle.std.specs.Prelude.{length, map, true};
+ghost use Rattle.std.specs.Prelude.{length, true};
 ghost use Rattle.p9_base.specs.declared.fault.Fault.TheVariants.{OutOfMemory};
 ghost use Rattle.p9_fids.specs.Fid.{fid_at};
 ghost use Rattle.p9_space.specs.Channel.{Fits, trail_of};
@@ -44,9 +44,9 @@ pub fn walk<T: Tree>(
 ) -> Result<Qids, Fault>
     requires channels { SessionFits setting.now.table session.old }
     ensures channels { SessionFits setting.now.table session.new }
-    ensures answer { let forest = map T.state forest.now.trees.items in
-        Answers (walk_answer setting.now forest session.old.session fid newfid names.now) true forest forest
-        session.old.session session.new.session (replied Rwalk result) }
+    ensures answer { Answers (walk_answer setting.now forest.now session.old.session fid newfid
+        names.now) true forest.now forest.now session.old.session session.new.session
+        (replied Rwalk result) }
 {
     let Some(held) = session.fids.get(fid) else {
         return Err(Fault::UnknownFid);
@@ -107,8 +107,8 @@ fn walk_along<T: Tree>(
     names: &Names<'_>,
 ) -> Result<Walked<T::Alloc>, NoMemory>
     requires { Fits setting.now.table start.now }
-    ensures walked { IfOk result (λ w. w.walked ≡ walked setting.now
-        (map T.state forest.now.trees.items) user.now (trail_of start.now) names.now) }
+    ensures walked { IfOk result (λ w. w.walked
+        ≡ walked setting.now forest.now user.now (trail_of start.now) names.now) }
     ensures fits { IfOk result (WalkFits setting.now.table) }
 {
     let mut qids = Qids::new();
@@ -147,8 +147,7 @@ fn arrive<T: Tree>(
     arrival: Arrival<'_, T::Alloc>,
 ) -> Result<Qid, NoMemory>
     requires room { length (stepped (trail_of channels.old) arrival.step) ≤ PLACES_MAX }
-    requires file { node_of arrival.at (map T.state forest.now.trees.items)
-        ≡ Some arrival.file.now }
+    requires file { node_of arrival.at forest.now ≡ Some arrival.file.now }
     ensures qid { IfOk result (λ qid. qid ≡ qid_of arrival.entry.at arrival.entry.file.now) }
     ensures ok { OnOk result (trail_of channels.new
         ≡ stepped (trail_of channels.old) arrival.entry.step) }

@@ -1,6 +1,6 @@
 //! The answer to a write, as read(5).
 
-ghost use Rattle.std.specs.Prelude.{◌≡◌, ◌+◌, length, map, nat_le};
+ghost use Rattle.std.specs.Prelude.{◌≡◌, ◌+◌, length, nat_le};
 ghost use Rattle.p9_fids.specs.Opened.{writes};
 ghost use Rattle.p9_wire.specs.Message.{Rwrite};
 ghost use Rattle.p9_export.specs.Held.{SessionFits};
@@ -36,11 +36,10 @@ pub fn write<T: Tree>(
     bytes: &[u8],
 ) -> Result<u32, Fault>
     requires channels { SessionFits setting.now.table session.now }
-    requires opened { FidsFit setting.now.table (map T.state forest.old.trees.items) session.now.session.fids }
-    ensures { let old = map T.state forest.old.trees.items in
-        let new = map T.state forest.new.trees.items in
-        let answer = write_answer setting.now old session.now.session now fid offset bytes.now in
-        Answers answer (is_done answer) old new session.now.session session.now.session (replied Rwrite result) }
+    requires opened { FidsFit setting.now.table forest.old session.now.session.fids }
+    ensures { let answer = write_answer setting.now forest.old session.now.session now fid offset
+        bytes.now in Answers answer (is_done answer) forest.old forest.new session.now.session
+        session.now.session (replied Rwrite result) }
 {
     let Some(held) = session.fids.get(fid) else {
         return Err(Fault::UnknownFid);

@@ -1,6 +1,6 @@
 //! The answer to a wstat, as stat(5).
 
-ghost use Rattle.std.specs.Prelude.{◌≡◌, ◌-◌, ◌^◌, IsTrue, map, option_and_then};
+ghost use Rattle.std.specs.Prelude.{◌≡◌, ◌-◌, ◌^◌, IsTrue, option_and_then};
 ghost use Rattle.std.specs.Option.{ForSome, option_copied};
 ghost use Rattle.p9_base.specs.Mode.{mode_of};
 ghost use Rattle.p9_base.specs.Name.{is_name};
@@ -61,11 +61,9 @@ pub fn wstat<T: Tree>(
     wanted: &Stat<'_>,
 ) -> Result<(), Fault>
     requires channels { SessionFits setting.now.table session.now }
-    ensures { let old = map T.state forest.old.trees.items in
-        let new = map T.state forest.new.trees.items in
-        let answer = wstat_answer setting.now old session.now.session now fid (stat_view wanted.now) in
-        Answers answer (is_done answer) old new session.now.session session.now.session (replied
-        (λ _. Rwstat) result) }
+    ensures { let answer = wstat_answer setting.now forest.old session.now.session now fid
+        (stat_view wanted.now) in Answers answer (is_done answer) forest.old forest.new
+        session.now.session session.now.session (replied (λ _. Rwstat) result) }
 {
     let Some(held) = session.fids.get(fid) else {
         return Err(Fault::UnknownFid);
@@ -183,8 +181,7 @@ fn wstat_fault<T: Tree>(
     file: &Node<T::Alloc>,
     touched: &Touched<'_>,
 ) -> Option<Fault>
-    ensures { result ≡ wstat_fault (who_view who.entry) (map T.state forest.now.trees.items) at
-        file.now
+    ensures { result ≡ wstat_fault (who_view who.entry) forest.now at file.now
         (touched_view touched.now) }
 {
     if let Some(fault) = mode_fault(file, touched.mode) {
@@ -226,7 +223,7 @@ fn name_fault<T: Tree>(
     name: Option<&str>,
 ) -> Option<Fault>
     ensures { result ≡ option_and_then (name_fault (who_view who.entry)
-        (map T.state forest.now.trees.items) at file.now) (option_copied name.entry) }
+        forest.now at file.now) (option_copied name.entry) }
 {
     let name = name?;
     if file.parent().is_none() {
@@ -246,7 +243,7 @@ fn name_fault<T: Tree>(
 
 // Whether the directory of the file has an entry of the name.
 fn has_sibling<T: Tree>(forest: &Forest<T>, at: NodeRef, file: &Node<T::Alloc>, name: &Name) -> bool
-    ensures { result ≡ has_sibling (map T.state forest.now.trees.items) at file.now name.now }
+    ensures { result ≡ has_sibling forest.now at file.now name.now }
 {
     let Some(number) = file.parent() else {
         return false;

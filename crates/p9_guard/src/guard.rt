@@ -207,8 +207,7 @@ fn next_numbers<T: Tree>(
     alloc: T::Alloc,
     forest: &Forest<T>,
 ) -> Result<Vec<u64, T::Alloc>, NoMemory>
-    ensures { IfOk result (λ base. base.items
-        ≡ map (λ s. s.next) (map T.state forest.now.trees.items)) }
+    ensures { IfOk result (λ base. base.items ≡ map (λ s. s.next) forest.now) }
 {
     let mut base = Vec::new(alloc);
     for tree in &forest.trees {

@@ -1,7 +1,7 @@
 //! The search of a world for breaches.
 
 ghost use Rattle.std.specs.Prelude.{◌≡◌, ◌++◌, ◌∷◌, ◌<◌, ◌&&◌, ◌||◌, [], IfOk, IsTrue, None, OnOk};
-ghost use Rattle.std.specs.Prelude.{is_some, length, map, slice_get, option_map};
+ghost use Rattle.std.specs.Prelude.{is_some, length, slice_get, option_map};
 ghost use Rattle.p9_base.specs.NodeRef.{same_node};
 ghost use Rattle.p9_base.specs.Name.{is_name};
 ghost use Rattle.p9_tree.specs.Server.{next_max};
@@ -144,7 +144,7 @@ impl<A: Allocator + Copy> Search<A> {
         user: User,
     ) -> Result<(), NoMemory>
         ensures places { OnOk result (self.new.places.items ≡ self.old.places.items
-            ++ child_places (map T.state forest.now.trees.items) from dir user) }
+            ++ child_places forest.now from dir user) }
         ensures passed { self.new.passed.keys ≡ self.old.passed.keys }
     {
         forest.well_formed();

@@ -11,10 +11,10 @@ pub record Environment : Type 0 where
   pub servers : List (List ℕ)
 
 -- an environment of the code, as it is seen
-abbrev pub environment_view : {T A : Type 0} → (T → Server) → List T → List (String A × String A)
+abbrev pub environment_view : {A : Type 0} → List Server → List (String A × String A)
     → List (String A) → Environment
-environment_view state trees vars servers = record {
-  forest = map state trees;
+environment_view forest vars servers = record {
+  forest = forest;
   vars = variables_of vars;
   servers = map string_bytes servers;
 }

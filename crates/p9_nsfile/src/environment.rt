@@ -33,7 +33,7 @@ impl<'a, T: Tree> Model for Environment<'a, T> {
 
     ghost Value = { EnvironmentOf };
 
-    ghost view = { λ s. environment_view T.state s.forest.now.trees.items s.vars.now s.servers.now };
+    ghost view = { λ s. environment_view s.forest.now s.vars.now s.servers.now };
 }
 
 impl<'a, T: Tree> Environment<'a, T> {
@@ -44,7 +44,7 @@ impl<'a, T: Tree> Environment<'a, T> {
         vars: &'a [(String<T::Alloc>, String<T::Alloc>)],
         servers: &'a [String<T::Alloc>],
     ) -> Environment<'a, T>
-        ensures { result ≡ environment_view T.state forest.now.trees.items vars.now servers.now }
+        ensures { result ≡ environment_view forest.now vars.now servers.now }
     {
         Environment {
             alloc,

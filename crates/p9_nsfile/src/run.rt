@@ -44,14 +44,12 @@ pub fn run_file<T: Tree>(
     forest: &Forest<T>,
     table: &mut MountTable<T::Alloc>,
 ) -> Result<Vec<(u64, OpFault), T::Alloc>, NsError>
-    ensures ok { IfOk result (λ reports.
-        run_of (environment_view T.state forest.now.trees.items vars.now servers.now)
+    ensures ok { IfOk result (λ reports. run_of (environment_view forest.now vars.now servers.now)
         text.now table.old ≡ Ok (table.new, reports.items)) }
     ensures err { IfErr result (IsNsFault
-        (run_of (environment_view T.state forest.now.trees.items vars.now servers.now)
-        text.now table.old)) }
+        (run_of (environment_view forest.now vars.now servers.now) text.now table.old)) }
     ensures unchanged { OnErr result (table.new ≡ table.old) }
-    ensures given { OnOk result (KeepsGiven (environment_view T.state forest.now.trees.items
+    ensures given { OnOk result (KeepsGiven (environment_view forest.now
         vars.now servers.now) table.old table.new) }
 {
     forest.well_formed();

@@ -153,14 +153,13 @@ pub fn find_arrival_from<'a, T: Tree, A: Allocator + Copy, B: Allocator + Copy>(
     who: Option<Who<'_, B>>,
 ) -> Result<Arrival<'a, T::Alloc>, Fault>
     requires { Fits table.now channels.now }
-    ensures ok { IfOk result (λ arrival. step_of (map T.state forest.now.trees.items) table.now
+    ensures ok { IfOk result (λ arrival. step_of forest.now table.now
         (option_map who_view who.entry) (trail_of channels.now) name.now ≡ Ok arrival.step) }
-    ensures err { IfErr result (λ fault. step_of (map T.state forest.now.trees.items) table.now
+    ensures err { IfErr result (λ fault. step_of forest.now table.now
         (option_map who_view who.entry) (trail_of channels.now) name.now ≡ Err fault) }
     ensures at { IfOk result (λ arrival. arrival.at
         ≡ file_ref (here (stepped (trail_of channels.now) arrival.step)) table.now) }
-    ensures file { IfOk result (λ arrival. node_of arrival.at (map T.state forest.now.trees.items)
-        ≡ Some arrival.file.now) }
+    ensures file { IfOk result (λ arrival. node_of arrival.at forest.now ≡ Some arrival.file.now) }
     ensures room { IfOk result (λ arrival. length (stepped (trail_of channels.now) arrival.step)
         ≤ PLACES_MAX) }
 {
@@ -184,13 +183,12 @@ pub fn advance<T: Tree, A: Allocator + Copy, B: Allocator + Copy>(
     who: Option<Who<'_, B>>,
 ) -> Result<(), Fault>
     requires { Fits table.now channels.old }
-    ensures ok { OnOk result (walk (map T.state forest.now.trees.items) table.now
-        (option_map who_view who.entry) (trail_of channels.old) (map (λ n. n.now) names.now)
-        ≡ Ok (trail_of channels.new)) }
+    ensures ok { OnOk result (walk forest.now table.now (option_map who_view who.entry)
+        (trail_of channels.old) (map (λ n. n.now) names.now) ≡ Ok (trail_of channels.new)) }
     ensures fits { Fits table.now channels.new }
-    ensures err { IfErr result (λ fault. (fault ≡ OutOfMemory)
-        ⊎ (walk (map T.state forest.now.trees.items) table.now (option_map who_view who.entry)
-        (trail_of channels.old) (map (λ n. n.now) names.now) ≡ Err fault)) }
+    ensures err { IfErr result (λ fault. (fault ≡ OutOfMemory) ⊎
+        (walk forest.now table.now (option_map who_view who.entry) (trail_of channels.old)
+        (map (λ n. n.now) names.now) ≡ Err fault)) }
     ensures unchanged { OnErr result (channels.new ≡ channels.old) }
 {
     let walked = walked_along(forest, table, channels, names, who)?;
@@ -207,13 +205,12 @@ fn walked_along<T: Tree, A: Allocator + Copy, B: Allocator + Copy>(
     who: Option<Who<'_, B>>,
 ) -> Result<Channels<B>, Fault>
     requires { Fits table.now start.now }
-    ensures ok { IfOk result (λ walked. walk (map T.state forest.now.trees.items) table.now
-        (option_map who_view who.entry) (trail_of start.now) (map (λ n. n.now) names.now)
-        ≡ Ok (trail_of walked)) }
+    ensures ok { IfOk result (λ walked. walk forest.now table.now (option_map who_view who.entry)
+        (trail_of start.now) (map (λ n. n.now) names.now) ≡ Ok (trail_of walked)) }
     ensures fits { IfOk result (λ walked. Fits table.now walked) }
-    ensures err { IfErr result (λ fault. (fault ≡ OutOfMemory)
-        ⊎ (walk (map T.state forest.now.trees.items) table.now (option_map who_view who.entry)
-        (trail_of start.now) (map (λ n. n.now) names.now) ≡ Err fault)) }
+    ensures err { IfErr result (λ fault. (fault ≡ OutOfMemory) ⊎
+        (walk forest.now table.now (option_map who_view who.entry) (trail_of start.now)
+        (map (λ n. n.now) names.now) ≡ Err fault)) }
 {
     let mut walked = start.copy()?;
     for name in names {

@@ -1,6 +1,6 @@
 //! Whether a mount table names only nodes that were made.
 
-ghost use Rattle.std.specs.Prelude.{◌≡◌, map};
+ghost use Rattle.std.specs.Prelude.{◌≡◌};
 ghost use Rattle.std.specs.List.{list_all};
 ghost use Rattle.p9_space.specs.Given.{is_given, is_row_given, is_table_given};
 
@@ -16,7 +16,7 @@ pub fn is_table_given<T: Tree, A: Allocator + Copy>(
     forest: &Forest<T>,
     table: &MountTable<A>,
 ) -> bool
-    ensures { result ≡ is_table_given (map T.state forest.now.trees.items) table.now }
+    ensures { result ≡ is_table_given forest.now table.now }
 {
     for position in 0..table.len() {
         if let Some((key, members)) = table.row(position) {
@@ -29,21 +29,20 @@ pub fn is_table_given<T: Tree, A: Allocator + Copy>(
 }
 
 fn is_row_given<T: Tree>(forest: &Forest<T>, key: NodeRef, members: &Members<'_>) -> bool
-    ensures { result ≡ is_row_given (map T.state forest.now.trees.items) (key, members.now) }
+    ensures { result ≡ is_row_given forest.now (key, members.now) }
 {
     is_given(forest, key) && are_given(forest, members.as_slice())
 }
 
 fn are_given<T: Tree>(forest: &Forest<T>, members: &[Member]) -> bool
-    ensures { result ≡ list_all (λ m. is_given
-        (map T.state forest.now.trees.items) m.node) members.now }
+    ensures { result ≡ list_all (λ m. is_given forest.now m.node) members.now }
 {
     members.iter().all(|m| is_given(forest, m.node))
 }
 
 // Whether the number of the node was given. Where there is no such server none was.
 fn is_given<T: Tree>(forest: &Forest<T>, at: NodeRef) -> bool
-    ensures { result ≡ is_given (map T.state forest.now.trees.items) at }
+    ensures { result ≡ is_given forest.now at }
 {
     at.number < forest.next_of(at.server)
 }

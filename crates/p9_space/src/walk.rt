@@ -53,12 +53,12 @@ fn find_in<T: Tree, A: Allocator + Copy>(
     name: Option<&Name>,
     who: Option<Who<'_, A>>,
 ) -> Found
-    ensures alive { result.alive ≡ is_alive (map T.state forest.now.trees.items) member.now }
-    ensures dir { result.dir ≡ is_alive_dir (map T.state forest.now.trees.items) member.now }
-    ensures searched { result.searched ≡ is_searched (map T.state forest.now.trees.items)
-        (option_map who_view who.entry) member.now }
-    ensures child { result.child ≡ named_child (map T.state forest.now.trees.items)
-        (option_map who_view who.entry) (option_copied name.entry) member.now }
+    ensures alive { result.alive ≡ is_alive forest.now member.now }
+    ensures dir { result.dir ≡ is_alive_dir forest.now member.now }
+    ensures searched { result.searched ≡ is_searched forest.now (option_map who_view who.entry)
+        member.now }
+    ensures child { result.child ≡ named_child forest.now (option_map who_view who.entry)
+        (option_copied name.entry) member.now }
 {
     let Some(node) = forest.node(member.node) else {
         return Found {
@@ -84,8 +84,7 @@ fn find_in<T: Tree, A: Allocator + Copy>(
 
 // The node of the name in the directory, as a place. Without a name there is none.
 fn child_ref<T: Tree>(forest: &Forest<T>, dir: NodeRef, name: Option<&Name>) -> Option<NodeRef>
-    ensures { result ≡ option_and_then (child_ref (map T.state forest.now.trees.items) dir)
-        (option_copied name.entry) }
+    ensures { result ≡ option_and_then (child_ref forest.now dir) (option_copied name.entry) }
 {
     forest
         .child(dir, name?)
@@ -99,14 +98,12 @@ fn find_among<T: Tree, A: Allocator + Copy>(
     name: Option<&Name>,
     who: Option<Who<'_, A>>,
 ) -> Found
-    ensures alive { result.alive
-        ≡ list_any (is_alive (map T.state forest.now.trees.items)) members.now }
-    ensures dir { result.dir
-        ≡ list_any (is_alive_dir (map T.state forest.now.trees.items)) members.now }
-    ensures searched { result.searched ≡ list_any (is_searched (map T.state forest.now.trees.items)
+    ensures alive { result.alive ≡ list_any (is_alive forest.now) members.now }
+    ensures dir { result.dir ≡ list_any (is_alive_dir forest.now) members.now }
+    ensures searched { result.searched ≡ list_any (is_searched forest.now
         (option_map who_view who.entry)) members.now }
-    ensures child { result.child ≡ named_among (map T.state forest.now.trees.items)
-        (option_map who_view who.entry) (option_copied name.entry) members.now }
+    ensures child { result.child ≡ named_among forest.now (option_map who_view who.entry)
+        (option_copied name.entry) members.now }
 {
     let mut alive = false;
     let mut dir = false;
@@ -135,14 +132,12 @@ fn find_by<T: Tree, A: Allocator + Copy>(
     name: &str,
     who: Option<Who<'_, A>>,
 ) -> Found
-    ensures alive { result.alive
-        ≡ list_any (is_alive (map T.state forest.now.trees.items)) members.now }
-    ensures dir { result.dir
-        ≡ list_any (is_alive_dir (map T.state forest.now.trees.items)) members.now }
-    ensures searched { result.searched ≡ list_any (is_searched (map T.state forest.now.trees.items)
+    ensures alive { result.alive ≡ list_any (is_alive forest.now) members.now }
+    ensures dir { result.dir ≡ list_any (is_alive_dir forest.now) members.now }
+    ensures searched { result.searched ≡ list_any (is_searched forest.now
         (option_map who_view who.entry)) members.now }
-    ensures child { result.child ≡ child_among (map T.state forest.now.trees.items)
-        (option_map who_view who.entry) name.now members.now }
+    ensures child { result.child ≡ child_among forest.now (option_map who_view who.entry) name.now
+        members.now }
 {
     match Name::new(name) {
         Some(name) => find_among(forest, members, Some(&name), who),
@@ -164,8 +159,8 @@ fn step_down<T: Tree, A: Allocator + Copy>(
     requires few { length trail.now ≤ PLACES_MAX }
     requires other { bytes_eq name.now (codes "..") ≡ false }
     ensures room { IfOk result (λ step. length (stepped trail.now step) ≤ PLACES_MAX) }
-    ensures step { result ≡ step_among (map T.state forest.now.trees.items)
-        (option_map who_view who.entry) trail.now name.now members.now }
+    ensures step { result ≡ step_among forest.now (option_map who_view who.entry) trail.now name.now
+        members.now }
 {
     let found = find_by(forest, members, name, who);
     if !found.alive {
@@ -192,7 +187,7 @@ fn step_down<T: Tree, A: Allocator + Copy>(
 /// Why no walk goes on from the members of a place, if so: none exists, [`Fault::PhaseError`]; or
 /// none that exists is a directory, [`Fault::NotDirectory`].
 pub fn dir_fault<T: Tree>(forest: &Forest<T>, members: &[Member]) -> Option<Fault>
-    ensures { result ≡ dir_fault (map T.state forest.now.trees.items) members.now }
+    ensures { result ≡ dir_fault forest.now members.now }
 {
     let mut alive = false;
     for member in members {
@@ -220,8 +215,8 @@ fn step_among<T: Tree, A: Allocator + Copy>(
 ) -> Result<Step, Fault>
     requires { length trail.now ≤ PLACES_MAX }
     ensures room { IfOk result (λ step. length (stepped trail.now step) ≤ PLACES_MAX) }
-    ensures step { result ≡ step_among (map T.state forest.now.trees.items)
-        (option_map who_view who.entry) trail.now name.now members.now }
+    ensures step { result ≡ step_among forest.now (option_map who_view who.entry) trail.now name.now
+        members.now }
 {
     if name != ".." {
         return step_down(forest, trail, members, name, who);
@@ -258,14 +253,13 @@ pub fn find_arrival<'a, T: Tree, A: Allocator + Copy, B: Allocator + Copy>(
     name: &str,
     who: Option<Who<'_, B>>,
 ) -> Result<Arrival<'a, T::Alloc>, Fault>
-    ensures ok { IfOk result (λ arrival. step_of (map T.state forest.now.trees.items) table.now
+    ensures ok { IfOk result (λ arrival. step_of forest.now table.now
         (option_map who_view who.entry) trail.now name.now ≡ Ok arrival.step) }
-    ensures err { IfErr result (λ fault. step_of (map T.state forest.now.trees.items) table.now
+    ensures err { IfErr result (λ fault. step_of forest.now table.now
         (option_map who_view who.entry) trail.now name.now ≡ Err fault) }
     ensures at { IfOk result (λ arrival. arrival.at
         ≡ file_ref (here (stepped trail.now arrival.step)) table.now) }
-    ensures file { IfOk result (λ arrival. node_of arrival.at (map T.state forest.now.trees.items)
-        ≡ Some arrival.file.now) }
+    ensures file { IfOk result (λ arrival. node_of arrival.at forest.now ≡ Some arrival.file.now) }
     ensures room { IfOk result (λ arrival. length (stepped trail.now arrival.step) ≤ PLACES_MAX) }
 {
     arrival_among(
@@ -288,14 +282,13 @@ pub(crate) fn arrival_among<'a, T: Tree, A: Allocator + Copy, B: Allocator + Cop
     who: Option<Who<'_, B>>,
 ) -> Result<Arrival<'a, T::Alloc>, Fault>
     requires { members.now ≡ members_of (here trail.now) table.now }
-    ensures ok { IfOk result (λ arrival. step_of (map T.state forest.now.trees.items) table.now
+    ensures ok { IfOk result (λ arrival. step_of forest.now table.now
         (option_map who_view who.entry) trail.now name.now ≡ Ok arrival.step) }
-    ensures err { IfErr result (λ fault. step_of (map T.state forest.now.trees.items) table.now
+    ensures err { IfErr result (λ fault. step_of forest.now table.now
         (option_map who_view who.entry) trail.now name.now ≡ Err fault) }
     ensures at { IfOk result (λ arrival. arrival.at
         ≡ file_ref (here (stepped trail.now arrival.step)) table.now) }
-    ensures file { IfOk result (λ arrival. node_of arrival.at (map T.state forest.now.trees.items)
-        ≡ Some arrival.file.now) }
+    ensures file { IfOk result (λ arrival. node_of arrival.at forest.now ≡ Some arrival.file.now) }
     ensures room { IfOk result (λ arrival. length (stepped trail.now arrival.step) ≤ PLACES_MAX) }
 {
     trail.len();
@@ -315,8 +308,8 @@ pub fn find_step<T: Tree, A: Allocator + Copy, B: Allocator + Copy>(
     name: &str,
     who: Option<Who<'_, B>>,
 ) -> Result<Step, Fault>
-    ensures step { result ≡ step_of (map T.state forest.now.trees.items) table.now
-        (option_map who_view who.entry) trail.now name.now }
+    ensures step { result ≡ step_of forest.now table.now (option_map who_view who.entry) trail.now
+        name.now }
     ensures room { IfOk result (λ step. length (stepped trail.now step) ≤ PLACES_MAX) }
 {
     match find_arrival(forest, table, trail, name, who) {
@@ -334,11 +327,10 @@ pub fn resolve<T: Tree, A: Allocator + Copy, B: Allocator + Copy>(
     names: &[&str],
     who: Option<Who<'_, B>>,
 ) -> Result<Trail<B>, Fault>
-    ensures ok { IfOk result (λ trail. walk (map T.state forest.now.trees.items) table.now
-        (option_map who_view who.entry) start.now (map (λ n. n.now) names.now) ≡ Ok trail) }
-    ensures err { IfErr result (λ fault. (fault ≡ OutOfMemory)
-        ⊎ (walk (map T.state forest.now.trees.items) table.now (option_map who_view who.entry)
-        start.now
+    ensures ok { IfOk result (λ trail. walk forest.now table.now (option_map who_view who.entry)
+        start.now (map (λ n. n.now) names.now) ≡ Ok trail) }
+    ensures err { IfErr result (λ fault. (fault ≡ OutOfMemory) ⊎
+        (walk forest.now table.now (option_map who_view who.entry) start.now
         (map (λ n. n.now) names.now) ≡ Err fault)) }
 {
     let mut trail = start.copy()?;

@@ -1,6 +1,6 @@
 -- What holds of each tree, and a change of one, seen in the list of the servers.
 use Rattle.std.proofs.Common.{◌≡◌, ℕ, zero, suc, ◌<◌, ◌≤◌, List, [], ◌∷◌, length, get_or, set, map}
-use Rattle.std.proofs.Common.{Some}
+use Rattle.std.proofs.Common.{Some, false, true, refl}
 use Rattle.std.proofs.Common.{slice_get, sym, ap, ◌∙◌, subst, arith, IsTrue}
 use Rattle.std.proofs.lemmas.Grind.{common_steps}
 use Rattle.std.proofs.lemmas.List.{length-map}
@@ -38,6 +38,14 @@ pub map-set_same : {T : Type 0} (f : T → Server) (ts : List T) (i : ℕ) (t u 
 map-set_same f [] i t u lt read e = absurd (omega arith)
 map-set_same f (v ∷ ts) zero t u lt read e = ap (λ s. s ∷ map f ts) (e ∙ ap f read)
 map-set_same f (v ∷ ts) (suc i) t u lt read e = grind (arith, common_steps, map-set_same f ts i t u)
+
+-- a change of a server that isn't there changes nothing
+pub map-tree_absent : {T : Type 0} (f : T → Server) (change : Server → Server) (ts : List T)
+    (i : ℕ) → (i < length ts → false ≡ true) → map f ts ≡ tree_changed_at i change (map f ts)
+map-tree_absent f change [] i absent = refl
+map-tree_absent f change (t ∷ ts) zero absent = absurd (let lie = absent (omega arith) in cc)
+map-tree_absent f change (t ∷ ts) (suc i) absent =
+    ap (λ rest. f t ∷ rest) (map-tree_absent f change ts i (λ lt. absent (omega (arith, lt))))
 
 -- a server with a directory is there
 pub server_within : {T : Type 0} (f : T → Server) (ts : List T) (i dir : ℕ)

@@ -1,9 +1,8 @@
 //! The trees of all servers.
 
 ghost use Rattle.std.specs.Prelude.{◌≡◌, ◌≢◌, ◌+◌, ◌≤◌, IfOk, IsFalse, IsTrue, OnErr, OnOk};
-ghost use Rattle.std.specs.Prelude.{length, map};
+ghost use Rattle.std.specs.Prelude.{length};
 ghost use Rattle.std.specs.Option.{option_copied};
-ghost use Rattle.p9_base.specs.NodeRef.{servers_max};
 ghost use Rattle.p9_tree.specs.Bytes.{cut_to, overwritten, put_front, read_from};
 ghost use Rattle.p9_tree.specs.Change.{CanChange, changed};
 ghost use Rattle.p9_tree.specs.Forest.{IsForest, bytes_of, child_in, child_in_after};
@@ -19,34 +18,47 @@ use crate::new::New;
 use crate::node::Node;
 use crate::tree::Tree;
 use p9_base::{Name, NoMemory, NodeRef, User};
+use std::marker::Model;
 
 /// The trees of all servers. A tree's position is its server's number, which has 16 bits, so there
 /// are at most [`p9_base::SERVERS_MAX`]. There may be none.
+///
+/// Contracts see a forest as the list of its servers.
 #[derive(Drop)]
 pub struct Forest<T: Tree> {
     pub trees: Vec<T, T::Alloc>,
-    ghost few: { length trees.items ≤ servers_max },
+}
+
+impl<T: Tree> Model for Forest<T> {
+    ghost use Rattle.std.specs.Prelude.{List, ◌≤◌, length, map};
+    ghost use Rattle.p9_base.specs.NodeRef.{servers_max};
+    ghost use Rattle.p9_tree.specs.Server.{Server};
+
+    ghost Value = { List Server };
+
+    ghost view = { λ f. map T.state f.trees.items };
+
+    ghost invariant = { λ f. length f.trees.items ≤ servers_max };
 }
 
 impl<T: Tree> Forest<T> {
     /// The node, if it exists.
     pub fn node(&self, at: NodeRef) -> Option<&Node<T::Alloc>>
-        ensures { option_copied result ≡ node_of at (map T.state self.now.trees.items) }
+        ensures { option_copied result ≡ node_of at self.now }
     {
         self.trees.get(at.server as usize)?.node(at.number)
     }
 
     /// The node of this name in the directory.
     pub fn child(&self, dir: NodeRef, name: &Name) -> Option<&Node<T::Alloc>>
-        ensures { option_copied result ≡ child_in dir name.now (map T.state self.now.trees.items) }
+        ensures { option_copied result ≡ child_in dir name.now self.now }
     {
         self.trees.get(dir.server as usize)?.child(dir.number, name)
     }
 
     /// The node of least number in the directory, above the floor if there is one.
     pub fn after(&self, dir: NodeRef, floor: Option<u64>) -> Option<&Node<T::Alloc>>
-        ensures { option_copied result
-            ≡ child_in_after dir floor (map T.state self.now.trees.items) }
+        ensures { option_copied result ≡ child_in_after dir floor self.now }
     {
         self.trees
             .get(dir.server as usize)?
@@ -55,7 +67,7 @@ impl<T: Tree> Forest<T> {
 
     /// The number that the server's next new node gets. It is 0 where there is no such server.
     pub fn next_of(&self, server: u16) -> u64
-        ensures { result ≡ next_of server (map T.state self.now.trees.items) }
+        ensures { result ≡ next_of server self.now }
     {
         self.trees
             .get(server as usize)
@@ -65,9 +77,9 @@ impl<T: Tree> Forest<T> {
     /// Copies the file's bytes from the offset on, as many as are there and have room, over the
     /// front of the buffer, and answers how many they are. The rest of the buffer stays.
     pub fn read_into(&self, at: NodeRef, offset: u64, buffer: &mut [u8]) -> usize
-        ensures count { let bytes = bytes_of at (map T.state self.now.trees.items) in
+        ensures count { let bytes = bytes_of at self.now in
             result ≡ length (read_from offset (length buffer.old) bytes) }
-        ensures filled { let bytes = bytes_of at (map T.state self.now.trees.items) in
+        ensures filled { let bytes = bytes_of at self.now in
             buffer.new ≡ put_front (read_from offset (length buffer.old) bytes) buffer.old }
     {
         match self.node(at) {
@@ -79,15 +91,13 @@ impl<T: Tree> Forest<T> {
     /// Makes a node of the server's next number in the directory. Where an allocation fails, the
     /// forest is as before.
     pub fn add(&mut self, dir: NodeRef, new: &New<'_>) -> Result<NodeRef, NoMemory>
-        requires { let server = server_at dir.server (map T.state self.old.trees.items) in
+        requires { let server = server_at dir.server self.old in
             CanAddNew server dir.number new.now }
-        ensures made { let number = next_of dir.server (map T.state self.old.trees.items) in
+        ensures made { let number = next_of dir.server self.old in
             IfOk result (λ made. made ≡ record { server = dir.server; number = number }) }
-        ensures ok { OnOk result (map T.state self.new.trees.items
-            ≡ tree_changed_at dir.server (added_new dir.number new.now)
-            (map T.state self.old.trees.items)) }
-        ensures err { OnErr result (map T.state self.new.trees.items
-            ≡ map T.state self.old.trees.items) }
+        ensures ok { OnOk result (self.new
+            ≡ tree_changed_at dir.server (added_new dir.number new.now) self.old) }
+        ensures err { OnErr result (self.new ≡ self.old) }
     {
         let number = self.trees[dir.server as usize].add(dir.number, new)?;
         Ok(dir.beside(number))
@@ -96,10 +106,8 @@ impl<T: Tree> Forest<T> {
     /// Takes out a file or an empty directory. Its parent isn't marked.
     pub fn drop_leaf(&mut self, at: NodeRef)
         requires not_root { at.number ≢ 0 }
-        requires empty { IsFalse (has_children_of at (map T.state self.old.trees.items)) }
-        ensures { map T.state self.new.trees.items
-            ≡ tree_changed_at at.server (with_dropped at.number)
-            (map T.state self.old.trees.items) }
+        requires empty { IsFalse (has_children_of at self.old) }
+        ensures { self.new ≡ tree_changed_at at.server (with_dropped at.number) self.old }
     {
         if let Some(tree) = self.trees.get_mut(at.server as usize) {
             tree.drop_leaf(at.number);
@@ -109,14 +117,13 @@ impl<T: Tree> Forest<T> {
     /// Makes all of the change in the node at once, as [`Tree::change`]. Where an allocation fails,
     /// which it may be only where there is a node, the forest is as before.
     pub fn change(&mut self, at: NodeRef, change: &Change) -> Result<(), NoMemory>
-        requires { let server = server_at at.server (map T.state self.old.trees.items) in
+        requires { let server = server_at at.server self.old in
             CanChange server at.number change.now }
-        ensures ok { OnOk result (map T.state self.new.trees.items
-            ≡ forest_changed_at at (changed change.entry.now) (map T.state self.old.trees.items)) }
-        ensures err { OnErr result (map T.state self.new.trees.items
-            ≡ map T.state self.old.trees.items) }
-        ensures there { OnErr result (let forest = map T.state self.old.trees.items in
-            IsTrue (exists_at at.number (server_at at.server forest).nodes)) }
+        ensures ok { OnOk result (self.new
+            ≡ forest_changed_at at (changed change.entry.now) self.old) }
+        ensures err { OnErr result (self.new ≡ self.old) }
+        ensures there { OnErr result (IsTrue
+            (exists_at at.number (server_at at.server self.old).nodes)) }
     {
         if let Some(tree) = self.trees.get_mut(at.server as usize) {
             tree.change(at.number, change)?;
@@ -126,8 +133,7 @@ impl<T: Tree> Forest<T> {
 
     /// Marks the node, as [`Tree::bump`].
     pub fn bump(&mut self, at: NodeRef, user: User, now: u32)
-        ensures { map T.state self.new.trees.items
-            ≡ forest_changed_at at (marked user now) (map T.state self.old.trees.items) }
+        ensures { self.new ≡ forest_changed_at at (marked user now) self.old }
     {
         if let Some(tree) = self.trees.get_mut(at.server as usize) {
             tree.bump(at.number, user, now);
@@ -136,8 +142,7 @@ impl<T: Tree> Forest<T> {
 
     /// Makes the clock reading the time when the file was last read.
     pub fn touch(&mut self, at: NodeRef, now: u32)
-        ensures { map T.state self.new.trees.items
-            ≡ forest_changed_at at (touched now) (map T.state self.old.trees.items) }
+        ensures { self.new ≡ forest_changed_at at (touched now) self.old }
     {
         if let Some(tree) = self.trees.get_mut(at.server as usize) {
             tree.touch(at.number, now);
@@ -148,15 +153,13 @@ impl<T: Tree> Forest<T> {
     /// Where an allocation fails, which it may only where there is a node, the forest is as
     /// before.
     pub fn write(&mut self, at: NodeRef, offset: u64, bytes: &[u8]) -> Result<(), NoMemory>
-        requires file { IsFalse (is_dir_of at (map T.state self.old.trees.items)) }
+        requires file { IsFalse (is_dir_of at self.old) }
         requires fits { offset + length bytes.now ≤ FILE_MAX }
-        ensures ok { OnOk result (map T.state self.new.trees.items
-            ≡ forest_changed_at at (with_bytes (overwritten offset bytes.now))
-            (map T.state self.old.trees.items)) }
-        ensures err { OnErr result (map T.state self.new.trees.items
-            ≡ map T.state self.old.trees.items) }
-        ensures there { OnErr result (let forest = map T.state self.old.trees.items in
-            IsTrue (exists_at at.number (server_at at.server forest).nodes)) }
+        ensures ok { OnOk result (self.new
+            ≡ forest_changed_at at (with_bytes (overwritten offset bytes.now)) self.old) }
+        ensures err { OnErr result (self.new ≡ self.old) }
+        ensures there { OnErr result (IsTrue
+            (exists_at at.number (server_at at.server self.old).nodes)) }
     {
         if let Some(tree) = self.trees.get_mut(at.server as usize) {
             tree.write(at.number, offset, bytes)?;
@@ -166,8 +169,7 @@ impl<T: Tree> Forest<T> {
 
     /// Keeps the first `size` bytes of a file, or all where they are fewer. It isn't marked.
     pub fn cut(&mut self, at: NodeRef, size: u64)
-        ensures { map T.state self.new.trees.items
-            ≡ forest_changed_at at (with_bytes (cut_to size)) (map T.state self.old.trees.items) }
+        ensures { self.new ≡ forest_changed_at at (with_bytes (cut_to size)) self.old }
     {
         if let Some(tree) = self.trees.get_mut(at.server as usize) {
             tree.cut(at.number, size);
@@ -177,7 +179,7 @@ impl<T: Tree> Forest<T> {
     /// A forest has at most [`p9_base::SERVERS_MAX`] servers, and each is well-formed. This does
     /// nothing when it runs; it is for a caller that has to know so.
     pub fn well_formed(&self)
-        ensures { IsForest (map T.state self.now.trees.items) }
+        ensures { IsForest self.now }
     {
         let _trees = &self.trees;
     }

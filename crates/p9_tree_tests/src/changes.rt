@@ -1,6 +1,6 @@
 //! Wstats, and whether a node may be changed so.
 
-ghost use Rattle.std.specs.Prelude.{◌≡◌, ◌≢◌, ◌≤◌, IsFalse, IsTrue, map};
+ghost use Rattle.std.specs.Prelude.{◌≡◌, ◌≢◌, ◌≤◌, IsFalse, IsTrue};
 ghost use Rattle.std.specs.Option.{ForSome, option_copied};
 ghost use Rattle.p9_base.specs.Mode.{is_dir as is_dir_mode};
 ghost use Rattle.p9_tree.specs.Change.{CanChange};
@@ -30,7 +30,7 @@ pub fn take_change(rt: &impl Abort, line: &mut &str) -> Change {
 
 /// Whether the node may be changed so.
 pub fn may_change<T: Tree>(forest: &Forest<T>, at: NodeRef, change: &Change) -> bool
-    ensures { let server = server_at at.server (map T.state forest.now.trees.items) in
+    ensures { let server = server_at at.server forest.now in
         IsTrue result → CanChange server at.number change.entry.now }
 {
     match forest.node(at) {
@@ -69,9 +69,9 @@ fn has_free<T: Tree>(
     name: Option<Name>,
 ) -> bool
     ensures not_root { IsTrue result → ForSome name (λ name. node.now.number ≢ 0) }
-    ensures free { let nodes = (server_at server (map T.state forest.now.trees.items)).nodes in
-        IsTrue result → ForSome name (λ name. ForSome node.now.parent (λ dir.
-        ForSome (child_of dir name nodes) (λ m. m.number ≡ node.now.number))) }
+    ensures free { let nodes = (server_at server forest.now).nodes in
+        IsTrue result → ForSome name (λ name. ForSome node.now.parent
+        (λ dir. ForSome (child_of dir name nodes) (λ m. m.number ≡ node.now.number))) }
 {
     match (name, node.parent()) {
         (Some(name), Some(number)) => {

@@ -140,55 +140,60 @@ Makes-in_last_server change w s new (Err NoMemory) some at made =
 
 -- the last of some trees, and a write over it
 module _ {T : Type 0} (state : T → Server) (ts : List T) (t u : T) (n : ℕ) (count : n ≡ length ts)
-    (some : 0 < length ts) (read : t ≡ get_or ts (n - 1) t) where
-  last_is : n - 1 ≡ length (map state ts) - 1
-  last_is = omega (arith, length-map ts state)
+    (some : 0 < length ts) (read : t ≡ get_or ts (n - 1) t) (forest : List Server)
+    (seen : map state ts ≡ forest) where
+  last_is : n - 1 ≡ length forest - 1
+  last_is = rw (← seen) (omega (arith, length-map ts state))
 
-  pub state-last : server_at (length (map state ts) - 1) (map state ts) ≡ state t
+  pub state-last : server_at (length forest - 1) forest ≡ state t
   state-last =
-      ap (λ i. server_at i (map state ts)) (sym last_is)
-      ∙ server_at-map state ts (n - 1) t (omega arith) read
+      ap (λ i. server_at i forest) (sym last_is)
+      ∙ rw (← seen) (server_at-map state ts (n - 1) t (omega arith) read)
 
   pub map-last : map state (set ts (n - 1) u)
-      ≡ tree_changed_at (length (map state ts) - 1) (λ old. state u) (map state ts)
+      ≡ tree_changed_at (length forest - 1) (λ old. state u) forest
   map-last =
       map-tree_changed_at state (λ old. state u) ts (n - 1) t u (omega arith) read refl
-      ∙ ap (λ i. tree_changed_at i (λ old. state u) (map state ts)) last_is
+      ∙ ap (λ old. tree_changed_at (n - 1) (λ old. state u) old) seen
+      ∙ ap (λ i. tree_changed_at i (λ old. state u) forest) last_is
 
   module _ {A : Type 0} (users : List (List ℕ)) (groups : List GroupRow) (hidden : List NodeRef)
       (vars : List (String A × String A)) (servers : List (String A)) where
-    -- the world with these trees
-    abbrev with_trees : List T → World
-    with_trees trees = world_view state trees users groups hidden vars servers
+    -- the world with this forest
+    abbrev with_forest : List Server → World
+    with_forest f = world_view f users groups hidden vars servers
 
     -- it stays one where the server's next number doesn't fall
-    pub IsWorld-last : IsWorld (with_trees ts) → (state t).next ≤ (state u).next
-        → IsWorld (with_trees (set ts (n - 1) u))
+    pub IsWorld-last : IsWorld (with_forest forest) → (state t).next ≤ (state u).next
+        → IsWorld (with_forest (map state (set ts (n - 1) u)))
     IsWorld-last ok rises =
-        let same : next_of (length (map state ts) - 1) (map state ts) ≡ (state t).next =
+        let same : next_of (length forest - 1) forest ≡ (state t).next =
         ap (λ (s : Server). s.next) state-last in
         rw map-last
-        (IsWorld-changed (length (map state ts) - 1) (state u) (with_trees ts) ok (omega arith))
+        (IsWorld-changed (length forest - 1) (state u) (with_forest forest) ok (omega arith))
 
     -- and its line is that of the last server
     pub Makes-last : {D : Type 0} (change : Server → Result Server LineFault)
         (r : Result D LineError) → Makes (change (state t)) (state t) (state u) r →
-        Makes (in_last_server change (with_trees ts)) (with_trees ts)
-        (with_trees (set ts (n - 1) u)) r
+        Makes (in_last_server change (with_forest forest)) (with_forest forest)
+        (with_forest (map state (set ts (n - 1) u))) r
     Makes-last change r made =
-        let here : 0 < length (map state ts) = omega (arith, length-map ts state) in
+        let here : 0 < length forest = rw (← seen) (omega (arith, length-map ts state)) in
         rw map-last
-        (Makes-in_last_server change (with_trees ts) (state t) (state u) r here state-last made)
+        (Makes-in_last_server change (with_forest forest) (state t) (state u) r here state-last made)
 
 -- the tree of a server that is found by its name
 pub server_at-named : {T A : Type 0} (state : T → Server) (name : List ℕ) (trees : List T)
-    (servers : List (String A)) (k : ℕ) (t : T) → length (map string_bytes servers)
-    ≡ length (map state trees) → server_number name (map string_bytes servers) ≡ Some k
-    → t ≡ get_or trees k t → server_at k (map state trees) ≡ state t
-server_at-named state name trees servers k t named at read =
+    (forest : List Server) → map state trees ≡ forest
+    → (servers : List (String A)) (k : ℕ) (t : T)
+    → length (map string_bytes servers) ≡ length forest
+    → server_number name (map string_bytes servers) ≡ Some k
+    → t ≡ get_or trees k t → server_at k forest ≡ state t
+server_at-named state name trees forest seen servers k t named at read =
     let few : k < length (map string_bytes servers) =
     (position-Some (λ other. bytes_eq other name) (map string_bytes servers) k [] at).0 in
-    server_at-map state trees k t (omega (arith, length-map trees state)) read
+    rw (← seen)
+    (server_at-map state trees k t (omega (arith, ap length seen, length-map trees state)) read)
 
 -- the directory that some names lead to has a number of its server
 pub dir_of-below : (names : List Component) (s : Server) (k : ℕ) → WellFormed s

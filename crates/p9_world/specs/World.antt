@@ -38,10 +38,10 @@ empty_world = record {
 }
 
 -- a world of the code, as it is seen
-abbrev pub world_view : {T A : Type 0} → (T → Server) → List T → List (List ℕ) → List GroupRow
+abbrev pub world_view : {A : Type 0} → List Server → List (List ℕ) → List GroupRow
     → List NodeRef → List (String A × String A) → List (String A) → World
-world_view state trees users groups hidden vars servers = record {
-  forest = map state trees;
+world_view forest users groups hidden vars servers = record {
+  forest = forest;
   users = users;
   groups = groups;
   hidden = hidden;

@@ -28,7 +28,8 @@ pub(crate) fn add_dir<T: Tree>(
     ensures { Makes (in_last_server (dir_line path.now mode.now uid.now gid.now) world.old)
         world.old world.new result }
 {
-    let Some(tree) = world.forest.trees.last_mut() else {
+    let forest = &mut world.forest;
+    let Some(tree) = forest.trees.last_mut() else {
         return Err(LineError::Bad(LineFault::NoServer));
     };
     add_dir_to(alloc, tree, path, mode, uid, gid)
@@ -47,7 +48,8 @@ pub(crate) fn add_file<T: Tree>(
     ensures { Makes (in_last_server (file_line path.now mode.now uid.now gid.now hex.now) world.old)
         world.old world.new result }
 {
-    let Some(tree) = world.forest.trees.last_mut() else {
+    let forest = &mut world.forest;
+    let Some(tree) = forest.trees.last_mut() else {
         return Err(LineError::Bad(LineFault::NoServer));
     };
     add_file_to(alloc, tree, path, mode, uid, gid, hex)

@@ -26,7 +26,8 @@ pub(crate) fn hide<T: Tree>(
     let Some(names) = names_of(alloc, path)? else {
         return Err(LineError::Bad(LineFault::BadPath));
     };
-    let Some(number) = dir_of(&world.forest.trees[server], names.as_slice()) else {
+    let forest = &world.forest;
+    let Some(number) = dir_of(&forest.trees[server], names.as_slice()) else {
         return Err(LineError::Bad(LineFault::NoParent));
     };
     add_hidden(

@@ -35,10 +35,10 @@ impl<T: Tree> Model for Reader<T> {
 
     ghost Value = { WorldOf };
 
-    ghost view = { λ r. world_view T.state r.forest.trees.items r.users.items r.groups
+    ghost view = { λ r. world_view r.forest r.users.items r.groups
         r.hidden.items r.vars.items r.servers.items };
 
-    ghost invariant = { λ r. IsReader (world_view T.state r.forest.trees.items r.users.items
+    ghost invariant = { λ r. IsReader (world_view r.forest r.users.items
         r.groups r.hidden.items r.vars.items r.servers.items) r.user_positions r.variable_positions
         r.server_positions r.hidden_set };
 }

@@ -32,11 +32,12 @@ pub(crate) fn add_server<T: Tree>(
     }
     let tree = T::with_root(alloc)?;
     let owned = String::from_str(alloc, name)?;
-    world.forest.trees.reserve(1)?;
+    let forest = &mut world.forest;
+    forest.trees.reserve(1)?;
     world.servers.reserve(1)?;
     world.server_positions.insert(name, world.servers.len())?;
     world.servers.push(owned).unwrap();
-    world.forest.trees.push(tree).unwrap();
+    forest.trees.push(tree).unwrap();
     Ok(())
 }
 

@@ -33,10 +33,10 @@ impl<T: Tree> Model for World<T> {
 
     ghost Value = { WorldOf };
 
-    ghost view = { λ w. world_view T.state w.forest.trees.items w.users.items w.groups
+    ghost view = { λ w. world_view w.forest w.users.items w.groups
         w.hidden.items w.vars.items w.servers.items };
 
-    ghost invariant = { λ w. IsWorld (world_view T.state w.forest.trees.items w.users.items
+    ghost invariant = { λ w. IsWorld (world_view w.forest w.users.items
         w.groups w.hidden.items w.vars.items w.servers.items) };
 }
 

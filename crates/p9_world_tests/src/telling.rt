@@ -13,7 +13,8 @@ pub fn world<A: Allocator + Copy>(
     for name in world.servers.as_slice() {
         writeln!(&mut told, "server {}", name.as_str())?;
     }
-    trees(&mut told, world.forest.trees.as_slice())?;
+    let forest = &world.forest;
+    trees(&mut told, forest.trees.as_slice())?;
     for user in world.users.as_slice() {
         writeln!(&mut told, "user {}", user.as_str())?;
     }

@@ -1,4 +1,4 @@
-use Rattle.std.proofs.Common.{◌∙◌, ◌<◌, map, sym, ap, subst}
+use Rattle.std.proofs.Common.{◌∙◌, ◌<◌, sym, ap, subst}
 use Rattle.std.proofs.lemmas.Result.{err_from_is_err_and}
 use Rattle.p9_cert.specs.Gap.{mount_gap, table_gap}
 use Rattle.p9_cert.proofs.Firsts.{first-at-found, first-at-next, none-past}
@@ -7,7 +7,7 @@ use Rattle.p9_cert.proofs.check.check_table.Goals.{in-Some+in_ok-check_mount, in
 
 pub returns-in_err-check_mount : goal.returns-in_err-check_mount
 returns-in_err-check_mount g c =
-    let forest = map g.T.Tree.state c.args.forest.now.trees.items in
+    let forest = c.args.forest.now in
     let p = err_from_is_err_and c.from_residual.result c.from_residual.ensures.1 in
     rw (p.1, p.2)
     (first-at-found (mount_gap forest) c.args.table.now c.loop-position.position
@@ -20,7 +20,7 @@ returns-in_err-check_mount g c =
 
 pub loop-position-preserved : goal.loop-position-preserved
 loop-position-preserved g c =
-    let forest = map g.T.Tree.state c.args.forest.now.trees.items in
+    let forest = c.args.forest.now in
     elim c.match-row.branch [
       | in-Some+in_ok-check_mount w ↦
           first-at-next (mount_gap forest) c.args.table.now c.loop-position.position

@@ -1,4 +1,4 @@
-use Rattle.std.proofs.Common.{◌≡◌, ◌∙◌, Some, true, false, map, option_and_then, subst}
+use Rattle.std.proofs.Common.{◌≡◌, ◌∙◌, Some, true, false, option_and_then, subst}
 use Rattle.std.proofs.Common.{sym}
 use Rattle.p9_base.specs.declared.node_ref.NodeRef.{NodeRef}
 use Rattle.p9_base.specs.NodeRef.{beside}
@@ -11,7 +11,7 @@ use Rattle.p9_cert.proofs.inside.is_inside.Goals as goal
 
 pub returns-then-is_hidden : goal.returns-then-is_hidden
 returns-then-is_hidden g c =
-    let forest = map g.T.Tree.state c.args.forest.now.trees.items in
+    let forest = c.args.forest.now in
     let here = beside c.args.at c.loop-parent.number in
     let parent =
     sym (subst (λ (r : NodeRef). Some c.in-Some.parent
@@ -25,7 +25,7 @@ returns-then-is_hidden g c =
 
 pub returns-then-is_row : goal.returns-then-is_row
 returns-then-is_row g c =
-    let forest = map g.T.Tree.state c.args.forest.now.trees.items in
+    let forest = c.args.forest.now in
     let here = beside c.args.at c.loop-parent.number in
     let parent =
     sym (subst (λ (r : NodeRef). Some c.in-Some.parent
@@ -39,7 +39,7 @@ returns-then-is_row g c =
 
 pub loop-parent-smaller : goal.loop-parent-smaller
 loop-parent-smaller g c =
-    let forest = map g.T.Tree.state c.args.forest.now.trees.items in
+    let forest = c.args.forest.now in
     let here = beside c.args.at c.loop-parent.number in
     let parent =
     sym (subst (λ (r : NodeRef). Some c.in-Some.parent
@@ -48,7 +48,7 @@ loop-parent-smaller g c =
 
 pub loop-parent-preserved : goal.loop-parent-preserved
 loop-parent-preserved g c =
-    let forest = map g.T.Tree.state c.args.forest.now.trees.items in
+    let forest = c.args.forest.now in
     let here = beside c.args.at c.loop-parent.number in
     let parent =
     sym (subst (λ (r : NodeRef). Some c.in-Some.parent
@@ -61,7 +61,7 @@ loop-parent-preserved g c =
 
 pub returns : goal.returns
 returns g c =
-    let forest = map g.T.Tree.state c.args.forest.now.trees.items in
+    let forest = c.args.forest.now in
     let here = beside c.args.at c.loop-parent.number in
     let none =
     sym (subst (λ (r : NodeRef). c.parent_of.result

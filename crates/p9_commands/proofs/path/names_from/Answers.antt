@@ -7,7 +7,7 @@ use Rattle.p9_commands.proofs.path.names_from.Goals as goal
 
 pub returns-in_default : goal.returns-in_default
 returns-in_default g c =
-    let forest = map g.T.Tree.state c.args.forest.now.trees.items in
+    let forest = c.args.forest.now in
     let nodes = (server_at c.args.at.server forest).nodes in
     let end = names-end (c.args.at.number - c.loop.counter) c.loop.here.number nodes c.entry.result
     (c.entry.ensures
@@ -18,7 +18,7 @@ returns-in_default g c =
 
 pub loop-preserved : goal.loop-preserved
 loop-preserved g c =
-    let forest = map g.T.Tree.state c.args.forest.now.trees.items in
+    let forest = c.args.forest.now in
     let nodes = (server_at c.args.at.server forest).nodes in
     let left = c.args.at.number - c.loop.counter in
     let some : 0 < left = omega arith in

@@ -1,4 +1,4 @@
-use Rattle.std.proofs.Common.{arith, ◌≡◌, ◌∙◌, ◌++◌, sym, ap, subst, map, drop, false, Some, Err, Ok}
+use Rattle.std.proofs.Common.{arith, ◌≡◌, ◌∙◌, ◌++◌, sym, ap, subst, drop, false, Some, Err, Ok}
 use Rattle.std.proofs.lemmas.Result.{err_from_is_err_and}
 use Rattle.std.proofs.Math.Seq.{drop-append_seam}
 use Rattle.std.specs.BTreeMap.{is_at}
@@ -36,7 +36,7 @@ returns-in_err-request-clause-answer g c =
     sym (ap request_view c.in_err-request.was) ∙ c.request_of.ensures in
     let p = err_from_is_err_and c.from_residual.result c.from_residual.ensures.1 in
     rw (p.1, p.2, unchanged)
-    (among-none c.args.setting.now (map g.T.Tree.state c.args.forest.now.trees.items)
+    (among-none c.args.setting.now c.args.forest.now
     (sessions_in rows) c.args.name c.args.now its.session c.args.frame.now
     c.in_err-request.field-0.0 there is)
 
@@ -79,7 +79,7 @@ message-requires-clause-fids g c =
     let there : session_at c.args.name (sessions_in rows) ≡ Some its.session =
     session-there c.args.name rows its found in
     let sound = rw there at c.requires.sound in
-    fits-of c.args.setting.now (map g.T.Tree.state c.args.forest.now.trees.items) its.session.fids
+    fits-of c.args.setting.now c.args.forest.now its.session.fids
     sound.each
 
 pub returns-in_default-clause-channels : goal.returns-in_default-clause-channels
@@ -106,7 +106,7 @@ returns-in_default-clause-answer g c =
     let is : Ok (t_view c.in_ok-request.request) ≡ request_of its.session c.args.frame.now =
     sym (ap request_view c.in_ok-request.was) ∙ c.request_of.ensures in
     let takes : false
-    ≡ finds_taken c.args.setting.now (map g.T.Tree.state c.args.forest.now.trees.items)
+    ≡ finds_taken c.args.setting.now c.args.forest.now
     (sessions_in rows) its.session (t_view c.in_ok-request.request) =
     sym (c.wanted_alone.ensures (sessions_in rows)
     ∙ ap (λ o. option_map_or
@@ -118,8 +118,8 @@ returns-in_default-clause-answer g c =
     ≡ c.message.new.buffer) c.split_at_mut-buffer.ensures.front_len
     (drop-append_seam c.split_at_mut-buffer.result.0.now c.message.new.buffer) in
     rw behind
-    (among-request c.args.setting.now (map g.T.Tree.state c.args.forest.now.trees.items)
-    (map g.T.Tree.state c.message.new.forest.trees.items) (sessions_in rows)
+    (among-request c.args.setting.now c.args.forest.now
+    c.message.new.forest (sessions_in rows)
     (sessions_in (c.get_mut.follows.lender c.message.new.session).entries) c.args.name c.args.now
     its.session its.session c.message.new.session.session
     c.args.frame.now (t_view c.in_ok-request.request) false _ there there is takes
@@ -167,7 +167,7 @@ message-requires-2-clause-fids g c =
     let again : session_at c.args.name (sessions_in rows) ≡ Some same.session =
     session-there c.args.name rows same found_again in
     let sound = rw again at c.requires.sound in
-    fits-of c.args.setting.now (map g.T.Tree.state c.args.forest.now.trees.items) same.session.fids
+    fits-of c.args.setting.now c.args.forest.now same.session.fids
     sound.each
 
 pub returns-clause-channels : goal.returns-clause-channels
@@ -209,7 +209,7 @@ returns-clause-answer g c =
     (c.is_in_use-taken.ensures
     ∙ ap (λ rs. is_in_use c.setting.inside.table c.in-Some.at (sessions_in rs)) unchanged) in
     let takes : c.is_in_use-taken.result
-    ≡ finds_taken c.args.setting.now (map g.T.Tree.state c.args.forest.now.trees.items)
+    ≡ finds_taken c.args.setting.now c.args.forest.now
     (sessions_in rows) its.session (t_view c.in_ok-request.request) =
     used
     ∙ sym (c.wanted_alone.ensures (sessions_in rows)
@@ -222,8 +222,8 @@ returns-clause-answer g c =
     ≡ c.message-2.new.buffer) c.split_at_mut-buffer.ensures.front_len
     (drop-append_seam c.split_at_mut-buffer.result.0.now c.message-2.new.buffer) in
     rw behind
-    (among-request c.args.setting.now (map g.T.Tree.state c.args.forest.now.trees.items)
-    (map g.T.Tree.state c.message-2.new.forest.trees.items) (sessions_in rows)
+    (among-request c.args.setting.now c.args.forest.now
+    c.message-2.new.forest (sessions_in rows)
     (sessions_in (c.get_mut-2.follows.lender c.message-2.new.session).entries) c.args.name
     c.args.now its.session same.session c.message-2.new.session.session
     c.args.frame.now (t_view c.in_ok-request.request) c.is_in_use-taken.result _ there again is

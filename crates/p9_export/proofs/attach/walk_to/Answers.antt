@@ -10,7 +10,7 @@ returns-clause-ok g c =
     let names : map (λ (n : Bor (List ℕ)). n.now) c.deref.result.now
     ≡ cleaned_elements c.args.aname.now =
     ap (map (λ n. n.now)) c.deref.ensures.value ∙ c.in_ok-names.ensures in
-    walk-ok c.args.setting.now (map g.T.Tree.state c.args.forest.now.trees.items) c.args.user.now
+    walk-ok c.args.setting.now c.args.forest.now c.args.user.now
     c.args.aname.now _ _ _ _ c.who.ensures
     (ap (λ (s : Setting). s.table) c.setting.view_is) c.in_ok-root.ensures names c.resolve.result
     c.resolve.ensures.ok
@@ -20,7 +20,7 @@ returns-clause-err g c =
     let names : map (λ (n : Bor (List ℕ)). n.now) c.deref.result.now
     ≡ cleaned_elements c.args.aname.now =
     ap (map (λ n. n.now)) c.deref.ensures.value ∙ c.in_ok-names.ensures in
-    walk-err c.args.setting.now (map g.T.Tree.state c.args.forest.now.trees.items)
+    walk-err c.args.setting.now c.args.forest.now
     c.args.user.now c.args.aname.now _ _ _ _ c.who.ensures
     (ap (λ (s : Setting). s.table) c.setting.view_is) c.in_ok-root.ensures names
     c.resolve.result c.resolve.ensures.err

@@ -1,4 +1,4 @@
-use Rattle.std.proofs.Common.{map, refl, sym, ◌∙◌}
+use Rattle.std.proofs.Common.{refl, sym, ◌∙◌}
 use Rattle.std.proofs.lemmas.Result.{err_from_is_err_and}
 use Rattle.p9_space.specs.Channel.{trail_of}
 use Rattle.p9_step.specs.Create.{create_reply}
@@ -8,7 +8,7 @@ use Rattle.p9_export.proofs.create.create.Goals as goal
 
 pub returns-in_err-target-clause-answer : goal.returns-in_err-target-clause-answer
 returns-in_err-target-clause-answer g c =
-    let forest = map g.T.Tree.state c.args.forest.now.trees.items in
+    let forest = c.args.forest.now in
     let s = c.args.session.now.session in
     let is =
     steps-are c.args.setting.now forest s c.args.now c.args.wanted.fid c.args.wanted.name.now
@@ -18,7 +18,7 @@ returns-in_err-target-clause-answer g c =
 
 pub returns-in_err-qid-clause-answer : goal.returns-in_err-qid-clause-answer
 returns-in_err-qid-clause-answer g c =
-    let forest = map g.T.Tree.state c.args.forest.now.trees.items in
+    let forest = c.args.forest.now in
     let s = c.args.session.now.session in
     let is =
     steps-are c.args.setting.now forest s c.args.now c.args.wanted.fid c.args.wanted.name.now
@@ -26,18 +26,18 @@ returns-in_err-qid-clause-answer g c =
     let refused =
     err_from_is_err_and c.from_residual-in_err-qid.result
     c.from_residual-in_err-qid.ensures.1 in
-    memory_refused create_reply _ _ forest (map g.T.Tree.state c.add_to.new.forest.trees.items) s s
+    memory_refused create_reply _ _ forest c.add_to.new.forest s s
     c.from_residual-in_err-qid.result refused.0 (sym is ∙ c.in_ok-target.ensures.ok) refused.1
     refused.2 c.in_err-qid.ensures.err refl
 
 pub returns-clause-answer : goal.returns-clause-answer
 returns-clause-answer g c =
-    let forest = map g.T.Tree.state c.args.forest.now.trees.items in
+    let forest = c.args.forest.now in
     let s = c.args.session.now.session in
     let is =
     steps-are c.args.setting.now forest s c.args.now c.args.wanted.fid c.args.wanted.name.now
     c.args.wanted.perm c.args.wanted.mode in
-    plan-did _ forest (map g.T.Tree.state c.add_to.new.forest.trees.items) s
+    plan-did _ forest c.add_to.new.forest s
     c.enter.new.session.session c.args.wanted.fid c.in_ok-target.field-0.target
     c.in_ok-target.field-0.new (trail_of c.in_ok-target.field-0.channels)
     c.in_ok-target.field-0.opening c.in_ok-qid.qid c.room.result

@@ -1,4 +1,4 @@
-use Rattle.std.proofs.Common.{◌≡◌, ◌++◌, ◌∷◌, [], map, sym}
+use Rattle.std.proofs.Common.{◌≡◌, ◌++◌, ◌∷◌, [], sym}
 use Rattle.p9_tree.specs.New.{new_node}
 use Rattle.p9_space.specs.Channel.{trail_of}
 use Rattle.p9_step.specs.Create.{created}
@@ -7,7 +7,7 @@ use Rattle.p9_export.proofs.create.plan_in.Goals as goal
 
 pub returns-clause-adds : goal.returns-clause-adds
 returns-clause-adds g c =
-    let forest = map g.T.Tree.state c.args.forest.now.trees.items in
+    let forest = c.args.forest.now in
     let v = c.args.held.now.fid in
     let dir = c.in-Some.dir.now in
     let made : new_node 0 dir.number c.new_in.result
@@ -18,7 +18,7 @@ returns-clause-adds g c =
 
 pub returns-clause-ok : goal.returns-clause-ok
 returns-clause-ok g c =
-    let forest = map g.T.Tree.state c.args.forest.now.trees.items in
+    let forest = c.args.forest.now in
     let v = c.args.held.now.fid in
     let dir = c.in-Some.dir.now in
     let made : new_node 0 dir.number c.new_in.result

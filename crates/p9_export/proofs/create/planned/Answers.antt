@@ -1,4 +1,4 @@
-use Rattle.std.proofs.Common.{◌≡◌, Ok, Some, map, sym, ap, ◌∙◌, true}
+use Rattle.std.proofs.Common.{◌≡◌, Ok, Some, sym, ap, ◌∙◌, true}
 use Rattle.std.specs.Prelude.{is_none}
 use Rattle.p9_fids.specs.Fid.{fid_at}
 use Rattle.p9_fids.specs.Held.{Held}
@@ -10,7 +10,7 @@ use Rattle.p9_export.proofs.create.planned.Goals as goal
 
 pub returns-in-Ok-target_among-clause-ok : goal.returns-in-Ok-target_among-clause-ok
 returns-in-Ok-target_among-clause-ok g c =
-    let forest = map g.T.Tree.state c.args.forest.now.trees.items in
+    let forest = c.args.forest.now in
     let s = c.args.session.now.session in
     let v = c.in-Some.held.now.fid in
     let found : fid_at c.args.wanted.fid s.fids ≡ Some v =
@@ -35,7 +35,7 @@ returns-in-Ok-target_among-clause-ok g c =
 
 pub returns-in-Ok-target_among-clause-err : goal.returns-in-Ok-target_among-clause-err
 returns-in-Ok-target_among-clause-err g c =
-    let forest = map g.T.Tree.state c.args.forest.now.trees.items in
+    let forest = c.args.forest.now in
     let s = c.args.session.now.session in
     let v = c.in-Some.held.now.fid in
     let found : fid_at c.args.wanted.fid s.fids ≡ Some v =

@@ -1,4 +1,4 @@
-use Rattle.std.proofs.Common.{◌≡◌, map, length}
+use Rattle.std.proofs.Common.{◌≡◌, length}
 use Rattle.p9_fids.specs.Held.{AllFit}
 use Rattle.p9_step.specs.ForestChange.{all_applied}
 use Rattle.p9_step.specs.Sound.{FidsFit}
@@ -7,8 +7,8 @@ use Rattle.p9_export.proofs.end.end_fids.Given as goal
 
 abbrev pub invariant-loop-number : goal.invariant-loop-number
 invariant-loop-number g l =
-    let here = map g.T.Tree.state l.forest.trees.items in
-    let start = map g.T.Tree.state l.fn.forest.trees.items in
+    let here = l.forest in
+    let start = l.fn.forest in
     FidsFit l.setting.table here l.fids.fids
     × (all_applied (on_ends l.setting.table l.now here l.fids.fids) here
     ≡ all_applied (on_ends l.fn.setting.table l.fn.now start l.fn.fids.fids) start)

@@ -1,5 +1,5 @@
 use Rattle.p9_space.specs.Rights.{who_view}
-use Rattle.std.proofs.Common.{map, length, refl, subst}
+use Rattle.std.proofs.Common.{length, refl, subst}
 use Rattle.p9_step.specs.Listing.{left_of}
 use Rattle.p9_export.proofs.Listings.{Filling, filling-start, left_reached, members-full}
 use Rattle.p9_export.proofs.Listings.{members-next, members-reached, reached-start}
@@ -7,7 +7,7 @@ use Rattle.p9_export.proofs.listing.fill.Goals as goal
 
 pub loop-position-init : goal.loop-position-init
 loop-position-init g c =
-    let forest = map g.T.Tree.state c.args.forest.now.trees.items in
+    let forest = c.args.forest.now in
     let all = left_of forest (who_view c.args.who) c.args.cursor c.args.members.now in (
       subst (Filling (length c.args.buffer.now) all c.args.cursor c.args.buffer.now 0 c.args.cursor)
           (left_reached c.args.cursor forest (who_view c.args.who) c.args.members.now
@@ -20,7 +20,7 @@ loop-position-init g c =
 
 pub returns-then-more : goal.returns-then-more
 returns-then-more g c =
-    members-full (map g.T.Tree.state c.args.forest.now.trees.items) (who_view c.args.who)
+    members-full c.args.forest.now (who_view c.args.who)
     c.args.members.now c.args.cursor (length c.args.buffer.now) c.loop-position.buffer
     c.loop-position.given.size c.loop-position.given.cursor c.loop-position.position
     c.loop-position.auto.buffer c.loop-position.invariant.0 _ c.fill_member-more.result
@@ -29,13 +29,13 @@ returns-then-more g c =
 
 pub loop-position-preserved : goal.loop-position-preserved
 loop-position-preserved g c = (
-  members-next (map g.T.Tree.state c.args.forest.now.trees.items) (who_view c.args.who)
+  members-next c.args.forest.now (who_view c.args.who)
       c.args.members.now c.args.cursor (length c.args.buffer.now) c.loop-position.buffer
       c.loop-position.given.size c.loop-position.given.cursor c.loop-position.position
       c.loop-position.auto.buffer c.loop-position.invariant.0 _ c.fill_member-more.result
       c.fill_member-more.new.buffer c.loop-position-test.true c.loop-position.invariant.1
       c.fill_member-more.auto.buffer c.fill_member-more.ensures c.if-more.false,
-  members-reached (map g.T.Tree.state c.args.forest.now.trees.items) (who_view c.args.who)
+  members-reached c.args.forest.now (who_view c.args.who)
       c.args.members.now c.args.cursor (length c.args.buffer.now) c.loop-position.buffer
       c.loop-position.given.size c.loop-position.given.cursor c.loop-position.position
       c.loop-position.auto.buffer c.loop-position.invariant.0 _ c.fill_member-more.result

@@ -1,5 +1,5 @@
 use Rattle.p9_space.specs.Rights.{who_view}
-use Rattle.std.proofs.Common.{◌≡◌, false, map, length, drop}
+use Rattle.std.proofs.Common.{◌≡◌, false, length, drop}
 use Rattle.std.specs.Prelude.{filter}
 use Rattle.p9_step.specs.Listing.{entries_from, is_behind, left_of}
 use Rattle.p9_export.proofs.Listings.{Filling, IsAtMost}
@@ -7,7 +7,7 @@ use Rattle.p9_export.proofs.listing.fill.Given as goal
 
 abbrev pub invariant-loop-position : goal.invariant-loop-position
 invariant-loop-position g l =
-    let forest = map g.T.Tree.state l.forest.trees.items in
+    let forest = l.forest in
     Filling (length l.fn.buffer) (left_of forest (who_view l.who) l.fn.cursor l.members) l.fn.cursor
     l.buffer l.given.size l.given.cursor
     (filter (is_behind l.given.cursor)

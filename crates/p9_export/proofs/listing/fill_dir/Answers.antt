@@ -1,16 +1,16 @@
-use Rattle.std.proofs.Common.{arith, map, length, sym}
+use Rattle.std.proofs.Common.{arith, length, sym}
 use Rattle.p9_export.proofs.Listings.{dir-end, dir-full, dir-next, dir-smaller}
 use Rattle.p9_export.proofs.Places.{child_in_after-below}
 use Rattle.p9_export.proofs.listing.fill_dir.Goals as goal
 
 pub put_stat-requires : goal.put_stat-requires
 put_stat-requires g c =
-    child_in_after-below (map g.T.Tree.state c.args.forest.now.trees.items) c.args.dir
+    child_in_after-below c.args.forest.now c.args.dir
     c.floor_in.result c.in-Some.node.now c.well_formed-2.ensures (sym c.in-Some.ensures)
 
 pub returns-in_default-put_stat : goal.returns-in_default-put_stat
 returns-in_default-put_stat g c =
-    dir-full (map g.T.Tree.state c.args.forest.now.trees.items) c.args.position c.args.dir
+    dir-full c.args.forest.now c.args.position c.args.dir
     c.args.cursor (length c.args.buffer.now) c.loop-node.buffer c.loop-node.given.size
     c.loop-node.given.cursor c.loop-node.auto.buffer c.loop-node.invariant.0 c.floor_in.result
     c.in-Some.node.now c.floor_in.ensures (sym c.in-Some.ensures) c.put_stat.new.buffer
@@ -18,7 +18,7 @@ returns-in_default-put_stat g c =
 
 pub loop-node-smaller : goal.loop-node-smaller
 loop-node-smaller g c =
-    dir-smaller (map g.T.Tree.state c.args.forest.now.trees.items) c.args.position c.args.dir
+    dir-smaller c.args.forest.now c.args.position c.args.dir
     c.args.cursor (length c.args.buffer.now) c.loop-node.buffer c.loop-node.given.size
     c.loop-node.given.cursor c.loop-node.auto.buffer c.loop-node.invariant.0 c.floor_in.result
     c.in-Some.node.now c.floor_in.ensures (sym c.in-Some.ensures) c.in-Some-put_stat.size
@@ -26,7 +26,7 @@ loop-node-smaller g c =
 
 pub loop-node-preserved : goal.loop-node-preserved
 loop-node-preserved g c = (
-  dir-next (map g.T.Tree.state c.args.forest.now.trees.items) c.args.position c.args.dir
+  dir-next c.args.forest.now c.args.position c.args.dir
       c.args.cursor (length c.args.buffer.now) c.loop-node.buffer c.loop-node.given.size
       c.loop-node.given.cursor c.loop-node.auto.buffer c.loop-node.invariant.0 c.floor_in.result
       c.in-Some.node.now c.floor_in.ensures (sym c.in-Some.ensures) c.in-Some-put_stat.size
@@ -38,7 +38,7 @@ loop-node-preserved g c = (
 
 pub returns : goal.returns
 returns g c =
-    let forest = map g.T.Tree.state c.args.forest.now.trees.items in
+    let forest = c.args.forest.now in
     rw (c.loop-node.invariant.2) (dir-end forest c.args.position c.args.dir c.args.cursor
     (length c.args.buffer.now) c.loop-node.buffer c.loop-node.given.size c.loop-node.given.cursor
     c.loop-node.auto.buffer c.loop-node.invariant.0 c.floor_in.result c.floor_in.ensures

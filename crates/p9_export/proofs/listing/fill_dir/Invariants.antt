@@ -1,4 +1,4 @@
-use Rattle.std.proofs.Common.{◌≡◌, ◌-◌, false, map, length}
+use Rattle.std.proofs.Common.{◌≡◌, ◌-◌, false, length}
 use Rattle.std.specs.Prelude.{filter}
 use Rattle.p9_step.specs.Listing.{is_behind}
 use Rattle.p9_export.proofs.Listings.{Filling, IsAtMost, entries_in}
@@ -6,7 +6,7 @@ use Rattle.p9_export.proofs.listing.fill_dir.Given as goal
 
 abbrev pub invariant-loop-node : goal.invariant-loop-node
 invariant-loop-node g l =
-    let es = entries_in (map g.T.Tree.state l.forest.trees.items) l.position l.dir in
+    let es = entries_in l.forest l.position l.dir in
     Filling (length l.fn.buffer) (filter (is_behind l.fn.cursor) es) l.fn.cursor l.buffer
     l.given.size l.given.cursor (filter (is_behind l.given.cursor) es)
     × IsAtMost l.given.cursor l.position × (l.given.is_full ≡ false)

@@ -1,5 +1,5 @@
 use Rattle.p9_space.specs.Rights.{who_view}
-use Rattle.std.proofs.Common.{arith, map, length, sym, ◌∙◌, refl}
+use Rattle.std.proofs.Common.{arith, length, sym, ◌∙◌, refl}
 use Rattle.p9_step.specs.Listing.{left_of}
 use Rattle.p9_step.specs.Read.{fitting}
 use Rattle.p9_export.proofs.Listings.{none_short, nothing_given, some_short, something_given}
@@ -10,7 +10,7 @@ use Rattle.p9_export.proofs.listing.list.Goals.{else-given-via-then-given+else-g
 pub returns-then-given-eq0-clause-err : goal.returns-then-given-eq0-clause-err
 returns-then-given-eq0-clause-err g c =
     let left =
-    left_of (map g.T.Tree.state c.args.forest.now.trees.items) (who_view c.args.who) c.args.cursor
+    left_of c.args.forest.now (who_view c.args.who) c.args.cursor
     c.args.members.now in (
       refl,
       some_short (length c.args.buffer.now) left (sym c.fill-given.ensures.full ∙ c.if-given.true),
@@ -21,7 +21,7 @@ returns-then-given-eq0-clause-err g c =
 pub returns-clause-ok : goal.returns-clause-ok
 returns-clause-ok g c =
     let left =
-    left_of (map g.T.Tree.state c.args.forest.now.trees.items) (who_view c.args.who) c.args.cursor
+    left_of c.args.forest.now (who_view c.args.who) c.args.cursor
     c.args.members.now in
     λ none. elim c.else-given.branch [
       | else-given-via-then-given+else-given-eq0 w ↦ (

@@ -1,4 +1,4 @@
-use Rattle.std.proofs.Common.{◌≡◌, Some, map, sym, ap, ◌∙◌}
+use Rattle.std.proofs.Common.{◌≡◌, Some, sym, ap, ◌∙◌}
 use Rattle.std.specs.Option.{option_copied}
 use Rattle.p9_tree.specs.Forest.{forest_changed_at, node_of}
 use Rattle.p9_tree.specs.Node.{marked}
@@ -10,7 +10,7 @@ unwrap-requires g c = copied-some c.node.result (rw c.node.ensures c.requires)
 
 pub returns-then-is_cut : goal.returns-then-is_cut
 returns-then-is_cut g c =
-    let forest = map g.T.Tree.state c.args.forest.now.trees.items in
+    let forest = c.args.forest.now in
     let n = c.unwrap.result.now in
     let found : node_of c.args.at forest ≡ Some n =
     sym c.node.ensures ∙ ap option_copied c.unwrap.ensures in

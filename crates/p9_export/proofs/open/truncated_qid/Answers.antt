@@ -1,4 +1,4 @@
-use Rattle.std.proofs.Common.{map, sym, ap, ◌∙◌}
+use Rattle.std.proofs.Common.{sym, ap, ◌∙◌}
 use Rattle.std.specs.Option.{option_copied}
 use Rattle.p9_tree.specs.Forest.{node_of}
 use Rattle.p9_step.specs.Open.{truncated}
@@ -8,8 +8,8 @@ use Rattle.p9_export.proofs.open.truncated_qid.Goals as goal
 
 pub unwrap-requires : goal.unwrap-requires
 unwrap-requires g c =
-    let old = map g.T.Tree.state c.args.forest.now.trees.items in
-    let new = map g.T.Tree.state c.truncate.new.forest.trees.items in
+    let old = c.args.forest.now in
+    let new = c.truncate.new.forest in
     let after =
     truncated-there c.args.user c.args.now c.args.at old new c.args.opening
     c.truncate.ensures in
@@ -29,8 +29,8 @@ returns-clause-forest g c = c.truncate.ensures
 
 pub returns-clause-qid : goal.returns-clause-qid
 returns-clause-qid g c =
-    let old = map g.T.Tree.state c.args.forest.now.trees.items in
-    let new = map g.T.Tree.state c.truncate.new.forest.trees.items in
+    let old = c.args.forest.now in
+    let new = c.truncate.new.forest in
     let after =
     truncated-there c.args.user c.args.now c.args.at old new c.args.opening
     c.truncate.ensures in

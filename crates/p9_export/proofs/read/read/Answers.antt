@@ -1,4 +1,4 @@
-use Rattle.std.proofs.Common.{◌≡◌, ◌≤◌, ◌++◌, arith, map, length, take, drop, min, sym, ap}
+use Rattle.std.proofs.Common.{◌≡◌, ◌≤◌, ◌++◌, arith, length, take, drop, min, sym, ap}
 use Rattle.std.proofs.Common.{refl, ◌∙◌}
 use Rattle.std.proofs.lemmas.List.{length-take-le, take-append-le}
 use Rattle.std.proofs.lemmas.Result.{err_from_is_err_and}
@@ -14,7 +14,7 @@ use Rattle.p9_export.proofs.read.read.Goals as goal
 
 pub returns-in_err-listed-clause-answer : goal.returns-in_err-listed-clause-answer
 returns-in_err-listed-clause-answer g c =
-    let forest = map g.T.Tree.state c.args.forest.now.trees.items in
+    let forest = c.args.forest.now in
     let s = c.args.session.now.session in
     let r : IsReadable c.args.setting.now forest s c.args.wanted.fid c.in-Some.held.now.fid
     c.in-Some-readable.opened c.in-Some-node.file.now = record {
@@ -41,7 +41,7 @@ returns-in_err-listed-clause-answer g c =
 
 pub returns-in_ok-listed-clause-answer : goal.returns-in_ok-listed-clause-answer
 returns-in_ok-listed-clause-answer g c =
-    let forest = map g.T.Tree.state c.args.forest.now.trees.items in
+    let forest = c.args.forest.now in
     let s = c.args.session.now.session in
     let r : IsReadable c.args.setting.now forest s c.args.wanted.fid c.in-Some.held.now.fid
     c.in-Some-readable.opened c.in-Some-node.file.now = record {
@@ -76,7 +76,7 @@ returns-in_ok-listed-clause-answer g c =
 
 pub returns-else-is_dir-clause-answer : goal.returns-else-is_dir-clause-answer
 returns-else-is_dir-clause-answer g c =
-    let forest = map g.T.Tree.state c.args.forest.now.trees.items in
+    let forest = c.args.forest.now in
     let r : IsReadable c.args.setting.now forest c.args.session.now.session c.args.wanted.fid c.in-Some.held.now.fid
     c.in-Some-readable.opened c.in-Some-node.file.now = record {
       there = sym (ap (λ s. fid_at c.args.wanted.fid s.session.fids) c.session.view_is) ∙ sym c.in-Some.ensures.fid;
@@ -98,7 +98,7 @@ returns-else-is_dir-clause-answer g c =
     c.args.wanted.count c.in-Some.held.now.fid c.in-Some-readable.opened c.in-Some-node.file.now r
     (length (take c.min-room.result c.args.buffer.now)) c.read_file.result
     (c.read_file.new.buffer ++ drop c.min-room.result c.args.buffer.now)
-    (map g.T.Tree.state c.read_file.new.forest.trees.items)
+    c.read_file.new.forest
     (sym c.is_dir.ensures ∙ c.if-is_dir.false) (long ∙ room_is)
     (take-append-le c.read_file.result c.read_file.new.buffer
     (drop c.min-room.result c.args.buffer.now) within ∙ c.read_file.ensures.bytes

@@ -1,7 +1,7 @@
 use Rattle.std.proofs.Common.{subst}
 use Rattle.p9_space.specs.Rights.{who_view}
 use Rattle.p9_step.specs.State.{who_of}
-use Rattle.std.proofs.Common.{◌≡◌, true, false, Some, None, not, is_some, map, sym, ap, refl, ◌∙◌}
+use Rattle.std.proofs.Common.{◌≡◌, true, false, Some, None, not, is_some, sym, ap, refl, ◌∙◌}
 use Rattle.std.specs.Option.{option_copied}
 use Rattle.p9_tree.specs.Forest.{has_children_of, node_of}
 use Rattle.p9_step.specs.Rights.{may_write_parent}
@@ -11,7 +11,7 @@ use Rattle.p9_export.proofs.remove.remove_file.Goals as goal
 
 pub drop_leaf-requires-clause-not_root : goal.drop_leaf-requires-clause-not_root
 drop_leaf-requires-clause-not_root g c =
-    let forest = map g.T.Tree.state c.args.forest.now.trees.items in
+    let forest = c.args.forest.now in
     let found : node_of c.file-at.result forest ≡ Some c.in-Some.file.now =
     sym c.node.ensures ∙ ap option_copied c.in-Some.is in
     let inner : is_some c.parent-parent.result ≡ true =
@@ -21,7 +21,7 @@ drop_leaf-requires-clause-not_root g c =
 
 pub returns : goal.returns
 returns g c = λ left.
-    let forest = map g.T.Tree.state c.args.forest.now.trees.items in
+    let forest = c.args.forest.now in
     let found : node_of c.file-at.result forest ≡ Some c.in-Some.file.now =
     sym c.node.ensures ∙ ap option_copied c.in-Some.is in
     let inner : is_some c.parent-parent.result ≡ true =

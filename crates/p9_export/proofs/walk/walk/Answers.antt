@@ -1,4 +1,4 @@
-use Rattle.std.proofs.Common.{◌≡◌, false, Some, None, is_some, map, sym, ap, refl, ◌∙◌}
+use Rattle.std.proofs.Common.{◌≡◌, false, Some, None, is_some, sym, ap, refl, ◌∙◌}
 use Rattle.p9_space.specs.Channel.{trail_of}
 use Rattle.p9_fids.specs.Held.{Held}
 use Rattle.p9_fids.specs.Fid.{Fid, fid_at}
@@ -9,7 +9,7 @@ use Rattle.p9_export.proofs.walk.walk.Goals as goal
 
 pub returns-clause-answer : goal.returns-clause-answer
 returns-clause-answer g c =
-    let forest = map g.T.Tree.state c.args.forest.now.trees.items in
+    let forest = c.args.forest.now in
     let session : Session =
     record { msize = c.session.inside.msize; fids = c.session.inside.fids.fids } in
     let held : Fid = record {

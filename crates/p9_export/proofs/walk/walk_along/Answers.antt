@@ -1,4 +1,4 @@
-use Rattle.std.proofs.Common.{ℕ, ◌∙◌, List, [], Bor, map, refl, sym, arith}
+use Rattle.std.proofs.Common.{ℕ, ◌∙◌, List, [], Bor, refl, sym, arith}
 use Rattle.std.proofs.Common.{length-append}
 use Rattle.p9_export.proofs.Walks.{qid-arrived, walked-all, walked-end, walked-turn}
 use Rattle.p9_step.specs.State.{Setting}
@@ -33,12 +33,12 @@ loop-name-preserved g c =
     } in
     let step = rw (c.who.ensures, ← c.setting.view_is) at c.in-Ok.ensures.ok in
     let there =
-    qid-arrived c.setting.inside.table (map g.T.Tree.state c.args.forest.now.trees.items)
+    qid-arrived c.setting.inside.table c.args.forest.now
     (here (stepped (trail_of c.loop-name.channels) c.in-Ok.arrival.step)) c.in-Ok.arrival.at
     c.in-Ok.arrival.file.now c.in_ok-arrive-in-Ok.field-0 c.in-Ok.ensures.at c.in-Ok.ensures.file
     c.in_ok-arrive-in-Ok.ensures.qid in
     let turn =
-    walked-turn setting (map g.T.Tree.state c.args.forest.now.trees.items) c.args.user.now
+    walked-turn setting c.args.forest.now c.args.user.now
     c.loop-name.qids c.push.new.self (trail_of c.loop-name.channels) (trail_of c.arrive.new.channels)
     c.as_slice-name-items.result.now c.loop-name.name-index nameless c.in-Ok.arrival.step
     c.in_ok-arrive-in-Ok.field-0 c.loop-name-test.true step there
@@ -59,7 +59,7 @@ returns-in-Err-clause-walked g c =
     } in
     let step = rw (c.who.ensures, ← c.setting.view_is) at c.in-Err.ensures.err in
     let end =
-    walked-end setting (map g.T.Tree.state c.args.forest.now.trees.items) c.args.user.now
+    walked-end setting c.args.forest.now c.args.user.now
     c.loop-name.qids (trail_of c.loop-name.channels) c.as_slice-name-items.result.now c.loop-name.name-index
     nameless c.in-Err.fault c.loop-name-test.true step in
     sym (c.loop-name.invariant.walk ∙ rw (← c.setting.view_is) end)
@@ -67,6 +67,6 @@ returns-in-Err-clause-walked g c =
 pub returns-clause-walked : goal.returns-clause-walked
 returns-clause-walked g c =
     sym (c.loop-name.invariant.walk
-    ∙ walked-all c.args.setting.now (map g.T.Tree.state c.args.forest.now.trees.items)
+    ∙ walked-all c.args.setting.now c.args.forest.now
     c.args.user.now _ _ c.as_slice-name-items.result.now c.loop-name.name-index
     c.loop-name-test.false)

@@ -7,7 +7,7 @@ use Rattle.p9_export.proofs.walk.walk_along.Given as goal
 -- the qids so far, and the walk along the names that are left, are the whole walk
 abbrev pub invariant-loop-name : goal.invariant-loop-name
 invariant-loop-name g l =
-    let forest = map g.T.Tree.state l.forest.trees.items in
+    let forest = l.forest in
     let walk = walked l.setting forest l.user in
     record {
       count : length l.qids ≡ l.name-index;

@@ -1,4 +1,4 @@
-use Rattle.std.proofs.Common.{◌≡◌, Some, true, map, refl, sym, ap, ◌∙◌}
+use Rattle.std.proofs.Common.{◌≡◌, Some, true, refl, sym, ap, ◌∙◌}
 use Rattle.std.proofs.lemmas.Result.{err_from_is_err_and}
 use Rattle.p9_tree.specs.Bytes.{overwritten}
 use Rattle.p9_tree.specs.Forest.{forest_changed_at, node_of}
@@ -13,7 +13,7 @@ use Rattle.p9_export.proofs.write.write.Goals as goal
 
 pub write-requires-clause-file : goal.write-requires-clause-file
 write-requires-clause-file g c =
-    let forest = map g.T.Tree.state c.args.forest.now.trees.items in
+    let forest = c.args.forest.now in
     let v = c.in-Some.held.now.fid in
     let found : fid_at c.args.fid c.args.session.now.session.fids ≡ Some v =
     rw (← c.session.view_is) (sym c.in-Some.ensures.fid) in
@@ -27,7 +27,7 @@ write-requires-clause-file g c =
 
 pub returns-in_err-write : goal.returns-in_err-write
 returns-in_err-write g c =
-    let forest = map g.T.Tree.state c.args.forest.now.trees.items in
+    let forest = c.args.forest.now in
     let v = c.in-Some.held.now.fid in
     let found : fid_at c.args.fid c.args.session.now.session.fids ≡ Some v =
     rw (← c.session.view_is) (sym c.in-Some.ensures.fid) in
@@ -39,13 +39,13 @@ returns-in_err-write g c =
     (sym c.in-Some-node.ensures) (sym c.is_empty.ensures ∙ c.if-is_empty.false)
     (sym c.fits.ensures ∙ c.if-not-fits.false) in
     let refused = err_from_is_err_and c.from_residual.result c.from_residual.ensures.1 in
-    memory_refused Rwrite _ _ forest (map g.T.Tree.state c.write.new.self.trees.items)
+    memory_refused Rwrite _ _ forest c.write.new.self
     c.args.session.now.session c.args.session.now.session c.from_residual.result refused.0 done refused.1
     refused.2 c.in_err-write.ensures.err refl
 
 pub returns : goal.returns
 returns g c =
-    let forest = map g.T.Tree.state c.args.forest.now.trees.items in
+    let forest = c.args.forest.now in
     let v = c.in-Some.held.now.fid in
     let found : fid_at c.args.fid c.args.session.now.session.fids ≡ Some v =
     rw (← c.session.view_is) (sym c.in-Some.ensures.fid) in
@@ -56,7 +56,7 @@ returns g c =
     c.write_place-place.result c.file-at.ensures c.write_place-place.ensures found opens
     (sym c.in-Some-node.ensures) (sym c.is_empty.ensures ∙ c.if-is_empty.false)
     (sym c.fits.ensures ∙ c.if-not-fits.false) in
-    let new = map g.T.Tree.state c.bump.new.self.trees.items in
+    let new = c.bump.new.self in
     let bumped =
     c.bump.ensures
     ∙ ap (forest_changed_at c.file-at.result (marked c.held.inside.user c.args.now))

@@ -1,5 +1,5 @@
 use Rattle.p9_step.specs.State.{who_of}
-use Rattle.std.proofs.Common.{◌≡◌, Some, None, true, false, map, refl, sym, ap, ◌∙◌}
+use Rattle.std.proofs.Common.{◌≡◌, Some, None, true, false, refl, sym, ap, ◌∙◌}
 use Rattle.std.proofs.lemmas.Result.{err_from_is_err_and}
 use Rattle.p9_tree.specs.declared.change.Change.{Change}
 use Rattle.p9_tree.specs.Change.{changed}
@@ -26,7 +26,7 @@ stat_of-there-requires g c =
 
 pub node_change-change-requires-clause-name : goal.node_change-change-requires-clause-name
 node_change-change-requires-clause-name g c =
-    let forest = map g.T.Tree.state c.args.forest.now.trees.items in
+    let forest = c.args.forest.now in
     let n = c.in-Some-node.file.now in
     let at = c.file-at.result in
     let t : Touched = touched_view c.touched_of-touched.result in
@@ -37,7 +37,7 @@ node_change-change-requires-clause-name g c =
 
 pub node_change-change-requires-clause-gid : goal.node_change-change-requires-clause-gid
 node_change-change-requires-clause-gid g c =
-    let forest = map g.T.Tree.state c.args.forest.now.trees.items in
+    let forest = c.args.forest.now in
     let n = c.in-Some-node.file.now in
     let at = c.file-at.result in
     let t : Touched = touched_view c.touched_of-touched.result in
@@ -49,7 +49,7 @@ node_change-change-requires-clause-gid g c =
 
 pub change-requires : goal.change-requires
 change-requires g c =
-    let forest = map g.T.Tree.state c.args.forest.now.trees.items in
+    let forest = c.args.forest.now in
     let n = c.in-Some-node.file.now in
     let at = c.file-at.result in
     let t : Touched = touched_view c.touched_of-touched.result in
@@ -62,7 +62,7 @@ change-requires g c =
 
 pub returns-in_err-change : goal.returns-in_err-change
 returns-in_err-change g c =
-    let forest = map g.T.Tree.state c.args.forest.now.trees.items in
+    let forest = c.args.forest.now in
     let n = c.in-Some-node.file.now in
     let at = c.file-at.result in
     let t : Touched = touched_view c.touched_of-touched.result in
@@ -83,13 +83,13 @@ returns-in_err-change g c =
     wstat_answer-done c.args.setting.now forest c.args.session.now.session c.args.now c.args.fid wanted
     v n at t c.file-at.ensures held (sym c.in-Some-node.ensures) fixed t_is free in
     let refused = err_from_is_err_and c.from_residual.result c.from_residual.ensures.1 in
-    memory_refused (λ _. Rwstat) _ _ forest (map g.T.Tree.state c.change.new.self.trees.items)
+    memory_refused (λ _. Rwstat) _ _ forest c.change.new.self
     c.args.session.now.session c.args.session.now.session c.from_residual.result refused.0 done refused.1
     refused.2 c.in_err-change.ensures.err refl
 
 pub returns : goal.returns
 returns g c =
-    let forest = map g.T.Tree.state c.args.forest.now.trees.items in
+    let forest = c.args.forest.now in
     let n = c.in-Some-node.file.now in
     let at = c.file-at.result in
     let t : Touched = touched_view c.touched_of-touched.result in
@@ -110,8 +110,8 @@ returns g c =
     wstat_answer-done c.args.setting.now forest c.args.session.now.session c.args.now c.args.fid wanted
     v n at t c.file-at.ensures held (sym c.in-Some-node.ensures) fixed t_is free in
     let some : is_any t ≡ true = sym c.is_any.ensures ∙ c.if-not-is_any.false in
-    let middle = map g.T.Tree.state c.change.new.self.trees.items in
-    let new = map g.T.Tree.state c.mark_parent.new.forest.trees.items in
+    let middle = c.change.new.self in
+    let new = c.mark_parent.new.forest in
     let made : middle ≡ forest_changed_at at
     (changed (node_change c.held.inside.user c.args.now t)) forest = c.in_ok-change.ensures.ok
     ∙ ap (λ (d : Change). forest_changed_at at (changed d) forest)

@@ -4,10 +4,12 @@ use Rattle.p9_guard.proofs.guard.next_numbers.Goals as goal
 
 pub loop-tree-preserved : goal.loop-tree-preserved
 loop-tree-preserved g c =
-    let trees = c.args.forest.now.trees.items in
+    let trees = c.forest.inside.trees.items in
     let so_far = take c.loop-tree.tree-index (map (λ s. s.next) (map g.T.Tree.state trees)) in
-    c.in_ok-push.ensures.items
-    ∙ ap (λ (zs : List ℕ). zs ++ c.next.result ∷ []) c.loop-tree.invariant
+    rw (← c.forest.view_is)
+    (c.in_ok-push.ensures.items
+    ∙ ap (λ (zs : List ℕ). zs ++ c.next.result ∷ [])
+    (rw (← c.forest.view_is) at c.loop-tree.invariant)
     ∙ ap (λ (k : ℕ). so_far ++ k ∷ []) c.next.ensures
     ∙ sym (taken-more-twice (λ s. s.next) g.T.Tree.state trees c.loop-tree.tree-index
     c.tree-item.result
@@ -15,4 +17,4 @@ loop-tree-preserved g c =
     c.deref-tree-items.ensures.value c.loop-tree-test.true)
     (subst (λ (zs : List g.row.T.Denot). c.tree-item.result
     ≡ get_or zs c.loop-tree.tree-index c.tree-item.result) c.deref-tree-items.ensures.value
-    c.tree-item.is))
+    c.tree-item.is)))

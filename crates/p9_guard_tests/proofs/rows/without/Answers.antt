@@ -11,7 +11,7 @@ pub invariant_of-world : goal.invariant_of-world
 invariant_of-world g c =
     let w = c.world.inside in
     let world : World = record {
-      forest = map (λ t. record { nodes = t.nodes.items; next = t.next }) w.forest.trees.items;
+      forest = w.forest;
       users = w.users.items;
       groups = w.groups;
       hidden = w.hidden.items;

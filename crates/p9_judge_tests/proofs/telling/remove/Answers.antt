@@ -1,4 +1,4 @@
-use Rattle.std.proofs.Common.{◌≤◌, List, map, refl, subst, sym, arith}
+use Rattle.std.proofs.Common.{◌≤◌, List, refl, subst, sym, arith}
 use Rattle.p9_tree.specs.Server.{Server, with_dropped}
 use Rattle.p9_tree.specs.Forest.{next_of, server_at}
 use Rattle.p9_world.specs.World.{IsWorld, World, world_view}
@@ -9,7 +9,7 @@ pub invariant_of-world : goal.invariant_of-world
 invariant_of-world g c =
     let inside = c.world.inside in
     let world : World =
-    world_view g.T.Tree.state inside.forest.trees.items inside.users.items inside.groups
+    world_view inside.forest inside.users.items inside.groups
     inside.hidden.items inside.vars.items inside.servers.items in
     subst (λ (f : List Server). IsWorld (record world { forest = f })) (sym c.drop_leaf.ensures)
     (IsWorld-changed c.args.at.server

@@ -7,7 +7,7 @@ use Rattle.p9_nsfile.proofs.run.run_file.Goals as goal
 pub returns-clause-given : goal.returns-clause-given
 returns-clause-given g c =
     let environment =
-    environment_view g.T.Tree.state c.args.forest.now.trees.items c.args.vars.now
+    environment_view c.args.forest.now c.args.vars.now
     c.args.servers.now in
     KeepsGiven-lines environment c.new-environment.result (map line_view c.deref.result.now)
     c.args.table.now c.into_parts-made.result.0 c.in_ok-space.space c.run_lines.new.space

@@ -8,7 +8,7 @@ use Rattle.p9_space.proofs.channel.walked_along.Given as goal
 -- the walk along the names that are left, from here, is the whole walk
 abbrev pub invariant-loop-name : goal.invariant-loop-name
 invariant-loop-name g l =
-    let forest = map g.T.Tree.state l.forest.trees.items in
+    let forest = l.forest in
     (walk forest l.table (option_map who_view l.who) (trail_of l.walked)
     (map (λ n. n.now) (drop l.name-index l.names))
     ≡ walk forest l.table (option_map who_view l.who) (trail_of l.start)

@@ -1,4 +1,4 @@
-use Rattle.std.proofs.Common.{◌≡◌, ◌∙◌, ◌<◌, sym, subst, map, false, true, refl, add-one, drop}
+use Rattle.std.proofs.Common.{◌≡◌, ◌∙◌, ◌<◌, sym, subst, false, true, refl, add-one, drop}
 use Rattle.p9_space.specs.Given.{is_row_given, is_table_given}
 use Rattle.p9_space.proofs.GivenRows.{list_all-rest, none-past}
 use Rattle.p9_space.proofs.given.is_table_given.Goals as goal
@@ -6,7 +6,7 @@ use Rattle.p9_space.proofs.given.is_table_given.Goals.{in-Some+else-not-is_row_g
 
 pub returns-then-not-is_row_given : goal.returns-then-not-is_row_given
 returns-then-not-is_row_given g c =
-    let forest = map g.T.Tree.state c.args.forest.now.trees.items in
+    let forest = c.args.forest.now in
     let rest =
     list_all-rest (is_row_given forest) c.args.table.now c.loop-position.position
     (c.in-Some.key, c.in-Some.members) (sym c.row.ensures ∙ c.in-Some.is) in
@@ -16,7 +16,7 @@ returns-then-not-is_row_given g c =
 
 pub loop-position-preserved : goal.loop-position-preserved
 loop-position-preserved g c =
-    let forest = map g.T.Tree.state c.args.forest.now.trees.items in
+    let forest = c.args.forest.now in
     elim c.match-row.branch [
       | in-Some+else-not-is_row_given w ↦
           let rest =

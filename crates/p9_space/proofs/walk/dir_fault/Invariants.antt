@@ -1,4 +1,4 @@
-use Rattle.std.proofs.Common.{◌≡◌, ◌||◌, drop, map}
+use Rattle.std.proofs.Common.{◌≡◌, ◌||◌, drop}
 use Rattle.std.specs.List.{list_any}
 use Rattle.p9_space.specs.Walk.{is_alive, is_alive_dir}
 use Rattle.p9_space.proofs.walk.dir_fault.Given as goal
@@ -7,7 +7,7 @@ use Rattle.p9_space.proofs.walk.dir_fault.Given as goal
 -- what is alive among all
 abbrev pub invariant-loop-member : goal.invariant-loop-member
 invariant-loop-member g l =
-    let forest = map g.T.Tree.state l.forest.trees.items in
+    let forest = l.forest in
     let left = drop l.member-index l.members in
     record {
       alive : (l.alive || list_any (is_alive forest) left) ≡ list_any (is_alive forest) l.members;

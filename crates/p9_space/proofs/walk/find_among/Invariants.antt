@@ -1,4 +1,4 @@
-use Rattle.std.proofs.Common.{◌≡◌, ◌||◌, drop, map}
+use Rattle.std.proofs.Common.{◌≡◌, ◌||◌, drop}
 use Rattle.std.specs.List.{list_any}
 use Rattle.std.specs.Option.{option_copied, option_map}
 use Rattle.p9_space.specs.Rights.{who_view}
@@ -8,7 +8,7 @@ use Rattle.p9_space.proofs.walk.find_among.Given as goal
 -- what is found so far, with what the members that are left have, is what all of them have
 abbrev pub invariant-loop-member : goal.invariant-loop-member
 invariant-loop-member g l =
-    let forest = map g.T.Tree.state l.forest.trees.items in
+    let forest = l.forest in
     let who = option_map who_view l.who in
     let left = drop l.member-index l.members in
     record {

@@ -5,13 +5,13 @@ use Rattle.p9_world.proofs.entry.add_dir.Goals as goal
 
 pub invariant_of-world-2 : goal.invariant_of-world-2
 invariant_of-world-2 g c =
-    let some : 0 < length c.world.inside.forest.trees.items =
-    omega (arith, c.in-Some.ensures.variant.0 refl, c.world.inside.forest.trees.ok.0) in
+    let some : 0 < length c.forest.inside.trees.items =
+    omega (arith, c.in-Some.ensures.variant.0 refl, c.forest.inside.trees.ok.0) in
     record {
       world =
-          IsWorld-last g.T.Tree.state c.world.inside.forest.trees.items c.in-Some.tree.now
-          c.add_dir_to.new.tree _ c.world.inside.forest.trees.ok.0 some c.in-Some.ensures.value
-          _ _ _ _ _
+          IsWorld-last g.T.Tree.state c.forest.inside.trees.items c.in-Some.tree.now
+          c.add_dir_to.new.tree _ c.forest.inside.trees.ok.0 some c.in-Some.ensures.value _
+          c.forest.view_is _ _ _ _ _
           c.world.invariant.world c.add_dir_to.ensures.next;
       users = c.world.invariant.users;
       vars = c.world.invariant.vars;
@@ -21,11 +21,11 @@ invariant_of-world-2 g c =
 
 pub returns : goal.returns
 returns g c =
-    let some : 0 < length c.world.inside.forest.trees.items =
-    omega (arith, c.in-Some.ensures.variant.0 refl, c.world.inside.forest.trees.ok.0) in
+    let some : 0 < length c.forest.inside.trees.items =
+    omega (arith, c.in-Some.ensures.variant.0 refl, c.forest.inside.trees.ok.0) in
     rw (← c.world.view_is)
-    (Makes-last g.T.Tree.state c.world.inside.forest.trees.items c.in-Some.tree.now
-    c.add_dir_to.new.tree _ c.world.inside.forest.trees.ok.0 some c.in-Some.ensures.value
-    _ _ _ _ _
+    (Makes-last g.T.Tree.state c.forest.inside.trees.items c.in-Some.tree.now
+    c.add_dir_to.new.tree _ c.forest.inside.trees.ok.0 some c.in-Some.ensures.value _
+    c.forest.view_is _ _ _ _ _
     (dir_line c.args.path.now c.args.mode.now c.args.uid.now c.args.gid.now)
     c.add_dir_to.result c.add_dir_to.ensures.made)

@@ -12,8 +12,8 @@ add_hidden-requires g c =
     ≡ Some c.in-Some.server =
     sym (c.in-Some.ensures ∙ c.world.invariant.servers c.args.server.now) in
     let here =
-    server_at-named g.T.Tree.state c.args.server.now c.world.inside.forest.trees.items
-    c.world.inside.servers.items c.in-Some.server c.index.result.now c.world.invariant.world.named at
+    server_at-named g.T.Tree.state c.args.server.now c.forest.inside.trees.items
+    c.world.inside.forest c.forest.view_is c.world.inside.servers.items c.in-Some.server c.index.result.now c.world.invariant.world.named at
     c.index.ensures in
     let below : c.in-Some-dir_of.number < (g.T.Tree.state c.index.result.now).next =
     dir_of-below c.as_slice.result.now (g.T.Tree.state c.index.result.now)
@@ -28,8 +28,8 @@ returns g c =
     ≡ Some c.in-Some.server =
     sym (c.in-Some.ensures ∙ c.world.invariant.servers c.args.server.now) in
     let here =
-    server_at-named g.T.Tree.state c.args.server.now c.world.inside.forest.trees.items
-    c.world.inside.servers.items c.in-Some.server c.index.result.now c.world.invariant.world.named at
+    server_at-named g.T.Tree.state c.args.server.now c.forest.inside.trees.items
+    c.world.inside.forest c.forest.view_is c.world.inside.servers.items c.in-Some.server c.index.result.now c.world.invariant.world.named at
     c.index.ensures in
     let names : names_of c.args.path.now ≡ Some c.in-Some-2.names.items =
     sym (rw c.in-Some-2.is at c.in_ok-names.ensures) in

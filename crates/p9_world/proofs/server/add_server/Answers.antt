@@ -28,7 +28,7 @@ invariant_of-world-2 g c =
       c.world.inside.servers.ok.0,
     ) in
     record {
-      world = rw (forest, servers)
+      world = rw (forest, c.forest.view_is, servers)
           (IsWorld-with_server c.args.name.now _ c.world.invariant.world absent room);
       users = c.world.invariant.users;
       vars = c.world.invariant.vars;
@@ -67,4 +67,4 @@ returns g c =
     ) in
     let valid : is_server_name c.args.name.now ≡ true =
     sym c.is_server_name.ensures ∙ c.if-not-is_server_name.false in
-    rw (← c.world.view_is, forest, servers) (server_line-ok c.args.name.now _ valid absent room)
+    rw (← c.world.view_is, forest, c.forest.view_is, servers) (server_line-ok c.args.name.now _ valid absent room)

@@ -1,4 +1,4 @@
-use Rattle.std.proofs.Common.{◌≡◌, None, Some, false, true, refl, map, sym, ap, subst, ◌∙◌}
+use Rattle.std.proofs.Common.{◌≡◌, None, Some, false, true, refl, sym, ap, subst, ◌∙◌}
 use Rattle.std.specs.Ordering.{nat_cmp}
 use Rattle.std.specs.BTreeMap.{is_at}
 use Rattle.p9_fids.proofs.Values.{remove-mapped}
@@ -12,7 +12,7 @@ use Rattle.p9_export.proofs.export.Export.close.Goals as goal
 
 pub end_fids-requires-clause-opened : goal.end_fids-requires-clause-opened
 end_fids-requires-clause-opened g c =
-    let forest = map g.T.Tree.state c.self.inside.forest.trees.items in
+    let forest = c.self.inside.forest in
     let rows = c.self.inside.sessions.entries in
     subst (FidsFit c.self.inside.setting.table forest)
     (sym (ap (λ (s : HeldSession). s.session.fids) c.session.view_is))
@@ -30,7 +30,7 @@ end_fids-requires-clause-channels g c =
 
 pub invariant_of-self : goal.invariant_of-self
 invariant_of-self g c =
-    let forest = map g.T.Tree.state c.self.inside.forest.trees.items in
+    let forest = c.self.inside.forest in
     let test = is_at (nat_cmp c.args.name) in
     let rows = c.self.inside.sessions.entries in
     let its : Session =

@@ -1,4 +1,4 @@
-use Rattle.std.proofs.Common.{◌<◌, ◌≤◌, IfSome, arith, drop, length, map, subst, sym, take}
+use Rattle.std.proofs.Common.{◌<◌, ◌≤◌, IfSome, arith, drop, length, subst, sym, take}
 use Rattle.std.proofs.lemmas.List.Elements.{All-from_get_or}
 use Rattle.p9_wire.specs.Laws.{IsBytes}
 use Rattle.p9_wire.specs.Spelling.{read_header}
@@ -15,7 +15,7 @@ use Rattle.p9_export.proofs.export.Export.message.Goals as goal
 pub answer-answered-requires-clause-sound : goal.answer-answered-requires-clause-sound
 answer-answered-requires-clause-sound g c =
     each-session-served c.self.inside.setting
-    (map g.T.Tree.state c.self.inside.forest.trees.items) (sessions_in c.self.inside.sessions.entries) c.args.name
+    c.self.inside.forest (sessions_in c.self.inside.sessions.entries) c.args.name
     c.self.invariant.served
 
 pub answer-answered-requires-clause-room : goal.answer-answered-requires-clause-room
@@ -27,7 +27,7 @@ pub write_reply-requires-clause-room : goal.write_reply-requires-clause-room
 write_reply-requires-clause-room g c =
     let old : State = record {
       setting = c.self.inside.setting;
-      forest = map g.T.Tree.state c.self.inside.forest.trees.items;
+      forest = c.self.inside.forest;
       sessions = sessions_in c.self.inside.sessions.entries;
     } in
     let its : IsState old = record {
@@ -35,7 +35,7 @@ write_reply-requires-clause-room g c =
       served = c.self.invariant.served;
     } in
     among-room old c.args.name c.args.now c.args.frame.now (length c.answer-answered.new.reply)
-    (map g.T.Tree.state c.answer-answered.new.forest.trees.items)
+    c.answer-answered.new.forest
     (sessions_in c.answer-answered.new.sessions.entries) (drop read_header c.answer-answered.new.reply)
     c.answer-answered.result its
     (All-from_get_or (λ b. b < 256) c.args.frame.now 0 (λ i lt. omega (arith, c.type_inv.frame i)))
@@ -53,8 +53,8 @@ pub invariant_of-self : goal.invariant_of-self
 invariant_of-self g c =
     let live = rw (← c.self.view_is) at c.requires.live in
     record {
-      served = served-among c.self.inside.setting (map g.T.Tree.state c.self.inside.forest.trees.items)
-          (map g.T.Tree.state c.answer-answered.new.forest.trees.items) (sessions_in c.self.inside.sessions.entries)
+      served = served-among c.self.inside.setting c.self.inside.forest
+          c.answer-answered.new.forest (sessions_in c.self.inside.sessions.entries)
           (sessions_in c.answer-answered.new.sessions.entries) c.args.name c.args.now c.args.frame.now _
           c.well_formed-2.ensures c.self.invariant.served live
           (All-from_get_or (λ b. b < 256) c.args.frame.now 0 (λ i lt. omega (arith, c.type_inv.frame i)))
@@ -67,14 +67,14 @@ pub returns-clause-state : goal.returns-clause-state
 returns-clause-state g c =
     let old : State = record {
       setting = c.self.inside.setting;
-      forest = map g.T.Tree.state c.self.inside.forest.trees.items;
+      forest = c.self.inside.forest;
       sessions = sessions_in c.self.inside.sessions.entries;
     } in
     let live = rw (← c.self.view_is) at c.requires.live in
     let written = rw c.tag_of-tag.ensures at c.write_reply.ensures.bytes in
     let made =
     among-makes old c.args.name c.args.now
-    (map g.T.Tree.state c.answer-answered.new.forest.trees.items)
+    c.answer-answered.new.forest
     (sessions_in c.answer-answered.new.sessions.entries) c.args.frame.now
     (take c.write_reply.result c.write_reply.new.out) _ live c.requires.whole
     c.answer-answered.ensures.answer written in
@@ -84,14 +84,14 @@ pub returns-clause-bytes : goal.returns-clause-bytes
 returns-clause-bytes g c =
     let old : State = record {
       setting = c.self.inside.setting;
-      forest = map g.T.Tree.state c.self.inside.forest.trees.items;
+      forest = c.self.inside.forest;
       sessions = sessions_in c.self.inside.sessions.entries;
     } in
     let live = rw (← c.self.view_is) at c.requires.live in
     let written = rw c.tag_of-tag.ensures at c.write_reply.ensures.bytes in
     let made =
     among-makes old c.args.name c.args.now
-    (map g.T.Tree.state c.answer-answered.new.forest.trees.items)
+    c.answer-answered.new.forest
     (sessions_in c.answer-answered.new.sessions.entries) c.args.frame.now
     (take c.write_reply.result c.write_reply.new.out) _ live c.requires.whole
     c.answer-answered.ensures.answer written in
@@ -101,7 +101,7 @@ pub returns-clause-short : goal.returns-clause-short
 returns-clause-short g c =
     let old : State = record {
       setting = c.self.inside.setting;
-      forest = map g.T.Tree.state c.self.inside.forest.trees.items;
+      forest = c.self.inside.forest;
       sessions = sessions_in c.self.inside.sessions.entries;
     } in
     let its : IsState old = record {
@@ -112,7 +112,7 @@ returns-clause-short g c =
     let written = rw c.tag_of-tag.ensures at c.write_reply.ensures.bytes in
     let made =
     among-makes old c.args.name c.args.now
-    (map g.T.Tree.state c.answer-answered.new.forest.trees.items)
+    c.answer-answered.new.forest
     (sessions_in c.answer-answered.new.sessions.entries) c.args.frame.now
     (take c.write_reply.result c.write_reply.new.out) _ live c.requires.whole
     c.answer-answered.ensures.answer written in

@@ -1,4 +1,4 @@
-use Rattle.std.proofs.Common.{◌≡◌, ◌∙◌, true, false, ap, is_some, map, refl, sym}
+use Rattle.std.proofs.Common.{◌≡◌, ◌∙◌, true, false, ap, is_some, refl, sym}
 use Rattle.std.specs.Ordering.{nat_cmp}
 use Rattle.p9_fids.proofs.Values.{insert-mapped}
 use Rattle.p9_step.specs.State.{fresh, session_at, with_session}
@@ -9,7 +9,7 @@ use Rattle.p9_export.proofs.export.Export.open.Goals as goal
 
 pub invariant_of-self : goal.invariant_of-self
 invariant_of-self g c =
-    kept-put c.self.inside.setting (map g.T.Tree.state c.self.inside.forest.trees.items)
+    kept-put c.self.inside.setting c.self.inside.forest
     c.self.inside.sessions.entries _ c.args.name c.session.result c.insert.result c.self.invariant
     c.session.ensures c.insert.ensures.entries c.insert.ensures.err
 

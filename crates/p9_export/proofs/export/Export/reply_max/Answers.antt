@@ -1,4 +1,4 @@
-use Rattle.std.proofs.Common.{◌≡◌, ◌≤◌, ◌∙◌, None, Some, refl, rules, ap, map, subst, sym}
+use Rattle.std.proofs.Common.{◌≡◌, ◌≤◌, ◌∙◌, None, Some, refl, rules, ap, subst, sym}
 use Rattle.std.specs.Option.{option_copied}
 use Rattle.p9_wire.specs.Frame.{msize_max}
 use Rattle.p9_step.specs.State.{session_at}
@@ -10,7 +10,7 @@ use Rattle.p9_export.proofs.export.Export.reply_max.Goals as goal
 
 pub returns-clause-small : goal.returns-clause-small
 returns-clause-small g c =
-    let forest = map g.T.Tree.state c.self.inside.forest.trees.items in
+    let forest = c.self.inside.forest in
     let rows = c.self.inside.sessions.entries in
     let there : session_at c.args.name (sessions_in rows) ≡ Some c.in_ok-get.field-0.now.session =
     session-there c.args.name rows c.in_ok-get.field-0.now

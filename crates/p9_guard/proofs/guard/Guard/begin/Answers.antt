@@ -9,7 +9,7 @@ pub new-export-requires : goal.new-export-requires
 new-export-requires g c =
     let w = c.world.inside in
     let world : World =
-    world_view g.T.Tree.state w.forest.trees.items w.users.items w.groups w.hidden.items
+    world_view w.forest w.users.items w.groups w.hidden.items
     w.vars.items w.servers.items in
     table_given world c.args.table c.args.certificate
     (subst (λ z. first_gap (policy_of z) z.forest c.args.table c.args.certificate ≡ None)
@@ -19,7 +19,7 @@ pub invariant_of-result : goal.invariant_of-result
 invariant_of-result g c =
     let w = c.world.inside in
     let world : World =
-    world_view g.T.Tree.state w.forest.trees.items w.users.items w.groups w.hidden.items
+    world_view w.forest w.users.items w.groups w.hidden.items
     w.vars.items w.servers.items in
     begun world c.args.table c.args.certificate
     (subst (λ z. first_gap (policy_of z) z.forest c.args.table c.args.certificate ≡ None)

@@ -1,4 +1,4 @@
-use Rattle.std.proofs.Common.{◌∙◌, ◌+◌, ◌-◌, ◌<◌, ◌++◌, map, sym, ap, subst}
+use Rattle.std.proofs.Common.{◌∙◌, ◌+◌, ◌-◌, ◌<◌, ◌++◌, sym, ap, subst}
 use Rattle.std.specs.Option.{option_copied}
 use Rattle.p9_tree.specs.Forest.{next_of}
 use Rattle.p9_cert.proofs.Children.{children-smaller, passed}
@@ -9,7 +9,7 @@ use Rattle.p9_judge.proofs.search.Search.discover_children.Goals as goal
 
 pub child_place-requires : goal.child_place-requires
 child_place-requires g c =
-    let forest = map g.T.Tree.state c.args.forest.now.trees.items in
+    let forest = c.args.forest.now in
     let child =
     after-child forest c.well_formed-2.ensures c.args.dir c.loop-child.floor c.in-Some.child.now
     (sym c.in-Some.ensures) in
@@ -17,7 +17,7 @@ child_place-requires g c =
 
 pub loop-child-smaller : goal.loop-child-smaller
 loop-child-smaller g c =
-    let forest = map g.T.Tree.state c.args.forest.now.trees.items in
+    let forest = c.args.forest.now in
     subst (λ n. next_of c.args.dir.server forest - (n + 1)
     < next_of c.args.dir.server forest - passed c.loop-child.floor)
     (sym c.number.ensures)
@@ -26,7 +26,7 @@ loop-child-smaller g c =
 
 pub loop-child-preserved : goal.loop-child-preserved
 loop-child-preserved g c =
-    let forest = map g.T.Tree.state c.args.forest.now.trees.items in
+    let forest = c.args.forest.now in
     record {
       discovered =
           discovered-next forest c.well_formed-2.ensures c.args.dir
@@ -41,7 +41,7 @@ loop-child-preserved g c =
 
 pub returns-clause-places : goal.returns-clause-places
 returns-clause-places g c =
-    let forest = map g.T.Tree.state c.args.forest.now.trees.items in
+    let forest = c.args.forest.now in
     discovered-end forest c.well_formed-2.ensures c.args.dir
     (child_place c.args.from c.args.dir c.args.user)
     (c.args.self.now.places.items ++ child_places forest c.args.from c.args.dir c.args.user)

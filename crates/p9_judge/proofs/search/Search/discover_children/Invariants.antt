@@ -7,7 +7,7 @@ use Rattle.p9_judge.proofs.search.Search.discover_children.Given as goal
 -- the places, followed by those of the children that are left, are all that there will be
 abbrev pub invariant-loop-child : goal.invariant-loop-child
 invariant-loop-child g l =
-    let forest = map g.T.Tree.state l.forest.trees.items in record {
+    let forest = l.forest in record {
       discovered : l.self.places.items
           ++ map (child_place l.from l.dir l.user) (left_of l.dir l.floor forest)
           ≡ l.initial.self.places.items ++ child_places forest l.from l.dir l.user;
@@ -16,4 +16,4 @@ invariant-loop-child g l =
 
 abbrev pub decreases-loop-child : goal.decreases-loop-child
 decreases-loop-child g l =
-    next_of l.dir.server (map g.T.Tree.state l.forest.trees.items) - passed l.floor
+    next_of l.dir.server l.forest - passed l.floor

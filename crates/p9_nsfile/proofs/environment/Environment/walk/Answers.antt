@@ -15,10 +15,10 @@ returns-in-Err g c =
     (subst
     (λ stop. Gives
     (path_fault
-    (walk (map g.T.Tree.state c.self.inside.forest.now.trees.items) c.args.table.now None
+    (walk c.self.inside.forest.now c.args.table.now None
     c.args.start.now names)) (Err stop)) (sym c.walk_stop.ensures)
     (Gives-walk_stop
-    (walk (map g.T.Tree.state c.self.inside.forest.now.trees.items) c.args.table.now None
+    (walk c.self.inside.forest.now c.args.table.now None
     c.args.start.now names) c.in-Err.fault (rw c.nobody.ensures at c.in-Err.ensures.err)))
 
 pub returns-in-Ok : goal.returns-in-Ok

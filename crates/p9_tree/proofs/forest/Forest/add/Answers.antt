@@ -1,4 +1,4 @@
-use Rattle.std.proofs.Common.{◌≡◌, ◌<◌, length, sym, ap, ◌∙◌, map}
+use Rattle.std.proofs.Common.{◌≡◌, ◌<◌, length, sym, ap, ◌∙◌}
 use Rattle.std.proofs.lemmas.Result.{err_from_is_err_and}
 use Rattle.p9_tree.specs.New.{new_node}
 use Rattle.p9_tree.specs.Server.{Server, added}
@@ -9,28 +9,33 @@ use Rattle.p9_tree.proofs.forest.Forest.add.Goals as goal
 
 pub returns-in_err-number-clause-err : goal.returns-in_err-number-clause-err
 returns-in_err-number-clause-err g c =
-    let within : c.args.dir.server < length c.args.self.now.trees.items =
-    server_within g.T.Tree.state _ _ _ c.requires.into in
+    let within : c.args.dir.server < length c.self.inside.trees.items =
+    server_within g.T.Tree.state c.self.inside.trees.items _ c.args.dir.number
+    (rw c.self.view_is c.requires.into) in
     let p = err_from_is_err_and c.from_residual.result c.from_residual.ensures.1 in
-    rw p.1 (map-set_same g.T.Tree.state _ c.args.dir.server c.index_mut.result.now c.add.new.self
-    within c.index_mut.ensures.value c.in_err-number.ensures.err)
+    rw (p.1, ← c.self.view_is)
+    (map-set_same g.T.Tree.state _ c.args.dir.server c.index_mut.result.now c.add.new.self within
+    c.index_mut.ensures.value c.in_err-number.ensures.err)
 
 pub returns-clause-made : goal.returns-clause-made
 returns-clause-made g c =
-    let within : c.args.dir.server < length c.args.self.now.trees.items =
-    server_within g.T.Tree.state _ _ _ c.requires.into in
-    let was : server_at c.args.dir.server (map g.T.Tree.state c.args.self.now.trees.items)
-    ≡ g.T.Tree.state c.index_mut.result.now = server_at-map g.T.Tree.state _ _ _ within
-    c.index_mut.ensures.value in
+    let within : c.args.dir.server < length c.self.inside.trees.items =
+    server_within g.T.Tree.state c.self.inside.trees.items _ c.args.dir.number
+    (rw c.self.view_is c.requires.into) in
+    let was : server_at c.args.dir.server c.args.self.now ≡ g.T.Tree.state c.index_mut.result.now =
+    rw (← c.self.view_is)
+    (server_at-map g.T.Tree.state _ _ _ within c.index_mut.ensures.value) in
     c.beside.ensures
     ∙ ap (λ number. record { server = c.args.dir.server; number = number })
     (c.in_ok-number.ensures.number ∙ ap (λ (s : Server). s.next) (sym was))
 
 pub returns-clause-ok : goal.returns-clause-ok
 returns-clause-ok g c =
-    let within : c.args.dir.server < length c.args.self.now.trees.items =
-    server_within g.T.Tree.state _ _ _ c.requires.into in
-    map-tree_changed_at g.T.Tree.state
+    let within : c.args.dir.server < length c.self.inside.trees.items =
+    server_within g.T.Tree.state c.self.inside.trees.items _ c.args.dir.number
+    (rw c.self.view_is c.requires.into) in
+    rw (← c.self.view_is)
+    (map-tree_changed_at g.T.Tree.state
     (λ s. added s (new_node s.next c.args.dir.number c.args.new.now)) _ c.args.dir.server
     c.index_mut.result.now c.add.new.self within c.index_mut.ensures.value
-    c.in_ok-number.ensures.ok
+    c.in_ok-number.ensures.ok)
