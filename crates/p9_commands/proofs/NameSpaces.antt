@@ -1,18 +1,33 @@
 -- The name space of an input.
-use Rattle.std.proofs.Common.{◌≡◌, ℕ, Bor, None, Some, IfErr, IfOk, List, Ok, Option, Result, []}
+use Rattle.std.proofs.Common.{◌≡◌, ℕ, Bor, Err, None, Some, IfErr, IfOk, List, Ok, Option, Result, []}
 use Rattle.std.proofs.Common.{refl}
 use Rattle.std.proofs.Common.{subst, sym}
 use Rattle.std.specs.Prelude.{unwrap_or, option_copied}
+use Rattle.p9_nsfile.specs.Run.{run_of}
+use Rattle.p9_space.specs.Table.{MountRow}
 use Rattle.p9_world.specs.World.{World}
-use Rattle.p9_commands.specs.NameSpace.{NameSpace, space_in, space_over, world_in}
+use Rattle.p9_commands.specs.NameSpace.{NameSpace, environment_of, or_bad_operation, space_in}
+use Rattle.p9_commands.specs.NameSpace.{space_over, world_in}
 use Rattle.p9_commands.specs.Refusal.{IsStop}
 use Rattle.p9_commands.specs.declared.refusal.Stop.{Stop}
+use Rattle.p9_commands.specs.declared.refusal.Stop.TheVariants.{Refused, NoMemory}
 
 -- a section, or the text of none
 pub section : (text : Option (Bor (List ℕ))) (none : Bor (List ℕ))
     → (unwrap_or text none).now ≡ unwrap_or (option_copied text) none.now
 section None none = refl
 section (Some text) none = refl
+
+-- what stops the run of a namespace file over an empty table stops the making of the name space
+pub over-stop : (text : List ℕ) (world : World) (table : List MountRow) (stop : Stop)
+    → table ≡ [] → IsStop (or_bad_operation (run_of (environment_of world) text table)) stop
+    → IsStop (space_over text world) stop
+over-stop text world table NoMemory empty stopped = tt
+over-stop text world table (Refused refusal) empty stopped =
+    let ran : or_bad_operation (run_of (environment_of world) text []) ≡ Err refusal =
+    subst (λ rows. or_bad_operation (run_of (environment_of world) text rows) ≡ Err refusal)
+    empty stopped in
+    rw ran refl
 
 -- the namespace file is run over the world of its section
 module _ (world ns : Option (List ℕ)) (text : List ℕ) (w : World) (made : world_in world ≡ Ok w)
