@@ -24,7 +24,7 @@ use Rattle.p9_tree.specs.Forest.{IsForest, child_in_after, no_server, server_at}
 use Rattle.p9_space.specs.declared.row.Member.{Member}
 use Rattle.p9_fids.specs.declared.opened.Cursor.{Cursor}
 use Rattle.p9_tree.specs.Forest.{children_of}
-use Rattle.p9_step.specs.Listing.{Entry, cursor_of, entries_from, entries_of}
+use Rattle.p9_step.specs.Listing.{UnionEntry, cursor_of, entries_from, entries_of}
 use Rattle.p9_step.specs.Listing.{entry_at, is_behind, is_listed, left_of}
 use Rattle.p9_wire.specs.Fields.{stat_bytes}
 use Rattle.p9_wire.proofs.Lengths.{length-stat_bytes}
@@ -85,7 +85,7 @@ pub floor-here : (c : Cursor) (position : ℕ) → c.member ≡ position
 floor-here c position same member n = grind (arith, nat_tests)
 
 -- the entries of a directory, as of the member at the position
-abbrev pub entries_in : List Server → ℕ → NodeRef → List Entry
+abbrev pub entries_in : List Server → ℕ → NodeRef → List UnionEntry
 entries_in forest position dir = map (entry_at position dir) (children_of dir forest)
 
 pub first_in : (cursor : Option Cursor) (floor : Option ℕ) (forest : List Server) (position : ℕ)
@@ -152,11 +152,11 @@ left_reached (Some c) forest who ms position at =
 -- Order.
 
 -- each entry is behind those before it
-abbrev Rising : List Entry → Type 0
+abbrev Rising : List UnionEntry → Type 0
 Rising [] = ⊤
 Rising (e ∷ es) = All (λ x. is_behind (Some (cursor_of e)) x ≡ true) es × Rising es
 
-Rising-append : (xs ys : List Entry) → Rising xs → Rising ys
+Rising-append : (xs ys : List UnionEntry) → Rising xs → Rising ys
     → All (λ x. All (λ y. is_behind (Some (cursor_of x)) y ≡ true) ys) xs → Rising (xs ++ ys)
 Rising-append [] ys first second apart = second
 Rising-append (x ∷ xs) ys first second apart = (
@@ -199,20 +199,20 @@ from_position forest who position (m ∷ ms) =
     (All-weaker (λ e. suc position ≤ e.position) (λ e. position ≤ e.position) (λ e le. omega arith)
     (entries_from forest who (suc position) ms) (from_position forest who (suc position) ms))
 
-behind_both : (c : Option Cursor) (x y : Entry) → is_behind c x ≡ true
+behind_both : (c : Option Cursor) (x y : UnionEntry) → is_behind c x ≡ true
     → is_behind (Some (cursor_of x)) y ≡ true → is_behind c y ≡ true
 behind_both None x y e f = refl
 behind_both (Some c) x y e f = grind (arith, nat_tests)
 
-not_both : (x y : Entry) → is_behind (Some (cursor_of x)) y ≡ true
+not_both : (x y : UnionEntry) → is_behind (Some (cursor_of x)) y ≡ true
     → is_behind (Some (cursor_of y)) x ≡ false
 not_both x y e = grind (arith, nat_tests)
 
-not_itself : (x : Entry) → is_behind (Some (cursor_of x)) x ≡ false
+not_itself : (x : UnionEntry) → is_behind (Some (cursor_of x)) x ≡ false
 not_itself x = grind (arith, nat_tests)
 
 -- behind the first that is left are the others
-others_left : (c : Option Cursor) (xs : List Entry) (e : Entry) (es : List Entry) → Rising xs
+others_left : (c : Option Cursor) (xs : List UnionEntry) (e : UnionEntry) (es : List UnionEntry) → Rising xs
     → filter (is_behind c) xs ≡ e ∷ es → filter (is_behind (Some (cursor_of e))) xs ≡ es
 others_left c [] e es rising left = absurd (cc)
 others_left c (x ∷ xs) e es rising left = go (is_behind c x) refl (others_left c xs e es rising.1)
@@ -250,20 +250,20 @@ others_left c (x ∷ xs) e es rising left = go (is_behind c x) refl (others_left
 -- What has room.
 
 -- these are given, and there is room for others behind them
-pub record GivesSome (room : ℕ) (left given others : List Entry) : Type 0 where
+pub record GivesSome (room : ℕ) (left given others : List UnionEntry) : Type 0 where
   pub gives : fitting room left
       ≡ given ++ fitting (room - length (flat_map entry_bytes given)) others
   pub counted : length left ≡ length given + length others
   pub has_room : length (flat_map entry_bytes given) ≤ room
 
-abbrev pub is_short : ℕ → List Entry → Bool
+abbrev pub is_short : ℕ → List UnionEntry → Bool
 is_short room left = nat_lt (length (fitting room left)) (length left)
 
-no_bytes_less : (room : ℕ) (left : List Entry) → fitting room left ≡ fitting (room - 0) left
+no_bytes_less : (room : ℕ) (left : List UnionEntry) → fitting room left ≡ fitting (room - 0) left
 no_bytes_less room left =
     let same : room ≡ room - 0 = omega arith in ap (λ n. fitting n left) same
 
-gives_more : (room : ℕ) (e : Entry) (left given others : List Entry)
+gives_more : (room : ℕ) (e : UnionEntry) (left given others : List UnionEntry)
     → nat_le (length (entry_bytes e)) room ≡ true
     → GivesSome (room - length (entry_bytes e)) left given others
     → GivesSome room (e ∷ left) (e ∷ given) others
@@ -283,14 +283,14 @@ gives_more room e left given others fits some =
       has_room = omega arith;
     }
 
-gives_none : (room : ℕ) (left : List Entry) → GivesSome room left [] left
+gives_none : (room : ℕ) (left : List UnionEntry) → GivesSome room left [] left
 gives_none room left = record {
   gives = no_bytes_less room left;
   counted = omega arith;
   has_room = omega arith;
 }
 
-pub gives_one : (room : ℕ) (e : Entry) (others : List Entry) → length (entry_bytes e) ≤ room
+pub gives_one : (room : ℕ) (e : UnionEntry) (others : List UnionEntry) → length (entry_bytes e) ≤ room
     → GivesSome room (e ∷ others) (e ∷ []) others
 gives_one room e others le =
     let fits : nat_le (length (entry_bytes e)) room ≡ true = grind (arith, nat_tests) in
@@ -298,7 +298,7 @@ gives_one room e others le =
     (gives_none (room - length (entry_bytes e)) others)
 
 -- where all of the first ones have room, the others are given behind them
-gives_whole : (room : ℕ) (xs ys : List Entry) → is_short room xs ≡ false
+gives_whole : (room : ℕ) (xs ys : List UnionEntry) → is_short room xs ≡ false
     → GivesSome room (xs ++ ys) xs ys
 gives_whole room [] ys whole = gives_none room ys
 gives_whole room (x ∷ xs) ys whole =
@@ -323,14 +323,14 @@ gives_whole room (x ∷ xs) ys whole =
         absurd (grind (arith, nat_tests))
 
 -- where one of the first ones has no room, none behind it is given
-record Stops (room : ℕ) (xs ys others : List Entry) : Type 0 where
+record Stops (room : ℕ) (xs ys others : List UnionEntry) : Type 0 where
   gives : GivesSome room (xs ++ ys) (fitting room xs) others
   ends : fitting (room - length (flat_map entry_bytes (fitting room xs))) others ≡ []
   more : 0 < length others
 
-stops_here : (room : ℕ) (x : Entry) (xs ys : List Entry)
+stops_here : (room : ℕ) (x : UnionEntry) (xs ys : List UnionEntry)
     → nat_le (length (entry_bytes x)) room ≡ false
-    → (given : List Entry) → given ≡ []
+    → (given : List UnionEntry) → given ≡ []
     → (GivesSome room (x ∷ (xs ++ ys)) given (x ∷ (xs ++ ys)))
     × (fitting (room - length (flat_map entry_bytes given)) (x ∷ (xs ++ ys)) ≡ [])
 stops_here room x xs ys fails given none =
@@ -340,17 +340,17 @@ stops_here room x xs ys fails given none =
     × (fitting (room - length (flat_map entry_bytes g)) (x ∷ (xs ++ ys)) ≡ [])) (sym none)
     (gives_none room (x ∷ (xs ++ ys)), sym (no_bytes_less room (x ∷ (xs ++ ys))) ∙ none_fits)
 
-gives_part : (room : ℕ) (xs ys : List Entry) → is_short room xs ≡ true
-    → (others : List Entry) × Stops room xs ys others
+gives_part : (room : ℕ) (xs ys : List UnionEntry) → is_short room xs ≡ true
+    → (others : List UnionEntry) × Stops room xs ys others
 gives_part room [] ys short = absurd (grind (arith, nat_tests))
 gives_part room (x ∷ xs) ys short =
     go (gives_part (room - length (entry_bytes x)) xs ys) (nat_le (length (entry_bytes x)) room)
     refl
   where
     go : (is_short (room - length (entry_bytes x)) xs ≡ true
-        → (others : List Entry) × Stops (room - length (entry_bytes x)) xs ys others)
+        → (others : List UnionEntry) × Stops (room - length (entry_bytes x)) xs ys others)
         → (b : Bool) → nat_le (length (entry_bytes x)) room ≡ b
-        → (others : List Entry) × Stops room (x ∷ xs) ys others
+        → (others : List UnionEntry) × Stops room (x ∷ xs) ys others
     go further true fits =
         let given : fitting room (x ∷ xs) ≡ x ∷ fitting (room - length (entry_bytes x)) xs =
         ap (λ b. cond b (x ∷ fitting (room - length (entry_bytes x)) xs) []) fits in
@@ -383,7 +383,7 @@ gives_part room (x ∷ xs) ys short =
         (x ∷ (xs ++ ys), record { gives = here.0; ends = here.1; more = omega arith })
 
 -- where one is left, and none is given, there is no room for it
-pub first_has_no_room : (room : ℕ) (e : Entry) (left : List Entry) → slice_get left 0 ≡ Some e
+pub first_has_no_room : (room : ℕ) (e : UnionEntry) (left : List UnionEntry) → slice_get left 0 ≡ Some e
     → room < length (entry_bytes e) → fitting room left ≡ []
 first_has_no_room room e [] first short = absurd (cc)
 first_has_no_room room e (x ∷ xs) first short =
@@ -396,8 +396,8 @@ first_has_no_room room e (x ∷ xs) first short =
 -- Filling a buffer.
 
 -- so many bytes of the buffer are filled, and this is left
-pub record Filling (room : ℕ) (all : List Entry) (from : Option Cursor) (buffer : List ℕ) (size : ℕ)
-    (cursor : Option Cursor) (left : List Entry) : Type 0 where
+pub record Filling (room : ℕ) (all : List UnionEntry) (from : Option Cursor) (buffer : List ℕ) (size : ℕ)
+    (cursor : Option Cursor) (left : List UnionEntry) : Type 0 where
   pub within : size ≤ length buffer
   pub bytes : flat_map entry_bytes (fitting room all) ≡ take size buffer
       ++ flat_map entry_bytes (fitting (room - size) left)
@@ -405,7 +405,7 @@ pub record Filling (room : ℕ) (all : List Entry) (from : Option Cursor) (buffe
   pub count : length all + length (fitting (room - size) left)
       ≡ length (fitting room all) + length left
 
-pub filling-start : (all : List Entry) (from : Option Cursor) (buffer : List ℕ)
+pub filling-start : (all : List UnionEntry) (from : Option Cursor) (buffer : List ℕ)
     → Filling (length buffer) all from buffer 0 from all
 filling-start all from buffer =
     let whole : length buffer ≡ length buffer - 0 = omega arith in
@@ -418,7 +418,7 @@ filling-start all from buffer =
           omega arith;
     }
 
-cursor_after-append : (from : Option Cursor) (xs ys : List Entry)
+cursor_after-append : (from : Option Cursor) (xs ys : List UnionEntry)
     → cursor_after from (xs ++ ys) ≡ cursor_after (cursor_after from xs) ys
 cursor_after-append from [] ys = refl
 cursor_after-append from (x ∷ xs) ys = cursor_after-append (Some (cursor_of x)) xs ys
@@ -445,8 +445,8 @@ length-put_mid size buffer new within long =
     let rest = length-drop size buffer in
     all ∙ omega arith
 
-module _ (all : List Entry) (from : Option Cursor) (room : ℕ) (buffer : List ℕ) (size : ℕ)
-    (cursor : Option Cursor) (left : List Entry) (whole : length buffer ≡ room)
+module _ (all : List UnionEntry) (from : Option Cursor) (room : ℕ) (buffer : List ℕ) (size : ℕ)
+    (cursor : Option Cursor) (left : List UnionEntry) (whole : length buffer ≡ room)
     (filling : Filling room all from buffer size cursor left) where
   abbrev rest_of : List ℕ
   rest_of = take (length buffer - size) (drop size buffer)
@@ -458,7 +458,7 @@ module _ (all : List Entry) (from : Option Cursor) (room : ℕ) (buffer : List �
       (omega (arith, length-drop size buffer)) ∙ omega arith
 
   -- entries are given in the rest of the buffer
-  filling-more : (given others : List Entry) (n : ℕ) (new : List ℕ) (last : Option Cursor)
+  filling-more : (given others : List UnionEntry) (n : ℕ) (new : List ℕ) (last : Option Cursor)
       → GivesSome (length rest_of) left given others
       → take n new ≡ flat_map entry_bytes given → length new ≡ length rest_of → n ≤ length rest_of
       → last ≡ cursor_after cursor given
@@ -522,7 +522,7 @@ module _ (all : List Entry) (from : Option Cursor) (room : ℕ) (buffer : List �
       }
 
 -- no entry is empty
-some_bytes : (e : Entry) → 0 < length (entry_bytes e)
+some_bytes : (e : UnionEntry) → 0 < length (entry_bytes e)
 unfolding entry_bytes
 some_bytes e =
     let long = length-stat_bytes (stat_of (beside e.member e.node.number) e.node) in
@@ -543,7 +543,7 @@ reached-start None position at = tt
 reached-start (Some c) position at = omega arith
 
 -- the cursor after what is given of a member is in no later one
-reached-given : (position room : ℕ) (cursor : Option Cursor) (es : List Entry)
+reached-given : (position room : ℕ) (cursor : Option Cursor) (es : List UnionEntry)
     → All (λ e. e.position ≡ position) es → IsAtMost cursor position
     → IsAtMost (cursor_after cursor (fitting room es)) position
 reached-given position room cursor [] all reached = reached
@@ -587,7 +587,7 @@ left_split cursor forest who position ms d within reached =
     ∙ ap (λ es. filter (is_behind cursor) (entries_of forest who position (get_or ms position d))
     ++ es) (later_kept cursor forest who position (drop (suc position) ms) reached)
 
-fits_whole : (room : ℕ) (xs : List Entry) → is_short room xs ≡ false → fitting room xs ≡ xs
+fits_whole : (room : ℕ) (xs : List UnionEntry) → is_short room xs ≡ false → fitting room xs ≡ xs
 fits_whole room xs whole =
     ap (fitting room) (sym (append-nil xs)) ∙ (gives_whole room xs [] whole).gives ∙ append-nil xs
 
@@ -619,10 +619,10 @@ module _ (forest : List Server) (who : Who) (ms : List Member) (from : Option Cu
       (given : Gives (length rest)
       (filter (is_behind cursor) (entries_of forest who position (get_or ms position d))) cursor new
       more) where
-    abbrev here : List Entry
+    abbrev here : List UnionEntry
     here = filter (is_behind cursor) (entries_of forest who position (get_or ms position d))
 
-    abbrev behind : List Entry
+    abbrev behind : List UnionEntry
     behind = entries_from forest who (suc position) (drop (suc position) ms)
 
     split : Filling room (left_of forest who from ms) from buffer size cursor (here ++ behind)
@@ -702,16 +702,16 @@ entry_bytes-stat : (position : ℕ) (dir : NodeRef) (n : Node)
 unfolding entry_bytes
 entry_bytes-stat position dir n = refl
 
-first_and_others : (es : List Entry) (e : Entry) → slice_get es 0 ≡ Some e
-    → (others : List Entry) × (es ≡ e ∷ others)
+first_and_others : (es : List UnionEntry) (e : UnionEntry) → slice_get es 0 ≡ Some e
+    → (others : List UnionEntry) × (es ≡ e ∷ others)
 first_and_others [] e first = absurd (cc)
 first_and_others (x ∷ xs) e first = (xs, cc)
 
-none_first : (es : List Entry) → slice_get es 0 ≡ None → es ≡ []
+none_first : (es : List UnionEntry) → slice_get es 0 ≡ None → es ≡ []
 none_first [] none = refl
 none_first (x ∷ xs) none = absurd (cc)
 
-gives_kept : (room : ℕ) (left : List Entry) (from : Option Cursor) (buffer buffer' : List ℕ)
+gives_kept : (room : ℕ) (left : List UnionEntry) (from : Option Cursor) (buffer buffer' : List ℕ)
     (given : Given) → take given.size buffer' ≡ take given.size buffer
     → Gives room left from buffer given → Gives room left from buffer' given
 gives_kept room left from buffer buffer' given same gives = record {
@@ -728,7 +728,7 @@ module _ (forest : List Server) (position : ℕ) (dir : NodeRef) (from : Option 
   abbrev remainder : List ℕ
   remainder = take (length buffer - size) (drop size buffer)
 
-  abbrev all_in : List Entry
+  abbrev all_in : List UnionEntry
   all_in = filter (is_behind from) (entries_in forest position dir)
 
   remainder_is : length remainder ≡ room - size
@@ -751,7 +751,7 @@ module _ (forest : List Server) (position : ℕ) (dir : NodeRef) (from : Option 
 
   module _ (floor : Option ℕ) (n : Node) (fits : IsFloor cursor position floor)
       (found : child_in_after dir floor forest ≡ Some n) where
-    abbrev entry : Entry
+    abbrev entry : UnionEntry
     entry = entry_at position dir n
 
     first : slice_get (filter (is_behind cursor) (entries_in forest position dir)) 0 ≡ Some entry
@@ -837,7 +837,7 @@ module _ (forest : List Server) (position : ℕ) (dir : NodeRef) (from : Option 
 
 -- What a read of a directory says of an empty answer.
 
-pub nothing_given : (given : List Entry) (buffer : List ℕ) (size : ℕ)
+pub nothing_given : (given : List UnionEntry) (buffer : List ℕ) (size : ℕ)
     → take size buffer ≡ flat_map entry_bytes given → size ≡ 0 → given ≡ []
 nothing_given [] buffer size bytes empty = refl
 nothing_given (e ∷ es) buffer size bytes empty =
@@ -848,17 +848,17 @@ nothing_given (e ∷ es) buffer size bytes empty =
     let none : length (take size buffer) ≡ 0 = ap (λ n. length (take n buffer)) empty in
     absurd (omega (arith, some, long, none))
 
-pub something_given : (given : List Entry) (buffer : List ℕ) (size : ℕ)
+pub something_given : (given : List UnionEntry) (buffer : List ℕ) (size : ℕ)
     → take size buffer ≡ flat_map entry_bytes given → size ≤ length buffer → given ≡ [] → size ≡ 0
 something_given given buffer size bytes within none =
     sym (length-take-le size buffer within) ∙ ap length (bytes ∙ ap (flat_map entry_bytes) none)
 
 -- where an entry has no room, one is left
-pub some_short : (room : ℕ) (left : List Entry) → is_short room left ≡ true → left ≡ [] → ⊥
+pub some_short : (room : ℕ) (left : List UnionEntry) → is_short room left ≡ true → left ≡ [] → ⊥
 some_short room [] short none = grind (arith, nat_tests)
 some_short room (x ∷ xs) short none = cc
 
 -- where all have room and none is given, none is left
-pub none_short : (room : ℕ) (left : List Entry) → is_short room left ≡ false
+pub none_short : (room : ℕ) (left : List UnionEntry) → is_short room left ≡ false
     → fitting room left ≡ [] → left ≡ []
 none_short room left whole none = sym (fits_whole room left whole) ∙ none

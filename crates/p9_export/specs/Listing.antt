@@ -10,13 +10,13 @@ use Rattle.p9_fids.specs.declared.opened.Opened.{Opened}
 use Rattle.p9_fids.specs.Fid.{changed_fid, opened_as}
 use Rattle.p9_step.specs.State.{Session}
 use Rattle.p9_step.specs.Answer.{Answer}
-use Rattle.p9_step.specs.Listing.{Entry, entry_at, is_behind}
+use Rattle.p9_step.specs.Listing.{UnionEntry, entry_at, is_behind}
 use Rattle.p9_step.specs.Read.{cursor_after, entry_bytes, fitting}
 use Rattle.p9_export.specs.declared.listing.Given.{Given}
 
 -- as many of the entries that are left are at the front of the buffer as have room; whether one
 -- has none
-pub record Gives (room : ℕ) (left : List Entry) (from : Option Cursor) (buffer : List ℕ)
+pub record Gives (room : ℕ) (left : List UnionEntry) (from : Option Cursor) (buffer : List ℕ)
     (given : Given) : Type 0 where
   pub within : given.size ≤ room
   pub bytes : take given.size buffer ≡ flat_map entry_bytes (fitting room left)

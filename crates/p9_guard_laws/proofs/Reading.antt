@@ -24,7 +24,7 @@ use Rattle.p9_fids.specs.Fid.{Fid, fid_at, changed_fid, opened_as}
 use Rattle.p9_fids.specs.declared.opened.Cursor.{Cursor}
 use Rattle.p9_step.specs.State.{Session, fid_file, fid_ref, who_of}
 use Rattle.p9_step.specs.ForestChange.{Touch}
-use Rattle.p9_step.specs.Listing.{Entry, entries_from, entries_of, entry_at, is_listed, listing}
+use Rattle.p9_step.specs.Listing.{UnionEntry, entries_from, entries_of, entry_at, is_listed, listing}
 use Rattle.p9_step.specs.Read.{cursor_at, given_of, listed_session, read_answer, readable}
 use Rattle.p9_step.proofs.KeptFiles.{readable-is}
 use Rattle.p9_guard_laws.proofs.Scene.{SafeFid, SafeFids, Scene, house_in, outer_of}
@@ -124,7 +124,7 @@ module _ (scene : Scene) where
       }) h
 
   given-agrees : (session : Session) (fid : ℕ) (v : Fid) (o : Opened) (offset : ℕ)
-      (cursor : Option Cursor) (left given : List Entry) → SafeFid scene v → v.opened ≡ Some o
+      (cursor : Option Cursor) (left given : List UnionEntry) → SafeFid scene v → v.opened ≡ Some o
       → fid_at fid session.fids ≡ Some v → SafeFids scene session.fids
       → Agrees scene (given_of session fid o offset cursor left given)
       (given_of session fid o offset cursor left given)

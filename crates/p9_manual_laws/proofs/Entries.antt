@@ -13,14 +13,14 @@ use Rattle.p9_tree.proofs.Lookups.{rising_head, rising_tail}
 use Rattle.p9_space.specs.declared.row.Member.{Member}
 use Rattle.p9_space.specs.Rights.{Who}
 use Rattle.p9_fids.specs.declared.opened.Cursor.{Cursor}
-use Rattle.p9_step.specs.Listing.{Entry, cursor_of, entries_from, entries_of, entry_at, is_behind}
+use Rattle.p9_step.specs.Listing.{UnionEntry, cursor_of, entries_from, entries_of, entry_at, is_behind}
 use Rattle.p9_step.specs.Listing.{is_listed}
 use Rattle.p9_step.specs.Read.{cursor_after, entry_bytes, fitting}
 use Rattle.p9_step.proofs.Evolves.{server_well}
 use Rattle.p9_step.proofs.Members.{found-member}
 
 -- each entry is behind those before it
-abbrev pub InOrder : List Entry → Type 0
+abbrev pub InOrder : List UnionEntry → Type 0
 InOrder [] = Unit {0}
 InOrder (e ∷ es) = AllByRecursion (λ x. is_behind (Some (cursor_of e)) x ≡ true) es × InOrder es
 
@@ -68,14 +68,14 @@ all_then P Q each (x ∷ xs) all = (each x all.0, all_then P Q each xs all.1)
 
 -- Where the entries behind one of them are.
 
-not_itself : (e : Entry) → is_behind (Some (cursor_of e)) e ≡ false
+not_itself : (e : UnionEntry) → is_behind (Some (cursor_of e)) e ≡ false
 not_itself e = grind (arith, nat_tests)
 
-not_before : (e x : Entry) → is_behind (Some (cursor_of x)) e ≡ true
+not_before : (e x : UnionEntry) → is_behind (Some (cursor_of x)) e ≡ true
     → is_behind (Some (cursor_of e)) x ≡ false
 not_before e x behind = grind (arith, nat_tests)
 
-behind_one : (before : List Entry) (e : Entry) (others : List Entry)
+behind_one : (before : List UnionEntry) (e : UnionEntry) (others : List UnionEntry)
     → InOrder (before ++ e ∷ others)
     → filter (is_behind (Some (cursor_of e))) (before ++ e ∷ others) ≡ others
 behind_one [] e others order =
@@ -87,7 +87,7 @@ behind_one (x ∷ before) e others order =
     rw past (behind_one before e others order.1)
 
 -- behind the entries that were given are the others
-pub behind_given : (before given others : List Entry) (c : Option Cursor)
+pub behind_given : (before given others : List UnionEntry) (c : Option Cursor)
     → InOrder (before ++ (given ++ others))
     → filter (is_behind c) (before ++ (given ++ others)) ≡ given ++ others
     → filter (is_behind (cursor_after c given)) (before ++ (given ++ others)) ≡ others
@@ -103,23 +103,23 @@ behind_given before (e ∷ es) others c order left =
     ap (λ xs. filter (is_behind (cursor_after (Some (cursor_of e)) es)) xs) (sym shift) ∙ moved
 
 -- those that have room are the first of them
-pub fitting_first : (room : ℕ) (left : List Entry)
-    → (others : List Entry) × (left ≡ fitting room left ++ others)
+pub fitting_first : (room : ℕ) (left : List UnionEntry)
+    → (others : List UnionEntry) × (left ≡ fitting room left ++ others)
 fitting_first room [] = ([], refl)
 fitting_first room (e ∷ es) =
     go (nat_le (length (entry_bytes e)) room) refl
     (fitting_first (room - length (entry_bytes e)) es)
   where
     go : (b : Bool) → nat_le (length (entry_bytes e)) room ≡ b
-        → (others : List Entry)
+        → (others : List UnionEntry)
         × (es ≡ fitting (room - length (entry_bytes e)) es ++ others)
-        → (others : List Entry) × (e ∷ es ≡ fitting room (e ∷ es) ++ others)
+        → (others : List UnionEntry) × (e ∷ es ≡ fitting room (e ∷ es) ++ others)
     go true fits later = (later.0, rw fits (ap (λ xs. e ∷ xs) later.1))
     go false fits later = (e ∷ es, rw fits refl)
 
 -- The entries of a place are in order.
 
-order_append : (xs ys : List Entry) → InOrder xs → InOrder ys
+order_append : (xs ys : List UnionEntry) → InOrder xs → InOrder ys
     → AllByRecursion (λ x. AllByRecursion (λ y. is_behind (Some (cursor_of x)) y ≡ true) ys) xs
     → InOrder (xs ++ ys)
 order_append [] ys one other between = other
@@ -160,12 +160,12 @@ order_member position member (x ∷ xs) rising = (
 )
 
 all_here : (position : ℕ) (member : NodeRef) (xs : List Node)
-    → AllByRecursion (λ (e : Entry). e.position ≡ position) (map (entry_at position member) xs)
+    → AllByRecursion (λ (e : UnionEntry). e.position ≡ position) (map (entry_at position member) xs)
 all_here position member [] = tt
 all_here position member (x ∷ xs) = (refl, all_here position member xs)
 
 module _ (forest : List Server) (sound : IsForest forest) (who : Who) where
-  abbrev here_of : ℕ → Member → List Entry
+  abbrev here_of : ℕ → Member → List UnionEntry
   here_of position m = entries_of forest who position m
 
   rising_children : (dir : NodeRef) (n : Node) → node_of dir forest ≡ Some n
@@ -181,13 +181,13 @@ module _ (forest : List Server) (sound : IsForest forest) (who : Who) where
   -- those of one member
   order_of : (position : ℕ) (m : Member)
       → InOrder (here_of position m)
-      × AllByRecursion (λ (e : Entry). e.position ≡ position) (here_of position m)
+      × AllByRecursion (λ (e : UnionEntry). e.position ≡ position) (here_of position m)
   order_of position m = go (node_of m.node forest) refl
     where
       listed : (n : Node) → node_of m.node forest ≡ Some n
           → (b : Bool) → is_listed forest who position m ≡ b
           → InOrder (here_of position m)
-          × AllByRecursion (λ (e : Entry). e.position ≡ position) (here_of position m)
+          × AllByRecursion (λ (e : UnionEntry). e.position ≡ position) (here_of position m)
       listed n there true e =
           rw e (
             order_member position m.node (children_of m.node forest)
@@ -198,28 +198,28 @@ module _ (forest : List Server) (sound : IsForest forest) (who : Who) where
 
       go : (o : Option Node) → node_of m.node forest ≡ o
           → InOrder (here_of position m)
-          × AllByRecursion (λ (e : Entry). e.position ≡ position) (here_of position m)
+          × AllByRecursion (λ (e : UnionEntry). e.position ≡ position) (here_of position m)
       go None e = rw e (tt, tt)
       go (Some n) e = listed n e (is_listed forest who position m) refl
 
   -- and those of the members from a position on
   pub order_from : (position : ℕ) (ms : List Member)
       → InOrder (entries_from forest who position ms)
-      × AllByRecursion (λ (e : Entry). position ≤ e.position) (entries_from forest who position ms)
+      × AllByRecursion (λ (e : UnionEntry). position ≤ e.position) (entries_from forest who position ms)
   order_from position [] = (tt, tt)
   order_from position (m ∷ ms) =
       let one = order_of position m in
       let others = order_from (suc position) ms in
       let rest = entries_from forest who (suc position) ms in (
         order_append (here_of position m) rest one.0 others.0
-            (all_then (λ (x : Entry). x.position ≡ position)
+            (all_then (λ (x : UnionEntry). x.position ≡ position)
             (λ x. AllByRecursion (λ y. is_behind (Some (cursor_of x)) y ≡ true) rest)
-            (λ x at. all_then (λ (y : Entry). suc position ≤ y.position)
+            (λ x at. all_then (λ (y : UnionEntry). suc position ≤ y.position)
             (λ y. is_behind (Some (cursor_of x)) y ≡ true) (λ y past. grind (arith, nat_tests, at, past))
             rest others.1) (here_of position m) one.1),
-        all_append (λ (e : Entry). position ≤ e.position) (here_of position m) rest
-            (all_then (λ (x : Entry). x.position ≡ position) (λ (e : Entry). position ≤ e.position)
+        all_append (λ (e : UnionEntry). position ≤ e.position) (here_of position m) rest
+            (all_then (λ (x : UnionEntry). x.position ≡ position) (λ (e : UnionEntry). position ≤ e.position)
             (λ x at. omega (arith, at)) (here_of position m) one.1)
-            (all_then (λ (y : Entry). suc position ≤ y.position) (λ (e : Entry). position ≤ e.position)
+            (all_then (λ (y : UnionEntry). suc position ≤ y.position) (λ (e : UnionEntry). position ≤ e.position)
             (λ y past. omega (arith, past)) rest others.1),
       )

@@ -24,7 +24,7 @@ use Rattle.p9_fids.specs.declared.opened.Opened.{Opened}
 use Rattle.p9_fids.specs.Fid.{Fid, fid_at, opened_as}
 use Rattle.p9_fids.specs.Opened.{reads}
 use Rattle.p9_step.specs.Answer.{Answer, Outcome, outcome_of}
-use Rattle.p9_step.specs.Listing.{Entry, is_behind, listing, listing_behind}
+use Rattle.p9_step.specs.Listing.{UnionEntry, is_behind, listing, listing_behind}
 use Rattle.p9_step.specs.Qid.{stat_of}
 use Rattle.p9_step.specs.Read.{cursor_after, cursor_at, entry_bytes, fitting, given_of, listed}
 use Rattle.p9_step.specs.Read.{listed_session, read_answer, readable}
@@ -36,12 +36,12 @@ use Rattle.p9_manual_laws.proofs.Entries.{InOrder, behind_given, fitting_first, 
 use Rattle.p9_manual_laws.proofs.Sessions.{fid_at-changed, session_at-changed}
 
 -- an entry has bytes
-entry_length : (e : Entry)
+entry_length : (e : UnionEntry)
     → length (entry_bytes e) ≡ stat_len (stat_of (beside e.member e.node.number) e.node)
 unfolding entry_bytes
 entry_length e = length-stat_bytes (stat_of (beside e.member e.node.number) e.node)
 
-some_bytes : (e : Entry) (es : List Entry) → 0 < length (flat_map entry_bytes (e ∷ es))
+some_bytes : (e : UnionEntry) (es : List UnionEntry) → 0 < length (flat_map entry_bytes (e ∷ es))
 some_bytes e es =
     let one = entry_length e in
     let both =
@@ -50,7 +50,7 @@ some_bytes e es =
     omega (arith, one, both)
 
 -- where the next read goes on
-next_cursor : (offset : ℕ) (opened : Opened) (given : List Entry)
+next_cursor : (offset : ℕ) (opened : Opened) (given : List UnionEntry)
     → cursor_at (offset + length (flat_map entry_bytes given)) (record opened {
       next_offset = offset + length (flat_map entry_bytes given);
       cursor = cursor_after (cursor_at offset opened) given;
@@ -71,7 +71,7 @@ next_cursor offset opened (g ∷ gs) =
 
 -- a read that is not refused gives those that have room, and none only at the end
 given_gives : (session : Session) (fid : ℕ) (opened : Opened) (offset : ℕ) (cursor : Option Cursor)
-    (left given : List Entry) (bytes : List ℕ)
+    (left given : List UnionEntry) (bytes : List ℕ)
     → (outcome_of session (given_of session fid opened offset cursor left given)).reply
     ≡ Rread bytes
     → (given_of session fid opened offset cursor left given
@@ -111,24 +111,24 @@ answered_with (Some (Rstat x)) rest parts e = absurd (cc)
 answered_with (Some Rwstat) rest parts e = absurd (cc)
 
 -- where no entry was given there are no bytes, and the other way round
-no_bytes : (given : List Entry) → flat_map entry_bytes given ≡ [] → given ≡ []
+no_bytes : (given : List UnionEntry) → flat_map entry_bytes given ≡ [] → given ≡ []
 no_bytes [] e = refl
 no_bytes (g ∷ gs) e =
     let some = some_bytes g gs in let none : length (flat_map entry_bytes (g ∷ gs)) ≡ 0 = ap length e
     in absurd (omega (arith, some, none))
 
 module _ (setting : Setting) (forest : List Server) (name fid : ℕ) (v : Fid) (n : Node)
-    (there : fid_file setting.table forest v ≡ Some n) (dir : is_dir n ≡ true) (all : List Entry)
+    (there : fid_file setting.table forest v ≡ Some n) (dir : is_dir n ≡ true) (all : List UnionEntry)
     (all_is : listing setting.table forest (who_of setting v.user) (here v.trail) ≡ all)
     (order : InOrder all) where
   abbrev at : List SessionRow → State
   at rows = record { setting = setting; forest = forest; sessions = rows }
 
   -- of a fid that is read: at an offset these entries are left
-  record Stands (rows : List SessionRow) (offset : ℕ) (left : List Entry) : Type 0 where
+  record Stands (rows : List SessionRow) (offset : ℕ) (left : List UnionEntry) : Type 0 where
     session : Session
     w : Fid
-    before : List Entry
+    before : List UnionEntry
     session_is : session_at name rows ≡ Some session
     fid_is : fid_at fid session.fids ≡ Some w
     user_is : w.user ≡ v.user
@@ -138,18 +138,18 @@ module _ (setting : Setting) (forest : List Server) (name fid : ℕ) (v : Fid) (
         → filter (is_behind (cursor_at offset opened)) all ≡ left
 
   -- of a read that was answered: these were given, and the others are left
-  record Goes (rows : List SessionRow) (offset now count : ℕ) (left : List Entry) (bytes : List ℕ)
+  record Goes (rows : List SessionRow) (offset now count : ℕ) (left : List UnionEntry) (bytes : List ℕ)
       : Type 0 where
     after : List SessionRow
-    given : List Entry
-    others : List Entry
+    given : List UnionEntry
+    others : List UnionEntry
     state_is : (asked (at rows) name now (Tread fid offset count)).state ≡ at after
     bytes_are : bytes ≡ flat_map entry_bytes given
     left_is : left ≡ given ++ others
     end : given ≡ [] → left ≡ []
     stands : Stands after (offset + length bytes) others
 
-  goes : (rows : List SessionRow) (offset now count : ℕ) (left : List Entry) (bytes : List ℕ)
+  goes : (rows : List SessionRow) (offset now count : ℕ) (left : List UnionEntry) (bytes : List ℕ)
       → Stands rows offset left
       → (asked (at rows) name now (Tread fid offset count)).reply ≡ Some (Rread bytes)
       → Goes rows offset now count left bytes
@@ -181,7 +181,7 @@ module _ (setting : Setting) (forest : List Server) (name fid : ℕ) (v : Fid) (
           → Goes rows offset now count left bytes
       found opened held answer_is =
           let cursor = cursor_at offset opened in
-          let given : List Entry = fitting room left in
+          let given : List UnionEntry = fitting room left in
           let gave =
           given_gives s.session fid opened offset cursor left given bytes
           (ap (λ a. (outcome_of s.session a).reply) (sym answer_is) ∙ reply_is) in
@@ -191,7 +191,7 @@ module _ (setting : Setting) (forest : List Server) (name fid : ℕ) (v : Fid) (
           sym reply_is ∙ ap (λ (o : Outcome). o.reply) outcome_is in
           let bytes_are : bytes ≡ flat_map entry_bytes given = cc in
           let first = fitting_first room left in
-          let others : List Entry = first.0 in
+          let others : List UnionEntry = first.0 in
           let split : s.before ++ (given ++ others) ≡ all =
           ap (λ xs. s.before ++ xs) (sym first.1) ∙ s.all_are in
           let next : Opened = record opened {
@@ -260,7 +260,7 @@ module _ (setting : Setting) (forest : List Server) (name fid : ℕ) (v : Fid) (
           by_test opened e (offset == 0 || offset == opened.next_offset) refl
 
   -- reads that go on give what is left
-  gives_further : (offset now count : ℕ) (rows : List SessionRow) (left : List Entry)
+  gives_further : (offset now count : ℕ) (rows : List SessionRow) (left : List UnionEntry)
       (bytes : List ℕ) (rest : List (List ℕ)) (parts : List (List ℕ))
       (g : Goes rows offset now count left bytes) → bytes ∷ rest ≡ parts ++ [] ∷ []
       → ((ps : List (List ℕ)) → rest ≡ ps ++ [] ∷ []
@@ -278,7 +278,7 @@ module _ (setting : Setting) (forest : List Server) (name fid : ℕ) (v : Fid) (
       ∙ sym (flat_map-append entry_bytes g.given g.others)
       ∙ ap (flat_map entry_bytes) (sym g.left_is)
 
-  gives_all : (reads : List (ℕ × ℕ)) (rows : List SessionRow) (offset : ℕ) (left : List Entry)
+  gives_all : (reads : List (ℕ × ℕ)) (rows : List SessionRow) (offset : ℕ) (left : List UnionEntry)
       (parts : List (List ℕ))
       → Stands rows offset left
       → reads_from (at rows) name fid offset reads ≡ Some (parts ++ [] ∷ [])
@@ -299,7 +299,7 @@ module _ (setting : Setting) (forest : List Server) (name fid : ℕ) (v : Fid) (
       by_rest bytes (Some rest) e = (rest, refl, cc)
 
       by : (r : Option RMessage) → after.reply ≡ r
-          → ((rows' : List SessionRow) (next : ℕ) (others : List Entry) (ps : List (List ℕ))
+          → ((rows' : List SessionRow) (next : ℕ) (others : List UnionEntry) (ps : List (List ℕ))
           → Stands rows' next others
           → reads_from (at rows') name fid next reads ≡ Some (ps ++ [] ∷ [])
           → flat_map (λ part. part) ps ≡ flat_map entry_bytes others)
@@ -337,6 +337,6 @@ reads_give_all state name session fid v n reads parts sound has there dir is =
           (listing state.setting.table state.forest (who_of state.setting v.user) (here v.trail));
     }) is
   where
-    all_behind : (es : List Entry) → filter (is_behind None) es ≡ es
+    all_behind : (es : List UnionEntry) → filter (is_behind None) es ≡ es
     all_behind [] = refl
     all_behind (e ∷ es) = ap (λ xs. e ∷ xs) (all_behind es)

@@ -31,7 +31,7 @@ use Rattle.p9_fids.specs.Fid.{Fid}
 use Rattle.p9_step.specs.Answer.{Outcome, is_error}
 use Rattle.p9_step.specs.ForestChange.{AddNode, EditNode, Mark, edited}
 use Rattle.p9_step.specs.Create.{created, entered}
-use Rattle.p9_step.specs.Listing.{Entry}
+use Rattle.p9_step.specs.Listing.{UnionEntry}
 use Rattle.p9_step.specs.Open.{is_cut, truncated}
 use Rattle.p9_step.specs.Qid.{qid_of}
 use Rattle.p9_step.specs.Read.{entry_bytes, fitting}
@@ -73,7 +73,7 @@ length-walked setting forest user trail (name ∷ names) =
 
 -- Whole entries that have room are no more bytes than it.
 
-length-fitting : (room : ℕ) (entries : List Entry)
+length-fitting : (room : ℕ) (entries : List UnionEntry)
     → length (flat_map entry_bytes (fitting room entries)) ≤ room
 length-fitting room [] = omega arith
 length-fitting room (entry ∷ es) =

@@ -28,7 +28,7 @@ use Rattle.p9_step.specs.Answer.{Outcome}
 use Rattle.p9_step.specs.ForestChange.{AddNode, ForestChange, Cut, EditNode, Mark, Overwrite, Touch}
 use Rattle.p9_step.specs.ForestChange.{all_applied, applied}
 use Rattle.p9_step.specs.Create.{created, entered}
-use Rattle.p9_step.specs.Listing.{Entry}
+use Rattle.p9_step.specs.Listing.{UnionEntry}
 use Rattle.p9_step.specs.Open.{is_cut, truncation}
 use Rattle.p9_step.specs.Opening.{is_plain_read, is_read, newly_opened}
 use Rattle.p9_step.specs.Qid.{qid_of}
@@ -220,7 +220,7 @@ module _ (setting : Setting) (forest : List Server) (session : Session) (now : �
       })
 
   listed-kept : (fid : ℕ) (v : Fid) (o : Opened) (offset : ℕ) (cursor : Option Cursor)
-      (given : List Entry) → fid_at fid session.fids ≡ Some v → v.opened ≡ Some o
+      (given : List UnionEntry) → fid_at fid session.fids ≡ Some v → v.opened ≡ Some o
       → IsSession setting forest (listed_session fid o offset cursor given session)
   listed-kept fid v o offset cursor given found is =
       let was = fid-of setting forest session now ready fid v found in

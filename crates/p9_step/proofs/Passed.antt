@@ -37,7 +37,7 @@ use Rattle.p9_step.specs.ForestChange.{EditNode, Mark, Overwrite, Touch}
 use Rattle.p9_step.specs.Clunk.{clunk_answer, without}
 use Rattle.p9_step.specs.Create.{create_answer, creation, permitting}
 use Rattle.p9_step.specs.End.{on_end, on_ends, taken_out}
-use Rattle.p9_step.specs.Listing.{Entry, listing_behind}
+use Rattle.p9_step.specs.Listing.{UnionEntry, listing_behind}
 use Rattle.p9_step.specs.Open.{may_open, open_answer, opened_session, truncated, truncation}
 use Rattle.p9_step.specs.Opening.{is_plain_read}
 use Rattle.p9_step.specs.Qid.{qid_of, stat_of}
@@ -166,7 +166,7 @@ pub record ReadDone (setting : Setting) (forest : List Server) (session : Sessio
     session = session;
     reply = Rread (read_from offset (min count (room_of session)) n.bytes);
   }))
-      ⊎ ((left : List Entry)
+      ⊎ ((left : List UnionEntry)
       × (o ≡ record {
         changes = [];
         session =
@@ -441,7 +441,7 @@ module _ (setting : Setting) (forest : List Server) (session : Session) where
     where
       done : (v : Fid) (opened : Opened) (n : Node) → fid_at fid session.fids ≡ Some v
           → readable v.opened ≡ Some opened → fid_file setting.table forest v ≡ Some n
-          → (left given : List Entry) → fitting (min count (room_of session)) left ≡ given
+          → (left given : List UnionEntry) → fitting (min count (room_of session)) left ≡ given
           → ReadDone setting forest session now fid offset count (record {
             changes = [];
             session =
@@ -460,7 +460,7 @@ module _ (setting : Setting) (forest : List Server) (session : Session) where
 
       listed : (v : Fid) (opened : Opened) (n : Node) → fid_at fid session.fids ≡ Some v
           → readable v.opened ≡ Some opened → fid_file setting.table forest v ≡ Some n
-          → (left given : List Entry) → fitting (min count (room_of session)) left ≡ given
+          → (left given : List UnionEntry) → fitting (min count (room_of session)) left ≡ given
           → OnDone (ReadDone setting forest session now fid offset count)
           (given_of session fid opened offset (cursor_at offset opened) left given)
       listed v opened n found held there [] given same =

@@ -12,13 +12,13 @@ use Rattle.p9_space.specs.Table.{MountRow, members_of}
 use Rattle.p9_fids.specs.declared.opened.Cursor.{Cursor}
 
 -- an entry: the position of the member in the union, the member, and the node that is in it
-pub record Entry : Type 0 where
+pub record UnionEntry : Type 0 where
   pub position : ℕ
   pub member : NodeRef
   pub node : Node
 
 -- the node as an entry of the member at the position
-abbrev pub entry_at : ℕ → NodeRef → Node → Entry
+abbrev pub entry_at : ℕ → NodeRef → Node → UnionEntry
 entry_at position member n = record { position = position; member = member; node = n }
 
 module _ (forest : List Server) (who : Who) where
@@ -29,22 +29,22 @@ module _ (forest : List Server) (who : Who) where
       false
 
   -- the entries of the member at the position
-  abbrev pub entries_of : ℕ → Member → List Entry
+  abbrev pub entries_of : ℕ → Member → List UnionEntry
   entries_of position m =
       if is_listed position m then map (entry_at position m.node) (children_of m.node forest)
       else []
 
   -- the entries of the members from a position on, in order of member, then number
-  abbrev pub entries_from : ℕ → List Member → List Entry
+  abbrev pub entries_from : ℕ → List Member → List UnionEntry
   entries_from position [] = []
   entries_from position (m ∷ ms) = entries_of position m ++ entries_from (suc position) ms
 
 -- all entries of a place; repeated names stay
-abbrev pub listing : List MountRow → List Server → Who → NodeRef → List Entry
+abbrev pub listing : List MountRow → List Server → Who → NodeRef → List UnionEntry
 listing table forest who place = entries_from forest who 0 (members_of place table)
 
 -- the entry is behind the last one that was given
-abbrev pub is_behind : Option Cursor → Entry → Bool
+abbrev pub is_behind : Option Cursor → UnionEntry → Bool
 is_behind cursor e =
     option_map_or
     (λ c. nat_lt c.member e.position || (c.member == e.position && nat_lt c.number e.node.number))
@@ -52,14 +52,14 @@ is_behind cursor e =
 
 -- the entries that are still to be given
 abbrev pub listing_behind : Option Cursor → List MountRow → List Server → Who → NodeRef
-    → List Entry
+    → List UnionEntry
 listing_behind cursor table forest who place =
     filter (is_behind cursor) (listing table forest who place)
 
 -- the same of these members
-abbrev pub left_of : List Server → Who → Option Cursor → List Member → List Entry
+abbrev pub left_of : List Server → Who → Option Cursor → List Member → List UnionEntry
 left_of forest who cursor members = filter (is_behind cursor) (entries_from forest who 0 members)
 
 -- where the entry is
-abbrev pub cursor_of : Entry → Cursor
+abbrev pub cursor_of : UnionEntry → Cursor
 cursor_of e = record { member = e.position; number = e.node.number }

@@ -20,7 +20,7 @@ use Rattle.p9_fids.specs.Opened.{reads}
 use Rattle.p9_step.specs.State.{Setting, Session, fid_file, fid_ref, room_of, who_of}
 use Rattle.p9_step.specs.Answer.{Answer}
 use Rattle.p9_step.specs.ForestChange.{EditNode, Touch}
-use Rattle.p9_step.specs.Listing.{Entry, cursor_of, listing_behind}
+use Rattle.p9_step.specs.Listing.{UnionEntry, cursor_of, listing_behind}
 use Rattle.p9_step.specs.Qid.{stat_of}
 
 -- A file.
@@ -37,18 +37,18 @@ read_file session now at n offset room =
 -- A directory.
 
 -- an entry is the node's own stat, not that of what is mounted on it
-unfoldable pub entry_bytes : Entry → List ℕ
+unfoldable pub entry_bytes : UnionEntry → List ℕ
 entry_bytes e = stat_bytes (stat_of (beside e.member e.node.number) e.node)
 
 -- as many whole entries from the front as have room
-abbrev pub fitting : ℕ → List Entry → List Entry
+abbrev pub fitting : ℕ → List UnionEntry → List UnionEntry
 fitting room [] = []
 fitting room (e ∷ es) =
     let size = length (entry_bytes e) in
     if nat_le size room then e ∷ fitting (room - size) es else []
 
 -- the last entry that was given
-abbrev pub cursor_after : Option Cursor → List Entry → Option Cursor
+abbrev pub cursor_after : Option Cursor → List UnionEntry → Option Cursor
 cursor_after cursor [] = cursor
 cursor_after cursor (e ∷ es) = cursor_after (Some (cursor_of e)) es
 
@@ -57,7 +57,7 @@ abbrev pub cursor_at : ℕ → Opened → Option Cursor
 cursor_at offset opened = if offset == 0 then None else opened.cursor
 
 -- the next read of the directory goes on behind the entries that were given
-abbrev pub listed_session : (fid : ℕ) → Opened → (offset : ℕ) → Option Cursor → List Entry
+abbrev pub listed_session : (fid : ℕ) → Opened → (offset : ℕ) → Option Cursor → List UnionEntry
     → Session → Session
 listed_session fid opened offset cursor given session = record session {
   fids =
@@ -68,7 +68,7 @@ listed_session fid opened offset cursor given session = record session {
 }
 
 -- the entries that are given of those that are left
-abbrev pub listed : Session → (fid : ℕ) → Opened → (offset : ℕ) → Option Cursor → List Entry
+abbrev pub listed : Session → (fid : ℕ) → Opened → (offset : ℕ) → Option Cursor → List UnionEntry
     → Answer
 listed session fid opened offset cursor given =
     Ok (record {
@@ -78,8 +78,8 @@ listed session fid opened offset cursor given =
     })
 
 -- where entries are left, room for one is needed
-abbrev pub given_of : Session → (fid : ℕ) → Opened → (offset : ℕ) → Option Cursor → List Entry
-    → List Entry → Answer
+abbrev pub given_of : Session → (fid : ℕ) → Opened → (offset : ℕ) → Option Cursor → List UnionEntry
+    → List UnionEntry → Answer
 given_of session fid opened offset cursor (e ∷ es) [] = Err SmallReadCount
 given_of session fid opened offset cursor left given = listed session fid opened offset cursor given
 

@@ -96,7 +96,7 @@ fn make_dir<T: Tree>(
         tree.set_root(permissions, uid, gid);
         return Ok(());
     };
-    let entry = Entry {
+    let entry = NodeLine {
         mode: Mode {
             kind: Kind::Directory,
             permissions,
@@ -140,7 +140,7 @@ fn add_file_to<T: Tree>(
     if bytes.len() > FILE_MAX {
         return Err(LineError::Bad(LineFault::TooLarge));
     }
-    let entry = Entry {
+    let entry = NodeLine {
         mode,
         uid,
         gid,
@@ -160,7 +160,7 @@ fn owners(uid: &str, gid: &str) -> Option<(User, User)>
 
 // What a line says of a node.
 #[derive(Clone, Copy)]
-struct Entry<'a> {
+struct NodeLine<'a> {
     mode: Mode,
     uid: User,
     gid: User,
@@ -172,7 +172,7 @@ fn add_entry<T: Tree>(
     tree: &mut T,
     name: Name,
     names: &[Name],
-    entry: &Entry<'_>,
+    entry: &NodeLine<'_>,
 ) -> Result<(), LineError>
     requires small { length entry.now.bytes.now ≤ FILE_MAX }
     requires empty_dir { IsTrue (is_dir entry.now.mode) → entry.now.bytes.now ≡ [] }
