@@ -137,7 +137,7 @@ module _ (policy : Policy) (f : List Server) where
               record { unused = p.0; unruled = p.1 };
           guarded =
               λ hid n w. let p = hidden n (node_none t n w) hid in guarded_from at n p.2;
-          stands =
+          covered =
               λ n w pass. let p = parts n (node_none t n w) in
               not_missing (is_passable policy.users policy.groups n) (is_row rows at)
               (no_where (is_passable policy.users policy.groups n && not (is_row rows at)) Missing
@@ -171,7 +171,7 @@ module _ (policy : Policy) (f : List Server) where
             (lift (is_hidden at policy.hidden) (hidden_fault policy f at n) (hidden n w))
             (ap (λ b. where_true b Missing)
             (missing-not (is_passable policy.users policy.groups n) (is_row rows at)
-            (λ pass. h.stands n w pass)))
+            (λ pass. h.covered n w pass)))
 
     module _ (table : List MountRow) where
       place_safe : (p : NodeRef) → place_fault policy f table rows p ≡ None

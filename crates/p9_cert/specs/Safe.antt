@@ -34,7 +34,7 @@ module _ (policy : Policy) (forest : List Server) where
         → (n : Node) → node_of at forest ≡ Some n → IsShut policy n
     pub guarded : IsTrue (is_hidden at policy.hidden)
         → (n : Node) → node_of at forest ≡ Some n → IsGuarded at n
-    pub stands : (n : Node) → node_of at forest ≡ Some n
+    pub covered : (n : Node) → node_of at forest ≡ Some n
         → IsTrue (is_passable policy.users policy.groups n) → IsTrue (certified at)
 
   -- a place is safe if each of its members is

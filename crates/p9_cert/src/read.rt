@@ -16,7 +16,7 @@ use thiserror::Error;
 /// Why a text is no certificate.
 #[derive(Clone, Copy, Debug, PartialEq, Eq, Error)]
 pub enum ReadError {
-    /// This line is the first bad one. Lines count from 1, which also stands for a text that says
+    /// This line is the first bad one. Lines count from 1, which is also given for a text that says
     /// nothing.
     #[error("line {line} is bad")]
     BadCert { line: u64 },

@@ -18,7 +18,7 @@ pub(crate) enum Refusal {
     NotUtf8,
     /// A line of the whole input.
     BadSection { line: u64 },
-    /// A line of the world; 0 stands for the whole of it.
+    /// A line of the world; 0 for the whole of it.
     BadWorld { line: u64, kind: LineFault },
     /// A line of the namespace file.
     BadOperation { line: u64, kind: BadForm },

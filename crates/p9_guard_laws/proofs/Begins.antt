@@ -53,7 +53,7 @@ closed_by house f C D to back h = record {
           outside = s.outside;
           shut = s.shut;
           guarded = s.guarded;
-          stands = λ n e pass. to m.node (s.stands n e pass);
+          covered = λ n e pass. to m.node (s.covered n e pass);
         }) (members_of p house.table) all
 
 next-then : (rows : List NodeRef) (f : List Server) (s : ℕ)

@@ -137,9 +137,9 @@ module _ (house : House) (f g : List Server) (o : Ordered f) (ev : Evolves house
           let low : p < q.number = parent_below f o q w.0 p w.1 old in
           let v = was (beside q p) d (settled_parent q p low s) there in
           loose_stays house v.0 d v.2 (h.guarded hid w.0 w.1 p v.0 old v.1);
-      stands =
+      covered =
           λ y e pass. let w = was q y s e in
-          stays q y (h.stands w.0 w.1 (passable_was house w.0 y w.2 pass)) e;
+          stays q y (h.covered w.0 w.1 (passable_was house w.0 y w.2 pass)) e;
     }
 
     pub safe_stays : is_table_given f house.table ≡ true → (q : NodeRef) → Settled f q
@@ -269,7 +269,7 @@ module _ (house : House) (start : Start) (f g : List Server) (o : Ordered f)
     outside = new_outside q y e n;
     shut = λ hid z there. clash (is_hidden q house.policy.hidden) hid (new_shown q y n);
     guarded = λ hid z there. clash (is_hidden q house.policy.hidden) hid (new_shown q y n);
-    stands =
+    covered =
         λ z there pass. comes q z there n.at_next (passable_dir house z pass)
         (new_outside q y e n);
   }

@@ -70,7 +70,7 @@ module _ (house : House) (start : Start) (f g : List Server) (good : Good house 
         (parent_not_barred house.policy.hidden g r x p e q out) in
         h.guarded hid x (sym one ∙ e) p d q
         (seen house.policy.hidden g f good.ordered (sym same) (beside r p) d w po).0;
-    stands = λ x e pass. grown_there r (h.stands x (sym one ∙ e) pass);
+    covered = λ x e pass. grown_there r (h.covered x (sym one ∙ e) pass);
   }
     where
       out : is_inside r house.policy.hidden g ≡ false

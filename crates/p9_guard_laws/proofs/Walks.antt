@@ -151,7 +151,7 @@ module _ (scene : Scene) where
             let any =
             some_may (λ u. may_pass x (who_of scene.setting u)) scene.setting.users user listed
             (or_left (may who x to_execute) (rules who x) parts.1) in
-            h.stands x e (and_from (is_dir x) _ parts.0 any)
+            h.covered x e (and_from (is_dir x) _ parts.0 any)
 
     -- and so neither hidden nor inside
     open_dir : (r : NodeRef) → certified r ≡ true → is_barred r scene.hidden scene.forest ≡ false

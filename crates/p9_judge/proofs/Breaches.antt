@@ -44,7 +44,7 @@ module _ (policy : Policy) (f : List Server) (sound : IsForest f) (table : List 
       let in_dir : child.parent ≡ Some step.member.number =
       in-parent step.member.number child
       (and_parts (is_in step.member.number child) (bytes_eq child.name step.name) found).0 in
-      closed.children step.member child.number child (m.stands w.dir w.there pass) there in_dir
+      closed.children step.member child.number child (m.covered w.dir w.there pass) there in_dir
 
   -- and so is where a way leads
   way_safe : (place : NodeRef) (steps : List Step) (last : NodeRef)
@@ -61,6 +61,6 @@ no_breach_where_closed policy f table certified steps member kind sound closed b
     breach.way in
     let m =
     member_found (IsSafeMember policy f certified) (members_of breach.place table) safe member
-    breach.stands in
+    breach.member_of_place in
     let none : breach_kind policy f member ≡ None = safe-kind policy f certified member m in
     let no : None ≡ Some kind = sym none ∙ breach.fault in absurd (cc)

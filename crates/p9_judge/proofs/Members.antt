@@ -46,7 +46,7 @@ module _ (policy : Policy) (f : List Server) where
       → ((n : Node) → node_of at f ≡ Some n → IsTrue (is_passable policy.users policy.groups n)
       → IsTrue (certified at))
       → IsSafeMember policy f certified at
-  member_safe certified at e stands = go (is_inside at policy.hidden f) refl e
+  member_safe certified at e covered = go (is_inside at policy.hidden f) refl e
     where
       kind : Option BreachKind
       kind = option_and_then (hidden_kind policy f at) (node_of at f)
@@ -74,7 +74,7 @@ module _ (policy : Policy) (f : List Server) where
         outside = i;
         shut = λ hid n w. let p = none t hid n w in record { unused = p.0; unruled = p.1 };
         guarded = λ hid n w. let p = none t hid n w in guarded_from policy f at n p.2;
-        stands = stands;
+        covered = covered;
       }
 
   -- a larger certificate serves as well
@@ -84,7 +84,7 @@ module _ (policy : Policy) (f : List Server) where
     outside = m.outside;
     shut = m.shut;
     guarded = m.guarded;
-    stands = λ n w pass. h at (m.stands n w pass);
+    covered = λ n w pass. h at (m.covered n w pass);
   }
 
   -- a safe member has no fault

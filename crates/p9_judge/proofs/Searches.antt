@@ -185,7 +185,7 @@ module _ (policy : Policy) (f : List Server) (table : List MountRow) (sound : Is
 
     module _ (places more : List Place) (passed further : List NodeRef)
         (s : IsSearch policy f table places passed) (from : ℕ) (key : NodeRef)
-        (at : IsAt places from key) (stands : is_member table key member ≡ true)
+        (at : IsAt places from key) (is_held : is_member table key member ≡ true)
         (grew : more ≡ places ++ child_places f from member user)
         (rows : (r : NodeRef) → is_row further r ≡ (is_row passed r || same_node member r)) where
       new_grown : IsGrown places more passed further
@@ -237,8 +237,8 @@ module _ (policy : Policy) (f : List Server) (table : List MountRow) (sound : Is
           let here =
           subst (λ k. IsSafe policy f table other k) at.2 (s.safe other closed from at.0 at.1) in
           let m =
-          member_found (IsSafeMember policy f other) (members_of key table) here member stands in
-          m.stands found.0 found.1 (passer-passable policy f found.0 user found.2)
+          member_found (IsSafeMember policy f other) (members_of key table) here member is_held in
+          m.covered found.0 found.1 (passer-passable policy f found.0 user found.2)
 
       step_passed : (n : Node) → node_of (beside member n.number) f ≡ Some n
           → n.parent ≡ Some member.number
@@ -248,7 +248,7 @@ module _ (policy : Policy) (f : List Server) (table : List MountRow) (sound : Is
           let found = passer-node policy f member user passer in
           let parts = passer-parts policy f found.0 user found.2 in
           record {
-            member = stands;
+            member = is_held;
             listed = parts.1;
             dir = found.0;
             there = found.1;
@@ -320,7 +320,7 @@ module _ (policy : Policy) (f : List Server) (table : List MountRow) (sound : Is
 
   module _ (places more : List Place) (passed further : List NodeRef)
       (s : IsSearch policy f table places passed) (from : ℕ) (key : NodeRef)
-      (at : IsAt places from key) (member : NodeRef) (stands : is_member table key member ≡ true)
+      (at : IsAt places from key) (member : NodeRef) (is_held : is_member table key member ≡ true)
       (fine : breach_kind policy f member ≡ None)
       (grew : more ≡ places ++ discovered policy f from passed member)
       (rows : (r : NodeRef) → is_row further r
@@ -363,8 +363,8 @@ module _ (policy : Policy) (f : List Server) (table : List MountRow) (sound : Is
             → Wanted
         again user w true t a b = nothing_new a (λ r. b r ∙ absorbed t r)
         again user w false t a b = (
-          search_new member fine user w places more passed further s from key at stands a b,
-          new_grown member fine user w places more passed further s from key at stands a b,
+          search_new member fine user w places more passed further s from key at is_held a b,
+          new_grown member fine user w places more passed further s from key at is_held a b,
         )
 
         go : (o : Option (List ℕ)) → passer_of policy f member ≡ o
@@ -415,8 +415,8 @@ module _ (policy : Policy) (f : List Server) (table : List MountRow) (sound : Is
     abbrev here : Member
     here = get_or members i d
 
-    stands : is_member table key here.node ≡ true
-    stands =
+    is_held : is_member table key here.node ≡ true
+    is_held =
         ap (λ ms. list_any (λ m. same_node m.node here.node) ms) (sym all)
         ∙ list_any_at (λ m. same_node m.node here.node) members i d within
         (same_self here.node)
@@ -430,7 +430,7 @@ module _ (policy : Policy) (f : List Server) (table : List MountRow) (sound : Is
 
     both : IsSearch policy f table more further × IsGrown places more passed further
     both =
-        search_member policy f table sound places more passed further s from key at here.node stands
+        search_member policy f table sound places more passed further s from key at here.node is_held
         no_breach grew rows
 
     pub next_search : IsSearch policy f table more further
@@ -451,4 +451,4 @@ module _ (policy : Policy) (f : List Server) (table : List MountRow) (sound : Is
         w)
         (take i members) safe)
         (member_tested policy f table sound places more passed further s from key at here.node
-        stands no_breach grew rows))
+        is_held no_breach grew rows))

@@ -169,7 +169,7 @@ module _ (policy : Policy) (f : List Server) (table : List MountRow) where
           record {
             place = p.key;
             way = subst (λ k. Lead policy f table k steps p.key) root way.0;
-            stands = fault.0;
+            member_of_place = fault.0;
             fault = fault.1;
           },
           way.1,

@@ -94,5 +94,5 @@ module _ (policy : Policy) where
       pub record IsBreach (steps : List Step) (member : NodeRef) (kind : BreachKind) : Type 0 where
         pub place : NodeRef
         pub way : Lead root_place steps place
-        pub stands : IsTrue (is_member table place member)
+        pub member_of_place : IsTrue (is_member table place member)
         pub fault : breach_kind member ≡ Some kind

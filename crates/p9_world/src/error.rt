@@ -77,7 +77,7 @@ impl LineFault {
 /// Why a text gives no world.
 #[derive(Clone, Copy, Debug, PartialEq, Eq, Error)]
 pub enum WorldError {
-    /// The first bad line, and what is wrong there. Lines count from 1, and the line 0 stands for
+    /// The first bad line, and what is wrong there. Lines count from 1, and the line 0 is given for
     /// the whole text.
     #[error("line {line}: {kind}")]
     BadWorld { line: u64, kind: LineFault },
