@@ -136,7 +136,7 @@ module _ (house : House) where
 -- Evolution.
 
 module _ (house : House) where
-  -- a node that came, in a directory neither hidden nor inside, and is ruled by a listed user
+  -- a node that came, in a directory neither hidden nor inside
   pub record Newcomer (f : List Server) (q : NodeRef) (x : Node) : Type 0 where
     pub at_next : next_of q.server f ≤ q.number
     pub no_root : 0 < q.number

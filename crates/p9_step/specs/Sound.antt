@@ -54,7 +54,7 @@ pub record IsSession (setting : Setting) (forest : List Server) (session : Sessi
   pub each : AllByRecursion (λ row. IsFid setting forest row.1) session.fids
 
 -- of what no event changes: whom it lists are users, each group has a name that a user may have,
--- and -- no row of the mount table is empty
+-- and no row of the mount table is empty, nor has a key two
 pub record IsSetting (setting : Setting) : Type 0 where
   pub users : IsTrue (list_all is_user setting.users)
   pub groups : IsTrue (are_groups setting.groups)
