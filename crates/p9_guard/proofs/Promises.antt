@@ -1,5 +1,5 @@
 -- What a guarded state promises of events that happened.
-use Rattle.std.proofs.Common.{◌≡◌, ℕ, ◌<◌, ◌^◌, Bool, true, false, List, [], ◌∷◌, IsTrue, refl, sym, ap, ◌∙◌}
+use Rattle.std.proofs.Common.{◌≡◌, ℕ, ◌<◌, ◌^◌, Bool, true, false, List, [], ◌∷◌, IsTrue, refl, sym, ◌∙◌}
 use Rattle.std.proofs.Common.{subst, append-nil, arith, get_or, zero, suc, Option, Some, None}
 use Rattle.std.specs.Option.{option_map_or}
 use Rattle.p9_wire.specs.Laws.{IsBytes}
@@ -42,7 +42,7 @@ module _ (hidden : List NodeRef) (start : Start) (before : State) (events : List
     state_is = state_is;
     bytes_are = bytes_are;
     insides = rw state_is alone.insides;
-    same_bytes = λ other alike. ap concat (beside other alike).replies ∙ sym bytes_are;
+    same_replies = λ other alike. (beside other alike).replies;
     same_state = λ other alike.
         subst (λ s. AreAlike hidden s (run other events).state) (sym state_is)
         (beside other alike).alike;

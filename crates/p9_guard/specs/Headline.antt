@@ -20,10 +20,10 @@ pub record IsPromised (hidden : List NodeRef) (before : State) (events : List Ma
   pub bytes_are : bytes ≡ concat (run before events).replies
   -- nothing inside a hidden directory has changed
   pub insides : inner hidden after.forest ≡ inner hidden before.forest
-  -- a run from any state that differs only inside hidden directories gives the same bytes, and
+  -- a run from any state that differs only inside hidden directories gives the same replies, and
   -- leads to a state that differs only there
-  pub same_bytes : (other : State) → AreAlike hidden before other
-      → concat (run other events).replies ≡ bytes
+  pub same_replies : (other : State) → AreAlike hidden before other
+      → (run other events).replies ≡ (run before events).replies
   pub same_state : (other : State) → AreAlike hidden before other
       → AreAlike hidden after (run other events).state
 
