@@ -57,8 +57,8 @@ impl<T: Tree> NameSpace<T> {
     /// The name space of these sections. Without a world section the world is `small`, and without
     /// a namespace section nothing is mounted.
     ///
-    /// The first bad line of the world, then that of the namespace file, is the refusal; want of
-    /// memory is the other reason.
+    /// The first bad line of the world, then that of the namespace file, is the refusal; a failed
+    /// allocation is the other reason.
     pub fn read(
         alloc: T::Alloc,
         world: Option<&str>,

@@ -1,5 +1,5 @@
 //! Values in words, printed behind what is there. Where an allocation fails, a part of a word may
-//! are there.
+//! be there.
 
 ghost use Rattle.std.specs.Prelude.{◌≡◌, ◌==◌, ◌&&◌, ◌++◌, OnOk, codes, length, not};
 ghost use Rattle.std.specs.List.{flat_map, list_all};
