@@ -24,21 +24,6 @@ PROFILES = {
     Profile.TEXT: 16,
     Profile.CERTIFICATE: 12,
 }
-# How often an input of a profile has a certificate, and a script.
-WITH_CERTIFICATE = {
-    Profile.PLAY: 0.05,
-    Profile.GUARD: 1,
-    Profile.NAMESPACE: 0.1,
-    Profile.TEXT: 0.4,
-    Profile.CERTIFICATE: 0.97,
-}
-WITH_SCRIPT = {
-    Profile.PLAY: 1,
-    Profile.GUARD: 1,
-    Profile.NAMESPACE: 0.2,
-    Profile.TEXT: 0.6,
-    Profile.CERTIFICATE: 0.2,
-}
 # A seed in so many is a scenario.
 SCENARIO_SHARE = 3
 
@@ -50,13 +35,10 @@ BAD_ROWS = (
 BAD_CERTIFICATES = [[], ["# only"], [""], ["cert 01"], ["cert"], ["cert 1 1"], ["Cert 1"], ["dir 0 0", "cert 1"]]
 BAD_EVENTS = (
     "open;open x;open 4294967296;open 1 2;msg 1 0;msg 1 0 -;msg 1 0 0;msg 1 0 zz;msg 1 4294967296 00;foo;"
-    "msg 4294967296 0 00;close 1;close 1 x;close 4294967296 0;close 1 0 0;Open 1;msg 1 0 00 00;open -1;open ९;"
-    "open 000000000000000000000000000000009;msg 1 0 0000000;msg 1 00 ff;msg 1 0 AB;open 1\r;open 4294967295;"
-    "close 1 4294967295"
+    "msg 4294967296 0 00;close 1;close 1 x;close 4294967296 0;close 1 0 0;Open 1;msg 1 0 00 00;open -1;"
+    "open 000000000000000000000000000000009;msg 1 0 0000000;msg 1 00 ff;msg 1 0 AB;open 1\r;open ९"
 ).split(";")
-BAD_SECTIONS = (
-    "%%;%% foo;%%world;%%  world;%% ns ; %% ns;%% script\r;%% world x;%%%;%% World;%;%% world;%% cert"
-).split(";")
+BAD_SECTIONS = "%%;%% foo;%%world;%%  world;%% ns ; %% ns;%% script\r;%%%;%% World;%;%% world;%% cert".split(";")
 FIRST_LINES = ["", "# x", "x", "  ", "\t", "\r", " %% world"]
 BAD_BYTES = [b"\xff", b"\xc0\x80", b"\xed\xa0\x80", b"\xe2\x28\xa1", b"\xf4\x90\x80\x80"]
 
@@ -110,9 +92,9 @@ class BundleMaker:
         except BadLine:
             return ["%% ns", *lines]
         more = ["%% ns", *lines] if lines or chooser.chance(0.3) else []
-        if chooser.chance(WITH_CERTIFICATE[self.profile]):
+        if chooser.chance(0.97 if self.profile.is_guarded else 0.1):
             more += ["%% cert", *self.certificate(world, namespace.table)]
-        if chooser.chance(WITH_SCRIPT[self.profile]):
+        if self.profile in (Profile.PLAY, Profile.GUARD) or chooser.chance(0.4):
             more += ["%% script", *self.script(world, namespace.table)]
         return more
 

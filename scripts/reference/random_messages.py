@@ -11,18 +11,7 @@ from reference.exporter import Exporter, Fid, Session, stat_of
 from reference.faults import Refused
 from reference.namespace import Trail, step
 from reference.wire import NO_FID, UNTOUCHED, Request
-from reference.world import (
-    APPEND_ONLY,
-    DIRECTORY,
-    EXCLUSIVE,
-    FILE_MAX,
-    RIGHTS,
-    ROOT,
-    TEMPORARY,
-    Node,
-    NodeId,
-    Right,
-)
+from reference.world import APPEND_ONLY, DIRECTORY, EXCLUSIVE, FILE_MAX, RIGHTS, ROOT, TEMPORARY, Node, NodeId
 
 LONG_MAX = (1 << 64) - 1
 MSIZES = [512, 512, 513, 536, 561, 600, 700, 1024, 8192, 8192, 65536, 1048576, 1048577, 0xFFFFFFFF, 511, 0]
@@ -30,19 +19,10 @@ VERSIONS = {"9P2000": 80, "9P2000.u": 6, "9P2000.": 2, "9P3000": 4, "": 2, "9P20
 STRANGERS = ["nobody", "", "glenda", "sys", "u" * 64, "staff"]
 # Modes by how often they are opened with.
 OPEN_MODES = {
-    **{0x00: 30, 0x01: 15, 0x02: 25, 0x03: 8, 0x10: 4, 0x11: 8, 0x12: 5, 0x13: 2, 0x40: 5, 0x41: 4},
+    **{0x00: 30, 0x01: 15, 0x02: 25, 0x03: 8, 0x10: 6, 0x11: 10, 0x12: 8, 0x13: 3, 0x40: 5, 0x41: 4},
     **{0x42: 6, 0x52: 3, 0x21: 2, 0x20: 2, 0x04: 1, 0x08: 1, 0x80: 1, 0xFF: 1, 0x53: 1, 0x73: 1},
 }
-FILE_KINDS = {
-    0: 60,
-    APPEND_ONLY: 12,
-    EXCLUSIVE: 12,
-    TEMPORARY: 4,
-    APPEND_ONLY | EXCLUSIVE: 4,
-    0x10000000: 1,
-    0o1000: 1,
-    0x02000000: 1,
-}
+FILE_KINDS = {0: 60, APPEND_ONLY: 12, EXCLUSIVE: 12, TEMPORARY: 4, APPEND_ONLY | EXCLUSIVE: 4, 1 << 28: 2, 1 << 9: 1}
 ODD_NAMES = ["", ".", "..", "a/b", "/", "k" * 255, "k" * 256, "é" * 127, "é" * 128]
 STOP_NAMES = [".", "", "none", "a/b", "k" * 255, "k" * 256, "/", *NAMES]
 SOFT_FIELDS = ["mode", "mtime", "length", "name", "gid"]
@@ -152,7 +132,7 @@ class Messages:
             if chooser.chance(0.03):
                 names[-1] = chooser.choice(STOP_NAMES)
             elif chooser.chance(0.88):
-                names[-1] = chooser.choice(self.names_at(trail[-1]) or NAMES)
+                names[-1] = chooser.choice(self.names_at(trail[-1]) or ["..", "..", "a"])
             try:
                 trail = step(self.world, self.table, trail, names[-1], user)
             except Refused:
@@ -230,29 +210,30 @@ class Messages:
             return path
         return chooser.choice([f"{path}/", f"/q/..{path}", f"{path}/..", f"{path}/none", path[1:], ".."])
 
-    def walk(self, key: int) -> None:
+    def walk(self, key: int, start: int) -> None:
         chooser = self.chooser
-        start = self.pick_closed(key)
         fid = self.session(key).fids.get(start) or Fid("glenda", (ROOT,))
         count = chooser.weighted({0: 8, 1: 35, 2: 30, 3: 15, 5: 8, 16: 3, 17: 1})
-        names = self.names_from(fid.trail, count, fid.user)
         number = chooser.weighted({self.fresh(key): 72, self.pick(key): 8, start: 20})
-        self.send(key, wire.Walk(start, number, names))
+        self.send(key, wire.Walk(start, number, self.names_from(fid.trail, count, fid.user)))
 
-    def use(self, key: int, fid: int) -> None:
+    def node_of(self, key: int, number: int) -> Node | None:
+        """The node of a fid, where both are there."""
+        fid = self.session(key).fids.get(number)
+        return fid and self.node(fid)
+
+    def use_now_and_then(self, key: int, number: int) -> None:
         """Reads or writes now and then."""
-        chooser = self.chooser
-        if chooser.chance(0.4):
-            chooser.choice([self.read, self.write])(key, fid)
+        if self.chooser.chance(0.4):
+            self.chooser.choice([self.read, self.write])(key, number)
 
     def open(self, key: int, number: int) -> None:
-        fid = self.session(key).fids.get(number)
-        node = fid and self.node(fid)
+        node = self.node_of(key, number)
         mode = self.chooser.weighted(OPEN_MODES)
         if node and node.is_directory and self.chooser.chance(0.75):
             mode = 0
         self.send(key, wire.Open(number, mode))
-        self.use(key, number)
+        self.use_now_and_then(key, number)
 
     def create(self, key: int, number: int) -> None:
         chooser = self.chooser
@@ -266,14 +247,13 @@ class Messages:
         if not perm & DIRECTORY or chooser.chance(0.05):
             perm |= chooser.weighted(FILE_KINDS)
         self.send(key, wire.Create(number, name, perm, mode))
-        self.use(key, number)
+        self.use_now_and_then(key, number)
 
     def read(self, key: int, number: int) -> None:
         chooser = self.chooser
-        fid = self.session(key).fids.get(number)
-        node = fid and self.node(fid)
+        node = self.node_of(key, number)
         if node and node.is_directory:
-            self.read_directory(key, number, fid)
+            self.read_directory(key, number, self.session(key).fids[number])
             return
         size = len(node.data) if node else 10
         offset = chooser.choice([0, 0, 0, 1, max(0, size - 1), size, size + 1, LONG_MAX, 1 << 63, 1 << 32])
@@ -294,13 +274,11 @@ class Messages:
 
     def write(self, key: int, number: int) -> None:
         chooser = self.chooser
-        fid = self.session(key).fids.get(number)
-        node = fid and self.node(fid)
+        node = self.node_of(key, number)
         size = len(node.data) if node else 10
         offsets = [0, 0, 1, max(0, size - 1), size, size, size + 1, size + 5, chooser.randrange(600)]
-        offset = chooser.choice(offsets)
-        if chooser.chance(0.04):
-            offset = chooser.choice([FILE_MAX, FILE_MAX, FILE_MAX + 1, LONG_MAX, 1 << 63])
+        far = [FILE_MAX, FILE_MAX, FILE_MAX + 1, LONG_MAX, 1 << 63]
+        offset = chooser.choice(far if chooser.chance(0.04) else offsets)
         self.send(key, wire.Write(number, offset, chooser.randbytes(chooser.choice([0, 1, 2, 3, 10, 50]))))
 
     def change(self, key: int, number: int, **touched: int | str) -> None:
@@ -310,29 +288,28 @@ class Messages:
     def change_stat(self, key: int, number: int) -> None:
         """A wstat that touches any fields."""
         chooser = self.chooser
-        fid = self.session(key).fids.get(number)
-        node = fid and self.node(fid)
+        node = self.node_of(key, number)
         if not node:
             self.change(key, number)
             return
-        node_id = self.table.file(fid.place)
-        share = chooser.random()
-        names = chooser.sample(SOFT_FIELDS, chooser.weighted({0: 5, 1: 55, 2: 15, 3: 12, 4: 6, 5: 3}))
-        if share < 0.13:
-            names = chooser.sample(ALL_FIELDS, chooser.randint(1, 3))
+        node_id = self.table.file(self.session(key).fids[number].place)
         stat = stat_of(node_id, node)
-        values = {name: self.value_of(name, node_id, node) for name in names}
+        names = chooser.sample(SOFT_FIELDS, chooser.weighted({0: 5, 1: 55, 2: 15, 3: 12, 4: 6, 5: 3}))
+        if chooser.chance(0.13):
+            names = chooser.sample(ALL_FIELDS, chooser.randint(1, 3))
+        values = {name: self.value_of(name, getattr(stat, name), node) for name in names}
         self.send(key, wire.ChangeStat(number, replace(stat if chooser.chance(0.2) else UNTOUCHED, **values)))
         if chooser.chance(0.3):
             self.send(key, wire.StatOf(number))
 
-    def value_of(self, name: str, node_id: NodeId, node: Node) -> int | str:
+    def value_of(self, name: str, present: int | str, node: Node) -> int | str:
         """A value for a field of a wstat."""
         chooser = self.chooser
-        present = getattr(stat_of(node_id, node), name)
         match name:
             case "mode":
-                return self.mode(node)
+                rights = chooser.choice([0o777, 0o755, 0o700, 0o644, 0o666, 0, chooser.randrange(512)])
+                kinds = [APPEND_ONLY, APPEND_ONLY, EXCLUSIVE, EXCLUSIVE, TEMPORARY, DIRECTORY, 1 << 28, 1 << 9]
+                return (present & ~RIGHTS | rights) ^ (chooser.choice(kinds) if chooser.chance(0.35) else 0)
             case "mtime":
                 return chooser.choice([0, 5, 1234567, 0xFFFFFFFE, self.clock, present])
             case "length":
@@ -340,9 +317,7 @@ class Messages:
                 usual = [0, present + 1, max(0, present - 1), present, present + 20, 1]
                 return chooser.choice(usual if chooser.chance(0.9) else odd)
             case "name":
-                siblings = list(self.world.parent_of(node_id).children) or NAMES
-                new = f"ren{chooser.randrange(4)}"
-                usual = [new, new, chooser.choice(siblings), present]
+                usual = ["ren0", "ren1", "ren2", "ren3", *NAMES, present]
                 return chooser.choice(ODD_NAMES if chooser.chance(0.12) else usual)
             case "gid":
                 known = self.known.groups * 3 + self.known.users * 2
@@ -351,22 +326,18 @@ class Messages:
                 return chooser.choice([node.uid, node.muid, "rob", "glenda", "x"])
         return chooser.choice([present, present ^ 1, 0, 1, getattr(UNTOUCHED, name)])
 
-    def mode(self, node: Node) -> int:
-        """A mode for a node, mostly one that it may have."""
-        chooser = self.chooser
-        rights = chooser.choice([0o777, 0o755, 0o700, 0o644, 0o666, 0, chooser.randrange(512)])
-        kinds = [APPEND_ONLY, APPEND_ONLY, EXCLUSIVE, EXCLUSIVE, TEMPORARY, DIRECTORY, 0x10000000, 0o1000]
-        return (node.mode & ~RIGHTS | rights) ^ (chooser.choice(kinds) if chooser.chance(0.35) else 0)
-
     def change_rights(self, key: int, number: int) -> None:
         """A wstat that gives a node other rights."""
-        fid = self.session(key).fids.get(number)
-        node = fid and self.node(fid)
+        node = self.node_of(key, number)
         if node:
             rights = self.chooser.choice([0o777, 0o777, 0o755, 0o700, 0o711, 0o733, 0o333, 0o070, 0o007, 0])
             self.change(key, number, mode=node.mode & ~RIGHTS | rights)
 
-    def may_write(self, fid: Fid) -> bool:
-        """Whether a fid's user may create files at its place."""
-        node = self.node(fid)
-        return node is not None and node.is_directory and self.world.may(fid.user, node, Right.WRITE)
+    def clunk(self, key: int, number: int) -> None:
+        self.send(key, wire.Clunk(number))
+
+    def remove(self, key: int, number: int) -> None:
+        self.send(key, wire.Remove(number))
+
+    def stat(self, key: int, number: int) -> None:
+        self.send(key, wire.StatOf(number))

@@ -8,17 +8,8 @@ from reference.namespace import Namespace, step
 from reference.world import ROOT, NodeId
 
 FLAGS = {
-    "": 40,
-    "-a ": 15,
-    "-b ": 10,
-    "-c ": 8,
-    "-ac ": 10,
-    "-bc ": 6,
-    "-C ": 1,
-    "-a -c ": 2,
-    "-aC ": 1,
-    "-cc ": 1,
-    "-b -C -c ": 1,
+    **{"": 40, "-a ": 15, "-b ": 10, "-c ": 8, "-ac ": 10, "-bc ": 6},
+    **{"-C ": 1, "-a -c ": 2, "-aC ": 1, "-cc ": 1, "-b -C -c ": 1},
 }
 JOINS = ["-a ", "-b ", "-ac ", "-bc "]
 OPERATIONS = {"bind": 50, "mount": 12, "cd": 10, "unmount": 16, "clear": 1, ".": 8, "import": 1, "#": 2}
@@ -94,16 +85,10 @@ class NamespaceMaker(NamespaceLines):
     def make(self, profile: Profile) -> list[str]:
         """The lines of a namespace file."""
         chooser = self.chooser
-        counts = {
-            Profile.PLAY: [0, 2, 4, 7, 12],
-            Profile.GUARD: [0, 1, 3, 6],
-            Profile.NAMESPACE: range(4, 21),
-            Profile.TEXT: range(5),
-            Profile.CERTIFICATE: range(7),
-        }
+        count = chooser.randint(4, 20) if profile is Profile.NAMESPACE else chooser.choice([0, 1, 2, 4, 7, 12])
         if profile.is_guarded and chooser.chance(0.6):
             self.cover_hidden()
-        for _ in range(chooser.choice(counts[profile])):
+        for _ in range(count):
             if chooser.chance(0.08):
                 self.add_union()
             else:
@@ -155,7 +140,8 @@ class NamespaceMaker(NamespaceLines):
         name = chooser.choice([*self.known.variables, "none", ""])
         place = chooser.randrange(1, len(words))
         word = words[place]
-        forms = [f"${name}", f"{word}${name}", f"${name}${name}", f"{word}/${name}", f"${name}/{word.lstrip('/')}"]
+        behind = word.lstrip("/")
+        forms = [f"${name}", f"{word}${name}", f"${name}${name}", f"{word}/${name}", f"${name}/{behind}"]
         words[place] = chooser.choice(forms)
         return " ".join(words)
 

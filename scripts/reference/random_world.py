@@ -13,6 +13,26 @@ FILE_KINDS = {"": 70, "a": 12, "l": 12, "t": 3, "al": 3, "alt": 1, "lt": 1}
 VARIABLES = ["home", "user", "e", "sp", "q", "mid"]
 VALUES = ["glenda", "/", "..", "$home", "-a", "#main", ".", "a", "a/b"]
 
+# The kinds of the words behind each first word.
+LINES = {
+    "server": ["server"],
+    "dir": ["path", "mode", "user", "user"],
+    "file": ["path", "mode", "user", "user", "data"],
+    "user": ["user"],
+    "group": ["user", "user", "user", "user"],
+    "hide": ["server", "path"],
+    "set": ["variable", "variable"],
+    "Server": ["server"],
+}
+ODD_WORDS = {
+    "server": ["a/b", "a#", "a$", "a\0", "n" * 63, "n" * 64, "é" * 32, "é" * 31, "..", "%%", "-a"],
+    "path": ["/nope/k", "k", "/" + "k" * 256, "/", "/k\0", "/..", "//./", "/" + "é" * 127, "/" + "é" * 128],
+    "mode": "75 7555 789 a644 l600 al644 la644 alt777 aa644 at644 ta644 lt644 ٣44 al6444 a +75".split(),
+    "user": ["u" * 64, "u" * 63, "a\0", "é" * 32, "é" * 31, "/", "#", "a\r"],
+    "data": ["0", "zz", "00g0", "+1", "--", "0x", "é"],
+    "variable": ["a/b", "$", "a$b", "é", "v\0", "k" * 300, "#"],
+}
+
 
 class WorldMaker:
     """Makes the lines of a world."""
@@ -82,7 +102,7 @@ class WorldMaker:
         chooser = self.chooser
         lines = [f"server {name}"]
         if chooser.chance(0.75):
-            lines.append(self.root_line())
+            lines.append(self.directory_line(Entry(name, "/", True)))
         folders = [""]
         for _ in range(chooser.randint(3, 12)):
             parent = chooser.choice(folders if chooser.chance(0.6) else folders[-3:])
@@ -98,20 +118,15 @@ class WorldMaker:
             self.known.entries.append(entry)
         return lines
 
-    def root_line(self) -> str:
-        """The line of a server's root."""
-        chooser = self.chooser
-        if self.profile.is_guarded and chooser.chance(0.85):
-            return f"dir / {chooser.choice(['755', '755', '775', '711'])} sys sys"
-        mode = chooser.choice(DIRECTORY_MODES if chooser.chance(0.3) else OPEN_MODES)
-        return f"dir / {mode} {self.owner()} {self.group()}"
-
     def directory_line(self, entry: Entry) -> str:
-        """The line of a directory, which may be hidden."""
+        """The line of a directory, which may be hidden unless it is a root."""
         chooser = self.chooser
         mode = chooser.choice(OPEN_MODES if self.is_open and chooser.chance(0.7) else DIRECTORY_MODES)
         people = f"{self.owner()} {self.group()}"
-        if self.hides and chooser.chance(0.22):
+        if entry.path == "/" and self.profile.is_guarded and chooser.chance(0.85):
+            mode = chooser.choice(["755", "755", "775", "711"])
+            people = "sys sys"
+        elif entry.path != "/" and self.hides and chooser.chance(0.22):
             self.known.hidden.append(entry)
             if chooser.chance(0.85):
                 mode = chooser.choice(["000", "000", "000", "700", "770", "777"])
@@ -146,57 +161,28 @@ class WorldMaker:
             return path
         return self.chooser.choice([f"/{path}", f"{path}/", f"/.{path}", f"/../{path}", f"{path}/zz/.."])
 
-    # Lines that are not in order
-
     def damage(self, lines: list[str]) -> None:
-        """Puts lines between others that are mostly not in order."""
-        for _ in range(self.chooser.weighted({1: 50, 2: 25, 5: 25})):
-            again = self.chooser.choice(lines) if self.chooser.chance(0.2) else self.odd_line()
-            self.chooser.put_in(lines, again)
-
-    def odd_line(self) -> str:
-        """A line each of whose words is right or wrong by itself."""
+        """Puts lines between others each of whose words is right or wrong by itself."""
         chooser = self.chooser
-        makers = {
-            "server": [self.odd_server],
-            "dir": [self.odd_path, self.odd_mode, self.odd_user, self.odd_user],
-            "file": [self.odd_path, self.odd_mode, self.odd_user, self.odd_user, self.odd_digits],
-            "user": [self.odd_user],
-            "group": [self.odd_user] * chooser.randint(2, 5),
-            "hide": [self.odd_server, self.odd_path],
-            "set": [self.odd_variable, self.odd_variable],
-            "Server": [self.odd_server],
+        for _ in range(chooser.weighted({1: 50, 2: 25, 5: 25})):
+            word = chooser.choice([*LINES, "dir", "file"])
+            words = [word, *(self.odd_word(kind) for kind in LINES[word])]
+            if chooser.chance(0.12):
+                words = chooser.choice([words[:-1], [*words, "sys"]])
+            again = chooser.choice(lines)
+            chooser.put_in(lines, again if chooser.chance(0.15) else chooser.choice([" ", "\t"]).join(words))
+
+    def odd_word(self, kind: str) -> str:
+        """A word of a kind, which is right more often than not."""
+        chooser = self.chooser
+        known = self.known
+        path = chooser.choice(known.paths())
+        usual = {
+            "server": [*known.servers, *known.servers, "new"],
+            "path": ["/k", f"{path}/k", f"{path}/k", path],
+            "mode": ["755", "000", "644"],
+            "user": ["sys", "glenda", *known.users, *known.groups],
+            "data": ["-", "6869", "aBcD"],
+            "variable": ["v", "w", *known.variables],
         }
-        word = chooser.choice([*makers, "dir", "file"])
-        words = [word, *(make() for make in makers[word])]
-        if chooser.chance(0.1):
-            words = words[:-1] if chooser.chance(0.5) else [*words, "x"]
-        return chooser.choice([" ", " ", " ", "\t"]).join(words)
-
-    def odd_path(self) -> str:
-        chooser = self.chooser
-        path = chooser.choice(self.known.paths())
-        odd = ["/nope/k", "k", "/" + "k" * 256, "/", "/k\0", "/..", "//./", "/" + "é" * 127, "/" + "é" * 128]
-        share = {f"/k{chooser.randrange(3)}": 20, f"{path}/k": 30, path: 20}
-        return chooser.weighted({**share, **dict.fromkeys(odd, 3)})
-
-    def odd_user(self) -> str:
-        odd = ["u" * 64, "u" * 63, "a\0", "é" * 32, "é" * 31, "/", "#", "a\r", *self.known.users]
-        return self.chooser.weighted({**dict.fromkeys(odd, 4), "sys": 30, "glenda": 30})
-
-    def odd_mode(self) -> str:
-        odd = "75 7555 789 a644 l600 al644 la644 t666 alt777 aa644 at644 ta644 tl644 lt644 ٣44 al6444 a +75"
-        return self.chooser.weighted({**dict.fromkeys(odd.split(), 3), "755": 40, "000": 5})
-
-    def odd_digits(self) -> str:
-        odd = ["0", "zz", "00g0", "+1", "--", "0x", "é"]
-        return self.chooser.weighted({**dict.fromkeys(odd, 3), "-": 20, "6869": 20, "aBcD": 5})
-
-    def odd_server(self) -> str:
-        odd = ["a/b", "a#", "a$", "a\0", "n" * 63, "n" * 64, "é" * 32, "é" * 31, "..", "%%", "-a"]
-        share = {self.chooser.choice(self.known.servers): 30, f"new{self.chooser.randrange(3)}": 20}
-        return self.chooser.weighted({**dict.fromkeys(odd, 3), **share})
-
-    def odd_variable(self) -> str:
-        odd = ["a/b", "$", "a$b", "é", "v\0", "k" * 300, "#", *self.known.variables]
-        return self.chooser.weighted({**dict.fromkeys(odd, 4), f"v{self.chooser.randrange(2)}": 20})
+        return chooser.choice(ODD_WORDS[kind] if chooser.chance(0.15) else usual[kind])
