@@ -3,9 +3,10 @@
 from __future__ import annotations
 
 from dataclasses import dataclass
+from enum import Enum, auto
 
 from reference.certificate import judge
-from reference.choices import Chooser, Known, Profile
+from reference.choices import Chooser, Known
 from reference.exporter import Exporter
 from reference.faults import BadLine
 from reference.namespace import Namespace, Table
@@ -13,34 +14,42 @@ from reference.program import SMALL_WORLD
 from reference.random_namespace import NamespaceMaker
 from reference.random_script import ScriptMaker
 from reference.random_world import WorldMaker
-from reference.scenarios import SCENARIOS, scenario
 from reference.text import lines_of
 from reference.world import NodeId, World, read_world
-
-PROFILES = {
-    Profile.PLAY: 46,
-    Profile.GUARD: 16,
-    Profile.NAMESPACE: 14,
-    Profile.TEXT: 16,
-    Profile.CERTIFICATE: 12,
-}
-# A seed in so many is a scenario.
-SCENARIO_SHARE = 3
 
 BAD_ROWS = (
     "cert 1;cert 2;dir 0 0;dir 65536 0;dir 0 281474976710656;dir 0;dir 0 1 2;dir -1 0;dir 0 x;foo;dir 1 0;"
     "dir 0 +1;Dir 0 9;dir 70000 0;dir 0 99999999999999999999999;file 0 1;;# c;"
     "dir 00 0000000000000000000000000000000000001"
 ).split(";")
-BAD_CERTIFICATES = [[], ["# only"], [""], ["cert 01"], ["cert"], ["cert 1 1"], ["Cert 1"], ["dir 0 0", "cert 1"]]
+BAD_CERTIFICATES = [[], ["# only"], [""], ["cert 01"], ["cert"], ["cert 1 1"], ["Cert 1"], ["dir 0 0"]]
 BAD_EVENTS = (
     "open;open x;open 4294967296;open 1 2;msg 1 0;msg 1 0 -;msg 1 0 0;msg 1 0 zz;msg 1 4294967296 00;foo;"
     "msg 4294967296 0 00;close 1;close 1 x;close 4294967296 0;close 1 0 0;Open 1;msg 1 0 00 00;open -1;"
     "open 000000000000000000000000000000009;msg 1 0 0000000;msg 1 00 ff;msg 1 0 AB;open 1\r;open ९"
 ).split(";")
-BAD_SECTIONS = "%%;%% foo;%%world;%%  world;%% ns ; %% ns;%% script\r;%%%;%% World;%;%% world;%% cert".split(";")
+BAD_SECTIONS = "%%;%% foo;%%world;%%  world;%% ns ; %% ns;%% script\r;%%%;%% World;%% world;%% cert".split(";")
 FIRST_LINES = ["", "# x", "x", "  ", "\t", "\r", " %% world"]
 BAD_BYTES = [b"\xff", b"\xc0\x80", b"\xed\xa0\x80", b"\xe2\x28\xa1", b"\xf4\x90\x80\x80"]
+
+
+class Profile(Enum):
+    """What an input is to be about."""
+
+    PLAY = auto()
+    GUARD = auto()
+    NAMESPACE = auto()
+    TEXT = auto()
+    CERTIFICATE = auto()
+
+
+PROFILES = {
+    Profile.PLAY: 50,
+    Profile.GUARD: 16,
+    Profile.NAMESPACE: 14,
+    Profile.TEXT: 14,
+    Profile.CERTIFICATE: 12,
+}
 
 
 @dataclass(frozen=True)
@@ -54,29 +63,30 @@ class Bundle:
 class BundleMaker:
     """Makes an input of a profile."""
 
-    def __init__(self, chooser: Chooser) -> None:
+    def __init__(self, chooser: Chooser, profile: Profile) -> None:
         self.chooser = chooser
-        self.profile = chooser.weighted(PROFILES)
+        self.profile = profile
         self.known = Known()
+        self.is_guarded = profile in (Profile.GUARD, Profile.CERTIFICATE)
+        self.is_faulty = profile is Profile.TEXT
 
-    def make(self) -> Bundle:
+    def make(self) -> bytes:
         """An input."""
         chooser = self.chooser
-        is_text = self.profile is Profile.TEXT
-        world = WorldMaker(chooser, self.profile, self.known).lines()
+        world = WorldMaker(chooser, self.known, self.is_guarded).lines(self.is_faulty)
         lines = ["%% world", *world]
-        if is_text and chooser.chance(0.1):
+        if chooser.chance(0.02):
             self.known = Known(servers=["main"], users=["glenda"])
             world = lines_of(SMALL_WORLD)
             lines = []
         lines += self.later_lines(world)
-        if is_text and chooser.chance(0.25):
+        if self.is_faulty and chooser.chance(0.25):
             self.damage(lines)
         data = ("\n".join(lines) + ("\n" if chooser.chance(0.8) else "")).encode()
-        if is_text and chooser.chance(0.04):
+        if self.is_faulty and chooser.chance(0.04):
             place = chooser.randrange(len(data) + 1)
             data = data[:place] + chooser.choice(BAD_BYTES) + data[place:]
-        return Bundle(self.profile.name.lower(), data)
+        return data
 
     def later_lines(self, world_lines: list[str]) -> list[str]:
         """The sections behind the world."""
@@ -84,15 +94,17 @@ class BundleMaker:
         try:
             world = read_world(world_lines)
         except BadLine:
-            return ["%% ns", "bind /a"] if chooser.chance(0.1) else []
-        lines = NamespaceMaker(chooser, self.known, Namespace(world)).make(self.profile)
+            return []
+        most = 20 if self.profile is Profile.NAMESPACE else chooser.choice([0, 3, 12])
+        maker = NamespaceMaker(chooser, self.known, Namespace(world))
+        lines = maker.make(chooser.randint(0, most), self.is_faulty)
         namespace = Namespace(world)
         try:
             namespace.run(lines)
         except BadLine:
             return ["%% ns", *lines]
         more = ["%% ns", *lines] if lines or chooser.chance(0.3) else []
-        if chooser.chance(0.97 if self.profile.is_guarded else 0.1):
+        if chooser.chance(0.97 if self.is_guarded else 0.1):
             more += ["%% cert", *self.certificate(world, namespace.table)]
         if self.profile in (Profile.PLAY, Profile.GUARD) or chooser.chance(0.4):
             more += ["%% script", *self.script(world, namespace.table)]
@@ -112,39 +124,31 @@ class BundleMaker:
         elif share < 0.3:
             rows.append(chooser.choice(chooser.choice([shut or nodes, directories, nodes, absent])))
         lines = ["cert 1", *(f"dir {row.server} {row.number}" for row in sorted(set(rows)))]
-        if chooser.chance(0.05):
+        if chooser.chance(0.06):
             chooser.put_in(lines, chooser.choice(BAD_ROWS))
-        if chooser.chance(0.02):
-            return chooser.choice(BAD_CERTIFICATES)
-        return lines
+        return chooser.choice(BAD_CERTIFICATES) if chooser.chance(0.03) else lines
 
     def script(self, world: World, table: Table) -> list[str]:
         """The lines of a script."""
         lines = ["open 1"]
-        if self.profile is not Profile.TEXT:
+        if not self.is_faulty:
             lines = ScriptMaker(self.chooser, self.known, Exporter(world, table)).make()
-        if self.chooser.chance(0.5 if self.profile is Profile.TEXT else 0.01):
+        if self.chooser.chance(0.5 if self.is_faulty else 0.01):
             self.chooser.put_in(lines, self.chooser.choice(BAD_EVENTS))
         return lines
 
     def damage(self, lines: list[str]) -> None:
         """Makes the sections of an input wrong."""
         chooser = self.chooser
-        match chooser.randrange(4):
-            case 0:
-                chooser.put_in(lines, chooser.choice(BAD_SECTIONS))
-            case 1:
-                lines.insert(0, chooser.choice(FIRST_LINES))
-            case 2:
-                lines.append(chooser.choice(BAD_SECTIONS))
-            case _ if lines:
-                place = chooser.randrange(len(lines))
-                lines[place] += chooser.choice([" ", "\r", "\t"])
+        chooser.put_in(lines, chooser.choice(BAD_SECTIONS))
+        if chooser.chance(0.3):
+            lines[0] = chooser.choice(FIRST_LINES)
+        if chooser.chance(0.3):
+            lines[-1] += chooser.choice([" ", "\r", "\t"])
 
 
 def bundle(seed: int) -> Bundle:
     """The input of a seed."""
-    if seed % SCENARIO_SHARE == 0:
-        name = list(SCENARIOS)[seed // SCENARIO_SHARE % len(SCENARIOS)]
-        return Bundle(name, scenario(name, Chooser(seed)))
-    return BundleMaker(Chooser(seed)).make()
+    chooser = Chooser(seed)
+    profile = chooser.weighted(PROFILES)
+    return Bundle(profile.name.lower(), BundleMaker(chooser, profile).make())

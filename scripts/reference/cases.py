@@ -79,7 +79,7 @@ class Case:
 
 
 def case(name: str, command: str, text: str, output: str, errors: str = "", status: int = 0) -> Case:
-    """A case that is written as texts. The input begins with a world where it doesn't begin with a section."""
+    """A case that is written as texts. An input that doesn't begin with a section begins with a world."""
     data = text if not text or text.startswith("%%") else f"%% world\n{text}"
     return Case(name, command, data.encode(), Outcome(output.encode(), errors.encode(), status))
 

@@ -1,32 +1,21 @@
-"""Random choices, and what a random input has so far."""
+"""Random choices, and what the world's text of a random input has."""
 
 from __future__ import annotations
 
 import random
 from dataclasses import dataclass, field
-from enum import Enum, auto
 from typing import TypeVar
+
+from reference.faults import Refused
+from reference.namespace import Table, Trail, step
+from reference.world import World
 
 Value = TypeVar("Value")
 
 USERS = ["glenda", "rob", "ken", "sys"]
 GROUPS = ["staff", "adm", "glenda", "rob", "sys", "ken"]
 NAMES = ["a", "b", "c", "d", "n", "x"]
-
-
-class Profile(Enum):
-    """What an input is to be about."""
-
-    PLAY = auto()
-    GUARD = auto()
-    NAMESPACE = auto()
-    TEXT = auto()
-    CERTIFICATE = auto()
-
-    @property
-    def is_guarded(self) -> bool:
-        """Whether a certificate of the input should mostly be in order."""
-        return self in (Profile.GUARD, Profile.CERTIFICATE)
+ODD_NAMES = ["", ".", "none", "a/b", "/", "k" * 255, "k" * 256, "é" * 127, "é" * 128]
 
 
 class Chooser(random.Random):
@@ -44,6 +33,24 @@ class Chooser(random.Random):
         """Puts a line anywhere between others."""
         lines.insert(self.randrange(len(lines) + 1), line)
 
+    def walk(self, world: World, table: Table, trail: Trail, count: int, user: str | None) -> list[str]:
+        """Names, as many or fewer, that mostly can be walked from a trail."""
+        names: list[str] = []
+        for _ in range(count):
+            names.append("..")
+            if self.chance(0.03):
+                names[-1] = self.choice(ODD_NAMES)
+            elif self.chance(0.88):
+                nodes = [world.node(member.node) for member in table.members(trail[-1])]
+                children = [name for node in nodes if node for name in node.children]
+                names[-1] = self.choice(children or ["..", "..", "a"])
+            try:
+                trail = step(world, table, trail, names[-1], user)
+            except Refused:
+                if self.chance(0.7):
+                    break
+        return names
+
 
 @dataclass(frozen=True)
 class Entry:
@@ -56,7 +63,7 @@ class Entry:
 
 @dataclass
 class Known:
-    """What the world's text of an input has."""
+    """What a world's text has."""
 
     servers: list[str] = field(default_factory=list)
     users: list[str] = field(default_factory=list)
@@ -64,19 +71,3 @@ class Known:
     variables: list[str] = field(default_factory=list)
     entries: list[Entry] = field(default_factory=list)
     hidden: list[Entry] = field(default_factory=list)
-
-    def files(self) -> list[Entry]:
-        return [entry for entry in self.entries if not entry.is_directory]
-
-    def paths(self) -> list[str]:
-        """The paths of all entries, at least one."""
-        return [entry.path for entry in self.entries] or ["/a"]
-
-    def open_directories(self) -> list[Entry]:
-        """The directories that are neither hidden nor inside hidden ones."""
-
-        def is_hidden(entry: Entry) -> bool:
-            same = [it.path for it in self.hidden if it.server == entry.server]
-            return any(f"{entry.path}/".startswith(path.rstrip("/") + "/") for path in same)
-
-        return [entry for entry in self.entries if entry.is_directory and not is_hidden(entry)]

@@ -6,8 +6,8 @@ from collections.abc import Callable
 from dataclasses import replace
 
 from reference import wire
-from reference.choices import GROUPS, NAMES, Chooser, Known
-from reference.exporter import Exporter, Fid, Session, stat_of
+from reference.choices import GROUPS, NAMES, ODD_NAMES, Chooser, Known
+from reference.exporter import OVERHEAD, Exporter, Fid, Session, stat_of
 from reference.faults import Refused
 from reference.namespace import Trail, step
 from reference.wire import NO_FID, UNTOUCHED, Request
@@ -22,9 +22,7 @@ OPEN_MODES = {
     **{0x00: 30, 0x01: 15, 0x02: 25, 0x03: 8, 0x10: 6, 0x11: 10, 0x12: 8, 0x13: 3, 0x40: 5, 0x41: 4},
     **{0x42: 6, 0x52: 3, 0x21: 2, 0x20: 2, 0x04: 1, 0x08: 1, 0x80: 1, 0xFF: 1, 0x53: 1, 0x73: 1},
 }
-FILE_KINDS = {0: 60, APPEND_ONLY: 12, EXCLUSIVE: 12, TEMPORARY: 4, APPEND_ONLY | EXCLUSIVE: 4, 1 << 28: 2, 1 << 9: 1}
-ODD_NAMES = ["", ".", "..", "a/b", "/", "k" * 255, "k" * 256, "é" * 127, "é" * 128]
-STOP_NAMES = [".", "", "none", "a/b", "k" * 255, "k" * 256, "/", *NAMES]
+FILE_KINDS = {0: 60, APPEND_ONLY: 12, EXCLUSIVE: 12, TEMPORARY: 4, APPEND_ONLY | EXCLUSIVE: 4, 1 << 28: 3}
 SOFT_FIELDS = ["mode", "mtime", "length", "name", "gid"]
 ALL_FIELDS = list(UNTOUCHED.__dict__)
 
@@ -118,27 +116,14 @@ class Messages:
         servers = enumerate(self.world.servers)
         return [NodeId(index, number) for index, server in servers for number in server.nodes]
 
+    def names_from(self, trail: Trail, count: int, user: str) -> list[str]:
+        """Names that mostly can be walked from a trail."""
+        return self.chooser.walk(self.world, self.table, trail, count, user)
+
     def names_at(self, place: NodeId) -> list[str]:
         """The names of the children of all members of a place."""
         nodes = [self.world.node(member.node) for member in self.table.members(place)]
         return list(dict.fromkeys(name for node in nodes if node for name in node.children))
-
-    def names_from(self, trail: Trail, count: int, user: str) -> list[str]:
-        """Names that mostly can be walked from a trail."""
-        chooser = self.chooser
-        names: list[str] = []
-        for _ in range(count):
-            names.append("..")
-            if chooser.chance(0.03):
-                names[-1] = chooser.choice(STOP_NAMES)
-            elif chooser.chance(0.88):
-                names[-1] = chooser.choice(self.names_at(trail[-1]) or ["..", "..", "a"])
-            try:
-                trail = step(self.world, self.table, trail, names[-1], user)
-            except Refused:
-                if chooser.chance(0.7):
-                    break
-        return names
 
     def route(self, fid: Fid, goal: Goal) -> list[str] | None:
         """The names of a shortest walk from a fid to a goal."""
@@ -203,12 +188,9 @@ class Messages:
     def attach_name(self, user: str) -> str:
         """The path of an attach."""
         chooser = self.chooser
-        if chooser.chance(0.6):
-            return chooser.choice(["", "", "", "/", "/.", "//", "/.."])
         path = "/" + "/".join(self.names_from((ROOT,), chooser.randint(1, 4), user))
-        if chooser.chance(0.75):
-            return path
-        return chooser.choice([f"{path}/", f"/q/..{path}", f"{path}/..", f"{path}/none", path[1:], ".."])
+        odd = [f"{path}/", f"/q/..{path}", f"{path}/..", f"{path}/none", path[1:], "..", "/.", "//", "/.."]
+        return chooser.weighted({"": 50, path: 30, "/": 5, chooser.choice(odd): 15})
 
     def walk(self, key: int, start: int) -> None:
         chooser = self.chooser
@@ -222,18 +204,12 @@ class Messages:
         fid = self.session(key).fids.get(number)
         return fid and self.node(fid)
 
-    def use_now_and_then(self, key: int, number: int) -> None:
-        """Reads or writes now and then."""
-        if self.chooser.chance(0.4):
-            self.chooser.choice([self.read, self.write])(key, number)
-
     def open(self, key: int, number: int) -> None:
         node = self.node_of(key, number)
         mode = self.chooser.weighted(OPEN_MODES)
         if node and node.is_directory and self.chooser.chance(0.75):
             mode = 0
         self.send(key, wire.Open(number, mode))
-        self.use_now_and_then(key, number)
 
     def create(self, key: int, number: int) -> None:
         chooser = self.chooser
@@ -247,7 +223,6 @@ class Messages:
         if not perm & DIRECTORY or chooser.chance(0.05):
             perm |= chooser.weighted(FILE_KINDS)
         self.send(key, wire.Create(number, name, perm, mode))
-        self.use_now_and_then(key, number)
 
     def read(self, key: int, number: int) -> None:
         chooser = self.chooser
@@ -279,7 +254,11 @@ class Messages:
         offsets = [0, 0, 1, max(0, size - 1), size, size, size + 1, size + 5, chooser.randrange(600)]
         far = [FILE_MAX, FILE_MAX, FILE_MAX + 1, LONG_MAX, 1 << 63]
         offset = chooser.choice(far if chooser.chance(0.04) else offsets)
-        self.send(key, wire.Write(number, offset, chooser.randbytes(chooser.choice([0, 1, 2, 3, 10, 50]))))
+        count = chooser.choice([0, 1, 2, 3, 10, 50])
+        msize = self.session(key).msize or 8192
+        if chooser.chance(0.04) and msize < 9000:
+            count = msize - OVERHEAD + chooser.choice([0, 1, 1, 2])
+        self.send(key, wire.Write(number, offset, chooser.randbytes(count)))
 
     def change(self, key: int, number: int, **touched: int | str) -> None:
         """A wstat that touches some fields only."""
@@ -309,13 +288,13 @@ class Messages:
             case "mode":
                 rights = chooser.choice([0o777, 0o755, 0o700, 0o644, 0o666, 0, chooser.randrange(512)])
                 kinds = [APPEND_ONLY, APPEND_ONLY, EXCLUSIVE, EXCLUSIVE, TEMPORARY, DIRECTORY, 1 << 28, 1 << 9]
-                return (present & ~RIGHTS | rights) ^ (chooser.choice(kinds) if chooser.chance(0.35) else 0)
+                kind = chooser.choice(kinds) if chooser.chance(0.35) else 0
+                return (present & ~RIGHTS | rights) ^ kind
             case "mtime":
                 return chooser.choice([0, 5, 1234567, 0xFFFFFFFE, self.clock, present])
             case "length":
-                odd = [FILE_MAX + 1, LONG_MAX - 1, 1 << 63]
-                usual = [0, present + 1, max(0, present - 1), present, present + 20, 1]
-                return chooser.choice(usual if chooser.chance(0.9) else odd)
+                usual = [0, 0, present + 1, present + 1, max(0, present - 1), present, present + 20, 1]
+                return chooser.choice([*usual, chooser.choice([FILE_MAX + 1, LONG_MAX - 1, 1 << 63])])
             case "name":
                 usual = ["ren0", "ren1", "ren2", "ren3", *NAMES, present]
                 return chooser.choice(ODD_NAMES if chooser.chance(0.12) else usual)

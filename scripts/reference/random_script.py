@@ -6,25 +6,22 @@ from collections.abc import Callable
 from dataclasses import replace
 
 from reference import wire
-from reference.exporter import FIDS_MAX, OVERHEAD, REMOVE_ON_CLOSE, Fid
+from reference.exporter import FIDS_MAX, REMOVE_ON_CLOSE, Fid
 from reference.faults import Refused
 from reference.namespace import TRAIL_MAX, step
 from reference.random_messages import Messages
-from reference.world import EXCLUSIVE, FILE_MAX, ROOT, Node, NodeId, Right
+from reference.world import FILE_MAX, ROOT, Node, NodeId, Right
 
 Use = Callable[[int, int], None]
 
 # How often each action is done.
 SHARES = {
-    "use": 90,
-    "visit": 25,
-    "begin_again": 6,
-    "end_session": 1,
-    "remove_member": 3,
-    "open_exclusive": 3,
-    "open_removing": 2,
-    "list_amid_changes": 4,
-    "greatest_write": 1,
+    "use": 80,
+    "visit": 30,
+    "begin_again": 7,
+    "remove_member": 8,
+    "open_removing": 6,
+    "list_amid_changes": 6,
 }
 
 
@@ -33,25 +30,25 @@ class ScriptMaker(Messages):
 
     keys = [1, 2]
 
-    def make(self, shares: dict[str, float] | None = None) -> list[str]:
-        """The lines of a script, of actions that are done so often."""
+    def make(self) -> list[str]:
+        """The lines of a script."""
         chooser = self.chooser
         for limit, share in ((self.largest_file, 0.03), (self.longest_trails, 0.25), (self.all_fids, 0.03)):
-            if shares is None and chooser.chance(share):
+            if chooser.chance(share):
                 limit(8)
         for key in self.keys:
             if chooser.chance(0.95):
                 self.begin(key)
-        count = len(self.lines) + chooser.randint(15, 70)
+        count = len(self.lines) + chooser.randint(20, 90)
         while len(self.lines) < count:
-            self.act(chooser.choice(self.keys), shares or SHARES)
+            self.act(chooser.choice(self.keys))
         if chooser.chance(0.4):
             self.close_session(chooser.choice(self.keys))
             for _ in range(4):
-                self.act(chooser.choice(self.keys), {"visit": 1})
+                self.visit(chooser.choice(self.keys))
         return self.lines
 
-    def act(self, key: int, shares: dict[str, float]) -> None:
+    def act(self, key: int) -> None:
         """Does something, mostly in a session that has begun."""
         session = self.session(key)
         if (session.msize is None or not session.fids) and self.chooser.chance(0.8):
@@ -59,7 +56,7 @@ class ScriptMaker(Messages):
         elif len(session.fids) > 14 and self.chooser.chance(0.5):
             self.clunk(key, self.pick(key))
         else:
-            getattr(self, self.chooser.weighted(shares))(key)
+            getattr(self, self.chooser.weighted(SHARES))(key)
 
     # Actions
 
@@ -115,48 +112,34 @@ class ScriptMaker(Messages):
             self.use_anyhow(key, number)
 
     def begin_again(self, key: int) -> None:
-        """Attaches, or now and then sends what is seldom sent."""
+        """Attaches, or now and then does what is seldom done."""
         chooser = self.chooser
-        share = chooser.random()
-        if share < 0.6:
-            self.attach(key, self.fresh(key) if chooser.chance(0.85) else self.pick(key))
-        elif share < 0.8:
-            self.version(key)
-        else:
-            self.send(key, chooser.choice([wire.Flush(chooser.randrange(65536)), wire.Auth(9, "glenda", "")]))
-
-    def end_session(self, key: int) -> None:
-        self.chooser.choice([self.close_session, self.close_session, self.open_session])(key)
+        seldom = [wire.Flush(chooser.randrange(65536)), wire.Auth(9, "glenda", "")]
+        match chooser.weighted({"attach": 60, "version": 20, "seldom": 12, "open": 3, "close": 10}):
+            case "attach":
+                self.attach(key, self.fresh(key) if chooser.chance(0.85) else self.pick(key))
+            case "version":
+                self.version(key)
+            case "seldom":
+                self.send(key, chooser.choice(seldom))
+            case "open":
+                self.open_session(key)
+            case "close":
+                self.close_session(key)
 
     def files(self) -> list[NodeId]:
         """All files that are no directories."""
         return [it for it in self.all_nodes() if not self.world.is_directory(it)]
 
-    def open_exclusive(self, key: int) -> None:
-        """Opens a file of exclusive use twice."""
-        wanted = [it for it in self.files() if self.world.node(it).mode & EXCLUSIVE]
-        for other in [key, self.chooser.choice(self.keys)] if wanted else []:
-            number = self.reach_node(other, wanted[0])
-            if number is not None:
-                self.send(other, wire.Open(number, self.chooser.choice([0, 0, 0, 1, 2])))
-
     def open_removing(self, key: int) -> None:
-        """Opens a file that is removed when its fid ends, and mostly ends it in some way."""
+        """Opens a file that is removed when its fid ends, and now and then ends that."""
         chooser = self.chooser
         files = self.files()
         number = self.reach_node(key, chooser.choice(files)) if files else None
-        if number is None:
-            return
-        self.send(key, wire.Open(number, REMOVE_ON_CLOSE | chooser.choice([0, 0, 1, 2, 3])))
-        match chooser.randrange(9):
-            case 0:
-                self.clunk(key, number)
-            case 1:
-                self.version(key, 8192)
-            case 2:
-                self.close_session(key)
-            case 3:
-                self.remove(key, number)
+        if number is not None:
+            self.send(key, wire.Open(number, REMOVE_ON_CLOSE | chooser.choice([0, 0, 1, 2, 3])))
+            if chooser.chance(0.3):
+                chooser.choice([self.clunk, self.remove])(key, number)
 
     def remove_node(self, key: int, node_id: NodeId) -> None:
         """Removes a node, and before it what is in it."""
@@ -210,13 +193,6 @@ class ScriptMaker(Messages):
                 chooser.choice([self.create, self.remove, self.change_stat, self.change_rights])(key, changed)
 
     # Limits
-
-    def greatest_write(self, key: int) -> None:
-        """A write of as many bytes as a message may have, or nearly."""
-        msize = self.session(key).msize or 8192
-        if msize < 9000:
-            size = msize - OVERHEAD + 1 + self.chooser.choice([-1, 0, 0, 1])
-            self.send(key, wire.Write(self.pick(key, lambda fid: fid.writes), 0, b"A" * size))
 
     def enter(self, key: int) -> None:
         """Opens a session with a fid at the root."""

@@ -2,13 +2,12 @@
 
 from __future__ import annotations
 
-from reference.choices import GROUPS, NAMES, USERS, Chooser, Entry, Known, Profile
+from reference.choices import GROUPS, NAMES, USERS, Chooser, Entry, Known
 from reference.random_namespace import NamespaceLines
 
 ODD_NAMES = ["é", "a$b", "#h", "-q", "y" * 255, "z" * 100, "a\rb", "...", "%%", "日本"]
 OPEN_MODES = ["777", "755", "775"]
-DIRECTORY_MODES = "755 777 777 775 700 770 750 711 000 733 744 555 070 007 100 001 010 730 722".split()
-FILE_MODES = "644 666 666 600 660 444 222 111 755 777 000 640 060 006 200 400 100".split()
+MODES = "755 777 777 775 700 770 750 711 000 733 744 555 070 007 100 001 010 644 666 600 640 060 400".split()
 FILE_KINDS = {"": 70, "a": 12, "l": 12, "t": 3, "al": 3, "alt": 1, "lt": 1}
 VARIABLES = ["home", "user", "e", "sp", "q", "mid"]
 VALUES = ["glenda", "/", "..", "$home", "-a", "#main", ".", "a", "a/b"]
@@ -35,67 +34,51 @@ ODD_WORDS = {
 
 
 class WorldMaker:
-    """Makes the lines of a world."""
+    """Makes the lines of a world. In a guarded one a certificate can mostly be accepted."""
 
-    def __init__(self, chooser: Chooser, profile: Profile, known: Known) -> None:
+    def __init__(self, chooser: Chooser, known: Known, is_guarded: bool) -> None:
         self.chooser = chooser
-        self.profile = profile
         self.known = known
-        self.hides = profile.is_guarded or chooser.chance(0.25)
+        self.is_guarded = is_guarded
+        self.hides = is_guarded or chooser.chance(0.25)
         self.is_open = chooser.chance(0.65)
+        # Whether anybody may do nearly anything, so that much is changed.
+        self.is_free = not is_guarded and chooser.chance(0.3)
 
-    def lines(self) -> list[str]:
+    def lines(self, is_faulty: bool) -> list[str]:
         """The lines of a world."""
         chooser = self.chooser
         known = self.known
-        self.choose_names()
-        lines = []
-        for name in known.servers:
-            lines += self.server(name)
-        if chooser.chance(0.06):
-            known.hidden.append(Entry(chooser.choice(known.servers), "/", True))
+        users = USERS[:-1] if self.is_guarded and chooser.chance(0.85) else USERS
+        known.users = chooser.sample(users, chooser.choice([0, 1, 1, 2, 2, 2, 3, 3]))
+        known.groups = chooser.sample(GROUPS, chooser.randint(0, 3))
+        known.servers = chooser.sample(["main", "fs", "aux", "m", "os", "é"], chooser.choice([1, 1, 2, 2, 3]))
+        known.variables = chooser.sample(VARIABLES, chooser.randint(0, 4))
+        lines = [line for name in known.servers for line in self.server(name)]
         more = [f"user {user}" for user in known.users]
-        more += [f"group {group} {self.people()}" for group in known.groups]
-        more += [f"set {variable} {self.value()}" for variable in known.variables]
+        more += [f"group {group} {self.owner()} {self.members()}" for group in known.groups]
+        more += [f"set {name} {chooser.choice([*VALUES, *self.paths()])}" for name in known.variables]
         more += [f"hide {entry.server} {entry.path}" for entry in known.hidden]
         chooser.shuffle(more)
         lines += more
         if chooser.chance(0.15):
             chooser.put_in(lines, chooser.choice(["# c", "", "  \t", "\t# x"]))
-        if chooser.chance(0.55 if self.profile is Profile.TEXT else 0.01):
+        if chooser.chance(0.55 if is_faulty else 0.01):
             self.damage(lines)
-        if self.profile is Profile.TEXT and chooser.chance(0.02):
-            return [line for line in lines if line.split()[:1] in ([], ["user"], ["group"], ["set"])]
-        return lines
-
-    def choose_names(self) -> None:
-        """Chooses the users, groups, servers and variables."""
-        chooser = self.chooser
-        known = self.known
-        count = chooser.weighted({0: 2, 1: 25, 2: 40, 3: 25, 4: 5})
-        known.users = chooser.sample(USERS, count)
-        if self.profile.is_guarded and chooser.chance(0.85):
-            known.users = [user for user in known.users if user != "sys"] or ["glenda"]
-        known.groups = chooser.sample(GROUPS, chooser.weighted({0: 30, 1: 30, 2: 30, 3: 10}))
-        count = chooser.weighted({1: 45, 2: 35, 3: 20})
-        known.servers = chooser.sample(["main", "fs", "aux", "m", "os", "é"], count)
-        known.variables = chooser.sample(VARIABLES, chooser.randint(0, 4))
-
-    def people(self) -> str:
-        """The leader and the members of a group."""
-        leader = self.chooser.choice(self.known.users + USERS)
-        members = self.chooser.sample([*USERS, "none", "staff"], self.chooser.randint(0, 3))
-        return " ".join([leader, *members])
-
-    def value(self) -> str:
-        """The value of a variable."""
-        return self.chooser.choice(self.known.paths() if self.chooser.chance(0.6) else VALUES)
+        return lines if not is_faulty or chooser.chance(0.98) else more
 
     def owner(self) -> str:
         return self.chooser.choice(self.known.users * 3 + ["sys", "glenda", "rob", "none"])
 
     def group(self) -> str:
         return self.chooser.choice(self.known.users * 2 + self.known.groups * 3 + ["sys", "none", "staff"])
+
+    def members(self) -> str:
+        return " ".join(self.chooser.sample([*USERS, "none", "staff"], self.chooser.randint(0, 3)))
+
+    def paths(self) -> list[str]:
+        """The paths of all entries, at least one."""
+        return [entry.path for entry in self.known.entries] or ["/a"]
 
     def server(self, name: str) -> list[str]:
         """The lines of a server."""
@@ -104,67 +87,59 @@ class WorldMaker:
         if chooser.chance(0.75):
             lines.append(self.directory_line(Entry(name, "/", True)))
         folders = [""]
+        taken = set()
         for _ in range(chooser.randint(3, 12)):
             parent = chooser.choice(folders if chooser.chance(0.6) else folders[-3:])
             path = f"{parent}/{chooser.choice(NAMES if chooser.chance(0.94) else ODD_NAMES)}"
             entry = Entry(name, path, chooser.chance(0.62))
-            if any((it.server, it.path) == (name, path) for it in self.known.entries):
+            if path in taken:
                 continue
-            if entry.is_directory:
-                lines.append(self.directory_line(entry))
-                folders.append(path)
-            else:
-                lines.append(self.file_line(entry))
+            lines.append(self.directory_line(entry) if entry.is_directory else self.file_line(entry))
+            folders += [path] * entry.is_directory
+            taken.add(path)
             self.known.entries.append(entry)
         return lines
 
+    def mode(self) -> str:
+        if self.is_free:
+            return "777" if self.chooser.chance(0.9) else "555"
+        return self.chooser.choice(OPEN_MODES if self.is_open and self.chooser.chance(0.7) else MODES)
+
     def directory_line(self, entry: Entry) -> str:
-        """The line of a directory, which may be hidden unless it is a root."""
+        """The line of a directory, which may be hidden."""
         chooser = self.chooser
-        mode = chooser.choice(OPEN_MODES if self.is_open and chooser.chance(0.7) else DIRECTORY_MODES)
-        people = f"{self.owner()} {self.group()}"
-        if entry.path == "/" and self.profile.is_guarded and chooser.chance(0.85):
-            mode = chooser.choice(["755", "755", "775", "711"])
-            people = "sys sys"
-        elif entry.path != "/" and self.hides and chooser.chance(0.22):
+        is_root = entry.path == "/"
+        words = f"{self.mode()} {self.owner()} {self.group()}"
+        if self.hides and chooser.chance(0.05 if is_root else 0.22):
             self.known.hidden.append(entry)
             if chooser.chance(0.85):
-                mode = chooser.choice(["000", "000", "000", "700", "770", "777"])
-                people = "sys sys"
-        return f"dir {self.written(entry.path)} {mode} {people}"
+                words = f"{chooser.choice(['000', '000', '000', '700', '770', '777'])} sys sys"
+        elif is_root and self.is_guarded and chooser.chance(0.85):
+            words = f"{chooser.choice(['755', '755', '775', '711'])} sys sys"
+        return f"dir {self.written(entry.path)} {words}"
 
     def file_line(self, entry: Entry) -> str:
-        """The line of a file."""
+        """The line of a file: no bytes, any bytes, or lines of a namespace file, which may include itself."""
         chooser = self.chooser
-        kind = chooser.weighted(FILE_KINDS)
-        mode = chooser.choice(["666", "644", "777"] if self.is_open and chooser.chance(0.6) else FILE_MODES)
-        people = f"{self.owner()} {self.group()}"
-        return f"file {self.written(entry.path)} {kind}{mode} {people} {self.data(entry.path)}"
-
-    def data(self, path: str) -> str:
-        """The bytes of a file: none, lines of a namespace file, or any."""
-        chooser = self.chooser
-        share = chooser.random()
-        if share < 0.25:
-            return "-"
-        if share < (0.8 if self.profile is Profile.NAMESPACE else 0.45):
-            maker = NamespaceLines(chooser, self.known)
-            lines = [maker.line() for _ in range(chooser.randint(1, 4))]
-            text = f". {path}" if chooser.chance(0.2) else "\n".join(lines)
-            return ("ff" if chooser.chance(0.06) else "") + text.encode().hex() or "-"
-        digits = chooser.randbytes(chooser.choice([1, 2, 3, 5, 20, 20, 600])).hex()
-        return digits.upper() if chooser.chance(0.2) else digits
+        maker = NamespaceLines(chooser, self.known)
+        lines = [maker.line() for _ in range(chooser.randint(1, 4))]
+        if chooser.chance(0.3):
+            lines.append(f". #{entry.server}{entry.path}")
+        odd = chooser.randbytes(chooser.choice([1, 2, 3, 5, 20, 600]))
+        data = chooser.weighted({b"": 25, odd: 40, "\n".join(lines).encode(): 40, b"\xff\n": 2})
+        digits = data.hex().upper() if chooser.chance(0.1) else data.hex()
+        words = f"{chooser.weighted(FILE_KINDS)}{self.mode()} {self.owner()} {self.group()} {digits or '-'}"
+        return f"file {self.written(entry.path)} {words}"
 
     def written(self, path: str) -> str:
         """A path, perhaps in a longer form."""
-        if self.chooser.chance(0.92):
-            return path
-        return self.chooser.choice([f"/{path}", f"{path}/", f"/.{path}", f"/../{path}", f"{path}/zz/.."])
+        forms = [f"/{path}", f"{path}/", f"/.{path}", f"/../{path}", f"{path}/zz/.."]
+        return self.chooser.choice(forms) if self.chooser.chance(0.08) else path
 
     def damage(self, lines: list[str]) -> None:
         """Puts lines between others each of whose words is right or wrong by itself."""
         chooser = self.chooser
-        for _ in range(chooser.weighted({1: 50, 2: 25, 5: 25})):
+        for _ in range(chooser.choice([1, 1, 2, 5])):
             word = chooser.choice([*LINES, "dir", "file"])
             words = [word, *(self.odd_word(kind) for kind in LINES[word])]
             if chooser.chance(0.12):
@@ -176,7 +151,7 @@ class WorldMaker:
         """A word of a kind, which is right more often than not."""
         chooser = self.chooser
         known = self.known
-        path = chooser.choice(known.paths())
+        path = chooser.choice(self.paths())
         usual = {
             "server": [*known.servers, *known.servers, "new"],
             "path": ["/k", f"{path}/k", f"{path}/k", path],
