@@ -28,7 +28,7 @@ BAD_EVENTS = (
     "msg 4294967296 0 00;close 1;close 1 x;close 4294967296 0;close 1 0 0;Open 1;msg 1 0 00 00;open -1;"
     "open 000000000000000000000000000000009;msg 1 0 0000000;msg 1 00 ff;msg 1 0 AB;open 1\r;open ९"
 ).split(";")
-BAD_SECTIONS = "%%;%% foo;%%world;%%  world;%% ns ; %% ns;%% script\r;%%%;%% World;%% world;%% cert".split(";")
+BAD_SECTIONS = "%%;%% foo;%%world;%%  world;%% ns ; %% ns;%% ns\r;%%%;%% World;%% world;%% cert".split(";")
 FIRST_LINES = ["", "# x", "x", "  ", "\t", "\r", " %% world"]
 BAD_BYTES = [b"\xff", b"\xc0\x80", b"\xed\xa0\x80", b"\xe2\x28\xa1", b"\xf4\x90\x80\x80"]
 
@@ -40,16 +40,9 @@ class Profile(Enum):
     GUARD = auto()
     NAMESPACE = auto()
     TEXT = auto()
-    CERTIFICATE = auto()
 
 
-PROFILES = {
-    Profile.PLAY: 50,
-    Profile.GUARD: 16,
-    Profile.NAMESPACE: 14,
-    Profile.TEXT: 14,
-    Profile.CERTIFICATE: 12,
-}
+PROFILES = {Profile.PLAY: 50, Profile.GUARD: 28, Profile.NAMESPACE: 12, Profile.TEXT: 20}
 
 
 @dataclass(frozen=True)
@@ -67,7 +60,7 @@ class BundleMaker:
         self.chooser = chooser
         self.profile = profile
         self.known = Known()
-        self.is_guarded = profile in (Profile.GUARD, Profile.CERTIFICATE)
+        self.is_guarded = profile is Profile.GUARD
         self.is_faulty = profile is Profile.TEXT
 
     def make(self) -> bytes:
@@ -106,7 +99,7 @@ class BundleMaker:
         more = ["%% ns", *lines] if lines or chooser.chance(0.3) else []
         if chooser.chance(0.97 if self.is_guarded else 0.1):
             more += ["%% cert", *self.certificate(world, namespace.table)]
-        if self.profile in (Profile.PLAY, Profile.GUARD) or chooser.chance(0.4):
+        if self.profile is Profile.PLAY or chooser.chance(0.5):
             more += ["%% script", *self.script(world, namespace.table)]
         return more
 

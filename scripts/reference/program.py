@@ -6,6 +6,7 @@ import re
 from collections import Counter
 from collections.abc import Callable
 from dataclasses import dataclass, field
+from typing import TypeVar
 
 from reference.certificate import first_gap, judge, read_certificate
 from reference.exporter import Exporter
@@ -27,6 +28,7 @@ file /a/f 644 glenda glenda 6869
 user glenda
 """
 
+Value = TypeVar("Value")
 Event = Callable[[Exporter], str | None]
 
 
@@ -64,9 +66,12 @@ def sections_of(text: str) -> dict[str, list[str]]:
 
 def numbers_of(words: list[str]) -> list[int]:
     """The numbers that words write."""
-    numbers = [number_of(word, NUMBER_MAX) for word in words]
-    if None in numbers:
-        raise BadLine(LineFault.BAD_LINE)
+    numbers = []
+    for word in words:
+        number = number_of(word, NUMBER_MAX)
+        if number is None:
+            raise BadLine(LineFault.BAD_LINE)
+        numbers.append(number)
     return numbers
 
 
@@ -165,7 +170,7 @@ class Run:
             raise Stopped("input: not UTF-8") from error
         return self.part("bundle", lambda: sections_of(text))
 
-    def part(self, section: str, read: Callable):
+    def part(self, section: str, read: Callable[[], Value]) -> Value:
         """What is read from a section. A line that is not in order ends the run."""
         try:
             return read()

@@ -162,11 +162,12 @@ class Messages:
     # Requests
 
     def begin(self, key: int) -> None:
-        """Opens a session with a version and an attach."""
+        """Opens a session with a version and one attach or more."""
         if key not in self.exporter.sessions:
             self.open_session(key)
         self.version(key, self.chooser.choice([8192, 8192, 512, 560, 600, 1024, 65536]))
-        self.attach(key, self.chooser.randrange(3))
+        for fid in range(self.chooser.choice([1, 2, 3])):
+            self.attach(key, fid)
 
     def version(self, key: int, msize: int | None = None) -> None:
         chooser = self.chooser
@@ -252,7 +253,7 @@ class Messages:
         node = self.node_of(key, number)
         size = len(node.data) if node else 10
         offsets = [0, 0, 1, max(0, size - 1), size, size, size + 1, size + 5, chooser.randrange(600)]
-        far = [FILE_MAX, FILE_MAX, FILE_MAX + 1, LONG_MAX, 1 << 63]
+        far = [FILE_MAX, FILE_MAX - 1, FILE_MAX - 2, LONG_MAX, 1 << 63]
         offset = chooser.choice(far if chooser.chance(0.04) else offsets)
         count = chooser.choice([0, 1, 2, 3, 10, 50])
         msize = self.session(key).msize or 8192
@@ -287,14 +288,15 @@ class Messages:
         match name:
             case "mode":
                 rights = chooser.choice([0o777, 0o755, 0o700, 0o644, 0o666, 0, chooser.randrange(512)])
-                kinds = [APPEND_ONLY, APPEND_ONLY, EXCLUSIVE, EXCLUSIVE, TEMPORARY, DIRECTORY, 1 << 28, 1 << 9]
+                kinds = [APPEND_ONLY, EXCLUSIVE, APPEND_ONLY, EXCLUSIVE, TEMPORARY, DIRECTORY, 1 << 28]
                 kind = chooser.choice(kinds) if chooser.chance(0.35) else 0
                 return (present & ~RIGHTS | rights) ^ kind
             case "mtime":
                 return chooser.choice([0, 5, 1234567, 0xFFFFFFFE, self.clock, present])
             case "length":
                 usual = [0, 0, present + 1, present + 1, max(0, present - 1), present, present + 20, 1]
-                return chooser.choice([*usual, chooser.choice([FILE_MAX + 1, LONG_MAX - 1, 1 << 63])])
+                far = [FILE_MAX, FILE_MAX + 1, LONG_MAX - 1, 1 << 63]
+                return chooser.choice([*usual, chooser.choice(far)])
             case "name":
                 usual = ["ren0", "ren1", "ren2", "ren3", *NAMES, present]
                 return chooser.choice(ODD_NAMES if chooser.chance(0.12) else usual)

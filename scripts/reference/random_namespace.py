@@ -87,7 +87,7 @@ class NamespaceMaker(NamespaceLines):
             for _ in range(chooser.choice([2, 3]) if chooser.chance(0.08) else 0):
                 self.add(f"bind {chooser.choice(['-a ', '-b ', '-ac ', '-bc '])}{self.path()} {place}")
         names = list(self.namespace.world.servers[0].root.children)
-        if names and chooser.chance(0.04):
+        if names and chooser.chance(0.07):
             self.add(f"bind {chooser.choice(['', '-a ', '-b '])}/ /{chooser.choice(names)}")
         if chooser.chance(0.3 if is_faulty else 0.01):
             chooser.put_in(self.lines, self.odd_line())

@@ -3,14 +3,12 @@
 from __future__ import annotations
 
 from collections.abc import Callable
-from dataclasses import replace
 
 from reference import wire
 from reference.exporter import FIDS_MAX, REMOVE_ON_CLOSE, Fid
-from reference.faults import Refused
-from reference.namespace import TRAIL_MAX, step
+from reference.namespace import TRAIL_MAX
 from reference.random_messages import Messages
-from reference.world import FILE_MAX, ROOT, Node, NodeId, Right
+from reference.world import ROOT, Node, NodeId, Right
 
 Use = Callable[[int, int], None]
 
@@ -20,7 +18,7 @@ SHARES = {
     "visit": 30,
     "begin_again": 7,
     "remove_member": 8,
-    "open_removing": 6,
+    "open_removing": 10,
     "list_amid_changes": 6,
 }
 
@@ -33,9 +31,11 @@ class ScriptMaker(Messages):
     def make(self) -> list[str]:
         """The lines of a script."""
         chooser = self.chooser
-        for limit, share in ((self.largest_file, 0.03), (self.longest_trails, 0.25), (self.all_fids, 0.03)):
-            if chooser.chance(share):
-                limit(8)
+        members = [member.node for row in self.table.rows.values() for member in row]
+        if ROOT in members and chooser.chance(0.5):
+            self.longest_trails(8)
+        elif chooser.chance(0.03):
+            self.all_fids(8)
         for key in self.keys:
             if chooser.chance(0.95):
                 self.begin(key)
@@ -114,32 +114,34 @@ class ScriptMaker(Messages):
     def begin_again(self, key: int) -> None:
         """Attaches, or now and then does what is seldom done."""
         chooser = self.chooser
-        seldom = [wire.Flush(chooser.randrange(65536)), wire.Auth(9, "glenda", "")]
-        match chooser.weighted({"attach": 60, "version": 20, "seldom": 12, "open": 3, "close": 10}):
-            case "attach":
-                self.attach(key, self.fresh(key) if chooser.chance(0.85) else self.pick(key))
-            case "version":
-                self.version(key)
-            case "seldom":
-                self.send(key, chooser.choice(seldom))
-            case "open":
-                self.open_session(key)
-            case "close":
-                self.close_session(key)
+        if chooser.chance(0.6):
+            self.attach(key, self.fresh(key) if chooser.chance(0.85) else self.pick(key))
+        else:
+            seldom = [self.version, self.version, self.flush, self.authenticate, self.close_session]
+            chooser.choice([*seldom, self.open_session])(key)
 
-    def files(self) -> list[NodeId]:
-        """All files that are no directories."""
-        return [it for it in self.all_nodes() if not self.world.is_directory(it)]
+    def flush(self, key: int) -> None:
+        self.send(key, wire.Flush(self.chooser.randrange(65536)))
+
+    def authenticate(self, key: int) -> None:
+        self.send(key, wire.Auth(9, "glenda", ""))
 
     def open_removing(self, key: int) -> None:
-        """Opens a file that is removed when its fid ends, and now and then ends that."""
+        """Opens files of a directory that are removed when their fids end, and mostly ends these."""
         chooser = self.chooser
-        files = self.files()
-        number = self.reach_node(key, chooser.choice(files)) if files else None
-        if number is not None:
-            self.send(key, wire.Open(number, REMOVE_ON_CLOSE | chooser.choice([0, 0, 1, 2, 3])))
-            if chooser.chance(0.3):
-                chooser.choice([self.clunk, self.remove])(key, number)
+        parent = chooser.choice([it for it in self.all_nodes() if self.world.is_directory(it)])
+        files = [it for it in self.world.children_of(parent) if not self.world.is_directory(it)]
+        number = None
+        for _ in range(3 if files else 0):
+            number = self.reach_node(key, chooser.choice(files))
+            if number is not None:
+                self.send(key, wire.Open(number, REMOVE_ON_CLOSE | chooser.choice([0, 0, 1, 2, 3])))
+        if number is not None and chooser.chance(0.3):
+            chooser.choice([self.clunk, self.remove])(key, number)
+        elif chooser.chance(0.6):
+            self.version(key, 8192)
+            self.begin(key)
+            self.stat(key, self.reach_node(key, parent) or 0)
 
     def remove_node(self, key: int, node_id: NodeId) -> None:
         """Removes a node, and before it what is in it."""
@@ -200,35 +202,18 @@ class ScriptMaker(Messages):
         self.version(key, 1_048_576)
         self.attach(key, 0, name="")
 
-    def largest_file(self, key: int) -> None:
-        """Writes, wstats and reads at the greatest length of a file."""
-        chooser = self.chooser
-        self.enter(key)
-        files = self.files()
-        number = self.reach_node(key, chooser.choice(files)) if files else None
-        if number is None:
-            return
-        self.send(key, wire.Open(number, 2))
-        for _ in range(4):
-            place = FILE_MAX - chooser.choice([0, 1, 2])
-            length = FILE_MAX + chooser.choice([-1, 0, 1])
-            requests = [
-                wire.Write(number, place, b"ab"[: chooser.choice([0, 1, 1, 2, 2])]),
-                wire.ChangeStat(number, replace(wire.UNTOUCHED, length=length)),
-                wire.Read(number, place, 10),
-                wire.StatOf(number),
-            ]
-            self.send(key, chooser.choice(requests))
-
     def longest_trails(self, key: int) -> None:
         """Walks as far as a trail may go, where a name leads back to the root's own names."""
         chooser = self.chooser
-        cycle = next((name for name in self.names_at(ROOT) if self.leads_back(name)), None)
-        if cycle is None:
-            return
         self.enter(key)
-        for start in range(3):
-            self.send(key, wire.Walk(start, start + 1, [cycle] * 16))
+        for cycle in self.names_at(ROOT):
+            self.send(key, wire.Walk(0, 1, [cycle] * 16))
+            if 1 in self.session(key).fids:
+                break
+        else:
+            return
+        self.send(key, wire.Walk(1, 2, [cycle] * 16))
+        self.send(key, wire.Walk(2, 3, [cycle] * 16))
         self.send(key, wire.Walk(3, 4, [cycle] * chooser.choice([14, 15, 15, 15, 16])))
         self.send(key, wire.Walk(4, 5, [chooser.choice([cycle, cycle, "none", ".."])]))
         self.send(key, wire.Walk(4, 6, [chooser.choice([cycle, "none", ".."]), cycle, cycle]))
@@ -236,16 +221,6 @@ class ScriptMaker(Messages):
             self.create(key, chooser.choice([4, 5, 6]))
         self.attach(key, 9, name=f"/{cycle}" * (TRAIL_MAX + chooser.choice([-2, -1, 0, 1, 6])))
         self.send(key, wire.Walk(9, 10, ["..", cycle, "..", ".."]))
-
-    def leads_back(self, name: str) -> bool:
-        """Whether a name can be walked from the root again and again."""
-        trail = (ROOT,)
-        try:
-            for _ in range(4):
-                trail = step(self.world, self.table, trail, name, None)
-        except Refused:
-            return False
-        return True
 
     def all_fids(self, key: int) -> None:
         """As many fids as there may be, or nearly, and a few more."""

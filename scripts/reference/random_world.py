@@ -63,7 +63,7 @@ class WorldMaker:
         lines += more
         if chooser.chance(0.15):
             chooser.put_in(lines, chooser.choice(["# c", "", "  \t", "\t# x"]))
-        if chooser.chance(0.55 if is_faulty else 0.01):
+        if chooser.chance(0.6 if is_faulty else 0.01):
             self.damage(lines)
         return lines if not is_faulty or chooser.chance(0.98) else more
 
