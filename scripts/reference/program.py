@@ -135,7 +135,7 @@ class Run:
             self.errors.append(stopped.line)
             status = stopped.status
         for line in self.errors:
-            self.met[re.sub("[0-9]+", "N", line)] += 1
+            self.met[re.sub(r"(?<!-)\b[0-9]+", "N", line)] += 1
         return Outcome(written(self.output), written(self.errors), status, self.met)
 
     def status(self, command: str, data: bytes) -> int:

@@ -90,7 +90,12 @@ class ScriptMaker(Messages):
     def use(self, key: int) -> None:
         """Does something with a fid that is mostly meant for it."""
         use, wanted = self.chooser.weighted(self.uses())
-        use(key, self.pick(key, wanted))
+        number = self.pick(key, wanted)
+        fid = self.session(key).fids.get(number)
+        if fid is None or wanted(fid) or self.chooser.chance(0.1):
+            use(key, number)
+        else:
+            self.visit(key)
 
     def use_anyhow(self, key: int, number: int) -> None:
         """Does a few things with a fid that it is mostly in order to do."""

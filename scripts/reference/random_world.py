@@ -50,7 +50,7 @@ class WorldMaker:
         chooser = self.chooser
         known = self.known
         users = USERS[:-1] if self.is_guarded and chooser.chance(0.85) else USERS
-        known.users = chooser.sample(users, chooser.choice([0, 1, 1, 2, 2, 2, 3, 3]))
+        known.users = chooser.sample(users, chooser.weighted({0: 2, 1: 25, 2: 40, 3: 33}))
         known.groups = chooser.sample(GROUPS, chooser.randint(0, 3))
         known.servers = chooser.sample(["main", "fs", "aux", "m", "os", "é"], chooser.choice([1, 1, 2, 2, 3]))
         known.variables = chooser.sample(VARIABLES, chooser.randint(0, 4))
