@@ -253,12 +253,12 @@ class Messages:
         node = self.node_of(key, number)
         size = len(node.data) if node else 10
         offsets = [0, 0, 1, max(0, size - 1), size, size, size + 1, size + 5, chooser.randrange(600)]
-        far = [FILE_MAX, FILE_MAX - 1, FILE_MAX - 2, LONG_MAX, 1 << 63]
-        offset = chooser.choice(far if chooser.chance(0.04) else offsets)
         count = chooser.choice([0, 1, 2, 3, 10, 50])
         msize = self.session(key).msize or 8192
         if chooser.chance(0.04) and msize < 9000:
             count = msize - OVERHEAD + chooser.choice([0, 1, 1, 2])
+        far = [FILE_MAX - count, FILE_MAX - count, FILE_MAX - count + 1, LONG_MAX, 1 << 63]
+        offset = chooser.choice(far if chooser.chance(0.15) else offsets)
         self.send(key, wire.Write(number, offset, chooser.randbytes(count)))
 
     def change(self, key: int, number: int, **touched: int | str) -> None:
