@@ -11,7 +11,7 @@ DIGITS_MAX = 30
 
 
 def lines_of(text: str) -> list[str]:
-    """The lines of a text. Each ends at a newline or at the end of the text."""
+    """A text cut at its newlines, without what is behind the last one where that is nothing."""
     lines = text.split("\n")
     if lines[-1] == "":
         lines.pop()
