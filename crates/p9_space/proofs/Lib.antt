@@ -1,3 +1,4 @@
+mod Arrivals
 mod Rows
 pub mod Tables
 pub mod Names

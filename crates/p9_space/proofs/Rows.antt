@@ -1,9 +1,9 @@
 -- Rows of a mount table by their positions.
 use Rattle.std.proofs.Common.{◌≡◌, ℕ, ◌-◌, Bool, true, false, cond, List, Option, Some, None}
-use Rattle.std.proofs.Common.{sym, ap, ◌∙◌, arith, length, map, take}
+use Rattle.std.proofs.Common.{sym, ap, ◌∙◌, arith, get_or, length, map, take}
 use Rattle.std.specs.Prelude.{nat_lt, slice_get}
 use Rattle.std.specs.Option.{option_map}
-use Rattle.std.proofs.lemmas.Option.{slice_get-map}
+use Rattle.std.proofs.lemmas.Option.{get_or_from_slice_get, slice_get-map}
 use Rattle.std.proofs.lemmas.List.{length-take-le, take-map, take_all}
 use Rattle.indexmap.proofs.MapLemmas.{Found-position, Missing-position}
 use Rattle.p9_base.specs.declared.node_ref.NodeRef.{NodeRef}
@@ -38,3 +38,14 @@ rows-upward table trail rows fits =
     front true =
         ap (λ n. take n trail) (length-take-le (length trail - 1) trail (omega arith))
     front false = take_all (length trail) trail (omega arith)
+
+-- the row that channels keep of a place is the place's
+pub row-at : (table : List MountRow) (trail : List NodeRef) (rows : List (Option ℕ)) (i : ℕ)
+    (place : NodeRef) (row : Option ℕ) → rows ≡ rows_of table trail → slice_get trail i ≡ Some place
+    → row ≡ get_or rows i row → row ≡ row_position place table
+row-at table trail rows i place row fits at read =
+    read
+    ∙ get_or_from_slice_get rows i (row_position place table) row
+    (ap (λ rows. slice_get rows i) fits
+    ∙ slice_get-map (λ key. row_position key table) trail i
+    ∙ ap (option_map (λ key. row_position key table)) at)

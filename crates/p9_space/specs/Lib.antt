@@ -5,5 +5,6 @@ pub mod Place
 pub mod Rights
 pub mod Walk
 pub mod Channel
+pub mod Found
 pub mod Given
 pub use Rattle.p9_clean.specs.Path

@@ -16,7 +16,7 @@ use crate::rights::Who;
 use crate::row::Members;
 use crate::table::MountTable;
 use crate::trail::{PLACES_MAX, Step, Trail};
-use crate::walk::{Arrival, arrival_among};
+use crate::walk::{Arrival, arrive_down, arrive_up};
 use p9_base::{Fault, NoMemory, NodeRef};
 use p9_tree::{Forest, Tree};
 use std::alloc::Allocator;
@@ -90,10 +90,8 @@ impl<A: Allocator + Copy> Channels<A> {
         requires { Fits table.now self.now }
         ensures { result ≡ file_ref (here (trail_of self.now)) table.now }
     {
-        match self.members(table).get(0) {
-            Some(member) => member.node,
-            None => self.trail.here(),
-        }
+        let row = self.rows[self.trail.len() - 1];
+        table.file_at(row, self.trail.here())
     }
 
     /// Goes on to a place. Where an allocation fails the channels are unchanged.
@@ -107,9 +105,20 @@ impl<A: Allocator + Copy> Channels<A> {
         ensures fits { OnOk result (Fits table.now self.old → Fits table.now self.new) }
         ensures err { OnErr result (self.new ≡ self.old) }
     {
+        self.push_with_row(place, table.position(place))
+    }
+
+    // The same, where the place has this row in the table.
+    fn push_with_row(&mut self, place: NodeRef, row: Option<usize>) -> Result<(), NoMemory>
+        requires { length (trail_of self.old) < PLACES_MAX }
+        ensures ok { OnOk result (trail_of self.new ≡ trail_of self.old ++ place ∷ []) }
+        ensures fits { OnOk result ((table : List MountRow) → row ≡ row_position place table →
+            Fits table self.old → Fits table self.new) }
+        ensures err { OnErr result (self.new ≡ self.old) }
+    {
         self.rows.reserve(1)?;
         self.trail.push(place)?;
-        self.rows.push(table.position(place))?;
+        self.rows.push(row)?;
         Ok(())
     }
 
@@ -142,9 +151,29 @@ impl<A: Allocator + Copy> Channels<A> {
             Step::To(place) => self.push(table, place),
         }
     }
+
+    /// The same, without a look-up, where the place after the step has this row in the table. Where
+    /// an allocation fails the channels are unchanged.
+    pub fn take_with_row(&mut self, step: Step, row: Option<usize>) -> Result<(), NoMemory>
+        requires { length (stepped (trail_of self.old) step) ≤ PLACES_MAX }
+        ensures ok { OnOk result (trail_of self.new ≡ stepped (trail_of self.old) step) }
+        ensures fits { OnOk result ((table : List MountRow) →
+            row ≡ row_position (here (stepped (trail_of self.old) step)) table →
+            Fits table self.old → Fits table self.new) }
+        ensures err { OnErr result (self.new ≡ self.old) }
+    {
+        match step {
+            Step::Up => {
+                self.step_up();
+                Ok(())
+            }
+            Step::To(place) => self.push_with_row(place, row),
+        }
+    }
 }
 
-/// One step from the last place, as [`crate::find_arrival`]. The channels are unchanged.
+/// One step from the last place, as [`crate::find_arrival`]. The channels are unchanged. For `..` no
+/// row is looked up.
 pub fn find_arrival_from<'a, T: Tree, A: Allocator + Copy, B: Allocator + Copy>(
     forest: &'a Forest<T>,
     table: &MountTable<A>,
@@ -157,20 +186,22 @@ pub fn find_arrival_from<'a, T: Tree, A: Allocator + Copy, B: Allocator + Copy>(
         (option_map who_view who.entry) (trail_of channels.now) name.now ≡ Ok arrival.step) }
     ensures err { IfErr result (λ fault. step_of forest.now table.now
         (option_map who_view who.entry) (trail_of channels.now) name.now ≡ Err fault) }
+    ensures row { IfOk result (λ arrival. arrival.row
+        ≡ row_position (here (stepped (trail_of channels.now) arrival.step)) table.now) }
     ensures at { IfOk result (λ arrival. arrival.at
         ≡ file_ref (here (stepped (trail_of channels.now) arrival.step)) table.now) }
     ensures file { IfOk result (λ arrival. node_of arrival.at forest.now ≡ Some arrival.file.now) }
     ensures room { IfOk result (λ arrival. length (stepped (trail_of channels.now) arrival.step)
         ≤ PLACES_MAX) }
 {
-    arrival_among(
-        forest,
-        table,
-        channels.trail(),
-        channels.members(table).as_slice(),
-        name,
-        who,
-    )
+    let trail = channels.trail();
+    let members = channels.members(table);
+    if name == ".." {
+        let row = channels.rows[trail.position_above()];
+        arrive_up(forest, table, trail, members.as_slice(), row)
+    } else {
+        arrive_down(forest, table, trail, members.as_slice(), name, who)
+    }
 }
 
 /// Walks on from the last place along names, as [`crate::resolve`]. Where a step is refused or an
@@ -215,7 +246,7 @@ fn walked_along<T: Tree, A: Allocator + Copy, B: Allocator + Copy>(
     let mut walked = start.copy()?;
     for name in names {
         let arrival = find_arrival_from(forest, table, &walked, name, who)?;
-        walked.take(table, arrival.step)?;
+        walked.take_with_row(arrival.step, arrival.row)?;
     }
     Ok(walked)
 }

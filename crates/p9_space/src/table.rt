@@ -232,7 +232,15 @@ impl<A: Allocator + Copy> MountTable<A> {
     pub fn file(&self, place: NodeRef) -> NodeRef
         ensures { result ≡ file_ref place self.now }
     {
-        match self.members(place).get(0) {
+        self.file_at(self.position(place), place)
+    }
+
+    /// The same, without a look-up of the place, by the position of its row, if it has one.
+    pub(crate) fn file_at(&self, row: Option<usize>, place: NodeRef) -> NodeRef
+        requires { row ≡ row_position place self.now }
+        ensures { result ≡ file_ref place self.now }
+    {
+        match self.members_at(row, place).get(0) {
             Some(member) => member.node,
             None => place,
         }

@@ -1,7 +1,7 @@
 //! Trails: how a fid or a current directory was reached.
 
 ghost use Rattle.std.specs.Prelude.{◌≡◌, ◌++◌, ◌∷◌, ◌<◌, ◌≤◌, [], length, slice_get, IfOk, OnOk};
-ghost use Rattle.std.specs.Prelude.{OnErr};
+ghost use Rattle.std.specs.Prelude.{OnErr, Some};
 ghost use Rattle.p9_space.specs.Trail.{IsTrail, here, stepped, upward};
 
 use p9_base::{NoMemory, NodeRef};
@@ -111,15 +111,19 @@ impl<A: Allocator + Copy> Trail<A> {
         self.places[self.places.len() - 1]
     }
 
-    // The place before the last, or the last where there is no other.
-    fn above(&self) -> NodeRef
+    /// The position of the place before the last, or of the last where there is no other.
+    pub(crate) fn position_above(&self) -> usize
+        ensures within { result < length self.now }
+        ensures above { slice_get self.now result ≡ Some (here (upward self.now)) }
+    {
+        self.len().saturating_sub(2)
+    }
+
+    /// That place.
+    pub(crate) fn above(&self) -> NodeRef
         ensures { result ≡ here (upward self.now) }
     {
-        if self.places.len() > 1 {
-            self.places[self.places.len() - 2]
-        } else {
-            self.places[0]
-        }
+        self.places[self.position_above()]
     }
 
     /// Goes back by one place, as `..` does; at the place of attachment it stays. This takes no
@@ -144,16 +148,6 @@ impl<A: Allocator + Copy> Trail<A> {
                 Ok(())
             }
             Step::To(place) => self.push(place),
-        }
-    }
-
-    /// The last place after a step.
-    pub(crate) fn place_after(&self, step: Step) -> NodeRef
-        ensures { result ≡ here (stepped self.now step) }
-    {
-        match step {
-            Step::To(place) => place,
-            Step::Up => self.above(),
         }
     }
 }

@@ -1,18 +1,21 @@
 //! Walks along names, as walk(5).
 
-ghost use Rattle.std.specs.Prelude.{◌≡◌, ◌≤◌, ◌⊎◌, Ok, Err, OnOk, OnErr, IfOk, IfErr, map, length};
-ghost use Rattle.std.specs.Prelude.{codes, false, Some};
+ghost use Rattle.std.specs.Prelude.{◌≡◌, ◌<◌, ◌≤◌, ◌⊎◌, Ok, Err, Option, OnOk, OnErr, IfOk, IfErr};
+ghost use Rattle.std.specs.Prelude.{IfSome, codes, false, length, map, None, Some};
 ghost use Rattle.std.specs.Option.{option_and_then, option_copied, option_map};
 ghost use Rattle.std.specs.List.{list_any};
 ghost use Rattle.std.specs.Str.{bytes_eq};
-ghost use Rattle.p9_base.specs.declared.fault.Fault.TheVariants.{OutOfMemory};
-ghost use Rattle.p9_space.specs.Rights.{who_view};
-ghost use Rattle.p9_space.specs.Trail.{here, stepped};
+ghost use Rattle.p9_base.specs.declared.fault.Fault.TheVariants.{OutOfMemory, PhaseError};
+ghost use Rattle.p9_space.specs.Channel.{row_position};
+ghost use Rattle.p9_space.specs.Found.{IsThere, place_of};
+ghost use Rattle.p9_space.specs.Place.{file_of, file_ref};
+ghost use Rattle.p9_space.specs.Rights.{Who as WhoOf, who_view};
+ghost use Rattle.p9_space.specs.Table.{members_of};
+ghost use Rattle.p9_space.specs.Trail.{here, stepped, upward};
 ghost use Rattle.p9_space.specs.Walk.{child_among, child_ref, dir_fault, is_alive, is_alive_dir};
 ghost use Rattle.p9_space.specs.Walk.{is_searched, may_search, named_among, named_child};
 ghost use Rattle.p9_space.specs.Walk.{step_among, step_of, walk};
-ghost use Rattle.p9_space.specs.Place.{file_ref};
-ghost use Rattle.p9_space.specs.Table.{members_of};
+ghost use Rattle.p9_space.specs.declared.trail.Step.TheVariants.{To};
 ghost use Rattle.p9_tree.specs.Forest.{node_of};
 
 use crate::rights::{TO_EXECUTE, Who, may};
@@ -33,9 +36,16 @@ fn may_search<A: Allocator, B: Allocator + Copy>(who: Option<Who<'_, B>>, node: 
     }
 }
 
+// A child that a walk finds.
+#[derive(Clone, Copy)]
+struct Child<'a, A: Allocator> {
+    place: NodeRef,
+    node: &'a Node<A>,
+}
+
 // What a walk by a name finds in one member of a place, or in all of them.
 #[derive(Clone, Copy)]
-struct Found {
+struct Found<'a, A: Allocator> {
     // One exists.
     alive: bool,
     // One that exists is a directory.
@@ -43,22 +53,23 @@ struct Found {
     // The user may search one of these directories.
     searched: bool,
     // The child of the name in the first of those that has one.
-    child: Option<NodeRef>,
+    child: Option<Child<'a, A>>,
 }
 
 // What a walk finds in a member. Without a name there is no child.
-fn find_in<T: Tree, A: Allocator + Copy>(
-    forest: &Forest<T>,
+fn find_in<'a, T: Tree, A: Allocator + Copy>(
+    forest: &'a Forest<T>,
     member: &Member,
     name: Option<&Name>,
     who: Option<Who<'_, A>>,
-) -> Found
+) -> Found<'a, T::Alloc>
     ensures alive { result.alive ≡ is_alive forest.now member.now }
     ensures dir { result.dir ≡ is_alive_dir forest.now member.now }
     ensures searched { result.searched ≡ is_searched forest.now (option_map who_view who.entry)
         member.now }
-    ensures child { result.child ≡ named_child forest.now (option_map who_view who.entry)
-        (option_copied name.entry) member.now }
+    ensures child { option_map place_of result.child ≡ named_child forest.now
+        (option_map who_view who.entry) (option_copied name.entry) member.now }
+    ensures node { IfSome result.child (IsThere forest.now) }
 {
     let Some(node) = forest.node(member.node) else {
         return Found {
@@ -75,35 +86,45 @@ fn find_in<T: Tree, A: Allocator + Copy>(
         dir,
         searched,
         child: if searched {
-            child_ref(forest, member.node, name)
+            child_in(forest, member.node, name)
         } else {
             None
         },
     }
 }
 
-// The node of the name in the directory, as a place. Without a name there is none.
-fn child_ref<T: Tree>(forest: &Forest<T>, dir: NodeRef, name: Option<&Name>) -> Option<NodeRef>
-    ensures { result ≡ option_and_then (child_ref forest.now dir) (option_copied name.entry) }
+// The node of the name in the directory, and its place. Without a name there is none.
+fn child_in<'a, T: Tree>(
+    forest: &'a Forest<T>,
+    dir: NodeRef,
+    name: Option<&Name>,
+) -> Option<Child<'a, T::Alloc>>
+    ensures place { option_map place_of result
+        ≡ option_and_then (child_ref forest.now dir) (option_copied name.entry) }
+    ensures node { IfSome result (IsThere forest.now) }
 {
-    forest
-        .child(dir, name?)
-        .map(|node| dir.beside(node.number()))
+    forest.well_formed();
+    let node = forest.child(dir, name?)?;
+    Some(Child {
+        place: dir.beside(node.number()),
+        node,
+    })
 }
 
 // What a walk finds in the members, up to the first that has a child of the name.
-fn find_among<T: Tree, A: Allocator + Copy>(
-    forest: &Forest<T>,
+fn find_among<'a, T: Tree, A: Allocator + Copy>(
+    forest: &'a Forest<T>,
     members: &[Member],
     name: Option<&Name>,
     who: Option<Who<'_, A>>,
-) -> Found
+) -> Found<'a, T::Alloc>
     ensures alive { result.alive ≡ list_any (is_alive forest.now) members.now }
     ensures dir { result.dir ≡ list_any (is_alive_dir forest.now) members.now }
     ensures searched { result.searched ≡ list_any (is_searched forest.now
         (option_map who_view who.entry)) members.now }
-    ensures child { result.child ≡ named_among forest.now (option_map who_view who.entry)
-        (option_copied name.entry) members.now }
+    ensures child { option_map place_of result.child ≡ named_among forest.now
+        (option_map who_view who.entry) (option_copied name.entry) members.now }
+    ensures node { IfSome result.child (IsThere forest.now) }
 {
     let mut alive = false;
     let mut dir = false;
@@ -126,18 +147,19 @@ fn find_among<T: Tree, A: Allocator + Copy>(
 }
 
 // The same for any text: one that is no valid name belongs to no node.
-fn find_by<T: Tree, A: Allocator + Copy>(
-    forest: &Forest<T>,
+fn find_by<'a, T: Tree, A: Allocator + Copy>(
+    forest: &'a Forest<T>,
     members: &[Member],
     name: &str,
     who: Option<Who<'_, A>>,
-) -> Found
+) -> Found<'a, T::Alloc>
     ensures alive { result.alive ≡ list_any (is_alive forest.now) members.now }
     ensures dir { result.dir ≡ list_any (is_alive_dir forest.now) members.now }
     ensures searched { result.searched ≡ list_any (is_searched forest.now
         (option_map who_view who.entry)) members.now }
-    ensures child { result.child ≡ child_among forest.now (option_map who_view who.entry) name.now
-        members.now }
+    ensures child { option_map place_of result.child ≡ child_among forest.now
+        (option_map who_view who.entry) name.now members.now }
+    ensures node { IfSome result.child (IsThere forest.now) }
 {
     match Name::new(name) {
         Some(name) => find_among(forest, members, Some(&name), who),
@@ -148,19 +170,21 @@ fn find_by<T: Tree, A: Allocator + Copy>(
     }
 }
 
-// Where a name other than `..` leads from the members of the last place.
-fn step_down<T: Tree, A: Allocator + Copy>(
-    forest: &Forest<T>,
+// The child to which a name other than `..` leads from the members of the last place.
+fn find_child<'a, T: Tree, A: Allocator + Copy>(
+    forest: &'a Forest<T>,
     trail: &Trail<A>,
     members: &[Member],
     name: &str,
     who: Option<Who<'_, A>>,
-) -> Result<Step, Fault>
-    requires few { length trail.now ≤ PLACES_MAX }
-    requires other { bytes_eq name.now (codes "..") ≡ false }
-    ensures room { IfOk result (λ step. length (stepped trail.now step) ≤ PLACES_MAX) }
-    ensures step { result ≡ step_among forest.now (option_map who_view who.entry) trail.now name.now
-        members.now }
+) -> Result<Child<'a, T::Alloc>, Fault>
+    requires { bytes_eq name.now (codes "..") ≡ false }
+    ensures ok { IfOk result (λ child. step_among forest.now (option_map who_view who.entry)
+        trail.now name.now members.now ≡ Ok (To child.place)) }
+    ensures err { IfErr result (λ fault. step_among forest.now (option_map who_view who.entry)
+        trail.now name.now members.now ≡ Err fault) }
+    ensures node { IfOk result (IsThere forest.now) }
+    ensures room { OnOk result (length trail.now < PLACES_MAX) }
 {
     let found = find_by(forest, members, name, who);
     if !found.alive {
@@ -174,11 +198,11 @@ fn step_down<T: Tree, A: Allocator + Copy>(
     }
     match found.child {
         None => Err(Fault::NotFound),
-        Some(place) => {
+        Some(child) => {
             if trail.len() == PLACES_MAX {
                 Err(Fault::PathTooDeep)
             } else {
-                Ok(Step::To(place))
+                Ok(child)
             }
         }
     }
@@ -205,34 +229,14 @@ pub fn dir_fault<T: Tree>(forest: &Forest<T>, members: &[Member]) -> Option<Faul
     }
 }
 
-// Where a name leads from the members of the last place.
-fn step_among<T: Tree, A: Allocator + Copy>(
-    forest: &Forest<T>,
-    trail: &Trail<A>,
-    members: &[Member],
-    name: &str,
-    who: Option<Who<'_, A>>,
-) -> Result<Step, Fault>
-    requires { length trail.now ≤ PLACES_MAX }
-    ensures room { IfOk result (λ step. length (stepped trail.now step) ≤ PLACES_MAX) }
-    ensures step { result ≡ step_among forest.now (option_map who_view who.entry) trail.now name.now
-        members.now }
-{
-    if name != ".." {
-        return step_down(forest, trail, members, name, who);
-    }
-    match dir_fault(forest, members) {
-        Some(fault) => Err(fault),
-        None => Ok(Step::Up),
-    }
-}
-
 /// Where a step of a walk arrives.
 #[derive(Drop)]
 pub struct Arrival<'a, A: Allocator + Copy> {
     /// The step.
     pub step: Step,
-    /// The file of the place that it leads to.
+    /// The position of the row of the place that it leads to, if it has one.
+    pub row: Option<usize>,
+    /// The file of that place.
     pub at: NodeRef,
     /// The node of that file.
     pub file: &'a Node<A>,
@@ -257,23 +261,53 @@ pub fn find_arrival<'a, T: Tree, A: Allocator + Copy, B: Allocator + Copy>(
         (option_map who_view who.entry) trail.now name.now ≡ Ok arrival.step) }
     ensures err { IfErr result (λ fault. step_of forest.now table.now
         (option_map who_view who.entry) trail.now name.now ≡ Err fault) }
+    ensures row { IfOk result (λ arrival. arrival.row
+        ≡ row_position (here (stepped trail.now arrival.step)) table.now) }
     ensures at { IfOk result (λ arrival. arrival.at
         ≡ file_ref (here (stepped trail.now arrival.step)) table.now) }
     ensures file { IfOk result (λ arrival. node_of arrival.at forest.now ≡ Some arrival.file.now) }
     ensures room { IfOk result (λ arrival. length (stepped trail.now arrival.step) ≤ PLACES_MAX) }
 {
-    arrival_among(
-        forest,
-        table,
-        trail,
-        table.members(trail.here()).as_slice(),
-        name,
-        who,
-    )
+    let members = table.members(trail.here());
+    if name == ".." {
+        let row = table.position(trail.above());
+        arrive_up(forest, table, trail, members.as_slice(), row)
+    } else {
+        arrive_down(forest, table, trail, members.as_slice(), name, who)
+    }
 }
 
-/// The same from the members of the last place.
-pub(crate) fn arrival_among<'a, T: Tree, A: Allocator + Copy, B: Allocator + Copy>(
+/// Where `..` arrives from the members of the last place, by the row of the place above.
+pub(crate) fn arrive_up<'a, T: Tree, A: Allocator + Copy, B: Allocator + Copy>(
+    forest: &'a Forest<T>,
+    table: &MountTable<A>,
+    trail: &Trail<B>,
+    members: &[Member],
+    row: Option<usize>,
+) -> Result<Arrival<'a, T::Alloc>, Fault>
+    requires members { members.now ≡ members_of (here trail.now) table.now }
+    requires row { row ≡ row_position (here (upward trail.now)) table.now }
+    ensures ok { (who : Option WhoOf) → IfOk result (λ arrival.
+        step_of forest.now table.now who trail.now (codes "..") ≡ Ok arrival.step) }
+    ensures err { (who : Option WhoOf) → IfErr result (λ fault.
+        step_of forest.now table.now who trail.now (codes "..") ≡ Err fault) }
+    ensures row { IfOk result (λ arrival. arrival.row
+        ≡ row_position (here (stepped trail.now arrival.step)) table.now) }
+    ensures at { IfOk result (λ arrival. arrival.at
+        ≡ file_ref (here (stepped trail.now arrival.step)) table.now) }
+    ensures file { IfOk result (λ arrival. node_of arrival.at forest.now ≡ Some arrival.file.now) }
+    ensures room { IfOk result (λ arrival. length (stepped trail.now arrival.step) ≤ PLACES_MAX) }
+{
+    trail.len();
+    if let Some(fault) = dir_fault(forest, members) {
+        return Err(fault);
+    }
+    arrive_at(forest, table, Step::Up, trail.above(), row)
+}
+
+/// Where any other name arrives from the members of the last place. The row of the new place is
+/// looked up once. Where it has none, its file is the child that was found.
+pub(crate) fn arrive_down<'a, T: Tree, A: Allocator + Copy, B: Allocator + Copy>(
     forest: &'a Forest<T>,
     table: &MountTable<A>,
     trail: &Trail<B>,
@@ -281,21 +315,55 @@ pub(crate) fn arrival_among<'a, T: Tree, A: Allocator + Copy, B: Allocator + Cop
     name: &str,
     who: Option<Who<'_, B>>,
 ) -> Result<Arrival<'a, T::Alloc>, Fault>
-    requires { members.now ≡ members_of (here trail.now) table.now }
+    requires members { members.now ≡ members_of (here trail.now) table.now }
+    requires other { bytes_eq name.now (codes "..") ≡ false }
     ensures ok { IfOk result (λ arrival. step_of forest.now table.now
         (option_map who_view who.entry) trail.now name.now ≡ Ok arrival.step) }
     ensures err { IfErr result (λ fault. step_of forest.now table.now
         (option_map who_view who.entry) trail.now name.now ≡ Err fault) }
+    ensures row { IfOk result (λ arrival. arrival.row
+        ≡ row_position (here (stepped trail.now arrival.step)) table.now) }
     ensures at { IfOk result (λ arrival. arrival.at
         ≡ file_ref (here (stepped trail.now arrival.step)) table.now) }
     ensures file { IfOk result (λ arrival. node_of arrival.at forest.now ≡ Some arrival.file.now) }
     ensures room { IfOk result (λ arrival. length (stepped trail.now arrival.step) ≤ PLACES_MAX) }
 {
-    trail.len();
-    let step = step_among(forest, trail, members, name, who)?;
-    let at = table.file(trail.place_after(step));
+    let Child { place, node } = find_child(forest, trail, members, name, who)?;
+    match table.position(place) {
+        None => Ok(Arrival {
+            step: Step::To(place),
+            row: None,
+            at: place,
+            file: node,
+        }),
+        row => arrive_at(forest, table, Step::To(place), place, row),
+    }
+}
+
+// The arrival at a place, by its row.
+fn arrive_at<'a, T: Tree, A: Allocator + Copy>(
+    forest: &'a Forest<T>,
+    table: &MountTable<A>,
+    step: Step,
+    place: NodeRef,
+    row: Option<usize>,
+) -> Result<Arrival<'a, T::Alloc>, Fault>
+    requires { row ≡ row_position place table.now }
+    ensures step { IfOk result (λ arrival. arrival.step ≡ step) }
+    ensures row { IfOk result (λ arrival. arrival.row ≡ row) }
+    ensures at { IfOk result (λ arrival. arrival.at ≡ file_ref place table.now) }
+    ensures file { IfOk result (λ arrival. node_of arrival.at forest.now ≡ Some arrival.file.now) }
+    ensures err { IfErr result (λ fault. (fault ≡ PhaseError)
+        × (file_of place table.now forest.now ≡ None)) }
+{
+    let at = table.file_at(row, place);
     match forest.node(at) {
-        Some(file) => Ok(Arrival { step, at, file }),
+        Some(file) => Ok(Arrival {
+            step,
+            row,
+            at,
+            file,
+        }),
         None => Err(Fault::PhaseError),
     }
 }

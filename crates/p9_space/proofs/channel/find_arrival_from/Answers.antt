@@ -1,0 +1,41 @@
+use Rattle.std.proofs.Common.{◌≡◌, Ok, Err, IfOk, IfErr, sym, ap, subst, codes, ◌∙◌}
+use Rattle.std.specs.Option.{option_map}
+use Rattle.std.proofs.lemmas.Slice.Eq.{bytes_eq-Decides}
+use Rattle.p9_space.specs.Channel.{Channels, rows_of}
+use Rattle.p9_space.specs.Rights.{who_view}
+use Rattle.p9_space.specs.Trail.{here, upward}
+use Rattle.p9_space.specs.Walk.{step_of}
+use Rattle.p9_space.proofs.Rows.{row-at}
+use Rattle.p9_space.proofs.channel.find_arrival_from.Goals as goal
+
+pub arrive_up-requires-clause-row : goal.arrive_up-requires-clause-row
+arrive_up-requires-clause-row g c =
+    let trail = c.trail-trail.result.now in
+    let fits : c.channels.inside.rows.items ≡ rows_of c.args.table.now trail =
+    ap (λ (channels : Channels). channels.rows) c.channels.view_is ∙ c.requires
+    ∙ ap (rows_of c.args.table.now) (sym c.trail-trail.ensures) in
+    row-at c.args.table.now trail c.channels.inside.rows.items c.position_above.result
+    (here (upward trail)) c.index-row.result.now fits c.position_above.ensures.above
+    c.index-row.ensures
+
+pub returns-then-eq-clause-ok : goal.returns-then-eq-clause-ok
+returns-then-eq-clause-ok g c =
+    let who = option_map who_view c.args.who in
+    let up : c.args.name.now ≡ codes ".." =
+    (bytes_eq-Decides c.args.name.now (codes "..")).0 (sym c.eq.ensures ∙ c.if-eq.true) in
+    subst (λ name. IfOk c.arrive_up.result (λ arrival. step_of c.args.forest.now c.args.table.now
+    who c.args.channels.now.trail name ≡ Ok arrival.step)) (sym up)
+    (subst (λ trail. IfOk c.arrive_up.result (λ arrival. step_of c.args.forest.now
+    c.args.table.now who trail (codes "..") ≡ Ok arrival.step)) c.trail-trail.ensures
+    (c.arrive_up.ensures.ok who))
+
+pub returns-then-eq-clause-err : goal.returns-then-eq-clause-err
+returns-then-eq-clause-err g c =
+    let who = option_map who_view c.args.who in
+    let up : c.args.name.now ≡ codes ".." =
+    (bytes_eq-Decides c.args.name.now (codes "..")).0 (sym c.eq.ensures ∙ c.if-eq.true) in
+    subst (λ name. IfErr c.arrive_up.result (λ fault. step_of c.args.forest.now c.args.table.now
+    who c.args.channels.now.trail name ≡ Err fault)) (sym up)
+    (subst (λ trail. IfErr c.arrive_up.result (λ fault. step_of c.args.forest.now
+    c.args.table.now who trail (codes "..") ≡ Err fault)) c.trail-trail.ensures
+    (c.arrive_up.ensures.err who))
