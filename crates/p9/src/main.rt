@@ -29,7 +29,7 @@ fn status_of(rt: &HostRuntime) -> u8 {
     }
 }
 
-// Does what the words ask for, and answers the exit status.
+// Does what the words ask for, and returns the exit status.
 fn run(rt: &HostRuntime) -> io::Result<u8> {
     match asked(rt)? {
         Some(Asked::Command(command)) => run_over_input(rt, command),

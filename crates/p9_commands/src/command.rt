@@ -21,7 +21,7 @@ use p9_index::IndexTree;
 use p9_tree::Tree;
 use std::alloc::Allocator;
 
-/// Runs a command of the program over its input, and answers the exit status. What is printed goes
+/// Runs a command of the program over its input, and returns the exit status. What is printed goes
 /// behind what is in `out`, and what is told of faults, in lines, behind what is in `err`.
 ///
 /// The input is a bundle. Its world, or the sample world without one, is what the lines of its

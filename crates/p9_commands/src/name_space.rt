@@ -185,7 +185,7 @@ fn world_in<T: Tree>(alloc: T::Alloc, text: Option<&str>) -> Result<World<T>, St
     }
 }
 
-// Runs a namespace file over a world, and answers what failed.
+// Runs a namespace file over a world, and returns what failed.
 fn run<T: Tree>(
     alloc: T::Alloc,
     text: &str,

@@ -26,7 +26,7 @@ changes_of (Ok outcome) = outcome.changes
 changes_of (Err fault) = []
 
 -- the forest, the session and the reply are the outcome's; a refusal has the answer's fault, or is
--- a failed allocation where that may be answered, and leaves both
+-- a failed allocation where that may be answered, and then both are unchanged
 abbrev pub Answers : Answer → Bool → List Server → List Server → Session → Session
     → Result RMessage Fault → Type 0
 Answers answer may_run_out forest forest' old new (Ok reply) =

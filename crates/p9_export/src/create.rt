@@ -64,7 +64,7 @@ struct Plan<A: Allocator + Copy> {
 }
 
 /// Makes a file or directory where the fid is, in the first member that permits creation, and
-/// goes on to it: the fid is then open for what the mode's bits ask. It answers the new qid and the
+/// goes on to it: the fid is then open for what the mode's bits ask. It returns the new qid and the
 /// session's iounit ([`Session::room`]).
 ///
 /// The first that applies refuses, and nothing changes: there is no such fid,
@@ -280,7 +280,7 @@ fn channels_to<A: Allocator + Copy>(
     Ok(longer)
 }
 
-// Makes the node in the directory and marks that, and answers the node's qid.
+// Makes the node in the directory and marks that, and returns the node's qid.
 fn add_to<T: Tree>(forest: &mut Forest<T>, target: NodeRef, new: &New<'_>) -> Result<Qid, NoMemory>
     requires { let server = server_at target.server forest.old in
         CanAdd server target.number (new_node server.next target.number new.now) }

@@ -33,7 +33,7 @@ use p9_wire::{RMsg, TMsg};
 /// ([`crate::open::exclusive_file`]). What a read gives is put at the front of `buffer`.
 ///
 /// An auth is [`Fault::NoAuthentication`]. A flush has nothing to do, since each request is
-/// answered before the next one. An `Err` leaves the forest and the session.
+/// answered before the next one. Where it is an `Err`, the forest and the session are unchanged.
 pub fn message<T: Tree>(
     setting: &Setting<T::Alloc>,
     forest: &mut Forest<T>,

@@ -26,9 +26,9 @@ use p9_tree::{Forest, Node, Tree};
 use std::alloc::Allocator;
 use std::collections::BTreeMap;
 
-/// Opens a fid for what the mode's bits ask, and answers the qid of its file and the session's
-/// iounit ([`Session::room`]). Truncation cuts the file to nothing and marks it, but leaves an
-/// append-only file. `taken` says that the file is
+/// Opens a fid for what the mode's bits ask, and returns the qid of its file and the session's
+/// iounit ([`Session::room`]). Truncation cuts the file to nothing and marks it, but an
+/// append-only file is unchanged. `taken` says that the file is
 /// taken ([`exclusive_file`]).
 ///
 /// The first that applies refuses, and nothing changes: there is no such fid,

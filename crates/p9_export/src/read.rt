@@ -37,7 +37,7 @@ struct Listed {
     opened: Opened,
 }
 
-/// Puts what a fid reads at the front of the buffer, and answers how many bytes that is: at most
+/// Puts what a fid reads at the front of the buffer, and returns how many bytes that is: at most
 /// the count that is asked for, and at most [`Session::room`].
 ///
 /// A file gives its bytes from the offset on, and the reading of the clock becomes the time when it

@@ -19,7 +19,7 @@ use p9_wire::RMsg;
 
 /// Removes the file of a fid, and marks the directory that it was in. The fid ends in every case,
 /// and removes nothing on its close: so why the file stays is told in the answer, and a fault is
-/// only that the fid isn't there, [`Fault::UnknownFid`], which leaves all.
+/// only that the fid isn't there, [`Fault::UnknownFid`], and then nothing changes.
 ///
 /// The first that applies is told: the file doesn't exist, [`Fault::PhaseError`]; it is a server's
 /// root, [`Fault::IsRoot`]; the user may not write its directory, [`Fault::PermissionDenied`]; it

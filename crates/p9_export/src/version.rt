@@ -20,9 +20,8 @@ pub const MSIZE_MIN: u32 = 512;
 /// Begins the session anew: all its fids end, and the lesser of the msize and [`MSIZE_MAX`] is the
 /// greatest frame from now on.
 ///
-/// An msize below [`MSIZE_MIN`] is [`Fault::SmallMsize`], and leaves the session. A version that
-/// isn't 9P2000 or a dialect of it is answered `unknown`, and leaves the session too. It takes no
-/// memory.
+/// An msize below [`MSIZE_MIN`] is [`Fault::SmallMsize`]. A version that isn't 9P2000 or a dialect
+/// of it is answered `unknown`. In both cases the session is unchanged. It takes no memory.
 pub fn version<T: Tree>(
     setting: &Setting<T::Alloc>,
     forest: &mut Forest<T>,

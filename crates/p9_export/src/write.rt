@@ -19,7 +19,7 @@ use p9_tree::{FILE_MAX, Forest, Node, Tree};
 use std::alloc::Allocator;
 
 /// Writes into the file of an open fid, at the offset, or at the end of an append-only file. A gap
-/// before the offset is filled with zeros, and the file is marked. It answers how many bytes were
+/// before the offset is filled with zeros, and the file is marked. It returns how many bytes were
 /// written: all of them. No bytes change nothing.
 ///
 /// The first that applies refuses, and nothing changes: there is no such fid,

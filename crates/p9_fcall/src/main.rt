@@ -41,7 +41,7 @@ fn status_of(rt: &HostRuntime) -> u8 {
     }
 }
 
-// Runs the command that the words ask for, and answers the exit status.
+// Runs the command that the words ask for, and returns the exit status.
 fn run(rt: &HostRuntime) -> io::Result<u8> {
     match asked(rt)? {
         Some(command) => run_over_input(rt, command),

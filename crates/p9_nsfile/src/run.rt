@@ -27,7 +27,7 @@ use std::str::from_utf8;
 pub const NESTED_MAX: u8 = 8;
 
 /// Runs a namespace file: the mount table is what its lines make of it, one after another. The
-/// answer is what operations failed, in order: the line's number, counted from 1, and the fault.
+/// result is what operations failed, in order: the line's number, counted from 1, and the fault.
 /// An operation that fails does nothing, and the next one goes on. A table that names only nodes
 /// that were made stays one.
 ///

@@ -7,7 +7,7 @@ use crate::allocator::Refusing;
 use std::alloc::Allocator;
 
 /// Makes a value and runs it with the run's first request refused, then a new value with the
-/// second one refused, and so on, until a run meets no refusal. Answers how many runs met one.
+/// second one refused, and so on, until a run meets no refusal. Returns how many runs met one.
 ///
 /// `make` is called while nothing is refused, and nothing is refused afterwards. A run that asks
 /// for memory without end is the caller's to bound.

@@ -154,7 +154,7 @@ impl<A: Allocator + Copy> MountTable<A> {
         }
     }
 
-    // Takes the key's row away, and answers whether there was one.
+    // Takes the key's row away, and returns whether there was one.
     fn remove_row(&mut self, key: NodeRef) -> bool
         ensures found { result ≡ is_some (row_of key self.old) }
         ensures removed { self.new ≡ without_row key self.old }

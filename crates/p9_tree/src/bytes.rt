@@ -104,7 +104,7 @@ impl<A: Allocator> Bytes<A> {
     }
 
     /// Copies the bytes from the offset on, as many as are there and have room, over the front of
-    /// the buffer, and answers how many they are. The rest of the buffer stays.
+    /// the buffer, and returns how many they are. The rest of the buffer is unchanged.
     pub fn read_into(&self, offset: u64, buffer: &mut [u8]) -> usize
         ensures count { result ≡ length (read_from offset (length buffer.old) self.now) }
         ensures filled { buffer.new

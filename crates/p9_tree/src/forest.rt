@@ -75,7 +75,7 @@ impl<T: Tree> Forest<T> {
     }
 
     /// Copies the file's bytes from the offset on, as many as are there and have room, over the
-    /// front of the buffer, and answers how many they are. The rest of the buffer stays.
+    /// front of the buffer, and returns how many they are. The rest of the buffer is unchanged.
     pub fn read_into(&self, at: NodeRef, offset: u64, buffer: &mut [u8]) -> usize
         ensures count { let bytes = bytes_of at self.now in
             result ≡ length (read_from offset (length buffer.old) bytes) }

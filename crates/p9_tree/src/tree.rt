@@ -114,7 +114,7 @@ pub trait Tree: Sized + Drop {
             ≡ with_changed number (with_bytes (cut_to size)) (state self.old) };
 
     /// Copies the file's bytes from the offset on, as many as are there and have room, over the
-    /// front of the buffer, and answers how many they are. The rest of the buffer stays.
+    /// front of the buffer, and returns how many they are. The rest of the buffer is unchanged.
     fn read_into(&self, number: u64, offset: u64, buffer: &mut [u8]) -> usize
         ensures count { let bytes = bytes_at number (state self.now).nodes in
             result ≡ length (read_from offset (length buffer.old) bytes) }

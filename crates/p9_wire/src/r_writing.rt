@@ -33,7 +33,7 @@ fn kind_of(message: &RMsg<'_>) -> u8
     }
 }
 
-/// Puts the body behind the bytes of the header, and answers the index behind it.
+/// Puts the body behind the bytes of the header, and returns the index behind it.
 fn put_body(message: &RMsg<'_>, out: &mut [u8]) -> usize
     requires fits { RFits (r_view message.now) }
     requires room { 7 + r_len (r_view message.now) ≤ length out.old }

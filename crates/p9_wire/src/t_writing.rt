@@ -35,7 +35,7 @@ fn kind_of(message: &TMsg<'_>) -> u8
     }
 }
 
-/// Puts the body behind the bytes of the header, and answers the index behind it.
+/// Puts the body behind the bytes of the header, and returns the index behind it.
 fn put_body(message: &TMsg<'_>, out: &mut [u8]) -> usize
     requires fits { TFits (t_view message.now) }
     requires room { 7 + t_len (t_view message.now) ≤ length out.old }
