@@ -1,7 +1,7 @@
 //! Binds and unmounts, and what a user may do with a file.
 
 use crate::calls::plays;
-use crate::worlds::{GROUPED, SMALL, UNIONS, space_of};
+use crate::worlds::{GROUPED, SMALL, UNIONS};
 use std::test::Fail;
 
 #[test]
@@ -18,9 +18,9 @@ key 0 = 3 in 0 is 1+";
     plays(
         &rt,
         rt.alloc(),
-        &mut space_of(&rt, rt.alloc(), UNIONS)?,
+        UNIONS,
         lines,
-    );
+    )?;
     Ok(())
 }
 
@@ -38,9 +38,9 @@ members 3 =  3+";
     plays(
         &rt,
         rt.alloc(),
-        &mut space_of(&rt, rt.alloc(), UNIONS)?,
+        UNIONS,
         lines,
-    );
+    )?;
     Ok(())
 }
 
@@ -66,9 +66,9 @@ kept 3 = none";
     plays(
         &rt,
         rt.alloc(),
-        &mut space_of(&rt, rt.alloc(), UNIONS)?,
+        UNIONS,
         lines,
-    );
+    )?;
     Ok(())
 }
 
@@ -88,9 +88,9 @@ given = false";
     plays(
         &rt,
         rt.alloc(),
-        &mut space_of(&rt, rt.alloc(), UNIONS)?,
+        UNIONS,
         lines,
-    );
+    )?;
     Ok(())
 }
 
@@ -103,9 +103,9 @@ may rob 3 = true false false false";
     plays(
         &rt,
         rt.alloc(),
-        &mut space_of(&rt, rt.alloc(), SMALL)?,
+        SMALL,
         lines,
-    );
+    )?;
     Ok(())
 }
 
@@ -119,8 +119,8 @@ may adm 1 = true false false true";
     plays(
         &rt,
         rt.alloc(),
-        &mut space_of(&rt, rt.alloc(), GROUPED)?,
+        GROUPED,
         lines,
-    );
+    )?;
     Ok(())
 }

@@ -1,7 +1,7 @@
 //! Walks from place to place, and why a step may be refused.
 
 use crate::calls::plays;
-use crate::worlds::{DEEP, SHUT, SMALL, UNIONS, space_of};
+use crate::worlds::{DEEP, SHUT, SMALL, UNIONS};
 use std::test::Fail;
 
 #[test]
@@ -13,9 +13,9 @@ key 0 = 3 in 0 is 3 1";
     plays(
         &rt,
         rt.alloc(),
-        &mut space_of(&rt, rt.alloc(), UNIONS)?,
+        UNIONS,
         lines,
-    );
+    )?;
     Ok(())
 }
 
@@ -28,9 +28,9 @@ walk glenda .. = 0 ";
     plays(
         &rt,
         rt.alloc(),
-        &mut space_of(&rt, rt.alloc(), DEEP)?,
+        DEEP,
         lines,
-    );
+    )?;
     Ok(())
 }
 
@@ -47,9 +47,9 @@ walk - x n = 0 1 2 ";
     plays(
         &rt,
         rt.alloc(),
-        &mut space_of(&rt, rt.alloc(), SHUT)?,
+        SHUT,
         lines,
-    );
+    )?;
     Ok(())
 }
 
@@ -75,9 +75,9 @@ walk glenda a b = phase error";
     plays(
         &rt,
         rt.alloc(),
-        &mut space_of(&rt, rt.alloc(), SMALL)?,
+        SMALL,
         lines,
-    );
+    )?;
     Ok(())
 }
 
@@ -96,8 +96,8 @@ step - a = to 1 in 0";
     plays(
         &rt,
         rt.alloc(),
-        &mut space_of(&rt, rt.alloc(), SMALL)?,
+        SMALL,
         lines,
-    );
+    )?;
     Ok(())
 }
