@@ -168,7 +168,12 @@ fn walk_by_channels_again<T: Tree>(rt: &impl Abort, alloc: Global, space: &Space
 }
 
 // Both, with each request of memory refused in turn.
-fn walk_refused<T: Tree>(rt: &impl Abort, alloc: Global, memory: &Refusing<Global>, lent: T::Alloc) {
+fn walk_refused<T: Tree>(
+    rt: &impl Abort,
+    alloc: Global,
+    memory: &Refusing<Global>,
+    lent: T::Alloc,
+) {
     let refusals = refuse_each(
         memory,
         || space_of::<T>(rt, lent, SMALL).expect(rt, "ample memory"),
