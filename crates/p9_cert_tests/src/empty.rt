@@ -2,13 +2,15 @@
 
 use p9_base::{Groups, NoMemory, NodeRef};
 use p9_cert::{Certificate, Gap, RowFault, verify};
+use p9_index::IndexTree;
 use p9_space::{MountTable, Order, ROOT_PLACE};
-use p9_tree::{Forest, PlainTree};
+use p9_tree::{Forest, PlainTree, Tree};
 use p9_world::World;
-use std::alloc::Global;
+use std::alloc::{Allocator, Global};
+use std::process::Abort;
 use std::test::Fail;
 
-fn no_server(alloc: Global) -> World<PlainTree<Global>> {
+fn no_server<T: Tree>(alloc: T::Alloc) -> World<T> {
     World {
         forest: Forest {
             trees: Vec::new(alloc),
@@ -22,16 +24,14 @@ fn no_server(alloc: Global) -> World<PlainTree<Global>> {
 }
 
 // A certificate of one row, the root.
-fn root(alloc: Global) -> Result<Certificate<Global>, NoMemory> {
+fn root<A: Allocator + Copy>(alloc: A) -> Result<Certificate<A>, NoMemory> {
     let mut certificate = Certificate::new(alloc);
     certificate.push(ROOT_PLACE)?;
     Ok(certificate)
 }
 
-#[test]
-fn no_row_and_no_server_is_closed(rt: HostRuntime) -> Result<(), Fail> {
-    let alloc = rt.alloc();
-    let world = no_server(alloc);
+fn is_closed<T: Tree>(rt: &impl Abort, alloc: T::Alloc) -> Result<(), NoMemory> {
+    let world = no_server::<T>(alloc);
     let mut table = MountTable::new(alloc);
     assert_eq!(rt; verify(&world, &table, &Certificate::new(alloc)), Ok(()));
     let absent = Gap::Row {
@@ -45,5 +45,12 @@ fn no_row_and_no_server_is_closed(rt: HostRuntime) -> Result<(), Fail> {
         number: 0,
     });
     assert_eq!(rt; verify(&world, &table, &Certificate::new(alloc)), Err(gap));
+    Ok(())
+}
+
+#[test]
+fn no_row_and_no_server_is_closed(rt: HostRuntime) -> Result<(), Fail> {
+    is_closed::<PlainTree<Global>>(&rt, rt.alloc())?;
+    is_closed::<IndexTree<Global>>(&rt, rt.alloc())?;
     Ok(())
 }

@@ -2,14 +2,15 @@
 
 use p9_base::{Group, Groups, NoMemory, NodeRef, User, number, words};
 use p9_cert::{Certificate, read_cert, verify};
+use p9_index::IndexTree;
 use p9_space::{MountTable, Order};
-use p9_tree::{NEXT_MAX, PlainTree};
+use p9_tree::{NEXT_MAX, PlainTree, Tree};
 use p9_world::{World, read_world};
-use std::alloc::Global;
+use std::alloc::{Allocator, Global};
 use std::process::Abort;
 
 // A text, with a head and a line for each part between semicolons.
-fn lines_of(alloc: Global, head: &str, parts: &str) -> Result<String, NoMemory> {
+fn lines_of<A: Allocator + Copy>(alloc: A, head: &str, parts: &str) -> Result<String<A>, NoMemory> {
     let mut text = String::from_str(alloc, head)?;
     let rest = parts.replace(alloc, ';', "\n")?;
     text.push_str(rest.as_str())?;
@@ -18,13 +19,26 @@ fn lines_of(alloc: Global, head: &str, parts: &str) -> Result<String, NoMemory> 
 
 /// Tells what `verify` returns of a row: the lines of a world whose server is `main` and whose
 /// first user is `glenda`, the rows of a mount table, the groups, and the lines of a certificate
-/// behind `cert 1`. Bars are between the four, and semicolons between lines.
+/// behind `cert 1`. Bars are between the four, and semicolons between lines. Over a tree of each
+/// kind the same is told.
 pub fn told(rt: &impl Abort, alloc: Global, row: &str) -> Result<String, NoMemory> {
+    let plain = told_over::<PlainTree<Global>>(rt, alloc, alloc, row)?;
+    let index = told_over::<IndexTree<Global>>(rt, alloc, alloc, row)?;
+    assert_eq!(rt; plain.as_str(), index.as_str());
+    Ok(plain)
+}
+
+fn told_over<T: Tree>(
+    rt: &impl Abort,
+    alloc: Global,
+    lent: T::Alloc,
+    row: &str,
+) -> Result<String, NoMemory> {
     let (world, row) = row.split_once('|').expect(rt, "a table");
     let (table, row) = row.split_once('|').expect(rt, "groups");
     let (groups, rows) = row.split_once('|').expect(rt, "a certificate");
-    let world = world_of(rt, alloc, world, groups)?;
-    let table = table_of(rt, alloc, table)?;
+    let world = world_of::<T>(rt, lent, world, groups)?;
+    let table = table_of(rt, lent, table)?;
     let certificate = certificate_of(rt, alloc, rows)?;
     match verify(&world, &table, &certificate) {
         Ok(()) => Ok(String::from_str(alloc, "ok")?),
@@ -32,12 +46,12 @@ pub fn told(rt: &impl Abort, alloc: Global, row: &str) -> Result<String, NoMemor
     }
 }
 
-fn world_of(
+fn world_of<T: Tree>(
     rt: &impl Abort,
-    alloc: Global,
+    alloc: T::Alloc,
     world: &str,
     groups: &str,
-) -> Result<World<PlainTree<Global>>, NoMemory> {
+) -> Result<World<T>, NoMemory> {
     let text = lines_of(alloc, "server main\nuser glenda\n", world)?;
     let mut world = read_world(alloc, text.as_str()).expect(rt, "a world");
     add_groups(rt, alloc, &mut world.groups, groups)?;
@@ -45,10 +59,10 @@ fn world_of(
 }
 
 // Lists groups: of each its name, its leader and its members.
-fn add_groups(
+fn add_groups<A: Allocator + Copy>(
     rt: &impl Abort,
-    alloc: Global,
-    groups: &mut Groups<Global>,
+    alloc: A,
+    groups: &mut Groups<A>,
     text: &str,
 ) -> Result<(), NoMemory> {
     for line in text.split(';') {
@@ -69,7 +83,11 @@ fn user(rt: &impl Abort, name: &str) -> User {
 }
 
 // A mount table of rows: of each its key and its members, every node by its server and its number.
-fn table_of(rt: &impl Abort, alloc: Global, text: &str) -> Result<MountTable<Global>, NoMemory> {
+fn table_of<A: Allocator + Copy>(
+    rt: &impl Abort,
+    alloc: A,
+    text: &str,
+) -> Result<MountTable<A>, NoMemory> {
     let mut table = MountTable::new(alloc);
     for line in text.split(';') {
         let nodes = nodes_of(rt, alloc, line)?;
@@ -81,7 +99,11 @@ fn table_of(rt: &impl Abort, alloc: Global, text: &str) -> Result<MountTable<Glo
     Ok(table)
 }
 
-fn nodes_of(rt: &impl Abort, alloc: Global, line: &str) -> Result<Vec<NodeRef>, NoMemory> {
+fn nodes_of<A: Allocator + Copy>(
+    rt: &impl Abort,
+    alloc: A,
+    line: &str,
+) -> Result<Vec<NodeRef, A>, NoMemory> {
     let mut nodes = Vec::new(alloc);
     for pair in words(alloc, line)?.chunks(2) {
         if let [server, node] = pair {

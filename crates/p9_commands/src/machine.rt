@@ -1,7 +1,7 @@
 //! What a script is played on.
 
-ghost use Rattle.std.specs.Prelude.{◌≡◌, ◌≤◌, ◌↔◌, Err, None, IsSome, IsTrue, OnErr, OnOk};
-ghost use Rattle.std.specs.Prelude.{false, length, take};
+ghost use Rattle.std.specs.Prelude.{◌≡◌, ◌≤◌, ◌↔◌, Err, None, IfNone, IfSome, IsSome, IsTrue};
+ghost use Rattle.std.specs.Prelude.{OnErr, OnOk, false, length, take};
 ghost use Rattle.p9_wire.specs.Frame.{is_frame, msize_max};
 ghost use Rattle.p9_step.specs.Event.{Open, Message, Close};
 ghost use Rattle.p9_step.specs.Memory.{is_no_memory_reply};
@@ -28,18 +28,20 @@ pub(crate) trait Machine {
         ensures live { (result ≡ Err Live) ↔ IsSome (session_at name (state self.old).sessions) }
         ensures unchanged { OnErr result (state self.new ≡ state self.old) };
 
-    /// Answers one frame of an open session: writes the reply at the front of the buffer, and
-    /// returns its length.
-    fn answer(&mut self, name: u32, frame: &[u8], now: u32, reply: &mut [u8]) -> usize
-        requires live { IsSome (session_at name (state self.old).sessions) }
+    /// Answers one frame of a session: writes the reply at the front of the buffer, and returns its
+    /// length. It is `None` where no session of this name is open; nothing changes then.
+    fn answer(&mut self, name: u32, frame: &[u8], now: u32, reply: &mut [u8]) -> Option<usize>
         requires whole { IsTrue (is_frame frame.now) }
         requires room { msize_max ≤ length reply.old }
-        ensures within { result ≤ length reply.old }
-        ensures state { state self.new ≡ (step (state self.old) (Message name frame.now now)
-            (is_no_memory_reply frame.now (take result reply.new))).state }
-        ensures bytes { take result reply.new
+        ensures live { IsSome result ↔ IsSome (session_at name (state self.old).sessions) }
+        ensures unchanged { IfNone result (state self.new ≡ state self.old) }
+        ensures within { IfSome result (λ size. size ≤ length reply.new) }
+        ensures state { IfSome result (λ size. state self.new
+            ≡ (step (state self.old) (Message name frame.now now)
+            (is_no_memory_reply frame.now (take size reply.new))).state) }
+        ensures bytes { IfSome result (λ size. take size reply.new
             ≡ (step (state self.old) (Message name frame.now now) (is_no_memory_reply frame.now
-            (take result reply.new))).reply };
+            (take size reply.new))).reply) };
 
     /// Closes a session, and ends its fids.
     fn close(&mut self, name: u32, now: u32)
@@ -58,9 +60,9 @@ impl<T: Tree> Machine for Export<T> {
         Export::open(self, name)
     }
 
-    fn answer(&mut self, name: u32, frame: &[u8], now: u32, reply: &mut [u8]) -> usize {
-        let _most = self.reply_max(name);
-        self.message(name, frame, now, reply)
+    fn answer(&mut self, name: u32, frame: &[u8], now: u32, reply: &mut [u8]) -> Option<usize> {
+        self.reply_max(name)?;
+        Some(self.message(name, frame, now, reply))
     }
 
     fn close(&mut self, name: u32, now: u32) {
@@ -79,9 +81,9 @@ impl<T: Tree> Machine for Guard<T> {
         Guard::open(self, name)
     }
 
-    fn answer(&mut self, name: u32, frame: &[u8], now: u32, reply: &mut [u8]) -> usize {
-        let _most = self.reply_max(name);
-        Guard::answer(self, name, frame, now, reply)
+    fn answer(&mut self, name: u32, frame: &[u8], now: u32, reply: &mut [u8]) -> Option<usize> {
+        self.reply_max(name)?;
+        Some(Guard::answer(self, name, frame, now, reply))
     }
 
     fn close(&mut self, name: u32, now: u32) {

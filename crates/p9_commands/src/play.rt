@@ -104,11 +104,13 @@ fn answer<M: Machine, A: Allocator + Copy>(
         (Plays (Message name frame.now now) (M.state machine.old) (M.state machine.new)
         out.old.items out.new.items) }
 {
-    if !is_frame(frame) || !machine.live(name) {
+    if !is_frame(frame) {
         return skip(out);
     }
-    let size = machine.answer(name, frame, now, reply);
-    print_hex(&reply[..size], digits, out)
+    match machine.answer(name, frame, now, reply) {
+        Some(size) => print_hex(&reply[..size], digits, out),
+        None => skip(out),
+    }
 }
 
 // Prints nothing for a closing that fits.

@@ -35,7 +35,7 @@ use Rattle.p9_space.specs.Walk.{is_searched, may_search, step_among, step_down, 
 use Rattle.p9_space.proofs.Tables.{members_of-some}
 use Rattle.p9_step.specs.State.{who_of}
 use Rattle.p9_step.specs.Qid.{qid_at}
-use Rattle.p9_step.specs.Walk.{Arrival, arrival, arrived_by, going_on, walked}
+use Rattle.p9_step.specs.Walk.{Arrival, arrival, arrived_by, step_and_rest, trail_after, walked}
 use Rattle.p9_cert.specs.Listed.{is_passable, may_pass}
 use Rattle.p9_cert.specs.Safe.{IsSafe, IsSafeMember, Set}
 use Rattle.p9_guard_laws.specs.Grown.{grown}
@@ -429,8 +429,9 @@ module _ (scene : Scene) where
     walked-outer trail [] all = refl
     walked-outer trail (name ∷ names) all =
         ap
-        (λ r. going_on scene.setting (outer_of scene) trail r
-        (λ next. walked scene.setting (outer_of scene) user next names))
+        (λ r. step_and_rest trail r
+        (walked scene.setting (outer_of scene) user
+        (trail_after trail r) names))
         (arrived_by-outer trail name all)
         ∙ go (arrived_by scene.setting scene.forest user trail name)
         (arrived_by_safe trail name all)
@@ -440,10 +441,12 @@ module _ (scene : Scene) where
             → ((next : List NodeRef) → SafeTrail next
             → walked scene.setting (outer_of scene) user next names
             ≡ walked scene.setting scene.forest user next names)
-            → going_on scene.setting (outer_of scene) trail r
-            (λ next. walked scene.setting (outer_of scene) user next names)
-            ≡ going_on scene.setting scene.forest trail r
-            (λ next. walked scene.setting scene.forest user next names)
+            → step_and_rest trail r
+            (walked scene.setting (outer_of scene) user
+            (trail_after trail r) names)
+            ≡ step_and_rest trail r
+            (walked scene.setting scene.forest user
+            (trail_after trail r) names)
         go (Err fault) safe later = refl
         go (Ok a) safe later = rw (later a.trail (safe a refl)) refl
 
@@ -457,7 +460,8 @@ module _ (scene : Scene) where
         go : (r : Result Arrival Fault) → SafeArrival r
             → ((next : List NodeRef) → SafeTrail next
             → SafeTrail (walked scene.setting scene.forest user next names).trail) → SafeTrail
-            (going_on scene.setting scene.forest trail r
-            (λ next. walked scene.setting scene.forest user next names)).trail
+            (step_and_rest trail r
+            (walked scene.setting scene.forest user
+            (trail_after trail r) names)).trail
         go (Err fault) safe later = all
         go (Ok a) safe later = later a.trail (safe a refl)

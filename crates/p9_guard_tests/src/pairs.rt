@@ -2,7 +2,8 @@
 //! get the same bytes from both.
 
 use crate::worlds::{CERTIFICATE, Row, guard_of, run, session, world_of};
-use p9_tree::PlainTree;
+use p9_index::IndexTree;
+use p9_tree::{PlainTree, Tree};
 use std::alloc::Global;
 use std::process::Abort;
 
@@ -120,17 +121,29 @@ fn are_alike(rt: &impl Abort, alloc: Global, one: usize, other: usize) {
     assert_eq!(rt; first.as_str(), second.as_str());
 }
 
-// The replies of the world of a number.
+// The replies of the world of a number, the same over a tree of each kind.
 fn replies_of(rt: &impl Abort, alloc: Global, number: usize) -> String<Global> {
     let text = world_text(rt, alloc, number);
-    let world = world_of::<PlainTree<Global>>(rt, alloc, text.as_str());
-    let mut guard = guard_of(rt, alloc, world, None, CERTIFICATE);
+    let plain = replies_over::<PlainTree<Global>>(rt, alloc, alloc, text.as_str());
+    let index = replies_over::<IndexTree<Global>>(rt, alloc, alloc, text.as_str());
+    assert_eq!(rt; plain.as_str(), index.as_str());
+    plain
+}
+
+fn replies_over<T: Tree>(
+    rt: &impl Abort,
+    alloc: Global,
+    lent: T::Alloc,
+    text: &str,
+) -> String<Global> {
+    let world = world_of::<T>(rt, lent, text);
+    let mut guard = guard_of(rt, lent, world, None, CERTIFICATE);
     let events = session(rt, alloc, ROWS);
     run(
         rt,
         alloc,
         &mut guard,
         events.as_slice(),
-        &mut Vec::new(alloc),
+        &mut Vec::new(lent),
     )
 }

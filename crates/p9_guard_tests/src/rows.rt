@@ -5,7 +5,8 @@ use crate::worlds::{
     world_of,
 };
 use p9_base::NodeRef;
-use p9_tree::PlainTree;
+use p9_index::IndexTree;
+use p9_tree::{PlainTree, Tree};
 use p9_world::World;
 use std::alloc::Global;
 use std::process::Abort;
@@ -47,32 +48,36 @@ hide main /store
 
 #[test]
 fn a_vault_does_not_tell_whether_it_is_empty(rt: HostRuntime) {
-    let alloc = rt.alloc();
     for text in [VAULT, KEY_IN_THE_VAULT, KEY_IN_THE_STORE] {
-        let world = world_of(&rt, alloc, text);
-        are_replies(&rt, alloc, world, None, NEAR_THE_VAULT);
+        is_like_a_vault::<PlainTree<Global>>(&rt, rt.alloc(), rt.alloc(), text);
+        is_like_a_vault::<IndexTree<Global>>(&rt, rt.alloc(), rt.alloc(), text);
     }
+}
+
+fn is_like_a_vault<T: Tree>(rt: &impl Abort, alloc: Global, lent: T::Alloc, text: &str) {
+    let world = world_of::<T>(rt, lent, text);
+    are_replies(rt, alloc, lent, world, None, NEAR_THE_VAULT);
 }
 
 #[test]
 fn a_vault_does_not_tell_that_its_key_is_gone(rt: HostRuntime) {
-    let alloc = rt.alloc();
+    is_like_a_vault_without_its_key::<PlainTree<Global>>(&rt, rt.alloc(), rt.alloc());
+    is_like_a_vault_without_its_key::<IndexTree<Global>>(&rt, rt.alloc(), rt.alloc());
+}
+
+fn is_like_a_vault_without_its_key<T: Tree>(rt: &impl Abort, alloc: Global, lent: T::Alloc) {
     let key = NodeRef {
         server: 0,
         number: 3,
     };
-    let world = without(&rt, world_of(&rt, alloc, VAULT), key);
+    let world = without(rt, world_of::<T>(rt, lent, VAULT), key);
     assert!(rt; world.forest.node(key).is_none());
     assert_eq!(rt; world.forest.next_of(0), 4);
-    are_replies(&rt, alloc, world, None, NEAR_THE_VAULT);
+    are_replies(rt, alloc, lent, world, None, NEAR_THE_VAULT);
 }
 
 // A world without one of its files.
-fn without(
-    rt: &impl Abort,
-    mut world: World<PlainTree<Global>>,
-    at: NodeRef,
-) -> World<PlainTree<Global>> {
+fn without<T: Tree>(rt: &impl Abort, mut world: World<T>, at: NodeRef) -> World<T> {
     world.well_formed();
     assert!(rt; at.number != 0);
     assert!(rt; world.forest.after(at, None).is_none());
@@ -124,23 +129,28 @@ hide main /vault
 
 #[test]
 fn a_covered_vault_is_out_of_reach(rt: HostRuntime) {
-    let alloc = rt.alloc();
-    let world = world_of(&rt, alloc, COVERED_VAULT);
-    are_replies(&rt, alloc, world, Some(replace(2, 1)), COVERED);
-    let world = world_of(&rt, alloc, COVERED_DIRECTORY);
-    are_replies(&rt, alloc, world, Some(replace(2, 1)), COVERED);
+    for text in [COVERED_VAULT, COVERED_DIRECTORY] {
+        is_covered::<PlainTree<Global>>(&rt, rt.alloc(), rt.alloc(), text);
+        is_covered::<IndexTree<Global>>(&rt, rt.alloc(), rt.alloc(), text);
+    }
+}
+
+fn is_covered<T: Tree>(rt: &impl Abort, alloc: Global, lent: T::Alloc, text: &str) {
+    let world = world_of::<T>(rt, lent, text);
+    are_replies(rt, alloc, lent, world, Some(replace(2, 1)), COVERED);
 }
 
 // Compares the replies to a session's requests.
-fn are_replies(
+fn are_replies<T: Tree>(
     rt: &impl Abort,
     alloc: Global,
-    world: World<PlainTree<Global>>,
+    lent: T::Alloc,
+    world: World<T>,
     bind: Option<Bind>,
     rows: &[Row],
 ) {
-    let mut guard = guard_of(rt, alloc, world, bind, CERTIFICATE);
-    let mut bytes = Vec::new(alloc);
+    let mut guard = guard_of(rt, lent, world, bind, CERTIFICATE);
+    let mut bytes = Vec::new(lent);
     let events = session(rt, alloc, rows);
     let text = run(rt, alloc, &mut guard, events.as_slice(), &mut bytes);
     let wanted = replies(rt, alloc, rows);

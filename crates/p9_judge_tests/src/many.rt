@@ -4,9 +4,10 @@
 use crate::dice::Dice;
 use p9_base::{NoMemory, NodeRef};
 use p9_cert::{Certificate, verify};
+use p9_index::IndexTree;
 use p9_judge::{Verdict, judge};
 use p9_space::{MountTable, Order};
-use p9_tree::PlainTree;
+use p9_tree::{PlainTree, Tree};
 use p9_world::{World, read_world};
 use std::alloc::Global;
 use std::process::Abort;
@@ -96,11 +97,11 @@ fn without(
 }
 
 // Asks for a verdict, and says whether it is a certificate. That is accepted, and needs each row.
-fn is_certified(
+fn is_certified<T: Tree>(
     rt: &impl Abort,
     alloc: Global,
-    world: &World<PlainTree<Global>>,
-    table: &MountTable<Global>,
+    world: &World<T>,
+    table: &MountTable<T::Alloc>,
 ) -> Result<bool, NoMemory> {
     match judge(alloc, world, table)? {
         Verdict::No(_breach) => Ok(false),
@@ -115,6 +116,20 @@ fn is_certified(
     }
 }
 
+// The same over a tree of each kind.
+fn is_certified_over_both(
+    rt: &impl Abort,
+    alloc: Global,
+    text: &str,
+    table: &MountTable<Global>,
+) -> Result<bool, NoMemory> {
+    let plain = read_world::<PlainTree<Global>>(alloc, text).expect(rt, "a world");
+    let index = read_world::<IndexTree<Global>>(alloc, text).expect(rt, "a world");
+    let certified = is_certified(rt, alloc, &plain, table)?;
+    assert_eq!(rt; is_certified(rt, alloc, &index, table)?, certified);
+    Ok(certified)
+}
+
 #[test]
 fn each_certificate_is_accepted_and_needs_its_rows(rt: HostRuntime) -> Result<(), Fail> {
     let alloc = rt.alloc();
@@ -122,9 +137,8 @@ fn each_certificate_is_accepted_and_needs_its_rows(rt: HostRuntime) -> Result<()
     let mut certified = 0;
     for _turn in 0..WORLDS {
         let text = text(&rt, alloc, &mut dice)?;
-        let world = read_world(alloc, text.as_str()).expect(&rt, "a world");
         let table = table(alloc, &mut dice)?;
-        if is_certified(&rt, alloc, &world, &table)? {
+        if is_certified_over_both(&rt, alloc, text.as_str(), &table)? {
             certified += 1;
         }
     }

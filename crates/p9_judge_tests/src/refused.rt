@@ -2,8 +2,10 @@
 
 use crate::telling::{Space, space_of};
 use p9_base::NoMemory;
+use p9_index::IndexTree;
 use p9_judge::{Verdict, judge};
 use p9_refusing::{Refusing, refuse_each};
+use p9_tree::{PlainTree, Tree};
 use std::alloc::Global;
 use std::process::Abort;
 use std::test::Fail;
@@ -25,10 +27,10 @@ const GUARDED: &str = "\
 dir /a 755 sys sys;dir /a/b 755 sys sys;dir /a/c 755 sys sys;dir /a/d 755 sys sys;\
 dir /a/b/e 755 sys sys;dir /a/b/e/v 000 sys sys;hide main /a/b/e/v | 0 4 0 4 0 3 |";
 
-fn judge_again<'a>(
+fn judge_again<'a, T: Tree>(
     rt: &impl Abort,
     memory: &'a Refusing<Global>,
-    space: &Space<Global>,
+    space: &Space<T>,
 ) -> Verdict<&'a Refusing<Global>> {
     match judge(memory, &space.world, &space.table) {
         Ok(verdict) => verdict,
@@ -39,7 +41,12 @@ fn judge_again<'a>(
     }
 }
 
-fn finds_breach(rt: &impl Abort, memory: &Refusing<Global>, space: &Space<Global>, alloc: Global) {
+fn finds_breach<T: Tree>(
+    rt: &impl Abort,
+    memory: &Refusing<Global>,
+    space: &Space<T>,
+    alloc: Global,
+) {
     match judge_again(rt, memory, space) {
         Verdict::Yes(_certificate) => panic!(rt; "a certificate"),
         Verdict::No(breach) => {
@@ -49,33 +56,51 @@ fn finds_breach(rt: &impl Abort, memory: &Refusing<Global>, space: &Space<Global
     }
 }
 
-fn finds_certificate(rt: &impl Abort, memory: &Refusing<Global>, space: &Space<Global>) {
+fn finds_certificate<T: Tree>(rt: &impl Abort, memory: &Refusing<Global>, space: &Space<T>) {
     match judge_again(rt, memory, space) {
         Verdict::Yes(certificate) => assert_eq!(rt; certificate.rows().len(), 6),
         Verdict::No(breach) => panic!(rt; "{breach}"),
     }
 }
 
-#[test]
-fn a_breach_is_found_after_each_refusal(rt: HostRuntime) -> Result<(), Fail> {
-    let alloc = rt.alloc();
+fn breach_after_each<T: Tree>(
+    rt: &impl Abort,
+    alloc: Global,
+    lent: T::Alloc,
+) -> Result<(), NoMemory> {
     let memory = Refusing::new(alloc);
-    let space = space_of(&rt, alloc, DEEP)?;
+    let space = space_of::<T>(rt, lent, DEEP)?;
     let refusals = refuse_each(
         &memory,
         || (),
-        |()| finds_breach(&rt, &memory, &space, alloc),
+        |()| finds_breach(rt, &memory, &space, alloc),
     );
     assert!(rt; refusals > 3);
     Ok(())
 }
 
 #[test]
-fn a_certificate_is_found_after_each_refusal(rt: HostRuntime) -> Result<(), Fail> {
-    let alloc = rt.alloc();
+fn a_breach_is_found_after_each_refusal(rt: HostRuntime) -> Result<(), Fail> {
+    breach_after_each::<PlainTree<Global>>(&rt, rt.alloc(), rt.alloc())?;
+    breach_after_each::<IndexTree<Global>>(&rt, rt.alloc(), rt.alloc())?;
+    Ok(())
+}
+
+fn certificate_after_each<T: Tree>(
+    rt: &impl Abort,
+    alloc: Global,
+    lent: T::Alloc,
+) -> Result<(), NoMemory> {
     let memory = Refusing::new(alloc);
-    let space = space_of(&rt, alloc, GUARDED)?;
-    let refusals = refuse_each(&memory, || (), |()| finds_certificate(&rt, &memory, &space));
+    let space = space_of::<T>(rt, lent, GUARDED)?;
+    let refusals = refuse_each(&memory, || (), |()| finds_certificate(rt, &memory, &space));
     assert!(rt; refusals > 3);
+    Ok(())
+}
+
+#[test]
+fn a_certificate_is_found_after_each_refusal(rt: HostRuntime) -> Result<(), Fail> {
+    certificate_after_each::<PlainTree<Global>>(&rt, rt.alloc(), rt.alloc())?;
+    certificate_after_each::<IndexTree<Global>>(&rt, rt.alloc(), rt.alloc())?;
     Ok(())
 }

@@ -2,6 +2,7 @@
 
 use p9_base::{NoMemory, NodeRef, number, words};
 use p9_cert::{verify, write_cert};
+use p9_index::IndexTree;
 use p9_judge::{Verdict, judge};
 use p9_space::{MountTable, Order};
 use p9_tree::{NEXT_MAX, PlainTree, Tree};
@@ -11,19 +12,20 @@ use std::process::Abort;
 
 /// A world and a mount table over it.
 #[derive(Drop)]
-pub struct Space<A: Allocator + Copy>
-where
-    PlainTree<A>: Tree,
-{
-    pub world: World<PlainTree<A>>,
-    pub table: MountTable<A>,
+pub struct Space<T: Tree> {
+    pub world: World<T>,
+    pub table: MountTable<T::Alloc>,
 }
 
 /// Reads a row: the lines of a world whose server is `main` and whose first user is `glenda`, the
 /// rows of a mount table, and the nodes that are then removed. Bars are between the three, and
 /// semicolons between lines. In the table each node is given by its server and its number, a row's
 /// key first.
-pub fn space_of(rt: &impl Abort, alloc: Global, row: &str) -> Result<Space<Global>, NoMemory> {
+pub fn space_of<T: Tree>(
+    rt: &impl Abort,
+    alloc: T::Alloc,
+    row: &str,
+) -> Result<Space<T>, NoMemory> {
     let (world, row) = row.split_once('|').expect(rt, "a table");
     let (table, gone) = row.split_once('|').expect(rt, "removed nodes");
     let mut text = String::from_str(alloc, "server main\nuser glenda\n")?;
@@ -39,17 +41,30 @@ pub fn space_of(rt: &impl Abort, alloc: Global, row: &str) -> Result<Space<Globa
 }
 
 /// Tells what `judge` returns of a row: `yes` and the certificate, or `no` and the breach, with
-/// semicolons between lines. A certificate has to be one that `verify` accepts.
+/// semicolons between lines. A certificate has to be one that `verify` accepts. Over a tree of
+/// each kind the same is told.
 pub fn told(rt: &impl Abort, alloc: Global, row: &str) -> Result<String, NoMemory> {
-    let space = space_of(rt, alloc, row)?;
+    let plain = told_over::<PlainTree<Global>>(rt, alloc, alloc, row)?;
+    let index = told_over::<IndexTree<Global>>(rt, alloc, alloc, row)?;
+    assert_eq!(rt; plain.as_str(), index.as_str());
+    Ok(plain)
+}
+
+fn told_over<T: Tree>(
+    rt: &impl Abort,
+    alloc: Global,
+    lent: T::Alloc,
+    row: &str,
+) -> Result<String, NoMemory> {
+    let space = space_of::<T>(rt, lent, row)?;
     let verdict = judge(alloc, &space.world, &space.table)?;
     verdict_text(rt, alloc, &space, &verdict)
 }
 
-fn verdict_text(
+fn verdict_text<T: Tree>(
     rt: &impl Abort,
     alloc: Global,
-    space: &Space<Global>,
+    space: &Space<T>,
     verdict: &Verdict<Global>,
 ) -> Result<String, NoMemory> {
     let text = match verdict {
@@ -71,7 +86,11 @@ fn remove<T: Tree>(rt: &impl Abort, world: &mut World<T>, at: NodeRef) {
 }
 
 // A mount table of rows, each a key and its members.
-fn table_of(rt: &impl Abort, alloc: Global, text: &str) -> Result<MountTable<Global>, NoMemory> {
+fn table_of<A: Allocator + Copy>(
+    rt: &impl Abort,
+    alloc: A,
+    text: &str,
+) -> Result<MountTable<A>, NoMemory> {
     let mut table = MountTable::new(alloc);
     for line in text.split(';') {
         let nodes = nodes_of(rt, alloc, line)?;
@@ -84,7 +103,11 @@ fn table_of(rt: &impl Abort, alloc: Global, text: &str) -> Result<MountTable<Glo
 }
 
 // Nodes, each by its server and its number.
-fn nodes_of(rt: &impl Abort, alloc: Global, line: &str) -> Result<Vec<NodeRef>, NoMemory> {
+fn nodes_of<A: Allocator + Copy>(
+    rt: &impl Abort,
+    alloc: A,
+    line: &str,
+) -> Result<Vec<NodeRef, A>, NoMemory> {
     let mut nodes = Vec::new(alloc);
     for pair in words(alloc, line)?.chunks(2) {
         if let [server, node] = pair {

@@ -2,8 +2,9 @@
 
 use crate::telling::{channels_told, members, row, step, trail};
 use crate::words::{nodes, take_node, take_order, take_position, take_user, take_word};
-use crate::worlds::Space;
+use crate::worlds::{Space, space_of};
 use p9_base::{Fault, Groups, NoMemory, User};
+use p9_index::IndexTree;
 use p9_space::{
     Channels, MountTable, ROOT_PLACE, TO_EXECUTE, TO_READ, TO_WRITE, Trail, Who, advance,
     find_step, is_table_given, may, resolve, rules,
@@ -12,8 +13,15 @@ use p9_tree::{Forest, PlainTree, Tree};
 use std::alloc::{AllocError, Allocator, Global};
 use std::process::Abort;
 
-/// Makes the call of each line, and compares what it tells with the text behind `=`.
-pub fn plays(rt: &impl Abort, alloc: Global, space: &mut Space<Global>, lines: &str) {
+/// Over the world of a text, in a tree of each kind, makes the call of each line, and compares what
+/// it tells with the text behind `=`.
+pub fn plays(rt: &impl Abort, alloc: Global, text: &str, lines: &str) -> Result<(), NoMemory> {
+    plays_on::<PlainTree<Global>>(rt, alloc, &mut space_of(rt, alloc, text)?, lines);
+    plays_on::<IndexTree<Global>>(rt, alloc, &mut space_of(rt, alloc, text)?, lines);
+    Ok(())
+}
+
+fn plays_on<T: Tree>(rt: &impl Abort, alloc: Global, space: &mut Space<T>, lines: &str) {
     for line in lines.lines() {
         let (words, want) = line.split_once(" = ").unwrap_or((line, ""));
         let told = told(rt, alloc, space, words).expect(rt, "memory");
@@ -21,10 +29,10 @@ pub fn plays(rt: &impl Abort, alloc: Global, space: &mut Space<Global>, lines: &
     }
 }
 
-fn told(
+fn told<T: Tree>(
     rt: &impl Abort,
     alloc: Global,
-    space: &mut Space<Global>,
+    space: &mut Space<T>,
     words: &str,
 ) -> Result<String, NoMemory> {
     let mut rest = words;
@@ -52,12 +60,15 @@ fn told(
 }
 
 // The user, with the groups.
-fn who<'a>(user: &'a Option<User>, groups: &'a Groups<Global>) -> Option<Who<'a, Global>> {
+fn who<'a, A: Allocator + Copy>(
+    user: &'a Option<User>,
+    groups: &'a Groups<A>,
+) -> Option<Who<'a, A>> {
     user.as_ref().map(|user| Who { user, groups })
 }
 
 // Looks where one step leads.
-fn find(alloc: Global, space: &Space<Global>, line: &mut &str) -> Result<String, NoMemory> {
+fn find<T: Tree>(alloc: Global, space: &Space<T>, line: &mut &str) -> Result<String, NoMemory> {
     let user = take_user(line);
     let found = find_step(
         &space.forest,
@@ -70,10 +81,10 @@ fn find(alloc: Global, space: &Space<Global>, line: &mut &str) -> Result<String,
 }
 
 // Walks on along names, by the trail and by channels, and goes there.
-fn walk(
+fn walk<T: Tree>(
     rt: &impl Abort,
     alloc: Global,
-    space: &mut Space<Global>,
+    space: &mut Space<T>,
     line: &mut &str,
 ) -> Result<String, NoMemory> {
     let user = take_user(line);
@@ -98,9 +109,9 @@ fn walk(
 }
 
 // The same walk by channels. The last place's file is told by its row.
-fn walk_by_channels(
+fn walk_by_channels<T: Tree>(
     alloc: Global,
-    space: &Space<Global>,
+    space: &Space<T>,
     names: &[&str],
     user: &Option<User>,
 ) -> Result<String, NoMemory> {
@@ -130,7 +141,7 @@ fn rights<T: Tree>(
     rt: &impl Abort,
     alloc: Global,
     forest: &Forest<T>,
-    groups: &Groups<Global>,
+    groups: &Groups<T::Alloc>,
     line: &mut &str,
 ) -> Result<String, AllocError> {
     let user = &take_user(line).expect(rt, "a user");

@@ -3,11 +3,12 @@
 use crate::telling::row;
 use crate::worlds::forest;
 use p9_base::{Fault, NoMemory};
+use p9_index::IndexTree;
 use p9_nsfile::{NsError, OpFault, run_file};
 use p9_refusing::{Refusing, refuse_each};
 use p9_space::MountTable;
 use p9_tree::{Forest, PlainTree, Tree};
-use std::alloc::{Allocator, Global};
+use std::alloc::Global;
 use std::process::Abort;
 
 // Nodes 1 to 6: /a, /a/b and /a/f, and three files. One includes itself, one acts and has an
@@ -29,16 +30,13 @@ unmount /a/b";
 
 // What a file is run over.
 #[derive(Drop)]
-struct Given<A: Allocator + Copy>
-where
-    PlainTree<A>: Tree,
-{
-    vars: Vec<(String<A>, String<A>), A>,
-    servers: Vec<String<A>, A>,
-    forest: Forest<PlainTree<A>>,
+struct Given<T: Tree> {
+    vars: Vec<(String<T::Alloc>, String<T::Alloc>), T::Alloc>,
+    servers: Vec<String<T::Alloc>, T::Alloc>,
+    forest: Forest<T>,
 }
 
-fn make_given<A: Allocator + Copy>(rt: &impl Abort, alloc: A) -> Result<Given<A>, NoMemory> {
+fn make_given<T: Tree>(rt: &impl Abort, alloc: T::Alloc) -> Result<Given<T>, NoMemory> {
     let mut servers = Vec::new(alloc);
     servers.push(String::from_str(alloc, "main")?)?;
     let mut vars = Vec::new(alloc);
@@ -53,7 +51,7 @@ fn make_given<A: Allocator + Copy>(rt: &impl Abort, alloc: A) -> Result<Given<A>
 
 // Runs the text, which tells that `cd /none` failed and makes a row; or it was refused memory, and
 // the table is as before.
-fn run<A: Allocator + Copy>(rt: &impl Abort, telling: Global, given: &Given<A>) {
+fn run<T: Tree>(rt: &impl Abort, telling: Global, given: &Given<T>) {
     let memory = *given.vars.allocator();
     let mut table = MountTable::new(memory);
     match run_file(
@@ -79,13 +77,18 @@ fn run<A: Allocator + Copy>(rt: &impl Abort, telling: Global, given: &Given<A>) 
 }
 
 // With each request of memory refused in turn. Some growths go on with less when they are refused.
+fn run_refused<T: Tree>(rt: &impl Abort, alloc: Global, memory: &Refusing<Global>, lent: T::Alloc) {
+    let refusals = refuse_each(
+        memory,
+        || make_given::<T>(rt, lent).expect(rt, "ample memory"),
+        |given| run(rt, alloc, &given),
+    );
+    assert!(rt; refusals > 20);
+}
+
 #[test]
 fn a_table_is_as_before_at_each_refusal(rt: HostRuntime) {
     let memory = Refusing::new(rt.alloc());
-    let refusals = refuse_each(
-        &memory,
-        || make_given(&rt, &memory).expect(&rt, "ample memory"),
-        |given| run(&rt, rt.alloc(), &given),
-    );
-    assert!(rt; refusals > 20);
+    run_refused::<PlainTree<&Refusing<Global>>>(&rt, rt.alloc(), &memory, &memory);
+    run_refused::<IndexTree<&Refusing<Global>>>(&rt, rt.alloc(), &memory, &memory);
 }

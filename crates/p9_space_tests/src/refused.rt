@@ -5,9 +5,11 @@ use crate::telling::{row, trail};
 use crate::words::node;
 use crate::worlds::{SMALL, Space, space_of};
 use p9_base::{Fault, NoMemory};
+use p9_index::IndexTree;
 use p9_refusing::{Refusing, refuse_each};
 use p9_space::{Channels, MountTable, PLACES_MAX, Trail, Who, advance, resolve};
-use std::alloc::{Allocator, Global};
+use p9_tree::{PlainTree, Tree};
+use std::alloc::Global;
 use std::process::Abort;
 
 // What a bind with 1 and 2 tells.
@@ -109,12 +111,12 @@ fn a_trail_is_as_before_at_each_refusal(rt: HostRuntime) {
 }
 
 // No user.
-fn nobody<A: Allocator + Copy>(_space: &Space<A>) -> Option<Who<'_, A>> {
+fn nobody<T: Tree>(_space: &Space<T>) -> Option<Who<'_, T::Alloc>> {
     None
 }
 
 // Walks to a directory.
-fn walk<A: Allocator + Copy>(space: &Space<A>) -> Result<Trail<A>, Fault> {
+fn walk<T: Tree>(space: &Space<T>) -> Result<Trail<T::Alloc>, Fault> {
     let names = ["a", "b"];
     resolve(
         &space.forest,
@@ -126,7 +128,7 @@ fn walk<A: Allocator + Copy>(space: &Space<A>) -> Result<Trail<A>, Fault> {
 }
 
 // Walks, again where it was refused.
-fn walk_again<A: Allocator + Copy>(rt: &impl Abort, alloc: Global, space: &Space<A>) {
+fn walk_again<T: Tree>(rt: &impl Abort, alloc: Global, space: &Space<T>) {
     let found = match walk(space) {
         Ok(found) => found,
         Err(fault) => {
@@ -139,7 +141,7 @@ fn walk_again<A: Allocator + Copy>(rt: &impl Abort, alloc: Global, space: &Space
 }
 
 // The same walk by channels.
-fn walk_by_channels<A: Allocator + Copy>(space: &Space<A>) -> Result<Channels<A>, Fault> {
+fn walk_by_channels<T: Tree>(space: &Space<T>) -> Result<Channels<T::Alloc>, Fault> {
     let names = ["a", "b"];
     let mut channels = Channels::of(&space.table, space.trail.copy()?)?;
     advance(
@@ -153,7 +155,7 @@ fn walk_by_channels<A: Allocator + Copy>(space: &Space<A>) -> Result<Channels<A>
 }
 
 // Walks so, again where it was refused.
-fn walk_by_channels_again<A: Allocator + Copy>(rt: &impl Abort, alloc: Global, space: &Space<A>) {
+fn walk_by_channels_again<T: Tree>(rt: &impl Abort, alloc: Global, space: &Space<T>) {
     let found = match walk_by_channels(space) {
         Ok(found) => found,
         Err(fault) => {
@@ -165,13 +167,23 @@ fn walk_by_channels_again<A: Allocator + Copy>(rt: &impl Abort, alloc: Global, s
     assert_eq!(rt; told.as_str(), "0 1 2 ");
 }
 
-#[test]
-fn a_walk_by_channels_is_done_again_at_each_refusal(rt: HostRuntime) {
-    let memory = Refusing::new(rt.alloc());
+// Both, with each request of memory refused in turn.
+fn walk_refused<T: Tree>(
+    rt: &impl Abort,
+    alloc: Global,
+    memory: &Refusing<Global>,
+    lent: T::Alloc,
+) {
     let refusals = refuse_each(
-        &memory,
-        || space_of(&rt, &memory, SMALL).expect(&rt, "ample memory"),
-        |space| walk_by_channels_again(&rt, rt.alloc(), &space),
+        memory,
+        || space_of::<T>(rt, lent, SMALL).expect(rt, "ample memory"),
+        |space| walk_by_channels_again(rt, alloc, &space),
+    );
+    assert!(rt; refusals > 0);
+    let refusals = refuse_each(
+        memory,
+        || space_of::<T>(rt, lent, SMALL).expect(rt, "ample memory"),
+        |space| walk_again(rt, alloc, &space),
     );
     assert!(rt; refusals > 0);
 }
@@ -179,10 +191,6 @@ fn a_walk_by_channels_is_done_again_at_each_refusal(rt: HostRuntime) {
 #[test]
 fn a_walk_is_done_again_at_each_refusal(rt: HostRuntime) {
     let memory = Refusing::new(rt.alloc());
-    let refusals = refuse_each(
-        &memory,
-        || space_of(&rt, &memory, SMALL).expect(&rt, "ample memory"),
-        |space| walk_again(&rt, rt.alloc(), &space),
-    );
-    assert!(rt; refusals > 0);
+    walk_refused::<PlainTree<&Refusing<Global>>>(&rt, rt.alloc(), &memory, &memory);
+    walk_refused::<IndexTree<&Refusing<Global>>>(&rt, rt.alloc(), &memory, &memory);
 }

@@ -1,7 +1,7 @@
 //! Binds and unmounts, and what a user may do with a file.
 
 use crate::calls::plays;
-use crate::worlds::{GROUPED, SMALL, UNIONS, space_of};
+use crate::worlds::{GROUPED, SMALL, UNIONS};
 use std::test::Fail;
 
 #[test]
@@ -15,12 +15,7 @@ clear
 bind 3 replace create 1
 walk glenda x = 0 1 
 key 0 = 3 in 0 is 1+";
-    plays(
-        &rt,
-        rt.alloc(),
-        &mut space_of(&rt, rt.alloc(), UNIONS)?,
-        lines,
-    );
+    plays(&rt, rt.alloc(), UNIONS, lines)?;
     Ok(())
 }
 
@@ -35,12 +30,7 @@ key 0 = 3 in 0 is 1
 unmount 3 1
 rows = 0 true
 members 3 =  3+";
-    plays(
-        &rt,
-        rt.alloc(),
-        &mut space_of(&rt, rt.alloc(), UNIONS)?,
-        lines,
-    );
+    plays(&rt, rt.alloc(), UNIONS, lines)?;
     Ok(())
 }
 
@@ -63,12 +53,7 @@ kept 0 = 5 in 0 is 1+ 2
 kept 1 = 6 in 0 is 3+ 4 1+ 2
 kept 2 = 7 in 0 is 1+ 2
 kept 3 = none";
-    plays(
-        &rt,
-        rt.alloc(),
-        &mut space_of(&rt, rt.alloc(), UNIONS)?,
-        lines,
-    );
+    plays(&rt, rt.alloc(), UNIONS, lines)?;
     Ok(())
 }
 
@@ -85,12 +70,7 @@ unmount 1
 given = true
 bind 5 replace - 1
 given = false";
-    plays(
-        &rt,
-        rt.alloc(),
-        &mut space_of(&rt, rt.alloc(), UNIONS)?,
-        lines,
-    );
+    plays(&rt, rt.alloc(), UNIONS, lines)?;
     Ok(())
 }
 
@@ -100,12 +80,7 @@ fn rights_come_from_each_class(rt: HostRuntime) -> Result<(), Fail> {
     let lines = "\
 may glenda 3 = true true false true
 may rob 3 = true false false false";
-    plays(
-        &rt,
-        rt.alloc(),
-        &mut space_of(&rt, rt.alloc(), SMALL)?,
-        lines,
-    );
+    plays(&rt, rt.alloc(), SMALL, lines)?;
     Ok(())
 }
 
@@ -116,11 +91,6 @@ may glenda 1 = true true false false
 may sys 1 = false false false true
 may staff 1 = false false false false
 may adm 1 = true false false true";
-    plays(
-        &rt,
-        rt.alloc(),
-        &mut space_of(&rt, rt.alloc(), GROUPED)?,
-        lines,
-    );
+    plays(&rt, rt.alloc(), GROUPED, lines)?;
     Ok(())
 }

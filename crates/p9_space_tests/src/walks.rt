@@ -1,7 +1,7 @@
 //! Walks from place to place, and why a step may be refused.
 
 use crate::calls::plays;
-use crate::worlds::{DEEP, SHUT, SMALL, UNIONS, space_of};
+use crate::worlds::{DEEP, SHUT, SMALL, UNIONS};
 use std::test::Fail;
 
 #[test]
@@ -10,12 +10,7 @@ fn a_walk_goes_on_in_a_union(rt: HostRuntime) -> Result<(), Fail> {
 bind 3 after - 1
 walk glenda x n = 0 3 4 
 key 0 = 3 in 0 is 3 1";
-    plays(
-        &rt,
-        rt.alloc(),
-        &mut space_of(&rt, rt.alloc(), UNIONS)?,
-        lines,
-    );
+    plays(&rt, rt.alloc(), UNIONS, lines)?;
     Ok(())
 }
 
@@ -25,12 +20,7 @@ fn dot_dot_is_lexical(rt: HostRuntime) -> Result<(), Fail> {
 bind 3 replace - 2
 walk glenda m = 0 2 
 walk glenda .. = 0 ";
-    plays(
-        &rt,
-        rt.alloc(),
-        &mut space_of(&rt, rt.alloc(), DEEP)?,
-        lines,
-    );
+    plays(&rt, rt.alloc(), DEEP, lines)?;
     Ok(())
 }
 
@@ -44,12 +34,7 @@ walk glenda x n = 0 1 4
 up
 up
 walk - x n = 0 1 2 ";
-    plays(
-        &rt,
-        rt.alloc(),
-        &mut space_of(&rt, rt.alloc(), SHUT)?,
-        lines,
-    );
+    plays(&rt, rt.alloc(), SHUT, lines)?;
     Ok(())
 }
 
@@ -72,12 +57,7 @@ bind 2 replace - 3 2
 up
 up
 walk glenda a b = phase error";
-    plays(
-        &rt,
-        rt.alloc(),
-        &mut space_of(&rt, rt.alloc(), SMALL)?,
-        lines,
-    );
+    plays(&rt, rt.alloc(), SMALL, lines)?;
     Ok(())
 }
 
@@ -93,11 +73,6 @@ step - a = path too deep
 step - b = file does not exist
 up
 step - a = to 1 in 0";
-    plays(
-        &rt,
-        rt.alloc(),
-        &mut space_of(&rt, rt.alloc(), SMALL)?,
-        lines,
-    );
+    plays(&rt, rt.alloc(), SMALL, lines)?;
     Ok(())
 }

@@ -2,9 +2,8 @@
 
 use p9_base::{Groups, NoMemory};
 use p9_space::{MountTable, ROOT_PLACE, Trail};
-use p9_tree::{Forest, PlainTree, Tree};
+use p9_tree::{Forest, Tree};
 use p9_world::{World, read_world};
-use std::alloc::Allocator;
 use std::process::Abort;
 
 /// Nodes 1 to 3: /a, /a/b and /a/f.
@@ -46,31 +45,28 @@ dir /m 755 sys sys";
 /// A forest, the groups, a mount table over the forest, a copy that was kept of it, and where a
 /// walk has come to.
 #[derive(Drop)]
-pub struct Space<A: Allocator + Copy>
-where
-    PlainTree<A>: Tree,
-{
-    pub forest: Forest<PlainTree<A>>,
-    pub groups: Groups<A>,
-    pub table: MountTable<A>,
-    pub kept: MountTable<A>,
-    pub trail: Trail<A>,
+pub struct Space<T: Tree> {
+    pub forest: Forest<T>,
+    pub groups: Groups<T::Alloc>,
+    pub table: MountTable<T::Alloc>,
+    pub kept: MountTable<T::Alloc>,
+    pub trail: Trail<T::Alloc>,
 }
 
 /// The forest of a text.
-pub fn forest<A: Allocator + Copy>(rt: &impl Abort, alloc: A, text: &str) -> Forest<PlainTree<A>> {
-    let world = read_world::<PlainTree<A>>(alloc, text).expect(rt, "a world");
+pub fn forest<T: Tree>(rt: &impl Abort, alloc: T::Alloc, text: &str) -> Forest<T> {
+    let world = read_world(alloc, text).expect(rt, "a world");
     let World { forest, .. } = world;
     forest
 }
 
 /// The forest of a text, empty tables, and a walk at the root.
-pub fn space_of<A: Allocator + Copy>(
+pub fn space_of<T: Tree>(
     rt: &impl Abort,
-    alloc: A,
+    alloc: T::Alloc,
     text: &str,
-) -> Result<Space<A>, NoMemory> {
-    let world = read_world::<PlainTree<A>>(alloc, text).expect(rt, "a world");
+) -> Result<Space<T>, NoMemory> {
+    let world = read_world(alloc, text).expect(rt, "a world");
     let World { forest, groups, .. } = world;
     Ok(Space {
         forest,

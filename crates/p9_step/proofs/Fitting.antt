@@ -38,7 +38,7 @@ use Rattle.p9_step.specs.Read.{entry_bytes, fitting}
 use Rattle.p9_step.specs.Laws.{refusal_max}
 use Rattle.p9_step.specs.State.{Session, Setting, fid_ref, io_header, room_of}
 use Rattle.p9_step.specs.Version.{msize_min}
-use Rattle.p9_step.specs.Walk.{Arrival, arrival, arrived_by, going_on, walked}
+use Rattle.p9_step.specs.Walk.{Arrival, arrival, arrived_by, step_and_rest, trail_after, walked}
 use Rattle.p9_step.proofs.Lawful.{node-sound}
 use Rattle.p9_step.proofs.Passed.{AttachDone, ClunkDone, CreateDone, OpenDone, ReadDone}
 use Rattle.p9_step.proofs.Passed.{RemovalDone, StatDone, VersionDone, WalkDone, WriteDone}
@@ -66,7 +66,8 @@ length-walked setting forest user trail (name ∷ names) =
         → ((next : List NodeRef)
         → length (walked setting forest user next names).qids ≤ length names)
         → length
-        (going_on setting forest trail r (λ next. walked setting forest user next names)).qids
+        (step_and_rest trail r
+        (walked setting forest user (trail_after trail r) names)).qids
         ≤ length (name ∷ names)
     go (Err fault) later = omega arith
     go (Ok a) later = let rest = later a.trail in omega arith
@@ -127,7 +128,8 @@ qids_fit setting forest sound user trail (name ∷ names) =
         → ((next : List NodeRef)
         → AllByRecursion QidNumbersFit (walked setting forest user next names).qids)
         → AllByRecursion QidNumbersFit
-        (going_on setting forest trail r (λ next. walked setting forest user next names)).qids
+        (step_and_rest trail r
+        (walked setting forest user (trail_after trail r) names)).qids
     go (Err fault) e later = tt
     go (Ok a) e later = (arrived_fits a e, later a.trail)
 

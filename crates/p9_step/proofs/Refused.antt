@@ -29,7 +29,7 @@ use Rattle.p9_fids.specs.Fid.{Fid, FidRow, put_fault}
 use Rattle.p9_wire.specs.Reading.{t_message_of}
 use Rattle.p9_step.specs.Request.{request_of}
 use Rattle.p9_step.specs.State.{Session, Setting}
-use Rattle.p9_step.specs.Walk.{Arrival, Walked, arrival, arrived_by, going_on, newfid_fault, walked}
+use Rattle.p9_step.specs.Walk.{Arrival, Walked, arrival, arrived_by, newfid_fault, step_and_rest, trail_after, walked}
 use Rattle.p9_step.specs.Wstat.{Touched, gid_fault, length_fault, mode_fault, name_fault}
 use Rattle.p9_step.specs.Wstat.{ruling_fault, wstat_fault}
 use Rattle.p9_step.proofs.Done.{IsOfTest}
@@ -170,19 +170,20 @@ module _ (setting : Setting) (forest : List Server) where
       then-err (step_of forest setting.table (Some (who_of setting user)) trail name) _
       (step_of-of forest setting.table (Some (who_of setting user)) trail name) (arrival-of trail)
 
-  going_on-of : (trail : List NodeRef) (r : Result Arrival Fault) (later : List NodeRef → Walked)
-      → IfErr r → ((next : List NodeRef) → IfFault (later next).stopped)
-      → IfFault (going_on setting forest trail r later).stopped
-  going_on-of trail (Err fault) later of each = some-of fault (of fault refl)
-  going_on-of trail (Ok a) later of each = each a.trail
+  step_and_rest-of : (trail : List NodeRef) (r : Result Arrival Fault) (rest : Walked)
+      → IfErr r → IfFault rest.stopped
+      → IfFault (step_and_rest trail r rest).stopped
+  step_and_rest-of trail (Err fault) rest of later = some-of fault (of fault refl)
+  step_and_rest-of trail (Ok a) rest of later = later
 
   pub walked-of : (user : List ℕ) (trail : List NodeRef) (names : List (List ℕ))
       → IfFault (walked setting forest user trail names).stopped
   walked-of user trail [] = none-of
   walked-of user trail (name ∷ names) =
-      going_on-of trail (arrived_by setting forest user trail name)
-      (λ next. walked setting forest user next names) (arrived_by-of user trail name)
-      (λ next. walked-of user next names)
+      let step = arrived_by setting forest user trail name in
+      let next = trail_after trail step in
+      step_and_rest-of trail step (walked setting forest user next names)
+      (arrived_by-of user trail name) (walked-of user next names)
 
 -- a frame that is no request
 pub request_of-of : (session : Session) (frame : List ℕ) → IfErr (request_of session frame)

@@ -36,7 +36,7 @@ use Rattle.p9_step.specs.Attach.{listed_user}
 use Rattle.p9_step.specs.Qid.{qid_at}
 use Rattle.p9_step.specs.Sound.{FidsFit, IsFid, IsSession, IsSetting}
 use Rattle.p9_step.specs.State.{Session, SessionRow, Setting}
-use Rattle.p9_step.specs.Walk.{Arrival, arrival, arrived_by, going_on, walked}
+use Rattle.p9_step.specs.Walk.{Arrival, arrival, arrived_by, step_and_rest, trail_after, walked}
 use Rattle.p9_step.proofs.Evolves.{Evolves}
 use Rattle.p9_step.proofs.Members.{found-member}
 use Rattle.p9_step.proofs.NodeRefs.{member-given, node_of-given, same-is}
@@ -373,7 +373,8 @@ trail-walked setting forest sound user trail (name ∷ names) its =
         → ((next : List NodeRef) → IsGivenTrail forest next
         → IsGivenTrail forest (walked setting forest user next names).trail)
         → IsGivenTrail forest
-        (going_on setting forest trail r (λ next. walked setting forest user next names)).trail
+        (step_and_rest trail r
+        (walked setting forest user (trail_after trail r) names)).trail
     by_arrival (Err fault) e later = its
     by_arrival (Ok a) e later = later a.trail (by_step
         (step_of forest setting.table (Some (who_of setting user)) trail name) refl)

@@ -29,6 +29,16 @@ pub record Arrival : Type 0 where
   pub trail : List NodeRef
   pub qid : Qid
 
+-- the trail after a step; it is the same where the step is refused
+abbrev pub trail_after : List NodeRef → Result Arrival Fault → List NodeRef
+trail_after trail (Err fault) = trail
+trail_after trail (Ok a) = a.trail
+
+-- a first step, and the rest of the walk behind it; a step that is refused ends the walk
+abbrev pub step_and_rest : List NodeRef → Result Arrival Fault → Walked → Walked
+step_and_rest trail (Err fault) rest = record { qids = []; trail = trail; stopped = Some fault }
+step_and_rest trail (Ok a) rest = record rest { qids = a.qid ∷ rest.qids }
+
 module _ (setting : Setting) (forest : List Server) where
   -- a step that is taken, with the qid of the file where it arrives
   abbrev pub arrival : List NodeRef → Step → Result Arrival Fault
@@ -43,21 +53,12 @@ module _ (setting : Setting) (forest : List Server) where
       and_then (step_of forest setting.table (Some (who_of setting user)) trail name)
       (arrival trail)
 
-  -- ends where a step is refused, else goes on
-  abbrev pub going_on : List NodeRef → Result Arrival Fault → (List NodeRef → Walked) → Walked
-  going_on trail (Err fault) later = record { qids = []; trail = trail; stopped = Some fault }
-  going_on trail (Ok a) later =
-      let rest = later a.trail in record {
-        qids = a.qid ∷ rest.qids;
-        trail = rest.trail;
-        stopped = rest.stopped;
-      }
-
   -- one step after another, up to the first that is refused
   abbrev pub walked : List ℕ → List NodeRef → List (List ℕ) → Walked
   walked user trail [] = record { qids = []; trail = trail; stopped = None }
   walked user trail (name ∷ names) =
-      going_on trail (arrived_by user trail name) (λ next. walked user next names)
+      let step = arrived_by user trail name in
+      step_and_rest trail step (walked user (trail_after trail step) names)
 
 -- why newfid can't be where the walk leads; the fid itself always can
 abbrev pub newfid_fault : (fid newfid : ℕ) → List FidRow → Option Fault

@@ -1,6 +1,7 @@
 //! What is wrong with a line: each fault once, and which of two it is.
 
-use p9_tree::PlainTree;
+use p9_index::IndexTree;
+use p9_tree::{PlainTree, Tree};
 use p9_world::read_world;
 use std::alloc::{AllocError, Global};
 use std::process::Abort;
@@ -172,9 +173,19 @@ line 0: no server = group g u v
 no fault = group g u v;group h u v;server m
 no fault = group g g g;group u v;server m;user g;user u";
 
-/// What is told of the text.
+/// What is told of the text: the same over a tree of each kind, or both.
 pub fn told(alloc: Global, text: &str) -> Result<String, AllocError> {
-    match read_world::<PlainTree<Global>>(alloc, text) {
+    let plain = told_over::<PlainTree<Global>>(alloc, alloc, text)?;
+    let index = told_over::<IndexTree<Global>>(alloc, alloc, text)?;
+    if plain.as_str() == index.as_str() {
+        Ok(plain)
+    } else {
+        format!(in alloc; "{plain}, and over an IndexTree {index}")
+    }
+}
+
+fn told_over<T: Tree>(alloc: Global, lent: T::Alloc, text: &str) -> Result<String, AllocError> {
+    match read_world::<T>(lent, text) {
         Ok(_) => String::from_str(alloc, "no fault"),
         Err(error) => format!(in alloc; "{error}"),
     }

@@ -2,10 +2,11 @@
 
 use crate::faults::told;
 use p9_base::User;
+use p9_index::IndexTree;
 use p9_refusing::{Refusing, refuse_each};
-use p9_tree::PlainTree;
+use p9_tree::{PlainTree, Tree};
 use p9_world::{World, WorldError, read_world};
-use std::alloc::{AllocError, Allocator, Global};
+use std::alloc::{AllocError, Global};
 use std::process::Abort;
 use std::test::Fail;
 
@@ -49,10 +50,10 @@ sys sys true true
 sys ken false false";
 
 // What is told of each group and user of the rows.
-fn is_asked<A: Allocator + Copy>(
+fn is_asked<T: Tree>(
     rt: &impl Abort,
     alloc: Global,
-    world: &World<PlainTree<A>>,
+    world: &World<T>,
     rows: &str,
 ) -> Result<(), AllocError> {
     for row in rows.lines() {
@@ -69,10 +70,17 @@ fn is_asked<A: Allocator + Copy>(
     Ok(())
 }
 
+// What is told of the world of a text, with a tree of each kind.
+fn are_groups_of(rt: &impl Abort, alloc: Global, text: &str, rows: &str) -> Result<(), AllocError> {
+    let plain = read_world::<PlainTree<Global>>(alloc, text).expect(rt, "a world");
+    is_asked(rt, alloc, &plain, rows)?;
+    let index = read_world::<IndexTree<Global>>(alloc, text).expect(rt, "a world");
+    is_asked(rt, alloc, &index, rows)
+}
+
 #[test]
 fn groups_have_members_and_a_leader(rt: HostRuntime) -> Result<(), Fail> {
-    let world = read_world::<PlainTree<Global>>(rt.alloc(), TEXT)?;
-    is_asked(&rt, rt.alloc(), &world, ASKED)?;
+    are_groups_of(&rt, rt.alloc(), TEXT, ASKED)?;
     Ok(())
 }
 
@@ -101,29 +109,38 @@ rob ken false false";
 
 #[test]
 fn the_example_of_the_guide_has_its_groups(rt: HostRuntime) -> Result<(), Fail> {
-    let world = read_world::<PlainTree<Global>>(rt.alloc(), EXAMPLE)?;
-    is_asked(&rt, rt.alloc(), &world, EXAMPLE_ASKED)?;
+    are_groups_of(&rt, rt.alloc(), EXAMPLE, EXAMPLE_ASKED)?;
     Ok(())
 }
 
 // Reads the groups, again where an allocation failed.
-fn read_again(rt: &impl Abort, telling: Global, memory: &Refusing<Global>) {
-    let world = match read_world::<PlainTree<&Refusing<Global>>>(memory, TEXT) {
+fn read_again<T: Tree>(rt: &impl Abort, telling: Global, lent: T::Alloc) {
+    let world = match read_world::<T>(lent, TEXT) {
         Ok(world) => world,
         Err(error) => {
             assert_eq!(rt; error, WorldError::NoMemory);
-            let again = read_world::<PlainTree<&Refusing<Global>>>(memory, TEXT);
+            let again = read_world::<T>(lent, TEXT);
             again.expect(rt, "a world with ample memory")
         }
     };
     is_asked(rt, telling, &world, ASKED).expect(rt, "memory");
 }
 
+fn read_refused<T: Tree>(
+    rt: &impl Abort,
+    telling: Global,
+    memory: &Refusing<Global>,
+    lent: T::Alloc,
+) {
+    let refusals = refuse_each(memory, || (), |()| read_again::<T>(rt, telling, lent));
+    assert!(rt; refusals > 20);
+}
+
 #[test]
 fn groups_are_read_after_each_refusal(rt: HostRuntime) {
     let memory = Refusing::new(rt.alloc());
-    let refusals = refuse_each(&memory, || (), |()| read_again(&rt, rt.alloc(), &memory));
-    assert!(rt; refusals > 20);
+    read_refused::<PlainTree<&Refusing<Global>>>(&rt, rt.alloc(), &memory, &memory);
+    read_refused::<IndexTree<&Refusing<Global>>>(&rt, rt.alloc(), &memory, &memory);
 }
 
 // A world with a group of 10,000 members, and more words behind them.
@@ -139,7 +156,6 @@ fn many_members(alloc: Global, more: &str) -> Result<String, AllocError> {
 #[test]
 fn a_group_may_have_many_members(rt: HostRuntime) -> Result<(), Fail> {
     let text = many_members(rt.alloc(), "\ngroup few u9999 u0")?;
-    let world = read_world::<PlainTree<Global>>(rt.alloc(), text.as_str())?;
     let rows = "\
 many u0 true false
 many u1 true true
@@ -148,7 +164,7 @@ many u10000 false false
 many many false false
 few u0 true false
 few u9999 false true";
-    is_asked(&rt, rt.alloc(), &world, rows)?;
+    are_groups_of(&rt, rt.alloc(), text.as_str(), rows)?;
     Ok(())
 }
 

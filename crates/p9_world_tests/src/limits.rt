@@ -2,6 +2,7 @@
 
 use crate::faults::told;
 use p9_base::SERVERS_MAX;
+use p9_index::IndexTree;
 use p9_tree::{FILE_MAX, PlainTree};
 use p9_world::read_world;
 use std::alloc::{AllocError, Global};
@@ -21,8 +22,10 @@ fn long_file(alloc: Global, path: &str, count: usize, end: &str) -> Result<Strin
 #[test]
 fn the_largest_file_is_made(rt: HostRuntime) -> Result<(), Fail> {
     let text = long_file(rt.alloc(), "/f", FILE_MAX, "")?;
-    let world = read_world::<PlainTree<Global>>(rt.alloc(), text.as_str())?;
-    assert_eq!(rt; world.forest.next_of(0), 2);
+    let plain = read_world::<PlainTree<Global>>(rt.alloc(), text.as_str())?;
+    assert_eq!(rt; plain.forest.next_of(0), 2);
+    let index = read_world::<IndexTree<Global>>(rt.alloc(), text.as_str())?;
+    assert_eq!(rt; index.forest.next_of(0), 2);
     Ok(())
 }
 
@@ -68,8 +71,10 @@ fn all_servers(alloc: Global, line: &str) -> Result<String, AllocError> {
 #[test]
 fn all_servers_are_made(rt: HostRuntime) -> Result<(), Fail> {
     let text = all_servers(rt.alloc(), "dir /a 755 u u")?;
-    let world = read_world::<PlainTree<Global>>(rt.alloc(), text.as_str())?;
-    assert_eq!(rt; world.forest.next_of(65_535), 2);
+    let plain = read_world::<PlainTree<Global>>(rt.alloc(), text.as_str())?;
+    assert_eq!(rt; plain.forest.next_of(65_535), 2);
+    let index = read_world::<IndexTree<Global>>(rt.alloc(), text.as_str())?;
+    assert_eq!(rt; index.forest.next_of(65_535), 2);
     Ok(())
 }
 

@@ -4,26 +4,24 @@ use crate::telling::world as told_of;
 use crate::worlds::{
     BOUND_INSIDE, COVERED_VAULT, DEEP, HOME, SMALL, Sample, TWO_SERVERS, TWO_UNIONS, VAULT,
 };
-use p9_tree::PlainTree;
+use p9_index::IndexTree;
+use p9_tree::{PlainTree, Tree};
 use p9_world::{World, read_world};
-use std::alloc::{Allocator, Global};
+use std::alloc::Global;
 use std::process::Abort;
 use std::test::Fail;
 
 /// The world is the sample's.
-pub fn is_sample<A: Allocator + Copy>(
-    rt: &impl Abort,
-    alloc: Global,
-    world: &World<PlainTree<A>>,
-    sample: &Sample,
-) {
+pub fn is_sample<T: Tree>(rt: &impl Abort, alloc: Global, world: &World<T>, sample: &Sample) {
     let told = told_of(alloc, world).expect(rt, "memory");
     assert_eq!(rt; told.as_str(), sample.told);
 }
 
 fn is_read(rt: &impl Abort, alloc: Global, sample: &Sample) {
-    let world = read_world::<PlainTree<Global>>(alloc, sample.text).expect(rt, "a world");
-    is_sample(rt, alloc, &world, sample);
+    let plain = read_world::<PlainTree<Global>>(alloc, sample.text).expect(rt, "a world");
+    is_sample(rt, alloc, &plain, sample);
+    let index = read_world::<IndexTree<Global>>(alloc, sample.text).expect(rt, "a world");
+    is_sample(rt, alloc, &index, sample);
 }
 
 #[test]

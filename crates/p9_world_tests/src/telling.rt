@@ -1,14 +1,11 @@
 //! What is told of a world.
 
-use p9_tree::{Node, PlainTree, Tree};
+use p9_tree::{Node, Tree};
 use p9_world::World;
 use std::alloc::{AllocError, Allocator, Global};
 
 /// The servers' names and nodes, the users, the hidden directories and the variables.
-pub fn world<A: Allocator + Copy>(
-    alloc: Global,
-    world: &World<PlainTree<A>>,
-) -> Result<String, AllocError> {
+pub fn world<T: Tree>(alloc: Global, world: &World<T>) -> Result<String, AllocError> {
     let mut told = String::new(alloc);
     for name in world.servers.as_slice() {
         writeln!(&mut told, "server {}", name.as_str())?;
