@@ -19,7 +19,7 @@ use Rattle.p9_tree.specs.Bytes.{cut_to, read_from}
 use Rattle.p9_tree.specs.Forest.{IsForest, next_of}
 use Rattle.p9_tree.specs.Node.{Node, marked, with_bytes}
 use Rattle.p9_tree.specs.Server.{Server}
-use Rattle.p9_space.specs.Place.{file_of, file_ref, root_place}
+use Rattle.p9_space.specs.Place.{file_of, file_ref}
 use Rattle.p9_space.specs.Trail.{here, stepped}
 use Rattle.p9_space.specs.Walk.{step_of}
 use Rattle.p9_space.specs.declared.trail.Step.{Step}

@@ -9,7 +9,7 @@ use Rattle.std.proofs.Common.{Bool, List, None, Ok, Option, Some, [], arith, fal
 use Rattle.std.proofs.Common.{is_some, length, refl, true, ℕ, ◌+◌, ◌<◌, ◌||◌, ◌∷◌, ◌≡◌, ◌≤◌, ◌⊎◌}
 use Rattle.std.proofs.lemmas.Bool.Decides.{nat_tests}
 use Rattle.std.specs.List.{flat_map}
-use Rattle.std.specs.Prelude.{codes, if◌then◌else◌, is_none, min, nat_le, not}
+use Rattle.std.specs.Prelude.{codes, is_none, min, nat_le, not}
 use Rattle.p9_base.specs.Mode.{is_dir as is_dir_mode}
 use Rattle.p9_base.specs.Name.{is_name}
 use Rattle.p9_base.specs.declared.fault.Fault.{Fault}
@@ -25,7 +25,6 @@ use Rattle.p9_space.specs.Rights.{may, to_write}
 use Rattle.p9_space.specs.declared.row.Member.{Member}
 use Rattle.p9_space.specs.Table.{members_of}
 use Rattle.p9_space.specs.Trail.{here, places_max}
-use Rattle.p9_wire.specs.FieldReading.{◌then◌}
 use Rattle.p9_wire.specs.Frame.{msize_max}
 use Rattle.p9_wire.specs.Message.{Rattach, Rclunk, Ropen, Rread, Rremove, Rstat, Rversion, Rwalk}
 use Rattle.p9_wire.specs.Message.{Rwrite, Rwstat, StatFields}
