@@ -4,4 +4,5 @@ pub mod Worlds
 pub mod Readings
 pub mod Members
 pub mod TextPositions
+pub mod LastDirs
 pub mod Readers

@@ -1,8 +1,10 @@
 -- Names along a path, read one after another.
 use Rattle.std.proofs.Common.{◌≡◌, List, [], ◌∷◌, ◌++◌, Option, Some, None, if◌then◌else◌}
-use Rattle.std.proofs.Common.{length, refl, sym, ap, ◌∙◌, arith, option_map}
-use Rattle.std.specs.List.{list_all, IsLastAndRest}
-use Rattle.std.specs.Option.{option_map_or, MatchOption}
+use Rattle.std.proofs.Common.{length, refl, sym, ap, ◌∙◌, arith, option_map, ◌<◌}
+use Rattle.std.proofs.Common.{ℕ, true, false}
+use Rattle.std.specs.Prelude.{◌↔◌, IsSome}
+use Rattle.std.specs.List.{list_all}
+use Rattle.std.specs.Option.{option_map_or, option_to_list}
 use Rattle.p9_base.specs.Name.{is_name}
 use Rattle.p9_clean.specs.Path.{Component}
 use Rattle.p9_world.specs.Path.{last_and_rest}
@@ -19,11 +21,13 @@ last_and_rest-append (first ∷ rest) name =
     ap (λ o. Some (option_map_or (λ place. (place.0, first ∷ place.1)) o (first, [])))
     (last_and_rest-append rest name)
 
--- what a split before the last name gives
-pub last_and_rest-split : {P : Type 0} (last : P → Component) (rest : P → List Component)
-    (names : List Component) (o : Option P) → MatchOption o (length names ≡ 0) (λ p. IsLastAndRest names (last p) (rest p))
-    → option_map (λ p. (last p, rest p)) o ≡ last_and_rest names
-last_and_rest-split last rest [] None none = refl
-last_and_rest-split last rest (name ∷ names) None none = absurd (omega arith)
-last_and_rest-split last rest names (Some p) split =
-    sym (ap last_and_rest split.0 ∙ last_and_rest-append (rest p) (last p))
+-- what is left where the last name is taken out
+pub last_and_rest-pop : (o : Option Component) (names rest : List Component) (count : ℕ)
+    → names ≡ rest ++ option_to_list o → count ≡ length names → (IsSome o ↔ (0 < count))
+    → option_map (λ name. (name, rest)) o ≡ last_and_rest names
+last_and_rest-pop None [] rest count split counts some = refl
+last_and_rest-pop None (name ∷ names) rest count split counts some =
+    let there : 0 < count = omega arith in
+    absurd (let e : false ≡ true = some.1 there in cc)
+last_and_rest-pop (Some name) names rest count split counts some =
+    sym (ap last_and_rest split ∙ last_and_rest-append rest name)

@@ -1,6 +1,6 @@
 -- A world as far as its text is read, when a line adds to it.
-use Rattle.std.proofs.Common.{◌≡◌, ◌<◌, ℕ, Bool, true, false, List, [], ◌∷◌, ◌++◌, length, map, Option}
-use Rattle.std.proofs.Common.{Some, None, Ok, Err, is_some, refl, sym, ap, ◌∙◌, arith, ◌==◌, ◌||◌, cond, rules}
+use Rattle.std.proofs.Common.{◌≡◌, ◌<◌, ℕ, true, false, List, [], ◌∷◌, ◌++◌, length, Option}
+use Rattle.std.proofs.Common.{Some, None, Ok, Err, is_some, refl, sym, ap, ◌∙◌, arith, cond, rules}
 use Rattle.std.proofs.lemmas.Bool.Decides.{nat_tests}
 use Rattle.std.proofs.lemmas.Grind.{common_steps}
 use Rattle.std.proofs.lemmas.List.{map_push, length-map}
@@ -17,13 +17,14 @@ use Rattle.p9_base.specs.Variable.{Variable}
 use Rattle.p9_base.proofs.Views.{list_any-map}
 use Rattle.p9_tree.specs.Forest.{next_of}
 use Rattle.p9_world.specs.declared.error.LineFault.TheVariants.{Duplicate}
+use Rattle.p9_world.specs.declared.last_dir.LastDir.{LastDir}
 use Rattle.p9_world.specs.declared.positions.Positions.{Positions}
-use Rattle.p9_world.specs.Hide.{is_hidden_by}
 use Rattle.p9_world.specs.Positions.{HasSame, Indexes, Places, position_at}
 use Rattle.p9_world.specs.Reader.{HasHidden, IsReader, names_of, node_cmp}
 use Rattle.p9_world.specs.User.{is_listed, user_line}
 use Rattle.p9_world.specs.Variable.{is_set, is_variable_name, set_line}
 use Rattle.p9_world.specs.World.{IsWorld, World, empty_world}
+use Rattle.p9_world.proofs.LastDirs.{led-root}
 use Rattle.p9_world.proofs.TextPositions.{Indexes-joined, Indexes-same, is_some-position}
 
 -- a directory that is hidden joins a world
@@ -47,12 +48,13 @@ at-node : (a b : NodeRef) → is_at (node_cmp a) b ≡ same_node a b
 at-node a b = grind (arith, nat_tests)
 
 module _ {Z : Type 0} (w : World) (users vars servers : Positions Z) (hidden : BTreeSet NodeRef)
-    (reader : IsReader w users vars servers hidden) where
+    (last_dir : LastDir Z) (reader : IsReader w users vars servers hidden last_dir) where
   -- a user joins
   pub reader-user : (name : List ℕ) (count : ℕ) (new : Positions Z)
       → is_some (position_at users name) ≡ false → count ≡ length w.users
       → Places name count users new
       → IsReader (record w { users = w.users ++ name ∷ [] }) new vars servers hidden
+      last_dir
   reader-user name count new absent last places = record {
     world = record {
       named = reader.world.named;
@@ -65,13 +67,15 @@ module _ {Z : Type 0} (w : World) (users vars servers : Positions Z) (hidden : B
     vars = reader.vars;
     servers = reader.servers;
     hidden = reader.hidden;
+    led = reader.led;
   }
 
   -- a variable joins
   pub reader-variable : (name value : List ℕ) (count : ℕ) (new : Positions Z)
       → is_some (position_at vars name) ≡ false → count ≡ length w.vars
       → Places name count vars new
-      → IsReader (record w { vars = w.vars ++ (name, value) ∷ [] }) users new servers hidden
+      → IsReader (record w { vars = w.vars ++ (name, value) ∷ [] }) users new servers
+      hidden last_dir
   reader-variable name value count new absent last places = record {
     world = record {
       named = reader.world.named;
@@ -87,17 +91,20 @@ module _ {Z : Type 0} (w : World) (users vars servers : Positions Z) (hidden : B
         (omega (arith, last, length-map w.vars (λ (var : Variable). var.0))) places);
     servers = reader.servers;
     hidden = reader.hidden;
+    led = reader.led;
   }
 
   -- no index changes what it says
   pub reader-same : (users' vars' servers' : Positions Z) → HasSame users users'
-      → HasSame vars vars' → HasSame servers servers' → IsReader w users' vars' servers' hidden
+      → HasSame vars vars' → HasSame servers servers' → IsReader w users' vars' servers'
+      hidden last_dir
   reader-same users' vars' servers' u v s = record {
     world = reader.world;
     users = Indexes-same w.users users users' reader.users u;
     vars = Indexes-same (names_of w.vars) vars vars' reader.vars v;
     servers = Indexes-same w.servers servers servers' reader.servers s;
     hidden = reader.hidden;
+    led = reader.led;
   }
 
   -- a user is listed where it has a position
@@ -156,12 +163,14 @@ IsWorld-empty = search rules
 
 -- nothing is read yet
 pub reader-none : {Z : Type 0} (users vars servers : Positions Z) (hidden : BTreeSet NodeRef)
-    → IsWorld empty_world → Indexes users [] → Indexes vars [] → Indexes servers []
-    → hidden.keys ≡ [] → IsReader empty_world users vars servers hidden
-reader-none users vars servers hidden world u v s none = record {
+    (last_dir : LastDir Z) → IsWorld empty_world → Indexes users [] → Indexes vars []
+    → Indexes servers [] → hidden.keys ≡ [] → last_dir.names.items ≡ [] → last_dir.number ≡ 0
+    → IsReader empty_world users vars servers hidden last_dir
+reader-none users vars servers hidden last_dir world u v s none names number = record {
   world = world;
   users = u;
   vars = v;
   servers = s;
   hidden = λ q. ap (list_any (is_at (node_cmp q))) none;
+  led = led-root last_dir [] names number;
 }

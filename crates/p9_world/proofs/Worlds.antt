@@ -1,7 +1,7 @@
 -- What keeps a world's trees, names and hidden numbers together.
 use Rattle.std.proofs.Common.{◌≡◌, ◌≢◌, ℕ, zero, suc, ◌-◌, ◌<◌, ◌≤◌, Bool, true, false}
 use Rattle.std.proofs.Common.{List, [], ◌∷◌, ◌++◌, length, get_or, set, Option, Some, None, refl}
-use Rattle.std.proofs.Common.{sym, ap, ◌∙◌, subst, arith, length-append, is_some}
+use Rattle.std.proofs.Common.{sym, ap, ◌∙◌, subst, arith, length-append, is_some, get_or-set_same}
 use Rattle.std.proofs.Common.{map, string_bytes, Result, Ok, Err}
 use Rattle.std.specs.declared.string.String.{String}
 use Rattle.std.specs.List.{position_or_len}
@@ -27,8 +27,10 @@ use Rattle.p9_world.specs.Server.{is_server_name, server_line, server_number, wi
 use Rattle.p9_world.specs.World.{World, IsWorld, world_view}
 use Rattle.p9_world.specs.Entry.{in_last_server, last_number}
 use Rattle.p9_world.specs.Hide.{hide_line, with_hidden}
+use Rattle.p9_world.specs.LastDir.{IsWhereNamesLead}
 use Rattle.p9_world.specs.Meaning.{Makes}
 use Rattle.p9_world.specs.Path.{dir_number, dir_of, names_of, number_from}
+use Rattle.p9_world.specs.declared.last_dir.LastDir.{LastDir}
 use Rattle.p9_world.specs.declared.error.LineFault.{LineFault}
 use Rattle.p9_world.specs.declared.error.LineError.{LineError}
 use Rattle.p9_world.specs.declared.error.LineError.TheVariants.{Bad, NoMemory}
@@ -156,6 +158,20 @@ module _ {T : Type 0} (state : T → Server) (ts : List T) (t u : T) (n : ℕ) (
       map-tree_changed_at state (λ old. state u) ts (n - 1) t u (omega arith) read refl
       ∙ ap (λ old. tree_changed_at (n - 1) (λ old. state u) old) seen
       ∙ ap (λ i. tree_changed_at i (λ old. state u) forest) last_is
+
+  -- where names lead there, they lead at the last server
+  pub led-last : {Z : Type 0} (dir : LastDir Z) → IsWhereNamesLead dir (state u)
+      → IsWhereNamesLead dir
+      (server_at (length (map state (set ts (n - 1) u)) - 1) (map state (set ts (n - 1) u)))
+  led-last dir led =
+      let here : n - 1 < length ts = omega arith in
+      let written : u ≡ get_or (set ts (n - 1) u) (n - 1) u = rw get_or-set_same refl in
+      let last : n - 1 ≡ length (map state (set ts (n - 1) u)) - 1 =
+      omega (arith, length-map (set ts (n - 1) u) state, length-set ts (n - 1) u) in
+      subst (λ s. IsWhereNamesLead dir s)
+      (sym (server_at-map state (set ts (n - 1) u) (n - 1) u
+      (omega (arith, length-set ts (n - 1) u)) written)
+      ∙ ap (λ i. server_at i (map state (set ts (n - 1) u))) last) led
 
   module _ {A : Type 0} (users : List (List ℕ)) (groups : List GroupRow) (hidden : List NodeRef)
       (vars : List (String A × String A)) (servers : List (String A)) where

@@ -9,6 +9,7 @@ pub mod User
 pub mod Group
 pub mod Hide
 pub mod Variable
+pub mod LastDir
 pub mod Positions
 pub mod Reader
 pub mod Read

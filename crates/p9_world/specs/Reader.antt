@@ -5,8 +5,12 @@ use Rattle.std.specs.declared.cmp.Ordering.{Ordering}
 use Rattle.std.specs.Ordering.{nat_cmp, ordering_then}
 use Rattle.p9_base.specs.declared.node_ref.NodeRef.{NodeRef}
 use Rattle.p9_base.specs.Variable.{Variable}
+use Rattle.p9_tree.specs.Forest.{server_at}
+use Rattle.p9_world.specs.declared.last_dir.LastDir.{LastDir}
 use Rattle.p9_world.specs.declared.positions.Positions.{Positions}
+use Rattle.p9_world.specs.Entry.{last_number}
 use Rattle.p9_world.specs.Hide.{is_hidden_by}
+use Rattle.p9_world.specs.LastDir.{IsWhereNamesLead}
 use Rattle.p9_world.specs.Positions.{Indexes}
 use Rattle.p9_world.specs.World.{IsWorld, World}
 
@@ -22,11 +26,14 @@ names_of vars = map (λ var. var.0) vars
 abbrev pub HasHidden : BTreeSet NodeRef → List NodeRef → Type 0
 HasHidden set hidden = (node : NodeRef) → contains node_cmp set node ≡ is_hidden_by hidden node
 
--- users, variables and servers have their positions, and the set has the hidden directories
+-- users, variables and servers have their positions, the set has the hidden directories, and the
+-- names of the last directory lead to it at the last server
 pub record IsReader {Z : Type 0} (w : World) (user_positions var_positions : Positions Z)
-    (server_positions : Positions Z) (hidden_set : BTreeSet NodeRef) : Type 0 where
+    (server_positions : Positions Z) (hidden_set : BTreeSet NodeRef) (last_dir : LastDir Z)
+    : Type 0 where
   pub world : IsWorld w
   pub users : Indexes user_positions w.users
   pub vars : Indexes var_positions (names_of w.vars)
   pub servers : Indexes server_positions w.servers
   pub hidden : HasHidden hidden_set w.hidden
+  pub led : IsWhereNamesLead last_dir (server_at (last_number w) w.forest)

@@ -5,12 +5,14 @@ ghost use Rattle.std.specs.Prelude.{option_map, true};
 ghost use Rattle.p9_base.specs.Mode.{is_dir};
 ghost use Rattle.p9_world.specs.Entry.{bytes_in, dir_line, file_line, in_last_server, is_owned};
 ghost use Rattle.p9_world.specs.Entry.{with_dir, with_entry};
+ghost use Rattle.p9_world.specs.LastDir.{IsWhereNamesLead};
 ghost use Rattle.p9_world.specs.Meaning.{Makes};
 ghost use Rattle.p9_world.specs.Path.{last_and_rest};
 
 use crate::error::{LineError, LineFault};
+use crate::last_dir::LastDir;
 use crate::mode::{file_mode_in, permissions_in};
-use crate::path::{dir_of, last_and_rest, names_of};
+use crate::path::{names_of, take_last};
 use crate::reader::Reader;
 use p9_base::{Kind, Mode, Name, NoMemory, Permissions, User};
 use p9_tree::{FILE_MAX, NEXT_MAX, New, Tree};
@@ -32,7 +34,7 @@ pub(crate) fn add_dir<T: Tree>(
     let Some(tree) = forest.trees.last_mut() else {
         return Err(LineError::Bad(LineFault::NoServer));
     };
-    add_dir_to(alloc, tree, path, mode, uid, gid)
+    add_dir_to(alloc, tree, &mut world.last_dir, path, mode, uid, gid)
 }
 
 /// A file joins the last server.
@@ -52,21 +54,24 @@ pub(crate) fn add_file<T: Tree>(
     let Some(tree) = forest.trees.last_mut() else {
         return Err(LineError::Bad(LineFault::NoServer));
     };
-    add_file_to(alloc, tree, path, mode, uid, gid, hex)
+    add_file_to(alloc, tree, &mut world.last_dir, path, mode, uid, gid, hex)
 }
 
 // A directory joins the tree, or its root is changed.
 fn add_dir_to<T: Tree>(
     alloc: T::Alloc,
     tree: &mut T,
+    last_dir: &mut LastDir<T::Alloc>,
     path: &str,
     mode: &str,
     uid: &str,
     gid: &str,
 ) -> Result<(), LineError>
+    requires { IsWhereNamesLead last_dir.old (T.state tree.old) }
     ensures made { Makes (dir_line path.now mode.now uid.now gid.now (T.state tree.old))
         (T.state tree.old) (T.state tree.new) result }
     ensures next { (T.state tree.old).next ≤ (T.state tree.new).next }
+    ensures led { IsWhereNamesLead last_dir.new (T.state tree.new) }
 {
     let Some(names) = names_of(alloc, path)? else {
         return Err(LineError::Bad(LineFault::BadPath));
@@ -77,22 +82,25 @@ fn add_dir_to<T: Tree>(
     let Some((uid, gid)) = owners(uid, gid) else {
         return Err(LineError::Bad(LineFault::BadUser));
     };
-    make_dir(tree, names.as_slice(), permissions, uid, gid)
+    make_dir(tree, last_dir, names, permissions, uid, gid)
 }
 
 // The directory of these names, or the root where there is none.
 fn make_dir<T: Tree>(
     tree: &mut T,
-    names: &[Name],
+    last_dir: &mut LastDir<T::Alloc>,
+    mut names: Vec<Name, T::Alloc>,
     permissions: Permissions,
     uid: User,
     gid: User,
 ) -> Result<(), LineError>
-    ensures made { Makes (with_dir (last_and_rest names.now) permissions uid gid (T.state tree.old))
+    requires { IsWhereNamesLead last_dir.old (T.state tree.old) }
+    ensures made { Makes (with_dir (last_and_rest names.items) permissions uid gid (T.state tree.old))
         (T.state tree.old) (T.state tree.new) result }
     ensures next { (T.state tree.old).next ≤ (T.state tree.new).next }
+    ensures led { IsWhereNamesLead last_dir.new (T.state tree.new) }
 {
-    let Some((name, names)) = last_and_rest(names) else {
+    let Some(name) = take_last(&mut names) else {
         tree.set_root(permissions, uid, gid);
         return Ok(());
     };
@@ -105,27 +113,30 @@ fn make_dir<T: Tree>(
         gid,
         bytes: &[],
     };
-    add_entry(tree, *name, names, &entry)
+    add_entry(tree, last_dir, name, names, &entry)
 }
 
 // A file joins the tree.
 fn add_file_to<T: Tree>(
     alloc: T::Alloc,
     tree: &mut T,
+    last_dir: &mut LastDir<T::Alloc>,
     path: &str,
     mode: &str,
     uid: &str,
     gid: &str,
     hex: &str,
 ) -> Result<(), LineError>
+    requires { IsWhereNamesLead last_dir.old (T.state tree.old) }
     ensures made { Makes (file_line path.now mode.now uid.now gid.now hex.now (T.state tree.old))
         (T.state tree.old) (T.state tree.new) result }
     ensures next { (T.state tree.old).next ≤ (T.state tree.new).next }
+    ensures led { IsWhereNamesLead last_dir.new (T.state tree.new) }
 {
-    let Some(names) = names_of(alloc, path)? else {
+    let Some(mut names) = names_of(alloc, path)? else {
         return Err(LineError::Bad(LineFault::BadPath));
     };
-    let Some((name, names)) = last_and_rest(names.as_slice()) else {
+    let Some(name) = take_last(&mut names) else {
         return Err(LineError::Bad(LineFault::BadPath));
     };
     let Some(mode) = file_mode_in(mode.as_bytes()) else {
@@ -146,7 +157,7 @@ fn add_file_to<T: Tree>(
         gid,
         bytes: bytes.as_slice(),
     };
-    add_entry(tree, *name, names, &entry)
+    add_entry(tree, last_dir, name, names, &entry)
 }
 
 // The owner and the group that two words name.
@@ -170,13 +181,15 @@ struct NodeLine<'a> {
 // A new node joins the tree, of this name in the directory that the names lead to.
 fn add_entry<T: Tree>(
     tree: &mut T,
+    last_dir: &mut LastDir<T::Alloc>,
     name: Name,
-    names: &[Name],
+    names: Vec<Name, T::Alloc>,
     entry: &NodeLine<'_>,
 ) -> Result<(), LineError>
+    requires led { IsWhereNamesLead last_dir.old (T.state tree.old) }
     requires small { length entry.now.bytes.now ≤ FILE_MAX }
     requires empty_dir { IsTrue (is_dir entry.now.mode) → entry.now.bytes.now ≡ [] }
-    ensures made { Makes (with_entry name names.now
+    ensures made { Makes (with_entry name names.items
         (record {
           mode = entry.now.mode;
           uid = entry.now.uid;
@@ -184,8 +197,9 @@ fn add_entry<T: Tree>(
           bytes = entry.now.bytes.now;
         }) (T.state tree.old)) (T.state tree.old) (T.state tree.new) result }
     ensures next { (T.state tree.old).next ≤ (T.state tree.new).next }
+    ensures led { IsWhereNamesLead last_dir.new (T.state tree.new) }
 {
-    let Some(dir) = dir_of(tree, names) else {
+    let Some(dir) = last_dir.dir_of(tree, names.as_slice()) else {
         return Err(LineError::Bad(LineFault::NoParent));
     };
     if tree.child(dir, &name).is_some() {
@@ -205,6 +219,7 @@ fn add_entry<T: Tree>(
         bytes: entry.bytes,
     };
     tree.add(dir, &new)?;
+    *last_dir = LastDir { names, number: dir };
     Ok(())
 }
 

@@ -9,6 +9,7 @@ mod entry;
 mod error;
 mod group;
 mod hide;
+mod last_dir;
 mod mode;
 mod path;
 mod positions;

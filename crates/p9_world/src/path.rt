@@ -1,6 +1,7 @@
 //! Paths from a server's root, and the directories that they lead to.
 
 ghost use Rattle.std.specs.Prelude.{◌≡◌, IfOk, map, option_map};
+ghost use Rattle.p9_world.specs.LastDir.{dir_from};
 ghost use Rattle.p9_world.specs.Path.{dir_of, last_and_rest, names_among, names_of};
 
 use p9_base::{Name, NoMemory};
@@ -42,18 +43,26 @@ fn names_among<A: Allocator + Copy>(
     Ok(Some(names))
 }
 
-/// The last of some names, and those before it.
-pub(crate) fn last_and_rest(names: &[Name]) -> Option<(&Name, &[Name])>
-    ensures { option_map (λ place. (place.0.now, place.1.now)) result ≡ last_and_rest names.now }
+/// Takes the last of some names out, and leaves those before it.
+pub(crate) fn take_last<A: Allocator + Copy>(names: &mut Vec<Name, A>) -> Option<Name>
+    ensures { option_map (λ name. (name, names.new.items)) result
+        ≡ last_and_rest names.old.items }
 {
-    names.split_last()
+    names.pop()
 }
 
 /// The number of the directory that the names lead to, from the root on.
 pub(crate) fn dir_of<T: Tree>(tree: &T, names: &[Name]) -> Option<u64>
     ensures { result ≡ dir_of names.now (T.state tree.now) }
 {
-    let mut number = 0;
+    dir_from(tree, 0, names)
+}
+
+/// The number of the directory that the names lead to, from the node of this number on.
+pub(crate) fn dir_from<T: Tree>(tree: &T, from: u64, names: &[Name]) -> Option<u64>
+    ensures { result ≡ dir_from from names.now (T.state tree.now) }
+{
+    let mut number = from;
     for name in names {
         number = tree.child(number, name)?.number();
     }

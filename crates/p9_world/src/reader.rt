@@ -3,6 +3,7 @@
 ghost use Rattle.std.specs.Prelude.{◌≡◌};
 ghost use Rattle.p9_world.specs.World.{IsWorld, empty_world};
 
+use crate::last_dir::LastDir;
 use crate::positions::Positions;
 use crate::world::World;
 use p9_base::{Groups, NodeRef, User};
@@ -12,7 +13,8 @@ use std::marker::Model;
 
 /// A world as far as its text is read. Beside the lists of the [`World`] it has what finds a second
 /// line of a name without going over the lines before: the positions of users, variables and
-/// servers by their names, and the hidden directories in order.
+/// servers by their names, and the hidden directories in order. It has the directory of the last
+/// server's last line too, from which that of the next line is found.
 ///
 /// It is seen as the world.
 #[derive(Drop)]
@@ -27,6 +29,7 @@ pub(crate) struct Reader<T: Tree> {
     pub variable_positions: Positions<T::Alloc>,
     pub server_positions: Positions<T::Alloc>,
     pub hidden_set: BTreeSet<NodeRef, T::Alloc>,
+    pub last_dir: LastDir<T::Alloc>,
 }
 
 impl<T: Tree> Model for Reader<T> {
@@ -40,7 +43,7 @@ impl<T: Tree> Model for Reader<T> {
 
     ghost invariant = { λ r. IsReader (world_view r.forest r.users.items
         r.groups r.hidden.items r.vars.items r.servers.items) r.user_positions r.variable_positions
-        r.server_positions r.hidden_set };
+        r.server_positions r.hidden_set r.last_dir };
 }
 
 impl<T: Tree> Reader<T> {
@@ -61,6 +64,7 @@ impl<T: Tree> Reader<T> {
             variable_positions: Positions::new(alloc),
             server_positions: Positions::new(alloc),
             hidden_set: BTreeSet::new(alloc),
+            last_dir: LastDir::root(alloc),
         }
     }
 

@@ -6,6 +6,7 @@ ghost use Rattle.p9_world.specs.Meaning.{Makes};
 ghost use Rattle.p9_world.specs.Server.{is_reserved, is_server_name, server_line};
 
 use crate::error::{LineError, LineFault};
+use crate::last_dir::LastDir;
 use crate::reader::Reader;
 use p9_base::SERVERS_MAX;
 use p9_tree::Tree;
@@ -38,6 +39,7 @@ pub(crate) fn add_server<T: Tree>(
     world.server_positions.insert(name, world.servers.len())?;
     world.servers.push(owned).unwrap();
     forest.trees.push(tree).unwrap();
+    world.last_dir = LastDir::root(alloc);
     Ok(())
 }
 

@@ -1,6 +1,6 @@
 use Rattle.std.proofs.Common.{◌<◌, length, refl, arith}
 use Rattle.p9_world.specs.Entry.{file_line}
-use Rattle.p9_world.proofs.Worlds.{IsWorld-last, Makes-last}
+use Rattle.p9_world.proofs.Worlds.{IsWorld-last, Makes-last, led-last}
 use Rattle.p9_world.proofs.entry.add_file.Goals as goal
 
 pub invariant_of-world-2 : goal.invariant_of-world-2
@@ -17,6 +17,10 @@ invariant_of-world-2 g c =
       vars = c.world.invariant.vars;
       servers = c.world.invariant.servers;
       hidden = c.world.invariant.hidden;
+      led =
+          led-last g.T.Tree.state c.forest.inside.trees.items c.in-Some.tree.now
+          c.add_file_to.new.tree _ c.forest.inside.trees.ok.0 some c.in-Some.ensures.value _
+          c.forest.view_is c.add_file_to.new.last_dir c.add_file_to.ensures.led;
     }
 
 pub returns : goal.returns

@@ -14,4 +14,5 @@ invariant_of-world-2 g c =
       servers = c.world.invariant.servers;
       hidden = hidden-joined _ c.args.node _ _ c.world.invariant.hidden
           c.in_ok-insert.ensures.updates.0;
+      led = c.world.invariant.led;
     }

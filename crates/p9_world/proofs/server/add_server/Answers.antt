@@ -6,6 +6,7 @@ use Rattle.p9_world.specs.Server.{is_server_name, server_number}
 use Rattle.p9_base.specs.NodeRef.{servers_max}
 use Rattle.p9_world.proofs.Lists.{map-joined}
 use Rattle.p9_world.specs.Positions.{position_at}
+use Rattle.p9_world.proofs.LastDirs.{led-root}
 use Rattle.p9_world.proofs.Readers.{no-position}
 use Rattle.p9_world.proofs.TextPositions.{Indexes-joined}
 use Rattle.p9_world.proofs.Worlds.{IsWorld-with_server, server_line-ok}
@@ -47,6 +48,7 @@ invariant_of-world-2 g c =
           ))
           c.in_ok-insert.ensures.ok);
       hidden = c.world.invariant.hidden;
+      led = led-root c.root.result _ c.root.ensures.names c.root.ensures.number;
     }
 
 pub returns : goal.returns

@@ -1,4 +1,4 @@
-use Rattle.std.proofs.Common.{◌≡◌, ◌++◌, ◌∷◌, [], length, refl, sym, ap, ◌∙◌, arith, true, false, is_some}
+use Rattle.std.proofs.Common.{◌≡◌, ◌++◌, ◌∷◌, [], refl, sym, ◌∙◌, arith, true, false, is_some}
 use Rattle.std.proofs.Common.{string_bytes}
 use Rattle.std.proofs.lemmas.List.{length-map}
 use Rattle.p9_base.specs.Variable.{Variable, variables_of}
@@ -13,7 +13,7 @@ returns-then-has g c =
     let valid : is_variable_name c.args.name.now ≡ true =
     sym c.is_variable_name.ensures ∙ c.if-not-is_variable_name.false in (
       rw (← c.world.view_is)
-          (set_line-again _ _ _ _ _ c.world.invariant c.args.name.now c.args.value.now valid
+          (set_line-again _ _ _ _ _ _ c.world.invariant c.args.name.now c.args.value.now valid
           (sym c.has.ensures ∙ c.if-has.true)),
       refl,
     )
@@ -21,7 +21,7 @@ returns-then-has g c =
 pub invariant_of-world-in_err-insert : goal.invariant_of-world-in_err-insert
 invariant_of-world-in_err-insert g c =
     rw c.reserve.ensures.items
-    (reader-same _ _ _ _ _ c.world.invariant _ c.insert.new.self _ (λ q. refl)
+    (reader-same _ _ _ _ _ _ c.world.invariant _ c.insert.new.self _ (λ q. refl)
     c.in_err-insert.ensures.err (λ q. refl))
 
 pub invariant_of-world-2 : goal.invariant_of-world-2
@@ -35,7 +35,7 @@ invariant_of-world-2 g c =
     let absent : is_some (position_at c.world.inside.variable_positions c.args.name.now) ≡ false =
     sym c.has.ensures ∙ c.if-has.false in
     rw joined
-    (reader-variable _ _ _ _ _ c.world.invariant c.args.name.now c.args.value.now c.len.result
+    (reader-variable _ _ _ _ _ _ c.world.invariant c.args.name.now c.args.value.now c.len.result
     c.insert.new.self absent (omega (
       arith,
       c.len.ensures,
@@ -58,4 +58,4 @@ returns g c =
     let valid : is_variable_name c.args.name.now ≡ true =
     sym c.is_variable_name.ensures ∙ c.if-not-is_variable_name.false in
     rw (← c.world.view_is, joined)
-    (set_line-new _ _ _ _ _ c.world.invariant c.args.name.now c.args.value.now valid absent)
+    (set_line-new _ _ _ _ _ _ c.world.invariant c.args.name.now c.args.value.now valid absent)

@@ -1,4 +1,3 @@
-use Rattle.std.proofs.Common.{◌≡◌, ◌∙◌, refl}
 use Rattle.p9_world.proofs.Readers.{IsWorld-empty, reader-none}
 use Rattle.p9_world.proofs.reader.Reader.new.Goals as goal
 
@@ -12,5 +11,6 @@ invariant_of-result-2 g c =
       c.new-5.ensures.items,
       c.new-6.ensures.items,
     )
-    (reader-none c.new-7.result c.new-8.result c.new-9.result c.new-10.result IsWorld-empty
-    c.new-7.ensures c.new-8.ensures c.new-9.ensures c.new-10.ensures.empty)
+    (reader-none c.new-7.result c.new-8.result c.new-9.result c.new-10.result c.root.result
+    IsWorld-empty c.new-7.ensures c.new-8.ensures c.new-9.ensures c.new-10.ensures.empty
+    c.root.ensures.names c.root.ensures.number)
