@@ -1,6 +1,8 @@
 //! Bad lines: where something else was expected, and what.
 
 use p9_words::{Base, Expected, Key, WordsError, read_words};
+use std::alloc::{AllocError, Global};
+use std::test::Fail;
 
 #[test]
 fn bad_lines_tell_the_place(rt: HostRuntime) {
@@ -82,6 +84,34 @@ fn bad_lines_tell_the_place(rt: HostRuntime) {
         };
         assert_eq!(rt; error, WordsError::Unexpected { at, expected }, "{line}");
     }
+}
+
+// A line with so many letters in it.
+fn line_of(alloc: Global, front: &str, count: usize, behind: &str) -> Result<String, AllocError> {
+    let mut line = String::from_str(alloc, front)?;
+    line.push_str("x".repeat(alloc, count)?.as_str())?;
+    line.push_str(behind)?;
+    Ok(line)
+}
+
+// A text has at most 65,535 bytes, and so has a stat, 49 of which are no letters of its name. The
+// frame of the longest has nine more.
+#[test]
+fn long_texts_and_stats_are_refused(rt: HostRuntime) -> Result<(), Fail> {
+    let stat = " '' '' '' q (0 0 0) m 0 at 0 mt 0 l 0 t 0 d 0";
+    for (front, most, behind, at, expected) in [
+        ("Rerror tag 1 ename ", 65_535, "", 19, Expected::Text),
+        ("Rstat tag 1 stat ", 65_486, stat, 17, Expected::ShortStat),
+    ] {
+        let line = line_of(rt.alloc(), front, most, behind)?;
+        let frame = read_words(rt.alloc(), line.as_str())?;
+        assert_eq!(rt; frame.len(), 65_544);
+        let longer = line_of(rt.alloc(), front, most.saturating_add(1), behind)?;
+        let read = read_words(rt.alloc(), longer.as_str());
+        let error = read.err().expect(&rt, "an error");
+        assert_eq!(rt; error, WordsError::Unexpected { at, expected });
+    }
+    Ok(())
 }
 
 #[test]
