@@ -115,20 +115,48 @@ fn long_texts_and_stats_are_refused(rt: HostRuntime) -> Result<(), Fail> {
 }
 
 #[test]
-fn an_error_says_what_was_expected(rt: HostRuntime) {
-    for (line, text) in [
-        ("Tclunk tag 1 afid 1", "'fid' expected behind byte 13"),
+fn an_error_says_what_was_expected(rt: HostRuntime) -> Result<(), Fail> {
+    for (expected, text) in [
+        (Expected::Verb, "the name of a message"),
+        (Expected::Key(Key::Fid), "'fid'"),
         (
-            "Tclunk tag 65536 fid 1",
-            "a number in decimal digits, at most 65535, expected behind byte 11",
+            Expected::Number(Base::Decimal, 65_535),
+            "a number in decimal digits, at most 65535,",
         ),
-        ("Rread tag 1 count 2 'a'", "2 bytes expected behind byte 20"),
+        (
+            Expected::Number(Base::Octal, 7),
+            "a number in octal digits, at most 7,",
+        ),
+        (
+            Expected::Number(Base::Hexadecimal, 255),
+            "a number in hexadecimal digits, at most 255,",
+        ),
+        (Expected::Word, "a text"),
+        (Expected::Quote, "a quote"),
+        (Expected::Pairs, "pairs of hexadecimal digits"),
+        (Expected::Text, "UTF-8 without NUL of at most 65535 bytes"),
+        (Expected::Count(2), "2 bytes"),
+        (Expected::Open, "'('"),
+        (Expected::Close, "')'"),
+        (Expected::Index(1), "the index 1"),
+        (Expected::Colon, "':'"),
+        (Expected::ShortStat, "a stat of at most 65535 bytes"),
+        (
+            Expected::ShortMessage,
+            "a message of less than 4294967296 bytes",
+        ),
+        (Expected::End, "the end of the line"),
+        (
+            Expected::Event,
+            "'open', 'close', 'msg' or the number of a session",
+        ),
     ] {
-        let Err(error) = read_words(rt.alloc(), line) else {
-            panic!(rt; "{line}");
-        };
-        let mut out = String::new(rt.alloc());
-        let _ = write!(out, "{error}");
-        assert_eq!(rt; out.as_str(), text);
+        let error = WordsError::Unexpected { at: 13, expected };
+        let shown = format!(in rt.alloc(); "{error}")?;
+        let wanted = format!(in rt.alloc(); "{text} expected behind byte 13")?;
+        assert_eq!(rt; shown.as_str(), wanted.as_str());
     }
+    let shown = format!(in rt.alloc(); "{}", WordsError::NoMemory)?;
+    assert_eq!(rt; shown.as_str(), "out of memory");
+    Ok(())
 }
