@@ -66,6 +66,14 @@ fn texts_are_read_and_written(rt: HostRuntime) -> Result<(), Fail> {
     Ok(())
 }
 
+#[test]
+fn errors_have_texts(rt: HostRuntime) -> Result<(), Fail> {
+    let bad = ReadError::BadCert { line: 7 };
+    let shown = format!(in rt.alloc(); "{bad}, {}", ReadError::NoMemory)?;
+    assert_eq!(rt; shown.as_str(), "line 7 is bad, out of memory");
+    Ok(())
+}
+
 // A text that ends early is a certificate or has a bad line, which is its last or the first.
 #[test]
 fn texts_may_end_anywhere(rt: HostRuntime) -> Result<(), Fail> {

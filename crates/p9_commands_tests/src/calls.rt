@@ -61,6 +61,19 @@ fn sections_and_events(rt: HostRuntime) -> Result<(), Fail> {
     Ok(())
 }
 
+#[test]
+fn errors_have_texts(rt: HostRuntime) -> Result<(), Fail> {
+    let (bundle, script) = (
+        BundleError::BadBundle { line: 7 },
+        ScriptError::BadScript { line: 8 },
+    );
+    let shown = format!(in rt.alloc(); "{bundle}, {script}")?;
+    assert_eq!(rt; shown.as_str(), "line 7 begins no section, line 8 is bad");
+    let shown = format!(in rt.alloc(); "{}, {}", BundleError::NoMemory, ScriptError::NoMemory)?;
+    assert_eq!(rt; shown.as_str(), "out of memory, out of memory");
+    Ok(())
+}
+
 // The name of a command with a blank behind it names none.
 #[test]
 fn a_command_is_exact(rt: HostRuntime) -> Result<(), Fail> {

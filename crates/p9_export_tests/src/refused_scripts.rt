@@ -58,6 +58,41 @@ fn a_union_is_created_in_at_each_refusal(rt: HostRuntime) {
     assert!(rt; play_refused(&rt, rt.alloc(), script) > 4);
 }
 
+// No member of /x permits creation, so no file is made.
+#[test]
+fn a_union_is_not_created_in_at_each_refusal(rt: HostRuntime) {
+    let script = Script {
+        world: TWO_UNIONS,
+        binds: &[Bind {
+            key: 3,
+            node: 1,
+            order: Order::After,
+            create: false,
+        }],
+        sessions: 1,
+        now: 0,
+        rows: &[
+            (
+                1,
+                "14000000 6e 0200 00000000 03000000 0100 0100 78",
+                "16000000 6f 0200 0100 80 00000000 0300000000000000",
+            ),
+            (
+                1,
+                "15000000 72 0600 03000000 0300 6e6577 a4010000 01",
+                "2b000000 6b 0600 2200 \
+                6d6f756e746564206469726563746f727920666f7262696473206372656174696f6e",
+            ),
+            (
+                1,
+                "19000000 6e 0700 00000000 04000000 0200 0100 75 0300 6e6577",
+                "16000000 6f 0700 0100 80 00000000 0100000000000000",
+            ),
+        ],
+    };
+    assert!(rt; play_refused(&rt, rt.alloc(), script) > 4);
+}
+
 // One session removes the file that another one has open.
 #[test]
 fn a_file_is_removed_under_a_fid_at_each_refusal(rt: HostRuntime) {

@@ -7,6 +7,7 @@ use p9_index::IndexTree;
 use p9_tree::{PlainTree, Tree};
 use std::alloc::Global;
 use std::process::Abort;
+use std::test::Fail;
 
 fn opens_and_closes<T: Tree<Alloc = Global>>(rt: &impl Abort, alloc: Global) {
     let mut export = exporter::<T>(rt, alloc, "server main\nuser glenda\n", &[]);
@@ -27,4 +28,11 @@ fn opens_and_closes<T: Tree<Alloc = Global>>(rt: &impl Abort, alloc: Global) {
 fn a_session_is_opened_once_and_closed(rt: HostRuntime) {
     opens_and_closes::<PlainTree<Global>>(&rt, rt.alloc());
     opens_and_closes::<IndexTree<Global>>(&rt, rt.alloc());
+}
+
+#[test]
+fn errors_have_texts(rt: HostRuntime) -> Result<(), Fail> {
+    let shown = format!(in rt.alloc(); "{}, {}", OpenError::Live, OpenError::NoMemory)?;
+    assert_eq!(rt; shown.as_str(), "session is open, out of memory");
+    Ok(())
 }

@@ -21,4 +21,6 @@ mod scripts;
 #[cfg(test)]
 mod stops;
 #[cfg(test)]
+mod texts;
+#[cfg(test)]
 mod worlds;

@@ -16,7 +16,7 @@ pub struct Script {
 }
 
 /// The scripts that are played with each request for memory refused in turn.
-pub const SCRIPTS: [Script; 5] = [
+pub const SCRIPTS: [Script; 6] = [
     Script {
         world: TWO_UNIONS,
         certificate: "cert 1\ndir 0 0\ndir 0 1\ndir 0 3\n",
@@ -28,6 +28,18 @@ pub const SCRIPTS: [Script; 5] = [
         }),
         now: 0,
         steps: UNION,
+    },
+    Script {
+        world: TWO_UNIONS,
+        certificate: "cert 1\ndir 0 0\ndir 0 1\ndir 0 3\n",
+        bind: Some(Bind {
+            key: 3,
+            node: 1,
+            order: Order::After,
+            create: false,
+        }),
+        now: 0,
+        steps: CLOSED_UNION,
     },
     Script {
         world: SMALL,
@@ -97,6 +109,20 @@ open 1
     18000000 73 0600 00 00000000 0500000000000000 e81f0000
 1 19000000 6e 0700 00000000 04000000 0200 0100 75 0300 6e6577 > \
     23000000 6f 0700 0200 80 01000000 0100000000000000 00 00000000 0500000000000000
+";
+
+// No member of /x permits creation, so no file is made.
+const CLOSED_UNION: &str = "\
+open 1
+1 13000000 64 ffff 00200000 0600 395032303030 > 13000000 65 ffff 00200000 0600 395032303030
+1 19000000 68 0100 00000000 ffffffff 0600 676c656e6461 0000 > \
+    14000000 69 0100 80 00000000 0000000000000000
+1 14000000 6e 0200 00000000 03000000 0100 0100 78 > \
+    16000000 6f 0200 0100 80 00000000 0300000000000000
+1 15000000 72 0600 03000000 0300 6e6577 a4010000 01 > \
+    2b000000 6b 0600 2200 6d6f756e746564206469726563746f727920666f7262696473206372656174696f6e
+1 19000000 6e 0700 00000000 04000000 0200 0100 75 0300 6e6577 > \
+    16000000 6f 0700 0100 80 00000000 0100000000000000
 ";
 
 // One session removes the file that another one has open.

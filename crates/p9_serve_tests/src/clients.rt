@@ -8,7 +8,8 @@ use mio::net::TcpStream;
 use std::net::Net;
 use std::process::Abort;
 
-// One client removes the file that another one has open.
+// One client removes the file that another one has open. All is done within 10,000 rounds, those in
+// which nothing moved among them.
 #[test]
 fn two_clients_are_served(rt: HostRuntime) {
     let mut loopback = Loopback::new(&rt, SMALL);
@@ -20,6 +21,7 @@ fn two_clients_are_served(rt: HostRuntime) {
     loopback.ask(&rt, &mut two, &REMOVED);
     assert_eq!(rt; loopback.accepted, 2);
     assert_eq!(rt; loopback.closed, 0);
+    assert!(rt; loopback.rounds <= 10_000);
     loopback.finish(&rt, 2);
 }
 

@@ -16,6 +16,9 @@ const STEPS: u64 = 300;
 // The type of an error.
 const ERROR: u8 = 107;
 
+// The text of an error, which says that an allocation failed.
+const NO_MEMORY: &[u8] = b"\x0d\0out of memory";
+
 // A generator of bytes, by the rule `x * 6364136223846793005 + 1442695040888963407` modulo 2^64.
 #[derive(Drop)]
 struct Dice {
@@ -185,11 +188,14 @@ fn random_frame(rt: &(impl Abort + AllocGlobal), dice: &mut Dice) -> Vec<u8> {
     frame
 }
 
-// Whether a reply has the tag of a frame, and is of its type or an error.
+// Whether a reply has the tag of a frame, and is of its type or an error. There is memory, so no
+// error is that there is none.
 fn is_reply(frame: &[u8], reply: &[u8]) -> bool {
     match (frame, reply) {
-        ([_, _, _, _, asked, low, high, ..], [_, _, _, _, told, first, second, ..]) => {
-            (first, second) == (low, high) && (*told == ERROR || asked.wrapping_add(1) == *told)
+        ([_, _, _, _, asked, low, high, ..], [_, _, _, _, told, first, second, rest @ ..]) => {
+            (first, second) == (low, high)
+                && (*told == ERROR || asked.wrapping_add(1) == *told)
+                && !(*told == ERROR && rest == NO_MEMORY)
         }
         _ => false,
     }

@@ -21,6 +21,8 @@ mod tables;
 #[cfg(test)]
 mod telling;
 #[cfg(test)]
+mod texts;
+#[cfg(test)]
 mod walks;
 #[cfg(test)]
 mod words;

@@ -1,7 +1,7 @@
-//! Frames that are no message.
+//! Frames that are no message. Each is no whole frame where it is cut short.
 
-use crate::bytes::bytes_of;
-use p9_wire::{Frame, frame_of, read_r, read_t};
+use crate::bytes::{bytes_of, needs_all_bytes, no_request_shorter};
+use p9_wire::{read_r, read_t};
 use std::test::Fail;
 
 #[test]
@@ -27,7 +27,7 @@ fn hostile_requests(rt: HostRuntime) -> Result<(), Fail> {
     ];
     for (what, digits) in cases {
         let bytes = bytes_of(rt.alloc(), digits)?;
-        assert!(rt; frame_of(&bytes) == Frame::Whole(bytes.len()), "{what}");
+        needs_all_bytes(&rt, &bytes);
         assert!(rt; read_t(&bytes).is_none(), "{what}");
     }
     Ok(())
@@ -39,7 +39,9 @@ fn seventeen_names(rt: HostRuntime) -> Result<(), Fail> {
     for _ in 0..17 {
         bytes.extend_from_slice(b"\x02\x00..")?;
     }
-    assert!(rt; frame_of(&bytes) == Frame::Whole(85));
+    assert_eq!(rt; bytes.len(), 85);
+    needs_all_bytes(&rt, &bytes);
+    no_request_shorter(&rt, &bytes);
     assert!(rt; read_t(&bytes).is_none());
     Ok(())
 }
@@ -57,7 +59,7 @@ fn length_of_a_stat(rt: HostRuntime) -> Result<(), Fail> {
             bytes.push(0)?;
         }
         bytes.extend_from_slice(&bytes_of(rt.alloc(), behind)?)?;
-        assert!(rt; frame_of(&bytes) == Frame::Whole(bytes.len()));
+        needs_all_bytes(&rt, &bytes);
         assert!(rt; read_t(&bytes).is_some() == is_read, "{head}");
     }
     Ok(())

@@ -1,6 +1,8 @@
 //! Bad lines: where something else was expected, and what.
 
 use p9_words::{Base, Expected, Key, WordsError, read_words};
+use std::alloc::{AllocError, Global};
+use std::test::Fail;
 
 #[test]
 fn bad_lines_tell_the_place(rt: HostRuntime) {
@@ -84,21 +86,77 @@ fn bad_lines_tell_the_place(rt: HostRuntime) {
     }
 }
 
+// A line with so many letters in it.
+fn line_of(alloc: Global, front: &str, count: usize, behind: &str) -> Result<String, AllocError> {
+    let mut line = String::from_str(alloc, front)?;
+    line.push_str("x".repeat(alloc, count)?.as_str())?;
+    line.push_str(behind)?;
+    Ok(line)
+}
+
+// A text has at most 65,535 bytes, and so has a stat, 49 of which are no letters of its name. The
+// frame of the longest has nine more.
 #[test]
-fn an_error_says_what_was_expected(rt: HostRuntime) {
-    for (line, text) in [
-        ("Tclunk tag 1 afid 1", "'fid' expected behind byte 13"),
-        (
-            "Tclunk tag 65536 fid 1",
-            "a number in decimal digits, at most 65535, expected behind byte 11",
-        ),
-        ("Rread tag 1 count 2 'a'", "2 bytes expected behind byte 20"),
+fn long_texts_and_stats_are_refused(rt: HostRuntime) -> Result<(), Fail> {
+    let stat = " '' '' '' q (0 0 0) m 0 at 0 mt 0 l 0 t 0 d 0";
+    for (front, most, behind, at, expected) in [
+        ("Rerror tag 1 ename ", 65_535, "", 19, Expected::Text),
+        ("Rstat tag 1 stat ", 65_486, stat, 17, Expected::ShortStat),
     ] {
-        let Err(error) = read_words(rt.alloc(), line) else {
-            panic!(rt; "{line}");
-        };
-        let mut out = String::new(rt.alloc());
-        let _ = write!(out, "{error}");
-        assert_eq!(rt; out.as_str(), text);
+        let line = line_of(rt.alloc(), front, most, behind)?;
+        let frame = read_words(rt.alloc(), line.as_str())?;
+        assert_eq!(rt; frame.len(), 65_544);
+        let longer = line_of(rt.alloc(), front, most.saturating_add(1), behind)?;
+        let read = read_words(rt.alloc(), longer.as_str());
+        let error = read.err().expect(&rt, "an error");
+        assert_eq!(rt; error, WordsError::Unexpected { at, expected });
     }
+    Ok(())
+}
+
+#[test]
+fn an_error_says_what_was_expected(rt: HostRuntime) -> Result<(), Fail> {
+    for (expected, text) in [
+        (Expected::Verb, "the name of a message"),
+        (Expected::Key(Key::Fid), "'fid'"),
+        (
+            Expected::Number(Base::Decimal, 65_535),
+            "a number in decimal digits, at most 65535,",
+        ),
+        (
+            Expected::Number(Base::Octal, 7),
+            "a number in octal digits, at most 7,",
+        ),
+        (
+            Expected::Number(Base::Hexadecimal, 255),
+            "a number in hexadecimal digits, at most 255,",
+        ),
+        (Expected::Word, "a text"),
+        (Expected::Quote, "a quote"),
+        (Expected::Pairs, "pairs of hexadecimal digits"),
+        (Expected::Text, "UTF-8 without NUL of at most 65535 bytes"),
+        (Expected::Count(2), "2 bytes"),
+        (Expected::Open, "'('"),
+        (Expected::Close, "')'"),
+        (Expected::Index(1), "the index 1"),
+        (Expected::Colon, "':'"),
+        (Expected::ShortStat, "a stat of at most 65535 bytes"),
+        (
+            Expected::ShortMessage,
+            "a message of less than 4294967296 bytes",
+        ),
+        (Expected::End, "the end of the line"),
+        (
+            Expected::Event,
+            "'open', 'close', 'msg' or the number of a session",
+        ),
+    ] {
+        let error = WordsError::Unexpected { at: 13, expected };
+        let shown = format!(in rt.alloc(); "{error}")?;
+        let wanted = format!(in rt.alloc(); "{text} expected behind byte 13")?;
+        assert_eq!(rt; shown.as_str(), wanted.as_str());
+    }
+    let shown = format!(in rt.alloc(); "{}", WordsError::NoMemory)?;
+    assert_eq!(rt; shown.as_str(), "out of memory");
+    Ok(())
 }

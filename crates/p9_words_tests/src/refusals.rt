@@ -1,6 +1,7 @@
 //! Refused memory: a call says so and changes nothing, and with memory it does all.
 
 use crate::lines::{REPLIES, REQUESTS};
+use p9_digits::bytes_of;
 use p9_refusing::{Refusing, refuse_each};
 use p9_wire::{read_r, read_t};
 use p9_words::{WordsError, print_reply, print_request, read_words};
@@ -44,7 +45,7 @@ fn prints<A: Allocator + Copy>(rt: &impl Abort, alloc: A, line: &str, frame: &[u
 #[test]
 fn lines_are_read_at_each_refusal(rt: HostRuntime) -> Result<(), Fail> {
     for (line, digits) in REQUESTS {
-        let frame = hex::decode(rt.alloc(), digits)?;
+        let frame = bytes_of(rt.alloc(), digits)?;
         let memory = Refusing::new(rt.alloc());
         let refusals = refuse_each(
             &memory,
@@ -62,7 +63,7 @@ fn lines_are_read_at_each_refusal(rt: HostRuntime) -> Result<(), Fail> {
 #[test]
 fn replies_are_read_at_each_refusal(rt: HostRuntime) -> Result<(), Fail> {
     for (line, digits) in REPLIES {
-        let frame = hex::decode(rt.alloc(), digits)?;
+        let frame = bytes_of(rt.alloc(), digits)?;
         let memory = Refusing::new(rt.alloc());
         let refusals = refuse_each(
             &memory,
@@ -80,7 +81,7 @@ fn replies_are_read_at_each_refusal(rt: HostRuntime) -> Result<(), Fail> {
 #[test]
 fn messages_are_printed_at_each_refusal(rt: HostRuntime) -> Result<(), Fail> {
     for (line, digits) in REQUESTS.iter().chain(&REPLIES) {
-        let frame = hex::decode(rt.alloc(), *digits)?;
+        let frame = bytes_of(rt.alloc(), digits)?;
         let memory = Refusing::new(rt.alloc());
         let refusals = refuse_each(
             &memory,

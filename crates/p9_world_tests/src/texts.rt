@@ -1,6 +1,6 @@
 //! The text of each fault.
 
-use p9_world::LineFault;
+use p9_world::{LineFault, WorldError};
 use std::test::Fail;
 
 const TEXTS: [(LineFault, &str); 12] = [
@@ -24,6 +24,15 @@ fn faults_have_texts(rt: HostRuntime) -> Result<(), Fail> {
         assert_eq!(rt; fault.text(), text);
         let shown = format!(in rt.alloc(); "{fault}")?;
         assert_eq!(rt; shown.as_str(), text);
+        let error = WorldError::BadWorld {
+            line: 7,
+            kind: fault,
+        };
+        let shown = format!(in rt.alloc(); "{error}")?;
+        let wanted = format!(in rt.alloc(); "line 7: {text}")?;
+        assert_eq!(rt; shown.as_str(), wanted.as_str());
     }
+    let shown = format!(in rt.alloc(); "{}", WorldError::NoMemory)?;
+    assert_eq!(rt; shown.as_str(), "out of memory");
     Ok(())
 }
