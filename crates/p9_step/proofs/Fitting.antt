@@ -19,7 +19,7 @@ use Rattle.p9_tree.specs.Bytes.{cut_to, read_from}
 use Rattle.p9_tree.specs.Forest.{IsForest, next_of}
 use Rattle.p9_tree.specs.Node.{Node, marked, with_bytes}
 use Rattle.p9_tree.specs.Server.{Server}
-use Rattle.p9_space.specs.Place.{file_of, file_ref, root_place}
+use Rattle.p9_space.specs.Place.{file_of, file_ref}
 use Rattle.p9_space.specs.Trail.{here, stepped}
 use Rattle.p9_space.specs.Walk.{step_of}
 use Rattle.p9_space.specs.declared.trail.Step.{Step}
@@ -270,9 +270,9 @@ module _ (most : ℕ) (setting : Setting) (forest : List Server) (session : Sess
               (node_of-small forest at done.n sound done.there)
               (mod-lt (done.n.version + 1) (omega arith)))
 
-      pub replies-create : (now fid : ℕ) (name : List ℕ) (o : Outcome)
-          → CreateDone setting forest session now fid name o → Replies most o
-      replies-create now fid name o done =
+      pub replies-create : (now fid : ℕ) (name : List ℕ) (perm : ℕ) (o : Outcome)
+          → CreateDone setting forest session now fid name perm o → Replies most o
+      replies-create now fid name perm o done =
           subst (Replies most) same (record {
             numbers = (qid, omega (arith, room, frames));
             fits = tt;

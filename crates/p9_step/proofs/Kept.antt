@@ -14,7 +14,6 @@ use Rattle.p9_base.proofs.Rows.{each-insert, each-lookup, each-remove, each-set}
 use Rattle.p9_tree.specs.Forest.{IsForest}
 use Rattle.p9_tree.specs.Server.{Server}
 use Rattle.p9_space.specs.Given.{is_table_given}
-use Rattle.p9_space.specs.Place.{root_place}
 use Rattle.p9_wire.specs.Frame.{msize_max}
 use Rattle.p9_wire.specs.Message.{RMessage, Rerror, Rversion}
 use Rattle.p9_fids.specs.Fid.{Fid, changed_fid, fid_at, nofid, put_fault, trailed, with_fid}

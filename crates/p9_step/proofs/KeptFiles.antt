@@ -1,6 +1,6 @@
 -- What the outcomes of opens, creates, reads, writes and wstats lead to.
 use Rattle.std.proofs.Common.{Bool, List, None, Ok, Option, Some, [], ap, arith, false, inl, inr}
-use Rattle.std.proofs.Common.{is_some, refl, subst, sym, true, ℕ, ◌++◌, ◌+◌, ◌<◌, ◌||◌, ◌∙◌, ◌∷◌}
+use Rattle.std.proofs.Common.{refl, subst, sym, true, ℕ, ◌++◌, ◌+◌, ◌<◌, ◌||◌, ◌∙◌, ◌∷◌}
 use Rattle.std.proofs.Common.{◌≡◌}
 use Rattle.std.proofs.lemmas.Bool.{and_parts}
 use Rattle.std.proofs.lemmas.Bool.Decides.{nat_tests}
@@ -10,7 +10,7 @@ use Rattle.p9_base.specs.Mode.{is_dir as is_dir_mode}
 use Rattle.p9_base.specs.NodeRef.{beside}
 use Rattle.p9_base.specs.User.{is_user}
 use Rattle.p9_base.specs.declared.node_ref.NodeRef.{NodeRef}
-use Rattle.p9_tree.specs.Forest.{IsForest, child_in, next_of, node_of, server_at}
+use Rattle.p9_tree.specs.Forest.{IsForest, next_of, node_of, server_at}
 use Rattle.p9_tree.specs.Node.{IsTellable, Node, has_number, is_dir}
 use Rattle.p9_tree.specs.Server.{Server, added}
 use Rattle.p9_tree.proofs.Lookups.{number-node_at}
@@ -296,9 +296,9 @@ module _ (setting : Setting) (forest : List Server) (session : Session) (now : �
 
   -- Creates.
 
-  pub kept-create : (fid : ℕ) (name : List ℕ) (o : Outcome)
-      → CreateDone setting forest session now fid name o → Kept setting forest o
-  kept-create fid name o done = subst (Kept setting forest) same (record {
+  pub kept-create : (fid : ℕ) (name : List ℕ) (perm : ℕ) (o : Outcome)
+      → CreateDone setting forest session now fid name perm o → Kept setting forest o
+  kept-create fid name perm o done = subst (Kept setting forest) same (record {
     lawful = lawful;
     session =
         session-changed setting forest session now ready after fid _ v evolves done.found (record {

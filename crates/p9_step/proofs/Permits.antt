@@ -10,7 +10,6 @@ use Rattle.std.specs.Prelude.{◌&&◌, ◌||◌, is_none, nat_lt, not, if◌the
 use Rattle.std.specs.Option.{option_map_or, option_or}
 use Rattle.std.specs.Str.{bytes_eq}
 use Rattle.std.proofs.lemmas.Bool.Decides.{nat_tests}
-use Rattle.std.proofs.lemmas.Slice.Eq.{bytes_eq-Decides}
 use Rattle.p9_base.specs.declared.fault.Fault.TheVariants.{FixedField, PermissionDenied}
 use Rattle.p9_base.specs.declared.mode.Mode.{Mode}
 use Rattle.p9_base.specs.declared.node_ref.NodeRef.{NodeRef}

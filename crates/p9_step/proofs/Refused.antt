@@ -9,12 +9,12 @@ use Rattle.std.specs.Option.{option_map_or, option_or}
 use Rattle.std.specs.Prelude.{option_and_then}
 use Rattle.p9_base.specs.Results.{and_then}
 use Rattle.p9_base.specs.declared.fault.Fault.{Fault}
-use Rattle.p9_base.specs.declared.fault.Fault.TheVariants.{BadFileName, CreationForbidden}
+use Rattle.p9_base.specs.declared.fault.Fault.TheVariants.{BadFileName}
 use Rattle.p9_base.specs.declared.fault.Fault.TheVariants.{FidInUse, FileExists, FileTooLarge}
 use Rattle.p9_base.specs.declared.fault.Fault.TheVariants.{FixedField, IsDirectory, IsRoot}
 use Rattle.p9_base.specs.declared.fault.Fault.TheVariants.{Malformed, NotDirectory, NotFound}
 use Rattle.p9_base.specs.declared.fault.Fault.TheVariants.{PathTooDeep, PermissionDenied}
-use Rattle.p9_base.specs.declared.fault.Fault.TheVariants.{PhaseError, QidsUsedUp, TooManyFids}
+use Rattle.p9_base.specs.declared.fault.Fault.TheVariants.{PhaseError, TooManyFids}
 use Rattle.p9_base.specs.declared.fault.Fault.TheVariants.{UnknownFid, VersionNotSet}
 use Rattle.p9_base.specs.declared.node_ref.NodeRef.{NodeRef}
 use Rattle.p9_tree.specs.Node.{Node}
@@ -25,7 +25,7 @@ use Rattle.p9_space.specs.Walk.{arrived, child_among, step_among, step_down, ste
 use Rattle.p9_space.specs.declared.row.Member.{Member}
 use Rattle.p9_space.specs.declared.trail.Step.{Step}
 use Rattle.p9_space.specs.declared.trail.Step.TheVariants.{To}
-use Rattle.p9_fids.specs.Fid.{Fid, FidRow, put_fault}
+use Rattle.p9_fids.specs.Fid.{FidRow, put_fault}
 use Rattle.p9_wire.specs.Reading.{t_message_of}
 use Rattle.p9_step.specs.Request.{request_of}
 use Rattle.p9_step.specs.State.{Session, Setting}
