@@ -10,8 +10,9 @@ use Rattle.std.proofs.Common.{is_some, length, refl, true, ℕ, ◌+◌, ◌<◌
 use Rattle.std.proofs.lemmas.Bool.Decides.{nat_tests}
 use Rattle.std.specs.List.{flat_map}
 use Rattle.std.specs.Prelude.{codes, is_none, min, nat_le, not}
-use Rattle.p9_base.specs.Mode.{is_dir as is_dir_mode, mode_of}
+use Rattle.p9_base.specs.Mode.{is_dir as is_dir_mode}
 use Rattle.p9_base.specs.Name.{is_name}
+use Rattle.p9_base.specs.Mode.{mode_of}
 use Rattle.p9_base.specs.declared.fault.Fault.{Fault}
 use Rattle.p9_base.specs.declared.mode.Mode.{Mode}
 use Rattle.p9_base.specs.declared.node_ref.NodeRef.{NodeRef}
