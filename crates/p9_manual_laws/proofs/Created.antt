@@ -3,9 +3,10 @@ use Rattle.std.proofs.Common.{◌≡◌, ℕ, ◌<◌, Bool, true, false, List, 
 use Rattle.std.proofs.Common.{None, Ok, Err, refl, ap, sym, ◌∙◌, subst, arith, length, is_some, filter}
 use Rattle.std.specs.Prelude.{◌==◌, ◌&&◌, ◌||◌, codes, nat_le, not}
 use Rattle.std.specs.Str.{bytes_eq}
-use Rattle.std.specs.List.{list_any}
+use Rattle.std.specs.List.{AllByRecursion, list_any}
 use Rattle.std.proofs.lemmas.Bool.{and_parts}
 use Rattle.std.proofs.lemmas.Bool.Decides.{nat_tests}
+use Rattle.std.proofs.lemmas.List.Elements.{recursion_from_All}
 use Rattle.std.proofs.lemmas.List.Folds.{find-append}
 use Rattle.std.proofs.lemmas.Slice.Eq.{bytes_eq-Decides}
 use Rattle.p9_base.specs.declared.node_ref.NodeRef.{NodeRef}
@@ -23,12 +24,13 @@ use Rattle.p9_space.specs.Place.{file_of}
 use Rattle.p9_space.specs.Rights.{Who}
 use Rattle.p9_space.specs.Table.{MountRow, members_of}
 use Rattle.p9_space.specs.Trail.{here, places_max}
-use Rattle.p9_space.specs.Walk.{may_search, walk}
+use Rattle.p9_space.specs.Walk.{child_ref, is_alive, is_alive_dir, is_searched, may_search, walk}
 use Rattle.p9_wire.specs.Message.{Rcreate, Tcreate}
 use Rattle.p9_fids.specs.Fid.{Fid}
 use Rattle.p9_step.specs.Answer.{Answer, Outcome, outcome_of}
 use Rattle.p9_step.specs.ForestChange.{ForestChange, all_applied, applied, edited}
 use Rattle.p9_step.specs.Create.{create_answer, created, permitting}
+use Rattle.p9_step.specs.Listing.{entries_from, listing}
 use Rattle.p9_step.specs.State.{changed_session}
 use Rattle.p9_step.proofs.Done.{OnDone}
 use Rattle.p9_step.proofs.Evolves.{server_well}
@@ -37,8 +39,11 @@ use Rattle.p9_step.proofs.Members.{found-member}
 use Rattle.p9_step.proofs.NodeRefs.{here-pushed, new-file}
 use Rattle.p9_step.proofs.Passed.{CreateDone, create-done}
 use Rattle.p9_manual_laws.specs.Asked.{Asked, after_outcome, asked}
-use Rattle.p9_manual_laws.specs.Creates.{CreatedIsFound, IsMade}
+use Rattle.p9_manual_laws.specs.Creates.{CreatedIsFound, IsMade, IsPassedBy, Lists}
+use Rattle.p9_manual_laws.specs.Modes.{IsMasked}
 use Rattle.p9_manual_laws.proofs.Children.{joined_child, joined_children}
+use Rattle.p9_manual_laws.proofs.Masks.{mode_of-bits, new_mode_is_masked}
+use Rattle.p9_manual_laws.proofs.Unions.{any_behind, child_behind, lists_behind}
 
 -- a forest after a node joined a directory, which was changed in its place
 abbrev joined : List Server → NodeRef → Node → List Server
@@ -131,17 +136,27 @@ not_dots name valid =
     && not (list_any is_slash name))
     (not (bytes_eq name (codes ".") || bytes_eq name (codes ".."))) valid).1
 
--- a walk by a name from a place of one member, which has a child of the name
+-- a walk by a name from a place, where a member has a child of the name, and those before it are
+-- passed by
 walks_down : (forest : List Server) (table : List MountRow) (who : Option Who)
-    (trail : List NodeRef) (name : List ℕ) (m : Member) (d n : Node)
-    → members_of (here trail) table ≡ m ∷ [] → node_of m.node forest ≡ Some d → is_dir d ≡ true
-    → may_search who d ≡ true → child_in m.node name forest ≡ Some n
+    (trail : List NodeRef) (name : List ℕ) (earlier later : List Member) (m : Member) (d n : Node)
+    → members_of (here trail) table ≡ earlier ++ m ∷ later
+    → AllByRecursion (IsPassedBy forest who name) earlier → node_of m.node forest ≡ Some d
+    → is_dir d ≡ true → may_search who d ≡ true → child_in m.node name forest ≡ Some n
     → bytes_eq name (codes "..") ≡ false → length trail < places_max
     → is_some (file_of (here (trail ++ beside m.node n.number ∷ [])) table forest) ≡ true
     → walk forest table who trail (name ∷ []) ≡ Ok (trail ++ beside m.node n.number ∷ [])
-walks_down forest table who trail name m d n alone there dir search child plain short alive =
+walks_down forest table who trail name earlier later m d n mounted passed there dir search child
+    plain short alive =
     let room : (length trail == 64) ≡ false = grind (arith, nat_tests, short) in
-    rw (alone, there, dir, plain, search, child, room, alive) refl
+    let searched : is_searched forest who m ≡ true = rw (there, dir) search in
+    let place : child_ref forest m.node name ≡ Some (beside m.node n.number) = rw child refl in
+    let some = any_behind (is_alive forest) earlier later m (rw there refl) in
+    let some_dir = any_behind (is_alive_dir forest) earlier later m (rw there dir) in
+    let some_searched = any_behind (is_searched forest who) earlier later m searched in
+    let child_is =
+    child_behind forest who name earlier later m (beside m.node n.number) passed searched place in
+    rw (mounted, some, some_dir, plain, some_searched, child_is, room, alive) refl
 
 abbrev changes_in : Answer → List ForestChange
 changes_in (Ok o) = o.changes
@@ -155,16 +170,16 @@ created_is_found state name session fid now v new perm mode qid iounit sound has
     (create_answer state.setting state.forest session now fid new perm mode) in
     let is : asked state name now (Tcreate fid new perm mode) ≡ after_outcome state name o =
     rw has.session_is refl in
-    subst (λ (a : Asked). a.reply ≡ Some (Rcreate qid iounit) → IsMade state a.state v new)
+    subst (λ (a : Asked). a.reply ≡ Some (Rcreate qid iounit) → IsMade state a.state v new perm)
     (sym is) (λ accepted.
     let told : o.reply ≡ Rcreate qid iounit = cc in
     go (create_answer state.setting state.forest session now fid new perm mode)
     (create-done state.setting state.forest session now fid new perm mode) told)
   where
     go : (a : Answer)
-        → OnDone (CreateDone state.setting state.forest session now fid new) a
+        → OnDone (CreateDone state.setting state.forest session now fid new perm) a
         → (outcome_of session a).reply ≡ Rcreate qid iounit
-        → IsMade state (after_outcome state name (outcome_of session a)).state v new
+        → IsMade state (after_outcome state name (outcome_of session a)).state v new perm
     go (Err fault) done told = absurd (cc)
     go (Ok p) done told =
         let target = done.member.node in
@@ -187,34 +202,57 @@ created_is_found state name session fid now v new perm mode qid iounit sound has
         let child =
         child_after_join state.forest sound.forest target dir n done.there refl parent free mark
         keeps in
+        let last =
+        children_after state.forest sound.forest target dir n done.there refl parent free mark keeps in
         let made =
         new_there state.forest sound.forest target dir n done.there refl parent free mark keeps in
         subst (λ forest. IsMade state (record {
           setting = state.setting;
           forest = forest;
           sessions = changed_session name p.session state.sessions;
-        }) v new) (sym forest_is) (record {
+        }) v new perm) (sym forest_is) (record {
           member = done.member;
+          dir = dir;
           node = n;
           chosen =
               subst (λ (w : Fid). permitting (members_of (here w.trail) state.setting.table)
               ≡ Some done.member) same done.chosen;
+          within = done.there;
+          mode =
+              subst (λ p. IsMasked n.mode dir.mode p) (mode_of-bits perm done.asked done.means)
+              (new_mode_is_masked dir.mode done.asked);
+          owner = ap (λ (w : Fid). w.user) same;
+          group = refl;
+          empty = refl;
           found = child;
-          listed =
-              children_after state.forest sound.forest target dir n done.there refl parent free mark
-              keeps;
-          walked = λ who trail m d alone its there search short.
+          last = last;
+          listed = λ who place earlier its reads.
               let table = state.setting.table in
               let forest = after state.forest target n mark in
-              let there_t : node_of target forest ≡ Some d =
-              ap (λ r. node_of r forest) (sym its) ∙ there in
-              let both : Some d ≡ Some (mark dir) = sym there_t ∙ dir_is in
-              let marked_is : d ≡ mark dir = cc in
-              let is_directory : is_dir d ≡ true = ap is_dir marked_is ∙ can.into in
+              let m : Member = its.member in
+              let there : node_of m.node forest ≡ Some (mark dir) =
+              ap (λ r. node_of r forest) its.is ∙ dir_is in
+              let files = children_of target state.forest ++ n ∷ [] in
+              let children : children_of m.node forest ≡ files =
+              ap (λ r. children_of r forest) its.is ∙ last in
+              let of_members =
+              lists_behind forest who earlier its.later m (mark dir) files there can.into reads
+              children in
+              let at_member : Lists (listing table forest who place) (length earlier) m.node files =
+              subst (λ ms. Lists (entries_from forest who 0 ms) (length earlier) m.node files)
+              (sym its.all) of_members in
+              subst (λ r. Lists (listing table forest who place) (length earlier) r files) its.is
+              at_member;
+          reached = λ who trail earlier its passed search short.
+              let table = state.setting.table in
+              let forest = after state.forest target n mark in
+              let m : Member = its.member in
+              let there : node_of m.node forest ≡ Some (mark dir) =
+              ap (λ r. node_of r forest) its.is ∙ dir_is in
               let child_m : child_in m.node new forest ≡ Some n =
-              ap (λ r. child_in r new forest) its ∙ child in
+              ap (λ r. child_in r new forest) its.is ∙ child in
               let place = beside target n.number in
-              let place_m : beside m.node n.number ≡ place = ap (λ r. beside r n.number) its in
+              let place_m : beside m.node n.number ≡ place = ap (λ r. beside r n.number) its.is in
               let alive : is_some (file_of (here (trail ++ beside m.node n.number ∷ [])) table forest)
               ≡ true =
               ap (λ r. is_some (file_of r table forest))
@@ -222,6 +260,9 @@ created_is_found state name session fid now v new perm mode qid iounit sound has
               ∙ ap (λ r. is_some (node_of r forest))
               (new-file state.forest table place sound.served.given refl)
               ∙ ap is_some made in
-              walks_down forest table who trail new m d n alone there is_directory search child_m
-              (not_dots new done.valid) short alive;
+              let passed_by =
+              recursion_from_All (IsPassedBy forest who new) earlier passed in
+              walks_down forest table who trail new earlier its.later m (mark dir) n its.all
+              passed_by there can.into search child_m (not_dots new done.valid) short alive
+              ∙ ap (λ r. Ok (trail ++ r ∷ [])) place_m;
         })

@@ -2,30 +2,33 @@
 use Rattle.std.proofs.Common.{◌≡◌, ℕ, zero, suc, Bool, true, false, List, [], ◌∷◌, Option, Some, None, Ok, Err}
 use Rattle.std.proofs.Common.{Result, ◌⊎◌, inl, inr, refl, ap, sym, ◌∙◌, subst, arith, is_some, set}
 use Rattle.std.proofs.lemmas.Bool.Decides.{nat_tests}
+use Rattle.std.proofs.lemmas.List.Elements.{recursion_from_All}
+use Rattle.std.specs.List.{AllByRecursion, list_any}
 use Rattle.p9_base.specs.declared.fault.Fault.{Fault}
 use Rattle.p9_base.specs.declared.fault.Fault.TheVariants.{PhaseError}
 use Rattle.p9_base.specs.declared.node_ref.NodeRef.{NodeRef}
 use Rattle.p9_base.specs.Fault.{text_of}
 use Rattle.p9_base.specs.NodeRef.{beside}
-use Rattle.p9_base.specs.Results.{obtain, need}
+use Rattle.p9_base.specs.Results.{obtain, need, unless}
 use Rattle.p9_tree.specs.Forest.{IsForest, forest_changed_at, node_of, server_at}
 use Rattle.p9_tree.specs.Node.{Node, has_number, marked}
 use Rattle.p9_tree.specs.Server.{Server, WellFormed, node_at, with_changed, with_dropped}
 use Rattle.p9_tree.proofs.Changed.{KeepsPlace, keeps-marked, node_at-changed_at}
 use Rattle.p9_tree.proofs.Dropped.{node_at-dropped_at}
+use Rattle.p9_space.specs.declared.row.Member.{Member}
 use Rattle.p9_space.specs.declared.trail.Step.{Step}
 use Rattle.p9_space.specs.Place.{file_of}
 use Rattle.p9_space.specs.Rights.{Who}
 use Rattle.p9_space.specs.Table.{MountRow, members_of}
 use Rattle.p9_space.specs.Trail.{here, stepped}
-use Rattle.p9_space.specs.Walk.{arrived, step_among, step_of, walk}
-use Rattle.p9_wire.specs.Message.{Rerror, Rremove, TMessage, Tattach, Tauth, Tclunk, Tcreate, Tflush}
+use Rattle.p9_space.specs.Walk.{arrived, is_alive, step_among, step_of, walk}
+use Rattle.p9_wire.specs.Message.{Rclunk, Rerror, Rremove, TMessage, Tattach, Tauth, Tclunk, Tcreate, Tflush}
 use Rattle.p9_wire.specs.Message.{Topen, Tread, Tremove, Tstat, Tversion, Twalk, Twrite, Twstat}
 use Rattle.p9_fids.specs.Fid.{Fid}
 use Rattle.p9_step.specs.Answer.{Answer, Outcome, outcome_of}
 use Rattle.p9_step.specs.ForestChange.{DropNode, all_applied, applied, edited}
 use Rattle.p9_step.specs.Clunk.{without}
-use Rattle.p9_step.specs.End.{parent_marked}
+use Rattle.p9_step.specs.End.{parent_marked, removes_on_close}
 use Rattle.p9_step.specs.Remove.{removal}
 use Rattle.p9_step.specs.State.{Session, State, fid_file, fid_ref}
 use Rattle.p9_step.specs.Step.{message_answer}
@@ -35,7 +38,7 @@ use Rattle.p9_step.proofs.Members.{found-member}
 use Rattle.p9_step.proofs.Found.{server_at-tree_changed_at}
 use Rattle.p9_step.proofs.Passed.{RemovalDone, removal-done}
 use Rattle.p9_manual_laws.specs.Asked.{Asked, Has, after_outcome, asked}
-use Rattle.p9_manual_laws.specs.Removes.{AsksFile, IsGone, RemovedIsGone}
+use Rattle.p9_manual_laws.specs.Removes.{AsksFile, EndsFid, GoesOn, IsGone, RemovedIsGone}
 use Rattle.p9_manual_laws.proofs.Sessions.{changed-same}
 
 -- a server is replaced, or was never there
@@ -181,8 +184,65 @@ module _ (forest : List Server) (table : List MountRow) (who : Option Who) where
           still_there names (stepped trail step) reached (step_arrives trail name step e)
           (rw e at is)
 
+-- where nothing that is mounted exists, no member is alive
+none_alive : (forest : List Server) (at : NodeRef) (ms : List Member) → node_of at forest ≡ None
+    → AllByRecursion (λ m. (m.node ≡ at) ⊎ (node_of m.node forest ≡ None)) ms
+    → list_any (is_alive forest) ms ≡ false
+none_alive forest at [] none each = refl
+none_alive forest at (m ∷ ms) none each =
+    let dead : node_of m.node forest ≡ None = elim each.0 [
+      | inl same ↦ ap (λ r. node_of r forest) same ∙ none
+      | inr absent ↦ absent
+    ] in
+    rw dead (none_alive forest at ms none each.1)
+
+-- so a walk by a name and a create are refused
+nothing_mounted : (state : State) (name now : ℕ) (session : Session) (fid : ℕ) (v : Fid)
+    (m : TMessage) → Has state name session fid v
+    → list_any (is_alive state.forest) (members_of (here v.trail) state.setting.table) ≡ false
+    → GoesOn session fid v m
+    → message_answer state.setting state.forest state.sessions session now m ≡ Err PhaseError
+unfolding obtain need unless
+nothing_mounted state name now session fid v (Twalk from newfid (first ∷ names)) has none goes =
+    rw (goes.0, has.fid_is, goes.1, goes.2, none) refl
+nothing_mounted state name now session fid v (Tcreate from new perm mode) has none goes =
+    let its = goes.2 in
+    rw (goes.0, has.fid_is, goes.1, its.named, its.opens, its.means, its.plain, none) refl
+nothing_mounted state name now session fid v (Twalk from newfid []) has none goes = absurd goes
+nothing_mounted state name now session fid v (Tversion msize version) has none goes = absurd goes
+nothing_mounted state name now session fid v (Tauth afid uname aname) has none goes = absurd goes
+nothing_mounted state name now session fid v (Tattach new afid uname aname) has none goes =
+    absurd goes
+nothing_mounted state name now session fid v (Tflush oldtag) has none goes = absurd goes
+nothing_mounted state name now session fid v (Topen from mode) has none goes = absurd goes
+nothing_mounted state name now session fid v (Tread from offset count) has none goes = absurd goes
+nothing_mounted state name now session fid v (Twrite from offset bytes) has none goes = absurd goes
+nothing_mounted state name now session fid v (Tclunk from) has none goes = absurd goes
+nothing_mounted state name now session fid v (Tremove from) has none goes = absurd goes
+nothing_mounted state name now session fid v (Tstat from) has none goes = absurd goes
+nothing_mounted state name now session fid v (Twstat from stat) has none goes = absurd goes
+
+-- a remove of what isn't there is refused, and ends the fid
+pub remove_ends : (state : State) (name now : ℕ) (session : Session) (fid : ℕ) (v : Fid)
+    → Has state name session fid v → fid_file state.setting.table state.forest v ≡ None
+    → EndsFid state name now session fid (Tremove fid) (Rerror (text_of PhaseError))
+unfolding obtain need
+remove_ends state name now session fid v has none = rw (has.session_is, has.fid_is, none) refl
+
+-- a clunk ends the fid, also where it was to remove the file
+clunk_ends : (state : State) (name now : ℕ) (session : Session) (fid : ℕ) (v : Fid)
+    → Has state name session fid v → fid_file state.setting.table state.forest v ≡ None
+    → EndsFid state name now session fid (Tclunk fid) Rclunk
+unfolding obtain
+clunk_ends state name now session fid v has none = go (removes_on_close v) refl
+  where
+    go : (b : Bool) → removes_on_close v ≡ b
+        → EndsFid state name now session fid (Tclunk fid) Rclunk
+    go true e = rw (has.session_is, has.fid_is, e, none) refl
+    go false e = rw (has.session_is, has.fid_is, e) refl
+
 -- what isn't there is gone
-gone : (state : State) (at : NodeRef) → node_of at state.forest ≡ None → IsGone state at
+pub gone : (state : State) (at : NodeRef) → node_of at state.forest ≡ None → IsGone state at
 gone state at none = record {
   absent = none;
   no_walk = λ who trail reached name names is same.
@@ -190,11 +250,24 @@ gone state at none = record {
       walk_arrives state.forest state.setting.table who trail reached name names is in
       let no : false ≡ true = rw (same, none) at there in cc;
   stale = λ name session fid now v m has same asks.
-      let lost : fid_file state.setting.table state.forest v ≡ None =
-      ap (λ r. node_of r state.forest) same ∙ none in
       refused state name now session fid v m PhaseError has
-      (no_file state name now session fid v m has lost asks);
+      (no_file state name now session fid v m has (lost v same) asks);
+  removed = λ name session fid now v has same.
+      remove_ends state name now session fid v has (lost v same);
+  clunked = λ name session fid now v has same.
+      clunk_ends state name now session fid v has (lost v same);
+  no_way = λ name session fid now v m has alone goes.
+      refused state name now session fid v m PhaseError has
+      (nothing_mounted state name now session fid v m has
+      (none_alive state.forest at (members_of (here v.trail) state.setting.table) none
+      (recursion_from_All (λ m. (m.node ≡ at) ⊎ (node_of m.node state.forest ≡ None))
+      (members_of (here v.trail) state.setting.table) alone))
+      goes);
 }
+  where
+    lost : (v : Fid) → fid_ref state.setting.table v ≡ at
+        → fid_file state.setting.table state.forest v ≡ None
+    lost v same = ap (λ r. node_of r state.forest) same ∙ none
 
 pub removed_is_gone : RemovedIsGone
 unfolding obtain OnDone

@@ -7,8 +7,10 @@ pub mod ReadBack
 pub mod Undisturbed
 pub mod Masks
 pub mod Gone
+pub mod Stays
 pub mod Walked
 pub mod Children
+pub mod Unions
 pub mod Created
 pub mod Entries
 pub mod Listed

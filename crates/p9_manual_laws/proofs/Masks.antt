@@ -1,17 +1,21 @@
--- The permissions of a new file by the octal formula: each digit by itself.
-use Rattle.std.proofs.Common.{◌≡◌, ℕ, ◌+◌, ◌-◌, ◌*◌, ◌<◌, ◌^◌, Bool, true, false, refl, sym, ap, ◌∙◌}
-use Rattle.std.proofs.Common.{inl, inr, lit<, arith}
-use Rattle.std.specs.Prelude.{bit_and, bit_or, min, max, if◌then◌else◌}
-use Rattle.std.specs.Int.{bit_at}
-use Rattle.std.proofs.lemmas.Bool.{cases_lt}
-use Rattle.std.proofs.lemmas.Nat.Bits.{bit_at_and, bit_at_cat_high, bit_at_cat_low, bit_at_or}
-use Rattle.std.proofs.lemmas.Nat.Bits.{same_from_bits}
-use Rattle.std.proofs.lemmas.Nat.{and_le_l, and_le_r, or_lt}
+-- The mode of a new file by the octal formula: each digit of the permissions by itself, and the bits
+-- above them.
+use Rattle.std.proofs.Common.{◌≡◌, ℕ, ◌+◌, ◌-◌, ◌*◌, ◌/◌, ◌%◌, ◌<◌, ◌^◌, Bool, true, false, refl}
+use Rattle.std.proofs.Common.{sym, ap, ◌∙◌, lit<, arith, mod-eq_of_lt}
+use Rattle.std.specs.Prelude.{◌==◌, Some, None, bit_and, bit_or, if◌then◌else◌}
+use Rattle.std.proofs.lemmas.Bool.Decides.{nat_tests}
+use Rattle.std.proofs.lemmas.Nat.{and_block, and_le_r, and_mask, or_block, or_lt}
+use Rattle.p9_base.specs.declared.mode.Kind.{Kind}
+use Rattle.p9_base.specs.declared.mode.Kind.TheVariants.{Directory, File}
+use Rattle.p9_base.specs.declared.mode.Mode.{Mode}
 use Rattle.p9_base.specs.declared.mode.Permissions.{Permissions}
 use Rattle.p9_base.specs.declared.mode.Rights.{Rights}
-use Rattle.p9_base.specs.Mode.{is_dir, permissions_bits, rights_bits}
+use Rattle.p9_base.specs.Mode.{flags_bits, is_dir, kind_bits, mode_bits, permissions_bits}
+use Rattle.p9_base.specs.Mode.{kind_among, mode_of, permissions_end, permissions_of, rights_bits}
+use Rattle.p9_base.specs.Mode.{rights_of}
+use Rattle.p9_base.proofs.Modes.{kind_bits-mode_bits}
 use Rattle.p9_step.specs.Inherit.{dir_rights, file_rights, in_each, inherited}
-use Rattle.p9_manual_laws.specs.Modes.{NewModeIsMasked, all_permissions, file_mask, masked}
+use Rattle.p9_manual_laws.specs.Modes.{NewModeIsMasked, dir_mask, file_mask, masked}
 
 -- a digit behind others
 behind : ℕ → ℕ → ℕ
@@ -21,35 +25,13 @@ behind a b = a * 2 ^ 3 + b
 and_behind : (a b c d : ℕ) → b < 2 ^ 3 → d < 2 ^ 3
     → bit_and (behind a b) (behind c d) ≡ behind (bit_and a c) (bit_and b d)
 unfolding behind
-and_behind a b c d small few = same_from_bits _ _ (λ i. elim (cases_lt i 3) [
-  | inl low ↦ bit_at_and (a * 2 ^ 3 + b) (c * 2 ^ 3 + d) i
-      ∙ ap (λ x. min x (bit_at (c * 2 ^ 3 + d) i)) (bit_at_cat_low a 3 b i low)
-      ∙ ap (λ x. min (bit_at b i) x) (bit_at_cat_low c 3 d i low) ∙ sym (bit_at_and b d i)
-      ∙ sym (bit_at_cat_low (bit_and a c) 3 (bit_and b d) i low)
-  | inr high ↦ (
-      let within : bit_and b d < 2 ^ 3 = omega (arith, and_le_l b d) in
-      bit_at_and (a * 2 ^ 3 + b) (c * 2 ^ 3 + d) i
-      ∙ ap (λ x. min x (bit_at (c * 2 ^ 3 + d) i)) (bit_at_cat_high a 3 b i small high)
-      ∙ ap (λ x. min (bit_at a (i - 3)) x) (bit_at_cat_high c 3 d i few high)
-      ∙ sym (bit_at_and a c (i - 3))
-      ∙ sym (bit_at_cat_high (bit_and a c) 3 (bit_and b d) i within high))
-])
+and_behind a b c d small few = and_block 3 a c b d small few
 
 -- the bits of one of both, digit by digit
-or_behind : (a b c d : ℕ) → b < 2 ^ 3 → d < 2 ^ 3 → bit_or b d < 2 ^ 3
+or_behind : (a b c d : ℕ) → b < 2 ^ 3 → d < 2 ^ 3
     → bit_or (behind a b) (behind c d) ≡ behind (bit_or a c) (bit_or b d)
 unfolding behind
-or_behind a b c d small few within = same_from_bits _ _ (λ i. elim (cases_lt i 3) [
-  | inl low ↦ bit_at_or (a * 2 ^ 3 + b) (c * 2 ^ 3 + d) i
-      ∙ ap (λ x. max x (bit_at (c * 2 ^ 3 + d) i)) (bit_at_cat_low a 3 b i low)
-      ∙ ap (λ x. max (bit_at b i) x) (bit_at_cat_low c 3 d i low) ∙ sym (bit_at_or b d i)
-      ∙ sym (bit_at_cat_low (bit_or a c) 3 (bit_or b d) i low)
-  | inr high ↦ bit_at_or (a * 2 ^ 3 + b) (c * 2 ^ 3 + d) i
-      ∙ ap (λ x. max x (bit_at (c * 2 ^ 3 + d) i)) (bit_at_cat_high a 3 b i small high)
-      ∙ ap (λ x. max (bit_at a (i - 3)) x) (bit_at_cat_high c 3 d i few high)
-      ∙ sym (bit_at_or a c (i - 3))
-      ∙ sym (bit_at_cat_high (bit_or a c) 3 (bit_or b d) i within high)
-])
+or_behind a b c d small few = or_block 3 a c b d small few
 
 -- what holds of three bits in each of their eight cases
 of_three : (P : Bool → Bool → Bool → Type 0)
@@ -174,10 +156,9 @@ masked_octal mask others dir asked small few =
         ≡ octal (part dir.owner) (part dir.group) (part dir.others)
     given =
         or_behind (behind others others) others (behind (left dir.owner) (left dir.group))
-        (left dir.others) few (left_lt dir.others) (part_lt dir.others)
+        (left dir.others) few (left_lt dir.others)
         ∙ ap (λ x. behind x (part dir.others))
-        (or_behind others others (left dir.owner) (left dir.group) few (left_lt dir.group)
-        (part_lt dir.group))
+        (or_behind others others (left dir.owner) (left dir.group) few (left_lt dir.group))
 
 -- the same of each class
 in_octal : (f : Rights → Rights → Rights) (mask others : ℕ) (dir asked : Permissions)
@@ -196,15 +177,134 @@ in_octal f mask others dir asked small few each =
     (digit mask others dir.group asked.group) x) (each dir.others asked.others)
     ∙ sym (masked_octal mask others dir asked small few)
 
-pub new_mode_is_masked : NewModeIsMasked
+-- the formula's mask for a file, or for a directory
+abbrev mask_for : Bool → ℕ
+mask_for dir = if dir then dir_mask else file_mask
+
+-- the formula among the permissions
+abbrev masked_low : (mask perm dir : ℕ) → ℕ
+masked_low mask perm dir = bit_and perm (bit_or (dir_mask - mask) (bit_and dir mask))
+
+permissions_masked : (dir : Permissions) (asked : Mode)
+    → permissions_bits (inherited dir asked).permissions
+    ≡ masked_low (mask_for (is_dir asked)) (permissions_bits asked.permissions)
+    (permissions_bits dir)
 unfolding octal behind
-new_mode_is_masked dir perm = go (is_dir perm) refl
+permissions_masked dir asked = go (is_dir asked) refl
   where
-    go : (b : Bool) → is_dir perm ≡ b
-        → permissions_bits (inherited dir perm).permissions
-        ≡ masked (if is_dir perm then all_permissions else file_mask)
-        (permissions_bits perm.permissions) (permissions_bits dir)
+    go : (b : Bool) → is_dir asked ≡ b
+        → permissions_bits (inherited dir asked).permissions
+        ≡ masked_low (mask_for (is_dir asked)) (permissions_bits asked.permissions)
+        (permissions_bits dir)
     go true e =
-        rw e (in_octal dir_rights 7 0 dir perm.permissions (lit< tt) (lit< tt) dir_digit)
+        rw e (in_octal dir_rights 7 0 dir asked.permissions (lit< tt) (lit< tt) dir_digit)
     go false e =
-        rw e (in_octal file_rights 6 1 dir perm.permissions (lit< tt) (lit< tt) file_digit)
+        rw e (in_octal file_rights 6 1 dir asked.permissions (lit< tt) (lit< tt) file_digit)
+
+permissions_lt : (p : Permissions) → permissions_bits p < 2 ^ 9
+permissions_lt p =
+    let a = rights_lt p.owner in
+    let b = rights_lt p.group in
+    let c = rights_lt p.others in
+    omega arith
+
+-- the formula of numbers of which the low nine bits are permissions: the mask changes no other
+masked_high : (mask q p r d : ℕ) → mask < 2 ^ 9 → p < 2 ^ 9 → d < 2 ^ 9 → q < 2 ^ 23
+    → masked mask (q * 2 ^ 9 + p) (r * 2 ^ 9 + d) ≡ q * 2 ^ 9 + masked_low mask p d
+masked_high mask q p r d small perm dir few =
+    ap (λ x. bit_and (q * 2 ^ 9 + p) (bit_or (2 ^ 32 - 1 - mask) x)) of_dir
+    ∙ ap (λ x. bit_and (q * 2 ^ 9 + p) (bit_or x (bit_and d mask))) ones
+    ∙ ap (λ x. bit_and (q * 2 ^ 9 + p) x) either
+    ∙ and_block 9 q (2 ^ 23 - 1) p (bit_or (dir_mask - mask) (bit_and d mask)) perm
+    (or_lt 9 (dir_mask - mask) (bit_and d mask) (omega arith) within)
+    ∙ ap (λ x. x * 2 ^ 9 + masked_low mask p d) (and_mask q 23 ∙ mod-eq_of_lt few)
+  where
+    within : bit_and d mask < 2 ^ 9
+    within = omega (arith, and_le_r d mask)
+
+    of_dir : bit_and (r * 2 ^ 9 + d) mask ≡ bit_and d mask
+    of_dir =
+        let none = and_le_r r 0 in
+        let parts : bit_and (r * 2 ^ 9 + d) (0 * 2 ^ 9 + mask) ≡ bit_and r 0 * 2 ^ 9 + bit_and d mask =
+        and_block 9 r 0 d mask dir small in
+        ap (λ x. bit_and (r * 2 ^ 9 + d) x) (omega arith) ∙ parts ∙ omega arith
+
+    ones : 2 ^ 32 - 1 - mask ≡ (2 ^ 23 - 1) * 2 ^ 9 + (dir_mask - mask)
+    ones = omega arith
+
+    either : bit_or ((2 ^ 23 - 1) * 2 ^ 9 + (dir_mask - mask)) (bit_and d mask)
+        ≡ (2 ^ 23 - 1) * 2 ^ 9 + bit_or (dir_mask - mask) (bit_and d mask)
+    either =
+        let whole : bit_and d mask ≡ 0 * 2 ^ 9 + bit_and d mask = omega arith in
+        ap (λ x. bit_or ((2 ^ 23 - 1) * 2 ^ 9 + (dir_mask - mask)) x) whole
+        ∙ or_block 9 (2 ^ 23 - 1) 0 (dir_mask - mask) (bit_and d mask) (omega arith) within
+
+-- a kind has its bits below the number of 32 bits
+kind_lt : (k : Kind) → kind_bits k < 2 ^ 32
+kind_lt Directory = lit< tt
+kind_lt (File f) =
+    of_three (λ a e t. flags_bits (record { append_only = a; exclusive = e; temporary = t }) < 2 ^ 32)
+    (lit< tt) (lit< tt) (lit< tt) (lit< tt) (lit< tt) (lit< tt) (lit< tt) (lit< tt) f.append_only
+    f.exclusive f.temporary
+
+-- and above the permissions
+kind_high : (m : Mode) → kind_bits m.kind ≡ mode_bits m / 2 ^ 9 * 2 ^ 9
+kind_high m = let above = kind_bits-mode_bits m (mode_bits m) refl in omega arith
+
+mode_high : (m : Mode)
+    → mode_bits m ≡ mode_bits m / 2 ^ 9 * 2 ^ 9 + permissions_bits m.permissions
+mode_high m = ap (λ k. k + permissions_bits m.permissions) (kind_high m)
+
+pub new_mode_is_masked : NewModeIsMasked
+new_mode_is_masked dir asked =
+    let q : ℕ = mode_bits asked / 2 ^ 9 in
+    let r : ℕ = mode_bits dir / 2 ^ 9 in
+    let p : ℕ = permissions_bits asked.permissions in
+    let d : ℕ = permissions_bits dir.permissions in
+    let mask : ℕ = mask_for (is_dir asked) in
+    let few : q < 2 ^ 23 = (let below = kind_lt asked.kind in
+    let high = kind_high asked in
+    omega arith) in
+    ap (λ x. kind_bits asked.kind + x) (permissions_masked dir.permissions asked)
+    ∙ ap (λ x. x + masked_low mask p d) (kind_high asked)
+    ∙ sym (masked_high mask q p r d (mask_lt (is_dir asked)) (permissions_lt asked.permissions)
+    (permissions_lt dir.permissions) few)
+    ∙ ap (λ x. masked mask x (r * 2 ^ 9 + d)) (sym (mode_high asked))
+    ∙ ap (λ x. masked mask (mode_bits asked) x) (sym (mode_high dir))
+  where
+    mask_lt : (b : Bool) → mask_for b < 2 ^ 9
+    mask_lt true = lit< tt
+    mask_lt false = lit< tt
+
+-- three bits are those of the rights that they give
+rights_of-bits : (b : ℕ) → b < 2 ^ 3 → rights_bits (rights_of b) ≡ b
+rights_of-bits b few = grind (arith, nat_tests, few)
+
+-- nine bits are those of the permissions that they give
+permissions_of-bits : (b : ℕ) → b < 2 ^ 9 → permissions_bits (permissions_of b) ≡ b
+permissions_of-bits b few =
+    let owner = rights_of-bits (b / 64) (omega arith) in
+    let group = rights_of-bits (b / 8 % 8) (omega arith) in
+    let others = rights_of-bits (b % 8) (omega arith) in
+    omega arith
+
+-- the number of a mode is the one that it was read from
+pub mode_of-bits : (perm : ℕ) (m : Mode) → mode_of perm ≡ Some m → mode_bits m ≡ perm
+mode_of-bits perm m is = go (kind_bits (kind_among high) == high) refl
+  where
+    high : ℕ
+    high = perm - perm % permissions_end
+
+    go : (b : Bool) → (kind_bits (kind_among high) == high) ≡ b → mode_bits m ≡ perm
+    go false e = let no : None ≡ Some m = rw e at is in absurd (cc)
+    go true e =
+        let low : ℕ = perm % permissions_end in
+        let few : low < 2 ^ 9 = omega arith in
+        let read : Some (record { kind = kind_among high; permissions = permissions_of low })
+        ≡ Some m = rw e at is in
+        let same : record { kind = kind_among high; permissions = permissions_of low } ≡ m = cc in
+        let above : kind_bits (kind_among high) ≡ high = grind (arith, nat_tests, e) in
+        let below = permissions_of-bits low few in
+        let whole : kind_bits (kind_among high) + permissions_bits (permissions_of low) ≡ perm =
+        omega arith in
+        ap mode_bits (sym same) ∙ whole

@@ -9,7 +9,7 @@ ghost use Rattle.p9_manual_laws.specs.Creates.{CreatedIsFound};
 ghost use Rattle.p9_manual_laws.specs.Files.{ReadsDontDisturb, WrittenIsReadBack};
 ghost use Rattle.p9_manual_laws.specs.Listings.{ReadsGiveAll};
 ghost use Rattle.p9_manual_laws.specs.Modes.{NewModeIsMasked};
-ghost use Rattle.p9_manual_laws.specs.Removes.{RemovedIsGone};
+ghost use Rattle.p9_manual_laws.specs.Removes.{RemovedIsGone, RemovedStaysGone};
 ghost use Rattle.p9_manual_laws.specs.Walks.{WalkLeadsByTable};
 ghost use Rattle.p9_manual_laws.specs.Wstats.{UntouchedStatChangesNothing};
 
@@ -38,7 +38,9 @@ pub fn reads_do_not_disturb_each_other()
     ensures { ReadsDontDisturb }
 {}
 
-/// A file that was created is found by a walk, and listed behind the others, as open(5).
+/// A file that was created has the mode that was asked for, as the octal formula of open(5) gives it,
+/// the fid's user as its owner and its directory's group. It is found by a walk, and is listed behind
+/// the files that were in its directory.
 pub fn a_created_file_is_found()
     ensures { CreatedIsFound }
 {}
@@ -49,9 +51,14 @@ pub fn reads_give_all_entries()
 {}
 
 /// A file that was removed is found by no walk, and its fids are answered 'phase error', as
-/// remove(5).
+/// remove(5). A remove or a clunk still ends such a fid.
 pub fn a_removed_file_is_gone()
     ensures { RemovedIsGone }
+{}
+
+/// A file that was removed stays gone, whatever events come later: its number is never given again.
+pub fn a_removed_file_stays_gone()
+    ensures { RemovedStaysGone }
 {}
 
 /// A walk of a fid leads where a walk in the mount table leads, as walk(5).
@@ -59,7 +66,7 @@ pub fn a_walk_leads_by_the_mount_table()
     ensures { WalkLeadsByTable }
 {}
 
-/// The permissions of a new file are by the octal formula of open(5).
+/// The mode that a new file gets is by the octal formula of open(5).
 pub fn a_new_mode_is_masked()
     ensures { NewModeIsMasked }
 {}

@@ -400,10 +400,10 @@ module _ (state : State) (name : ℕ) (session : Session) (frame : List ℕ) (no
       let w = wide_for session frame _ short is refl in
       given_by state name session frame there least tagged refused _
       (ap (after_refusal state name session) is)
-      (done-map (CreateDone state.setting state.forest session now fid new)
+      (done-map (CreateDone state.setting state.forest session now fid new perm)
       (Replies (reply_max session)) _
       (replies-create (reply_max session) state.setting state.forest session ok.forest w.wide
-      w.room w.frames now fid new)
+      w.room w.frames now fid new perm)
       (create-done state.setting state.forest session now fid new perm mode))
   by_message (Tread fid offset count) is =
       let w = wide_for session frame _ short is refl in

@@ -272,9 +272,9 @@ module _ (most : ℕ) (setting : Setting) (forest : List Server) (session : Sess
               (node_of-small forest at done.n sound done.there)
               (mod-lt (done.n.version + 1) (omega arith)))
 
-      pub replies-create : (now fid : ℕ) (name : List ℕ) (o : Outcome)
-          → CreateDone setting forest session now fid name o → Replies most o
-      replies-create now fid name o done =
+      pub replies-create : (now fid : ℕ) (name : List ℕ) (perm : ℕ) (o : Outcome)
+          → CreateDone setting forest session now fid name perm o → Replies most o
+      replies-create now fid name perm o done =
           subst (Replies most) same (record {
             numbers = (qid, omega (arith, room, frames));
             fits = tt;

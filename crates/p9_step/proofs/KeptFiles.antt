@@ -296,9 +296,9 @@ module _ (setting : Setting) (forest : List Server) (session : Session) (now : �
 
   -- Creates.
 
-  pub kept-create : (fid : ℕ) (name : List ℕ) (o : Outcome)
-      → CreateDone setting forest session now fid name o → Kept setting forest o
-  kept-create fid name o done = subst (Kept setting forest) same (record {
+  pub kept-create : (fid : ℕ) (name : List ℕ) (perm : ℕ) (o : Outcome)
+      → CreateDone setting forest session now fid name perm o → Kept setting forest o
+  kept-create fid name perm o done = subst (Kept setting forest) same (record {
     lawful = lawful;
     session =
         session-changed setting forest session now ready after fid _ v evolves done.found (record {

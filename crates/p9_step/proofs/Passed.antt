@@ -12,6 +12,7 @@ use Rattle.std.specs.List.{flat_map}
 use Rattle.std.specs.Prelude.{codes, is_none, min, nat_le, not}
 use Rattle.p9_base.specs.Mode.{is_dir as is_dir_mode}
 use Rattle.p9_base.specs.Name.{is_name}
+use Rattle.p9_base.specs.Mode.{mode_of}
 use Rattle.p9_base.specs.declared.fault.Fault.{Fault}
 use Rattle.p9_base.specs.declared.mode.Mode.{Mode}
 use Rattle.p9_base.specs.declared.node_ref.NodeRef.{NodeRef}
@@ -136,7 +137,7 @@ pub record CanCreate (setting : Setting) (forest : List Server) (v : Fid) (name 
 
 -- a create
 pub record CreateDone (setting : Setting) (forest : List Server) (session : Session) (now fid : ℕ)
-    (name : List ℕ) (o : Outcome) : Type 0 where
+    (name : List ℕ) (perm : ℕ) (o : Outcome) : Type 0 where
   pub v : Fid
   pub opening : Opening
   pub asked : Mode
@@ -145,6 +146,7 @@ pub record CreateDone (setting : Setting) (forest : List Server) (session : Sess
   pub found : fid_at fid session.fids ≡ Some v
   pub shut : v.opened ≡ None
   pub valid : is_name name ≡ true
+  pub means : mode_of perm ≡ Some asked
   pub plain : (not (is_dir_mode asked) || is_plain_read opening) ≡ true
   pub chosen : permitting (members_of (here v.trail) setting.table) ≡ Some member
   pub there : node_of member.node forest ≡ Some dir
@@ -374,25 +376,25 @@ module _ (setting : Setting) (forest : List Server) (session : Session) where
       }))))))))
 
   pub create-done : (now fid : ℕ) (name : List ℕ) (perm bits : ℕ)
-      → OnDone (CreateDone setting forest session now fid name)
+      → OnDone (CreateDone setting forest session now fid name perm)
       (create_answer setting forest session now fid name perm bits)
   create-done now fid name perm bits =
-      done-given (CreateDone setting forest session now fid name) _ _ _ refl
-      (λ v found. done-need (CreateDone setting forest session now fid name) _ _ _ refl
-      (λ shut. done-need (CreateDone setting forest session now fid name) _ _ _ refl
-      (λ valid. done-given (CreateDone setting forest session now fid name) _ _ _ refl
-      (λ opening known. done-given (CreateDone setting forest session now fid name) _ _ _ refl
-      (λ asked means. done-need (CreateDone setting forest session now fid name) _ _ _ refl
-      (λ plain. done-need (CreateDone setting forest session now fid name) _ _ _ refl
-      (λ some. done-need (CreateDone setting forest session now fid name) _ _ _ refl
-      (λ some_dir. done-given (CreateDone setting forest session now fid name) _ _ _ refl
-      (λ member chosen. done-given (CreateDone setting forest session now fid name) _ _ _ refl
-      (λ dir there. done-need (CreateDone setting forest session now fid name) _ _ _ refl
-      (λ into. done-need (CreateDone setting forest session now fid name) _ _ _ refl
-      (λ writes. done-need (CreateDone setting forest session now fid name) _ _ _ refl
-      (λ free. done-need (CreateDone setting forest session now fid name) _ _ _ refl
-      (λ room. done-need (CreateDone setting forest session now fid name) _ _ _ refl
-      (λ short. done-ok (CreateDone setting forest session now fid name) _ (record {
+      done-given (CreateDone setting forest session now fid name perm) _ _ _ refl
+      (λ v found. done-need (CreateDone setting forest session now fid name perm) _ _ _ refl
+      (λ shut. done-need (CreateDone setting forest session now fid name perm) _ _ _ refl
+      (λ valid. done-given (CreateDone setting forest session now fid name perm) _ _ _ refl
+      (λ opening known. done-given (CreateDone setting forest session now fid name perm) _ _ _ refl
+      (λ asked means. done-need (CreateDone setting forest session now fid name perm) _ _ _ refl
+      (λ plain. done-need (CreateDone setting forest session now fid name perm) _ _ _ refl
+      (λ some. done-need (CreateDone setting forest session now fid name perm) _ _ _ refl
+      (λ some_dir. done-given (CreateDone setting forest session now fid name perm) _ _ _ refl
+      (λ member chosen. done-given (CreateDone setting forest session now fid name perm) _ _ _ refl
+      (λ dir there. done-need (CreateDone setting forest session now fid name perm) _ _ _ refl
+      (λ into. done-need (CreateDone setting forest session now fid name perm) _ _ _ refl
+      (λ writes. done-need (CreateDone setting forest session now fid name perm) _ _ _ refl
+      (λ free. done-need (CreateDone setting forest session now fid name perm) _ _ _ refl
+      (λ room. done-need (CreateDone setting forest session now fid name perm) _ _ _ refl
+      (λ short. done-ok (CreateDone setting forest session now fid name perm) _ (record {
         v = v;
         opening = opening;
         asked = asked;
@@ -401,6 +403,7 @@ module _ (setting : Setting) (forest : List Server) (session : Session) where
         found = found;
         shut = is_none-None v.opened shut;
         valid = valid;
+        means = means;
         plain = plain;
         chosen = chosen;
         there = there;

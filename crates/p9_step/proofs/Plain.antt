@@ -38,9 +38,9 @@ module _ (setting : Setting) (forest : List Server) (session : Session) where
   plain-walk fid newfid names o done =
       elim done.is [ inl is ↦ plain_as o _ _ _ is refl | inr is ↦ plain_as o _ _ _ is refl ]
 
-  plain-create : (now fid : ℕ) (name : List ℕ) (o : Outcome)
-      → CreateDone setting forest session now fid name o → IsPlain o
-  plain-create now fid name o done =
+  plain-create : (now fid : ℕ) (name : List ℕ) (perm : ℕ) (o : Outcome)
+      → CreateDone setting forest session now fid name perm o → IsPlain o
+  plain-create now fid name perm o done =
       done-is IsPlain (creation forest session now fid done.v done.member.node done.dir name done.asked
       done.opening) o (done-ok IsPlain _ refl) (sym done.is)
 
@@ -96,8 +96,8 @@ plain-session_answer setting forest taken session now (Topen fid mode) =
     (open-done setting forest session taken now fid mode)
 plain-session_answer setting forest taken session now (Tcreate fid name perm mode) =
     plain_if _ _
-    (done-map (CreateDone setting forest session now fid name) IsPlain _
-    (plain-create setting forest session now fid name)
+    (done-map (CreateDone setting forest session now fid name perm) IsPlain _
+    (plain-create setting forest session now fid name perm)
     (create-done setting forest session now fid name perm mode))
 plain-session_answer setting forest taken session now (Tread fid offset count) =
     never (ReadDone setting forest session now fid offset count) _

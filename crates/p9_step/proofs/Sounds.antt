@@ -65,8 +65,8 @@ kept-answer setting forest taken session now (Topen fid mode) ready fit =
     (kept-open setting forest session now ready fid)
     (open-done setting forest session taken now fid mode)
 kept-answer setting forest taken session now (Tcreate fid name perm mode) ready fit =
-    done-map (CreateDone setting forest session now fid name) (Kept setting forest) _
-    (kept-create setting forest session now ready fid name)
+    done-map (CreateDone setting forest session now fid name perm) (Kept setting forest) _
+    (kept-create setting forest session now ready fid name perm)
     (create-done setting forest session now fid name perm mode)
 kept-answer setting forest taken session now (Tread fid offset count) ready fit =
     done-map (ReadDone setting forest session now fid offset count) (Kept setting forest) _
