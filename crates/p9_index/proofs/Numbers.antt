@@ -18,9 +18,9 @@ module _ {Z : Type 0} (es : List (ℕ × Node)) (s : Entries Z)
     (index : IsIndex es (is_listed s) (number_at s))
     (rising : AllPairs (λ m n. m.number < n.number) (values_of es)) where
   -- the number of an entry is that of the node that is there
-  pub number_of_child : (e : Entry)
+  pub number_at-child : (e : Entry)
       → number_at s e ≡ option_map (λ n. n.number) (child_of e.parent e.name (values_of es))
-  number_of_child e =
+  number_at-child e =
       elim (child_of e.parent e.name (values_of es)) as
       (λ o. child_of e.parent e.name (values_of es) ≡ o
       → number_at s e ≡ option_map (λ (n : Node). n.number) o) [

@@ -14,7 +14,7 @@ use Rattle.p9_index.specs.Entries.{ListsSame, Names, entry_cmp, is_listed, numbe
 use Rattle.p9_index.specs.Tree.{IsIndex, Renames, server_of, stands_at}
 use Rattle.p9_index.proofs.Changed.{at_number, found-changed, keyed-changed, listed-changed}
 use Rattle.p9_index.proofs.Changed.{own_number}
-use Rattle.p9_index.proofs.Numbers.{number_of_child}
+use Rattle.p9_index.proofs.Numbers.{number_at-child}
 use Rattle.p9_index.proofs.Orders.{at_itself, entries_total, equal_by_test, exact_entries}
 use Rattle.p9_index.proofs.Orders.{is_child-is_at}
 use Rattle.p9_tree.specs.declared.change.Change.{Change}
@@ -32,7 +32,7 @@ module _ {Z : Type 0} (es : List (ℕ × Node)) (next k : ℕ) (s : Entries Z) (
   -- the name that the node gets is free
   pub free-name : CanChangeNode (server_of es next) n c → number_at s to ≡ None
   free-name can =
-      number_of_child es s index well.rising to
+      number_at-child es s index well.rising to
       ∙ ap (option_map (λ (m : Node). m.number)) (go (child_of to.parent to.name (values_of es)) refl)
     where
       go : (o : Option Node) → child_of to.parent to.name (values_of es) ≡ o
@@ -41,7 +41,7 @@ module _ {Z : Type 0} (es : List (ℕ × Node)) (next k : ℕ) (s : Entries Z) (
       go (Some m) found =
           let in_dir : child_of from.parent to.name (values_of es) ≡ Some m =
           subst (λ d. child_of d to.name (values_of es) ≡ Some m) it.dir found in
-          let same : m.number ≡ n.number = can.free to.name it.given from.parent it.parent m in_dir
+          let same : m.number ≡ n.number = can.free to.name it.new_name from.parent it.parent m in_dir
           in
           let there : node_at m.number (values_of es) ≡ Some m =
           node_at-found (is_child to.parent to.name) (values_of es) m well.rising found in
@@ -87,7 +87,7 @@ module _ {Z : Type 0} (es fs : List (ℕ × Node)) (next k : ℕ) (s u t : Entri
   own = own_number es fs next k s (changed c) n w index well found written new (keeps-changed c)
 
   renamed : (changed c n).name ≡ to.name
-  renamed = ap (λ o. unwrap_or o n.name) it.given
+  renamed = ap (λ o. unwrap_or o n.name) it.new_name
 
   test_from : (q : Entry) → is_child q.parent q.name n ≡ is_at (entry_cmp from) q
   test_from q = is_child-is_at from q n it.parent it.name

@@ -35,7 +35,7 @@ pub record Renames (from to : Entry) (change : Change) (n : Node) : Type 0 where
   pub parent : n.parent ≡ Some from.parent
   pub name : n.name ≡ from.name
   pub dir : to.parent ≡ from.parent
-  pub given : change.name ≡ Some to.name
+  pub new_name : change.name ≡ Some to.name
   pub other : to.name ≢ from.name
 
 -- the change leaves the node its name

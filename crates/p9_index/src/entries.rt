@@ -38,7 +38,7 @@ impl<A: Allocator + Copy> Entries<A> {
     }
 
     /// The number of the node of this entry.
-    pub fn number_of(&self, entry: &Entry) -> Option<u64>
+    pub fn number_at(&self, entry: &Entry) -> Option<u64>
         ensures { result ≡ number_at self.now entry.now }
     {
         self.numbers.get(entry).copied()

@@ -53,7 +53,7 @@ impl<A: Allocator + Copy> Tree for IndexTree<A> {
     }
 
     fn child(&self, dir: u64, name: &Name) -> Option<&Node<A>> {
-        self.nodes.get(&self.number_of(dir, name)?)
+        self.nodes.get(&self.child_number(dir, name)?)
     }
 
     fn after(&self, dir: u64, floor: Option<u64>) -> Option<&Node<A>> {
@@ -141,11 +141,11 @@ impl<A: Allocator + Copy> Tree for IndexTree<A> {
 
 impl<A: Allocator + Copy> IndexTree<A> {
     // The number of the node of this name in the directory.
-    fn number_of(&self, dir: u64, name: &Name) -> Option<u64>
+    fn child_number(&self, dir: u64, name: &Name) -> Option<u64>
         ensures { result
             ≡ option_map (λ n. n.number) (child_of dir name.now (values self.now.nodes)) }
     {
-        self.entries.number_of(&Entry {
+        self.entries.number_at(&Entry {
             parent: dir,
             name: *name,
         })

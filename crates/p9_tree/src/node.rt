@@ -168,7 +168,7 @@ impl<A: Allocator> Node<A> {
     pub fn is_in(&self, dir: u64) -> bool
         ensures { result ≡ is_in dir self.now }
     {
-        self.entry.is_some_and(|e| e.parent == dir)
+        self.entry.as_ref().is_some_and(|e| e.parent == dir)
     }
 
     /// Whether it is in the directory of this number under the name.
@@ -176,6 +176,7 @@ impl<A: Allocator> Node<A> {
         ensures { result ≡ is_child dir name.now self.now }
     {
         self.entry
+            .as_ref()
             .is_some_and(|e| e.parent == dir && e.name == *name)
     }
 

@@ -11,14 +11,14 @@ use Rattle.p9_tree.proofs.Added.{WellFormed-added}
 use Rattle.p9_index.specs.Entries.{child_at, is_listed, number_at}
 use Rattle.p9_index.specs.Tree.{IsIndex, server_of}
 use Rattle.p9_index.proofs.Joined.{IsIndex-joined, state-joined, unlisted-past}
-use Rattle.p9_index.proofs.Numbers.{number_of_child}
+use Rattle.p9_index.proofs.Numbers.{number_at-child}
 use Rattle.p9_index.proofs.TakenBack.{IsIndex-same, listed_back, named_back}
 use Rattle.p9_index.proofs.tree.IndexTreeTree.add.Goals as goal
 
 pub enter-requires-clause-unnamed : goal.enter-requires-clause-unnamed
 enter-requires-clause-unnamed g c =
     let t = c.args.self.now in
-    number_of_child t.nodes.entries t.entries t.index t.well_formed.rising
+    number_at-child t.nodes.entries t.entries t.index t.well_formed.rising
     (record { parent = c.args.dir; name = c.args.new.now.name })
     ∙ ap (option_map (λ (n : Node). n.number)) c.requires.free
 
@@ -34,7 +34,7 @@ invariant_of-self-then-is_err g c =
     let same : IsUnchanged t.nodes c.insert.new.self =
     grind (arith, common_steps, c.insert.ensures.err, c.is_err.ensures.value, c.if-is_err.true) in
     let free : number_at t.entries e ≡ None =
-    number_of_child t.nodes.entries t.entries t.index t.well_formed.rising e
+    number_at-child t.nodes.entries t.entries t.index t.well_formed.rising e
     ∙ ap (option_map (λ (n : Node). n.number)) c.requires.free in
     record {
       well_formed = subst (λ es. WellFormed (server_of es t.next)) (sym same) t.well_formed;
@@ -62,7 +62,7 @@ invariant_of-self-2 g c =
     let put : c.insert.new.self.entries ≡ insert_entry nat_cmp t.nodes.entries t.next n =
     raw ∙ ap (insert_entry nat_cmp t.nodes.entries t.next) c.in_ok-node.ensures.node in
     let free : number_at t.entries e ≡ None =
-    number_of_child t.nodes.entries t.entries t.index t.well_formed.rising e
+    number_at-child t.nodes.entries t.entries t.index t.well_formed.rising e
     ∙ ap (option_map (λ (n : Node). n.number)) c.requires.free in
     record {
       well_formed =

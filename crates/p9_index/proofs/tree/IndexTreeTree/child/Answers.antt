@@ -8,4 +8,4 @@ pub returns : goal.returns
 returns g c =
     c.get.ensures.value ∙ sym (node_at-values_of _ _ c.args.self.now.index.keyed)
     ∙ number-found (is_child c.args.dir c.args.name.now) _ _ c.args.self.now.well_formed.rising
-    (sym c.in_ok-number_of.ensures)
+    (sym c.in_ok-child_number.ensures)
