@@ -30,8 +30,8 @@ use Rattle.p9_wire.specs.Fields.{stat_bytes}
 use Rattle.p9_wire.proofs.Lengths.{length-stat_bytes}
 use Rattle.p9_step.specs.Qid.{stat_of}
 use Rattle.p9_step.specs.Read.{cursor_after, entry_bytes, fitting}
-use Rattle.p9_export.specs.Listing.{Gives, IsFloor, IsReached, PutsStat}
-use Rattle.p9_export.specs.declared.listing.Given.{Given}
+use Rattle.p9_export.specs.Listing.{Fills, IsFloor, IsReached, PutsStat}
+use Rattle.p9_export.specs.declared.listing.Filled.{Filled}
 
 -- Lists.
 
@@ -508,7 +508,7 @@ module _ (all : List UnionEntry) (from : Option Cursor) (room : ℕ) (buffer : L
 
   -- nothing more has room
   filled : (is_full : Bool) → fitting (room - size) left ≡ [] → is_full ≡ nat_lt 0 (length left)
-      → Gives room all from buffer (record { size = size; cursor = cursor; is_full = is_full })
+      → Fills room all from buffer (record { size = size; cursor = cursor; is_full = is_full })
   filled is_full none full =
       let within = filling.within in
       let count = filling.count in
@@ -601,7 +601,7 @@ module _ (forest : List Server) (who : Who) (ms : List Member) (from : Option Cu
 
   -- no member is left
   pub members-end : length ms ≤ position
-      → Gives room (left_of forest who from ms) from buffer (record {
+      → Fills room (left_of forest who from ms) from buffer (record {
         size = size;
         cursor = cursor;
         is_full = false;
@@ -614,9 +614,9 @@ module _ (forest : List Server) (who : Who) (ms : List Member) (from : Option Cu
       (subst (Filling room (left_of forest who from ms) from buffer size cursor) none filling) false
       refl refl
 
-  module _ (d : Member) (more : Given) (new : List ℕ) (within : position < length ms)
+  module _ (d : Member) (more : Filled) (new : List ℕ) (within : position < length ms)
       (reached : IsAtMost cursor position) (long : length new ≡ length rest)
-      (given : Gives (length rest)
+      (fills : Fills (length rest)
       (filter (is_behind cursor) (entries_of forest who position (get_or ms position d))) cursor new
       more) where
     abbrev here : List UnionEntry
@@ -632,7 +632,7 @@ module _ (forest : List Server) (who : Who) (ms : List Member) (from : Option Cu
 
     reached-here : IsAtMost more.cursor position
     reached-here =
-        subst (λ c. IsAtMost c position) (sym given.last)
+        subst (λ c. IsAtMost c position) (sym fills.last)
         (reached-given position (length rest) cursor here
         (All-filter (is_behind cursor) (λ e. e.position ≡ position)
         (entries_of forest who position (get_or ms position d))
@@ -648,7 +648,7 @@ module _ (forest : List Server) (who : Who) (ms : List Member) (from : Option Cu
         (filter (is_behind more.cursor)
         (entries_from forest who (position + 1) (drop (position + 1) ms)))
     members-next not_full =
-        let short : is_short (length rest) here ≡ false = sym given.full ∙ not_full in
+        let short : is_short (length rest) here ≡ false = sym fills.full ∙ not_full in
         let all : fitting (length rest) here ≡ here = fits_whole (length rest) here short in
         let next : suc position ≡ position + 1 = omega arith in
         subst (Filling room (left_of forest who from ms) from
@@ -658,12 +658,12 @@ module _ (forest : List Server) (who : Who) (ms : List Member) (from : Option Cu
         (filling-more (left_of forest who from ms) from room buffer size cursor (here ++ behind)
         whole split here behind more.size new more.cursor
         (gives_whole (length rest) here behind short)
-        (given.bytes ∙ ap (flat_map entry_bytes) all) long given.within
-        (given.last ∙ ap (cursor_after cursor) all))
+        (fills.bytes ∙ ap (flat_map entry_bytes) all) long fills.within
+        (fills.last ∙ ap (cursor_after cursor) all))
 
     -- an entry of the member has no room
     pub members-full : more.is_full ≡ true
-        → Gives room (left_of forest who from ms) from
+        → Fills room (left_of forest who from ms) from
         (put_mid size (length buffer - size) buffer new) (record {
           size = size + more.size;
           cursor = more.cursor;
@@ -677,11 +677,11 @@ module _ (forest : List Server) (who : Who) (ms : List Member) (from : Option Cu
         ∙ length-take-le (length buffer - size) (drop size buffer)
         (omega (arith, length-drop size buffer))) ∙ whole in
         let (others, stops) =
-        gives_part (length rest) here behind (sym given.full ∙ full) in
+        gives_part (length rest) here behind (sym fills.full ∙ full) in
         let some = stops.more in
-        let fits = given.within in
+        let fits = fills.within in
         let sized : more.size ≡ length (flat_map entry_bytes (fitting (length rest) here)) =
-        sym (length-take-le more.size new (omega arith)) ∙ ap length given.bytes in
+        sym (length-take-le more.size new (omega arith)) ∙ ap length fills.bytes in
         let room_is : length rest ≡ room - size =
         length-take-le (length buffer - size) (drop size buffer)
         (omega (arith, length-drop size buffer)) ∙ omega arith in
@@ -692,7 +692,7 @@ module _ (forest : List Server) (who : Who) (ms : List Member) (from : Option Cu
         whole'
         (filling-more (left_of forest who from ms) from room buffer size cursor (here ++ behind)
         whole split (fitting (length rest) here) others more.size new more.cursor stops.gives
-        given.bytes long fits given.last) more.is_full
+        fills.bytes long fits fills.last) more.is_full
         (ap (λ k. fitting k others) less ∙ stops.ends) (full ∙ grind (arith, nat_tests))
 
 -- The loop over the entries of a directory.
@@ -712,9 +712,9 @@ none_first [] none = refl
 none_first (x ∷ xs) none = absurd (cc)
 
 gives_kept : (room : ℕ) (left : List UnionEntry) (from : Option Cursor) (buffer buffer' : List ℕ)
-    (given : Given) → take given.size buffer' ≡ take given.size buffer
-    → Gives room left from buffer given → Gives room left from buffer' given
-gives_kept room left from buffer buffer' given same gives = record {
+    (part : Filled) → take part.size buffer' ≡ take part.size buffer
+    → Fills room left from buffer part → Fills room left from buffer' part
+gives_kept room left from buffer buffer' part same gives = record {
   within = gives.within;
   bytes = same ∙ gives.bytes;
   last = gives.last;
@@ -740,7 +740,7 @@ module _ (forest : List Server) (position : ℕ) (dir : NodeRef) (from : Option 
   -- no entry is left
   pub dir-end : (floor : Option ℕ) → IsFloor cursor position floor
       → child_in_after dir floor forest ≡ None
-      → Gives room all_in from buffer (record { size = size; cursor = cursor; is_full = false })
+      → Fills room all_in from buffer (record { size = size; cursor = cursor; is_full = false })
   dir-end floor fits none =
       let empty : filter (is_behind cursor) (entries_in forest position dir) ≡ [] =
       none_first _
@@ -762,7 +762,7 @@ module _ (forest : List Server) (position : ℕ) (dir : NodeRef) (from : Option 
     -- the first entry has no room
     pub dir-full : (new : List ℕ)
         → PutsStat (stat_bytes (stat_of (beside dir n.number) n)) remainder new None
-        → Gives room all_in from (put_mid size (length buffer - size) buffer new) (record {
+        → Fills room all_in from (put_mid size (length buffer - size) buffer new) (record {
           size = size;
           cursor = cursor;
           is_full = true;

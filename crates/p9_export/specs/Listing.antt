@@ -12,16 +12,16 @@ use Rattle.p9_step.specs.State.{Session}
 use Rattle.p9_step.specs.Answer.{Answer}
 use Rattle.p9_step.specs.Listing.{UnionEntry, entry_at, is_behind}
 use Rattle.p9_step.specs.Read.{cursor_after, entry_bytes, fitting}
-use Rattle.p9_export.specs.declared.listing.Given.{Given}
+use Rattle.p9_export.specs.declared.listing.Filled.{Filled}
 
 -- as many of the entries that are left are at the front of the buffer as have room; whether one
 -- has none
-pub record Gives (room : ℕ) (left : List UnionEntry) (from : Option Cursor) (buffer : List ℕ)
-    (given : Given) : Type 0 where
-  pub within : given.size ≤ room
-  pub bytes : take given.size buffer ≡ flat_map entry_bytes (fitting room left)
-  pub last : given.cursor ≡ cursor_after from (fitting room left)
-  pub full : given.is_full ≡ nat_lt (length (fitting room left)) (length left)
+pub record Fills (room : ℕ) (left : List UnionEntry) (from : Option Cursor) (buffer : List ℕ)
+    (filled : Filled) : Type 0 where
+  pub within : filled.size ≤ room
+  pub bytes : take filled.size buffer ≡ flat_map entry_bytes (fitting room left)
+  pub last : filled.cursor ≡ cursor_after from (fitting room left)
+  pub full : filled.is_full ≡ nat_lt (length (fitting room left)) (length left)
 
 -- the position of the cursor's member, or the first
 abbrev pub IsReached : Option Cursor → ℕ → Type 0

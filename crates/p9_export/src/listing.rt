@@ -12,7 +12,7 @@ ghost use Rattle.p9_space.specs.Rights.{who_view};
 ghost use Rattle.p9_step.specs.Listing.{entries_of, entry_at, is_behind, is_listed, left_of};
 ghost use Rattle.p9_step.specs.Read.{cursor_after, entry_bytes, fitting};
 ghost use Rattle.p9_step.specs.Qid.{stat_of};
-ghost use Rattle.p9_export.specs.Listing.{Gives, IsFloor, IsReached, PutsStat};
+ghost use Rattle.p9_export.specs.Listing.{Fills, IsFloor, IsReached, PutsStat};
 
 use crate::qid::stat_of;
 use p9_base::{Fault, NodeRef};
@@ -22,12 +22,12 @@ use p9_tree::{Forest, Node, Tree};
 use p9_wire::{STAT_FIXED, write_stat};
 use std::alloc::Allocator;
 
-/// What a read of a directory gave.
+/// What a read of a directory put into the buffer.
 #[derive(Clone, Copy)]
-pub struct Given {
+pub struct Filled {
     /// So many bytes at the front of the buffer.
     pub size: usize,
-    /// The last entry that was given by this read or one before.
+    /// The last entry of this read or one before.
     pub cursor: Option<Cursor>,
     /// Whether an entry is left that has no room.
     pub is_full: bool,
@@ -42,13 +42,13 @@ pub fn list<T: Tree>(
     who: Who<'_, T::Alloc>,
     cursor: Option<Cursor>,
     buffer: &mut [u8],
-) -> Result<Given, Fault>
-    ensures size { IfOk result (λ given. given.size ≤ length buffer.old) }
+) -> Result<Filled, Fault>
+    ensures size { IfOk result (λ filled. filled.size ≤ length buffer.old) }
     ensures bytes { let left = left_of forest.now (who_view who.entry) cursor members.now in
-        IfOk result (λ given. take given.size buffer.new
+        IfOk result (λ filled. take filled.size buffer.new
         ≡ flat_map entry_bytes (fitting (length buffer.old) left)) }
     ensures cursor { let left = left_of forest.now (who_view who.entry) cursor members.now in
-        IfOk result (λ given. given.cursor
+        IfOk result (λ filled. filled.cursor
         ≡ cursor_after cursor (fitting (length buffer.old) left)) }
     ensures ok { let left = left_of forest.now (who_view who.entry) cursor members.now in
         OnOk result (fitting (length buffer.old) left ≡ [] → left ≡ []) }
@@ -56,11 +56,11 @@ pub fn list<T: Tree>(
         IfErr result (λ fault. (fault ≡ SmallReadCount) × (left ≢ []) ×
         (fitting (length buffer.old) left ≡ [])) }
 {
-    let given = fill(forest, members, who, cursor, buffer);
-    if given.is_full && given.size == 0 {
+    let filled = fill(forest, members, who, cursor, buffer);
+    if filled.is_full && filled.size == 0 {
         return Err(Fault::SmallReadCount);
     }
-    Ok(given)
+    Ok(filled)
 }
 
 // As many whole entries behind the cursor as have room, of its member and those behind that.
@@ -70,12 +70,12 @@ fn fill<T: Tree>(
     who: Who<'_, T::Alloc>,
     cursor: Option<Cursor>,
     buffer: &mut [u8],
-) -> Given
-    ensures { Gives (length buffer.old) (left_of forest.now (who_view who.entry) cursor members.now)
+) -> Filled
+    ensures { Fills (length buffer.old) (left_of forest.now (who_view who.entry) cursor members.now)
         cursor buffer.new result }
 {
     forest.well_formed();
-    let mut given = Given {
+    let mut filled = Filled {
         size: 0,
         cursor,
         is_full: false,
@@ -86,19 +86,19 @@ fn fill<T: Tree>(
             position,
             members[position],
             who,
-            given.cursor,
-            &mut buffer[given.size..],
+            filled.cursor,
+            &mut buffer[filled.size..],
         );
-        given = Given {
-            size: given.size + more.size,
+        filled = Filled {
+            size: filled.size + more.size,
             cursor: more.cursor,
             is_full: more.is_full,
         };
         if more.is_full {
-            return given;
+            return filled;
         }
     }
-    given
+    filled
 }
 
 // The position of the member where the last read ended.
@@ -119,15 +119,15 @@ fn fill_member<T: Tree>(
     who: Who<'_, T::Alloc>,
     cursor: Option<Cursor>,
     buffer: &mut [u8],
-) -> Given
+) -> Filled
     requires { IfSome cursor (λ last. last.member ≤ position) }
-    ensures { Gives (length buffer.old) (filter (is_behind cursor)
+    ensures { Fills (length buffer.old) (filter (is_behind cursor)
         (entries_of forest.now (who_view who.entry) position member)) cursor buffer.new result }
 {
     if is_listed(forest, position, member, who) {
         fill_dir(forest, position, member.node, cursor, buffer)
     } else {
-        Given {
+        Filled {
             size: 0,
             cursor,
             is_full: false,
@@ -142,31 +142,31 @@ fn fill_dir<T: Tree>(
     dir: NodeRef,
     cursor: Option<Cursor>,
     buffer: &mut [u8],
-) -> Given
+) -> Filled
     requires { IfSome cursor (λ last. last.member ≤ position) }
-    ensures { Gives (length buffer.old) (filter (is_behind cursor) (map (entry_at position dir)
+    ensures { Fills (length buffer.old) (filter (is_behind cursor) (map (entry_at position dir)
         (children_of dir forest.now))) cursor buffer.new result }
 {
     forest.well_formed();
-    let mut given = Given {
+    let mut filled = Filled {
         size: 0,
         cursor,
         is_full: false,
     };
-    while let Some(node) = forest.after(dir, floor_in(given.cursor, position)) {
-        let Some(size) = put_stat(dir, node, &mut buffer[given.size..]) else {
-            return Given {
+    while let Some(node) = forest.after(dir, floor_in(filled.cursor, position)) {
+        let Some(size) = put_stat(dir, node, &mut buffer[filled.size..]) else {
+            return Filled {
                 is_full: true,
-                ..given
+                ..filled
             };
         };
-        given.size += size;
-        given.cursor = Some(Cursor {
+        filled.size += size;
+        filled.cursor = Some(Cursor {
             member: position,
             number: node.number(),
         });
     }
-    given
+    filled
 }
 
 // The number above which the entries of the member at the position are behind the cursor.

@@ -144,7 +144,7 @@ fn list_of<T: Tree>(
     }
     let members = held.channels.members(&setting.table);
     let cursor = cursor_at(offset, &opened);
-    let given = list(
+    let filled = list(
         forest,
         members.as_slice(),
         setting.who(&held.user),
@@ -152,10 +152,10 @@ fn list_of<T: Tree>(
         buffer,
     )?;
     Ok(Listed {
-        size: given.size as u32,
+        size: filled.size as u32,
         opened: Opened {
-            next_offset: u128::from(offset) + given.size as u128,
-            cursor: given.cursor,
+            next_offset: u128::from(offset) + filled.size as u128,
+            cursor: filled.cursor,
             ..opened
         },
     })

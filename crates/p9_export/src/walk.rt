@@ -4,9 +4,9 @@ ghost use Rattle.std.specs.Prelude.{◌≡◌, ◌≤◌, List, None, Some, IfOk
 ghost use Rattle.std.specs.Prelude.{length, true};
 ghost use Rattle.p9_base.specs.declared.fault.Fault.TheVariants.{OutOfMemory};
 ghost use Rattle.p9_fids.specs.Fid.{fid_at};
-ghost use Rattle.p9_space.specs.Channel.{Fits, trail_of};
+ghost use Rattle.p9_space.specs.Channel.{Fits, row_position, trail_of};
 ghost use Rattle.p9_space.specs.Table.{MountRow};
-ghost use Rattle.p9_space.specs.Trail.{stepped};
+ghost use Rattle.p9_space.specs.Trail.{here, stepped};
 ghost use Rattle.p9_tree.specs.Forest.{node_of};
 ghost use Rattle.p9_tree.specs.Server.{Server};
 ghost use Rattle.p9_wire.specs.Message.{Rwalk};
@@ -147,6 +147,8 @@ fn arrive<T: Tree>(
     arrival: Arrival<'_, T::Alloc>,
 ) -> Result<Qid, NoMemory>
     requires room { length (stepped (trail_of channels.old) arrival.step) ≤ PLACES_MAX }
+    requires row { arrival.row
+        ≡ row_position (here (stepped (trail_of channels.old) arrival.step)) setting.now.table }
     requires file { node_of arrival.at forest.now ≡ Some arrival.file.now }
     ensures qid { IfOk result (λ qid. qid ≡ qid_of arrival.entry.at arrival.entry.file.now) }
     ensures ok { OnOk result (trail_of channels.new
@@ -155,7 +157,7 @@ fn arrive<T: Tree>(
         Fits setting.now.table channels.new) }
     ensures err { OnErr result (channels.new ≡ channels.old) }
 {
-    channels.take(&setting.table, arrival.step)?;
+    channels.take_with_row(arrival.step, arrival.row)?;
     forest.well_formed();
     Ok(qid_of(arrival.at, arrival.file))
 }

@@ -22,7 +22,7 @@ pub returns-then-more : goal.returns-then-more
 returns-then-more g c =
     members-full c.args.forest.now (who_view c.args.who)
     c.args.members.now c.args.cursor (length c.args.buffer.now) c.loop-position.buffer
-    c.loop-position.given.size c.loop-position.given.cursor c.loop-position.position
+    c.loop-position.filled.size c.loop-position.filled.cursor c.loop-position.position
     c.loop-position.auto.buffer c.loop-position.invariant.0 _ c.fill_member-more.result
     c.fill_member-more.new.buffer c.loop-position-test.true c.loop-position.invariant.1
     c.fill_member-more.auto.buffer c.fill_member-more.ensures c.if-more.true
@@ -31,13 +31,13 @@ pub loop-position-preserved : goal.loop-position-preserved
 loop-position-preserved g c = (
   members-next c.args.forest.now (who_view c.args.who)
       c.args.members.now c.args.cursor (length c.args.buffer.now) c.loop-position.buffer
-      c.loop-position.given.size c.loop-position.given.cursor c.loop-position.position
+      c.loop-position.filled.size c.loop-position.filled.cursor c.loop-position.position
       c.loop-position.auto.buffer c.loop-position.invariant.0 _ c.fill_member-more.result
       c.fill_member-more.new.buffer c.loop-position-test.true c.loop-position.invariant.1
       c.fill_member-more.auto.buffer c.fill_member-more.ensures c.if-more.false,
   members-reached c.args.forest.now (who_view c.args.who)
       c.args.members.now c.args.cursor (length c.args.buffer.now) c.loop-position.buffer
-      c.loop-position.given.size c.loop-position.given.cursor c.loop-position.position
+      c.loop-position.filled.size c.loop-position.filled.cursor c.loop-position.position
       c.loop-position.auto.buffer c.loop-position.invariant.0 _ c.fill_member-more.result
       c.fill_member-more.new.buffer c.loop-position-test.true c.loop-position.invariant.1
       c.fill_member-more.auto.buffer c.fill_member-more.ensures,

@@ -9,7 +9,7 @@ abbrev pub invariant-loop-position : goal.invariant-loop-position
 invariant-loop-position g l =
     let forest = l.forest in
     Filling (length l.fn.buffer) (left_of forest (who_view l.who) l.fn.cursor l.members) l.fn.cursor
-    l.buffer l.given.size l.given.cursor
-    (filter (is_behind l.given.cursor)
+    l.buffer l.filled.size l.filled.cursor
+    (filter (is_behind l.filled.cursor)
     (entries_from forest (who_view l.who) l.position (drop l.position l.members)))
-    × IsAtMost l.given.cursor l.position × (l.given.is_full ≡ false)
+    × IsAtMost l.filled.cursor l.position × (l.filled.is_full ≡ false)

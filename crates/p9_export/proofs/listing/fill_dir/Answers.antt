@@ -11,24 +11,24 @@ put_stat-requires g c =
 pub returns-in_default-put_stat : goal.returns-in_default-put_stat
 returns-in_default-put_stat g c =
     dir-full c.args.forest.now c.args.position c.args.dir
-    c.args.cursor (length c.args.buffer.now) c.loop-node.buffer c.loop-node.given.size
-    c.loop-node.given.cursor c.loop-node.auto.buffer c.loop-node.invariant.0 c.floor_in.result
+    c.args.cursor (length c.args.buffer.now) c.loop-node.buffer c.loop-node.filled.size
+    c.loop-node.filled.cursor c.loop-node.auto.buffer c.loop-node.invariant.0 c.floor_in.result
     c.in-Some.node.now c.floor_in.ensures (sym c.in-Some.ensures) c.put_stat.new.buffer
     c.in_default-put_stat.ensures
 
 pub loop-node-smaller : goal.loop-node-smaller
 loop-node-smaller g c =
     dir-smaller c.args.forest.now c.args.position c.args.dir
-    c.args.cursor (length c.args.buffer.now) c.loop-node.buffer c.loop-node.given.size
-    c.loop-node.given.cursor c.loop-node.auto.buffer c.loop-node.invariant.0 c.floor_in.result
+    c.args.cursor (length c.args.buffer.now) c.loop-node.buffer c.loop-node.filled.size
+    c.loop-node.filled.cursor c.loop-node.auto.buffer c.loop-node.invariant.0 c.floor_in.result
     c.in-Some.node.now c.floor_in.ensures (sym c.in-Some.ensures) c.in-Some-put_stat.size
     c.put_stat.new.buffer c.in-Some-put_stat.ensures
 
 pub loop-node-preserved : goal.loop-node-preserved
 loop-node-preserved g c = (
   dir-next c.args.forest.now c.args.position c.args.dir
-      c.args.cursor (length c.args.buffer.now) c.loop-node.buffer c.loop-node.given.size
-      c.loop-node.given.cursor c.loop-node.auto.buffer c.loop-node.invariant.0 c.floor_in.result
+      c.args.cursor (length c.args.buffer.now) c.loop-node.buffer c.loop-node.filled.size
+      c.loop-node.filled.cursor c.loop-node.auto.buffer c.loop-node.invariant.0 c.floor_in.result
       c.in-Some.node.now c.floor_in.ensures (sym c.in-Some.ensures) c.in-Some-put_stat.size
       c.put_stat.new.buffer c.in-Some-put_stat.ensures c.well_formed-2.ensures
       c.put_stat.auto.buffer c.number.result c.number.ensures,
@@ -40,6 +40,6 @@ pub returns : goal.returns
 returns g c =
     let forest = c.args.forest.now in
     rw (c.loop-node.invariant.2) (dir-end forest c.args.position c.args.dir c.args.cursor
-    (length c.args.buffer.now) c.loop-node.buffer c.loop-node.given.size c.loop-node.given.cursor
+    (length c.args.buffer.now) c.loop-node.buffer c.loop-node.filled.size c.loop-node.filled.cursor
     c.loop-node.auto.buffer c.loop-node.invariant.0 c.floor_in.result c.floor_in.ensures
     (sym c.in_default.ensures))

@@ -8,8 +8,8 @@ abbrev pub invariant-loop-node : goal.invariant-loop-node
 invariant-loop-node g l =
     let es = entries_in l.forest l.position l.dir in
     Filling (length l.fn.buffer) (filter (is_behind l.fn.cursor) es) l.fn.cursor l.buffer
-    l.given.size l.given.cursor (filter (is_behind l.given.cursor) es)
-    × IsAtMost l.given.cursor l.position × (l.given.is_full ≡ false)
+    l.filled.size l.filled.cursor (filter (is_behind l.filled.cursor) es)
+    × IsAtMost l.filled.cursor l.position × (l.filled.is_full ≡ false)
 
 abbrev pub decreases-loop-node : goal.decreases-loop-node
-decreases-loop-node g l = length l.fn.buffer - l.given.size
+decreases-loop-node g l = length l.fn.buffer - l.filled.size
