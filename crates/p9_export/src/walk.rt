@@ -157,7 +157,7 @@ fn arrive<T: Tree>(
         Fits setting.now.table channels.new) }
     ensures err { OnErr result (channels.new ≡ channels.old) }
 {
-    channels.take_with_row(arrival.step, arrival.row)?;
+    channels.take(arrival.step, arrival.row)?;
     forest.well_formed();
     Ok(qid_of(arrival.at, arrival.file))
 }

@@ -132,29 +132,9 @@ impl<A: Allocator + Copy> Channels<A> {
         self.rows.truncate(self.trail.len());
     }
 
-    /// Takes a step. Where an allocation fails the channels are unchanged.
-    pub fn take<B: Allocator + Copy>(
-        &mut self,
-        table: &MountTable<B>,
-        step: Step,
-    ) -> Result<(), NoMemory>
-        requires { length (stepped (trail_of self.old) step) ≤ PLACES_MAX }
-        ensures ok { OnOk result (trail_of self.new ≡ stepped (trail_of self.old) step) }
-        ensures fits { OnOk result (Fits table.now self.old → Fits table.now self.new) }
-        ensures err { OnErr result (self.new ≡ self.old) }
-    {
-        match step {
-            Step::Up => {
-                self.step_up();
-                Ok(())
-            }
-            Step::To(place) => self.push(table, place),
-        }
-    }
-
-    /// The same, without a look-up, where the place after the step has this row in the table. Where
-    /// an allocation fails the channels are unchanged.
-    pub fn take_with_row(&mut self, step: Step, row: Option<usize>) -> Result<(), NoMemory>
+    /// Takes a step, where the place after it has this row in the table. Where an allocation fails the
+    /// channels are unchanged.
+    pub fn take(&mut self, step: Step, row: Option<usize>) -> Result<(), NoMemory>
         requires { length (stepped (trail_of self.old) step) ≤ PLACES_MAX }
         ensures ok { OnOk result (trail_of self.new ≡ stepped (trail_of self.old) step) }
         ensures fits { OnOk result ((table : List MountRow) →
@@ -246,7 +226,7 @@ fn walked_along<T: Tree, A: Allocator + Copy, B: Allocator + Copy>(
     let mut walked = start.copy()?;
     for name in names {
         let arrival = find_arrival_from(forest, table, &walked, name, who)?;
-        walked.take_with_row(arrival.step, arrival.row)?;
+        walked.take(arrival.step, arrival.row)?;
     }
     Ok(walked)
 }
