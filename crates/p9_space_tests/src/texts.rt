@@ -32,8 +32,7 @@ fn bad_forms_have_texts(rt: HostRuntime) -> Result<(), Fail> {
         assert_eq!(rt; shown.as_str(), text);
         let error = NsError::BadLine { line: 7, kind };
         let shown = format!(in rt.alloc(); "{error}")?;
-        let wanted = format!(in rt.alloc(); "line 7: {text}")?;
-        assert_eq!(rt; shown.as_str(), wanted.as_str());
+        assert_eq!(rt; shown.as_str().strip_prefix("line 7: "), Some(text));
     }
     Ok(())
 }

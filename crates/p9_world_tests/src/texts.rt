@@ -29,8 +29,7 @@ fn faults_have_texts(rt: HostRuntime) -> Result<(), Fail> {
             kind: fault,
         };
         let shown = format!(in rt.alloc(); "{error}")?;
-        let wanted = format!(in rt.alloc(); "line 7: {text}")?;
-        assert_eq!(rt; shown.as_str(), wanted.as_str());
+        assert_eq!(rt; shown.as_str().strip_prefix("line 7: "), Some(text));
     }
     let shown = format!(in rt.alloc(); "{}", WorldError::NoMemory)?;
     assert_eq!(rt; shown.as_str(), "out of memory");
