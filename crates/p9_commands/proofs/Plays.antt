@@ -1,16 +1,11 @@
 -- Events that are played one after another.
-use Rattle.std.proofs.Common.{◌≡◌, ℕ, ◌+◌, ◌<◌, ◌≤◌, Bool, true, List, [], ◌∷◌, ◌++◌, length}
+use Rattle.std.proofs.Common.{◌≡◌, ℕ, ◌+◌, ◌<◌, ◌≤◌, Bool, List, [], ◌∷◌, ◌++◌, length}
 use Rattle.std.proofs.Common.{get_or, drop, map, refl, sym, ap, ◌∙◌, arith, append_assoc}
 use Rattle.std.proofs.Common.{append-nil}
-use Rattle.std.specs.Prelude.{◌&&◌, OnOk, Result, Ok, Err, is_some, if◌then◌else◌}
-use Rattle.std.proofs.lemmas.Bool.{and_from}
 use Rattle.std.proofs.lemmas.List.{get_or-map, length-map, drop_more, drop_all}
-use Rattle.hex.specs.Hex.{encode_lower}
-use Rattle.p9_step.specs.State.{State, session_at}
-use Rattle.p9_wire.specs.Frame.{is_frame}
-use Rattle.p9_step.specs.Event.{Event, Message}
-use Rattle.p9_step.specs.Step.{Stepped, step}
-use Rattle.p9_commands.specs.Play.{Played, Plays, PlaysAll, play_text, played, replied, skipped}
+use Rattle.p9_step.specs.State.{State}
+use Rattle.p9_step.specs.Event.{Event}
+use Rattle.p9_commands.specs.Play.{Plays, PlaysAll, play_text, played}
 
 -- some events were played, with some marks: what is printed for the others, whatever their marks,
 -- is the rest of the play text
@@ -72,38 +67,3 @@ module _ (all : List Event) (start : State) (before : List ℕ) (here : State) (
             sym (append-nil out) ∙ ap (λ rest. out ++ play_text here rest []) (sym none)
             ∙ so_far.goes_on [];
       }
-
--- what follows from what holds of an `Ok`
-pub on_ok : {X E P Q : Type 0} (result : Result X E) → (P → Q) → OnOk result P → OnOk result Q
-on_ok (Ok x) follows holds = follows holds
-on_ok (Err e) follows holds = holds
-
--- Each event, as the exporter's calls tell of it. What a step does is not looked into.
-
--- a frame that fits gets its reply
-replied-if : (fits : Bool) (after : Stepped) (otherwise : Played) → fits ≡ true
-    → (if fits then replied after else otherwise) ≡ replied after
-replied-if fits after otherwise is = ap (λ test. if test then replied after else otherwise) is
-
--- a frame that fits, and its reply
-pub plays-request : (name now : ℕ) (frame : List ℕ) (old new : State) (before after reply : List ℕ)
-    (refused : Bool) →
-    is_frame frame ≡ true → is_some (session_at name old.sessions) ≡ true
-    → new ≡ (step old (Message name frame now) refused).state →
-    reply ≡ (step old (Message name frame now) refused).reply
-    → after ≡ before ++ (encode_lower reply ++ 10 ∷ []) →
-    Plays (Message name frame now) old new before after
-plays-request name now frame old new before after reply refused whole live state_is reply_is
-    text_is =
-    let fits : played old (Message name frame now) refused
-    ≡ replied (step old (Message name frame now) refused) =
-    replied-if (is_frame frame && is_some (session_at name old.sessions))
-    (step old (Message name frame now) refused) (skipped old)
-    (and_from (is_frame frame) (is_some (session_at name old.sessions)) whole live) in
-    record {
-      refused = refused;
-      state_is = state_is ∙ ap (λ p. p.state) (sym fits);
-      text_is =
-          text_is ∙ ap (λ reply. before ++ (encode_lower reply ++ 10 ∷ [])) reply_is
-          ∙ ap (λ p. before ++ p.text) (sym fits);
-    }
