@@ -70,19 +70,18 @@ fn is_like_a_vault_without_its_key<T: Tree>(rt: &impl Abort, alloc: Global, lent
         server: 0,
         number: 3,
     };
-    let world = without(rt, world_of::<T>(rt, lent, VAULT), key);
+    let mut world = world_of::<T>(rt, lent, VAULT);
+    remove(rt, &mut world, key);
     assert!(rt; world.forest.node(key).is_none());
     assert_eq!(rt; world.forest.next_of(0), 4);
     are_replies(rt, alloc, lent, world, None, NEAR_THE_VAULT);
 }
 
-// A world without one of its files.
-fn without<T: Tree>(rt: &impl Abort, mut world: World<T>, at: NodeRef) -> World<T> {
-    world.well_formed();
+// Takes a file or an empty directory out of its server.
+fn remove<T: Tree>(rt: &impl Abort, world: &mut World<T>, at: NodeRef) {
     assert!(rt; at.number != 0);
     assert!(rt; world.forest.after(at, None).is_none());
     world.forest.drop_leaf(at);
-    world
 }
 
 // A directory is bound over the vault: a file beside it is made and renamed, the bound directory is
