@@ -1,6 +1,7 @@
 //! What is wrong with a row file.
 
-use p9_base::NoMemory;
+use hex::FromHexError;
+use std::alloc::{AllocError, AllocFailed};
 
 /// A line of a row file that can't be read. Lines count from 1.
 #[derive(Clone, Copy)]
@@ -43,12 +44,23 @@ impl LineFault {
     }
 }
 
-/// From whatever says that an allocation failed.
-impl<E: Drop> From<E> for LineFault
-where
-    NoMemory: From<E>,
-{
-    fn from(_error: E) -> LineFault {
+impl From<AllocError> for LineFault {
+    fn from(_error: AllocError) -> LineFault {
         LineFault::NoMemory
+    }
+}
+
+impl<T: Drop> From<AllocFailed<T>> for LineFault {
+    fn from(_error: AllocFailed<T>) -> LineFault {
+        LineFault::NoMemory
+    }
+}
+
+impl From<FromHexError> for LineFault {
+    fn from(error: FromHexError) -> LineFault {
+        match error {
+            FromHexError::OutOfMemory => LineFault::NoMemory,
+            _ => LineFault::BadHex,
+        }
     }
 }

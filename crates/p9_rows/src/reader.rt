@@ -3,7 +3,6 @@
 use crate::body::Body;
 use crate::fault::{Fault, LineFault};
 use crate::row::{Part, Row};
-use hex::FromHexError;
 use std::alloc::{AllocError, Global};
 
 /// The rows of a file's text. Its parts are added to those of the files above, which it may put in.
@@ -129,9 +128,6 @@ fn push_line(text: &mut Vec<u8>, line: &str) -> Result<(), AllocError> {
 
 // Adds the bytes that hexadecimal digits write.
 fn push_bytes(text: &mut Vec<u8>, digits: &str) -> Result<(), LineFault> {
-    match hex::decode(*text.allocator(), digits) {
-        Ok(bytes) => Ok(text.extend_from_slice(bytes.as_slice())?),
-        Err(FromHexError::OutOfMemory) => Err(LineFault::NoMemory),
-        Err(_) => Err(LineFault::BadHex),
-    }
+    let bytes = hex::decode(*text.allocator(), digits)?;
+    Ok(text.extend_from_slice(bytes.as_slice())?)
 }
