@@ -12,8 +12,8 @@ use Rattle.p9_tree.specs.Node.{Node}
 use Rattle.p9_tree.specs.Server.{Server}
 use Rattle.p9_tree.specs.Forest.{IsForest, is_dir_of, node_of}
 use Rattle.p9_tree.specs.Inside.{is_among, is_barred, is_hidden, is_inside}
-use Rattle.p9_inside.specs.Meaning.{has_barred_parent}
-use Rattle.p9_inside.proofs.Forests.{barred_is_hidden_or_inside, inside_by_parent, server_ordered}
+use Rattle.p9_inside.proofs.Forests.{barred_is_hidden_or_inside, inside_by_barred_parent}
+use Rattle.p9_inside.proofs.Forests.{server_ordered}
 use Rattle.p9_cert.specs.Closed.{AreShown}
 use Rattle.p9_cert.specs.Gap.{row_fault, where_true}
 use Rattle.p9_cert.specs.Policy.{Policy}
@@ -40,13 +40,7 @@ module _ (hidden : List NodeRef) (forest : List Server) (sound : IsForest forest
     by_parent : is_inside at hidden forest
         ≡ option_map_or (λ p. is_barred (beside at p) hidden forest)
         (option_and_then (λ n. n.parent) (node_of at forest)) false
-    by_parent = inside_by_parent hidden forest at ∙ go (node_of at forest)
-      where
-        go : (o : Option Node) → option_map_or (has_barred_parent at hidden forest) o false
-            ≡ option_map_or (λ p. is_barred (beside at p) hidden forest)
-            (option_and_then (λ n. n.parent) o) false
-        go None = refl
-        go (Some n) = refl
+    by_parent = inside_by_barred_parent hidden forest at
 
     -- what has no parent is not inside
     pub inside-none : option_and_then (λ n. n.parent) (node_of at forest) ≡ None

@@ -20,15 +20,15 @@ is_head (verb ∷ version ∷ []) = bytes_eq verb (codes "cert") && bytes_eq ver
 is_head words = false
 
 -- a node, where both of its parts are good
-abbrev pub node_at : Option ℕ → Option ℕ → Option NodeRef
-node_at (Some server) (Some number) = Some (record { server = server; number = number })
-node_at server number = None
+abbrev pub node_ref_of : Option ℕ → Option ℕ → Option NodeRef
+node_ref_of (Some server) (Some number) = Some (record { server = server; number = number })
+node_ref_of server number = None
 
 -- the row of `dir SERVER NUMBER`
 abbrev pub row_in : List (List ℕ) → Option NodeRef
 row_in (verb ∷ server ∷ number ∷ []) =
     if bytes_eq verb (codes "dir")
-    then node_at (number_of servers_max server) (number_of next_max number)
+    then node_ref_of (number_of servers_max server) (number_of next_max number)
     else None
 row_in words = None
 

@@ -68,7 +68,7 @@ fn asked(rt: &HostRuntime) -> io::Result<Option<Command>> {
 fn run_over_input(rt: &HostRuntime, command: Command) -> io::Result<u8> {
     let mut input = Vec::new(rt.alloc());
     rt.stdin().read_to_end(&mut input)?;
-    match made(rt, command, input.as_slice()) {
+    match output_of(rt, command, input.as_slice()) {
         Ok(text) => {
             rt.stdout().write_all(text.as_slice())?;
             rt.stdout().flush()?;
@@ -83,7 +83,7 @@ fn run_over_input(rt: &HostRuntime, command: Command) -> io::Result<u8> {
 }
 
 // What a command makes of an input.
-fn made(rt: &HostRuntime, command: Command, input: &[u8]) -> Result<Vec<u8>, Stop> {
+fn output_of(rt: &HostRuntime, command: Command, input: &[u8]) -> Result<Vec<u8>, Stop> {
     match command {
         Command::Frames => Ok(write_script(rt.alloc(), input)?.into_bytes()),
         Command::Exchange => show_exchange(rt.alloc(), input),

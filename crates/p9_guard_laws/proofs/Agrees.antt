@@ -13,9 +13,9 @@ use Rattle.p9_fids.specs.Fid.{Fid, FidRow, changed_fid, fid_at}
 use Rattle.p9_step.specs.State.{Session}
 use Rattle.p9_step.specs.ForestChange.{ForestChange, all_applied}
 use Rattle.p9_step.specs.Answer.{Answer, Outcome, outcome_of}
-use Rattle.p9_guard_laws.specs.Guarded.{House}
+use Rattle.p9_guard_laws.specs.Guarded.{Premises}
 use Rattle.p9_guard_laws.specs.Grown.{Start}
-use Rattle.p9_guard_laws.proofs.Scene.{SafeFids, Scene, house_in}
+use Rattle.p9_guard_laws.proofs.Scene.{SafeFids, Scene, premises_in}
 use Rattle.p9_guard_laws.proofs.Held.{HeldFid, HeldFids}
 use Rattle.p9_guard_laws.proofs.Moves.{Lawful}
 use Rattle.p9_guard_laws.proofs.Good.{fids-all}
@@ -23,8 +23,8 @@ use Rattle.p9_guard_laws.proofs.Good.{fids-all}
 module _ (scene : Scene) where
   -- the changes of an outcome are lawful, and its fids are safe after them
   pub record IsKeeping (outcome : Outcome) : Type 0 where
-    pub lawful : Lawful (house_in scene) scene.forest outcome.changes
-    pub fids : HeldFids (house_in scene) scene.start (all_applied outcome.changes scene.forest)
+    pub lawful : Lawful (premises_in scene) scene.forest outcome.changes
+    pub fids : HeldFids (premises_in scene) scene.start (all_applied outcome.changes scene.forest)
         outcome.session.fids
 
   -- x is the answer in the forest without what is inside, y in the forest
@@ -52,14 +52,14 @@ module _ (scene : Scene) where
 
   -- one whose changes are lawful, with fids that were safe
   pub agrees_changes : (changes : List ForestChange) (session : Session) (reply : RMessage)
-      → Lawful (house_in scene) scene.forest changes → SafeFids scene session.fids
+      → Lawful (premises_in scene) scene.forest changes → SafeFids scene session.fids
       → Agrees (Ok (record { changes = changes; session = session; reply = reply }))
       (Ok (record { changes = changes; session = session; reply = reply }))
   agrees_changes changes session reply l h =
       agrees_ok _ (record {
         lawful = l;
         fids =
-            fids-all (house_in scene) scene.start scene.forest scene.good changes l session.fids h;
+            fids-all (premises_in scene) scene.start scene.forest scene.good changes l session.fids h;
       })
 
   pub agrees_need : (b : Bool) (fault : Fault) (x y : Answer) → (b ≡ true → Agrees x y)
@@ -109,13 +109,13 @@ module _ (scene : Scene) where
         subst IsKeeping same (keeping_of left x y h a);
   }
 
-module _ (house : House) (start : Start) (f : List Server) where
-  pub fid_found : (fids : List FidRow) (fid : ℕ) (v : Fid) → HeldFids house start f fids
-      → fid_at fid fids ≡ Some v → HeldFid house start f v
-  fid_found fids fid v h at = each-lookup (HeldFid house start f) (is_at (nat_cmp fid)) fids v h at
+module _ (premises : Premises) (start : Start) (f : List Server) where
+  pub fid_found : (fids : List FidRow) (fid : ℕ) (v : Fid) → HeldFids premises start f fids
+      → fid_at fid fids ≡ Some v → HeldFid premises start f v
+  fid_found fids fid v h at = each-lookup (HeldFid premises start f) (is_at (nat_cmp fid)) fids v h at
 
   pub fids_changed : (fids : List FidRow) (fid : ℕ) (g : Fid → Fid) (v : Fid)
-      → fid_at fid fids ≡ Some v → HeldFid house start f (g v) → HeldFids house start f fids
-      → HeldFids house start f (changed_fid fid g fids)
+      → fid_at fid fids ≡ Some v → HeldFid premises start f (g v) → HeldFids premises start f fids
+      → HeldFids premises start f (changed_fid fid g fids)
   fids_changed fids fid g v at new h =
-      rw at (each-set (HeldFid house start f) (is_at (nat_cmp fid)) fids (g v) new h)
+      rw at (each-set (HeldFid premises start f) (is_at (nat_cmp fid)) fids (g v) new h)

@@ -19,7 +19,7 @@ use Rattle.p9_space.specs.Trail.{here}
 use Rattle.p9_step.specs.State.{Session}
 use Rattle.p9_step.specs.Attach.{attach_answer, attach_walk, attached_at, listed_user}
 use Rattle.p9_step.proofs.Settled.{found-listed}
-use Rattle.p9_guard_laws.proofs.Scene.{SafeFid, SafeFids, Scene, house_in, outer_of}
+use Rattle.p9_guard_laws.proofs.Scene.{SafeFid, SafeFids, Scene, premises_in, outer_of}
 use Rattle.p9_guard_laws.proofs.Held.{HeldPlace}
 use Rattle.p9_guard_laws.proofs.Stays.{members_new}
 use Rattle.p9_guard_laws.proofs.Walks.{file-outer, each_at, walk-outer, walk_safe}
@@ -38,7 +38,7 @@ module _ (scene : Scene) where
       go false t =
           let alone : file_ref p scene.setting.table ≡ p =
           ap (first_node p)
-          (members_new (house_in scene) scene.forest scene.good.kept.closed.given p t) in
+          (members_new (premises_in scene) scene.forest scene.good.kept.closed.given p t) in
           let there : node_of p scene.forest ≡ Some n = ap (λ r. node_of r scene.forest) (sym alone)
           ∙ e in
           lt_test p.number (next_of p.server scene.forest)
@@ -46,11 +46,11 @@ module _ (scene : Scene) where
 
   -- the root place, if it has a file
   root_held : is_some (file_of root_place scene.setting.table scene.forest) ≡ true
-      → HeldPlace (house_in scene) scene.start scene.forest root_place
+      → HeldPlace (premises_in scene) scene.start scene.forest root_place
   root_held t = go (file_of root_place scene.setting.table scene.forest) refl t
     where
       go : (o : Option Node) → file_of root_place scene.setting.table scene.forest ≡ o
-          → is_some o ≡ true → HeldPlace (house_in scene) scene.start scene.forest root_place
+          → is_some o ≡ true → HeldPlace (premises_in scene) scene.start scene.forest root_place
       go None e t = let b : false ≡ true = t in absurd (cc)
       go (Some n) e t = record {
         given = place_given root_place n e;
@@ -60,7 +60,7 @@ module _ (scene : Scene) where
 
   attached-agrees : (session : Session) (fid : ℕ) (user : List ℕ) (place : NodeRef)
       → is_listed_user scene.setting.users user ≡ true
-      → HeldPlace (house_in scene) scene.start scene.forest place → SafeFids scene session.fids
+      → HeldPlace (premises_in scene) scene.start scene.forest place → SafeFids scene session.fids
       → Agrees scene (attached_at scene.setting (outer_of scene) session fid user place)
       (attached_at scene.setting scene.forest session fid user place)
   attached-agrees session fid user place listed held h =
@@ -96,7 +96,7 @@ module _ (scene : Scene) where
       rw walks
       (agrees_then scene (attach_walk scene.setting scene.forest user aname) _ _ (λ trail arrives.
       attached-agrees session fid user (here trail) listed
-      (each_at (HeldPlace (house_in scene) scene.start scene.forest) trail (length trail - 1)
+      (each_at (HeldPlace (premises_in scene) scene.start scene.forest) trail (length trail - 1)
       root_place
       (walk_safe scene user listed (root_place ∷ [])
       (cleaned_elements aname) (root, tt) trail arrives) root) h))))))))

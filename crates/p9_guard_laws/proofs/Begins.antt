@@ -22,7 +22,7 @@ use Rattle.p9_step.specs.Sound.{IsSetting}
 use Rattle.p9_cert.specs.Rows.{is_row}
 use Rattle.p9_cert.specs.Safe.{IsSafe, IsSafeMember, Set}
 use Rattle.p9_cert.proofs.Gaps.{no_gap_is_closed}
-use Rattle.p9_guard_laws.specs.Guarded.{AreHiddenGiven, House, IsCertified, house_of}
+use Rattle.p9_guard_laws.specs.Guarded.{AreHiddenGiven, Premises, IsCertified, premises_of}
 use Rattle.p9_guard_laws.specs.Grown.{Start, grown, next_then, start_of}
 use Rattle.p9_guard_laws.specs.Alike.{AreAlike, AreMembersInBoth, ArePlacesInBoth}
 use Rattle.p9_guard_laws.specs.Laws.{AlikeClosed, AlikeVerified, CertifiedIsGuarded}
@@ -34,27 +34,27 @@ use Rattle.p9_guard_laws.proofs.Good.{Good}
 use Rattle.p9_guard_laws.proofs.Transfer.{good_there, grown_there}
 
 -- closed by two sets that are the same
-closed_by : (house : House) (f : List Server) (C D : Set)
+closed_by : (premises : Premises) (f : List Server) (C D : Set)
     → ((r : NodeRef) → C r ≡ true → D r ≡ true)
-    → ((r : NodeRef) → D r ≡ true → C r ≡ true) → IsCertified house f C → IsCertified house f D
-closed_by house f C D to back h = record {
+    → ((r : NodeRef) → D r ≡ true → C r ≡ true) → IsCertified premises f C → IsCertified premises f D
+closed_by premises f C D to back h = record {
   given = h.given;
   rows = λ r d. h.rows r (back r d);
   root = safe root_place h.root;
   children = λ r k n d e p. safe _ (h.children r k n (back r d) e p);
 }
   where
-    safe : (p : NodeRef) → IsSafe house.policy f house.table C p
-        → IsSafe house.policy f house.table D p
+    safe : (p : NodeRef) → IsSafe premises.policy f premises.table C p
+        → IsSafe premises.policy f premises.table D p
     safe p all =
-        each_weaker (λ m. IsSafeMember house.policy f C m.node)
-        (λ m. IsSafeMember house.policy f D m.node)
+        each_weaker (λ m. IsSafeMember premises.policy f C m.node)
+        (λ m. IsSafeMember premises.policy f D m.node)
         (λ (m : Member) s. record {
           outside = s.outside;
           shut = s.shut;
           guarded = s.guarded;
           covered = λ n e pass. to m.node (s.covered n e pass);
-        }) (members_of p house.table) all
+        }) (members_of p premises.table) all
 
 next-then : (rows : List NodeRef) (f : List Server) (s : ℕ)
     → next_then (start_of rows f) s ≡ next_of s f
@@ -62,10 +62,10 @@ next-then rows [] s = refl
 next-then rows (v ∷ vs) zero = refl
 next-then rows (v ∷ vs) (suc s) = next-then rows vs s
 
-module _ (house : House) (f : List Server) (o : Ordered f) (start : Start)
+module _ (premises : Premises) (f : List Server) (o : Ordered f) (start : Start)
     (now : (s : ℕ) → next_then start s ≡ next_of s f) where
   -- what has grown are the rows
-  row_of_grown : (r : NodeRef) → grown house.policy.hidden start f r ≡ true
+  row_of_grown : (r : NodeRef) → grown premises.policy.hidden start f r ≡ true
       → is_row start.rows r ≡ true
   row_of_grown r t =
       elim (or_cases (is_row start.rows r) (nat_le (next_then start r.server) r.number) w.row) [
@@ -77,28 +77,28 @@ module _ (house : House) (f : List Server) (o : Ordered f) (start : Start)
             let c = now r.server in absurd (omega arith))
       ]
     where
-      w : IsGrown house start f r
-      w = grown_parts house start f r t
+      w : IsGrown premises start f r
+      w = grown_parts premises start f r t
 
       d : (x : Node) × (node_of r f ≡ Some x) × (is_dir x ≡ true)
       d = dir_there f r w.dir
 
-  grown_of_row : IsCertified house f (is_row start.rows) → (r : NodeRef)
-      → is_row start.rows r ≡ true → grown house.policy.hidden start f r ≡ true
+  grown_of_row : IsCertified premises f (is_row start.rows) → (r : NodeRef)
+      → is_row start.rows r ≡ true → grown premises.policy.hidden start f r ≡ true
   grown_of_row h r t =
       let w = h.rows r t in
-      grown_from house start f r
+      grown_from premises start f r
       (record { dir = w.dir; outside = w.outside; row = or_left (is_row start.rows r) _ t })
 
-  pub grown_closed : IsCertified house f (is_row start.rows)
-      → IsCertified house f (grown house.policy.hidden start f)
+  pub grown_closed : IsCertified premises f (is_row start.rows)
+      → IsCertified premises f (grown premises.policy.hidden start f)
   grown_closed h =
-      closed_by house f (is_row start.rows) (grown house.policy.hidden start f)
+      closed_by premises f (is_row start.rows) (grown premises.policy.hidden start f)
       (grown_of_row h) row_of_grown h
 
-  pub kept_begins : IsTable house.table
-      → ((r : NodeRef) → is_hidden r house.policy.hidden ≡ true → is_given f r ≡ true)
-      → IsCertified house f (is_row start.rows) → IsKept house start f
+  pub kept_begins : IsTable premises.table
+      → ((r : NodeRef) → is_hidden r premises.policy.hidden ≡ true → is_given f r ≡ true)
+      → IsCertified premises f (is_row start.rows) → IsKept premises start f
   kept_begins table hidden h = record {
     table = table;
     later = λ s. let e = now s in omega arith;
@@ -108,41 +108,41 @@ module _ (house : House) (f : List Server) (o : Ordered f) (start : Start)
 
 pub certified_is_guarded : CertifiedIsGuarded
 certified_is_guarded hidden rows state sound given closed none =
-    let house = house_of hidden state.setting in
+    let premises = premises_of hidden state.setting in
     let start = start_of rows state.forest in
     guarded_from hidden start state sound (record {
       ordered = ordered_forest state.forest sound.forest;
       kept =
-          kept_begins house state.forest (ordered_forest state.forest sound.forest) start
+          kept_begins premises state.forest (ordered_forest state.forest sound.forest) start
           (next-then rows state.forest) sound.served.fixed.table given closed;
-    }) (subst (AreHeld house start state.forest) (sym none) tt)
+    }) (subst (AreHeld premises start state.forest) (sym none) tt)
 
 -- a certificate that has not grown yet, in an alike forest
-closed_there : (house : House) (rows : List NodeRef) (f g : List Server) → IsForest f → IsForest g
-    → IsTable house.table
-    → ((r : NodeRef) → is_hidden r house.policy.hidden ≡ true → is_given f r ≡ true)
-    → outer house.policy.hidden g ≡ outer house.policy.hidden f → AreMembersInBoth f g house.table
-    → IsCertified house f (is_row rows) → IsCertified house g (is_row rows)
-closed_there house rows f g wf wg table given same members closed =
+closed_there : (premises : Premises) (rows : List NodeRef) (f g : List Server) → IsForest f → IsForest g
+    → IsTable premises.table
+    → ((r : NodeRef) → is_hidden r premises.policy.hidden ≡ true → is_given f r ≡ true)
+    → outer premises.policy.hidden g ≡ outer premises.policy.hidden f → AreMembersInBoth f g premises.table
+    → IsCertified premises f (is_row rows) → IsCertified premises g (is_row rows)
+closed_there premises rows f g wf wg table given same members closed =
     let start = start_of rows f in
     let of = ordered_forest f wf in
     let og = ordered_forest g wg in
-    let good : Good house start f = record {
+    let good : Good premises start f = record {
       ordered = of;
-      kept = kept_begins house f of start (next-then rows f) table given closed;
+      kept = kept_begins premises f of start (next-then rows f) table given closed;
     } in
-    let there = good_there house start f g good og same members in
-    closed_by house g (grown house.policy.hidden start g) (is_row rows)
-    (row_of_grown house g og start
-    (λ s. next-then rows f s ∙ sym (next_same house.policy.hidden f g same s)))
+    let there = good_there premises start f g good og same members in
+    closed_by premises g (grown premises.policy.hidden start g) (is_row rows)
+    (row_of_grown premises g og start
+    (λ s. next-then rows f s ∙ sym (next_same premises.policy.hidden f g same s)))
     (λ r t. back r t good og)
     there.kept.closed
   where
-    back : (r : NodeRef) → is_row rows r ≡ true → Good house (start_of rows f) f → Ordered g
-        → grown house.policy.hidden (start_of rows f) g r ≡ true
+    back : (r : NodeRef) → is_row rows r ≡ true → Good premises (start_of rows f) f → Ordered g
+        → grown premises.policy.hidden (start_of rows f) g r ≡ true
     back r t good og =
-        grown_there house (start_of rows f) f g good og same members r
-        (grown_of_row house f good.ordered (start_of rows f) (next-then rows f) closed r t)
+        grown_there premises (start_of rows f) f g good og same members r
+        (grown_of_row premises f good.ordered (start_of rows f) (next-then rows f) closed r t)
 
 -- alike is symmetric
 pub alike_back : (hidden : List NodeRef) (a b : State) → IsForest a.forest → AreAlike hidden a b
@@ -174,11 +174,11 @@ alike_back hidden a b sound alike = record {
 
 closed_one_way : (hidden rows : List NodeRef) (a b : State) → IsForest a.forest
     → IsSetting a.setting → AreHiddenGiven hidden a.forest → AreAlike hidden a b
-    → IsCertified (house_of hidden a.setting) a.forest (is_row rows)
-    → IsCertified (house_of hidden b.setting) b.forest (is_row rows)
+    → IsCertified (premises_of hidden a.setting) a.forest (is_row rows)
+    → IsCertified (premises_of hidden b.setting) b.forest (is_row rows)
 closed_one_way hidden rows a b sound its given alike closed =
-    subst (λ s. IsCertified (house_of hidden s) b.forest (is_row rows)) (sym alike.setting)
-    (closed_there (house_of hidden a.setting) rows a.forest b.forest sound alike.sound its.table
+    subst (λ s. IsCertified (premises_of hidden s) b.forest (is_row rows)) (sym alike.setting)
+    (closed_there (premises_of hidden a.setting) rows a.forest b.forest sound alike.sound its.table
     given alike.others alike.members closed)
 
 pub alike_closed : AlikeClosed
@@ -193,9 +193,9 @@ alike_closed hidden rows a b sound its given alike = (
 
 pub alike_verified : AlikeVerified
 alike_verified hidden rows a b sound its given alike =
-    let of_a = no_gap_is_closed (house_of hidden a.setting).policy a.forest a.setting.table rows
+    let of_a = no_gap_is_closed (premises_of hidden a.setting).policy a.forest a.setting.table rows
     sound in
-    let of_b = no_gap_is_closed (house_of hidden b.setting).policy b.forest b.setting.table rows
+    let of_b = no_gap_is_closed (premises_of hidden b.setting).policy b.forest b.setting.table rows
     alike.sound in
     let both = alike_closed hidden rows a b sound its given alike in
     (λ none. of_b.1 (both.0 (of_a.0 none)), λ none. of_a.1 (both.1 (of_b.0 none)))

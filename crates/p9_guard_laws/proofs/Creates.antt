@@ -1,7 +1,7 @@
 -- A creation.
-use Rattle.std.proofs.Common.{◌≡◌, ℕ, ◌<◌, length, Bool, true, false, not, List, [], ◌∷◌, Option}
-use Rattle.std.proofs.Common.{Some, None, ◌||◌, inl, arith, refl, ap, ◌∙◌, is_some, inr, ◌++◌, Ok}
-use Rattle.std.proofs.Common.{Err, ◌⊎◌, subst}
+use Rattle.std.proofs.Common.{◌≡◌, ℕ, ◌<◌, length, Bool, true, false, List, [], ◌∷◌}
+use Rattle.std.proofs.Common.{Some, ◌||◌, inl, arith, refl, ap, ◌∙◌, is_some, inr, ◌++◌}
+use Rattle.std.proofs.Common.{◌⊎◌, subst}
 use Rattle.std.specs.Prelude.{is_none, if◌then◌else◌, nat_lt}
 use Rattle.std.specs.Option.{option_map_or}
 use Rattle.std.specs.List.{list_any}
@@ -40,7 +40,7 @@ use Rattle.p9_step.specs.Opening.{newly_opened, opening_of}
 use Rattle.p9_step.specs.Create.{create_answer, created, creation, permitting}
 use Rattle.p9_step.proofs.Found.{node_at-added, server_at-tree_changed_at}
 use Rattle.p9_step.proofs.NodeRefs.{here-pushed}
-use Rattle.p9_guard_laws.proofs.Scene.{SafeFid, SafeFids, Scene, house_in, outer_of}
+use Rattle.p9_guard_laws.proofs.Scene.{SafeFid, SafeFids, Scene, premises_in, outer_of}
 use Rattle.p9_guard_laws.proofs.Held.{HeldPlace, HeldFid}
 use Rattle.p9_guard_laws.proofs.Basics.{each_weaker}
 use Rattle.p9_guard_laws.proofs.Moves.{SameStanding, evolves, LawfulEdit, Evolves, LawfulAdd}
@@ -101,7 +101,7 @@ module _ (scene : Scene) where
     same_number : d.number ≡ t.number
     same_number = node_number scene.forest t d e
 
-    lawful_add : LawfulAdd (house_in scene) scene.forest t.server n
+    lawful_add : LawfulAdd (premises_in scene) scene.forest t.server n
     lawful_add = record {
       at_next = refl;
       under = t.number;
@@ -110,20 +110,20 @@ module _ (scene : Scene) where
       open_parent = open_dir;
     }
 
-    ev : Evolves (house_in scene) scene.forest g
-    ev = evolves (house_in scene) scene.forest scene.good.ordered (AddNode t.server n) lawful_add
+    ev : Evolves (premises_in scene) scene.forest g
+    ev = evolves (premises_in scene) scene.forest scene.good.ordered (AddNode t.server n) lawful_add
 
-    good_g : Good (house_in scene) scene.start g
-    good_g = good-applied (house_in scene) scene.start scene.forest scene.good (AddNode t.server n)
+    good_g : Good (premises_in scene) scene.start g
+    good_g = good-applied (premises_in scene) scene.start scene.forest scene.good (AddNode t.server n)
         lawful_add
 
-    lawful_mark : LawfulEdit (house_in scene) g t (Mark v.user now)
+    lawful_mark : LawfulEdit (premises_in scene) g t (Mark v.user now)
     lawful_mark = record {
       outside =
-          outside_stays (house_in scene) scene.forest g scene.good.ordered ev t
+          outside_stays (premises_in scene) scene.forest g scene.good.ordered ev t
           (settled scene t d e)
           pass.outside;
-      standing = λ y there. mark_stands (house_in scene) v.user now y;
+      standing = λ y there. mark_stands (premises_in scene) v.user now y;
     }
 
     there : node_of q g ≡ Some n
@@ -135,27 +135,27 @@ module _ (scene : Scene) where
         (node_at-past (next_of t.server scene.forest) (server_at t.server scene.forest).nodes
         (scene.good.ordered.below t.server)) refl
 
-    newcomer : Newcomer (house_in scene) scene.forest q n
+    newcomer : Newcomer (premises_in scene) scene.forest q n
     newcomer = go (ev.node q n there)
       where
-        go : ((x : Node) × (node_of q scene.forest ≡ Some x) × SameStanding (house_in scene) x n)
-            ⊎ Newcomer (house_in scene) scene.forest q n
-            → Newcomer (house_in scene) scene.forest q n
+        go : ((x : Node) × (node_of q scene.forest ≡ Some x) × SameStanding (premises_in scene) x n)
+            ⊎ Newcomer (premises_in scene) scene.forest q n
+            → Newcomer (premises_in scene) scene.forest q n
         go (inl old) =
             absurd (let a : next_of t.server scene.forest < next_of t.server scene.forest =
             node_below scene.forest scene.good.ordered q old.0 old.1 in
             omega arith)
         go (inr new) = new
 
-    place : HeldPlace (house_in scene) scene.start g q
+    place : HeldPlace (premises_in scene) scene.start g q
     place = record {
       given =
           lt_test (next_of t.server scene.forest) (next_of t.server g)
           (node_below g good_g.ordered q n there);
       outside =
-          new_outside (house_in scene) scene.start scene.forest g scene.good.ordered scene.good.kept
+          new_outside (premises_in scene) scene.start scene.forest g scene.good.ordered scene.good.kept
           ev q n there newcomer;
-      safe = new_safe (house_in scene) scene.start scene.forest g scene.good.ordered scene.good.kept
+      safe = new_safe (premises_in scene) scene.start scene.forest g scene.good.ordered scene.good.kept
           ev q n there newcomer;
     }
 
@@ -173,19 +173,19 @@ module _ (scene : Scene) where
         rw (here-pushed v.trail q)
         (ap (λ r. is_hidden r scene.hidden)
         (ap (first_node q)
-        (members_new (house_in scene) scene.forest scene.good.kept.closed.given q not_given))
+        (members_new (premises_in scene) scene.forest scene.good.kept.closed.given q not_given))
         ∙ not_true (is_hidden q scene.hidden)
         (λ hid. clash (is_given scene.forest q) (scene.good.kept.hidden q hid) not_given))
 
-    fid_safe : HeldFid (house_in scene) scene.start g
+    fid_safe : HeldFid (premises_in scene) scene.start g
         (record v { trail = v.trail ++ q ∷ []; opened = Some (newly_opened opening) })
     fid_safe = record {
       listed = s.listed;
       places =
-          each_push (HeldPlace (house_in scene) scene.start g) v.trail q
-          (each_weaker (HeldPlace (house_in scene) scene.start scene.forest)
-          (HeldPlace (house_in scene) scene.start g)
-          (place_stays (house_in scene) scene.start scene.forest g scene.good.ordered
+          each_push (HeldPlace (premises_in scene) scene.start g) v.trail q
+          (each_weaker (HeldPlace (premises_in scene) scene.start scene.forest)
+          (HeldPlace (premises_in scene) scene.start g)
+          (place_stays (premises_in scene) scene.start scene.forest g scene.good.ordered
           scene.good.kept ev) v.trail s.places) place;
       shown = λ o _. new_shown;
     }
@@ -197,16 +197,16 @@ module _ (scene : Scene) where
         agrees_ok scene _ (record {
           lawful = (lawful_add, (lawful_mark, tt));
           fids =
-              fids_stay (house_in scene) scene.start g (applied (EditNode t (Mark v.user now)) g)
+              fids_stay (premises_in scene) scene.start g (applied (EditNode t (Mark v.user now)) g)
               good_g.ordered
               good_g.kept
-              (evolves (house_in scene) g good_g.ordered (EditNode t (Mark v.user now)) lawful_mark)
+              (evolves (premises_in scene) g good_g.ordered (EditNode t (Mark v.user now)) lawful_mark)
               _
-              (fids_changed (house_in scene) scene.start g session.fids fid
+              (fids_changed (premises_in scene) scene.start g session.fids fid
               (λ w.
               record w { trail = v.trail ++ q ∷ []; opened = Some (newly_opened opening) })
               v at fid_safe
-              (fids_stay (house_in scene) scene.start scene.forest g scene.good.ordered
+              (fids_stay (premises_in scene) scene.start scene.forest g scene.good.ordered
               scene.good.kept ev session.fids h));
         })
 
@@ -216,7 +216,7 @@ module _ (scene : Scene) where
       (create_answer scene.setting scene.forest session now fid name perm bits)
   create-agrees session now fid name perm bits h =
       agrees_given scene (fid_at fid session.fids) UnknownFid _ _ (λ v at.
-      let s = fid_found (house_in scene) scene.start scene.forest session.fids fid v h at in
+      let s = fid_found (premises_in scene) scene.start scene.forest session.fids fid v h at in
       let ms = here_safe scene v.trail s.places in
       agrees_need scene (is_none v.opened) FidOpen _ _ (λ _.
       agrees_need scene (is_name name) BadFileName _ _ (λ _.

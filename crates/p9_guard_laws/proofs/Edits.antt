@@ -8,17 +8,17 @@ use Rattle.p9_tree.specs.Inside.{is_inside}
 use Rattle.p9_step.specs.ForestChange.{ForestChange, Mark, applied, edited, Cut, Edit, EditNode, Overwrite}
 use Rattle.p9_step.specs.ForestChange.{Touch}
 use Rattle.p9_step.specs.End.{parent_marked}
-use Rattle.p9_guard_laws.specs.Guarded.{House}
-use Rattle.p9_guard_laws.proofs.Scene.{Scene, house_in}
+use Rattle.p9_guard_laws.specs.Guarded.{Premises}
+use Rattle.p9_guard_laws.proofs.Scene.{Scene, premises_in}
 use Rattle.p9_guard_laws.proofs.Moves.{Lawful, LawfulChange, SameStanding, evolves, LawfulEdit}
 use Rattle.p9_guard_laws.proofs.Stays.{outside_stays}
 use Rattle.p9_guard_laws.proofs.Parents.{parent_outside, settled, settled_parent}
 
 -- a mark leaves the node's standing
-pub mark_stands : (house : House) (user : List ℕ) (now : ℕ) (x : Node)
-    → SameStanding house x (edited (Mark user now) x)
+pub mark_stands : (premises : Premises) (user : List ℕ) (now : ℕ) (x : Node)
+    → SameStanding premises x (edited (Mark user now) x)
 unfolding edited
-mark_stands house user now x =
+mark_stands premises user now x =
     record {
       parent = refl;
       kind = refl;
@@ -26,10 +26,10 @@ mark_stands house user now x =
           inl (record { mode = refl; uid = refl; gid = refl });
     }
 
-pub touch_stands : (house : House) (now : ℕ) (x : Node)
-    → SameStanding house x (edited (Touch now) x)
+pub touch_stands : (premises : Premises) (now : ℕ) (x : Node)
+    → SameStanding premises x (edited (Touch now) x)
 unfolding edited
-touch_stands house now x =
+touch_stands premises now x =
     record {
       parent = refl;
       kind = refl;
@@ -37,9 +37,9 @@ touch_stands house now x =
           inl (record { mode = refl; uid = refl; gid = refl });
     }
 
-pub cut_stands : (house : House) (size : ℕ) (x : Node) → SameStanding house x (edited (Cut size) x)
+pub cut_stands : (premises : Premises) (size : ℕ) (x : Node) → SameStanding premises x (edited (Cut size) x)
 unfolding edited
-cut_stands house size x =
+cut_stands premises size x =
     record {
       parent = refl;
       kind = refl;
@@ -47,10 +47,10 @@ cut_stands house size x =
           inl (record { mode = refl; uid = refl; gid = refl });
     }
 
-pub write_stands : (house : House) (offset : ℕ) (bytes : List ℕ) (x : Node)
-    → SameStanding house x (edited (Overwrite offset bytes) x)
+pub write_stands : (premises : Premises) (offset : ℕ) (bytes : List ℕ) (x : Node)
+    → SameStanding premises x (edited (Overwrite offset bytes) x)
 unfolding edited
-write_stands house offset bytes x =
+write_stands premises offset bytes x =
     record {
       parent = refl;
       kind = refl;
@@ -60,25 +60,25 @@ write_stands house offset bytes x =
 
 module _ (scene : Scene) where
   pub one_edit : (r : NodeRef) (e : Edit) → is_inside r scene.hidden scene.forest ≡ false
-      → ((y : Node) → SameStanding (house_in scene) y (edited e y))
-      → LawfulEdit (house_in scene) scene.forest r e
+      → ((y : Node) → SameStanding (premises_in scene) y (edited e y))
+      → LawfulEdit (premises_in scene) scene.forest r e
   one_edit r e out stands = record { outside = out; standing = λ y there. stands y }
 
   -- two edits of one node, one after the other
   pub two_edits : (r : NodeRef) (x : Node) (a b : Edit) → node_of r scene.forest ≡ Some x
       → is_inside r scene.hidden scene.forest ≡ false
-      → ((y : Node) → SameStanding (house_in scene) y (edited a y))
-      → ((y : Node) → SameStanding (house_in scene) y (edited b y))
-      → Lawful (house_in scene) scene.forest (EditNode r a ∷ EditNode r b ∷ [])
+      → ((y : Node) → SameStanding (premises_in scene) y (edited a y))
+      → ((y : Node) → SameStanding (premises_in scene) y (edited b y))
+      → Lawful (premises_in scene) scene.forest (EditNode r a ∷ EditNode r b ∷ [])
   two_edits r x a b e out sa sb =
       let first = one_edit r a out sa in (
         first,
         (
           record {
             outside =
-                outside_stays (house_in scene) scene.forest (applied (EditNode r a) scene.forest)
+                outside_stays (premises_in scene) scene.forest (applied (EditNode r a) scene.forest)
                 scene.good.ordered
-                (evolves (house_in scene) scene.forest scene.good.ordered (EditNode r a) first) r
+                (evolves (premises_in scene) scene.forest scene.good.ordered (EditNode r a) first) r
                 (settled scene r x e) out;
             standing = λ y there. sb y;
           },
@@ -88,20 +88,20 @@ module _ (scene : Scene) where
 
   -- a mark of the parent after another lawful change of the node
   pub marks_lawful : (r : NodeRef) (x : Node) (change : ForestChange) (user : List ℕ) (now : ℕ)
-      (parent : Option ℕ) → LawfulChange (house_in scene) scene.forest change
+      (parent : Option ℕ) → LawfulChange (premises_in scene) scene.forest change
       → node_of r scene.forest ≡ Some x → x.parent ≡ parent
       → is_inside r scene.hidden scene.forest ≡ false
-      → Lawful (house_in scene) (applied change scene.forest) (parent_marked user now r parent)
+      → Lawful (premises_in scene) (applied change scene.forest) (parent_marked user now r parent)
   marks_lawful r x change user now None l e q out = tt
   marks_lawful r x change user now (Some p) l e q out = (
     record {
       outside =
-          outside_stays (house_in scene) scene.forest (applied change scene.forest)
+          outside_stays (premises_in scene) scene.forest (applied change scene.forest)
           scene.good.ordered
-          (evolves (house_in scene) scene.forest scene.good.ordered change l) (beside r p)
+          (evolves (premises_in scene) scene.forest scene.good.ordered change l) (beside r p)
           (settled_parent scene r x p e q)
           (parent_outside scene r x p e q out);
-      standing = λ y there. mark_stands (house_in scene) user now y;
+      standing = λ y there. mark_stands (premises_in scene) user now y;
     },
     tt,
   )

@@ -17,7 +17,7 @@ use Rattle.p9_step.specs.ForestChange.{DropNode, all_applied}
 use Rattle.p9_step.specs.Clunk.{clunk_answer, without}
 use Rattle.p9_step.specs.End.{on_end, removes_on_close, taken_out, on_ends}
 use Rattle.p9_step.specs.Version.{is_known, msize_min, version_answer}
-use Rattle.p9_guard_laws.proofs.Scene.{SafeFid, SafeFids, Scene, house_in, outer_of, scene_after}
+use Rattle.p9_guard_laws.proofs.Scene.{SafeFid, SafeFids, Scene, premises_in, outer_of, scene_after}
 use Rattle.p9_guard_laws.proofs.Moves.{Lawful}
 use Rattle.p9_guard_laws.proofs.Good.{fids-all, lawful-append, outer-all}
 use Rattle.p9_guard_laws.proofs.Agrees.{Agrees, agrees_changes, agrees_given, agrees_need}
@@ -28,16 +28,16 @@ use Rattle.p9_guard_laws.proofs.Edits.{marks_lawful}
 module _ (scene : Scene) where
   pub taken_lawful : (r : NodeRef) (x : Node) (user : List ℕ) (now : ℕ)
       → node_of r scene.forest ≡ Some x → is_inside r scene.hidden scene.forest ≡ false
-      → Lawful (house_in scene) scene.forest (taken_out user now r x)
+      → Lawful (premises_in scene) scene.forest (taken_out user now r x)
   taken_lawful r x user now e out =
       (out, marks_lawful scene r x (DropNode r) user now x.parent out e refl out)
 
   pub end_lawful : (now : ℕ) (v : Fid) → SafeFid scene v
-      → Lawful (house_in scene) scene.forest (on_end scene.setting.table now scene.forest v)
+      → Lawful (premises_in scene) scene.forest (on_end scene.setting.table now scene.forest v)
   end_lawful now v s = go (removes_on_close v) (fid_file scene.setting.table scene.forest v) refl
     where
       go : (b : Bool) (o : Option Node) → fid_file scene.setting.table scene.forest v ≡ o
-          → Lawful (house_in scene) scene.forest
+          → Lawful (premises_in scene) scene.forest
           (if b then option_map_or (taken_out v.user now (fid_ref scene.setting.table v)) o []
           else [])
       go false o e = tt
@@ -55,19 +55,19 @@ module _ (scene : Scene) where
       (clunk_answer scene.setting scene.forest session now fid)
   clunk-agrees session now fid h =
       agrees_given scene (fid_at fid session.fids) UnknownFid _ _ (λ v at.
-      let s = fid_found (house_in scene) scene.start scene.forest session.fids fid v h at in
+      let s = fid_found (premises_in scene) scene.start scene.forest session.fids fid v h at in
       rw (end-outer now v s)
       (agrees_changes scene (on_end scene.setting.table now scene.forest v) (without fid session) _
       (end_lawful now v s) (each-remove (SafeFid scene) (is_at (nat_cmp fid)) session.fids h)))
 
 pub ends_lawful : (scene : Scene) (now : ℕ) (fids : List FidRow) → SafeFids scene fids
-    → Lawful (house_in scene) scene.forest (on_ends scene.setting.table now scene.forest fids)
+    → Lawful (premises_in scene) scene.forest (on_ends scene.setting.table now scene.forest fids)
 ends_lawful scene now [] h = tt
 ends_lawful scene now (row ∷ rows) h =
     let changes = on_end scene.setting.table now scene.forest row.1 in
     let l = end_lawful scene now row.1 h.0 in
-    let later = fids-all (house_in scene) scene.start scene.forest scene.good changes l rows h.1 in
-    lawful-append (house_in scene) scene.start scene.forest changes
+    let later = fids-all (premises_in scene) scene.start scene.forest scene.good changes l rows h.1 in
+    lawful-append (premises_in scene) scene.start scene.forest changes
     (on_ends scene.setting.table now (all_applied changes scene.forest) rows) l
     (ends_lawful (scene_after scene changes l) now rows later)
 
@@ -79,11 +79,11 @@ ends-outer scene now (row ∷ rows) h =
     let table = scene.setting.table in
     let changes = on_end table now scene.forest row.1 in
     let l = end_lawful scene now row.1 h.0 in
-    let later = fids-all (house_in scene) scene.start scene.forest scene.good changes l rows h.1 in
+    let later = fids-all (premises_in scene) scene.start scene.forest scene.good changes l rows h.1 in
     ap (λ cs. cs ++ on_ends table now (all_applied cs (outer_of scene)) rows)
     (end-outer scene now row.1 h.0)
     ∙ ap (λ g. changes ++ on_ends table now g rows)
-    (sym (outer-all (house_in scene) scene.start scene.forest scene.good changes l))
+    (sym (outer-all (premises_in scene) scene.start scene.forest scene.good changes l))
     ∙ ap (λ cs. changes ++ cs) (ends-outer (scene_after scene changes l) now rows later)
 
 module _ (scene : Scene) where

@@ -6,7 +6,7 @@ use Rattle.p9_fids.specs.declared.opened.Opened.{Opened}
 use Rattle.p9_fids.specs.Fid.{Fid, fid_at}
 use Rattle.p9_step.specs.State.{Session, fid_file, fid_ref}
 use Rattle.p9_step.specs.Stat.{stat_answer}
-use Rattle.p9_guard_laws.proofs.Scene.{SafeFid, SafeFids, Scene, house_in, outer_of}
+use Rattle.p9_guard_laws.proofs.Scene.{SafeFid, SafeFids, Scene, premises_in, outer_of}
 use Rattle.p9_guard_laws.proofs.Walks.{SafeMember, file-outer, file_safe, here_safe}
 use Rattle.p9_guard_laws.proofs.Agrees.{Agrees, agrees_given, agrees_quiet, fid_found}
 
@@ -33,7 +33,7 @@ module _ (scene : Scene) where
       (stat_answer scene.setting scene.forest session fid)
   stat-agrees session fid h =
       agrees_given scene (fid_at fid session.fids) UnknownFid _ _ (λ v at.
-      let s = fid_found (house_in scene) scene.start scene.forest session.fids fid v h at in
+      let s = fid_found (premises_in scene) scene.start scene.forest session.fids fid v h at in
       rw (fid_file-outer v s)
       (agrees_given scene (fid_file scene.setting.table scene.forest v) PhaseError _ _ (λ n there.
       agrees_quiet scene session _ h)))

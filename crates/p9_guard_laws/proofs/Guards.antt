@@ -14,7 +14,7 @@ use Rattle.p9_space.specs.Given.{is_given}
 use Rattle.p9_fids.specs.Fid.{Fid}
 use Rattle.p9_step.specs.State.{Session, SessionRow, Setting, State, fid_ref}
 use Rattle.p9_step.specs.Sound.{FidFits, IsFid, IsSession, IsState}
-use Rattle.p9_guard_laws.specs.Guarded.{House, IsGuardedState, IsSafeFid, IsSafePlace, house_of}
+use Rattle.p9_guard_laws.specs.Guarded.{Premises, IsGuardedState, IsSafeFid, IsSafePlace, premises_of}
 use Rattle.p9_guard_laws.specs.Grown.{Start}
 use Rattle.p9_guard_laws.specs.Alike.{AreAlike}
 use Rattle.p9_guard_laws.specs.Laws.{AlikeGuarded}
@@ -26,25 +26,25 @@ use Rattle.p9_guard_laws.proofs.Fids.{fid_member}
 use Rattle.p9_guard_laws.proofs.Transfer.{fids_there, good_there}
 
 -- the fids of each session are held
-abbrev pub AreHeld : House → Start → List Server → List SessionRow → Type 0
-AreHeld house start f sessions = AllByRecursion (λ row. HeldFids house start f row.1.fids) sessions
+abbrev pub AreHeld : Premises → Start → List Server → List SessionRow → Type 0
+AreHeld premises start f sessions = AllByRecursion (λ row. HeldFids premises start f row.1.fids) sessions
 
-module _ (house : House) (start : Start) (f : List Server) where
-  held_fid : (setting : Setting) → setting.users ≡ house.policy.users → (v : Fid)
-      → IsFid setting f v → IsSafeFid house start f v → HeldFid house start f v
+module _ (premises : Premises) (start : Start) (f : List Server) where
+  held_fid : (setting : Setting) → setting.users ≡ premises.policy.users → (v : Fid)
+      → IsFid setting f v → IsSafeFid premises start f v → HeldFid premises start f v
   held_fid setting same v its safe = record {
     listed = subst (λ users. is_listed_user users v.user ≡ true) same its.listed;
     places =
-        each_two (λ p. is_given f p ≡ true) (IsSafePlace house start f) (HeldPlace house start f)
+        each_two (λ p. is_given f p ≡ true) (IsSafePlace premises start f) (HeldPlace premises start f)
         (λ p given kept. record { given = given; outside = kept.outside; safe = kept.safe })
         v.trail (each_passes (is_given f) v.trail its.given) safe.places;
     shown = safe.shown;
   }
 
-  safe_fid : (v : Fid) → HeldFid house start f v → IsSafeFid house start f v
+  safe_fid : (v : Fid) → HeldFid premises start f v → IsSafeFid premises start f v
   safe_fid v held = record {
     places =
-        each_weaker (HeldPlace house start f) (IsSafePlace house start f)
+        each_weaker (HeldPlace premises start f) (IsSafePlace premises start f)
         (λ p kept. record { outside = kept.outside; safe = kept.safe }) v.trail held.places;
     shown = held.shown;
   }
@@ -53,7 +53,7 @@ module _ (hidden : List NodeRef) (start : Start) (a : State)
     (guarded : IsGuardedState hidden start a)
   where
     -- what is carried of a guarded state
-    pub good_of : Good (house_of hidden a.setting) start a.forest
+    pub good_of : Good (premises_of hidden a.setting) start a.forest
     good_of = record {
       ordered = ordered_forest a.forest guarded.sound.forest;
       kept = record {
@@ -64,47 +64,47 @@ module _ (hidden : List NodeRef) (start : Start) (a : State)
       };
     }
 
-    pub held_of : AreHeld (house_of hidden a.setting) start a.forest a.sessions
+    pub held_of : AreHeld (premises_of hidden a.setting) start a.forest a.sessions
     held_of =
         each_two (λ row. IsSession a.setting a.forest row.1)
         (λ row. AllByRecursion (λ fid.
-        IsSafeFid (house_of hidden a.setting) start a.forest fid.1) row.1.fids)
-        (λ row. HeldFids (house_of hidden a.setting) start a.forest row.1.fids)
+        IsSafeFid (premises_of hidden a.setting) start a.forest fid.1) row.1.fids)
+        (λ row. HeldFids (premises_of hidden a.setting) start a.forest row.1.fids)
         (λ row its safe.
         each_two (λ fid. IsFid a.setting a.forest fid.1)
-        (λ fid. IsSafeFid (house_of hidden a.setting) start a.forest fid.1)
-        (λ fid. HeldFid (house_of hidden a.setting) start a.forest fid.1)
-        (λ fid one kept. held_fid (house_of hidden a.setting) start a.forest a.setting refl fid.1
+        (λ fid. IsSafeFid (premises_of hidden a.setting) start a.forest fid.1)
+        (λ fid. HeldFid (premises_of hidden a.setting) start a.forest fid.1)
+        (λ fid one kept. held_fid (premises_of hidden a.setting) start a.forest a.setting refl fid.1
         one
         kept) row.1.fids its.each safe) a.sessions guarded.sound.served.sessions guarded.fids
 
 -- and the other way round
 pub guarded_from : (hidden : List NodeRef) (start : Start) (a : State) → IsState a
-    → Good (house_of hidden a.setting) start a.forest
-    → AreHeld (house_of hidden a.setting) start a.forest a.sessions → IsGuardedState hidden start a
+    → Good (premises_of hidden a.setting) start a.forest
+    → AreHeld (premises_of hidden a.setting) start a.forest a.sessions → IsGuardedState hidden start a
 guarded_from hidden start a sound good held = record {
   sound = sound;
   later = good.kept.later;
   hidden_given = good.kept.hidden;
   closed = good.kept.closed;
   fids =
-      each_weaker (λ row. HeldFids (house_of hidden a.setting) start a.forest row.1.fids)
+      each_weaker (λ row. HeldFids (premises_of hidden a.setting) start a.forest row.1.fids)
       (λ row. AllByRecursion (λ fid.
-      IsSafeFid (house_of hidden a.setting) start a.forest fid.1) row.1.fids)
-      (λ row h. each_weaker (λ fid. HeldFid (house_of hidden a.setting) start a.forest fid.1)
-      (λ fid. IsSafeFid (house_of hidden a.setting) start a.forest fid.1)
-      (λ fid k. safe_fid (house_of hidden a.setting) start a.forest fid.1 k) row.1.fids h)
+      IsSafeFid (premises_of hidden a.setting) start a.forest fid.1) row.1.fids)
+      (λ row h. each_weaker (λ fid. HeldFid (premises_of hidden a.setting) start a.forest fid.1)
+      (λ fid. IsSafeFid (premises_of hidden a.setting) start a.forest fid.1)
+      (λ fid k. safe_fid (premises_of hidden a.setting) start a.forest fid.1 k) row.1.fids h)
       a.sessions held;
 }
 
 -- The other forest.
 
 module _ (hidden : List NodeRef) (setting : Setting) (start : Start) (f g : List Server)
-    (goodf : Good (house_of hidden setting) start f)
-    (goodg : Good (house_of hidden setting) start g) (same : outer hidden g ≡ outer hidden f) where
+    (goodf : Good (premises_of hidden setting) start f)
+    (goodg : Good (premises_of hidden setting) start g) (same : outer hidden g ≡ outer hidden f) where
   -- what is kept of open fids
-  fits_there : (v : Fid) → HeldFid (house_of hidden setting) start f v
-      → HeldFid (house_of hidden setting) start g v → FidFits setting.table f v
+  fits_there : (v : Fid) → HeldFid (premises_of hidden setting) start f v
+      → HeldFid (premises_of hidden setting) start g v → FidFits setting.table f v
       → FidFits setting.table g v
   fits_there v sf sg fits o is =
       let kept = fits o is in
@@ -122,28 +122,28 @@ module _ (hidden : List NodeRef) (setting : Setting) (start : Start) (f g : List
           (fid_member (scene_of hidden setting start g goodg) v sg).outside
           (fid_member (scene_of hidden setting start f goodf) v sf).outside
 
-  fid_sound : (v : Fid) → IsFid setting f v → HeldFid (house_of hidden setting) start f v
-      → HeldFid (house_of hidden setting) start g v → IsFid setting g v
+  fid_sound : (v : Fid) → IsFid setting f v → HeldFid (premises_of hidden setting) start f v
+      → HeldFid (premises_of hidden setting) start g v → IsFid setting g v
   fid_sound v its sf sg = record {
     listed = its.listed;
     trail = its.trail;
     given =
         all_pass (is_given g) v.trail
-        (each_weaker (HeldPlace (house_of hidden setting) start g) (λ p. is_given g p ≡ true)
+        (each_weaker (HeldPlace (premises_of hidden setting) start g) (λ p. is_given g p ≡ true)
         (λ p h. h.given) v.trail sg.places);
     opened = fits_there v sf sg its.opened;
   }
 
   pub session_sound : (session : Session) → IsSession setting f session
-      → HeldFids (house_of hidden setting) start f session.fids
-      → HeldFids (house_of hidden setting) start g session.fids → IsSession setting g session
+      → HeldFids (premises_of hidden setting) start f session.fids
+      → HeldFids (premises_of hidden setting) start g session.fids → IsSession setting g session
   session_sound session its sf sg = record {
     msize = its.msize;
     fids = its.fids;
     each =
         each_three (λ fid. IsFid setting f fid.1)
-        (λ fid. HeldFid (house_of hidden setting) start f fid.1)
-        (λ fid. HeldFid (house_of hidden setting) start g fid.1) (λ fid. IsFid setting g fid.1)
+        (λ fid. HeldFid (premises_of hidden setting) start f fid.1)
+        (λ fid. HeldFid (premises_of hidden setting) start g fid.1) (λ fid. IsFid setting g fid.1)
         (λ fid one x y. fid_sound fid.1 one x y) session.fids its.each sf sg;
   }
 
@@ -151,8 +151,8 @@ module _ (hidden : List NodeRef) (setting : Setting) (start : Start) (f g : List
 module _ (hidden : List NodeRef) (start : Start) (a : State) (g : List Server)
     (guarded : IsGuardedState hidden start a) (alike : AreAlike hidden a (record a { forest = g }))
   where
-    abbrev us : House
-    us = house_of hidden a.setting
+    abbrev us : Premises
+    us = premises_of hidden a.setting
 
     abbrev b : State
     b = record a { forest = g }

@@ -11,7 +11,7 @@ use Rattle.p9_step.specs.State.{State}
 use Rattle.p9_step.specs.Event.{Event, IsEvent}
 use Rattle.p9_step.specs.Step.{step}
 use Rattle.p9_step.proofs.Steps.{step-keeps-state}
-use Rattle.p9_guard_laws.specs.Guarded.{House, IsGuardedState, house_of}
+use Rattle.p9_guard_laws.specs.Guarded.{Premises, IsGuardedState, premises_of}
 use Rattle.p9_guard_laws.specs.Grown.{Start}
 use Rattle.p9_guard_laws.specs.Alike.{AreAlike, AreMembersInBoth, ArePlacesInBoth}
 use Rattle.p9_guard_laws.specs.Laws.{AlikeRun, AlikeStep, IsSafeStep}
@@ -25,8 +25,8 @@ use Rattle.p9_guard_laws.proofs.Steps.{Carries, outer_state, step-carries}
 module _ (hidden : List NodeRef) (start : Start) (a : State) (g : List Server) (event : Event)
     (refused : Bool) (guarded : IsGuardedState hidden start a)
     (alike : AreAlike hidden a (record a { forest = g })) (fine : IsEvent event) where
-  abbrev us : House
-  us = house_of hidden a.setting
+  abbrev us : Premises
+  us = premises_of hidden a.setting
 
   abbrev b : State
   b = record a { forest = g }
@@ -104,12 +104,12 @@ module _ (hidden : List NodeRef) (start : Start) (a : State) (g : List Server) (
 
   -- The first is guarded again.
 
-  good_na : Good (house_of hidden na.setting) start na.forest
-  good_na = subst (λ s. Good (house_of hidden s) start na.forest) (sym ca.setting) ca.good
+  good_na : Good (premises_of hidden na.setting) start na.forest
+  good_na = subst (λ s. Good (premises_of hidden s) start na.forest) (sym ca.setting) ca.good
 
-  held_na : AreHeld (house_of hidden na.setting) start na.forest na.sessions
+  held_na : AreHeld (premises_of hidden na.setting) start na.forest na.sessions
   held_na =
-      subst (λ s. AreHeld (house_of hidden s) start na.forest na.sessions) (sym ca.setting) ca.fids
+      subst (λ s. AreHeld (premises_of hidden s) start na.forest na.sessions) (sym ca.setting) ca.fids
 
   pub at_forest : IsSafeStep hidden start a (step a event refused) (step b event refused)
   at_forest = record {

@@ -14,26 +14,26 @@ use Rattle.p9_fids.specs.declared.opened.Opened.{Opened}
 use Rattle.p9_fids.specs.Fid.{Fid, FidRow}
 use Rattle.p9_step.specs.State.{fid_ref}
 use Rattle.p9_cert.specs.Safe.{IsSafe}
-use Rattle.p9_guard_laws.specs.Guarded.{AreHiddenGiven, House, IsCertified}
+use Rattle.p9_guard_laws.specs.Guarded.{AreHiddenGiven, Premises, IsCertified}
 use Rattle.p9_guard_laws.specs.Grown.{Start, grown, next_then}
 
--- a user, with the house's groups
-abbrev pub who_in : House → List ℕ → Who
-who_in house user = record { user = user; groups = house.policy.groups }
+-- a user, with the premises's groups
+abbrev pub who_in : Premises → List ℕ → Who
+who_in premises user = record { user = user; groups = premises.policy.groups }
 
-module _ (house : House) (start : Start) (forest : List Server) where
+module _ (premises : Premises) (start : Start) (forest : List Server) where
   -- a place of a fid was given to a node, is inside no hidden directory, and is safe
   pub record HeldPlace (place : NodeRef) : Type 0 where
     pub given : IsTrue (is_given forest place)
-    pub outside : IsFalse (is_inside place house.policy.hidden forest)
-    pub safe : IsSafe house.policy forest house.table (grown house.policy.hidden start forest) place
+    pub outside : IsFalse (is_inside place premises.policy.hidden forest)
+    pub safe : IsSafe premises.policy forest premises.table (grown premises.policy.hidden start forest) place
 
   -- a fid is a listed user's, and each of its places is safe; it is not open on a hidden directory
   pub record HeldFid (v : Fid) : Type 0 where
-    pub listed : IsTrue (is_listed_user house.policy.users v.user)
+    pub listed : IsTrue (is_listed_user premises.policy.users v.user)
     pub places : AllByRecursion HeldPlace v.trail
     pub shown : (opened : Opened) → v.opened ≡ Some opened
-        → IsFalse (is_hidden (fid_ref house.table v) house.policy.hidden)
+        → IsFalse (is_hidden (fid_ref premises.table v) premises.policy.hidden)
 
   -- so is each fid of a session
   abbrev pub HeldFids : List FidRow → Type 0
@@ -42,7 +42,7 @@ module _ (house : House) (start : Start) (forest : List Server) where
   -- no row of the table is empty, no number is given twice, hidden ones were given, and the grown
   -- certificate is closed
   pub record IsKept : Type 0 where
-    pub table : IsTable house.table
+    pub table : IsTable premises.table
     pub later : (server : ℕ) → next_then start server ≤ next_of server forest
-    pub hidden : AreHiddenGiven house.policy.hidden forest
-    pub closed : IsCertified house forest (grown house.policy.hidden start forest)
+    pub hidden : AreHiddenGiven premises.policy.hidden forest
+    pub closed : IsCertified premises forest (grown premises.policy.hidden start forest)

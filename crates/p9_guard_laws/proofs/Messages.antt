@@ -8,7 +8,7 @@ use Rattle.p9_step.specs.State.{Session, SessionRow, fid_ref}
 use Rattle.p9_step.specs.Open.{is_exclusive, is_in_use, is_taken}
 use Rattle.p9_step.specs.Request.{request_of}
 use Rattle.p9_step.specs.Step.{finds_taken, frame_answer, session_answer}
-use Rattle.p9_guard_laws.proofs.Scene.{SafeFids, Scene, house_in, outer_of}
+use Rattle.p9_guard_laws.proofs.Scene.{SafeFids, Scene, premises_in, outer_of}
 use Rattle.p9_guard_laws.proofs.Agrees.{Agrees, agrees_err, agrees_quiet, agrees_then, fid_found}
 use Rattle.p9_guard_laws.proofs.Attaches.{attach-agrees}
 use Rattle.p9_guard_laws.proofs.Ends.{clunk-agrees, version-agrees}
@@ -68,7 +68,7 @@ module _ (scene : Scene) where
           && is_in_use scene.setting.table (fid_ref scene.setting.table v) sessions) o
           false)
           (fid_file-outer scene v
-          (fid_found (house_in scene) scene.start scene.forest session.fids fid v h e)))
+          (fid_found (premises_in scene) scene.start scene.forest session.fids fid v h e)))
   taken-outer sessions session (Tversion msize version) h = refl
   taken-outer sessions session (Tauth afid uname aname) h = refl
   taken-outer sessions session (Tattach fid afid uname aname) h = refl

@@ -21,7 +21,7 @@ use Rattle.p9_step.specs.ForestChange.{Mark, Cut, EditNode}
 use Rattle.p9_step.specs.declared.opening.Opening.{Opening}
 use Rattle.p9_step.specs.Open.{is_cut, may_open, open_answer, opened_session, truncation}
 use Rattle.p9_step.specs.Opening.{mode_rights, newly_opened, opening_of, wanted_by}
-use Rattle.p9_guard_laws.proofs.Scene.{SafeFid, SafeFids, Scene, house_in, outer_of}
+use Rattle.p9_guard_laws.proofs.Scene.{SafeFid, SafeFids, Scene, premises_in, outer_of}
 use Rattle.p9_guard_laws.proofs.Moves.{Lawful}
 use Rattle.p9_guard_laws.proofs.Agrees.{Agrees, agrees_changes, agrees_given, agrees_need}
 use Rattle.p9_guard_laws.proofs.Agrees.{fid_found, fids_changed}
@@ -103,7 +103,7 @@ module _ (scene : Scene) where
       → fid_at fid session.fids ≡ Some v → SafeFids scene session.fids
       → SafeFids scene (opened_session fid o session).fids
   opened_safe session fid v x o s e can at h =
-      fids_changed (house_in scene) scene.start scene.forest session.fids fid
+      fids_changed (premises_in scene) scene.start scene.forest session.fids fid
       (opened_as (newly_opened o)) v at (record {
         listed = s.listed;
         places = s.places;
@@ -116,11 +116,11 @@ module _ (scene : Scene) where
 
   cut_lawful : (b : Bool) (r : NodeRef) (x : Node) (user : List ℕ) (now : ℕ)
       → node_of r scene.forest ≡ Some x → is_inside r scene.hidden scene.forest ≡ false
-      → Lawful (house_in scene) scene.forest
+      → Lawful (premises_in scene) scene.forest
       (if b then EditNode r (Cut 0) ∷ EditNode r (Mark user now) ∷ [] else [])
   cut_lawful true r x user now e out =
-      two_edits scene r x (Cut 0) (Mark user now) e out (cut_stands (house_in scene) 0)
-      (mark_stands (house_in scene) user now)
+      two_edits scene r x (Cut 0) (Mark user now) e out (cut_stands (premises_in scene) 0)
+      (mark_stands (premises_in scene) user now)
   cut_lawful false r x user now e out = tt
 
   pub open-agrees : (taken : Bool) (session : Session) (now fid bits : ℕ)
@@ -129,7 +129,7 @@ module _ (scene : Scene) where
       (open_answer scene.setting scene.forest taken session now fid bits)
   open-agrees taken session now fid bits h =
       agrees_given scene (fid_at fid session.fids) UnknownFid _ _ (λ v at.
-      let s = fid_found (house_in scene) scene.start scene.forest session.fids fid v h at in
+      let s = fid_found (premises_in scene) scene.start scene.forest session.fids fid v h at in
       let r = fid_ref scene.setting.table v in
       let m = fid_member scene v s in
       agrees_need scene (is_none v.opened) FidOpen _ _ (λ _.

@@ -7,7 +7,6 @@ use Rattle.std.proofs.lemmas.Bool.{or_left, and_parts}
 use Rattle.p9_base.specs.declared.fault.Fault.TheVariants.{PhaseError, UnknownFid}
 use Rattle.p9_base.specs.declared.fault.Fault.TheVariants.{BadDirectoryOffset, FidNotOpen}
 use Rattle.p9_base.specs.User.{is_listed_user}
-use Rattle.p9_base.specs.Results.{obtain}
 use Rattle.p9_tree.specs.Node.{Node, is_dir}
 use Rattle.p9_tree.specs.Forest.{node_of, children_of}
 use Rattle.p9_tree.specs.Inside.{is_barred, is_hidden}
@@ -27,7 +26,7 @@ use Rattle.p9_step.specs.ForestChange.{Touch}
 use Rattle.p9_step.specs.Listing.{UnionEntry, entries_from, entries_of, entry_at, is_listed, listing}
 use Rattle.p9_step.specs.Read.{cursor_at, given_of, listed_session, read_answer, readable}
 use Rattle.p9_step.proofs.KeptFiles.{readable-is}
-use Rattle.p9_guard_laws.proofs.Scene.{SafeFid, SafeFids, Scene, house_in, outer_of}
+use Rattle.p9_guard_laws.proofs.Scene.{SafeFid, SafeFids, Scene, premises_in, outer_of}
 use Rattle.p9_guard_laws.proofs.Walks.{SafeMember, here_safe, SafeMembers, node-outer, same_if}
 use Rattle.p9_guard_laws.proofs.Agrees.{Agrees, agrees_changes, agrees_err, agrees_given}
 use Rattle.p9_guard_laws.proofs.Agrees.{agrees_need, agrees_quiet, fid_found, fids_changed}
@@ -116,7 +115,7 @@ module _ (scene : Scene) where
       → v.opened ≡ Some o → fid_at fid session.fids ≡ Some v → SafeFids scene session.fids
       → SafeFids scene (changed_fid fid (opened_as p) session.fids)
   listed_safe session fid v o p s is at h =
-      fids_changed (house_in scene) scene.start scene.forest session.fids fid (opened_as p) v at
+      fids_changed (premises_in scene) scene.start scene.forest session.fids fid (opened_as p) v at
       (record {
         listed = s.listed;
         places = s.places;
@@ -141,7 +140,7 @@ module _ (scene : Scene) where
       (read_answer scene.setting scene.forest session now fid offset count)
   read-agrees session now fid offset count h =
       agrees_given scene (fid_at fid session.fids) UnknownFid _ _ (λ v at.
-      let s = fid_found (house_in scene) scene.start scene.forest session.fids fid v h at in
+      let s = fid_found (premises_in scene) scene.start scene.forest session.fids fid v h at in
       agrees_given scene (readable v.opened) FidNotOpen _ _ (λ o held.
       let is = readable-is v.opened o held in
       rw (fid_file-outer scene v s)
@@ -153,6 +152,6 @@ module _ (scene : Scene) where
       (λ _. agrees_changes scene _ session _ (
         one_edit scene (fid_ref scene.setting.table v) (Touch now)
             (fid_member scene v s).outside
-            (touch_stands (house_in scene) now),
+            (touch_stands (premises_in scene) now),
         tt,
       ) h)))))

@@ -13,7 +13,7 @@ use Rattle.p9_step.specs.Clunk.{without}
 use Rattle.p9_step.specs.End.{taken_out}
 use Rattle.p9_step.specs.Remove.{removal, remove_answer}
 use Rattle.p9_step.specs.Rights.{may_write_parent}
-use Rattle.p9_guard_laws.proofs.Scene.{SafeFid, SafeFids, Scene, house_in, outer_of}
+use Rattle.p9_guard_laws.proofs.Scene.{SafeFid, SafeFids, Scene, premises_in, outer_of}
 use Rattle.p9_guard_laws.proofs.Agrees.{Agrees, agrees_changes, agrees_given, agrees_need}
 use Rattle.p9_guard_laws.proofs.Agrees.{agrees_outcome, fid_found}
 use Rattle.p9_guard_laws.proofs.Fids.{fid_file-outer, fid_member}
@@ -46,7 +46,7 @@ module _ (scene : Scene) where
       (remove_answer scene.setting scene.forest session now fid)
   remove-agrees session now fid h =
       agrees_given scene (fid_at fid session.fids) UnknownFid _ _ (λ v at.
-      let s = fid_found (house_in scene) scene.start scene.forest session.fids fid v h at in
+      let s = fid_found (premises_in scene) scene.start scene.forest session.fids fid v h at in
       let left = each-remove (SafeFid scene) (is_at (nat_cmp fid)) session.fids h in
       agrees_outcome scene (without fid session) _ _ left
       (removal-agrees (without fid session) now v s left))

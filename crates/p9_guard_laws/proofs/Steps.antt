@@ -17,9 +17,9 @@ use Rattle.p9_step.specs.End.{on_ends}
 use Rattle.p9_step.specs.Memory.{no_memory_reply, ran_out}
 use Rattle.p9_step.specs.Event.{Close, Event, Message, Open}
 use Rattle.p9_step.specs.Step.{Stepped, answered, closed, frame_answer, step, unchanged, with_outcome}
-use Rattle.p9_guard_laws.specs.Guarded.{House, house_of}
+use Rattle.p9_guard_laws.specs.Guarded.{Premises, premises_of}
 use Rattle.p9_guard_laws.specs.Grown.{Start}
-use Rattle.p9_guard_laws.proofs.Scene.{SafeFids, Scene, house_in, scene_of}
+use Rattle.p9_guard_laws.proofs.Scene.{SafeFids, Scene, premises_in, scene_of}
 use Rattle.p9_guard_laws.proofs.Held.{HeldFids}
 use Rattle.p9_guard_laws.proofs.Basics.{each_weaker}
 use Rattle.p9_guard_laws.proofs.Moves.{Lawful}
@@ -33,8 +33,8 @@ abbrev pub outer_state : List NodeRef → State → State
 outer_state hidden st = record st { forest = outer hidden st.forest }
 
 module _ (hidden : List NodeRef) (start : Start) (st : State) where
-  abbrev us_of : House
-  us_of = house_of hidden st.setting
+  abbrev us_of : Premises
+  us_of = premises_of hidden st.setting
 
   -- x is the step without what is inside, y the step
   pub record Carries (x y : Stepped) : Type 0 where
@@ -50,8 +50,8 @@ module _ (hidden : List NodeRef) (start : Start) (st : State) where
     pub inside : (r : NodeRef) → is_inside r hidden y.state.forest ≡ is_inside r hidden st.forest
 
 module _ (hidden : List NodeRef) (start : Start) (st : State)
-    (good : Good (house_of hidden st.setting) start st.forest)
-    (safe : AllByRecursion (λ row. HeldFids (house_of hidden st.setting) start st.forest row.1.fids)
+    (good : Good (premises_of hidden st.setting) start st.forest)
+    (safe : AllByRecursion (λ row. HeldFids (premises_of hidden st.setting) start st.forest row.1.fids)
     st.sessions) where
   abbrev scene : Scene
   scene = scene_of hidden st.setting start st.forest good
@@ -74,14 +74,14 @@ module _ (hidden : List NodeRef) (start : Start) (st : State)
     inside = λ r. refl;
   }
 
-  sessions_after : (cs : List ForestChange) → Lawful (house_in scene) st.forest cs
+  sessions_after : (cs : List ForestChange) → Lawful (premises_in scene) st.forest cs
       → (rows : List SessionRow) → AllByRecursion (λ row. SafeFids scene row.1.fids) rows
       → AllByRecursion
-      (λ row. HeldFids (house_in scene) start (all_applied cs st.forest) row.1.fids) rows
+      (λ row. HeldFids (premises_in scene) start (all_applied cs st.forest) row.1.fids) rows
   sessions_after cs l rows h =
       each_weaker (λ row. SafeFids scene row.1.fids)
-      (λ row. HeldFids (house_in scene) start (all_applied cs st.forest) row.1.fids)
-      (λ row s. fids-all (house_in scene) start st.forest good cs l row.1.fids s) rows h
+      (λ row. HeldFids (premises_in scene) start (all_applied cs st.forest) row.1.fids)
+      (λ row s. fids-all (premises_in scene) start st.forest good cs l row.1.fids s) rows h
 
   session_safe : (name : ℕ) (session : Session) → session_at name st.sessions ≡ Some session
       → SafeFids scene session.fids
@@ -96,17 +96,17 @@ module _ (hidden : List NodeRef) (start : Start) (st : State)
     reply = refl;
     setting = refl;
     same_setting = refl;
-    forest = sym (outer-all (house_in scene) start st.forest good o.changes keeping.lawful);
+    forest = sym (outer-all (premises_in scene) start st.forest good o.changes keeping.lawful);
     sessions = refl;
-    good = good-all (house_in scene) start st.forest good o.changes keeping.lawful;
+    good = good-all (premises_in scene) start st.forest good o.changes keeping.lawful;
     fids =
         each-set
-        (λ (s : Session). HeldFids (house_in scene) start (all_applied o.changes st.forest)
+        (λ (s : Session). HeldFids (premises_in scene) start (all_applied o.changes st.forest)
         s.fids)
         (is_at (nat_cmp name)) st.sessions o.session keeping.fids
         (sessions_after o.changes keeping.lawful st.sessions safe);
-    insides = inner-all (house_in scene) start st.forest good o.changes keeping.lawful;
-    inside = inside-all (house_in scene) start st.forest good o.changes keeping.lawful;
+    insides = inner-all (premises_in scene) start st.forest good o.changes keeping.lawful;
+    inside = inside-all (premises_in scene) start st.forest good o.changes keeping.lawful;
   }
 
   answered-carries : (name : ℕ) (session : Session) (frame : List ℕ) (refused : Bool) (x y : Answer)
@@ -160,15 +160,15 @@ module _ (hidden : List NodeRef) (start : Start) (st : State)
         forest =
             ap (λ z. all_applied z (outer hidden st.forest))
             (ends-outer scene now session.fids h)
-            ∙ sym (outer-all (house_in scene) start st.forest good cs l);
+            ∙ sym (outer-all (premises_in scene) start st.forest good cs l);
         sessions = refl;
-        good = good-all (house_in scene) start st.forest good cs l;
+        good = good-all (premises_in scene) start st.forest good cs l;
         fids =
             each-remove
-            (λ (s : Session). HeldFids (house_in scene) start (all_applied cs st.forest) s.fids)
+            (λ (s : Session). HeldFids (premises_in scene) start (all_applied cs st.forest) s.fids)
             (is_at (nat_cmp name)) st.sessions (sessions_after cs l st.sessions safe);
-        insides = inner-all (house_in scene) start st.forest good cs l;
-        inside = inside-all (house_in scene) start st.forest good cs l;
+        insides = inner-all (premises_in scene) start st.forest good cs l;
+        inside = inside-all (premises_in scene) start st.forest good cs l;
       }
 
   pub step-carries : (event : Event) (refused : Bool)

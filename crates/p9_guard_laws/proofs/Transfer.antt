@@ -21,7 +21,7 @@ use Rattle.p9_space.specs.Row.{member}
 use Rattle.p9_space.specs.Table.{MountRow, row_of}
 use Rattle.p9_fids.specs.Fid.{Fid, FidRow}
 use Rattle.p9_cert.specs.Safe.{IsSafe, IsSafeMember, Set}
-use Rattle.p9_guard_laws.specs.Guarded.{House}
+use Rattle.p9_guard_laws.specs.Guarded.{Premises}
 use Rattle.p9_guard_laws.specs.Grown.{Start, grown}
 use Rattle.p9_guard_laws.specs.Alike.{AreMembersInBoth}
 use Rattle.p9_guard_laws.proofs.Held.{HeldFid, HeldFids, HeldPlace}
@@ -29,55 +29,55 @@ use Rattle.p9_guard_laws.proofs.Basics.{each_two}
 use Rattle.p9_guard_laws.proofs.Stays.{dir_there, grown_from, grown_parts, is_dir_there}
 use Rattle.p9_guard_laws.proofs.Good.{Good}
 
-module _ (house : House) (start : Start) (f g : List Server) (good : Good house start f)
-    (og : Ordered g) (same : outer house.policy.hidden g ≡ outer house.policy.hidden f)
-    (tables : AreMembersInBoth f g house.table) where
+module _ (premises : Premises) (start : Start) (f g : List Server) (good : Good premises start f)
+    (og : Ordered g) (same : outer premises.policy.hidden g ≡ outer premises.policy.hidden f)
+    (tables : AreMembersInBoth f g premises.table) where
   abbrev before : Set
-  before = grown house.policy.hidden start f
+  before = grown premises.policy.hidden start f
 
   abbrev after : Set
-  after = grown house.policy.hidden start g
+  after = grown premises.policy.hidden start g
 
   given_same : (r : NodeRef) → is_given g r ≡ is_given f r
-  given_same r = ap (nat_lt r.number) (next_same house.policy.hidden f g same r.server)
+  given_same r = ap (nat_lt r.number) (next_same premises.policy.hidden f g same r.server)
 
   pub grown_there : (r : NodeRef) → before r ≡ true → after r ≡ true
   grown_there r t =
-      let w = grown_parts house start f r t in
+      let w = grown_parts premises start f r t in
       let d = dir_there f r w.dir in
-      let s = seen house.policy.hidden f g og same r d.0 d.1 w.outside in
-      grown_from house start g r
+      let s = seen premises.policy.hidden f g og same r d.0 d.1 w.outside in
+      grown_from premises start g r
       (record { dir = is_dir_there g r d.0 s.0 d.2; outside = s.1; row = w.row })
 
   grown_back : (r : NodeRef) → after r ≡ true → before r ≡ true
   grown_back r t =
-      let w = grown_parts house start g r t in
+      let w = grown_parts premises start g r t in
       let d = dir_there g r w.dir in
-      let s = seen house.policy.hidden g f good.ordered (sym same) r d.0 d.1 w.outside in
-      grown_from house start f r
+      let s = seen premises.policy.hidden g f good.ordered (sym same) r d.0 d.1 w.outside in
+      grown_from premises start f r
       (record { dir = is_dir_there f r d.0 s.0 d.2; outside = s.1; row = w.row })
 
   member_there : (r : NodeRef)
-      → is_inside r house.policy.hidden g ≡ is_inside r house.policy.hidden f
-      → IsSafeMember house.policy f before r → IsSafeMember house.policy g after r
+      → is_inside r premises.policy.hidden g ≡ is_inside r premises.policy.hidden f
+      → IsSafeMember premises.policy f before r → IsSafeMember premises.policy g after r
   member_there r i h = record {
     outside = out;
     shut = λ hid x e. h.shut hid x (sym one ∙ e);
     guarded =
         λ hid x e p d q w.
         let po =
-        not_inside house.policy.hidden g og (beside r p)
-        (parent_not_barred house.policy.hidden g r x p e q out) in
+        not_inside premises.policy.hidden g og (beside r p)
+        (parent_not_barred premises.policy.hidden g r x p e q out) in
         h.guarded hid x (sym one ∙ e) p d q
-        (seen house.policy.hidden g f good.ordered (sym same) (beside r p) d w po).0;
+        (seen premises.policy.hidden g f good.ordered (sym same) (beside r p) d w po).0;
     covered = λ x e pass. grown_there r (h.covered x (sym one ∙ e) pass);
   }
     where
-      out : is_inside r house.policy.hidden g ≡ false
+      out : is_inside r premises.policy.hidden g ≡ false
       out = i ∙ h.outside
 
       one : node_of r g ≡ node_of r f
-      one = node_same house.policy.hidden f g good.ordered og same r out h.outside
+      one = node_same premises.policy.hidden f g good.ordered og same r out h.outside
 
   row_alike : (rows : List MountRow) → AreMembersInBoth f g rows → (p : NodeRef) (ms : List Member)
       → row_of p rows ≡ Some ms → AllByRecursion (λ m. IsInBoth f g m.node) ms
@@ -92,43 +92,43 @@ module _ (house : House) (start : Start) (f g : List Server) (good : Good house 
           subst (λ zs. AllByRecursion (λ (m : Member). IsInBoth f g m.node) zs) is all.0
       go false t later = later t
 
-  place_there : (p : NodeRef) → IsInBoth f g p → IsSafe house.policy f house.table before p
-      → IsSafe house.policy g house.table after p
-  place_there p both h = go (row_of p house.table) refl h
+  place_there : (p : NodeRef) → IsInBoth f g p → IsSafe premises.policy f premises.table before p
+      → IsSafe premises.policy g premises.table after p
+  place_there p both h = go (row_of p premises.table) refl h
     where
       each : (ms : List Member) → AllByRecursion (λ m. IsInBoth f g m.node) ms
-          → AllByRecursion (λ m. IsSafeMember house.policy f before m.node) ms
-          → AllByRecursion (λ m. IsSafeMember house.policy g after m.node) ms
+          → AllByRecursion (λ m. IsSafeMember premises.policy f before m.node) ms
+          → AllByRecursion (λ m. IsSafeMember premises.policy g after m.node) ms
       each [] a b = tt
       each (m ∷ ms) a b = (
-        member_there m.node (inside_alike house.policy.hidden f g good.ordered og same m.node a.0)
+        member_there m.node (inside_alike premises.policy.hidden f g good.ordered og same m.node a.0)
             b.0,
         each ms a.1 b.1,
       )
 
-      go : (o : Option (List Member)) → row_of p house.table ≡ o
-          → AllByRecursion (λ m. IsSafeMember house.policy f before m.node)
+      go : (o : Option (List Member)) → row_of p premises.table ≡ o
+          → AllByRecursion (λ m. IsSafeMember premises.policy f before m.node)
           (unwrap_or o (member true p ∷ []))
-          → AllByRecursion (λ m. IsSafeMember house.policy g after m.node)
+          → AllByRecursion (λ m. IsSafeMember premises.policy g after m.node)
           (unwrap_or o (member true p ∷ []))
       go None e all = each (member true p ∷ []) (both, tt) all
-      go (Some ms) e all = each ms (row_alike house.table tables p ms e) all
+      go (Some ms) e all = each ms (row_alike premises.table tables p ms e) all
 
   -- a place that is outside in both
-  outside_both : (p : NodeRef) → is_inside p house.policy.hidden g ≡ false
-      → is_inside p house.policy.hidden f ≡ false → IsInBoth f g p
-  outside_both p a b = in_both house.policy.hidden f g good.ordered og same p (a ∙ sym b)
+  outside_both : (p : NodeRef) → is_inside p premises.policy.hidden g ≡ false
+      → is_inside p premises.policy.hidden f ≡ false → IsInBoth f g p
+  outside_both p a b = in_both premises.policy.hidden f g good.ordered og same p (a ∙ sym b)
 
   child_there : (r : NodeRef) (k : ℕ) (x : Node) → after r ≡ true → node_of (beside r k) g ≡ Some x
-      → x.parent ≡ Some r.number → IsSafe house.policy g house.table after (beside r k)
+      → x.parent ≡ Some r.number → IsSafe premises.policy g premises.table after (beside r k)
   child_there r k x t e q =
       let w = good.kept.closed.rows r (grown_back r t) in
-      let wg = grown_parts house start g r t in
-      let nb : is_barred r house.policy.hidden g ≡ false =
-      not_barred house.policy.hidden g og r w.not_hidden wg.outside in
-      let out : is_inside (beside r k) house.policy.hidden g ≡ false =
-      inside_at house.policy.hidden g (beside r k) x r.number e q ∙ nb in
-      let s = seen house.policy.hidden g f good.ordered (sym same) (beside r k) x e out in
+      let wg = grown_parts premises start g r t in
+      let nb : is_barred r premises.policy.hidden g ≡ false =
+      not_barred premises.policy.hidden g og r w.not_hidden wg.outside in
+      let out : is_inside (beside r k) premises.policy.hidden g ≡ false =
+      inside_at premises.policy.hidden g (beside r k) x r.number e q ∙ nb in
+      let s = seen premises.policy.hidden g f good.ordered (sym same) (beside r k) x e out in
       place_there (beside r k) (outside_both (beside r k) out s.1)
       (good.kept.closed.children r k x (grown_back r t) s.0 q)
 
@@ -141,40 +141,40 @@ module _ (house : House) (start : Start) (f g : List Server) (good : Good house 
   table_given [] = refl
   table_given (row ∷ rows) = rw (given_same row.0, members_given row.1, table_given rows) refl
 
-  pub good_there : Good house start g
+  pub good_there : Good premises start g
   good_there = record {
     ordered = og;
     kept = record {
       table = good.kept.table;
-      later = λ s. rw (next_same house.policy.hidden f g same s) (good.kept.later s);
+      later = λ s. rw (next_same premises.policy.hidden f g same s) (good.kept.later s);
       hidden = λ r t. given_same r ∙ good.kept.hidden r t;
       closed = record {
-        given = table_given house.table ∙ good.kept.closed.given;
+        given = table_given premises.table ∙ good.kept.closed.given;
         rows =
-            λ r t. let w = grown_parts house start g r t in record {
+            λ r t. let w = grown_parts premises start g r t in record {
               dir = w.dir;
               not_hidden = (good.kept.closed.rows r (grown_back r t)).not_hidden;
               outside = w.outside;
             };
         root =
             place_there root_place
-            (outside_both root_place (root_outside house.policy.hidden g og)
-            (root_outside house.policy.hidden f good.ordered))
+            (outside_both root_place (root_outside premises.policy.hidden g og)
+            (root_outside premises.policy.hidden f good.ordered))
             good.kept.closed.root;
         children = child_there;
       };
     };
   }
 
-  pub fid_there : (v : Fid) → AllByRecursion (IsInBoth f g) v.trail → HeldFid house start f v
-      → HeldFid house start g v
+  pub fid_there : (v : Fid) → AllByRecursion (IsInBoth f g) v.trail → HeldFid premises start f v
+      → HeldFid premises start g v
   fid_there v both h = record {
     listed = h.listed;
     places =
-        each_two (IsInBoth f g) (HeldPlace house start f) (HeldPlace house start g)
+        each_two (IsInBoth f g) (HeldPlace premises start f) (HeldPlace premises start g)
         (λ p b s. record {
           given = given_same p ∙ s.given;
-          outside = inside_alike house.policy.hidden f g good.ordered og same p b ∙ s.outside;
+          outside = inside_alike premises.policy.hidden f g good.ordered og same p b ∙ s.outside;
           safe = place_there p b s.safe;
         }) v.trail both h.places;
     shown = h.shown;
@@ -182,8 +182,8 @@ module _ (house : House) (start : Start) (f g : List Server) (good : Good house 
 
   pub fids_there : (fids : List FidRow)
       → AllByRecursion (λ fid. AllByRecursion (IsInBoth f g) fid.1.trail) fids
-      → HeldFids house start f fids → HeldFids house start g fids
+      → HeldFids premises start f fids → HeldFids premises start g fids
   fids_there fids both h =
       each_two (λ fid. AllByRecursion (IsInBoth f g) fid.1.trail)
-      (λ fid. HeldFid house start f fid.1)
-      (λ fid. HeldFid house start g fid.1) (λ fid b s. fid_there fid.1 b s) fids both h
+      (λ fid. HeldFid premises start f fid.1)
+      (λ fid. HeldFid premises start g fid.1) (λ fid b s. fid_there fid.1 b s) fids both h

@@ -11,7 +11,7 @@ use Rattle.p9_fids.specs.Fid.{Fid, fid_at, trailed}
 use Rattle.p9_step.specs.State.{Session}
 use Rattle.p9_step.specs.Walk.{ended_walk, moved, walk_answer}
 use Rattle.p9_step.proofs.Passed.{is_none-None}
-use Rattle.p9_guard_laws.proofs.Scene.{SafeFid, SafeFids, Scene, house_in, outer_of}
+use Rattle.p9_guard_laws.proofs.Scene.{SafeFid, SafeFids, Scene, premises_in, outer_of}
 use Rattle.p9_guard_laws.proofs.Walks.{SafeTrail, walked-outer, walked_safe}
 use Rattle.p9_guard_laws.proofs.Agrees.{Agrees, agrees_err, agrees_given, agrees_need, agrees_ok}
 use Rattle.p9_guard_laws.proofs.Agrees.{agrees_quiet, agrees_unless, fid_found, fids_changed}
@@ -27,7 +27,7 @@ module _ (scene : Scene) where
       go : (b : Bool) → (newfid == fid) ≡ b → SafeFids scene (moved fid newfid v trail session).fids
       go true e =
           rw e
-          (fids_changed (house_in scene) scene.start scene.forest session.fids fid
+          (fids_changed (premises_in scene) scene.start scene.forest session.fids fid
           (trailed trail) v at (record {
             listed = s.listed;
             places = all;
@@ -62,7 +62,7 @@ module _ (scene : Scene) where
       (walk_answer scene.setting scene.forest session fid newfid names)
   walk-agrees session fid newfid names h =
       agrees_given scene (fid_at fid session.fids) UnknownFid _ _ (λ v at.
-      let s = fid_found (house_in scene) scene.start scene.forest session.fids fid v h at in
+      let s = fid_found (premises_in scene) scene.start scene.forest session.fids fid v h at in
       agrees_need scene (is_none v.opened) FidOpen _ _ (λ shut.
       agrees_unless scene _ _ _ (λ _.
       rw (walked-outer scene v.user s.listed v.trail names s.places)

@@ -39,7 +39,7 @@ use Rattle.p9_step.specs.Walk.{Arrival, arrival, arrived_by, step_and_rest, trai
 use Rattle.p9_cert.specs.Listed.{is_passable, may_pass}
 use Rattle.p9_cert.specs.Safe.{IsSafe, IsSafeMember, Set}
 use Rattle.p9_guard_laws.specs.Grown.{grown}
-use Rattle.p9_guard_laws.proofs.Scene.{Scene, house_in, outer_of}
+use Rattle.p9_guard_laws.proofs.Scene.{Scene, premises_in, outer_of}
 use Rattle.p9_guard_laws.proofs.Held.{HeldPlace}
 use Rattle.p9_guard_laws.proofs.Basics.{each_weaker, some_may}
 
@@ -74,13 +74,13 @@ module _ (P : NodeRef → Type 0) where
 
 module _ (scene : Scene) where
   abbrev pub certified : Set
-  certified = grown (house_in scene).policy.hidden scene.start scene.forest
+  certified = grown (premises_in scene).policy.hidden scene.start scene.forest
 
   abbrev pub SafeMember : NodeRef → Type 0
-  SafeMember = IsSafeMember (house_in scene).policy scene.forest certified
+  SafeMember = IsSafeMember (premises_in scene).policy scene.forest certified
 
   abbrev pub SafePlace : NodeRef → Type 0
-  SafePlace = HeldPlace (house_in scene) scene.start scene.forest
+  SafePlace = HeldPlace (premises_in scene) scene.start scene.forest
 
   abbrev pub SafeTrail : List NodeRef → Type 0
   SafeTrail trail = AllByRecursion SafePlace trail
@@ -94,7 +94,7 @@ module _ (scene : Scene) where
 
   -- the file of a safe place
   pub file_safe : (p : NodeRef)
-      → IsSafe (house_in scene).policy scene.forest (house_in scene).table certified p
+      → IsSafe (premises_in scene).policy scene.forest (premises_in scene).table certified p
       → SafeMember (file_ref p scene.setting.table)
   file_safe p h =
       go (members_of p scene.setting.table) h
@@ -105,19 +105,19 @@ module _ (scene : Scene) where
       go (m ∷ ms) all some = all.0
 
   pub file-outer : (p : NodeRef)
-      → IsSafe (house_in scene).policy scene.forest (house_in scene).table certified p
+      → IsSafe (premises_in scene).policy scene.forest (premises_in scene).table certified p
       → file_of p scene.setting.table (outer_of scene) ≡ file_of p scene.setting.table scene.forest
   file-outer p h = node-outer (file_ref p scene.setting.table) (file_safe p h)
 
   -- where a safe trail ends
   pub here_safe : (trail : List NodeRef) → SafeTrail trail
-      → IsSafe (house_in scene).policy scene.forest (house_in scene).table certified (here trail)
+      → IsSafe (premises_in scene).policy scene.forest (premises_in scene).table certified (here trail)
   here_safe trail all =
-      each_at (IsSafe (house_in scene).policy scene.forest (house_in scene).table certified) trail
+      each_at (IsSafe (premises_in scene).policy scene.forest (premises_in scene).table certified) trail
       (length trail - 1)
       (record { server = 0; number = 0 })
       (each_weaker SafePlace
-      (IsSafe (house_in scene).policy scene.forest (house_in scene).table certified)
+      (IsSafe (premises_in scene).policy scene.forest (premises_in scene).table certified)
       (λ p h. h.safe) trail
       all)
       scene.good.kept.closed.root

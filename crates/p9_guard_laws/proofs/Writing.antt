@@ -7,7 +7,7 @@ use Rattle.p9_fids.specs.Fid.{Fid, fid_at}
 use Rattle.p9_step.specs.State.{Session, fid_file, fid_ref}
 use Rattle.p9_step.specs.ForestChange.{Mark, Overwrite}
 use Rattle.p9_step.specs.Write.{is_writable, write_answer, write_file, write_place}
-use Rattle.p9_guard_laws.proofs.Scene.{SafeFid, SafeFids, Scene, house_in, outer_of}
+use Rattle.p9_guard_laws.proofs.Scene.{SafeFid, SafeFids, Scene, premises_in, outer_of}
 use Rattle.p9_guard_laws.proofs.Agrees.{Agrees, agrees_changes, agrees_given, agrees_need}
 use Rattle.p9_guard_laws.proofs.Agrees.{agrees_quiet, fid_found}
 use Rattle.p9_guard_laws.proofs.Fids.{fid_file-outer, fid_member}
@@ -25,8 +25,8 @@ module _ (scene : Scene) where
       agrees_changes scene _ session _
       (two_edits scene (fid_ref scene.setting.table v) x (Overwrite (write_place offset x) (b ∷ bs))
       (Mark v.user now) e
-      (fid_member scene v s).outside (write_stands (house_in scene) _ _)
-      (mark_stands (house_in scene) v.user now)) h)
+      (fid_member scene v s).outside (write_stands (premises_in scene) _ _)
+      (mark_stands (premises_in scene) v.user now)) h)
 
   pub write-agrees : (session : Session) (now fid offset : ℕ) (bytes : List ℕ)
       → SafeFids scene session.fids
@@ -34,7 +34,7 @@ module _ (scene : Scene) where
       (write_answer scene.setting scene.forest session now fid offset bytes)
   write-agrees session now fid offset bytes h =
       agrees_given scene (fid_at fid session.fids) UnknownFid _ _ (λ v at.
-      let s = fid_found (house_in scene) scene.start scene.forest session.fids fid v h at in
+      let s = fid_found (premises_in scene) scene.start scene.forest session.fids fid v h at in
       agrees_need scene (is_writable v) FidNotOpen _ _ (λ _.
       rw (fid_file-outer scene v s)
       (agrees_given scene (fid_file scene.setting.table scene.forest v) PhaseError _ _ (λ x e.

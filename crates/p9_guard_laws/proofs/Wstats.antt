@@ -33,8 +33,8 @@ use Rattle.p9_step.specs.Wstat.{mode_fault, name_fault, node_change, rewriting, 
 use Rattle.p9_step.specs.Wstat.{touched_of, wstat_answer, wstat_fault}
 use Rattle.p9_step.proofs.Permits.{Permits, kind_kept, no_if, nothing_refuses}
 use Rattle.p9_cert.specs.Listed.{is_owned}
-use Rattle.p9_guard_laws.specs.Guarded.{House}
-use Rattle.p9_guard_laws.proofs.Scene.{SafeFids, Scene, house_in, outer_of}
+use Rattle.p9_guard_laws.specs.Guarded.{Premises}
+use Rattle.p9_guard_laws.proofs.Scene.{SafeFids, Scene, premises_in, outer_of}
 use Rattle.p9_guard_laws.proofs.Held.{who_in}
 use Rattle.p9_guard_laws.proofs.Basics.{some_may}
 use Rattle.p9_guard_laws.proofs.Moves.{Lawful, SameStanding, LawfulEdit, SameRights}
@@ -50,11 +50,11 @@ new_kind : (mode : Option Mode) (n : Node)
 new_kind None n kept = refl
 new_kind (Some m) n kept = kept m refl
 
-module _ (house : House) (user : List ℕ) (f : List Server) (at : NodeRef) (n : Node) (t : Touched)
-    (none : wstat_fault (who_in house user) f at n t ≡ None)
-    (listed : is_listed_user house.policy.users user ≡ true) (now : ℕ) where
+module _ (premises : Premises) (user : List ℕ) (f : List Server) (at : NodeRef) (n : Node) (t : Touched)
+    (none : wstat_fault (who_in premises user) f at n t ≡ None)
+    (listed : is_listed_user premises.policy.users user ≡ true) (now : ℕ) where
   abbrev who : Who
-  who = who_in house user
+  who = who_in premises user
 
   -- the node after the wstat
   abbrev m : Node
@@ -77,55 +77,55 @@ module _ (house : House) (user : List ℕ) (f : List Server) (at : NodeRef) (n :
 
   -- a node that the user rules before and after is owned before and after
   owned_both : rules who n ≡ true → rules who m ≡ true
-      → (is_owned house.policy.users house.policy.groups n ≡ true)
-      × (is_owned house.policy.users house.policy.groups m ≡ true)
+      → (is_owned premises.policy.users premises.policy.groups n ≡ true)
+      × (is_owned premises.policy.users premises.policy.groups m ≡ true)
   unfolding is_owned
   owned_both before after = (
-    some_may (λ u. rules (who_in house u) n) house.policy.users user listed before,
-    some_may (λ u. rules (who_in house u) m) house.policy.users user listed after,
+    some_may (λ u. rules (who_in premises u) n) premises.policy.users user listed before,
+    some_may (λ u. rules (who_in premises u) m) premises.policy.users user listed after,
   )
 
   -- the owner stays the owner
-  by_owner : bytes_eq n.uid user ≡ true → (is_owned house.policy.users house.policy.groups n ≡ true)
-      × (is_owned house.policy.users house.policy.groups m ≡ true)
+  by_owner : bytes_eq n.uid user ≡ true → (is_owned premises.policy.users premises.policy.groups n ≡ true)
+      × (is_owned premises.policy.users premises.policy.groups m ≡ true)
   unfolding edited
   by_owner own =
-      owned_both (or_left (bytes_eq n.uid user) (leads house.policy.groups n.gid user) own)
-      (or_left (bytes_eq n.uid user) (leads house.policy.groups m.gid user) own)
+      owned_both (or_left (bytes_eq n.uid user) (leads premises.policy.groups n.gid user) own)
+      (or_left (bytes_eq n.uid user) (leads premises.policy.groups m.gid user) own)
 
   -- who leads both groups rules the node before and after
-  by_leader : (gid : List ℕ) → t.gid ≡ Some gid → leads house.policy.groups n.gid user ≡ true
-      → leads house.policy.groups gid user ≡ true
-      → (is_owned house.policy.users house.policy.groups n ≡ true)
-      × (is_owned house.policy.users house.policy.groups m ≡ true)
+  by_leader : (gid : List ℕ) → t.gid ≡ Some gid → leads premises.policy.groups n.gid user ≡ true
+      → leads premises.policy.groups gid user ≡ true
+      → (is_owned premises.policy.users premises.policy.groups n ≡ true)
+      × (is_owned premises.policy.users premises.policy.groups m ≡ true)
   unfolding edited
   by_leader gid is old new =
-      owned_both (or_right (bytes_eq n.uid user) (leads house.policy.groups n.gid user) old)
-      (or_right (bytes_eq n.uid user) (leads house.policy.groups m.gid user)
-      (ap (λ o. leads house.policy.groups (unwrap_or o n.gid) user) is ∙ new))
+      owned_both (or_right (bytes_eq n.uid user) (leads premises.policy.groups n.gid user) old)
+      (or_right (bytes_eq n.uid user) (leads premises.policy.groups m.gid user)
+      (ap (λ o. leads premises.policy.groups (unwrap_or o n.gid) user) is ∙ new))
 
   by_group : (gid : List ℕ) → t.gid ≡ Some gid
-      → (is_owned house.policy.users house.policy.groups n ≡ true)
-      × (is_owned house.policy.users house.policy.groups m ≡ true)
+      → (is_owned premises.policy.users premises.policy.groups n ≡ true)
+      × (is_owned premises.policy.users premises.policy.groups m ≡ true)
   by_group gid is =
-      elim (or_cases (bytes_eq n.uid user && is_member house.policy.groups gid user)
-      (leads house.policy.groups n.gid user && leads house.policy.groups gid user) (gives gid is)) [
+      elim (or_cases (bytes_eq n.uid user && is_member premises.policy.groups gid user)
+      (leads premises.policy.groups n.gid user && leads premises.policy.groups gid user) (gives gid is)) [
         | inl owner ↦ by_owner (and_parts (bytes_eq n.uid user) _ owner).0
         | inr leader ↦
-            (let both = and_parts (leads house.policy.groups n.gid user) _ leader in
+            (let both = and_parts (leads premises.policy.groups n.gid user) _ leader in
             by_leader gid is both.0 both.1)
       ]
 
   by_mode : t.gid ≡ None → rules who n ≡ true
-      → (is_owned house.policy.users house.policy.groups n ≡ true)
-      × (is_owned house.policy.users house.policy.groups m ≡ true)
+      → (is_owned premises.policy.users premises.policy.groups n ≡ true)
+      × (is_owned premises.policy.users premises.policy.groups m ≡ true)
   unfolding edited
   by_mode is rule =
       owned_both rule
-      (ap (λ o. bytes_eq n.uid user || leads house.policy.groups (unwrap_or o n.gid) user) is
+      (ap (λ o. bytes_eq n.uid user || leads premises.policy.groups (unwrap_or o n.gid) user) is
       ∙ rule)
 
-  pub rewrite_stands : SameStanding house n m
+  pub rewrite_stands : SameStanding premises n m
   unfolding edited
   rewrite_stands = record {
     parent = refl;
@@ -136,8 +136,8 @@ module _ (house : House) (user : List ℕ) (f : List Server) (at : NodeRef) (n :
     where
       go : (mode : Option ℕ) (gid : Option (List ℕ)) → t.mode ≡ mode → t.gid ≡ gid
           → SameRights n m
-          ⊎ ((is_owned house.policy.users house.policy.groups n ≡ true)
-          × (is_owned house.policy.users house.policy.groups m ≡ true))
+          ⊎ ((is_owned premises.policy.users premises.policy.groups n ≡ true)
+          × (is_owned premises.policy.users premises.policy.groups m ≡ true))
       go mode (Some g) a b = inr (by_group g b)
       go (Some bits) None a b = inr (by_mode b (mode_rules bits a))
       go None None a b =
@@ -189,22 +189,22 @@ module _ (scene : Scene) where
       → is_listed_user scene.setting.users user ≡ true → node_of r scene.forest ≡ Some x
       → is_inside r scene.hidden scene.forest ≡ false
       → wstat_fault (who_of scene.setting user) scene.forest r x t ≡ None
-      → Lawful (house_in scene) scene.forest (rewriting user now r x t)
+      → Lawful (premises_in scene) scene.forest (rewriting user now r x t)
   rewriting_lawful user now r x t listed e out none = go (is_any t)
     where
-      first : LawfulEdit (house_in scene) scene.forest r (Rewrite (node_change user now t))
+      first : LawfulEdit (premises_in scene) scene.forest r (Rewrite (node_change user now t))
       first = record {
         outside = out;
         standing =
             λ y there. subst
-            (λ (z : Node). SameStanding (house_in scene) z
+            (λ (z : Node). SameStanding (premises_in scene) z
             (edited (Rewrite (node_change user now t)) z))
             (some_same x y (sym e ∙ there))
-            (rewrite_stands (house_in scene) user scene.forest r x t none listed now);
+            (rewrite_stands (premises_in scene) user scene.forest r x t none listed now);
       }
 
       go : (b : Bool)
-          → Lawful (house_in scene) scene.forest
+          → Lawful (premises_in scene) scene.forest
           (if b then EditNode r (Rewrite (node_change user now t)) ∷ parent_marked user now r
           x.parent else [])
       go true = (
@@ -220,7 +220,7 @@ module _ (scene : Scene) where
       (wstat_answer scene.setting scene.forest session now fid wanted)
   wstat-agrees session now fid wanted h =
       agrees_given scene (fid_at fid session.fids) UnknownFid _ _ (λ v at.
-      let s = fid_found (house_in scene) scene.start scene.forest session.fids fid v h at in
+      let s = fid_found (premises_in scene) scene.start scene.forest session.fids fid v h at in
       let r = fid_ref scene.setting.table v in
       let out = (fid_member scene v s).outside in
       rw (fid_file-outer scene v s)

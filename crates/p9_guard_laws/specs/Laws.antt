@@ -12,7 +12,7 @@ use Rattle.p9_cert.specs.declared.gap.Gap.{Gap}
 use Rattle.p9_cert.specs.Gap.{first_gap}
 use Rattle.p9_cert.specs.Rows.{is_row}
 use Rattle.p9_guard_laws.specs.Grown.{Start, start_of}
-use Rattle.p9_guard_laws.specs.Guarded.{AreHiddenGiven, IsCertified, IsGuardedState, house_of}
+use Rattle.p9_guard_laws.specs.Guarded.{AreHiddenGiven, IsCertified, IsGuardedState, premises_of}
 use Rattle.p9_guard_laws.specs.Alike.{AreAlike}
 
 -- a state that has a closed certificate, and no sessions, is guarded
@@ -20,7 +20,7 @@ abbrev pub CertifiedIsGuarded : Type 0
 CertifiedIsGuarded =
     (hidden rows : List NodeRef) (state : State) → IsState state
     → AreHiddenGiven hidden state.forest
-    → IsCertified (house_of hidden state.setting) state.forest (is_row rows) → state.sessions ≡ []
+    → IsCertified (premises_of hidden state.setting) state.forest (is_row rows) → state.sessions ≡ []
     → IsGuardedState hidden (start_of rows state.forest) state
 
 -- what a step makes of two alike states: the same bytes, and alike states, the first guarded;
@@ -64,15 +64,15 @@ AlikeGuarded =
 -- the first gap of a certificate over the forest and the mount table of a state
 abbrev pub gap_in : List NodeRef → List NodeRef → State → Option Gap
 gap_in hidden rows state =
-    first_gap (house_of hidden state.setting).policy state.forest state.setting.table rows
+    first_gap (premises_of hidden state.setting).policy state.forest state.setting.table rows
 
 -- a certificate is closed for both of two alike worlds, or for neither
 abbrev pub AlikeClosed : Type 0
 AlikeClosed =
     (hidden rows : List NodeRef) (a b : State) → IsForest a.forest → IsSetting a.setting
     → AreHiddenGiven hidden a.forest → AreAlike hidden a b
-    → (IsCertified (house_of hidden a.setting) a.forest (is_row rows)
-    ↔ IsCertified (house_of hidden b.setting) b.forest (is_row rows))
+    → (IsCertified (premises_of hidden a.setting) a.forest (is_row rows)
+    ↔ IsCertified (premises_of hidden b.setting) b.forest (is_row rows))
 
 -- and has no gap for both, or for neither
 abbrev pub AlikeVerified : Type 0

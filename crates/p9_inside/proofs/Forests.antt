@@ -1,16 +1,20 @@
 -- Forests without what is inside, server by server.
 use Rattle.std.proofs.Common.{◌≡◌, ◌<◌, ℕ, List, [], Option, Some, None, slice_get, refl, ap, ◌∙◌}
 use Rattle.std.proofs.Common.{arith, All}
-use Rattle.std.specs.Prelude.{option_map, unwrap_or}
+use Rattle.std.specs.Prelude.{false, option_and_then, option_map, unwrap_or}
+use Rattle.std.specs.Option.{option_map_or}
 use Rattle.p9_base.specs.declared.node_ref.NodeRef.{NodeRef}
 use Rattle.p9_tree.specs.Server.{Server, with_nodes}
-use Rattle.p9_tree.specs.Forest.{server_at, IsForest, no_server}
+use Rattle.p9_base.specs.NodeRef.{beside}
+use Rattle.p9_tree.specs.Node.{Node}
+use Rattle.p9_tree.specs.Forest.{server_at, IsForest, no_server, node_of}
 use Rattle.p9_tree.specs.Inside.{hidden_on, is_hidden, is_barred, is_inside, outer_server, outer}
-use Rattle.p9_tree.specs.Inside.{inner_nodes, inner}
+use Rattle.p9_tree.specs.Inside.{barred_from, inner_nodes, inner, is_barred_at, is_inner}
 use Rattle.p9_inside.specs.Lookups.{KeepsNode, KeepsDirTest, KeepsBytes, KeepsChild}
 use Rattle.p9_inside.specs.Lookups.{KeepsChildAfter, KeepsChildren, KeepsNext}
 use Rattle.p9_inside.specs.Meaning.{InsideByParent, InsidesAreSplit, PassIsChain}
 use Rattle.p9_inside.specs.Meaning.{BarredIsHiddenOrInside, OnlyNodesHide, SameAtServer}
+use Rattle.p9_inside.specs.Meaning.{is_hidden_or_inside}
 use Rattle.p9_inside.proofs.EachServer.{each_server-agree, slice_get-each_server}
 use Rattle.p9_inside.proofs.Pass.{IsOrdered, barred-is_among}
 use Rattle.p9_inside.proofs.Chain.{ordered, inside_chain, server_only_nodes_hide}
@@ -111,9 +115,38 @@ barred_is_hidden_or_inside hidden forest r w =
     barred-is_among (hidden_on r.server hidden) (server_at r.server forest).nodes r.number
     (server_ordered forest w r.server)
 
-pub inside_by_parent : InsideByParent
+-- the parent of a number's node, if it has one
+abbrev pub parent_of : NodeRef → List Server → Option ℕ
+parent_of r forest = option_and_then (λ n. n.parent) (node_of r forest)
+
+-- the pass takes a node to be inside where its parent is barred
+pub inside_by_barred_parent : (hidden : List NodeRef) (forest : List Server) (r : NodeRef)
+    → is_inside r hidden forest
+    ≡ option_map_or (λ parent. is_barred (beside r parent) hidden forest) (parent_of r forest) false
 unfolding is_inside is_barred
-inside_by_parent hidden forest r = refl
+inside_by_barred_parent hidden forest r = go (node_of r forest)
+  where
+    hidden_there : List ℕ
+    hidden_there = hidden_on r.server hidden
+
+    nodes : List Node
+    nodes = (server_at r.server forest).nodes
+
+    go : (o : Option Node) → option_map_or (is_inner (barred_from hidden_there nodes)) o false
+        ≡ option_map_or (λ parent. is_barred_at parent hidden_there nodes)
+        (option_and_then (λ n. n.parent) o) false
+    go None = refl
+    go (Some n) = refl
+
+pub inside_by_parent : InsideByParent
+inside_by_parent hidden forest r w =
+    inside_by_barred_parent hidden forest r ∙ go (parent_of r forest)
+  where
+    go : (o : Option ℕ)
+        → option_map_or (λ parent. is_barred (beside r parent) hidden forest) o false
+        ≡ option_map_or (λ parent. is_hidden_or_inside hidden forest (beside r parent)) o false
+    go None = refl
+    go (Some parent) = barred_is_hidden_or_inside hidden forest (beside r parent) w
 
 -- the insides of one server
 nodes_of-inner : (server : ℕ) (hidden : List NodeRef) (forest : List Server)

@@ -1,7 +1,7 @@
 -- What look-ups find, and what is barred, in forests whose nodes are ordered.
 use Rattle.std.proofs.Common.{◌≡◌, ℕ, ◌<◌, Bool, true, false, eqb, ◌||◌, List, ◌⊎◌, Option, Some}
 use Rattle.std.proofs.Common.{None, refl, sym, ap, ◌∙◌, arith, All}
-use Rattle.std.specs.Prelude.{find}
+use Rattle.std.specs.Prelude.{find, option_and_then}
 use Rattle.std.specs.Option.{option_map_or}
 use Rattle.p9_base.specs.declared.node_ref.NodeRef.{NodeRef}
 use Rattle.p9_base.specs.NodeRef.{beside}
@@ -10,9 +10,8 @@ use Rattle.p9_tree.specs.Server.{Server}
 use Rattle.p9_tree.specs.Forest.{IsForest, next_of, node_of, server_at}
 use Rattle.p9_tree.specs.Inside.{is_barred, is_hidden, is_inside, hidden_on}
 use Rattle.p9_tree.proofs.Lookups.{All-node_at, node_at-found, number-node_at}
-use Rattle.p9_inside.specs.Meaning.{has_barred_parent}
 use Rattle.p9_inside.proofs.Pass.{IsOrdered, barred-is_among}
-use Rattle.p9_inside.proofs.Forests.{inside_by_parent, server_below, server_ordered}
+use Rattle.p9_inside.proofs.Forests.{inside_by_barred_parent, server_below, server_ordered}
 use Rattle.p9_inside.proofs.Facts.{clash, eq_of, not_true, or_cases}
 
 -- numbers rise, parents come before their children, and all lie below the next number
@@ -59,19 +58,23 @@ in-parent k m e = go m.parent refl e
 pub inside_at : (h : List NodeRef) (f : List Server) (r : NodeRef) (x : Node) (p : ℕ)
     → node_of r f ≡ Some x → x.parent ≡ Some p → is_inside r h f ≡ is_barred (beside r p) h f
 inside_at h f r x p e q =
-    inside_by_parent h f r ∙ ap (λ o. option_map_or (has_barred_parent r h f) o false) e
-    ∙ ap (λ o. option_map_or (λ parent. is_barred (beside r parent) h f) o false) q
+    inside_by_barred_parent h f r
+    ∙ ap (λ o. option_map_or (λ parent. is_barred (beside r parent) h f) o false)
+    (ap (option_and_then (λ n. n.parent)) e ∙ q)
 
 pub inside_none : (h : List NodeRef) (f : List Server) (r : NodeRef) → node_of r f ≡ None
     → is_inside r h f ≡ false
 inside_none h f r e =
-    inside_by_parent h f r ∙ ap (λ o. option_map_or (has_barred_parent r h f) o false) e
+    inside_by_barred_parent h f r
+    ∙ ap (λ o. option_map_or (λ parent. is_barred (beside r parent) h f)
+    (option_and_then (λ n. n.parent) o) false) e
 
 pub inside_root : (h : List NodeRef) (f : List Server) (r : NodeRef) (x : Node)
     → node_of r f ≡ Some x → x.parent ≡ None → is_inside r h f ≡ false
 inside_root h f r x e q =
-    inside_by_parent h f r ∙ ap (λ o. option_map_or (has_barred_parent r h f) o false) e
-    ∙ ap (λ o. option_map_or (λ parent. is_barred (beside r parent) h f) o false) q
+    inside_by_barred_parent h f r
+    ∙ ap (λ o. option_map_or (λ parent. is_barred (beside r parent) h f) o false)
+    (ap (option_and_then (λ n. n.parent)) e ∙ q)
 
 -- the root place is not inside
 pub root_outside : (h : List NodeRef) (f : List Server) → Ordered f

@@ -1,14 +1,14 @@
 -- What inside means.
 use Rattle.std.specs.Prelude.{◌≡◌, ◌≢◌, ◌||◌, ◌↔◌, ◌<◌, ℕ, Bool, false, List, [], None, IsTrue}
-use Rattle.std.specs.Prelude.{if◌then◌else◌, slice_get, unwrap_or}
+use Rattle.std.specs.Prelude.{if◌then◌else◌, option_and_then, slice_get, unwrap_or}
 use Rattle.std.specs.Option.{option_map_or}
 use Rattle.p9_base.specs.declared.node_ref.NodeRef.{NodeRef}
 use Rattle.p9_base.specs.NodeRef.{beside}
 use Rattle.p9_tree.specs.Node.{Node}
 use Rattle.p9_tree.specs.Server.{Server, WellFormed, node_at}
 use Rattle.p9_tree.specs.Forest.{IsForest, node_of, server_at}
-use Rattle.p9_tree.specs.Inside.{IsInside, IsInsideAny, hidden_on, is_inner, is_among}
-use Rattle.p9_tree.specs.Inside.{barred_from, is_barred_at, is_inside_at, inner_nodes, outer_nodes}
+use Rattle.p9_tree.specs.Inside.{IsInside, IsInsideAny, hidden_on, is_among}
+use Rattle.p9_tree.specs.Inside.{is_barred_at, is_inside_at, inner_nodes, outer_nodes}
 use Rattle.p9_tree.specs.Inside.{outer_server, is_hidden, is_barred, is_inside, inner, outer}
 
 -- By the pass a node is inside exactly where a hidden directory is in its chain of parents.
@@ -30,15 +30,15 @@ NothingInsideItself = (s : Server) (h k : ℕ) → WellFormed s → IsInside s.n
 -- A node is inside exactly where its parent is hidden or inside. A node without a parent is not,
 -- nor is a number without a node.
 
--- its parent is hidden or inside
-abbrev pub has_barred_parent : NodeRef → List NodeRef → List Server → Node → Bool
-has_barred_parent r hidden forest n =
-    option_map_or (λ parent. is_barred (beside r parent) hidden forest) n.parent false
+-- it is hidden, or its node is inside
+abbrev pub is_hidden_or_inside : List NodeRef → List Server → NodeRef → Bool
+is_hidden_or_inside hidden forest r = is_hidden r hidden || is_inside r hidden forest
 
 abbrev pub InsideByParent : Type 0
-InsideByParent = (hidden : List NodeRef) (forest : List Server) (r : NodeRef)
+InsideByParent = (hidden : List NodeRef) (forest : List Server) (r : NodeRef) → IsForest forest
     → is_inside r hidden forest
-    ≡ option_map_or (has_barred_parent r hidden forest) (node_of r forest) false
+    ≡ option_map_or (λ parent. is_hidden_or_inside hidden forest (beside r parent))
+    (option_and_then (λ n. n.parent) (node_of r forest)) false
 
 -- A number is barred exactly where it is hidden or its node is inside.
 
@@ -49,7 +49,7 @@ ServerBarredIsHiddenOrInside = (hidden : List ℕ) (s : Server) (k : ℕ) → We
 abbrev pub BarredIsHiddenOrInside : Type 0
 BarredIsHiddenOrInside = (hidden : List NodeRef) (forest : List Server) (r : NodeRef)
     → IsForest forest
-    → is_barred r hidden forest ≡ (is_hidden r hidden || is_inside r hidden forest)
+    → is_barred r hidden forest ≡ is_hidden_or_inside hidden forest r
 
 -- The insides are the nodes inside, and the others are left.
 

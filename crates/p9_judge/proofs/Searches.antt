@@ -29,7 +29,7 @@ use Rattle.p9_cert.specs.Safe.{IsSafe, IsSafeMember, IsShut, Set}
 use Rattle.p9_cert.proofs.Basics.{clash, each_weaker, not_some, same_ref, same_self, some_same}
 use Rattle.p9_judge.specs.declared.search.Origin.{Origin}
 use Rattle.p9_judge.specs.declared.search.Place.{Place}
-use Rattle.p9_judge.specs.Breach.{IsPassed, breach_kind, is_listed, is_member, may_be_passed_by}
+use Rattle.p9_judge.specs.Breach.{IsPassed, breach_kind, is_listed, is_member_of_place, may_be_passed_by}
 use Rattle.p9_judge.specs.Breach.{passer_of, place_breach}
 use Rattle.p9_judge.specs.Search.{IsAmong, IsAt, IsGrown, IsReached, IsSearch, child_place}
 use Rattle.p9_judge.specs.Search.{child_places, discovered}
@@ -185,7 +185,7 @@ module _ (policy : Policy) (f : List Server) (table : List MountRow) (sound : Is
 
     module _ (places more : List Place) (passed further : List NodeRef)
         (s : IsSearch policy f table places passed) (from : ℕ) (key : NodeRef)
-        (at : IsAt places from key) (is_held : is_member table key member ≡ true)
+        (at : IsAt places from key) (is_held : is_member_of_place table key member ≡ true)
         (grew : more ≡ places ++ child_places f from member user)
         (rows : (r : NodeRef) → is_row further r ≡ (is_row passed r || same_node member r)) where
       new_grown : IsGrown places more passed further
@@ -320,7 +320,7 @@ module _ (policy : Policy) (f : List Server) (table : List MountRow) (sound : Is
 
   module _ (places more : List Place) (passed further : List NodeRef)
       (s : IsSearch policy f table places passed) (from : ℕ) (key : NodeRef)
-      (at : IsAt places from key) (member : NodeRef) (is_held : is_member table key member ≡ true)
+      (at : IsAt places from key) (member : NodeRef) (is_held : is_member_of_place table key member ≡ true)
       (fine : breach_kind policy f member ≡ None)
       (grew : more ≡ places ++ discovered policy f from passed member)
       (rows : (r : NodeRef) → is_row further r
@@ -415,7 +415,7 @@ module _ (policy : Policy) (f : List Server) (table : List MountRow) (sound : Is
     abbrev here : Member
     here = get_or members i d
 
-    is_held : is_member table key here.node ≡ true
+    is_held : is_member_of_place table key here.node ≡ true
     is_held =
         ap (λ ms. list_any (λ m. same_node m.node here.node) ms) (sym all)
         ∙ list_any_at (λ m. same_node m.node here.node) members i d within

@@ -21,8 +21,8 @@ use Rattle.p9_judge.specs.declared.breach.BreachKind.TheVariants.{Inside, Open, 
 use Rattle.p9_judge.specs.declared.breach.Step.{Step}
 
 -- the node is one of the place's members
-abbrev pub is_member : List MountRow → NodeRef → NodeRef → Bool
-is_member table place at = list_any (λ m. same_node m.node at) (members_of place table)
+abbrev pub is_member_of_place : List MountRow → NodeRef → NodeRef → Bool
+is_member_of_place table place at = list_any (λ m. same_node m.node at) (members_of place table)
 
 module _ (policy : Policy) where
   -- a listed user's name
@@ -74,7 +74,7 @@ module _ (policy : Policy) where
       -- one step: a member of the place is a directory that the step's user, a listed one, may
       -- search or rules; and it has a child of the step's name
       pub record IsPassed (place : NodeRef) (step : Step) (child : Node) : Type 0 where
-        pub member : IsTrue (is_member table place step.member)
+        pub member : IsTrue (is_member_of_place table place step.member)
         pub listed : IsTrue (is_listed step.user)
         pub dir : Node
         pub there : node_of step.member forest ≡ Some dir
@@ -94,5 +94,5 @@ module _ (policy : Policy) where
       pub record IsBreach (steps : List Step) (member : NodeRef) (kind : BreachKind) : Type 0 where
         pub place : NodeRef
         pub way : Lead root_place steps place
-        pub member_of_place : IsTrue (is_member table place member)
+        pub member_of_place : IsTrue (is_member_of_place table place member)
         pub fault : breach_kind member ≡ Some kind

@@ -44,8 +44,8 @@ pub record NodeLine : Type 0 where
   pub bytes : List ℕ
 
 -- the node of the server's next number in the directory, never changed since the time 0
-abbrev pub node_of : (number dir : ℕ) → Component → NodeLine → Node
-node_of number dir name entry = record {
+abbrev pub new_node : (number dir : ℕ) → Component → NodeLine → Node
+new_node number dir name entry = record {
   number = number;
   parent = Some dir;
   name = name;
@@ -65,13 +65,13 @@ with_entry name names entry server =
     obtain (dir_of names server) NoParent (λ dir.
     need (not (is_some (child_of dir name server.nodes))) Duplicate (
     need (nat_lt server.next next_max) TooMany (
-    Ok (added server (node_of server.next dir name entry)))))
+    Ok (added server (new_node server.next dir name entry)))))
 
 -- Lines.
 
 -- the owner and the group have names of users
-abbrev pub is_owned : List ℕ → List ℕ → Bool
-is_owned uid gid = is_user uid && is_user gid
+abbrev pub are_users : List ℕ → List ℕ → Bool
+are_users uid gid = is_user uid && is_user gid
 
 -- '/' is the root, which is changed; any other path is a new directory's
 abbrev pub with_dir : Option (Component × List Component) → Permissions → List ℕ → List ℕ → Server
@@ -91,7 +91,7 @@ abbrev pub dir_line : List ℕ → List ℕ → List ℕ → List ℕ → Server
 dir_line path mode uid gid server =
     obtain (names_of path) BadPath (λ names.
     obtain (permissions_in mode) BadMode (λ permissions.
-    need (is_owned uid gid) BadUser (
+    need (are_users uid gid) BadUser (
     with_dir (last_and_rest names) permissions uid gid server)))
 
 -- the bytes that a word writes in hexadecimal; '-' writes none
@@ -104,7 +104,7 @@ file_line path mode uid gid hex server =
     obtain (names_of path) BadPath (λ names.
     obtain (last_and_rest names) BadPath (λ place.
     obtain (file_mode_in mode) BadMode (λ mode.
-    need (is_owned uid gid) BadUser (
+    need (are_users uid gid) BadUser (
     obtain (bytes_in hex) BadHex (λ bytes.
     need (nat_le (length bytes) file_max) TooLarge (
     with_entry place.0 place.1 (record { mode = mode; uid = uid; gid = gid; bytes = bytes })

@@ -3,7 +3,7 @@
 ghost use Rattle.std.specs.Prelude.{◌≡◌, ◌≤◌, ◌∷◌, [], IfNone, IfOk, IfSome, IsTrue, false, length};
 ghost use Rattle.std.specs.Prelude.{option_map, true};
 ghost use Rattle.p9_base.specs.Mode.{is_dir};
-ghost use Rattle.p9_world.specs.Entry.{bytes_in, dir_line, file_line, in_last_server, is_owned};
+ghost use Rattle.p9_world.specs.Entry.{are_users, bytes_in, dir_line, file_line, in_last_server};
 ghost use Rattle.p9_world.specs.Entry.{with_dir, with_entry};
 ghost use Rattle.p9_world.specs.LastDir.{IsWhereNamesLead};
 ghost use Rattle.p9_world.specs.Meaning.{Makes};
@@ -163,8 +163,8 @@ fn add_file_to<T: Tree>(
 // The owner and the group that two words name.
 fn owners(uid: &str, gid: &str) -> Option<(User, User)>
     ensures some { IfSome result (λ owners.
-        (owners ≡ (uid.now, gid.now)) × (is_owned uid.now gid.now ≡ true)) }
-    ensures none { IfNone result (is_owned uid.now gid.now ≡ false) }
+        (owners ≡ (uid.now, gid.now)) × (are_users uid.now gid.now ≡ true)) }
+    ensures none { IfNone result (are_users uid.now gid.now ≡ false) }
 {
     Some((User::new(uid)?, User::new(gid)?))
 }
