@@ -11,11 +11,11 @@ use Rattle.p9_step.specs.State.{Setting, Session, SessionRow, changed_session, i
 use Rattle.p9_step.specs.State.{session_at}
 use Rattle.p9_step.specs.Answer.{Answer}
 use Rattle.p9_export.specs.Answers.{Answers, AnswersAmong, changes_of, frame_among, session_of}
+use Rattle.p9_export.specs.Taken.{finds_taken}
 use Rattle.p9_step.specs.Sound.{IsMsize}
 use Rattle.p9_step.specs.Request.{request_of}
 use Rattle.p9_step.specs.Memory.{may_run_out, ran_out}
-use Rattle.p9_step.specs.Step.{finds_taken, message_answer}
-use Rattle.p9_step.specs.Step.{session_answer}
+use Rattle.p9_step.specs.Step.{message_answer}
 use Rattle.p9_base.proofs.Rows.{set_value-same}
 use Rattle.p9_step.proofs.Requests.{ran_out-is}
 
@@ -55,9 +55,10 @@ pub among-request : (setting : Setting) (forest forest' : List Server)
     session_at name rows ≡ Some session → session_at name rows ≡ Some other
     → Ok m ≡ request_of session frame → taken ≡ finds_taken setting forest rows session m →
     rows' ≡ changed_session name new rows →
-    Answers (session_answer setting forest taken other now m)
-    (may_run_out m (session_answer setting forest taken other now m)) forest forest' other new
-    result →
+    (finds_taken setting forest rows other m ≡ taken
+    → Answers (message_answer setting forest rows other now m)
+    (may_run_out m (message_answer setting forest rows other now m)) forest forest' other new
+    result) →
     AnswersAmong name (frame_among setting forest rows name now frame)
     (ran_out frame (frame_among setting forest rows name now frame)) forest forest' rows rows'
     result
@@ -67,7 +68,7 @@ among-request setting forest forest' rows rows' name now session other new frame
     let same : other ≡ session = cc in
     let a = message_answer setting forest rows session now m in
     let its : Answers a (may_run_out m a) forest forest' session new result =
-    rw (same, takes) at did in
+    rw same at (did (ap (λ s. finds_taken setting forest rows s m) same ∙ sym takes)) in
     let answer : frame_among setting forest rows name now frame ≡ a = rw (there, sym is) refl in
     let may : ran_out frame a ≡ may_run_out m a = ran_out-is session frame m a (sym is) in
     rw (answer, may)

@@ -228,13 +228,13 @@ module _ (setting : Setting) (forest : List Server) (session : Session) (now fid
           inside v asked member.node dir))))
 
   -- where the tests before the directory pass
-  pub steps-found : (v : Fid) (asked : Asked) (target : NodeRef) → fid_at fid session.fids ≡ Some v
+  steps-before : (v : Fid) (asked : Asked) → fid_at fid session.fids ≡ Some v
       → is_none v.opened ≡ true → asked_of name perm bits ≡ Ok asked
-      → target_among forest (members_of (here v.trail) setting.table) ≡ Ok target
       → create_steps setting forest session now fid name perm bits
-      ≡ created_in setting forest session now fid v asked target
+      ≡ and_then (target_among forest (members_of (here v.trail) setting.table))
+      (created_in setting forest session now fid v asked)
   unfolding obtain need
-  steps-found v asked target found shut means chosen =
+  steps-before v asked found shut means =
       ap (λ o. obtain o UnknownFid (λ v. need (is_none v.opened) FidOpen
       (and_then (asked_of name perm bits) (λ asked.
       and_then (target_among forest (members_of (here v.trail) setting.table))
@@ -245,6 +245,24 @@ module _ (setting : Setting) (forest : List Server) (session : Session) (now fid
       ∙ ap (λ r. and_then r (λ asked.
       and_then (target_among forest (members_of (here v.trail) setting.table))
       (created_in setting forest session now fid v asked))) means
+
+  -- where a directory is found
+  pub steps-found : (v : Fid) (asked : Asked) (target : NodeRef) → fid_at fid session.fids ≡ Some v
+      → is_none v.opened ≡ true → asked_of name perm bits ≡ Ok asked
+      → target_among forest (members_of (here v.trail) setting.table) ≡ Ok target
+      → create_steps setting forest session now fid name perm bits
+      ≡ created_in setting forest session now fid v asked target
+  steps-found v asked target found shut means chosen =
+      steps-before v asked found shut means
+      ∙ ap (λ r. and_then r (created_in setting forest session now fid v asked)) chosen
+
+  -- where none is
+  pub steps-refused : (v : Fid) (asked : Asked) (fault : Fault) → fid_at fid session.fids ≡ Some v
+      → is_none v.opened ≡ true → asked_of name perm bits ≡ Ok asked
+      → target_among forest (members_of (here v.trail) setting.table) ≡ Err fault
+      → create_steps setting forest session now fid name perm bits ≡ Err fault
+  steps-refused v asked fault found shut means chosen =
+      steps-before v asked found shut means
       ∙ ap (λ r. and_then r (created_in setting forest session now fid v asked)) chosen
 
 -- a refusal by a test or for memory

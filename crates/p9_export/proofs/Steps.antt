@@ -17,7 +17,7 @@ use Rattle.p9_step.specs.ForestChange.{ForestChange, all_applied}
 use Rattle.p9_step.specs.Answer.{Answer, is_error}
 use Rattle.p9_export.specs.Answers.{AnswersAmong, changes_of, frame_among, message_of}
 use Rattle.p9_export.specs.Answers.{session_of}
-use Rattle.p9_step.specs.Step.{answered, finds_taken, frame_answer}
+use Rattle.p9_step.specs.Step.{answered, frame_answer}
 use Rattle.p9_step.specs.Memory.{is_no_memory_reply, may_run_out, no_memory_reply, ran_out}
 use Rattle.p9_step.specs.Step.{message_answer}
 use Rattle.p9_step.specs.Request.{request_of, tag_of}
@@ -25,7 +25,7 @@ use Rattle.p9_step.specs.Step.{step, Stepped}
 use Rattle.p9_wire.specs.Frame.{is_frame}
 use Rattle.p9_step.specs.Event.{Message}
 use Rattle.p9_step.proofs.Done.{done-is}
-use Rattle.p9_step.proofs.Plain.{IsPlainIf, plain-session_answer}
+use Rattle.p9_step.proofs.Plain.{IsPlainIf, plain-message_answer}
 use Rattle.p9_step.proofs.Replies.{not_an_error}
 use Rattle.p9_step.proofs.Requests.{ran_out-is}
 use Rattle.p9_base.proofs.Rows.{set_value-same}
@@ -160,8 +160,7 @@ module _ (state : State) (name now : ℕ) (forest : List Server) (rows : List Se
           let its : may_run_out m a ≡ true =
           sym (ran_out-is session frame m a e) ∙ ap (ran_out frame) (sym same) ∙ may in
           done-is (IsPlainIf (may_run_out m a)) a _
-          (plain-session_answer state.setting state.forest
-          (finds_taken state.setting state.forest state.sessions session m) session now m)
+          (plain-message_answer state.setting state.forest state.sessions session now m)
           (sym same ∙ is) its
 
   plain-result : (result : Result RMessage Fault)

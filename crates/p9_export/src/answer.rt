@@ -7,12 +7,12 @@ ghost use Rattle.p9_wire.specs.Spelling.{read_header};
 ghost use Rattle.p9_export.specs.Held.{SessionFits, SessionsFit, sessions_in};
 ghost use Rattle.p9_export.specs.Answers.{AnswersAmong, CanWrite, frame_among, replied, reply_view};
 ghost use Rattle.p9_export.specs.Room.{IsDataWithin};
+ghost use Rattle.p9_export.specs.Taken.{finds_taken};
 ghost use Rattle.p9_step.specs.Laws.{reply_max};
 ghost use Rattle.p9_step.specs.Sound.{IsSession};
 ghost use Rattle.p9_step.specs.State.{SessionRow, room_of, session_at};
 ghost use Rattle.p9_step.specs.Open.{is_in_use};
 ghost use Rattle.p9_step.specs.Memory.{ran_out};
-ghost use Rattle.p9_step.specs.Step.{finds_taken};
 
 use crate::frame::request_of;
 use crate::message::message;

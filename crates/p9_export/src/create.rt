@@ -129,15 +129,10 @@ fn planned<T: Tree>(
     if held.opened.is_some() {
         return Err(Fault::FidOpen);
     }
-    let asked = match asked_of(wanted) {
-        Ok(asked) => asked,
-        Err(fault) => return Err(fault),
-    };
+    let asked = asked_of(wanted)?;
     let members = held.channels.members(&setting.table);
-    match target_among(forest, members.as_slice()) {
-        Ok(target) => plan_in(setting, forest, held, now, asked, target),
-        Err(fault) => Err(fault),
-    }
+    let target = target_among(forest, members.as_slice())?;
+    plan_in(setting, forest, held, now, asked, target)
 }
 
 // What is asked for, or why that means nothing.
@@ -206,10 +201,7 @@ fn plan_in<T: Tree>(
     let Some(dir) = forest.node(target) else {
         return Err(Fault::PhaseError);
     };
-    let place = match place_in(setting, forest, held, &asked.name, target, dir) {
-        Ok(place) => place,
-        Err(fault) => return Err(fault),
-    };
+    let place = place_in(setting, forest, held, &asked.name, target, dir)?;
     let channels = channels_to(&setting.table, &held.channels, place)?;
     Ok(Plan {
         target,

@@ -7,7 +7,7 @@ ghost use Rattle.std.specs.List.{flat_map};
 ghost use Rattle.p9_base.specs.NodeRef.{beside};
 ghost use Rattle.p9_base.specs.declared.fault.Fault.TheVariants.{SmallReadCount};
 ghost use Rattle.p9_tree.specs.Forest.{children_of};
-ghost use Rattle.p9_wire.specs.Fields.{FitsStat, stat_bytes, stat_len};
+ghost use Rattle.p9_wire.specs.Fields.{stat_bytes};
 ghost use Rattle.p9_space.specs.Rights.{who_view};
 ghost use Rattle.p9_step.specs.Listing.{entries_of, entry_at, is_behind, is_listed, left_of};
 ghost use Rattle.p9_step.specs.Read.{cursor_after, entry_bytes, fitting};
@@ -19,7 +19,7 @@ use p9_base::{Fault, NodeRef};
 use p9_fids::Cursor;
 use p9_space::{Member, TO_READ, Who, may};
 use p9_tree::{Forest, Node, Tree};
-use p9_wire::{STAT_FIXED, write_stat};
+use p9_wire::write_stat;
 use std::alloc::Allocator;
 
 /// What a read of a directory put into the buffer.
@@ -187,23 +187,11 @@ fn put_stat<A: Allocator>(dir: NodeRef, node: &Node<A>, buffer: &mut [u8]) -> Op
     ensures { PutsStat (stat_bytes (stat_of (beside dir node.now.number) node.now)) buffer.old
         buffer.new result }
 {
-    let at = dir.beside(node.number());
-    if stat_size(at, node) > buffer.len() {
+    let stat = stat_of(dir.beside(node.number()), node);
+    if stat.size() > buffer.len() {
         return None;
     }
-    Some(write_stat(&stat_of(at, node), buffer))
-}
-
-// How many bytes the stat of a node takes. It always has a spelling.
-fn stat_size<A: Allocator>(at: NodeRef, node: &Node<A>) -> usize
-    ensures size { result ≡ stat_len (stat_of at node.now) }
-    ensures fits { FitsStat (stat_of at node.now) }
-{
-    STAT_FIXED
-        + node.name().len()
-        + node.uid().as_str().len()
-        + node.gid().as_str().len()
-        + node.muid().as_str().len()
+    Some(write_stat(&stat, buffer))
 }
 
 // Whether the member is an alive directory that the user may read; the first without this test.

@@ -1,15 +1,16 @@
 //! The answer to a request, message by message.
 
-ghost use Rattle.std.specs.Prelude.{◌≡◌, ◌≤◌, ◌+◌, length};
+ghost use Rattle.std.specs.Prelude.{◌≡◌, ◌≤◌, ◌+◌, List, length};
 ghost use Rattle.p9_wire.specs.Frame.{msize_max};
 ghost use Rattle.p9_wire.specs.Message.{t_view};
 ghost use Rattle.p9_export.specs.Held.{SessionFits};
 ghost use Rattle.p9_export.specs.Answers.{Answers, CanWrite, replied, reply_view};
 ghost use Rattle.p9_export.specs.Room.{IsDataWithin};
+ghost use Rattle.p9_export.specs.Taken.{finds_taken};
 ghost use Rattle.p9_step.specs.Sound.{FidsFit};
-ghost use Rattle.p9_step.specs.State.{io_header, room_of};
+ghost use Rattle.p9_step.specs.State.{SessionRow, io_header, room_of};
 ghost use Rattle.p9_step.specs.Memory.{may_run_out};
-ghost use Rattle.p9_step.specs.Step.{session_answer};
+ghost use Rattle.p9_step.specs.Step.{message_answer};
 
 use crate::attach::attach;
 use crate::clunk::clunk;
@@ -29,7 +30,7 @@ use p9_base::Fault;
 use p9_tree::{Forest, Tree};
 use p9_wire::{RMsg, TMsg};
 
-/// Answers a request of a session. `taken` says that the file that an open asks for is taken
+/// Answers a request of a session. `taken` says whether the file that an open asks for is taken
 /// ([`crate::open::exclusive_file`]). What a read gives is put at the front of `buffer`.
 ///
 /// An auth is [`Fault::NoAuthentication`]. A flush has nothing to do, since each request is
@@ -50,8 +51,11 @@ pub fn message<T: Tree>(
     ensures channels { SessionFits setting.now.table session.new }
     ensures reply { CanWrite result }
     ensures data { IsDataWithin (room_of session.old.session) result }
-    ensures answer { let answer = session_answer setting.now forest.old taken session.old.session
-        now (t_view request.now) in Answers answer (may_run_out (t_view request.now) answer)
+    ensures answer { (sessions : List SessionRow)
+        → finds_taken setting.now forest.old sessions session.old.session (t_view request.now)
+        ≡ taken
+        → let answer = message_answer setting.now forest.old sessions session.old.session now
+        (t_view request.now) in Answers answer (may_run_out (t_view request.now) answer)
         forest.old forest.new session.old.session session.new.session
         (replied (reply_view forest.new buffer.new) result) }
 {

@@ -10,7 +10,8 @@ ghost use Rattle.p9_export.specs.Held.{SessionFits, SessionsFit, sessions_in};
 ghost use Rattle.p9_export.specs.Answers.{Answers, replied};
 ghost use Rattle.p9_space.specs.Rights.{who_view};
 ghost use Rattle.p9_step.specs.ForestChange.{all_applied};
-ghost use Rattle.p9_step.specs.Open.{is_append_only, is_cut, is_exclusive, is_in_use, is_taken};
+ghost use Rattle.p9_export.specs.Taken.{is_fid_taken};
+ghost use Rattle.p9_step.specs.Open.{is_append_only, is_cut, is_exclusive, is_in_use};
 ghost use Rattle.p9_step.specs.Open.{may_open, open_answer, open_reply, truncated, truncation};
 ghost use Rattle.p9_step.specs.Qid.{qid_of};
 ghost use Rattle.p9_step.specs.State.{SessionRow};
@@ -28,8 +29,7 @@ use std::collections::BTreeMap;
 
 /// Opens a fid for what the mode's bits ask, and returns the qid of its file and the session's
 /// iounit ([`Session::room`]). Truncation cuts the file to nothing and marks it, but an
-/// append-only file is unchanged. `taken` says that the file is
-/// taken ([`exclusive_file`]).
+/// append-only file is unchanged. `taken` says whether the file is taken ([`exclusive_file`]).
 ///
 /// The first that applies refuses, and nothing changes: there is no such fid,
 /// [`Fault::UnknownFid`]; it is open, [`Fault::FidOpen`]; its file doesn't exist,
@@ -47,8 +47,10 @@ pub fn open<T: Tree>(
 ) -> Result<(Qid, u32), Fault>
     requires channels { SessionFits setting.now.table session.old }
     ensures channels { SessionFits setting.now.table session.new }
-    ensures answer { Answers (open_answer setting.now forest.old taken session.old.session now fid
-        bits) false forest.old forest.new session.old.session session.new.session
+    ensures answer { (sessions : List SessionRow)
+        → is_fid_taken setting.now forest.old sessions session.old.session fid ≡ taken
+        → Answers (open_answer setting.now forest.old sessions session.old.session now fid bits)
+        false forest.old forest.new session.old.session session.new.session
         (replied open_reply result) }
 {
     let Some(held) = session.fids.get(fid) else {
@@ -187,12 +189,12 @@ pub fn exclusive_file<T: Tree>(
     fid: u32,
 ) -> Option<NodeRef>
     requires { SessionFits setting.now.table session.now }
-    ensures { (sessions : List SessionRow) → is_taken setting.now forest.now sessions
+    ensures { (sessions : List SessionRow) → is_fid_taken setting.now forest.now sessions
         session.now.session fid ≡ option_map_or (λ at. is_in_use setting.now.table at sessions)
         result false }
 {
     let held = session.fids.get(fid)?;
     let at = setting.file(held);
     let file = forest.node(at)?;
-    if is_exclusive(file) { Some(at) } else { None }
+    is_exclusive(file).then_some(at)
 }

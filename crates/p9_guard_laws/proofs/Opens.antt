@@ -16,10 +16,11 @@ use Rattle.p9_space.specs.Rights.{may, to_write, to_execute, to_read}
 use Rattle.p9_fids.specs.Fid.{Fid, fid_at, opened_as}
 use Rattle.p9_fids.specs.declared.opened.OpenMode.{OpenMode}
 use Rattle.p9_fids.specs.declared.opened.OpenMode.TheVariants.{Execute, Read, ReadWrite, Write}
-use Rattle.p9_step.specs.State.{Session, fid_file, fid_ref, who_of}
+use Rattle.p9_step.specs.State.{Session, SessionRow, fid_file, fid_ref, who_of}
 use Rattle.p9_step.specs.ForestChange.{Mark, Cut, EditNode}
 use Rattle.p9_step.specs.declared.opening.Opening.{Opening}
-use Rattle.p9_step.specs.Open.{is_cut, may_open, open_answer, opened_session, truncation}
+use Rattle.p9_step.specs.Open.{is_cut, is_taken, may_open, open_answer, opened_session}
+use Rattle.p9_step.specs.Open.{truncation}
 use Rattle.p9_step.specs.Opening.{mode_rights, newly_opened, opening_of, wanted_by}
 use Rattle.p9_guard_laws.proofs.Scene.{SafeFid, SafeFids, Scene, premises_in, outer_of}
 use Rattle.p9_guard_laws.proofs.Moves.{Lawful}
@@ -123,11 +124,11 @@ module _ (scene : Scene) where
       (mark_stands (premises_in scene) user now)
   cut_lawful false r x user now e out = tt
 
-  pub open-agrees : (taken : Bool) (session : Session) (now fid bits : ℕ)
+  pub open-agrees : (sessions : List SessionRow) (session : Session) (now fid bits : ℕ)
       → SafeFids scene session.fids
-      → Agrees scene (open_answer scene.setting (outer_of scene) taken session now fid bits)
-      (open_answer scene.setting scene.forest taken session now fid bits)
-  open-agrees taken session now fid bits h =
+      → Agrees scene (open_answer scene.setting (outer_of scene) sessions session now fid bits)
+      (open_answer scene.setting scene.forest sessions session now fid bits)
+  open-agrees sessions session now fid bits h =
       agrees_given scene (fid_at fid session.fids) UnknownFid _ _ (λ v at.
       let s = fid_found (premises_in scene) scene.start scene.forest session.fids fid v h at in
       let r = fid_ref scene.setting.table v in
@@ -141,7 +142,7 @@ module _ (scene : Scene) where
       (agrees_need scene (may_open (who_of scene.setting v.user) scene.forest r x o)
       PermissionDenied _ _
       (λ can.
-      agrees_need scene (not taken) ExclusiveUse _ _ (λ _.
+      agrees_need scene (not (is_taken scene.setting.table sessions r x)) ExclusiveUse _ _ (λ _.
       agrees_changes scene (truncation v.user now r x o) (opened_session fid o session) _
       (cut_lawful (is_cut x o) r x v.user now e m.outside)
       (opened_safe session fid v x o s e

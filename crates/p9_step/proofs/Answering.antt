@@ -395,7 +395,7 @@ module _ (state : State) (name : ℕ) (session : Session) (frame : List ℕ) (no
       (Replies (reply_max session)) _
       (replies-open (reply_max session) state.setting state.forest session ok.forest w.wide w.room
       w.frames now fid)
-      (open-done state.setting state.forest session _ now fid mode))
+      (open-done state.setting state.forest session state.sessions now fid mode))
   by_message (Tcreate fid new perm mode) is =
       let w = wide_for session frame _ short is refl in
       given_by state name session frame there least tagged refused _

@@ -46,7 +46,7 @@ use Rattle.p9_step.specs.Read.{read_answer, read_dir, read_file, readable}
 use Rattle.p9_step.specs.Remove.{removal, remove_answer}
 use Rattle.p9_step.specs.Rights.{may_write_parent}
 use Rattle.p9_step.specs.Stat.{stat_answer}
-use Rattle.p9_step.specs.State.{Session, Setting, fid_file, fid_ref, room_of}
+use Rattle.p9_step.specs.State.{Session, SessionRow, Setting, fid_file, fid_ref, room_of}
 use Rattle.p9_step.specs.Version.{begun, is_known, msize_min, not_spoken, version_answer}
 use Rattle.p9_step.specs.Walk.{ended_walk, moved, newfid_fault, walk_answer, walked}
 use Rattle.p9_step.specs.Write.{is_writable, write_answer, write_file, write_place}
@@ -352,10 +352,10 @@ module _ (setting : Setting) (forest : List Server) (session : Session) where
             is = inr (rw same refl);
           })
 
-  pub open-done : (taken : Bool) (now fid bits : ℕ)
+  pub open-done : (sessions : List SessionRow) (now fid bits : ℕ)
       → OnDone (OpenDone setting forest session now fid)
-      (open_answer setting forest taken session now fid bits)
-  open-done taken now fid bits =
+      (open_answer setting forest sessions session now fid bits)
+  open-done sessions now fid bits =
       done-given (OpenDone setting forest session now fid) _ _ _ refl
       (λ v found. done-need (OpenDone setting forest session now fid) _ _ _ refl
       (λ shut. done-given (OpenDone setting forest session now fid) _ _ _ refl

@@ -9,8 +9,8 @@ use Rattle.p9_step.specs.Answer.{Answer, Outcome, is_error}
 use Rattle.p9_step.specs.ForestChange.{ForestChange}
 use Rattle.p9_step.specs.Create.{creation}
 use Rattle.p9_step.specs.Memory.{may_run_out}
-use Rattle.p9_step.specs.State.{Session, Setting}
-use Rattle.p9_step.specs.Step.{session_answer}
+use Rattle.p9_step.specs.State.{Session, SessionRow, Setting}
+use Rattle.p9_step.specs.Step.{message_answer}
 use Rattle.p9_step.proofs.Done.{OnDone, done-err, done-is, done-map, done-ok, refused-is}
 use Rattle.p9_step.proofs.Passed.{AttachDone, ClunkDone, CreateDone, OpenDone, ReadDone, RemoveDone}
 use Rattle.p9_step.proofs.Passed.{StatDone, VersionDone, WalkDone, WriteDone, WstatDone}
@@ -70,52 +70,52 @@ never : (P : Outcome → Type 0) (answer : Answer) → OnDone P answer
 never P answer done = done-map P (IsPlainIf false) answer (λ outcome its e. absurd (cc)) done
 
 -- of each message, in the manual's order
-pub plain-session_answer : (setting : Setting) (forest : List Server) (taken : Bool)
+pub plain-message_answer : (setting : Setting) (forest : List Server) (sessions : List SessionRow)
     (session : Session) (now : ℕ) (m : TMessage)
-    → OnDone (IsPlainIf (may_run_out m (session_answer setting forest taken session now m)))
-    (session_answer setting forest taken session now m)
-plain-session_answer setting forest taken session now (Tversion msize version) =
+    → OnDone (IsPlainIf (may_run_out m (message_answer setting forest sessions session now m)))
+    (message_answer setting forest sessions session now m)
+plain-message_answer setting forest sessions session now (Tversion msize version) =
     never (VersionDone setting forest session now msize) _
     (version-done setting forest session now msize version)
-plain-session_answer setting forest taken session now (Tauth afid uname aname) =
+plain-message_answer setting forest sessions session now (Tauth afid uname aname) =
     done-err (IsPlainIf false) _ refl
-plain-session_answer setting forest taken session now (Tattach fid afid uname aname) =
+plain-message_answer setting forest sessions session now (Tattach fid afid uname aname) =
     plain_if _ _
     (done-map (AttachDone setting forest session fid uname aname) IsPlain _
     (plain-attach setting forest session fid uname aname)
     (attach-done setting forest session fid afid uname aname))
-plain-session_answer setting forest taken session now (Tflush oldtag) =
+plain-message_answer setting forest sessions session now (Tflush oldtag) =
     done-ok (IsPlainIf false) _ (λ e. refl)
-plain-session_answer setting forest taken session now (Twalk fid newfid names) =
+plain-message_answer setting forest sessions session now (Twalk fid newfid names) =
     plain_if _ _
     (done-map (WalkDone setting forest session fid newfid names) IsPlain _
     (plain-walk setting forest session fid newfid names)
     (walk-done setting forest session fid newfid names))
-plain-session_answer setting forest taken session now (Topen fid mode) =
+plain-message_answer setting forest sessions session now (Topen fid mode) =
     never (OpenDone setting forest session now fid) _
-    (open-done setting forest session taken now fid mode)
-plain-session_answer setting forest taken session now (Tcreate fid name perm mode) =
+    (open-done setting forest session sessions now fid mode)
+plain-message_answer setting forest sessions session now (Tcreate fid name perm mode) =
     plain_if _ _
     (done-map (CreateDone setting forest session now fid name perm) IsPlain _
     (plain-create setting forest session now fid name perm)
     (create-done setting forest session now fid name perm mode))
-plain-session_answer setting forest taken session now (Tread fid offset count) =
+plain-message_answer setting forest sessions session now (Tread fid offset count) =
     never (ReadDone setting forest session now fid offset count) _
     (read-done setting forest session now fid offset count)
-plain-session_answer setting forest taken session now (Twrite fid offset bytes) =
+plain-message_answer setting forest sessions session now (Twrite fid offset bytes) =
     plain_if _ _
     (done-map (WriteDone setting forest session now fid offset bytes) IsPlain _
     (plain-write setting forest session now fid offset bytes)
     (write-done setting forest session now fid offset bytes))
-plain-session_answer setting forest taken session now (Tclunk fid) =
+plain-message_answer setting forest sessions session now (Tclunk fid) =
     never (ClunkDone setting forest session now fid) _
     (clunk-done setting forest session now fid)
-plain-session_answer setting forest taken session now (Tremove fid) =
+plain-message_answer setting forest sessions session now (Tremove fid) =
     never (RemoveDone setting forest session now fid) _
     (remove-done setting forest session now fid)
-plain-session_answer setting forest taken session now (Tstat fid) =
+plain-message_answer setting forest sessions session now (Tstat fid) =
     never (StatDone setting forest session fid) _ (stat-done setting forest session fid)
-plain-session_answer setting forest taken session now (Twstat fid stat) =
+plain-message_answer setting forest sessions session now (Twstat fid stat) =
     plain_if _ _
     (done-map (WstatDone setting forest session now fid stat) IsPlain _
     (plain-wstat setting forest session now fid stat)

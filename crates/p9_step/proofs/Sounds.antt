@@ -1,5 +1,5 @@
 -- A step keeps what is kept of every state.
-use Rattle.std.proofs.Common.{Bool, Err, IfSome, List, None, Ok, Option, Result, Some, [], refl}
+use Rattle.std.proofs.Common.{Err, IfSome, List, None, Ok, Option, Result, Some, [], refl}
 use Rattle.std.proofs.Common.{true, ℕ, ◌<◌, ◌^◌, ◌≡◌}
 use Rattle.std.specs.BTreeMap.{is_at}
 use Rattle.std.specs.List.Sorted.{IsStrictlySortedBy}
@@ -23,7 +23,7 @@ use Rattle.p9_step.specs.Request.{request_of}
 use Rattle.p9_step.specs.Sound.{IsServed, IsSession, IsSetting}
 use Rattle.p9_step.specs.State.{Session, SessionRow, Setting, changed_session, fresh, session_at}
 use Rattle.p9_step.specs.State.{with_session, without_session}
-use Rattle.p9_step.specs.Step.{finds_taken, frame_answer, message_answer, session_answer}
+use Rattle.p9_step.specs.Step.{frame_answer, message_answer}
 use Rattle.p9_step.proofs.Done.{OnDone, done-err, done-map, done-ok, done-then}
 use Rattle.p9_step.proofs.Kept.{IsReady, Kept, kept-attach, kept-clunk, kept-quiet, kept-remove}
 use Rattle.p9_step.proofs.Kept.{kept-stat, kept-version, kept-walk}
@@ -40,55 +40,55 @@ use Rattle.p9_step.proofs.Requests.{request-is}
 use Rattle.p9_step.proofs.Settled.{fits-of, sessions-evolved, table-evolved, users-of}
 
 -- every request's outcome
-pub kept-answer : (setting : Setting) (forest : List Server) (taken : Bool) (session : Session)
-    (now : ℕ) (m : TMessage) → IsReady setting forest session now → TNumbersFit m
-    → OnDone (Kept setting forest) (session_answer setting forest taken session now m)
-kept-answer setting forest taken session now (Tversion msize version) ready fit =
+pub kept-answer : (setting : Setting) (forest : List Server) (sessions : List SessionRow)
+    (session : Session) (now : ℕ) (m : TMessage) → IsReady setting forest session now → TNumbersFit m
+    → OnDone (Kept setting forest) (message_answer setting forest sessions session now m)
+kept-answer setting forest sessions session now (Tversion msize version) ready fit =
     done-map (VersionDone setting forest session now msize) (Kept setting forest) _
     (kept-version setting forest session now ready msize)
     (version-done setting forest session now msize version)
-kept-answer setting forest taken session now (Tauth afid uname aname) ready fit =
+kept-answer setting forest sessions session now (Tauth afid uname aname) ready fit =
     done-err (Kept setting forest) _ refl
-kept-answer setting forest taken session now (Tattach fid afid uname aname) ready fit =
+kept-answer setting forest sessions session now (Tattach fid afid uname aname) ready fit =
     done-map (AttachDone setting forest session fid uname aname) (Kept setting forest) _
     (λ o. kept-attach setting forest session now ready fid uname aname o fit.0)
     (attach-done setting forest session fid afid uname aname)
-kept-answer setting forest taken session now (Tflush oldtag) ready fit =
+kept-answer setting forest sessions session now (Tflush oldtag) ready fit =
     done-ok (Kept setting forest) _
     (kept-quiet setting forest session now ready session _ ready.its)
-kept-answer setting forest taken session now (Twalk fid newfid names) ready fit =
+kept-answer setting forest sessions session now (Twalk fid newfid names) ready fit =
     done-map (WalkDone setting forest session fid newfid names) (Kept setting forest) _
     (λ o. kept-walk setting forest session now ready fid newfid names o fit.1)
     (walk-done setting forest session fid newfid names)
-kept-answer setting forest taken session now (Topen fid mode) ready fit =
+kept-answer setting forest sessions session now (Topen fid mode) ready fit =
     done-map (OpenDone setting forest session now fid) (Kept setting forest) _
     (kept-open setting forest session now ready fid)
-    (open-done setting forest session taken now fid mode)
-kept-answer setting forest taken session now (Tcreate fid name perm mode) ready fit =
+    (open-done setting forest session sessions now fid mode)
+kept-answer setting forest sessions session now (Tcreate fid name perm mode) ready fit =
     done-map (CreateDone setting forest session now fid name perm) (Kept setting forest) _
     (kept-create setting forest session now ready fid name perm)
     (create-done setting forest session now fid name perm mode)
-kept-answer setting forest taken session now (Tread fid offset count) ready fit =
+kept-answer setting forest sessions session now (Tread fid offset count) ready fit =
     done-map (ReadDone setting forest session now fid offset count) (Kept setting forest) _
     (kept-read setting forest session now ready fid offset count)
     (read-done setting forest session now fid offset count)
-kept-answer setting forest taken session now (Twrite fid offset bytes) ready fit =
+kept-answer setting forest sessions session now (Twrite fid offset bytes) ready fit =
     done-map (WriteDone setting forest session now fid offset bytes) (Kept setting forest) _
     (kept-write setting forest session now ready fid offset bytes)
     (write-done setting forest session now fid offset bytes)
-kept-answer setting forest taken session now (Tclunk fid) ready fit =
+kept-answer setting forest sessions session now (Tclunk fid) ready fit =
     done-map (ClunkDone setting forest session now fid) (Kept setting forest) _
     (kept-clunk setting forest session now ready fid)
     (clunk-done setting forest session now fid)
-kept-answer setting forest taken session now (Tremove fid) ready fit =
+kept-answer setting forest sessions session now (Tremove fid) ready fit =
     done-map (RemoveDone setting forest session now fid) (Kept setting forest) _
     (kept-remove setting forest session now ready fid)
     (remove-done setting forest session now fid)
-kept-answer setting forest taken session now (Tstat fid) ready fit =
+kept-answer setting forest sessions session now (Tstat fid) ready fit =
     done-map (StatDone setting forest session fid) (Kept setting forest) _
     (kept-stat setting forest session now ready fid)
     (stat-done setting forest session fid)
-kept-answer setting forest taken session now (Twstat fid stat) ready fit =
+kept-answer setting forest sessions session now (Twstat fid stat) ready fit =
     done-map (WstatDone setting forest session now fid stat) (Kept setting forest) _
     (λ o. kept-wstat setting forest session now ready fid stat o fit.1.mtime)
     (wstat-done setting forest session now fid stat)
@@ -103,8 +103,7 @@ kept-frame setting forest rows session now frame ready bytes =
     (message_answer setting forest rows session now) (request_of-of session frame)
     (λ m is. let r = request-is session frame m is in
     let spelled : TSpells frame r.tag m = t-decides.sound frame r.tag m bytes r.read in
-    kept-answer setting forest (finds_taken setting forest rows session m) session now m ready
-    spelled.numbers)
+    kept-answer setting forest rows session now m ready spelled.numbers)
 
 module _ (setting : Setting) (forest : List Server) (rows : List SessionRow)
     (sound : IsForest forest) (served : IsServed setting forest rows) where

@@ -3,7 +3,6 @@ use Rattle.std.specs.Prelude.{ℕ, ◌&&◌, ◌||◌, Bool, false, not, nat_lt,
 use Rattle.std.specs.Prelude.{is_none, if◌then◌else◌}
 use Rattle.std.specs.List.{list_any}
 use Rattle.std.specs.Map.{values_of}
-use Rattle.std.specs.Option.{option_map_or}
 use Rattle.p9_base.specs.declared.fault.Fault.TheVariants.{BadOpenMode, ExclusiveUse, FidOpen}
 use Rattle.p9_base.specs.declared.fault.Fault.TheVariants.{IsDirectory, PermissionDenied}
 use Rattle.p9_base.specs.declared.fault.Fault.TheVariants.{PhaseError, UnknownFid}
@@ -49,6 +48,10 @@ abbrev pub is_in_use : List MountRow → NodeRef → List SessionRow → Bool
 is_in_use table at sessions =
     list_any (λ session. nat_lt 0 (open_count table at session.fids)) (values_of sessions)
 
+-- the file is for one fid at a time, and a fid of some session has it open
+abbrev pub is_taken : List MountRow → List SessionRow → NodeRef → Node → Bool
+is_taken table sessions at n = is_exclusive n && is_in_use table at sessions
+
 -- each right that the mode asks for, and to remove on close, to change the file's directory
 abbrev pub may_open : Who → List Server → NodeRef → Node → Opening → Bool
 may_open who forest at n opening =
@@ -75,18 +78,10 @@ opened_session fid opening session = record session {
   fids = changed_fid fid (opened_as (newly_opened opening)) session.fids;
 }
 
--- the file of the fid is for one fid at a time, and a fid of some session has it open
-abbrev pub is_taken : Setting → List Server → List SessionRow → Session → ℕ → Bool
-is_taken setting forest sessions session fid =
-    option_map_or (λ v.
-    option_map_or
-    (λ n. is_exclusive n && is_in_use setting.table (fid_ref setting.table v) sessions)
-    (fid_file setting.table forest v) false)
-    (fid_at fid session.fids) false
-
 -- the tests in their order
-abbrev pub open_answer : Setting → List Server → Bool → Session → (now fid bits : ℕ) → Answer
-open_answer setting forest taken session now fid bits =
+abbrev pub open_answer : Setting → List Server → List SessionRow → Session → (now fid bits : ℕ)
+    → Answer
+open_answer setting forest sessions session now fid bits =
     obtain (fid_at fid session.fids) UnknownFid (λ v.
     need (is_none v.opened) FidOpen (
     obtain (fid_file setting.table forest v) PhaseError (λ n.
@@ -94,7 +89,7 @@ open_answer setting forest taken session now fid bits =
     need (not (is_dir n) || is_plain_read opening) IsDirectory (
     let at = fid_ref setting.table v in
     need (may_open (who_of setting v.user) forest at n opening) PermissionDenied (
-    need (not taken) ExclusiveUse (
+    need (not (is_taken setting.table sessions at n)) ExclusiveUse (
     Ok (record {
       changes = truncation v.user now at n opening;
       session = opened_session fid opening session;

@@ -1,5 +1,5 @@
 -- A step: what one event makes of a state, and the bytes that answer it.
-use Rattle.std.specs.Prelude.{ℕ, ◌&&◌, ◌||◌, Bool, false, List, [], ◌∷◌}
+use Rattle.std.specs.Prelude.{ℕ, ◌&&◌, ◌||◌, Bool, List, [], ◌∷◌}
 use Rattle.std.specs.Prelude.{Ok, Err, is_some, if◌then◌else◌}
 use Rattle.std.specs.Option.{option_map_or}
 use Rattle.p9_base.specs.declared.fault.Fault.TheVariants.{NoAuthentication}
@@ -16,7 +16,7 @@ use Rattle.p9_step.specs.End.{on_ends}
 use Rattle.p9_step.specs.Version.{version_answer}
 use Rattle.p9_step.specs.Attach.{attach_answer}
 use Rattle.p9_step.specs.Walk.{walk_answer}
-use Rattle.p9_step.specs.Open.{is_taken, open_answer}
+use Rattle.p9_step.specs.Open.{open_answer}
 use Rattle.p9_step.specs.Create.{create_answer}
 use Rattle.p9_step.specs.Read.{read_answer}
 use Rattle.p9_step.specs.Write.{write_answer}
@@ -29,44 +29,33 @@ use Rattle.p9_step.specs.Memory.{no_memory_reply, ran_out}
 use Rattle.p9_wire.specs.Frame.{is_frame}
 use Rattle.p9_step.specs.Event.{Event, Open, Message, Close}
 
--- each message, in the manual's order; taken says that the file that an open asks for is taken
-abbrev pub session_answer : Setting → List Server → Bool → Session → ℕ → TMessage → Answer
-session_answer setting forest taken session now (Tversion msize version) =
-    version_answer setting forest session now msize version
-session_answer setting forest taken session now (Tauth afid uname aname) = Err NoAuthentication
-session_answer setting forest taken session now (Tattach fid afid uname aname) =
-    attach_answer setting forest session fid afid uname aname
-session_answer setting forest taken session now (Tflush oldtag) =
-    Ok (record { changes = []; session = session; reply = Rflush })
-session_answer setting forest taken session now (Twalk fid newfid names) =
-    walk_answer setting forest session fid newfid names
-session_answer setting forest taken session now (Topen fid mode) =
-    open_answer setting forest taken session now fid mode
-session_answer setting forest taken session now (Tcreate fid name perm mode) =
-    create_answer setting forest session now fid name perm mode
-session_answer setting forest taken session now (Tread fid offset count) =
-    read_answer setting forest session now fid offset count
-session_answer setting forest taken session now (Twrite fid offset bytes) =
-    write_answer setting forest session now fid offset bytes
-session_answer setting forest taken session now (Tclunk fid) =
-    clunk_answer setting forest session now fid
-session_answer setting forest taken session now (Tremove fid) =
-    remove_answer setting forest session now fid
-session_answer setting forest taken session now (Tstat fid) = stat_answer setting forest session fid
-session_answer setting forest taken session now (Twstat fid stat) =
-    wstat_answer setting forest session now fid stat
-
--- whether an open finds its file taken, by a fid of any session
-abbrev pub finds_taken : Setting → List Server → List SessionRow → Session → TMessage → Bool
-finds_taken setting forest sessions session (Topen fid mode) =
-    is_taken setting forest sessions session fid
-finds_taken setting forest sessions session other = false
-
--- the same, where all sessions are looked at for files that are taken
+-- each message, in the manual's order
 abbrev pub message_answer : Setting → List Server → List SessionRow → Session → ℕ → TMessage
     → Answer
-message_answer setting forest sessions session now m =
-    session_answer setting forest (finds_taken setting forest sessions session m) session now m
+message_answer setting forest sessions session now (Tversion msize version) =
+    version_answer setting forest session now msize version
+message_answer setting forest sessions session now (Tauth afid uname aname) = Err NoAuthentication
+message_answer setting forest sessions session now (Tattach fid afid uname aname) =
+    attach_answer setting forest session fid afid uname aname
+message_answer setting forest sessions session now (Tflush oldtag) =
+    Ok (record { changes = []; session = session; reply = Rflush })
+message_answer setting forest sessions session now (Twalk fid newfid names) =
+    walk_answer setting forest session fid newfid names
+message_answer setting forest sessions session now (Topen fid mode) =
+    open_answer setting forest sessions session now fid mode
+message_answer setting forest sessions session now (Tcreate fid name perm mode) =
+    create_answer setting forest session now fid name perm mode
+message_answer setting forest sessions session now (Tread fid offset count) =
+    read_answer setting forest session now fid offset count
+message_answer setting forest sessions session now (Twrite fid offset bytes) =
+    write_answer setting forest session now fid offset bytes
+message_answer setting forest sessions session now (Tclunk fid) =
+    clunk_answer setting forest session now fid
+message_answer setting forest sessions session now (Tremove fid) =
+    remove_answer setting forest session now fid
+message_answer setting forest sessions session now (Tstat fid) = stat_answer setting forest session fid
+message_answer setting forest sessions session now (Twstat fid stat) =
+    wstat_answer setting forest session now fid stat
 
 -- the same of a frame, which may have no request
 abbrev pub frame_answer : Setting → List Server → List SessionRow → Session → ℕ → List ℕ → Answer

@@ -77,8 +77,8 @@ fn text_from(bytes: &[u8]) -> Option<&str>
     ensures { Gives (λ s. s.now) result (if text_test bytes.now then Some bytes.now else None) }
 {
     match from_utf8(bytes) {
-        Ok(text) => { if is_text(text) { Some(text) } else { None } }
-        Err(_) => None,
+        Ok(text) if is_text(text) => Some(text),
+        _ => None,
     }
 }
 
@@ -138,13 +138,9 @@ fn some_names(count: usize, bytes: &[u8]) -> Option<(Names<'_>, &[u8])>
     let mut names = Names::new();
     let mut rest = bytes;
     for i in 0..count {
-        match take_text(rest) {
-            None => return None,
-            Some((name, after)) => {
-                names.push(name);
-                rest = after;
-            }
-        }
+        let (name, after) = take_text(rest)?;
+        names.push(name);
+        rest = after;
     }
     Some((names, rest))
 }
@@ -166,13 +162,9 @@ fn some_qids(count: usize, bytes: &[u8]) -> Option<(Qids, &[u8])>
     let mut qids = Qids::new();
     let mut rest = bytes;
     for i in 0..count {
-        match take_qid(rest) {
-            None => return None,
-            Some((qid, after)) => {
-                qids.push(qid);
-                rest = after;
-            }
-        }
+        let (qid, after) = take_qid(rest)?;
+        qids.push(qid);
+        rest = after;
     }
     Some((qids, rest))
 }

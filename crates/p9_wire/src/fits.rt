@@ -2,14 +2,13 @@
 //! that is. A number fits by its type, so only texts and lengths are looked at.
 
 ghost use Rattle.std.specs.Prelude.{◌≡◌, ◌<◌, ◌+◌, ◌^◌, ◌↔◌, IsTrue, length, sum_by};
-ghost use Rattle.p9_wire.specs.Fields.{FitsText, FitsNames, FitsStat};
+ghost use Rattle.p9_wire.specs.Fields.{FitsText, FitsNames, FitsStat, stat_len};
 ghost use Rattle.p9_wire.specs.Message.{stat_view, t_view, r_view};
 ghost use Rattle.p9_wire.specs.Spelling.{t_len, TFits, r_len, RFits};
 
-use crate::constants::{HEADER, MAXWELEM, QID};
+use crate::constants::{HEADER, MAXWELEM, QID, STAT_FIXED};
 use crate::message::{RMsg, Stat, TMsg};
 use crate::names::Names;
-use crate::put::stat_size;
 use p9_base::is_text;
 
 /// The most bytes of a text, whose length is in two.
@@ -29,8 +28,8 @@ fn text_fits(text: &str) -> bool
 fn names_fit(names: &Names<'_>) -> bool
     ensures { IsTrue result ↔ FitsNames names.now }
 {
-    for i in 0..names.len() {
-        if !text_fits(names.get(i)) {
+    for name in names.as_slice() {
+        if !text_fits(name) {
             return false;
         }
     }
@@ -44,8 +43,8 @@ fn names_size(names: &Names<'_>) -> usize
     ensures small { result < 2 ^ 21 }
 {
     let mut size = 0;
-    for i in 0..names.len() {
-        size += 2 + names.get(i).len();
+    for name in names.as_slice() {
+        size += 2 + name.len();
     }
     size
 }
@@ -58,7 +57,20 @@ fn stat_fits(stat: &Stat<'_>) -> bool
         && text_fits(stat.uid)
         && text_fits(stat.gid)
         && text_fits(stat.muid);
-    texts_fit && stat_size(stat) <= TEXT_MAX
+    texts_fit && stat.size() <= TEXT_MAX
+}
+
+impl Stat<'_> {
+    /// How many bytes the stat takes, its own size among them, as stat(5).
+    pub fn size(&self) -> usize
+        requires name { length self.now.name.now < 2 ^ 16 }
+        requires uid { length self.now.uid.now < 2 ^ 16 }
+        requires gid { length self.now.gid.now < 2 ^ 16 }
+        requires muid { length self.now.muid.now < 2 ^ 16 }
+        ensures { result ≡ stat_len (stat_view self.now) }
+    {
+        STAT_FIXED + self.name.len() + self.uid.len() + self.gid.len() + self.muid.len()
+    }
 }
 
 impl TMsg<'_> {
@@ -102,7 +114,7 @@ impl TMsg<'_> {
             TMsg::Clunk { .. } => HEADER + 4,
             TMsg::Remove { .. } => HEADER + 4,
             TMsg::Stat { .. } => HEADER + 4,
-            TMsg::Wstat { stat, .. } => HEADER + 4 + 2 + stat_size(stat),
+            TMsg::Wstat { stat, .. } => HEADER + 4 + 2 + stat.size(),
         }
     }
 }
@@ -147,7 +159,7 @@ impl RMsg<'_> {
             RMsg::Write { .. } => HEADER + 4,
             RMsg::Clunk => HEADER,
             RMsg::Remove => HEADER,
-            RMsg::Stat { stat } => HEADER + 2 + stat_size(stat),
+            RMsg::Stat { stat } => HEADER + 2 + stat.size(),
             RMsg::Wstat => HEADER,
         }
     }

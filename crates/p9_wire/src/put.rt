@@ -7,7 +7,6 @@ ghost use Rattle.p9_wire.specs.Fields.{stat_fields, stat_bytes, stat_len, FitsSt
 ghost use Rattle.p9_wire.specs.Message.{stat_view};
 ghost use Rattle.p9_wire.specs.Writing.{Puts, Writes};
 
-use crate::constants::STAT_FIXED;
 use crate::message::Stat;
 use crate::names::Names;
 use crate::qids::Qids;
@@ -107,10 +106,10 @@ pub fn put_names(out: &mut [u8], at: usize, names: &Names<'_>) -> usize
     ensures next { result ≡ at + 2 + sum_by (λ n. 2 + length n) names.now }
     ensures bytes { Puts (several text names.now) at result out.old out.new }
 {
-    let count = names.len();
-    let mut end = put_u16(out, at, count as u16);
-    for i in 0..count {
-        end = put_text(out, end, names.get(i));
+    let items = names.as_slice();
+    let mut end = put_u16(out, at, items.len() as u16);
+    for name in items {
+        end = put_text(out, end, name);
     }
     end
 }
@@ -129,17 +128,6 @@ pub fn put_qids(out: &mut [u8], at: usize, qids: &Qids) -> usize
     end
 }
 
-/// How many bytes a stat takes, its own size among them.
-pub fn stat_size(stat: &Stat<'_>) -> usize
-    requires name { length stat.now.name.now < 2 ^ 16 }
-    requires uid { length stat.now.uid.now < 2 ^ 16 }
-    requires gid { length stat.now.gid.now < 2 ^ 16 }
-    requires muid { length stat.now.muid.now < 2 ^ 16 }
-    ensures { result ≡ stat_len (stat_view stat.now) }
-{
-    STAT_FIXED + stat.name.len() + stat.uid.len() + stat.gid.len() + stat.muid.len()
-}
-
 /// A stat, which begins with the number of the bytes behind its size.
 fn put_stat(out: &mut [u8], at: usize, stat: &Stat<'_>) -> usize
     requires fits { FitsStat (stat_view stat.now) }
@@ -147,7 +135,7 @@ fn put_stat(out: &mut [u8], at: usize, stat: &Stat<'_>) -> usize
     ensures next { result ≡ at + stat_len (stat_view stat.now) }
     ensures bytes { Puts (stat_bytes (stat_view stat.now)) at result out.old out.new }
 {
-    let size = stat_size(stat) - 2;
+    let size = stat.size() - 2;
     let at = put_u16(out, at, size as u16);
     let at = put_u16(out, at, stat.kind);
     let at = put_u32(out, at, stat.dev);
@@ -169,7 +157,7 @@ pub fn put_sized_stat(out: &mut [u8], at: usize, stat: &Stat<'_>) -> usize
     ensures next { result ≡ at + 2 + stat_len (stat_view stat.now) }
     ensures bytes { Puts (sized stat_bytes (stat_view stat.now)) at result out.old out.new }
 {
-    let at = put_u16(out, at, stat_size(stat) as u16);
+    let at = put_u16(out, at, stat.size() as u16);
     put_stat(out, at, stat)
 }
 

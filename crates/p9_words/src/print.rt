@@ -171,9 +171,9 @@ fn print_indexed_names<A: Allocator + Copy>(
     ensures { OnOk result
         (out.new.items ≡ out.old.items ++ items_words name_words 0 names.now) }
 {
-    for i in 0..names.len() {
+    for (i, name) in names.as_slice().iter().enumerate() {
         print_index(i, out)?;
-        print_name(names.get(i).as_bytes(), out)?;
+        print_name(name.as_bytes(), out)?;
     }
     Ok(())
 }

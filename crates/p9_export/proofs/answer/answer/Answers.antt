@@ -14,8 +14,8 @@ use Rattle.p9_wire.specs.Spelling.{read_header}
 use Rattle.p9_step.specs.Open.{is_in_use}
 use Rattle.p9_step.specs.Request.{request_of}
 use Rattle.p9_step.specs.State.{session_at}
-use Rattle.p9_step.specs.Step.{finds_taken}
 use Rattle.p9_export.specs.Answers.{request_view}
+use Rattle.p9_export.specs.Taken.{finds_taken}
 use Rattle.p9_export.proofs.Among.{among-none, among-request, room_of-small}
 use Rattle.p9_export.proofs.Rooms.{data-room}
 use Rattle.p9_step.proofs.Settled.{fits-of}
@@ -124,7 +124,7 @@ returns-in_default-clause-answer g c =
     its.session its.session c.message.new.session.session
     c.args.frame.now (t_view c.in_ok-request.request) false _ there there is takes
     (ap sessions_in (c.get_mut.follows.holds c.message.new.session).0
-    ∙ set-mapped session_in test rows c.message.new.session) c.message.ensures.answer)
+    ∙ set-mapped session_in test rows c.message.new.session) (c.message.ensures.answer (sessions_in rows)))
 
 pub is_in_use-taken-requires : goal.is_in_use-taken-requires
 is_in_use-taken-requires g c =
@@ -231,7 +231,7 @@ returns-clause-answer g c =
     (ap sessions_in ((c.get_mut-2.follows.holds c.message-2.new.session).0
     ∙ ap (λ rs. set_value test rs c.message-2.new.session) unchanged)
     ∙ set-mapped session_in test rows c.message-2.new.session)
-    c.message-2.ensures.answer)
+    (c.message-2.ensures.answer (sessions_in rows)))
 
 pub unwrap-session-requires : goal.unwrap-session-requires
 unwrap-session-requires g c =

@@ -1,15 +1,16 @@
-use Rattle.std.proofs.Common.{◌≡◌, Ok, Some, sym, ap, ◌∙◌, true}
+use Rattle.std.proofs.Common.{◌≡◌, Err, Ok, Some, inl, sym, ap, ◌∙◌, true}
+use Rattle.std.proofs.lemmas.Result.{err_from_is_err_and}
 use Rattle.std.specs.Prelude.{is_none}
 use Rattle.p9_fids.specs.Fid.{fid_at}
 use Rattle.p9_fids.specs.Held.{Held}
 use Rattle.p9_space.specs.Table.{members_of}
 use Rattle.p9_space.specs.Trail.{here}
 use Rattle.p9_export.specs.Create.{create_steps, created_in, target_among}
-use Rattle.p9_export.proofs.Creates.{none-of, steps-found}
+use Rattle.p9_export.proofs.Creates.{none-of, steps-found, steps-refused}
 use Rattle.p9_export.proofs.create.planned.Goals as goal
 
-pub returns-in-Ok-target_among-clause-ok : goal.returns-in-Ok-target_among-clause-ok
-returns-in-Ok-target_among-clause-ok g c =
+pub returns-clause-ok : goal.returns-clause-ok
+returns-clause-ok g c =
     let forest = c.args.forest.now in
     let s = c.args.session.now.session in
     let v = c.in-Some.held.now.fid in
@@ -20,21 +21,21 @@ returns-in-Ok-target_among-clause-ok g c =
     sym (ap (λ (h : Held). is_none h.fid.opened) c.held.view_is)
     ∙ none-of c.held.inside.opened (sym c.is_some.ensures ∙ c.if-is_some.false) in
     let chosen : target_among forest (members_of (here v.trail) c.args.setting.now.table)
-    ≡ Ok c.in-Ok-target_among.target =
+    ≡ Ok c.in_ok-target.target =
     rw (← c.held.view_is, ← c.setting.view_is)
     (ap (target_among forest) (sym (c.as_slice.ensures ∙ c.members-members.ensures.members))
-    ∙ sym c.in-Ok-target_among.ensures) in
+    ∙ sym c.in_ok-target.ensures) in
     let is : create_steps c.args.setting.now forest s c.args.now c.args.wanted.fid
     c.args.wanted.name.now c.args.wanted.perm c.args.wanted.mode
-    ≡ created_in c.args.setting.now forest s c.args.now c.args.wanted.fid v c.in-Ok.asked
-    c.in-Ok-target_among.target =
+    ≡ created_in c.args.setting.now forest s c.args.now c.args.wanted.fid v c.in_ok-asked.asked
+    c.in_ok-target.target =
     steps-found c.args.setting.now forest s c.args.now c.args.wanted.fid c.args.wanted.name.now
-    c.args.wanted.perm c.args.wanted.mode v c.in-Ok.asked c.in-Ok-target_among.target found shut
-    (sym c.in-Ok.ensures) chosen in
+    c.args.wanted.perm c.args.wanted.mode v c.in_ok-asked.asked c.in_ok-target.target found shut
+    (sym c.in_ok-asked.ensures) chosen in
     rw is (c.plan_in.ensures.ok s c.args.wanted.fid)
 
-pub returns-in-Ok-target_among-clause-err : goal.returns-in-Ok-target_among-clause-err
-returns-in-Ok-target_among-clause-err g c =
+pub returns-clause-err : goal.returns-clause-err
+returns-clause-err g c =
     let forest = c.args.forest.now in
     let s = c.args.session.now.session in
     let v = c.in-Some.held.now.fid in
@@ -45,15 +46,38 @@ returns-in-Ok-target_among-clause-err g c =
     sym (ap (λ (h : Held). is_none h.fid.opened) c.held.view_is)
     ∙ none-of c.held.inside.opened (sym c.is_some.ensures ∙ c.if-is_some.false) in
     let chosen : target_among forest (members_of (here v.trail) c.args.setting.now.table)
-    ≡ Ok c.in-Ok-target_among.target =
+    ≡ Ok c.in_ok-target.target =
     rw (← c.held.view_is, ← c.setting.view_is)
     (ap (target_among forest) (sym (c.as_slice.ensures ∙ c.members-members.ensures.members))
-    ∙ sym c.in-Ok-target_among.ensures) in
+    ∙ sym c.in_ok-target.ensures) in
     let is : create_steps c.args.setting.now forest s c.args.now c.args.wanted.fid
     c.args.wanted.name.now c.args.wanted.perm c.args.wanted.mode
-    ≡ created_in c.args.setting.now forest s c.args.now c.args.wanted.fid v c.in-Ok.asked
-    c.in-Ok-target_among.target =
+    ≡ created_in c.args.setting.now forest s c.args.now c.args.wanted.fid v c.in_ok-asked.asked
+    c.in_ok-target.target =
     steps-found c.args.setting.now forest s c.args.now c.args.wanted.fid c.args.wanted.name.now
-    c.args.wanted.perm c.args.wanted.mode v c.in-Ok.asked c.in-Ok-target_among.target found shut
-    (sym c.in-Ok.ensures) chosen in
+    c.args.wanted.perm c.args.wanted.mode v c.in_ok-asked.asked c.in_ok-target.target found shut
+    (sym c.in_ok-asked.ensures) chosen in
     rw is (c.plan_in.ensures.err s c.args.wanted.fid)
+
+pub returns-in_err-target-clause-err : goal.returns-in_err-target-clause-err
+returns-in_err-target-clause-err g c =
+    let forest = c.args.forest.now in
+    let s = c.args.session.now.session in
+    let v = c.in-Some.held.now.fid in
+    let fault = c.in_err-target.field-0.0 in
+    let found : fid_at c.args.wanted.fid s.fids ≡ Some v =
+    sym (ap (λ s. fid_at c.args.wanted.fid s.session.fids) c.session.view_is)
+    ∙ sym c.in-Some.ensures.fid in
+    let shut : is_none v.opened ≡ true =
+    sym (ap (λ (h : Held). is_none h.fid.opened) c.held.view_is)
+    ∙ none-of c.held.inside.opened (sym c.is_some.ensures ∙ c.if-is_some.false) in
+    let chosen : target_among forest (members_of (here v.trail) c.args.setting.now.table) ≡ Err fault =
+    rw (← c.held.view_is, ← c.setting.view_is)
+    (ap (target_among forest) (sym (c.as_slice.ensures ∙ c.members-members.ensures.members))
+    ∙ sym c.target_among.ensures ∙ c.in_err-target.was) in
+    let r = c.from_residual-in_err-target in
+    let p = err_from_is_err_and r.result r.ensures.1 in
+    rw (p.1, p.2)
+    (inl (steps-refused c.args.setting.now forest s c.args.now c.args.wanted.fid
+    c.args.wanted.name.now c.args.wanted.perm c.args.wanted.mode v c.in_ok-asked.asked fault found
+    shut (sym c.in_ok-asked.ensures) chosen))

@@ -4,21 +4,22 @@ use Rattle.p9_wire.specs.FieldReading.{times, qid_at}
 use Rattle.p9_wire.proofs.Times.{goes_on, ends, is_done}
 use Rattle.p9_wire.proofs.fields.some_qids.Goals as goal
 
-pub returns-in-None : goal.returns-in-None
-returns-in-None c =
-    ends qid_at c.loop-i.qids c.args.count c.loop-i.i c.loop-i.rest.now
-    (times qid_at c.args.count c.args.bytes.now) c.loop-i-test.true c.in-None.ensures
-    c.loop-i.invariant.so_far
+pub returns-in_err-qid : goal.returns-in_err-qid
+returns-in_err-qid c =
+    rw c.from_residual.ensures
+    (ends qid_at c.loop-i.qids c.args.count c.loop-i.i c.loop-i.rest.now
+    (times qid_at c.args.count c.args.bytes.now) c.loop-i-test.true c.in_err-qid.ensures
+    c.loop-i.invariant.so_far)
 
 pub loop-i-preserved : goal.loop-i-preserved
 loop-i-preserved c = record {
   so_far =
       rw c.push.ensures
-      (goes_on qid_at c.loop-i.qids c.args.count c.loop-i.i c.loop-i.rest.now c.in-Some.qid
-      c.in-Some.after.now (times qid_at c.args.count c.args.bytes.now) c.loop-i-test.true
-      c.in-Some.ensures c.loop-i.invariant.so_far);
+      (goes_on qid_at c.loop-i.qids c.args.count c.loop-i.i c.loop-i.rest.now c.in_ok-qid.qid
+      c.in_ok-qid.after.now (times qid_at c.args.count c.args.bytes.now) c.loop-i-test.true
+      c.in_ok-qid.ensures c.loop-i.invariant.so_far);
   filled =
-      rw c.push.ensures (length_push c.loop-i.qids c.in-Some.qid
+      rw c.push.ensures (length_push c.loop-i.qids c.in_ok-qid.qid
       ∙ ap (λ (n : ℕ). n + 1) c.loop-i.invariant.filled);
 }
 

@@ -3,5 +3,5 @@ use Rattle.std.specs.List.{AllByRecursion}
 use Rattle.p9_wire.specs.Fields.{FitsText}
 use Rattle.p9_wire.proofs.fits.names_fit.Given as goal
 
-abbrev pub invariant-loop-i : goal.invariant-loop-i
-invariant-loop-i l = AllByRecursion FitsText (take l.i l.names)
+abbrev pub invariant-loop-name : goal.invariant-loop-name
+invariant-loop-name l = AllByRecursion FitsText (take l.name-index l.names)

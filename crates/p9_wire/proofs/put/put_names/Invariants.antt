@@ -5,10 +5,10 @@ use Rattle.p9_wire.specs.Fields.{number, text}
 use Rattle.p9_wire.specs.Writing.{Puts}
 use Rattle.p9_wire.proofs.put.put_names.Given as goal
 
-abbrev pub invariant-loop-i : goal.invariant-loop-i
-invariant-loop-i l = record {
-  counted : l.count ≡ length l.names;
-  next : l.end ≡ l.fn.at + 2 + sum_by (λ n. 2 + length n) (take l.i l.names);
-  puts : Puts (number 2 (length l.names) ++ flat_map text (take l.i l.names)) l.fn.at l.end l.fn.out
-      l.out;
+abbrev pub invariant-loop-name : goal.invariant-loop-name
+invariant-loop-name l = record {
+  counted : length l.items ≡ length l.names;
+  next : l.end ≡ l.fn.at + 2 + sum_by (λ n. 2 + length n) (take l.name-index l.names);
+  puts : Puts (number 2 (length l.names) ++ flat_map text (take l.name-index l.names)) l.fn.at l.end
+      l.fn.out l.out;
 }
