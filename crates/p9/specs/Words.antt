@@ -22,8 +22,8 @@ use Rattle.p9.specs.declared.words.Asked.TheVariants.{Command, Serve}
 abbrev pub known : Text → Option Text
 known word = if is_some (command_of word) then Some word else None
 
--- the command that the words ask for: the first word is the program's name, no other word is
--- `play`, one is itself where it is known, and more are a bad command line
+-- the command that the words ask for, of which the first is the program's name: `play` if no word
+-- follows it; if one follows, that word where it is known; if more do, none
 abbrev pub asked_by : List Text → Option Text
 asked_by [] = Some (codes "play")
 asked_by (program ∷ []) = Some (codes "play")

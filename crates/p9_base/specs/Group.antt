@@ -33,11 +33,11 @@ abbrev pub has_member : List ℕ → Group → Bool
 has_member user group = list_any (bytes_eq user) group.members
 
 -- the user is a member of the group; of one that isn't listed the user of its name is the only one
-abbrev pub is_member : List GroupRow → List ℕ → List ℕ → Bool
+abbrev pub is_member : List GroupRow → (group user : List ℕ) → Bool
 is_member groups group user =
     option_map_or (has_member user) (group_of group groups) (bytes_eq group user)
 
 -- the user leads the group; one that isn't listed is led by the user of its name
-abbrev pub leads : List GroupRow → List ℕ → List ℕ → Bool
+abbrev pub leads : List GroupRow → (group user : List ℕ) → Bool
 leads groups group user =
     option_map_or (λ g. bytes_eq g.leader user) (group_of group groups) (bytes_eq group user)

@@ -7,8 +7,8 @@ abbrev pub and_then : {S T E : Type 0} → Result S E → (S → Result T E) →
 and_then (Ok value) continue = continue value
 and_then (Err error) continue = Err error
 
--- The tests that are before a result, one after another. They are shut in proofs, so that a proof
--- takes one test at a time.
+-- The tests that are before a result, one after another. Proofs don't unfold them unless they say
+-- so, and thus take one test at a time.
 
 -- goes on where the test passes
 unfoldable pub need : {X E : Type 0} → Bool → E → Result X E → Result X E

@@ -13,7 +13,7 @@ pub enum Fault {
     /// The bytes are no message, or more than the session's msize.
     #[error("malformed message")]
     Malformed,
-    /// A session's first message is not a version.
+    /// A request other than a version, while the session has no msize.
     #[error("version not set")]
     VersionNotSet,
     /// A version asks for an msize below 512.
@@ -25,7 +25,7 @@ pub enum Fault {
     /// An attach by somebody who is no listed user.
     #[error("unknown user")]
     UnknownUser,
-    /// An attach to a tree that is not there.
+    /// An attach by a name that is neither empty nor begins with a slash.
     #[error("unknown attach name")]
     UnknownAttachName,
     /// The session has no such fid, or it may not be one.
@@ -49,7 +49,9 @@ pub enum Fault {
     /// The user lacks a permission.
     #[error("permission denied")]
     PermissionDenied,
-    /// The fid's file was removed.
+    /// A file that has to exist was removed: that of a fid, the root of the name space in an
+    /// attach, each member of a place from which a walk or a create goes on, or the file where a walk
+    /// arrives.
     #[error("phase error")]
     PhaseError,
     /// A mode to open or create with that means nothing.
@@ -152,7 +154,7 @@ impl Fault {
     }
 }
 
-/// From whatever says that an allocation failed.
+/// Every error that [`NoMemory`] is made from says that an allocation failed.
 impl<E: Drop> From<E> for Fault
 where
     NoMemory: From<E>,

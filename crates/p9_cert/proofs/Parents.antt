@@ -14,7 +14,7 @@ use Rattle.p9_tree.specs.Forest.{IsForest, is_dir_of, node_of}
 use Rattle.p9_tree.specs.Inside.{is_among, is_barred, is_hidden, is_inside}
 use Rattle.p9_inside.proofs.Forests.{barred_is_hidden_or_inside, inside_by_barred_parent}
 use Rattle.p9_inside.proofs.Forests.{server_ordered}
-use Rattle.p9_cert.specs.Closed.{AreShown}
+use Rattle.p9_cert.specs.Closed.{AreNotBarred}
 use Rattle.p9_cert.specs.Gap.{row_fault, where_true}
 use Rattle.p9_cert.specs.Policy.{Policy}
 use Rattle.p9_cert.specs.Rows.{is_row}
@@ -65,7 +65,7 @@ module _ (hidden : List NodeRef) (forest : List Server) (sound : IsForest forest
           (beside at p) hidden forest) h
 
       -- where it is shown, it is not
-      pub inside-shown : (rows : List NodeRef) → AreShown hidden forest rows
+      pub inside-shown : (rows : List NodeRef) → AreNotBarred hidden forest rows
           → is_row rows (beside at p) ≡ true → is_inside at hidden forest ≡ false
       inside-shown rows shown row = up ∙ shown.each (beside at p) row
 
@@ -109,13 +109,13 @@ module _ (policy : Policy) (forest : List Server) (at : NodeRef) where
 
 -- A row more is shown.
 
-pub shown-none : (hidden : List NodeRef) (forest : List Server) → AreShown hidden forest []
+pub shown-none : (hidden : List NodeRef) (forest : List Server) → AreNotBarred hidden forest []
 shown-none hidden forest = record { each = λ at e. let no : false ≡ true = e in absurd (cc) }
 
 pub shown-more : (hidden : List NodeRef) (forest : List Server) (rows : List NodeRef) (i : ℕ)
     (row d : NodeRef) → i < length rows → row ≡ get_or rows i d
-    → is_barred row hidden forest ≡ false → AreShown hidden forest (take i rows)
-    → AreShown hidden forest (take (i + 1) rows)
+    → is_barred row hidden forest ≡ false → AreNotBarred hidden forest (take i rows)
+    → AreNotBarred hidden forest (take (i + 1) rows)
 shown-more hidden forest rows i row d l e out shown = record {
   each = λ at t. go at (is_row (take i rows) at) refl (sym (list_any_more
       (λ r. same_node r at) rows i d l) ∙ t);

@@ -31,6 +31,6 @@ module _ (policy : Policy) (forest : List Server) where
         → IsSafe policy forest table certified (beside at k)
 
 -- none of the rows is hidden or inside a hidden directory
-pub record AreShown (hidden : List NodeRef) (forest : List Server) (rows : List NodeRef) :
+pub record AreNotBarred (hidden : List NodeRef) (forest : List Server) (rows : List NodeRef) :
     Type 0 where
   pub each : (at : NodeRef) → IsTrue (is_row rows at) → IsFalse (is_barred at hidden forest)

@@ -27,7 +27,7 @@ module _ (policy : Policy) (forest : List Server) where
       → IsFalse (is_alterable policy.users policy.groups d)
 
   -- a member is not inside a hidden directory; if it is hidden, it is shut and guarded; if listed
-  -- users may pass it, it is in the certificate. A member that is gone is no danger
+  -- users may pass it, it is in the certificate. A member that is gone is safe
   pub record IsSafeMember (certified : Set) (at : NodeRef) : Type 0 where
     pub outside : IsFalse (is_inside at policy.hidden forest)
     pub shut : IsTrue (is_hidden at policy.hidden)

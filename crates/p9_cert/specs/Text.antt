@@ -14,13 +14,13 @@ use Rattle.p9_cert.specs.declared.read.ReadError.{ReadError}
 use Rattle.p9_cert.specs.declared.read.ReadError.TheVariants.{BadCert, NoMemory}
 use Rattle.p9_cert.specs.Rows.{may_follow}
 
--- `cert 1`, to the letter
+-- the words `cert` and `1`, spelled so
 abbrev pub is_head : List (List ℕ) → Bool
 is_head (verb ∷ version ∷ []) = bytes_eq verb (codes "cert") && bytes_eq version (codes "1")
 is_head words = false
 
 -- a node, where both of its parts are good
-abbrev pub node_ref_of : Option ℕ → Option ℕ → Option NodeRef
+abbrev pub node_ref_of : (server number : Option ℕ) → Option NodeRef
 node_ref_of (Some server) (Some number) = Some (record { server = server; number = number })
 node_ref_of server number = None
 
@@ -33,13 +33,13 @@ row_in (verb ∷ server ∷ number ∷ []) =
 row_in words = None
 
 -- a row joins those before it, where it is greater; else the line is bad
-abbrev pub joined : List NodeRef → ℕ → Option NodeRef → Result (List NodeRef) ℕ
-joined rows line (Some row) = if may_follow rows row then Ok (rows ++ row ∷ []) else Err line
-joined rows line None = Err line
+abbrev pub with_next_row : List NodeRef → ℕ → Option NodeRef → Result (List NodeRef) ℕ
+with_next_row rows line (Some row) = if may_follow rows row then Ok (rows ++ row ∷ []) else Err line
+with_next_row rows line None = Err line
 
 -- the same of a statement: its line and its words
 abbrev pub with_statement : List NodeRef → ℕ × List (List ℕ) → Result (List NodeRef) ℕ
-with_statement rows statement = joined rows statement.0 (row_in statement.1)
+with_statement rows statement = with_next_row rows statement.0 (row_in statement.1)
 
 -- the rows that the statements of a text give, or the number of the first bad line; that is 1 where
 -- there is no statement

@@ -61,7 +61,7 @@ impl<A: Allocator> Certificate<A> {
         self.rows.as_slice()
     }
 
-    /// Whether the node is a row. It is looked for by halves.
+    /// Whether the node is a row. It is looked for by binary search.
     pub fn contains(&self, at: NodeRef) -> bool
         ensures { result ≡ is_row self.now at }
     {

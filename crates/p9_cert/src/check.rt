@@ -3,7 +3,7 @@
 ghost use Rattle.std.specs.Prelude.{◌≡◌, ◌↔◌, AllPairs, IsFalse, IsOk, IsTrue, OnOk};
 ghost use Rattle.std.specs.Result.{result_err};
 ghost use Rattle.p9_tree.specs.Inside.{is_barred};
-ghost use Rattle.p9_cert.specs.Closed.{AreShown, IsClosed};
+ghost use Rattle.p9_cert.specs.Closed.{AreNotBarred, IsClosed};
 ghost use Rattle.p9_cert.specs.Gap.{children_gap, first_counted, first_gap, members_gap, mount_gap};
 ghost use Rattle.p9_cert.specs.Gap.{node_gap, place_gap, root_gap, row_fault, row_gap, table_gap};
 ghost use Rattle.p9_cert.specs.Policy.{policy_of};
@@ -28,9 +28,10 @@ use std::alloc::Allocator;
 /// 3. the members of the root place, and then, row by row and by rising number, those of each child
 ///    of a row, taken as a place: each is safe, as [`MemberFault`](crate::MemberFault) says.
 ///
-/// This takes no memory. For each row, and for each member of a child of a row, it asks the forest
-/// for a few nodes. To see whether a node is inside, it looks at the directories above it only up
-/// to the first that is a row.
+/// This takes no memory. For each row, and for each member of a child of a row, it looks for the
+/// node, and for its number among the rows, and goes over the listed users and the hidden
+/// directories. To see whether a node is inside, it also looks at the directories above it, up to
+/// the first that is a row, and goes over the hidden directories for each of them.
 pub fn verify<T: Tree, A: Allocator + Copy, B: Allocator>(
     world: &World<T>,
     table: &MountTable<A>,
@@ -110,7 +111,7 @@ fn check_rows<T: Tree>(world: &World<T>, rows: &[NodeRef]) -> Result<(), Gap>
     requires { AllPairs (λ a b. IsTrue (is_below a b)) rows.now }
     ensures gap { result_err result
         ≡ first_counted (row_gap (policy_of world.now) world.now.forest) 1 rows.now }
-    ensures shown { OnOk result (AreShown world.now.hidden world.now.forest rows.now) }
+    ensures shown { OnOk result (AreNotBarred world.now.hidden world.now.forest rows.now) }
 {
     for (i, row) in rows.iter().enumerate() {
         check_row(world, &rows[..i], i as u64 + 1, *row)?;
@@ -126,7 +127,7 @@ fn check_row<T: Tree>(
     row: NodeRef,
 ) -> Result<(), Gap>
     requires rising { AllPairs (λ a b. IsTrue (is_below a b)) shown.now }
-    requires shown { AreShown world.now.hidden world.now.forest shown.now }
+    requires shown { AreNotBarred world.now.hidden world.now.forest shown.now }
     ensures gap { result_err result ≡ row_gap (policy_of world.now) world.now.forest number row }
     ensures outside { OnOk result
         (IsFalse (is_barred row world.now.hidden world.now.forest)) }
@@ -141,7 +142,7 @@ fn check_row<T: Tree>(
 // What is wrong with a row, behind those that are shown.
 fn row_fault<T: Tree>(world: &World<T>, shown: &[NodeRef], row: NodeRef) -> Option<RowFault>
     requires rising { AllPairs (λ a b. IsTrue (is_below a b)) shown.now }
-    requires shown { AreShown world.now.hidden world.now.forest shown.now }
+    requires shown { AreNotBarred world.now.hidden world.now.forest shown.now }
     ensures { result ≡ row_fault (policy_of world.now) world.now.forest row }
 {
     let hidden = world.hidden.as_slice();
@@ -163,7 +164,7 @@ fn check_root<T: Tree, A: Allocator + Copy>(
     rows: &[NodeRef],
 ) -> Result<(), Gap>
     requires rising { AllPairs (λ a b. IsTrue (is_below a b)) rows.now }
-    requires shown { AreShown world.now.hidden world.now.forest rows.now }
+    requires shown { AreNotBarred world.now.hidden world.now.forest rows.now }
     ensures { result_err result
         ≡ root_gap (policy_of world.now) world.now.forest table.now rows.now }
 {
@@ -180,7 +181,7 @@ fn check_children<T: Tree, A: Allocator + Copy>(
     rows: &[NodeRef],
 ) -> Result<(), Gap>
     requires rising { AllPairs (λ a b. IsTrue (is_below a b)) rows.now }
-    requires shown { AreShown world.now.hidden world.now.forest rows.now }
+    requires shown { AreNotBarred world.now.hidden world.now.forest rows.now }
     ensures { result_err result ≡ first_counted
         (children_gap (policy_of world.now) world.now.forest table.now rows.now) 1 rows.now }
 {
@@ -199,7 +200,7 @@ fn check_children_of<T: Tree, A: Allocator + Copy>(
     row: NodeRef,
 ) -> Result<(), Gap>
     requires rising { AllPairs (λ a b. IsTrue (is_below a b)) rows.now }
-    requires shown { AreShown world.now.hidden world.now.forest rows.now }
+    requires shown { AreNotBarred world.now.hidden world.now.forest rows.now }
     ensures { result_err result
         ≡ children_gap (policy_of world.now) world.now.forest table.now rows.now number row }
 {
@@ -222,7 +223,7 @@ fn check_child<T: Tree, A: Allocator + Copy>(
     child: NodeRef,
 ) -> Result<(), Gap>
     requires rising { AllPairs (λ a b. IsTrue (is_below a b)) rows.now }
-    requires shown { AreShown world.now.hidden world.now.forest rows.now }
+    requires shown { AreNotBarred world.now.hidden world.now.forest rows.now }
     ensures { result_err result
         ≡ place_gap (policy_of world.now) world.now.forest table.now rows.now row child }
 {

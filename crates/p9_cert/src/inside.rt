@@ -3,7 +3,7 @@
 ghost use Rattle.std.specs.Prelude.{◌≡◌, ◌<◌, AllPairs, IfSome, IsTrue, option_and_then};
 ghost use Rattle.p9_tree.specs.Forest.{node_of};
 ghost use Rattle.p9_tree.specs.Inside.{is_hidden, is_inside};
-ghost use Rattle.p9_cert.specs.Closed.{AreShown};
+ghost use Rattle.p9_cert.specs.Closed.{AreNotBarred};
 ghost use Rattle.p9_cert.specs.Rows.{is_below, is_row};
 
 use crate::rows::is_row;
@@ -33,7 +33,7 @@ pub(crate) fn is_inside<T: Tree>(
     at: NodeRef,
 ) -> bool
     requires rising { AllPairs (λ a b. IsTrue (is_below a b)) shown.now }
-    requires shown { AreShown hidden.now forest.now shown.now }
+    requires shown { AreNotBarred hidden.now forest.now shown.now }
     ensures { result ≡ is_inside at hidden.now forest.now }
 {
     forest.well_formed();

@@ -2,7 +2,7 @@
 
 ghost use Rattle.std.specs.Prelude.{◌≡◌, AllPairs, IsTrue, Some};
 ghost use Rattle.p9_tree.specs.Forest.{node_of};
-ghost use Rattle.p9_cert.specs.Closed.{AreShown};
+ghost use Rattle.p9_cert.specs.Closed.{AreNotBarred};
 ghost use Rattle.p9_cert.specs.Gap.{hidden_fault, is_removable, member_fault, node_fault};
 ghost use Rattle.p9_cert.specs.Gap.{place_fault};
 ghost use Rattle.p9_cert.specs.Policy.{policy_of};
@@ -26,7 +26,7 @@ pub(crate) fn place_fault<T: Tree, A: Allocator + Copy>(
     place: NodeRef,
 ) -> Option<(NodeRef, MemberFault)>
     requires rising { AllPairs (λ a b. IsTrue (is_below a b)) rows.now }
-    requires shown { AreShown world.now.hidden world.now.forest rows.now }
+    requires shown { AreNotBarred world.now.hidden world.now.forest rows.now }
     ensures { result
         ≡ place_fault (policy_of world.now) world.now.forest table.now rows.now place }
 {
@@ -42,7 +42,7 @@ pub(crate) fn place_fault<T: Tree, A: Allocator + Copy>(
 /// them is hidden or inside a hidden directory. A member that doesn't exist is safe.
 pub fn member_fault<T: Tree>(world: &World<T>, rows: &[NodeRef], at: NodeRef) -> Option<MemberFault>
     requires rising { AllPairs (λ a b. IsTrue (is_below a b)) rows.now }
-    requires shown { AreShown world.now.hidden world.now.forest rows.now }
+    requires shown { AreNotBarred world.now.hidden world.now.forest rows.now }
     ensures { result ≡ member_fault (policy_of world.now) world.now.forest rows.now at }
 {
     if is_inside(&world.forest, world.hidden.as_slice(), rows, at) {

@@ -25,7 +25,7 @@ pub enum ReadError {
     NoMemory,
 }
 
-/// From whatever says that an allocation failed.
+/// Every error that [`p9_base::NoMemory`] is made from says that an allocation failed.
 impl<E: Drop> From<E> for ReadError
 where
     NoMemory: From<E>,
@@ -42,7 +42,7 @@ where
 
 /// The certificate that a text writes.
 ///
-/// Its first line is `cert 1`, to the letter, and each other line `dir SERVER NUMBER`: decimal
+/// Its first line is `cert 1`, spelled so, and each other line `dir SERVER NUMBER`: decimal
 /// numbers below 2^16 and 2^48, strictly rising by server, then number. Blank lines and comments
 /// are passed over, and counted. The first other line is [`ReadError::BadCert`], and so is line 1
 /// of a text without any; a failed allocation is [`ReadError::NoMemory`].

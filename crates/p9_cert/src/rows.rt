@@ -19,7 +19,7 @@ pub(crate) fn may_follow(rows: &[NodeRef], row: NodeRef) -> bool
     rows.last().is_none_or(|last| is_below(*last, row))
 }
 
-/// Whether the node is one of the rows. It is looked for by halves.
+/// Whether the node is one of the rows. It is looked for by binary search.
 pub(crate) fn is_row(rows: &[NodeRef], at: NodeRef) -> bool
     requires { AllPairs (λ a b. IsTrue (is_below a b)) rows.now }
     ensures { result ≡ is_row rows.now at }

@@ -4,13 +4,13 @@ use Rattle.std.proofs.Common.{Option, None, Some, Result, Err, sym, ap, ◌∙�
 use Rattle.p9_base.specs.Results.{try_fold}
 use Rattle.p9_base.proofs.Results.{try_fold-ok, try_fold-err}
 use Rattle.p9_step.specs.Event.{Event}
-use Rattle.p9_commands.specs.Script.{IsScriptFault, event_of, joined, with_statement}
+use Rattle.p9_commands.specs.Script.{IsScriptFault, event_of, with_event, with_statement}
 use Rattle.p9_commands.specs.declared.script.ScriptError.{ScriptError}
 use Rattle.p9_commands.specs.declared.script.ScriptError.TheVariants.{BadScript, NoMemory}
 
 -- a line that is bad by itself is bad behind any events
 bad_behind : (events : List Event) (line n : ℕ) (event : Option Event)
-    → joined [] line event ≡ Err n → joined events line event ≡ Err n
+    → with_event [] line event ≡ Err n → with_event events line event ≡ Err n
 bad_behind events line n None bad = bad
 bad_behind events line n (Some event) bad = cc
 
@@ -25,11 +25,11 @@ module _ {X : Type 0} (view : X → ℕ × List (List ℕ)) (items : List X)
   script-joined event after script says is kept =
       ap (λ events. try_fold with_statement events (drop (i + 1) statements)) is
       ∙ try_fold-ok with_statement view items statements same events i (events ++ event ∷ []) x d l
-      at (ap (joined events (view x).0) says) ∙ kept
+      at (ap (with_event events (view x).0) says) ∙ kept
 
   -- a statement that says none
   pub script-fault : (error : ScriptError) (script : Result (List Event) ℕ)
-      → IsScriptFault (joined [] (view x).0 (event_of (view x).1)) error →
+      → IsScriptFault (with_event [] (view x).0 (event_of (view x).1)) error →
       try_fold with_statement events (drop i statements) ≡ script → IsScriptFault script error
   script-fault NoMemory script fault kept = tt
   script-fault (BadScript n) script fault kept =

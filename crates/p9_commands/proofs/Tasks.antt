@@ -7,11 +7,12 @@ use Rattle.p9_base.specs.Results.{and_then}
 use Rattle.p9_cert.specs.declared.gap.Gap.{Gap}
 use Rattle.p9_step.specs.Event.{Event}
 use Rattle.p9_commands.specs.Bundle.{Texts}
-use Rattle.p9_commands.specs.Command.{Printed, Runs, Writes, job}
+use Rattle.p9_commands.specs.Command.{Printed, CommandRuns, Writes, job}
 use Rattle.p9_commands.specs.NameSpace.{NameSpace}
 use Rattle.p9_commands.specs.Refusal.{IsSilent, IsStop, IsUnverified}
 use Rattle.p9_commands.specs.Report.{reports_text}
-use Rattle.p9_commands.specs.Task.{Task, Work, admitted, gap_in, script_in, task_in, work_in}
+use Rattle.p9_commands.specs.Task.{Task, Work, admitted, gap_before_play, script_in, task_in}
+use Rattle.p9_commands.specs.Task.{work_in}
 use Rattle.p9_commands.specs.declared.refusal.Refusal.{Refusal}
 use Rattle.p9_commands.specs.declared.refusal.Refusal.TheVariants.{Unverified}
 use Rattle.p9_commands.specs.declared.refusal.Stop.{Stop}
@@ -48,14 +49,14 @@ module _ (command : Command) (texts : Texts) (space : NameSpace) where
           ∙ ap (λ events. and_then events (with_events task)) script_is
 
       -- with no gap it is this work
-      no_gap : gap_in space task ≡ None
+      no_gap : gap_before_play space task ≡ None
           → work_in command texts space ≡ Ok (record { task = task; events = events })
       no_gap none =
           let work : Work = record { task = task; events = events } in
           read ∙ ap (λ gap. option_map_or (λ (g : Gap). Err (Unverified g)) gap (Ok work)) none
 
       -- a gap is a reason against it
-      of_gap : (stop : Stop) → IsUnverified (gap_in space task) stop
+      of_gap : (stop : Stop) → IsUnverified (gap_before_play space task) stop
           → IsStop (work_in command texts space) stop
       of_gap NoMemory is = tt
       of_gap (Refused refusal) is =
@@ -67,7 +68,7 @@ module _ (command : Command) (texts : Texts) (space : NameSpace) where
   module _ (p : Printed) (told : p.err ≡ p.err_before ++ reports_text space.reports) where
     -- a reason against the work is told behind the reports
     stopped : (stop : Stop) → IsStop (work_in command texts space) stop
-        → IsSilent p.out_before p.out stop → Runs (Ok (job command texts space)) p (Err stop)
+        → IsSilent p.out_before p.out stop → CommandRuns (Ok (job command texts space)) p (Err stop)
     stopped NoMemory is same = tt
     stopped (Refused refusal) is same = rw is (refl, rw told refl, same)
 
@@ -76,12 +77,12 @@ module _ (command : Command) (texts : Texts) (space : NameSpace) where
     silent (Refused refusal) same = same
 
     pub task-refused : (stop : Stop) → IsStop (task_in command texts) stop → p.out ≡ p.out_before
-        → Runs (Ok (job command texts space)) p (Err stop)
+        → CommandRuns (Ok (job command texts space)) p (Err stop)
     task-refused stop is same = stopped stop (of_task stop is) (silent stop same)
 
     pub script-refused : (task : Task) → task_in command texts ≡ Ok task → (stop : Stop)
         → IsStop (script_in texts) stop → p.out ≡ p.out_before
-        → Runs (Ok (job command texts space)) p (Err stop)
+        → CommandRuns (Ok (job command texts space)) p (Err stop)
     script-refused task task_is stop is same =
         stopped stop (of_script task task_is stop is) (silent stop same)
 
@@ -89,8 +90,10 @@ module _ (command : Command) (texts : Texts) (space : NameSpace) where
     pub worked : (task : Task) → task_in command texts ≡ Ok task → (events : List Event)
         → script_in texts ≡ Ok events → (result : Result ℕ Stop) →
         IfOk result (λ status. Writes task events space status p.out_before p.out)
-        → OnOk result (gap_in space task ≡ None) → IfErr result (IsUnverified (gap_in space task))
-        → IfErr result (IsSilent p.out_before p.out) → Runs (Ok (job command texts space)) p result
+        → OnOk result (gap_before_play space task ≡ None)
+        → IfErr result (IsUnverified (gap_before_play space task))
+        → IfErr result (IsSilent p.out_before p.out)
+        → CommandRuns (Ok (job command texts space)) p result
     worked task task_is events script_is (Ok status) writes none gap same =
         rw (no_gap task task_is events script_is none) (told, writes)
     worked task task_is events script_is (Err stop) writes none gap same =

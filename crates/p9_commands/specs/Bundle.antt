@@ -65,7 +65,7 @@ with_section Cert texts = record texts { cert = Some [] }
 with_section Script texts = record texts { script = Some [] }
 
 -- one line more
-abbrev pub with_line : List ℕ → List ℕ → List ℕ
+abbrev pub with_line : (line text : List ℕ) → List ℕ
 with_line line text = text ++ line ++ 10 ∷ []
 
 -- the section has one line more

@@ -54,7 +54,7 @@ job_in command input =
     (and_then (or_refused BadSection (bundle_of input)) (job_over command))
 
 -- the same for a word and its input
-abbrev pub job_of : List ℕ → List ℕ → Result Job Refusal
+abbrev pub job_of : (word input : List ℕ) → Result Job Refusal
 job_of word input =
     option_map_or (λ command. job_in command input) (command_of word) (Err BadCommandLine)
 
@@ -79,7 +79,7 @@ Tells refusal status p =
 
 -- `play` prints the play text, `check` a judgement, `verify` a gap or that there is none, and `ns`
 -- the mount table
-abbrev pub Writes : Task → List Event → NameSpace → ℕ → List ℕ → List ℕ → Type 0
+abbrev pub Writes : Task → List Event → NameSpace → (status : ℕ) (before after : List ℕ) → Type 0
 Writes (ToPlay rows) events space status before after =
     (status ≡ 0) × PlaysAll events (exported space) before after
 Writes ToJudge events space status before after =
@@ -101,13 +101,13 @@ abbrev pub behind_reports : NameSpace → Printed → Printed
 behind_reports space p = record p { err_before = p.err_before ++ reports_text space.reports }
 
 -- how a command ends: the exit status, and what it printed
-abbrev pub Ends : Result Job Refusal → ℕ → Printed → Type 0
-Ends (Err refusal) status p = Tells refusal status p
-Ends (Ok job) status p = Works job.work job.space status (behind_reports job.space p)
+abbrev pub CommandEnds : Result Job Refusal → ℕ → Printed → Type 0
+CommandEnds (Err refusal) status p = Tells refusal status p
+CommandEnds (Ok job) status p = Works job.work job.space status (behind_reports job.space p)
 
--- what a command did so far: all, with its exit status, or what comes before the reason is told
--- that stops it
-abbrev pub Runs : Result Job Refusal → Printed → Result ℕ Stop → Type 0
-Runs asked p (Ok status) = Ends asked status p
-Runs asked p (Err (Refused refusal)) = Ends asked (status_of refusal) (told refusal p)
-Runs asked p (Err NoMemory) = Unit {0}
+-- what a command has done: all of it, with its exit status; or, where a reason stops it, all but to
+-- tell that reason
+abbrev pub CommandRuns : Result Job Refusal → Printed → Result ℕ Stop → Type 0
+CommandRuns asked p (Ok status) = CommandEnds asked status p
+CommandRuns asked p (Err (Refused refusal)) = CommandEnds asked (status_of refusal) (told refusal p)
+CommandRuns asked p (Err NoMemory) = Unit {0}

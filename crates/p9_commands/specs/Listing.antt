@@ -5,7 +5,7 @@ use Rattle.p9_base.specs.declared.node_ref.NodeRef.{NodeRef}
 use Rattle.p9_space.specs.declared.row.Member.{Member}
 use Rattle.p9_space.specs.Table.{MountRow}
 use Rattle.p9_world.specs.World.{World}
-use Rattle.p9_commands.specs.Path.{path_of}
+use Rattle.p9_commands.specs.Path.{node_path}
 
 -- the first member replaces what was there; `c` permits creation
 abbrev pub first_flags : Bool → List ℕ
@@ -17,9 +17,9 @@ later_flags create = if create then codes " -ac" else codes " -a"
 
 module _ (world : World) where
   -- `bind`, its flags, the node of a member and the key
-  abbrev pub bind_line : NodeRef → List ℕ → NodeRef → List ℕ
+  abbrev pub bind_line : (key : NodeRef) (flags : List ℕ) (node : NodeRef) → List ℕ
   bind_line key flags node =
-      codes "bind" ++ flags ++ codes " " ++ path_of world node ++ codes " " ++ path_of world key
+      codes "bind" ++ flags ++ codes " " ++ node_path world node ++ codes " " ++ node_path world key
       ++ 10 ∷ []
 
   -- the line of a member behind the first

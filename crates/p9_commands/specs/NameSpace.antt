@@ -13,6 +13,7 @@ use Rattle.p9_nsfile.specs.Run.{run_of}
 use Rattle.p9_nsfile.specs.Environment.{Environment}
 use Rattle.p9_nsfile.specs.Space.{Report}
 use Rattle.p9_step.specs.State.{State}
+use Rattle.p9_guard.specs.Guard.{served}
 use Rattle.p9_commands.specs.Refusal.{or_refused}
 use Rattle.p9_commands.specs.Small.{small_world}
 use Rattle.p9_commands.specs.declared.refusal.Refusal.{Refusal}
@@ -48,7 +49,7 @@ space_over text world =
     (λ ran. Ok (name_space world ran))
 
 -- the name space of the sections of a world and of a namespace file, or the first reason against it
-abbrev pub space_in : Option (List ℕ) → Option (List ℕ) → Result NameSpace Refusal
+abbrev pub space_in : (world ns : Option (List ℕ)) → Result NameSpace Refusal
 space_in world ns = and_then (world_in world) (space_over (unwrap_or ns []))
 
 -- the first reason why a certificate of these rows is not closed over the name space
@@ -57,12 +58,4 @@ gap_over space rows = first_gap (policy_of space.world) space.world.forest space
 
 -- the exporter of the name space to the world's users, without sessions
 abbrev pub exported : NameSpace → State
-exported space = record {
-  setting = record {
-    users = space.world.users;
-    groups = space.world.groups;
-    table = space.table;
-  };
-  forest = space.world.forest;
-  sessions = [];
-}
+exported space = served space.world space.table

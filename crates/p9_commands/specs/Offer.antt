@@ -65,20 +65,20 @@ abbrev pub with_told : Refusal → List ℕ → List ℕ
 with_told refusal before = before ++ (refusal_text refusal ++ 10 ∷ [])
 
 -- a guard serves the state, or the reason against it is told
-abbrev pub ServesState : Result State Refusal → List ℕ → List ℕ → Option Guarded → Type 0
+abbrev pub ServesState : Result State Refusal → (before after : List ℕ) → Option Guarded → Type 0
 ServesState (Ok state) before after (Some guard) = (guard.state ≡ state) × (after ≡ before)
 ServesState (Ok state) before after None = ⊥
 ServesState (Err refusal) before after (Some guard) = ⊥
 ServesState (Err refusal) before after None = after ≡ with_told refusal before
 
 -- the same of an offer, behind what failed in the making of its name space
-abbrev pub Serves : Result Offer Refusal → List ℕ → List ℕ → Option Guarded → Type 0
+abbrev pub Serves : Result Offer Refusal → (before after : List ℕ) → Option Guarded → Type 0
 Serves (Err refusal) before after guard = ServesState (Err refusal) before after guard
 Serves (Ok offer) before after guard =
     ServesState offer.state (before ++ reports_text offer.space.reports) after guard
 
 -- a guard serves an offer, or this is to be told yet of why there is none
-abbrev pub Admits : Result Offer Refusal → List ℕ → List ℕ → Result Guarded Stop → Type 0
+abbrev pub Admits : Result Offer Refusal → (before after : List ℕ) → Result Guarded Stop → Type 0
 Admits offered before after (Ok guard) = Serves offered before after (Some guard)
 Admits offered before after (Err (Refused refusal)) =
     Serves offered before (with_told refusal after) None

@@ -9,8 +9,8 @@ use Rattle.p9_tree.specs.Server.{node_at}
 use Rattle.p9_tree.specs.Forest.{server_at}
 use Rattle.p9_world.specs.World.{World}
 
--- in which directory the node of the number is, and under which name: the root is nowhere,
--- nor does a number without a node
+-- in which directory the node of the number is, and under which name: the root is in none, nor is a
+-- number without a node
 abbrev pub entry_at : ℕ → List Node → Option (ℕ × List ℕ)
 entry_at number nodes =
     option_and_then (λ n. option_map (λ parent. (parent, n.name)) n.parent) (node_at number nodes)
@@ -37,7 +37,7 @@ abbrev pub server_name : ℕ → World → List ℕ
 server_name server world = unwrap_or (slice_get world.servers server) []
 
 -- `#server/path`
-abbrev pub path_of : World → NodeRef → List ℕ
-path_of world at =
+abbrev pub node_path : World → NodeRef → List ℕ
+node_path world at =
     codes "#" ++ server_name at.server world
     ++ rooted_path (names_to at.number (server_at at.server world.forest).nodes)

@@ -31,12 +31,12 @@ IsUnverified gap (Refused refusal) =
     (found : Gap) × (gap ≡ Some found) × (refusal ≡ Unverified found)
 
 -- a refusal has printed nothing
-abbrev pub IsSilent : List ℕ → List ℕ → Stop → Type 0
+abbrev pub IsSilent : (before after : List ℕ) → Stop → Type 0
 IsSilent before after NoMemory = Unit {0}
 IsSilent before after (Refused refusal) = after ≡ before
 
 -- what is told of a line of a section
-abbrev pub at_line : List ℕ → ℕ → List ℕ → List ℕ
+abbrev pub at_line : (section : List ℕ) (line : ℕ) (text : List ℕ) → List ℕ
 at_line section line text = section ++ codes ":" ++ decimal line ++ codes ": " ++ text
 
 -- the line that tells a refusal

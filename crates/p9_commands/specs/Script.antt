@@ -17,34 +17,35 @@ abbrev pub short_number : List ℕ → Option ℕ
 short_number word = number_of (2 ^ 32) word
 
 -- the frame that hexadecimal digits of either case write: one byte or more
-abbrev pub frame_in : List ℕ → Option (List ℕ)
-frame_in [] = None
-frame_in (digit ∷ digits) = result_ok (decode_of (digit ∷ digits))
+abbrev pub frame_of_hex : List ℕ → Option (List ℕ)
+frame_of_hex [] = None
+frame_of_hex (digit ∷ digits) = result_ok (decode_of (digit ∷ digits))
 
 -- `open S`
-abbrev pub open_event_of : List ℕ → List ℕ → Option Event
+abbrev pub open_event_of : (verb name : List ℕ) → Option Event
 open_event_of verb name =
     if bytes_eq verb (codes "open") then option_map Open (short_number name) else None
 
 -- a message, where all three of its parts are good
-abbrev pub message_event_at : Option ℕ → Option (List ℕ) → Option ℕ → Option Event
+abbrev pub message_event_at : (name : Option ℕ) (frame : Option (List ℕ)) (now : Option ℕ)
+    → Option Event
 message_event_at (Some name) (Some frame) (Some now) = Some (Message name frame now)
 message_event_at name frame now = None
 
 -- `msg S NOW HEX`
-abbrev pub message_event_of : List ℕ → List ℕ → List ℕ → List ℕ → Option Event
+abbrev pub message_event_of : (verb name now hex : List ℕ) → Option Event
 message_event_of verb name now hex =
     if bytes_eq verb (codes "msg")
-    then message_event_at (short_number name) (frame_in hex) (short_number now)
+    then message_event_at (short_number name) (frame_of_hex hex) (short_number now)
     else None
 
 -- a closing, where both of its parts are good
-abbrev pub close_event_at : Option ℕ → Option ℕ → Option Event
+abbrev pub close_event_at : (name now : Option ℕ) → Option Event
 close_event_at (Some name) (Some now) = Some (Close name now)
 close_event_at name now = None
 
 -- `close S NOW`
-abbrev pub close_event_of : List ℕ → List ℕ → List ℕ → Option Event
+abbrev pub close_event_of : (verb name now : List ℕ) → Option Event
 close_event_of verb name now =
     if bytes_eq verb (codes "close") then close_event_at (short_number name) (short_number now)
     else None
@@ -57,13 +58,13 @@ event_of (verb ∷ name ∷ now ∷ []) = close_event_of verb name now
 event_of words = None
 
 -- the event joins the others; a line that says none is bad
-abbrev pub joined : List Event → ℕ → Option Event → Result (List Event) ℕ
-joined events line (Some event) = Ok (events ++ event ∷ [])
-joined events line None = Err line
+abbrev pub with_event : List Event → ℕ → Option Event → Result (List Event) ℕ
+with_event events line (Some event) = Ok (events ++ event ∷ [])
+with_event events line None = Err line
 
 -- the same of a statement: its line and its words
 abbrev pub with_statement : List Event → ℕ × List (List ℕ) → Result (List Event) ℕ
-with_statement events statement = joined events statement.0 (event_of statement.1)
+with_statement events statement = with_event events statement.0 (event_of statement.1)
 
 -- the events of a script, in order, or the number of its first bad line
 abbrev pub script_of : List ℕ → Result (List Event) ℕ

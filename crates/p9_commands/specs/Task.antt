@@ -52,12 +52,12 @@ abbrev pub task_in : Command → Texts → Result Task Refusal
 task_in command texts = and_then (certificate_in texts) (task_of command)
 
 -- the first gap of the certificate that the script is to be played with
-abbrev pub gap_in : NameSpace → Task → Option Gap
-gap_in space (ToPlay (Some rows)) = gap_over space rows
-gap_in space (ToPlay None) = None
-gap_in space ToJudge = None
-gap_in space (ToVerify rows) = None
-gap_in space ToList = None
+abbrev pub gap_before_play : NameSpace → Task → Option Gap
+gap_before_play space (ToPlay (Some rows)) = gap_over space rows
+gap_before_play space (ToPlay None) = None
+gap_before_play space ToJudge = None
+gap_before_play space (ToVerify rows) = None
+gap_before_play space ToList = None
 
 -- a task, and the events of the script
 pub record Work : Type 0 where
@@ -67,7 +67,7 @@ pub record Work : Type 0 where
 -- a script is not played with a certificate that has a gap
 abbrev pub admitted : NameSpace → Work → Result Work Refusal
 admitted space work =
-    option_map_or (λ gap. Err (Unverified gap)) (gap_in space work.task) (Ok work)
+    option_map_or (λ gap. Err (Unverified gap)) (gap_before_play space work.task) (Ok work)
 
 -- what a command has to do with a name space, or the first reason against it: the certificate's,
 -- the script's, and last a gap

@@ -216,7 +216,7 @@ pub fn split_bundle<A: Allocator + Copy>(alloc: A, text: &str) -> Result<Bundle<
     Ok(bundle)
 }
 
-/// From whatever says that an allocation failed.
+/// Every error that [`p9_base::NoMemory`] is made from says that an allocation failed.
 impl<E: Drop> From<E> for BundleError
 where
     NoMemory: From<E>,

@@ -2,10 +2,10 @@
 
 ghost use Rattle.std.specs.Prelude.{◌≡◌, IfErr, IfOk, None, Ok, OnOk, map};
 ghost use Rattle.p9_commands.specs.Bundle.{bundle_view};
-ghost use Rattle.p9_commands.specs.Command.{Ends, Runs, Writes, command_of, job, job_in, job_of};
-ghost use Rattle.p9_commands.specs.Command.{job_over};
+ghost use Rattle.p9_commands.specs.Command.{CommandEnds, CommandRuns, Writes, command_of, job};
+ghost use Rattle.p9_commands.specs.Command.{job_in, job_of, job_over};
 ghost use Rattle.p9_commands.specs.Refusal.{IsSilent, IsUnverified};
-ghost use Rattle.p9_commands.specs.Task.{ToPlay, gap_in, task_view};
+ghost use Rattle.p9_commands.specs.Task.{ToPlay, gap_before_play, task_view};
 ghost use Rattle.p9_export.specs.Event.{event_view};
 
 use crate::bundle::Bundle;
@@ -48,7 +48,7 @@ pub fn run_command<A: Allocator + Copy>(
     out: &mut Vec<u8, A>,
     err: &mut Vec<u8, A>,
 ) -> Result<u8, NoMemory>
-    ensures { IfOk result (λ status. Ends (job_of word.now input.now) status (record {
+    ensures { IfOk result (λ status. CommandEnds (job_of word.now input.now) status (record {
       out_before = out.old.items;
       out = out.new.items;
       err_before = err.old.items;
@@ -65,7 +65,7 @@ pub fn run_command_over<T: Tree>(
     out: &mut Vec<u8, T::Alloc>,
     err: &mut Vec<u8, T::Alloc>,
 ) -> Result<u8, NoMemory>
-    ensures { IfOk result (λ status. Ends (job_of word.now input.now) status (record {
+    ensures { IfOk result (λ status. CommandEnds (job_of word.now input.now) status (record {
       out_before = out.old.items;
       out = out.new.items;
       err_before = err.old.items;
@@ -89,7 +89,7 @@ fn run<T: Tree>(
     out: &mut Vec<u8, T::Alloc>,
     err: &mut Vec<u8, T::Alloc>,
 ) -> Result<u8, Stop>
-    ensures { Runs (job_of word.now input.now) (record {
+    ensures { CommandRuns (job_of word.now input.now) (record {
       out_before = out.old.items;
       out = out.new.items;
       err_before = err.old.items;
@@ -122,7 +122,7 @@ fn run_in<T: Tree>(
     out: &mut Vec<u8, T::Alloc>,
     err: &mut Vec<u8, T::Alloc>,
 ) -> Result<u8, Stop>
-    ensures { Runs (job_in command input.now) (record {
+    ensures { CommandRuns (job_in command input.now) (record {
       out_before = out.old.items;
       out = out.new.items;
       err_before = err.old.items;
@@ -143,7 +143,7 @@ fn run_over<T: Tree>(
     out: &mut Vec<u8, T::Alloc>,
     err: &mut Vec<u8, T::Alloc>,
 ) -> Result<u8, Stop>
-    ensures { Runs (job_over command (bundle_view bundle.now)) (record {
+    ensures { CommandRuns (job_over command (bundle_view bundle.now)) (record {
       out_before = out.old.items;
       out = out.new.items;
       err_before = err.old.items;
@@ -163,7 +163,7 @@ fn run_on<T: Tree>(
     out: &mut Vec<u8, T::Alloc>,
     err: &mut Vec<u8, T::Alloc>,
 ) -> Result<u8, Stop>
-    ensures { Runs (Ok (job command (bundle_view bundle.now) space)) (record {
+    ensures { CommandRuns (Ok (job command (bundle_view bundle.now) space)) (record {
       out_before = out.old.items;
       out = out.new.items;
       err_before = err.old.items;
@@ -185,8 +185,8 @@ fn work<T: Tree>(
 ) -> Result<u8, Stop>
     ensures ok { IfOk result (λ status. Writes (task_view task) (map event_view events.now) space
         status out.old.items out.new.items) }
-    ensures admitted { OnOk result (gap_in space (task_view task) ≡ None) }
-    ensures stop { IfErr result (IsUnverified (gap_in space (task_view task))) }
+    ensures admitted { OnOk result (gap_before_play space (task_view task) ≡ None) }
+    ensures stop { IfErr result (IsUnverified (gap_before_play space (task_view task))) }
     ensures silent { IfErr result (IsSilent out.old.items out.new.items) }
 {
     match task {
@@ -206,8 +206,8 @@ fn play<T: Tree>(
 ) -> Result<u8, Stop>
     ensures ok { IfOk result (λ status. Writes (ToPlay certificate) (map event_view events.now)
         space status out.old.items out.new.items) }
-    ensures admitted { OnOk result (gap_in space (ToPlay certificate) ≡ None) }
-    ensures stop { IfErr result (IsUnverified (gap_in space (ToPlay certificate))) }
+    ensures admitted { OnOk result (gap_before_play space (ToPlay certificate) ≡ None) }
+    ensures stop { IfErr result (IsUnverified (gap_before_play space (ToPlay certificate))) }
     ensures silent { IfErr result (IsSilent out.old.items out.new.items) }
 {
     match certificate {

@@ -3,7 +3,7 @@
 ghost use Rattle.std.specs.Prelude.{◌≡◌, ◌++◌, IfOk, OnOk, map, reverse};
 ghost use Rattle.std.specs.Option.{option_map};
 ghost use Rattle.p9_tree.specs.Forest.{server_at};
-ghost use Rattle.p9_commands.specs.Path.{entry_at, names_to, path_of, rooted_path, server_name};
+ghost use Rattle.p9_commands.specs.Path.{entry_at, names_to, node_path, rooted_path, server_name};
 
 use p9_base::{NoMemory, NodeRef};
 use p9_tree::{Forest, Tree};
@@ -17,7 +17,7 @@ pub(crate) fn print_path<T: Tree>(
     at: NodeRef,
     out: &mut Vec<u8, T::Alloc>,
 ) -> Result<(), NoMemory>
-    ensures { OnOk result (out.new.items ≡ out.old.items ++ path_of world.now at) }
+    ensures { OnOk result (out.new.items ≡ out.old.items ++ node_path world.now at) }
 {
     out.push(b'#')?;
     out.extend_from_slice(server_name(world, at.server).as_bytes())?;

@@ -4,7 +4,8 @@ ghost use Rattle.std.specs.Prelude.{◌≡◌, [], IfErr, IfOk, Ok, Some, map};
 ghost use Rattle.std.specs.Option.{option_map};
 ghost use Rattle.p9_export.specs.Event.{event_view};
 ghost use Rattle.p9_commands.specs.Script.{IsScriptFault, close_event_of, event_of};
-ghost use Rattle.p9_commands.specs.Script.{frame_in, joined, message_event_of, open_event_of};
+ghost use Rattle.p9_commands.specs.Script.{frame_of_hex, message_event_of, open_event_of};
+ghost use Rattle.p9_commands.specs.Script.{with_event};
 ghost use Rattle.p9_commands.specs.Script.{script_of, short_number};
 ghost use Rattle.p9_base.specs.Statement.{statement_view};
 
@@ -54,7 +55,7 @@ fn stated<A: Allocator + Copy>(
     ensures ok { IfOk result (λ event.
         event_of (statement_view statement.now).1 ≡ Some (event_view event)) }
     ensures bad { IfErr result (IsScriptFault
-        (joined [] statement.now.line (event_of (statement_view statement.now).1))) }
+        (with_event [] statement.now.line (event_of (statement_view statement.now).1))) }
 {
     match event(alloc, statement.words.as_slice())? {
         Some(event) => Ok(event),
@@ -107,7 +108,7 @@ fn message_event<A: Allocator + Copy>(
     let (Some(name), Some(now)) = (short_number(name), short_number(now)) else {
         return Ok(None);
     };
-    match frame_in(alloc, hex)? {
+    match frame_of_hex(alloc, hex)? {
         Some(frame) => Ok(Some(Event::Message(name, frame, now))),
         None => Ok(None),
     }
@@ -134,8 +135,8 @@ fn short_number(word: &str) -> Option<u32>
 }
 
 // The frame that hexadecimal digits write: one byte or more.
-fn frame_in<A: Allocator + Copy>(alloc: A, digits: &str) -> Result<Option<Vec<u8, A>>, NoMemory>
-    ensures { IfOk result (λ frame. option_map (λ f. f.items) frame ≡ frame_in digits.now) }
+fn frame_of_hex<A: Allocator + Copy>(alloc: A, digits: &str) -> Result<Option<Vec<u8, A>>, NoMemory>
+    ensures { IfOk result (λ frame. option_map (λ f. f.items) frame ≡ frame_of_hex digits.now) }
 {
     if digits.is_empty() {
         return Ok(None);
@@ -147,7 +148,7 @@ fn frame_in<A: Allocator + Copy>(alloc: A, digits: &str) -> Result<Option<Vec<u8
     }
 }
 
-/// From whatever says that an allocation failed.
+/// Every error that [`p9_base::NoMemory`] is made from says that an allocation failed.
 impl<E: Drop> From<E> for ScriptError
 where
     NoMemory: From<E>,

@@ -9,7 +9,8 @@ use Rattle.p9_wire.specs.declared.frame.Frame.{Frame}
 use Rattle.p9_wire.specs.declared.frame.Frame.TheVariants.{Need, Whole, Broken}
 use Rattle.p9_step.specs.Event.{IsEvent}
 use Rattle.p9_step.specs.State.{State}
-use Rattle.p9_conn.specs.Turn.{Answers, Deeds, Ends, Answered, IsIdle, IsStep, IsTurn, Link, Over}
+use Rattle.p9_conn.specs.Turn.{AnswersFrame, Deeds, Ends, Answered, IsIdle, IsStep, IsTurn, Link}
+use Rattle.p9_conn.specs.Turn.{Over}
 use Rattle.p9_conn.specs.Turn.{Receives, Scene, Sending, Sends, TurnBy, phase_by}
 use Rattle.p9_conn.specs.History.{Happening, Happens, Links, events_of, frames_in, replies_of}
 use Rattle.p9_conn.specs.Laws.{IsRun}
@@ -90,7 +91,7 @@ none-pending (x ∷ xs) e =
 
 answers : (size session now : ℕ) (old new : Scene) (deeds : Deeds)
     → nat_eq (length old.link.pending) 0 ≡ true → first_frame old.link.buffer ≡ Whole size
-    → Answers size session now old new deeds → Common old new deeds
+    → AnswersFrame size session now old new deeds → Common old new deeds
 answers size session now old new deeds none whole t =
     let buffer : new.link.buffer ≡ drop size old.link.buffer =
     ap (λ (l : Link). l.buffer) t.link_is in

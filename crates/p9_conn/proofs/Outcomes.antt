@@ -12,7 +12,7 @@ use Rattle.p9_guard.specs.Guard.{Guarded}
 use Rattle.p9_guard.specs.Headline.{IsPromised}
 use Rattle.p9_conn.specs.declared.conn.Turn.{Turn}
 use Rattle.p9_conn.specs.declared.conn.Turn.TheVariants.{Moved, Closed}
-use Rattle.p9_conn.specs.Conn.{ComesTo, Connection, HasTurned, IsAnswered, IsEnded, turn_of}
+use Rattle.p9_conn.specs.Conn.{ComesTo, Connection, HasTurned, FrameIsAnswered, IsEnded, turn_of}
 use Rattle.p9_conn.specs.Device.{HasRead, HasWritten}
 use Rattle.p9_conn.specs.Turn.{Answering, Deeds, Ending, Link, Receiving, Sending, answering}
 use Rattle.p9_conn.specs.Turn.{closing, deeds_of, no_deeds, phase_of}
@@ -168,12 +168,12 @@ module _ {S : Type 0} (remaining contents : S → Option (List ℕ)) (now : ℕ)
   -- a frame is answered
   pub answered : (buffer buffer' pending reply frame : List ℕ) (size : ℕ) (after : Guarded)
       → closed ≡ false → frame ≡ take size buffer → buffer' ≡ drop size buffer
-      → IsAnswered session frame now before after reply
+      → FrameIsAnswered session frame now before after reply
       → HasTurned remaining contents (Answering size) now
       (conn stream session buffer pending closed) before
       (conn stream session buffer' reply closed) after Moved
   answered buffer buffer' pending reply frame size after is_open frame_is buffer_is a =
-      let a' : IsAnswered session (take size buffer) now before after reply =
+      let a' : FrameIsAnswered session (take size buffer) now before after reply =
       rw frame_is at a in
       let entry = answering session (take size buffer) now a'.refused reply in
       rw buffer_is (record {
@@ -239,7 +239,7 @@ pub guarded-answer : (session : ℕ) (frame : List ℕ) (now : ℕ) (before afte
     → after.hidden ≡ before.hidden → after.start ≡ before.start
     → IsPromised before.hidden before.state ((Message session frame now, refused) ∷ []) after.state
     reply
-    → IsAnswered session frame now before after reply
+    → FrameIsAnswered session frame now before after reply
 guarded-answer session frame now before after refused reply fine hidden start promised = record {
   refused = refused;
   stepped = record {

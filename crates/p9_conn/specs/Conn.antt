@@ -31,8 +31,8 @@ abbrev pub scene : {S : Type 0} → Connection S → Guarded → Scene
 scene conn guard = record { link = conn.link; state = guard.state }
 
 -- what a turn does to its stream: it writes, it reads, or it has nothing to do with it
-abbrev pub UsesStream : {S : Type 0} → (S → Option (List ℕ)) → (S → Option (List ℕ)) → Phase → S
-    → S → Deeds → Type 0
+abbrev pub UsesStream : {S : Type 0} → (remaining contents : S → Option (List ℕ)) → Phase
+    → (old new : S) → Deeds → Type 0
 UsesStream remaining contents Over old new deeds = new ≡ old
 UsesStream remaining contents Sending old new deeds =
     Appends (contents old) (contents new) deeds.written
@@ -69,7 +69,7 @@ pub record IsEnded {S : Type 0} (now : ℕ) (old : Connection S) (before : Guard
   pub result_is : result ≡ Closed
 
 -- a frame of a session was answered, with some mark, and this is the reply
-pub record IsAnswered (session : ℕ) (frame : List ℕ) (now : ℕ) (before after : Guarded)
+pub record FrameIsAnswered (session : ℕ) (frame : List ℕ) (now : ℕ) (before after : Guarded)
     (reply : List ℕ) : Type 0 where
   pub refused : Bool
   pub stepped : IsStep (answering session frame now refused reply) before.state after.state
@@ -80,7 +80,7 @@ abbrev pub IsToWait : ErrorKind → Type 0
 IsToWait kind = (kind ≡ WouldBlock) ⊎ (kind ≡ Interrupted)
 
 -- nothing is changed, and this is returned
-pub record IsKept {S : Type 0} (turn : Turn) (old : Connection S) (before : Guarded)
+pub record IsUnchanged {S : Type 0} (turn : Turn) (old : Connection S) (before : Guarded)
     (new : Connection S) (after : Guarded) (result : Turn) : Type 0 where
   pub conn_is : new ≡ old
   pub guard_is : after ≡ before
@@ -88,10 +88,10 @@ pub record IsKept {S : Type 0} (turn : Turn) (old : Connection S) (before : Guar
 
 -- what a call of the stream comes to: bytes moved; none did, and the connection ends; it is to be
 -- waited for, or failed otherwise, and the connection ends
-abbrev pub ComesTo : {S : Type 0} → Result ℕ Error → ℕ → Connection S → Guarded → Connection S
-    → Guarded → Turn → Type 0
+abbrev pub ComesTo : {S : Type 0} → Result ℕ Error → (now : ℕ) (old : Connection S)
+    (before : Guarded) (new : Connection S) (after : Guarded) → Turn → Type 0
 ComesTo (Ok zero) now old before new after result = IsEnded now old before new after result
-ComesTo (Ok (suc n)) now old before new after result = IsKept Moved old before new after result
+ComesTo (Ok (suc n)) now old before new after result = IsUnchanged Moved old before new after result
 ComesTo (Err error) now old before new after result =
-    (IsToWait (error_kind error) × IsKept Idle old before new after result)
+    (IsToWait (error_kind error) × IsUnchanged Idle old before new after result)
     ⊎ ((IsToWait (error_kind error) → ⊥) × IsEnded now old before new after result)

@@ -12,8 +12,8 @@ pub record CameBehind (remaining remaining' : Option (List ℕ)) (count : ℕ) (
   pub consumed : Consumes remaining remaining' read
 
 -- one read; an error changes no byte
-abbrev pub HasRead : {E : Type 0} → Option (List ℕ) → Option (List ℕ) → Result ℕ E → List ℕ
-    → List ℕ → Type 0
+abbrev pub HasRead : {E : Type 0} → (remaining remaining' : Option (List ℕ)) → Result ℕ E
+    → (old new : List ℕ) → Type 0
 HasRead remaining remaining' result old new =
     MatchResult result (λ count. CameBehind remaining remaining' count old new)
     (λ error. (new ≡ old) × Keeps remaining remaining')
@@ -26,8 +26,8 @@ pub record WentOut (contents contents' : Option (List ℕ)) (count : ℕ) (old n
   pub appended : Appends contents contents' (take count old)
 
 -- one write; an error changes no byte
-abbrev pub HasWritten : {E : Type 0} → Option (List ℕ) → Option (List ℕ) → Result ℕ E → List ℕ
-    → List ℕ → Type 0
+abbrev pub HasWritten : {E : Type 0} → (contents contents' : Option (List ℕ)) → Result ℕ E
+    → (old new : List ℕ) → Type 0
 HasWritten contents contents' result old new =
     MatchResult result (λ count. WentOut contents contents' count old new)
     (λ error. (new ≡ old) × Keeps contents contents')

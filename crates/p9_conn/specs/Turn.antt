@@ -99,7 +99,7 @@ pub record Receives (old new : Scene) (deeds : Deeds) : Type 0 where
   pub no_entry : deeds.answered ≡ []
 
 -- the frame of this size leaves the buffer, the guard makes the step, and its reply is pending
-pub record Answers (size session now : ℕ) (old new : Scene) (deeds : Deeds) : Type 0 where
+pub record AnswersFrame (size session now : ℕ) (old new : Scene) (deeds : Deeds) : Type 0 where
   pub refused : Bool
   pub link_is : new.link
       ≡ record old.link { buffer = drop size old.link.buffer; pending = new.link.pending }
@@ -121,7 +121,7 @@ abbrev pub TurnBy : Phase → (session now : ℕ) → Scene → Scene → Deeds 
 TurnBy Over session now old new deeds = IsIdle old new deeds
 TurnBy Sending session now old new deeds =
     Sends old new deeds ⊎ (IsIdle old new deeds ⊎ Ends session now old new deeds)
-TurnBy (Answering size) session now old new deeds = Answers size session now old new deeds
+TurnBy (Answering size) session now old new deeds = AnswersFrame size session now old new deeds
 TurnBy Ending session now old new deeds = Ends session now old new deeds
 TurnBy Receiving session now old new deeds =
     Receives old new deeds ⊎ (IsIdle old new deeds ⊎ Ends session now old new deeds)

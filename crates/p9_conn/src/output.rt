@@ -2,7 +2,7 @@
 
 ghost use Rattle.std.specs.Prelude.{◌≡◌, [], IfOk, IsTrue, length, nat_eq};
 ghost use Rattle.p9_conn.specs.Device.{HasWritten};
-ghost use Rattle.p9_conn.specs.Conn.{IsAnswered};
+ghost use Rattle.p9_conn.specs.Conn.{FrameIsAnswered};
 ghost use Rattle.p9_wire.specs.Frame.{is_frame};
 
 use crate::room::{lengthen, with_room};
@@ -70,7 +70,7 @@ impl<A: Allocator + Copy> Output<A> {
     /// that is not open has no reply.
     pub fn answer<T: Tree>(&mut self, guard: &mut Guard<T>, session: u32, frame: &[u8], now: u32)
         requires { IsTrue (is_frame frame.now) }
-        ensures { IsAnswered session frame.now now guard.old guard.new self.new }
+        ensures { FrameIsAnswered session frame.now now guard.old guard.new self.new }
     {
         let Some(room) = guard.reply_max(session) else {
             self.sent = 0;

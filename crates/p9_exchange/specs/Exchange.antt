@@ -24,7 +24,7 @@ all_told replies talk =
     if talk.told == length replies then Ok talk.text else Err (BadReply (talk.told + 1) End)
 
 -- the exchange of the lines of a script and of the replies
-unfoldable pub exchange_of_lines : List (List ℕ) → List (List ℕ) → Result (List ℕ) Refusal
+unfoldable pub exchange_of_lines : (replies script : List (List ℕ)) → Result (List ℕ) Refusal
 exchange_of_lines replies script =
     and_then (try_fold (talked replies) nothing_said (enumerate_from 1 script)) (all_told replies)
 

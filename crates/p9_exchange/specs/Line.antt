@@ -84,7 +84,7 @@ words_at turn text =
     message_of_words turn now.1 >>= λ frame.
     Ok (Message session.0 now.0 frame)
 
--- what begins with nothing or with '#' is passed over
+-- an empty line is passed over, and so is one that begins with '#'
 abbrev pub is_skipped : List ℕ → Bool
 is_skipped [] = true
 is_skipped (b ∷ bytes) = b == 35

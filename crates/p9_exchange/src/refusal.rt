@@ -59,7 +59,7 @@ pub enum Stop {
     NoMemory,
 }
 
-/// From whatever says that an allocation failed.
+/// Every error that [`p9_base::NoMemory`] is made from says that an allocation failed.
 impl<E: Drop> From<E> for Stop
 where
     NoMemory: From<E>,

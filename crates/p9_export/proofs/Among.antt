@@ -14,10 +14,10 @@ use Rattle.p9_export.specs.Answers.{Answers, AnswersAmong, changes_of, frame_amo
 use Rattle.p9_export.specs.Taken.{finds_taken}
 use Rattle.p9_step.specs.Sound.{IsMsize}
 use Rattle.p9_step.specs.Request.{request_of}
-use Rattle.p9_step.specs.Memory.{may_run_out, ran_out}
+use Rattle.p9_step.specs.Memory.{may_run_out, frame_may_fail}
 use Rattle.p9_step.specs.Step.{message_answer}
 use Rattle.p9_base.proofs.Rows.{set_value-same}
-use Rattle.p9_step.proofs.Requests.{ran_out-is}
+use Rattle.p9_step.proofs.Requests.{frame_may_fail-is}
 
 -- what a read of a session may carry is less than a frame
 pub room_of-small : (session : Session) → IsMsize session.msize → io_header + room_of session ≤ msize_max
@@ -60,7 +60,8 @@ pub among-request : (setting : Setting) (forest forest' : List Server)
     (may_run_out m (message_answer setting forest rows other now m)) forest forest' other new
     result) →
     AnswersAmong name (frame_among setting forest rows name now frame)
-    (ran_out frame (frame_among setting forest rows name now frame)) forest forest' rows rows'
+    (frame_may_fail frame (frame_among setting forest rows name now frame)) forest forest' rows
+    rows'
     result
 among-request setting forest forest' rows rows' name now session other new frame m taken result
     there again is takes rows_are did =
@@ -70,7 +71,8 @@ among-request setting forest forest' rows rows' name now session other new frame
     let its : Answers a (may_run_out m a) forest forest' session new result =
     rw same at (did (ap (λ s. finds_taken setting forest rows s m) same ∙ sym takes)) in
     let answer : frame_among setting forest rows name now frame ≡ a = rw (there, sym is) refl in
-    let may : ran_out frame a ≡ may_run_out m a = ran_out-is session frame m a (sym is) in
+    let may : frame_may_fail frame a ≡ may_run_out m a =
+        frame_may_fail-is session frame m a (sym is) in
     rw (answer, may)
     (among name a (may_run_out m a) forest forest' rows rows' session new result there rows_are
     its)
@@ -80,7 +82,7 @@ pub among-none : (setting : Setting) (forest : List Server) (rows : List Session
     (session : Session) (frame : List ℕ) (fault : Fault) →
     session_at name rows ≡ Some session → Err fault ≡ request_of session frame →
     AnswersAmong name (frame_among setting forest rows name now frame)
-    (ran_out frame (frame_among setting forest rows name now frame)) forest forest rows rows
+    (frame_may_fail frame (frame_among setting forest rows name now frame)) forest forest rows rows
     (Err fault)
 among-none setting forest rows name now session frame fault there is =
     (inl (rw (there, sym is) refl), refl, refl)

@@ -10,7 +10,7 @@ use Rattle.p9_wire.specs.Laws.{IsBytes}
 use Rattle.p9_wire.specs.Message.{RMessage, r_view}
 use Rattle.p9_wire.specs.Spelling.{r_len, r_spelling, read_header}
 use Rattle.p9_step.specs.Laws.{refusal_max, reply_max}
-use Rattle.p9_step.specs.Memory.{is_no_memory_reply, ran_out}
+use Rattle.p9_step.specs.Memory.{is_no_memory_reply, frame_may_fail}
 use Rattle.p9_step.specs.Request.{tag_of}
 use Rattle.p9_step.specs.Sound.{IsMsize, IsSession, IsState}
 use Rattle.p9_step.specs.State.{Session, SessionRow, Setting, State, io_header, room_of, session_at}
@@ -58,7 +58,7 @@ module _ (old : State) (name now : ℕ) (session : Session) (frame : List ℕ) (
   -- of a message that answers the frame
   message-room : (forest : List Server) (rows : List SessionRow) (result : Result RMessage Fault) →
       AnswersAmong name (frame_among old.setting old.forest old.sessions name now frame)
-      (ran_out frame (frame_among old.setting old.forest old.sessions name now frame))
+      (frame_may_fail frame (frame_among old.setting old.forest old.sessions name now frame))
       old.forest forest old.sessions rows result →
       7 + r_len (message_of result) ≤ room
   message-room forest rows result did =
@@ -81,7 +81,7 @@ module _ (old : State) (name now : ℕ) (session : Session) (frame : List ℕ) (
       (result : Result Reply Fault) → IsMsize session.msize
       → IsDataWithin (room_of session) result →
       AnswersAmong name (frame_among old.setting old.forest old.sessions name now frame)
-      (ran_out frame (frame_among old.setting old.forest old.sessions name now frame))
+      (frame_may_fail frame (frame_among old.setting old.forest old.sessions name now frame))
       old.forest forest old.sessions rows (replied (reply_view forest buffer) result) →
       IsRoom forest room result
   reply-room forest rows buffer (Ok (Message m)) msize within did =
@@ -100,7 +100,7 @@ pub among-room : (old : State) (name now : ℕ) (frame : List ℕ) (room : ℕ) 
     → IfSome (session_at name old.sessions) (λ s. reply_max s ≤ room)
     → IfSome (session_at name old.sessions) (λ s. IsDataWithin (room_of s) result) →
     AnswersAmong name (frame_among old.setting old.forest old.sessions name now frame)
-    (ran_out frame (frame_among old.setting old.forest old.sessions name now frame))
+    (frame_may_fail frame (frame_among old.setting old.forest old.sessions name now frame))
     old.forest forest old.sessions rows (replied (reply_view forest buffer) result) →
     IsRoom forest room result
 among-room old name now frame room forest rows buffer result its bytes whole live enough within did =

@@ -11,8 +11,8 @@ use Rattle.p9_wire.specs.Laws.{IsBytes}
 use Rattle.p9_wire.specs.Message.{RMessage}
 use Rattle.p9_step.specs.Event.{Message}
 use Rattle.p9_step.specs.Laws.{reply_max}
-use Rattle.p9_step.specs.Memory.{ran_out}
-use Rattle.p9_step.specs.Sound.{FidsFit, IsServed, IsState}
+use Rattle.p9_step.specs.Memory.{frame_may_fail}
+use Rattle.p9_step.specs.Sound.{AreWellOpen, IsServed, IsState}
 use Rattle.p9_step.specs.State.{Session, SessionRow, Setting, State, session_at}
 use Rattle.p9_step.specs.Step.{frame_answer, step}
 use Rattle.p9_step.proofs.Answering.{every-frame-is-answered}
@@ -28,7 +28,7 @@ pub served-answered : (setting : Setting) (forest forest' : List Server)
     (result : Result RMessage Fault) → IsForest forest → IsServed setting forest rows
     → session_at name rows ≡ Some session → IsBytes frame → now < 2 ^ 32 →
     AnswersAmong name (frame_answer setting forest rows session now frame)
-    (ran_out frame (frame_answer setting forest rows session now frame)) forest forest' rows
+    (frame_may_fail frame (frame_answer setting forest rows session now frame)) forest forest' rows
     rows' result →
     IsServed setting forest' rows'
 served-answered setting forest forest' rows rows' name now session frame (Ok reply) sound served
@@ -52,7 +52,8 @@ pub served-among : (setting : Setting) (forest forest' : List Server)
     (result : Result RMessage Fault) → IsForest forest → IsServed setting forest rows
     → IsSome (session_at name rows) → IsBytes frame → now < 2 ^ 32 →
     AnswersAmong name (frame_among setting forest rows name now frame)
-    (ran_out frame (frame_among setting forest rows name now frame)) forest forest' rows rows'
+    (frame_may_fail frame (frame_among setting forest rows name now frame)) forest forest' rows
+    rows'
     result →
     IsServed setting forest' rows'
 served-among setting forest forest' rows rows' name now frame result sound served live bytes short
@@ -67,7 +68,7 @@ served-among setting forest forest' rows rows' name now frame result sound serve
 -- a session that is open, as a closing finds it
 pub found-fits : (setting : Setting) (forest : List Server) (rows : List SessionRow) (name : ℕ)
     (session : Session) → IsForest forest → IsServed setting forest rows
-    → session_at name rows ≡ Some session → FidsFit setting.table forest session.fids
+    → session_at name rows ≡ Some session → AreWellOpen setting.table forest session.fids
 found-fits setting forest rows name session sound served there =
     fits-of setting forest session.fids
     (session-served setting forest rows sound served name session there).each

@@ -18,7 +18,7 @@ use Rattle.p9_step.specs.Answer.{Answer, is_error}
 use Rattle.p9_export.specs.Answers.{AnswersAmong, changes_of, frame_among, message_of}
 use Rattle.p9_export.specs.Answers.{session_of}
 use Rattle.p9_step.specs.Step.{answered, frame_answer}
-use Rattle.p9_step.specs.Memory.{is_no_memory_reply, may_run_out, no_memory_reply, ran_out}
+use Rattle.p9_step.specs.Memory.{is_no_memory_reply, may_run_out, no_memory_reply, frame_may_fail}
 use Rattle.p9_step.specs.Step.{message_answer}
 use Rattle.p9_step.specs.Request.{request_of, tag_of}
 use Rattle.p9_step.specs.Step.{step, Stepped}
@@ -27,7 +27,7 @@ use Rattle.p9_step.specs.Event.{Message}
 use Rattle.p9_step.proofs.Done.{done-is}
 use Rattle.p9_step.proofs.Plain.{IsPlainIf, plain-message_answer}
 use Rattle.p9_step.proofs.Replies.{not_an_error}
-use Rattle.p9_step.proofs.Requests.{ran_out-is}
+use Rattle.p9_step.proofs.Requests.{frame_may_fail-is}
 use Rattle.p9_base.proofs.Rows.{set_value-same}
 
 -- the forest and the sessions afterwards, and the reply
@@ -52,7 +52,7 @@ module _ (state : State) (name : ℕ) (forest : List Server) (rows : List Sessio
   outcome : (answer : Answer) (changes : List ForestChange) (new : Session) (m : RMessage)
       (refused : Bool) → answer ≡ Ok (record { changes = changes; session = new; reply = m })
       → forest ≡ all_applied changes state.forest → rows ≡ changed_session name new state.sessions
-      → (refused && ran_out frame answer) ≡ false → bytes ≡ r_spelling (tag_of frame) m
+      → (refused && frame_may_fail frame answer) ≡ false → bytes ≡ r_spelling (tag_of frame) m
       → Makes refused answer
   unfolding Makes
   outcome answer changes new m refused is forest_is rows_are unmarked written =
@@ -63,7 +63,7 @@ module _ (state : State) (name : ℕ) (forest : List Server) (rows : List Sessio
 
   -- a failed allocation
   without_memory : (answer : Answer) (refused : Bool) → forest ≡ state.forest
-      → rows ≡ state.sessions → refused ≡ true → ran_out frame answer ≡ true
+      → rows ≡ state.sessions → refused ≡ true → frame_may_fail frame answer ≡ true
       → bytes ≡ no_memory_reply frame → Makes refused answer
   unfolding Makes
   without_memory answer refused forest_is rows_are marked permitted written =
@@ -76,12 +76,12 @@ module _ (state : State) (name : ℕ) (forest : List Server) (rows : List Sessio
       → bytes ≡ r_spelling (tag_of frame) (Rerror (text_of fault)) → Makes refused answer
   unfolding Makes
   refusal answer fault refused forest_is rows_are is memory written =
-      go (refused && ran_out frame answer) refl
+      go (refused && frame_may_fail frame answer) refl
     where
-      go : (b : Bool) → (refused && ran_out frame answer) ≡ b
+      go : (b : Bool) → (refused && frame_may_fail frame answer) ≡ b
           → MakesStep state forest rows bytes (answered state name session frame refused answer)
       go true e =
-          let parts = and_parts refused (ran_out frame answer) e in
+          let parts = and_parts refused (frame_may_fail frame answer) e in
           rw (e, forest_is, rows_are) (record { state_is = refl; bytes_are = memory parts.0 })
       go false e =
           rw (e, is, forest_is, rows_are) (record {
@@ -92,22 +92,24 @@ module _ (state : State) (name : ℕ) (forest : List Server) (rows : List Sessio
           })
 
   -- a reply that is no refusal isn't that of a failed allocation
-  unmarked : (answer : Answer) (m : RMessage) → Plain (ran_out frame answer) (Ok m)
+  unmarked : (answer : Answer) (m : RMessage) → Plain (frame_may_fail frame answer) (Ok m)
       → bytes ≡ r_spelling (tag_of frame) m
-      → (is_no_memory_reply frame bytes && ran_out frame answer) ≡ false
-  unmarked answer m plain written = go (is_no_memory_reply frame bytes && ran_out frame answer) refl
+      → (is_no_memory_reply frame bytes && frame_may_fail frame answer) ≡ false
+  unmarked answer m plain written =
+      go (is_no_memory_reply frame bytes && frame_may_fail frame answer) refl
     where
-      go : (b : Bool) → (is_no_memory_reply frame bytes && ran_out frame answer) ≡ b
-          → (is_no_memory_reply frame bytes && ran_out frame answer) ≡ false
+      go : (b : Bool) → (is_no_memory_reply frame bytes && frame_may_fail frame answer) ≡ b
+          → (is_no_memory_reply frame bytes && frame_may_fail frame answer) ≡ false
       go false e = e
       go true e =
-          let parts = and_parts (is_no_memory_reply frame bytes) (ran_out frame answer) e in
+          let parts = and_parts (is_no_memory_reply frame bytes) (frame_may_fail frame answer) e in
           absurd (not_an_error (tag_of frame) (tag_of frame) m (text_of OutOfMemory) (plain parts.1)
           (sym written ∙ (bytes_decides bytes (no_memory_reply frame)).0 parts.0))
 
   pub answered-makes : (answer : Answer) (result : Result RMessage Fault)
-      → AnswersAmong name answer (ran_out frame answer) state.forest forest state.sessions rows
-      result → Plain (ran_out frame answer) result
+      → AnswersAmong name answer (frame_may_fail frame answer) state.forest forest state.sessions
+      rows
+      result → Plain (frame_may_fail frame answer) result
       → bytes ≡ r_spelling (tag_of frame) (message_of result)
       → MakesStep state forest rows bytes
       (answered state name session frame (is_no_memory_reply frame bytes) answer)
@@ -117,7 +119,8 @@ module _ (state : State) (name : ℕ) (forest : List Server) (rows : List Sessio
       did.0 did.1 did.2 (unmarked answer m plain written) written
   answered-makes answer (Err fault) did plain written = by_cause did.0
     where
-      by_cause : ((answer ≡ Err fault) ⊎ ((fault ≡ OutOfMemory) × (ran_out frame answer ≡ true)))
+      by_cause : ((answer ≡ Err fault)
+          ⊎ ((fault ≡ OutOfMemory) × (frame_may_fail frame answer ≡ true)))
           → MakesStep state forest rows bytes
           (answered state name session frame (is_no_memory_reply frame bytes) answer)
       by_cause (inl is) =
@@ -140,12 +143,12 @@ module _ (state : State) (name now : ℕ) (forest : List Server) (rows : List Se
     changes = changes_of answer;
     session = session_of answer;
     reply = reply;
-  }) → Plain (ran_out frame answer) (Ok reply)
+  }) → Plain (frame_may_fail frame answer) (Ok reply)
   unfolding answer
   plain-among reply is = by_request (request_of session frame) refl
     where
       by_request : (request : Result TMessage Fault) → request_of session frame ≡ request
-          → ran_out frame answer ≡ true → is_error reply ≡ false
+          → frame_may_fail frame answer ≡ true → is_error reply ≡ false
       by_request (Err fault) e may =
           let refused : answer ≡ Err fault = rw e refl in
           let no : Err fault ≡ Ok (record {
@@ -158,20 +161,23 @@ module _ (state : State) (name now : ℕ) (forest : List Server) (rows : List Se
           let a = message_answer state.setting state.forest state.sessions session now m in
           let same : answer ≡ a = rw e refl in
           let its : may_run_out m a ≡ true =
-          sym (ran_out-is session frame m a e) ∙ ap (ran_out frame) (sym same) ∙ may in
+          sym (frame_may_fail-is session frame m a e) ∙ ap (frame_may_fail frame) (sym same)
+          ∙ may in
           done-is (IsPlainIf (may_run_out m a)) a _
           (plain-message_answer state.setting state.forest state.sessions session now m)
           (sym same ∙ is) its
 
   plain-result : (result : Result RMessage Fault)
-      → AnswersAmong name answer (ran_out frame answer) state.forest forest state.sessions rows
-      result → Plain (ran_out frame answer) result
+      → AnswersAmong name answer (frame_may_fail frame answer) state.forest forest state.sessions
+      rows
+      result → Plain (frame_may_fail frame answer) result
   plain-result (Ok reply) did = plain-among reply did.0
   plain-result (Err fault) did = tt
 
   pub frame-makes : (result : Result RMessage Fault) → is_frame frame ≡ true →
       AnswersAmong name (frame_answer state.setting state.forest state.sessions session now frame)
-      (ran_out frame (frame_answer state.setting state.forest state.sessions session now frame))
+      (frame_may_fail frame
+      (frame_answer state.setting state.forest state.sessions session now frame))
       state.forest forest state.sessions rows result →
       bytes ≡ r_spelling (tag_of frame) (message_of result) →
       MakesStep state forest rows bytes
@@ -189,7 +195,7 @@ pub among-makes : (state : State) (name now : ℕ) (forest : List Server) (rows 
     (frame bytes : List ℕ) (result : Result RMessage Fault)
     → IsSome (session_at name state.sessions) → is_frame frame ≡ true →
     AnswersAmong name (frame_among state.setting state.forest state.sessions name now frame)
-    (ran_out frame (frame_among state.setting state.forest state.sessions name now frame))
+    (frame_may_fail frame (frame_among state.setting state.forest state.sessions name now frame))
     state.forest forest state.sessions rows result →
     bytes ≡ r_spelling (tag_of frame) (message_of result) →
     MakesStep state forest rows bytes

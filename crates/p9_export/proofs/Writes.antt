@@ -20,8 +20,8 @@ use Rattle.p9_step.specs.Answer.{Answer, Outcome}
 use Rattle.p9_step.specs.ForestChange.{applied, edited}
 use Rattle.p9_export.specs.Answers.{Answers, replied}
 use Rattle.p9_step.specs.Memory.{is_done}
-use Rattle.p9_step.specs.Sound.{FidFits, IsOpenOn}
-use Rattle.p9_step.specs.Write.{is_writable, write_answer, write_place, written}
+use Rattle.p9_step.specs.Sound.{IsWellOpen, IsOpenOn}
+use Rattle.p9_step.specs.Write.{is_writable, write_answer, write_offset, written}
 
 module _ (table : List MountRow) (forest : List Server) (v : Fid) (n : Node)
     (found : node_of (fid_ref table v) forest ≡ Some n) where
@@ -32,21 +32,21 @@ module _ (table : List MountRow) (forest : List Server) (v : Fid) (n : Node)
       go false e = e
       go true e = let no : writes o.mode ≡ false = ap writes (on.mode n found e) in cc
 
-  by_opened : (o : Option Opened) → v.opened ≡ o → FidFits table forest v → is_writable v ≡ true
+  by_opened : (o : Option Opened) → v.opened ≡ o → IsWellOpen table forest v → is_writable v ≡ true
       → is_dir n ≡ false
   by_opened None e fit opens = let no : false ≡ true = rw e at opens in cc
   by_opened (Some o) e fit opens =
       let may : writes o.mode ≡ true = rw e at opens in is_file o (fit o e) may
 
   -- what is open for writing is no directory
-  pub writable_file : FidFits table forest v → is_writable v ≡ true
+  pub writable_file : IsWellOpen table forest v → is_writable v ≡ true
       → IsFalse (is_dir_of (fid_ref table v) forest)
   writable_file fit opens = let file = by_opened v.opened refl fit opens in rw found file
 
 -- where every test passes, the bytes are written
 pub write_answer-done : (setting : Setting) (forest : List Server) (session : Session)
     (now fid offset : ℕ) (bytes : List ℕ) (v : Fid) (n : Node) (at : NodeRef) (place : ℕ)
-    → at ≡ fid_ref setting.table v → place ≡ write_place offset n
+    → at ≡ fid_ref setting.table v → place ≡ write_offset offset n
     → fid_at fid session.fids ≡ Some v → is_writable v ≡ true → node_of at forest ≡ Some n
     → (length bytes == 0) ≡ false → nat_le (place + length bytes) file_max ≡ true
     → write_answer setting forest session now fid offset bytes
@@ -57,7 +57,7 @@ write_answer-done setting forest session now fid offset [] v n at place at_is pl
 write_answer-done setting forest session now fid offset (b ∷ bs) v n at place at_is place_is found
     opens there some fits =
     let there' : node_of (fid_ref setting.table v) forest ≡ Some n = rw (← at_is) there in
-    let fits' : nat_le (write_place offset n + length (b ∷ bs)) file_max ≡ true =
+    let fits' : nat_le (write_offset offset n + length (b ∷ bs)) file_max ≡ true =
     rw (← place_is) fits in
     rw (at_is, place_is, found, opens, there', fits') refl
 

@@ -25,21 +25,20 @@ abbrev pub changes_of : Answer → List ForestChange
 changes_of (Ok outcome) = outcome.changes
 changes_of (Err fault) = []
 
--- the forest, the session and the reply are the outcome's; a refusal has the answer's fault, or is
--- a failed allocation where that may be answered, and then both are unchanged
-abbrev pub Answers : Answer → Bool → List Server → List Server → Session → Session
+-- the fault is the answer's, or a failed allocation where that may be answered
+abbrev pub IsRefusal : Answer → (may_fail : Bool) → Fault → Type 0
+IsRefusal answer may_fail fault =
+    (answer ≡ Err fault) ⊎ ((fault ≡ OutOfMemory) × (may_fail ≡ true))
+
+-- the forest, the session and the reply are the outcome's; after a refusal the forest and the
+-- session are unchanged
+abbrev pub Answers : Answer → (may_fail : Bool) (forest forest' : List Server) (old new : Session)
     → Result RMessage Fault → Type 0
-Answers answer may_run_out forest forest' old new (Ok reply) =
+Answers answer may_fail forest forest' old new (Ok reply) =
     (answer ≡ Ok (record { changes = changes_of answer; session = new; reply = reply }))
     × (forest' ≡ all_applied (changes_of answer) forest)
-Answers answer may_run_out forest forest' old new (Err fault) =
-    ((answer ≡ Err fault) ⊎ ((fault ≡ OutOfMemory) × (may_run_out ≡ true))) × (forest' ≡ forest)
-    × (new ≡ old)
-
--- the fault is the answer's, or a failed allocation where that may be answered
-abbrev pub IsRefusal : Answer → Bool → Fault → Type 0
-IsRefusal answer may_run_out fault =
-    (answer ≡ Err fault) ⊎ ((fault ≡ OutOfMemory) × (may_run_out ≡ true))
+Answers answer may_fail forest forest' old new (Err fault) =
+    IsRefusal answer may_fail fault × (forest' ≡ forest) × (new ≡ old)
 
 -- the session after an answer that is no refusal
 abbrev pub session_of : Answer → Session
@@ -47,16 +46,15 @@ session_of (Ok outcome) = outcome.session
 session_of (Err fault) = fresh
 
 -- the same of the session of this name among all sessions
-abbrev pub AnswersAmong : ℕ → Answer → Bool → List Server → List Server → List SessionRow
-    → List SessionRow → Result RMessage Fault → Type 0
-AnswersAmong name answer may_run_out forest forest' old new (Ok reply) =
+abbrev pub AnswersAmong : (name : ℕ) → Answer → (may_fail : Bool) (forest forest' : List Server)
+    (old new : List SessionRow) → Result RMessage Fault → Type 0
+AnswersAmong name answer may_fail forest forest' old new (Ok reply) =
     (answer
     ≡ Ok (record { changes = changes_of answer; session = session_of answer; reply = reply }))
     × (forest' ≡ all_applied (changes_of answer) forest)
     × (new ≡ changed_session name (session_of answer) old)
-AnswersAmong name answer may_run_out forest forest' old new (Err fault) =
-    ((answer ≡ Err fault) ⊎ ((fault ≡ OutOfMemory) × (may_run_out ≡ true))) × (forest' ≡ forest)
-    × (new ≡ old)
+AnswersAmong name answer may_fail forest forest' old new (Err fault) =
+    IsRefusal answer may_fail fault × (forest' ≡ forest) × (new ≡ old)
 
 -- a result, with its value as the reply that it makes
 abbrev pub replied : {X : Type 0} → (X → RMessage) → Result X Fault → Result RMessage Fault

@@ -35,7 +35,7 @@ IsFloor cursor position floor =
     (member : NodeRef) (n : Node) → is_behind cursor (entry_at position member n) ≡ is_above floor n
 
 -- the bytes of a stat are at the front of the buffer, or have no room there
-abbrev pub PutsStat : List ℕ → List ℕ → List ℕ → Option ℕ → Type 0
+abbrev pub PutsStat : (bytes old new : List ℕ) → Option ℕ → Type 0
 PutsStat bytes old new None = (length old < length bytes) × (new ≡ old)
 PutsStat bytes old new (Some size) =
     (size ≡ length bytes) × (size ≤ length old) × (new ≡ bytes ++ drop size old)

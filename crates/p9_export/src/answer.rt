@@ -12,7 +12,7 @@ ghost use Rattle.p9_step.specs.Laws.{reply_max};
 ghost use Rattle.p9_step.specs.Sound.{IsSession};
 ghost use Rattle.p9_step.specs.State.{SessionRow, room_of, session_at};
 ghost use Rattle.p9_step.specs.Open.{is_in_use};
-ghost use Rattle.p9_step.specs.Memory.{ran_out};
+ghost use Rattle.p9_step.specs.Memory.{frame_may_fail};
 
 use crate::frame::request_of;
 use crate::message::message;
@@ -52,7 +52,7 @@ pub fn answer<T: Tree>(
     ensures len { length reply.new ≡ length reply.old }
     ensures answer { let answer = frame_among setting.now forest.old
         (sessions_in sessions.old.entries) name now frame.now in
-        AnswersAmong name answer (ran_out frame.now answer) forest.old forest.new
+        AnswersAmong name answer (frame_may_fail frame.now answer) forest.old forest.new
         (sessions_in sessions.old.entries) (sessions_in sessions.new.entries)
         (replied (reply_view forest.new (drop read_header reply.new)) result) }
 {

@@ -5,7 +5,7 @@ ghost use Rattle.p9_wire.specs.Message.{Rclunk};
 ghost use Rattle.p9_export.specs.Held.{SessionFits};
 ghost use Rattle.p9_export.specs.Answers.{Answers, replied};
 ghost use Rattle.p9_step.specs.Clunk.{clunk_answer};
-ghost use Rattle.p9_step.specs.Sound.{FidsFit};
+ghost use Rattle.p9_step.specs.Sound.{AreWellOpen};
 
 use crate::end::end_fid;
 use crate::session::Session;
@@ -24,7 +24,7 @@ pub fn clunk<T: Tree>(
     now: u32,
     fid: u32,
 ) -> Result<(), Fault>
-    requires opened { FidsFit setting.now.table forest.old session.old.session.fids }
+    requires opened { AreWellOpen setting.now.table forest.old session.old.session.fids }
     requires channels { SessionFits setting.now.table session.old }
     ensures channels { SessionFits setting.now.table session.new }
     ensures answer { Answers (clunk_answer setting.now forest.old session.old.session now fid) false

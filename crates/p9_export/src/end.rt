@@ -3,7 +3,7 @@
 ghost use Rattle.std.specs.Prelude.{◌≡◌, []};
 ghost use Rattle.p9_fids.specs.Held.{AllFit, HeldFits};
 ghost use Rattle.p9_step.specs.ForestChange.{all_applied};
-ghost use Rattle.p9_step.specs.Sound.{FidFits, FidsFit};
+ghost use Rattle.p9_step.specs.Sound.{IsWellOpen, AreWellOpen};
 ghost use Rattle.p9_step.specs.End.{on_end, on_ends, parent_marked};
 ghost use Rattle.p9_step.specs.End.{removes_on_close, taken_out};
 
@@ -22,7 +22,7 @@ pub fn end_fid<T: Tree>(
     fid: &Fid<T::Alloc>,
     now: u32,
 )
-    requires opened { FidFits setting.now.table forest.old fid.now.fid }
+    requires opened { IsWellOpen setting.now.table forest.old fid.now.fid }
     requires channels { HeldFits setting.now.table fid.now }
     ensures { forest.new ≡ all_applied (on_end setting.now.table now forest.old fid.now.fid)
         forest.old }
@@ -70,7 +70,7 @@ pub fn end_fids<T: Tree>(
     fids: &mut FidTable<T::Alloc>,
     now: u32,
 )
-    requires opened { FidsFit setting.now.table forest.old fids.old.fids }
+    requires opened { AreWellOpen setting.now.table forest.old fids.old.fids }
     requires channels { AllFit setting.now.table fids.old }
     ensures forest { forest.new ≡ all_applied
         (on_ends setting.now.table now forest.old fids.old.fids) forest.old }

@@ -7,7 +7,7 @@ ghost use Rattle.p9_export.specs.Held.{SessionFits};
 ghost use Rattle.p9_export.specs.Answers.{Answers, CanWrite, replied, reply_view};
 ghost use Rattle.p9_export.specs.Room.{IsDataWithin};
 ghost use Rattle.p9_export.specs.Taken.{finds_taken};
-ghost use Rattle.p9_step.specs.Sound.{FidsFit};
+ghost use Rattle.p9_step.specs.Sound.{AreWellOpen};
 ghost use Rattle.p9_step.specs.State.{SessionRow, io_header, room_of};
 ghost use Rattle.p9_step.specs.Memory.{may_run_out};
 ghost use Rattle.p9_step.specs.Step.{message_answer};
@@ -45,7 +45,7 @@ pub fn message<T: Tree>(
     buffer: &mut [u8],
 ) -> Result<Reply, Fault>
     requires channels { SessionFits setting.now.table session.old }
-    requires fids { FidsFit setting.now.table forest.old session.old.session.fids }
+    requires fids { AreWellOpen setting.now.table forest.old session.old.session.fids }
     requires buffer { room_of session.old.session ≤ length buffer.old }
     requires room { io_header + room_of session.old.session ≤ msize_max }
     ensures channels { SessionFits setting.now.table session.new }

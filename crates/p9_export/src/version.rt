@@ -2,7 +2,7 @@
 
 ghost use Rattle.std.specs.Prelude.{◌≡◌, IfOk, false};
 ghost use Rattle.p9_wire.specs.Message.{r_view};
-ghost use Rattle.p9_step.specs.Sound.{FidsFit};
+ghost use Rattle.p9_step.specs.Sound.{AreWellOpen};
 ghost use Rattle.p9_step.specs.Version.{is_known, version_answer};
 ghost use Rattle.p9_export.specs.Held.{SessionFits};
 ghost use Rattle.p9_export.specs.Answers.{Answers, ReplyFits, replied};
@@ -31,7 +31,7 @@ pub fn version<T: Tree>(
     version: &str,
 ) -> Result<RMsg<'static>, Fault>
     requires channels { SessionFits setting.now.table session.old }
-    requires opened { FidsFit setting.now.table forest.old session.old.session.fids }
+    requires opened { AreWellOpen setting.now.table forest.old session.old.session.fids }
     ensures channels { SessionFits setting.now.table session.new }
     ensures reply { IfOk result (λ reply. ReplyFits (r_view reply)) }
     ensures answer { Answers (version_answer setting.now forest.old session.old.session now msize

@@ -5,9 +5,9 @@ ghost use Rattle.p9_fids.specs.Opened.{writes};
 ghost use Rattle.p9_wire.specs.Message.{Rwrite};
 ghost use Rattle.p9_export.specs.Held.{SessionFits};
 ghost use Rattle.p9_export.specs.Answers.{Answers, replied};
-ghost use Rattle.p9_step.specs.Sound.{FidsFit};
+ghost use Rattle.p9_step.specs.Sound.{AreWellOpen};
 ghost use Rattle.p9_step.specs.Memory.{is_done};
-ghost use Rattle.p9_step.specs.Write.{is_writable, write_answer, write_place};
+ghost use Rattle.p9_step.specs.Write.{is_writable, write_answer, write_offset};
 ghost use Rattle.p9_tree.specs.declared.bytes.TheConstants.{FILE_MAX};
 
 use crate::open::is_append_only;
@@ -36,7 +36,7 @@ pub fn write<T: Tree>(
     bytes: &[u8],
 ) -> Result<u32, Fault>
     requires channels { SessionFits setting.now.table session.now }
-    requires opened { FidsFit setting.now.table forest.old session.now.session.fids }
+    requires opened { AreWellOpen setting.now.table forest.old session.now.session.fids }
     ensures { let answer = write_answer setting.now forest.old session.now.session now fid offset
         bytes.now in Answers answer (is_done answer) forest.old forest.new session.now.session
         session.now.session (replied Rwrite result) }
@@ -54,7 +54,7 @@ pub fn write<T: Tree>(
     if bytes.is_empty() {
         return Ok(0);
     }
-    let place = write_place(file, offset);
+    let place = write_offset(file, offset);
     if !fits(place, bytes.len()) {
         return Err(Fault::FileTooLarge);
     }
@@ -71,8 +71,8 @@ fn is_writable<A: Allocator + Copy>(fid: &Fid<A>) -> bool
 }
 
 // The offset; the end of an append-only file.
-fn write_place<A: Allocator>(file: &Node<A>, offset: u64) -> u64
-    ensures { result ≡ write_place offset file.now }
+fn write_offset<A: Allocator>(file: &Node<A>, offset: u64) -> u64
+    ensures { result ≡ write_offset offset file.now }
 {
     if is_append_only(file) {
         file.bytes().len() as u64

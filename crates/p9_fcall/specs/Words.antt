@@ -13,8 +13,8 @@ known word =
     else if bytes_eq word (codes "exchange") then Some Exchange
     else None
 
--- the command that the words ask for: the first word is the program's name, no other word is
--- `frames`, one is the command of that name, and more are a bad command line
+-- the command that the words ask for, of which the first is the program's name: `frames` if no word
+-- follows it; if one follows, the command of that name; if more do, none
 abbrev pub asked_by : List Text → Option Command
 asked_by [] = Some Frames
 asked_by (program ∷ []) = Some Frames

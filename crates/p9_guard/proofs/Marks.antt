@@ -29,10 +29,10 @@ use Rattle.p9_guard.specs.Marks.{is_refused, may_be_refused}
 module _ (state : State) (name : ℕ) (frame : List ℕ) (now : ℕ) (ok : IsState state)
     (whole : is_frame frame ≡ true) (bytes : IsBytes frame) where
   -- it ran out of memory where its reply says so
-  ran_out : (session : Session) (there : session_at name state.sessions ≡ Some session)
+  frame_may_fail : (session : Session) (there : session_at name state.sessions ≡ Some session)
       (reply : List ℕ) → reply ≡ (step state (Message name frame now) true).reply
       → reply ≡ no_memory_reply frame → runs_out state session frame now true ≡ true
-  ran_out session there reply is none =
+  frame_may_fail session there reply is none =
       let its = every-frame-is-answered state name session frame now true ok there whole bytes in
       let answered : IsAnswered state name session frame (runs_out state session frame now true)
       (step state (Message name frame now) true) its.0 = its.1 in
@@ -59,7 +59,7 @@ module _ (state : State) (name : ℕ) (frame : List ℕ) (now : ℕ) (ok : IsSta
           → reply ≡ no_memory_reply frame
           → may_be_refused state (Message name frame now) ≡ true
       permitted None e by none = let no : false ≡ true = rw e at live in absurd (cc)
-      permitted (Some session) e by none = rw (whole, e) (ran_out session e reply by none)
+      permitted (Some session) e by none = rw (whole, e) (frame_may_fail session e reply by none)
 
       go : (b : Bool) → is_no_memory_reply frame reply ≡ b
           → (not (is_no_memory_reply frame reply) || may_be_refused state (Message name frame now))

@@ -1,4 +1,4 @@
-//! The guard: an exporter, what it hides, and the certificate that vouches for it.
+//! The guard: an exporter, what it hides, and its verified certificate.
 
 ghost use Rattle.std.specs.Prelude.{◌≡◌, ◌≤◌, ◌↔◌, [], ◌∷◌, Err, None, false, IfErr, IfOk, IsSome};
 ghost use Rattle.std.specs.Prelude.{IfSome, IsTrue, OnOk, length, map, take, unwrap_or};

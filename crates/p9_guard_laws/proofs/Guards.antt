@@ -13,7 +13,7 @@ use Rattle.p9_inside.proofs.TwoForests.{next_same, node_same}
 use Rattle.p9_space.specs.Given.{is_given}
 use Rattle.p9_fids.specs.Fid.{Fid}
 use Rattle.p9_step.specs.State.{Session, SessionRow, Setting, State, fid_ref}
-use Rattle.p9_step.specs.Sound.{FidFits, IsFid, IsSession, IsState}
+use Rattle.p9_step.specs.Sound.{IsWellOpen, IsFid, IsSession, IsState}
 use Rattle.p9_guard_laws.specs.Guarded.{Premises, IsGuardedState, IsSafeFid, IsSafePlace, premises_of}
 use Rattle.p9_guard_laws.specs.Grown.{Start}
 use Rattle.p9_guard_laws.specs.Alike.{AreAlike}
@@ -104,8 +104,8 @@ module _ (hidden : List NodeRef) (setting : Setting) (start : Start) (f g : List
     (goodg : Good (premises_of hidden setting) start g) (same : outer hidden g ≡ outer hidden f) where
   -- what is kept of open fids
   fits_there : (v : Fid) → HeldFid (premises_of hidden setting) start f v
-      → HeldFid (premises_of hidden setting) start g v → FidFits setting.table f v
-      → FidFits setting.table g v
+      → HeldFid (premises_of hidden setting) start g v → IsWellOpen setting.table f v
+      → IsWellOpen setting.table g v
   fits_there v sf sg fits o is =
       let kept = fits o is in
       record {

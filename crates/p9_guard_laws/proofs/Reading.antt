@@ -24,7 +24,7 @@ use Rattle.p9_fids.specs.declared.opened.Cursor.{Cursor}
 use Rattle.p9_step.specs.State.{Session, fid_file, fid_ref, who_of}
 use Rattle.p9_step.specs.ForestChange.{Touch}
 use Rattle.p9_step.specs.Listing.{UnionEntry, entries_from, entries_of, entry_at, is_listed, listing}
-use Rattle.p9_step.specs.Read.{cursor_at, given_of, listed_session, read_answer, readable}
+use Rattle.p9_step.specs.Read.{cursor_at, entries_or_fault, listed_session, read_answer, readable}
 use Rattle.p9_step.proofs.KeptFiles.{readable-is}
 use Rattle.p9_guard_laws.proofs.Scene.{SafeFid, SafeFids, Scene, premises_in, outer_of}
 use Rattle.p9_guard_laws.proofs.Walks.{SafeMember, here_safe, SafeMembers, node-outer, same_if}
@@ -125,8 +125,8 @@ module _ (scene : Scene) where
   given-agrees : (session : Session) (fid : ℕ) (v : Fid) (o : Opened) (offset : ℕ)
       (cursor : Option Cursor) (left given : List UnionEntry) → SafeFid scene v → v.opened ≡ Some o
       → fid_at fid session.fids ≡ Some v → SafeFids scene session.fids
-      → Agrees scene (given_of session fid o offset cursor left given)
-      (given_of session fid o offset cursor left given)
+      → Agrees scene (entries_or_fault session fid o offset cursor left given)
+      (entries_or_fault session fid o offset cursor left given)
   given-agrees session fid v o offset cursor [] given s is at h =
       agrees_quiet scene (listed_session fid o offset cursor given session) _
       (listed_safe session fid v o _ s is at h)

@@ -14,7 +14,7 @@ use Rattle.p9_step.specs.State.{Session, SessionRow, State, fresh, session_at, w
 use Rattle.p9_step.specs.ForestChange.{ForestChange, all_applied}
 use Rattle.p9_step.specs.Answer.{Answer, Outcome, outcome_of}
 use Rattle.p9_step.specs.End.{on_ends}
-use Rattle.p9_step.specs.Memory.{no_memory_reply, ran_out}
+use Rattle.p9_step.specs.Memory.{no_memory_reply, frame_may_fail}
 use Rattle.p9_step.specs.Event.{Close, Event, Message, Open}
 use Rattle.p9_step.specs.Step.{Stepped, answered, closed, frame_answer, step, unchanged, with_outcome}
 use Rattle.p9_guard_laws.specs.Guarded.{Premises, premises_of}
@@ -116,7 +116,7 @@ module _ (hidden : List NodeRef) (start : Start) (st : State)
   answered-carries name session frame refused x y h a =
       subst (λ z. Carries hidden start st (answered st° name session frame refused z)
       (answered st name session frame refused y)) (sym a.same)
-      (go (refused && ran_out frame y))
+      (go (refused && frame_may_fail frame y))
     where
       go : (b : Bool)
           → Carries hidden start st

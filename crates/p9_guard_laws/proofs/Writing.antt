@@ -6,7 +6,7 @@ use Rattle.p9_tree.specs.Node.{Node}
 use Rattle.p9_fids.specs.Fid.{Fid, fid_at}
 use Rattle.p9_step.specs.State.{Session, fid_file, fid_ref}
 use Rattle.p9_step.specs.ForestChange.{Mark, Overwrite}
-use Rattle.p9_step.specs.Write.{is_writable, write_answer, write_file, write_place}
+use Rattle.p9_step.specs.Write.{is_writable, write_answer, write_file, write_offset}
 use Rattle.p9_guard_laws.proofs.Scene.{SafeFid, SafeFids, Scene, premises_in, outer_of}
 use Rattle.p9_guard_laws.proofs.Agrees.{Agrees, agrees_changes, agrees_given, agrees_need}
 use Rattle.p9_guard_laws.proofs.Agrees.{agrees_quiet, fid_found}
@@ -23,7 +23,8 @@ module _ (scene : Scene) where
   file-agrees session now v x offset (b ∷ bs) s h e =
       agrees_need scene _ FileTooLarge _ _ (λ _.
       agrees_changes scene _ session _
-      (two_edits scene (fid_ref scene.setting.table v) x (Overwrite (write_place offset x) (b ∷ bs))
+      (two_edits scene (fid_ref scene.setting.table v) x
+      (Overwrite (write_offset offset x) (b ∷ bs))
       (Mark v.user now) e
       (fid_member scene v s).outside (write_stands (premises_in scene) _ _)
       (mark_stands (premises_in scene) v.user now)) h)

@@ -20,8 +20,9 @@ ArePlacesInBoth f g sessions =
     AllByRecursion (λ row.
     AllByRecursion (λ fid. AllByRecursion (IsInBoth f g) fid.1.trail) row.1.fids) sessions
 
--- the same table, users and sessions; the same nodes that are inside no hidden directory, with all
--- their fields, and the same next numbers. Nodes inside may differ in all
+-- the same mount table, users, groups and sessions; the same nodes that are inside no hidden
+-- directory, with all their fields, and the same next numbers. Nodes inside may differ in how many
+-- they are, and in all their fields
 pub record AreAlike (hidden : List NodeRef) (a b : State) : Type 0 where
   pub sound : IsForest b.forest
   pub setting : b.setting ≡ a.setting

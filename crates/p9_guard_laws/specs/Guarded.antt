@@ -57,8 +57,9 @@ module _ (premises : Premises) (start : Start) (forest : List Server) where
   abbrev pub IsSafeSession : Session → Type 0
   IsSafeSession session = AllByRecursion (λ fid. IsSafeFid fid.1) session.fids
 
--- a state that a guard keeps: the exporter can come to it, no number is given twice, the grown
--- certificate is closed, and each fid of each session is safe
+-- a state that a guard keeps: the exporter can come to it, no next number is less than at the
+-- start, each hidden number was given to a node, the grown certificate is closed, and each fid of
+-- each session is safe
 pub record IsGuardedState (hidden : List NodeRef) (start : Start) (state : State) : Type 0 where
   pub sound : IsState state
   pub later : (server : ℕ) → next_then start server ≤ next_of server state.forest

@@ -62,7 +62,7 @@ AlikeGuarded =
     → IsGuardedState hidden start a → AreAlike hidden a b → IsGuardedState hidden start b
 
 -- the first gap of a certificate over the forest and the mount table of a state
-abbrev pub gap_in : List NodeRef → List NodeRef → State → Option Gap
+abbrev pub gap_in : (hidden rows : List NodeRef) → State → Option Gap
 gap_in hidden rows state =
     first_gap (premises_of hidden state.setting).policy state.forest state.setting.table rows
 

@@ -19,8 +19,8 @@ pub record KeepsParent (f : Node → Node) : Type 0 where
   pub number : (n : Node) → (f n).number ≡ n.number
   pub parent : (n : Node) → (f n).parent ≡ n.parent
 
--- The change does the same with the insides or without them, leaves them as they are, and no other
--- number becomes hidden or inside or ceases to be so.
+-- The change does the same with the insides or without them, and doesn't change them. No number
+-- becomes hidden or inside, or ceases to be so.
 
 pub record ServerSpares (hidden : List ℕ) (change : Server → Server) (s : Server) : Type 0 where
   pub commutes : outer_server hidden (change s) ≡ change (outer_server hidden s)

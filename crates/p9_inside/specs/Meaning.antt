@@ -54,9 +54,9 @@ BarredIsHiddenOrInside = (hidden : List NodeRef) (forest : List Server) (r : Nod
 -- The insides are the nodes inside, and the others are left.
 
 -- the node of the number is found among the insides if it is inside, else among the others
-pub record IsSplit (k : ℕ) (is_inside : Bool) (all inner outer : List Node) : Type 0 where
-  pub insides : node_at k inner ≡ (if is_inside then node_at k all else None)
-  pub others : node_at k outer ≡ (if is_inside then None else node_at k all)
+pub record IsSplit (k : ℕ) (hides : Bool) (all inside outside : List Node) : Type 0 where
+  pub insides : node_at k inside ≡ (if hides then node_at k all else None)
+  pub others : node_at k outside ≡ (if hides then None else node_at k all)
 
 abbrev pub ServerInsidesAreSplit : Type 0
 ServerInsidesAreSplit = (hidden : List ℕ) (s : Server) (k : ℕ) → WellFormed s

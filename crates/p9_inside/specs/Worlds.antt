@@ -28,7 +28,8 @@ abbrev pub plain_file : Kind
 plain_file = File (record { append_only = false; exclusive = false; temporary = false })
 
 -- a node of the user sys, as it was made at the time 0
-abbrev pub plain_node : ℕ → Option ℕ → List ℕ → Kind → Permissions → List ℕ → Node
+abbrev pub plain_node : (number : ℕ) (parent : Option ℕ) (name : List ℕ) → Kind → Permissions
+    → (bytes : List ℕ) → Node
 plain_node number parent name kind permissions bytes = record {
   number = number;
   parent = parent;

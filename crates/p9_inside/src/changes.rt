@@ -49,7 +49,8 @@ pub fn parent_decides()
     ensures forest { ParentDecides }
 {}
 
-/// The number that a new node gets was neither hidden nor inside before.
+/// The number that a new node gets was neither hidden nor inside before, if each hidden number was
+/// given to a node.
 pub fn next_is_free()
     ensures server { ServerNextIsFree }
     ensures forest { NextIsFree }

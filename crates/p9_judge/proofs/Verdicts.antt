@@ -14,7 +14,7 @@ use Rattle.p9_space.specs.declared.row.Member.{Member}
 use Rattle.p9_space.specs.Given.{is_table_given}
 use Rattle.p9_space.specs.Place.{root_place}
 use Rattle.p9_space.specs.Table.{MountRow, members_of}
-use Rattle.p9_cert.specs.Closed.{AreShown, IsClosed}
+use Rattle.p9_cert.specs.Closed.{AreNotBarred, IsClosed}
 use Rattle.p9_cert.specs.Policy.{Policy}
 use Rattle.p9_cert.specs.Rows.{is_row}
 use Rattle.p9_cert.specs.Safe.{IsSafe, IsSafeMember, Set}
@@ -82,7 +82,7 @@ module _ (policy : Policy) (f : List Server) (table : List MountRow) where
         → (parent : Option NodeRef)
         → parent ≡ option_map (λ (o : Origin). o.step.member) p.origin → (nodes : List NodeRef)
         → MatchOption parent (nodes ≡ []) (λ x. nodes ≡ x ∷ [])
-        → AreShown policy.hidden f nodes
+        → AreNotBarred policy.hidden f nodes
     parent_shown i p at parent e nodes m = record {
       each = go parent p.origin e (s.reached i p at) m;
     }

@@ -1,4 +1,5 @@
--- Ways by which listed users come into a hidden directory, or round its walls.
+-- Ways by which listed users come into a hidden directory, or to one that they may use, rule or
+-- remove.
 use Rattle.std.specs.Prelude.{◌≡◌, ℕ, Bool, List, [], ◌∷◌, Option, Some, None, IsTrue, find}
 use Rattle.std.specs.Prelude.{option_and_then, if◌then◌else◌}
 use Rattle.std.specs.List.{list_any}
@@ -21,7 +22,7 @@ use Rattle.p9_judge.specs.declared.breach.BreachKind.TheVariants.{Inside, Open, 
 use Rattle.p9_judge.specs.declared.breach.Step.{Step}
 
 -- the node is one of the place's members
-abbrev pub is_member_of_place : List MountRow → NodeRef → NodeRef → Bool
+abbrev pub is_member_of_place : List MountRow → (place at : NodeRef) → Bool
 is_member_of_place table place at = list_any (λ m. same_node m.node at) (members_of place table)
 
 module _ (policy : Policy) where
@@ -54,7 +55,7 @@ module _ (policy : Policy) where
         else where_true (is_removable policy forest at n) Removable
 
     -- what is wrong with a member, whatever the certificate: it is inside a hidden directory, or it
-    -- is hidden and not safe there; one that is gone is no danger
+    -- is hidden and not safe there; one that is gone is safe
     abbrev pub breach_kind : NodeRef → Option BreachKind
     breach_kind at =
         if is_inside at policy.hidden forest then Some Inside

@@ -2,7 +2,7 @@
 //!
 //! [`judge`] goes through a world as listed users may, place by place. It returns the least
 //! [`Certificate`](p9_cert::Certificate) that is closed, or a [`Breach`]: a way into a hidden
-//! directory, or round its walls.
+//! directory, or to one that listed users may use, rule or remove.
 #![tactic(auto)]
 
 mod breach;

@@ -1,7 +1,7 @@
 //! What is wrong with the members of a place, and who may pass them.
 
 ghost use Rattle.std.specs.Prelude.{◌≡◌, AllPairs, IsTrue, find};
-ghost use Rattle.p9_cert.specs.Closed.{AreShown};
+ghost use Rattle.p9_cert.specs.Closed.{AreNotBarred};
 ghost use Rattle.p9_cert.specs.Policy.{policy_of};
 ghost use Rattle.p9_cert.specs.Rows.{is_below};
 ghost use Rattle.p9_judge.specs.Breach.{breach_kind, first_passer, may_be_passed_by};
@@ -24,7 +24,7 @@ pub(crate) fn place_breach<T: Tree, B: Allocator + Copy>(
     place: NodeRef,
 ) -> Option<(NodeRef, BreachKind)>
     requires rising { AllPairs (λ a b. IsTrue (is_below a b)) shown.now }
-    requires shown { AreShown world.now.hidden world.now.forest shown.now }
+    requires shown { AreNotBarred world.now.hidden world.now.forest shown.now }
     ensures { result ≡ place_breach (policy_of world.now) world.now.forest table.now place }
 {
     for member in table.members(place).as_slice() {
@@ -38,7 +38,7 @@ pub(crate) fn place_breach<T: Tree, B: Allocator + Copy>(
 // What is wrong with a member, whatever the certificate.
 fn breach_kind<T: Tree>(world: &World<T>, shown: &[NodeRef], at: NodeRef) -> Option<BreachKind>
     requires rising { AllPairs (λ a b. IsTrue (is_below a b)) shown.now }
-    requires shown { AreShown world.now.hidden world.now.forest shown.now }
+    requires shown { AreNotBarred world.now.hidden world.now.forest shown.now }
     ensures { result ≡ breach_kind (policy_of world.now) world.now.forest at }
 {
     match member_fault(world, shown, at)? {

@@ -19,7 +19,7 @@ use std::alloc::Allocator;
 pub enum Verdict<A: Allocator> {
     /// Listed users come beyond no row of this certificate.
     Yes(Certificate<A>),
-    /// They come into a hidden directory, or round its walls.
+    /// They come into a hidden directory, or to one that they may use, rule or remove.
     No(Breach<A>),
 }
 
@@ -35,11 +35,11 @@ pub enum Verdict<A: Allocator> {
 /// That certificate is closed, so that [`verify`](p9_cert::verify) accepts it, if each key and
 /// member of the mount table lies below its server's next number. Its rows are in every closed
 /// certificate. Where there is a breach, no certificate is closed. The only error is that an
-/// allocation fails.
+/// allocation fails. No contract says which breach of several is returned; tests do.
 ///
 /// Each place is discovered once, since its directory is passed once. For each member of a place
-/// that is discovered, a few nodes and the listed users are looked at, and for a member that was
-/// bound there the directories above it.
+/// that is discovered, its node is looked for, and the listed users and the hidden directories are
+/// gone over. For a member that was bound there, so are the directories above it.
 ///
 /// [`BreachKind`]: crate::BreachKind
 pub fn judge<T: Tree, A: Allocator + Copy, B: Allocator + Copy>(

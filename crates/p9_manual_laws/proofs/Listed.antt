@@ -26,7 +26,8 @@ use Rattle.p9_fids.specs.Opened.{reads}
 use Rattle.p9_step.specs.Answer.{Answer, Outcome, outcome_of}
 use Rattle.p9_step.specs.Listing.{UnionEntry, is_behind, listing, listing_behind}
 use Rattle.p9_step.specs.Qid.{stat_of}
-use Rattle.p9_step.specs.Read.{cursor_after, cursor_at, entry_bytes, fitting, given_of, listed}
+use Rattle.p9_step.specs.Read.{cursor_after, cursor_at, entries_answer, entries_or_fault}
+use Rattle.p9_step.specs.Read.{entry_bytes, fitting}
 use Rattle.p9_step.specs.Read.{listed_session, read_answer, readable}
 use Rattle.p9_step.specs.State.{Session, SessionRow, Setting, State, changed_session, fid_file, room_of}
 use Rattle.p9_step.specs.State.{session_at, who_of}
@@ -72,10 +73,10 @@ next_cursor offset opened (g ∷ gs) =
 -- a read that is not refused gives those that have room, and none only at the end
 given_gives : (session : Session) (fid : ℕ) (opened : Opened) (offset : ℕ) (cursor : Option Cursor)
     (left given : List UnionEntry) (bytes : List ℕ)
-    → (outcome_of session (given_of session fid opened offset cursor left given)).reply
+    → (outcome_of session (entries_or_fault session fid opened offset cursor left given)).reply
     ≡ Rread bytes
-    → (given_of session fid opened offset cursor left given
-    ≡ listed session fid opened offset cursor given)
+    → (entries_or_fault session fid opened offset cursor left given
+    ≡ entries_answer session fid opened offset cursor given)
     × (given ≡ [] → left ≡ [])
 given_gives session fid opened offset cursor [] given bytes told = (refl, λ e. refl)
 given_gives session fid opened offset cursor (e ∷ es) [] bytes told = absurd (cc)
@@ -177,7 +178,8 @@ module _ (setting : Setting) (forest : List Server) (name fid : ℕ) (v : Fid) (
 
       found : (opened : Opened) → readable s.w.opened ≡ Some opened
           → answer
-          ≡ given_of s.session fid opened offset (cursor_at offset opened) left (fitting room left)
+          ≡ entries_or_fault s.session fid opened offset (cursor_at offset opened) left
+          (fitting room left)
           → Goes rows offset now count left bytes
       found opened held answer_is =
           let cursor = cursor_at offset opened in
@@ -248,7 +250,7 @@ module _ (setting : Setting) (forest : List Server) (name fid : ℕ) (v : Fid) (
           → Goes rows offset now count left bytes
       by_test opened held true e =
           found opened held (rw (s.fid_is, held, there_w, dir, e)
-          (ap (λ xs. given_of s.session fid opened offset (cursor_at offset opened) xs
+          (ap (λ xs. entries_or_fault s.session fid opened offset (cursor_at offset opened) xs
           (fitting room xs)) (left_there opened held)))
       by_test opened held false e =
           let told_so = rw (s.fid_is, held, there_w, dir, e) at reply_is in absurd (cc)

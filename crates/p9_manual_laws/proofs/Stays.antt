@@ -16,7 +16,7 @@ use Rattle.p9_step.specs.Answer.{Answer, Outcome, outcome_of}
 use Rattle.p9_step.specs.End.{on_ends}
 use Rattle.p9_step.specs.Event.{Close, Event, IsEvent, Message, Open}
 use Rattle.p9_step.specs.ForestChange.{all_applied}
-use Rattle.p9_step.specs.Memory.{ran_out}
+use Rattle.p9_step.specs.Memory.{frame_may_fail}
 use Rattle.p9_step.specs.Remove.{remove_answer}
 use Rattle.p9_step.specs.Sound.{IsState}
 use Rattle.p9_step.specs.State.{Session, State, fid_ref, session_at}
@@ -59,9 +59,10 @@ module _ (state : State) (its : IsState state) where
   evolves_answer : (name : ℕ) (session : Session) (frame : List ℕ) (refused : Bool)
       (answer : Answer) → OnDone (Kept state.setting state.forest) answer
       → Evolves state.forest (answered state name session frame refused answer).state.forest
-  evolves_answer name session frame refused answer done = go (refused && ran_out frame answer) refl
+  evolves_answer name session frame refused answer done =
+      go (refused && frame_may_fail frame answer) refl
     where
-      go : (b : Bool) → (refused && ran_out frame answer) ≡ b
+      go : (b : Bool) → (refused && frame_may_fail frame answer) ≡ b
           → Evolves state.forest (answered state name session frame refused answer).state.forest
       go true e = rw e (evolves-same state.forest)
       go false e = rw e (evolves_outcome answer session done)

@@ -57,7 +57,8 @@ root_mounted environment space flags root old =
     and_then (found environment space old) (λ to. put_at environment space (here to) (root ∷ []) flags)
 
 -- `mount`: the server, the spec, then the old file; the server's root itself
-abbrev pub mounted_by : Environment → Space → Flags → Word → Word → Option Word → Result Space OpFault
+abbrev pub mounted_by : Environment → Space → Flags → (server old : Word) (spec : Option Word)
+    → Result Space OpFault
 mounted_by environment space flags server old spec =
     and_then (server_root environment.servers (expanded environment.vars server)) (λ root.
     if has_spec environment spec then Err SpecGiven else root_mounted environment space flags root old)
@@ -67,7 +68,7 @@ abbrev pub member_nodes : List MountRow → NodeRef → List NodeRef
 member_nodes table place = map (λ m. m.node) (members_of place table)
 
 -- `bind`: the new file, which is translated, then the old one, which isn't
-abbrev pub bound_by : Environment → Space → Flags → Word → Word → Result Space OpFault
+abbrev pub bound_by : Environment → Space → Flags → (new old : Word) → Result Space OpFault
 bound_by environment space flags new old =
     and_then (found environment space new) (λ from.
     and_then (found environment space old) (λ to.
@@ -88,7 +89,8 @@ abbrev pub taken_away : Space → NodeRef → Option NodeRef → Result Space Op
 taken_away space key node = after_unmount space (unmounted key node space.table)
 
 -- `unmount`: the file of the new place, if there is one, then the old file
-abbrev pub unmounted_by : Environment → Space → Option Word → Word → Result Space OpFault
+abbrev pub unmounted_by : Environment → Space → (new : Option Word) (old : Word)
+    → Result Space OpFault
 unmounted_by environment space None old =
     and_then (found environment space old) (λ to. taken_away space (here to) None)
 unmounted_by environment space (Some new) old =

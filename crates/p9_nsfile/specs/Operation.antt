@@ -87,7 +87,7 @@ abbrev pub include_of : List Word → Form
 include_of (path ∷ []) = Ok (Include path)
 include_of others = Err WordCount
 
--- `import`, with any words
+-- the form of a line of this verb, by the words behind it; `import` takes any words
 abbrev pub arguments_of : Verb → List Word → Form
 arguments_of v.Mount words = mount_of words
 arguments_of v.Bind words = bind_of words

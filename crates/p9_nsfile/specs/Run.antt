@@ -26,7 +26,7 @@ use Rattle.p9_nsfile.specs.Space.{Report, Space, beginning}
 abbrev pub nested_max : ℕ
 nested_max = 8
 
--- a file's lines, if they may be included: one line of bad form, and none of them acts
+-- the lines of an included file; if one is of bad form, none of them acts
 abbrev pub or_bad_include : Result (List NumberedLine) BadLineOf
     → Result (List NumberedLine) OpFault
 or_bad_include (Ok lines) = Ok lines

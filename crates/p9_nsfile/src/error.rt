@@ -44,7 +44,7 @@ pub enum NsError {
     NoMemory,
 }
 
-/// From whatever says that an allocation failed.
+/// Every error that [`p9_base::NoMemory`] is made from says that an allocation failed.
 impl<E: Drop> From<E> for NsError
 where
     NoMemory: From<E>,

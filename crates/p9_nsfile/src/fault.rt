@@ -64,7 +64,7 @@ pub(crate) enum Stop {
     NoMemory,
 }
 
-/// From whatever says that an allocation failed.
+/// Every error that [`p9_base::NoMemory`] is made from says that an allocation failed.
 impl<E: Drop> From<E> for Stop
 where
     NoMemory: From<E>,

@@ -32,7 +32,7 @@ pub const NESTED_MAX: u8 = 8;
 /// that were made stays one.
 ///
 /// `vars` are the variables, each a name and its value, and `servers` the names of the servers by
-/// their numbers, which are distinct and one for each tree.
+/// their numbers. The first of a name counts; one that has no tree is a server without nodes.
 ///
 /// Each line is read before the first acts. The first of bad form is [`NsError::BadLine`]; the
 /// other error is a failed allocation, [`NsError::NoMemory`]. The table is unchanged after both.

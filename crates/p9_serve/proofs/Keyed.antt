@@ -13,7 +13,7 @@ use Rattle.p9_step.specs.State.{SessionRow, session_at}
 use Rattle.p9_conn.specs.declared.conn.Turn.{Turn}
 use Rattle.p9_conn.specs.declared.conn.Turn.TheVariants.{Idle, Moved, Closed}
 use Rattle.p9_conn.specs.Conn.{Connection, HasTurned, turn_of}
-use Rattle.p9_conn.specs.Turn.{Answers, Deeds, Ends, IsIdle, IsTurn, Link, Over, Scene}
+use Rattle.p9_conn.specs.Turn.{AnswersFrame, Deeds, Ends, IsIdle, IsTurn, Link, Over, Scene}
 use Rattle.p9_conn.specs.Turn.{Sending, TurnBy, phase_by, phase_of}
 use Rattle.p9_serve.specs.Serving.{AreKeyed, Serving, TurnAt, slot_at}
 use Rattle.p9_serve.proofs.Sessions.{close-there, message-there}
@@ -67,7 +67,7 @@ ends n now old new deeds t = record {
       let no : true ≡ false = sym (ap (λ (l : Link). l.closed) t.link_is) ∙ e in absurd (cc);
 }
 
-answers : (size n now : ℕ) (old new : Scene) (deeds : Deeds) → Answers size n now old new deeds
+answers : (size n now : ℕ) (old new : Scene) (deeds : Deeds) → AnswersFrame size n now old new deeds
     → StaysOpen n old new
 answers size n now old new deeds t = record {
   others = λ k other there.

@@ -16,7 +16,7 @@ use Rattle.std.specs.declared.cmp.Ordering.TheVariants.{Equal, Greater, Less}
 use Rattle.p9_wire.specs.Frame.{is_frame}
 use Rattle.p9_step.specs.Answer.{Answer}
 use Rattle.p9_step.specs.Event.{Close, Message, Open}
-use Rattle.p9_step.specs.Memory.{ran_out}
+use Rattle.p9_step.specs.Memory.{frame_may_fail}
 use Rattle.p9_step.specs.State.{Session, SessionRow, State, fresh, session_at}
 use Rattle.p9_step.specs.Step.{answered, closed, frame_answer, step, unchanged}
 
@@ -112,9 +112,9 @@ module _ (state : State) (k : ℕ) (there : IsSome (session_at k state.sessions)
   answered-there : (n : ℕ) (session : Session) (frame : List ℕ) (refused : Bool)
       (answer : Answer)
       → IsSome (session_at k (answered state n session frame refused answer).state.sessions)
-  answered-there n session frame refused answer = go (refused && ran_out frame answer) refl
+  answered-there n session frame refused answer = go (refused && frame_may_fail frame answer) refl
     where
-      go : (b : Bool) → (refused && ran_out frame answer) ≡ b
+      go : (b : Bool) → (refused && frame_may_fail frame answer) ≡ b
           → IsSome (session_at k (answered state n session frame refused answer).state.sessions)
       go true e = rw e there
       go false e =

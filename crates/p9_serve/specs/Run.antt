@@ -20,7 +20,7 @@ pub record Written : Type 0 where
   pub err : Option (List ℕ)
 
 -- a guard of what the input offers was served at some address, and both were told
-pub record IsServed (offered : Offered) (w : Written) : Type 0 where
+pub record WasServed (offered : Offered) (w : Written) : Type 0 where
   pub guard : Guarded
   pub told : List ℕ
   pub serves : Serves offered [] told (Some guard)
@@ -38,7 +38,7 @@ pub record IsRefused (offered : Offered) (w : Written) : Type 0 where
 -- the exit status of serving and of a refusal
 abbrev pub Served : Offered → Written → ℕ → Type 0
 Served offered w status =
-    ((status ≡ 0) × IsServed offered w) ⊎ ((status ≡ 1) × IsRefused offered w)
+    ((status ≡ 0) × WasServed offered w) ⊎ ((status ≡ 1) × IsRefused offered w)
 
 -- and of a failure: an allocation failed, or the system
 abbrev pub failure_status : ErrorKind → ℕ

@@ -58,26 +58,26 @@ pub record HasTurnAt {S : Type 0} (remaining contents : S → Option (List ℕ))
       ≡ slice_set old.slots key (if after.link.closed then None else Some after)
 
 -- the same of the connection at a key, if there is one
-abbrev pub TurnAt : {S : Type 0} → (S → Option (List ℕ)) → (S → Option (List ℕ)) → (now key : ℕ)
-    → Option (Connection S) → Serving S → Serving S → Option Turn → Type 0
+abbrev pub TurnAt : {S : Type 0} → (remaining contents : S → Option (List ℕ)) (now key : ℕ)
+    → Option (Connection S) → (old new : Serving S) → Option Turn → Type 0
 TurnAt remaining contents now key None old new turn = (new ≡ old) × (turn ≡ None)
 TurnAt {S} remaining contents now key (Some conn) old new None = ⊥
 TurnAt remaining contents now key (Some conn) old new (Some turn) =
     HasTurnAt remaining contents now key conn old new turn
 
-abbrev pub listed : Option Turn → List Turn
-listed None = []
-listed (Some turn) = turn ∷ []
+abbrev pub turns_of : Option Turn → List Turn
+turns_of None = []
+turns_of (Some turn) = turn ∷ []
 
 -- so many keys, from 0 on, had their turns, one after another; these are what they came to
-abbrev pub Turned : {S : Type 0} → (S → Option (List ℕ)) → (S → Option (List ℕ)) → (now keys : ℕ)
-    → Serving S → Serving S → List Turn → Type 0
+abbrev pub Turned : {S : Type 0} → (remaining contents : S → Option (List ℕ)) (now keys : ℕ)
+    (old new : Serving S) → List Turn → Type 0
 Turned remaining contents now zero old new turns = (new ≡ old) × (turns ≡ [])
 Turned {S} remaining contents now (suc key) old new turns =
     (between : Serving S) × (first : List Turn) × (turn : Option Turn)
     × Turned remaining contents now key old between first
     × TurnAt remaining contents now key (slot_at between.slots key) between new turn
-    × (turns ≡ first ++ listed turn)
+    × (turns ≡ first ++ turns_of turn)
 
 -- whether a turn moved something, and whether it closed its connection
 abbrev pub is_moved : Turn → Bool
@@ -120,7 +120,7 @@ Ended {S} now (suc key) old new =
     (between : Serving S) × Ended now key old between
     × EndAt now key (slot_at between.slots key) between new
 
--- all are, and this is the guard then
+-- each connection was ended so, and this guard is left
 pub record IsFinished {S : Type 0} (now : ℕ) (old : Serving S) (guard : Guarded) : Type 0 where
   pub bound : ℕ
   pub all : length old.slots ≤ bound

@@ -2,7 +2,7 @@
 
 ghost use Rattle.std.specs.Prelude.{◌≡◌, ◌<◌, ◌≤◌, ◌+◌, ◌^◌, [], None, count_by, length, slice_set};
 ghost use Rattle.p9_serve.specs.Serving.{EndAt, HasTurns, IsFinished, TakesIn, TurnAt};
-ghost use Rattle.p9_serve.specs.Serving.{is_closed, is_moved, listed, slot_at};
+ghost use Rattle.p9_serve.specs.Serving.{is_closed, is_moved, turns_of, slot_at};
 
 use p9_conn::{Conn, Turn};
 use p9_guard::Guard;
@@ -26,8 +26,8 @@ impl Tally {
     fn with(self, turn: Option<Turn>) -> Tally
         requires moved { self.moved + 1 < 2 ^ 64 }
         requires closed { self.closed + 1 < 2 ^ 64 }
-        ensures moved { result.moved ≡ self.moved + count_by is_moved (listed turn) }
-        ensures closed { result.closed ≡ self.closed + count_by is_closed (listed turn) }
+        ensures moved { result.moved ≡ self.moved + count_by is_moved (turns_of turn) }
+        ensures closed { result.closed ≡ self.closed + count_by is_closed (turns_of turn) }
         ensures few_moved { result.moved ≤ self.moved + 1 }
         ensures few_closed { result.closed ≤ self.closed + 1 }
     {

@@ -20,7 +20,7 @@ brought [] create = []
 brought (node ∷ nodes) create = member create node ∷ map (member false) nodes
 
 -- what a bind makes of its new members and those that were there
-abbrev pub joined : Order → List Member → List Member → List Member
+abbrev pub joined : Order → (new old : List Member) → List Member
 joined Replace new old = new
 joined Before new old = new ++ old
 joined After new old = old ++ new

@@ -53,7 +53,7 @@ with_members key [] table = without_row key table
 with_members key (m ∷ ms) table = with_row key (m ∷ ms) table
 
 -- without the first of the row's members that is the node
-abbrev pub without_member : NodeRef → NodeRef → List MountRow → List Member
+abbrev pub without_member : (key node : NodeRef) → List MountRow → List Member
     → Result (List MountRow) UnmountError
 without_member key node table members =
     option_map_or (λ i. Ok (with_members key (remove members i) table))

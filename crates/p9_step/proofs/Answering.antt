@@ -44,7 +44,7 @@ use Rattle.p9_step.specs.Answer.{Answer, Outcome, is_error, outcome_of}
 use Rattle.p9_step.specs.Clunk.{without}
 use Rattle.p9_step.specs.Laws.{EveryFrameIsAnswered, IsAnswered, after_refusal, reply_max}
 use Rattle.p9_step.specs.Laws.{refusal_max, without_fid_of}
-use Rattle.p9_step.specs.Memory.{no_memory_reply, ran_out}
+use Rattle.p9_step.specs.Memory.{no_memory_reply, frame_may_fail}
 use Rattle.p9_step.specs.Remove.{removal, remove_answer}
 use Rattle.p9_step.specs.Request.{is_version, request_of, tag_of}
 use Rattle.p9_step.specs.Sound.{IsMsize, IsState}
@@ -61,7 +61,7 @@ use Rattle.p9_step.proofs.Passed.{WstatDone, attach-done, clunk-done, create-don
 use Rattle.p9_step.proofs.Passed.{read-done, removal-done, stat-done, version-done, walk-done}
 use Rattle.p9_step.proofs.Passed.{write-done, wstat-done}
 use Rattle.p9_step.proofs.Refused.{request_of-of}
-use Rattle.p9_step.proofs.Requests.{ran_out-is, request-is}
+use Rattle.p9_step.proofs.Requests.{frame_may_fail-is, request-is}
 use Rattle.p9_step.proofs.Sounds.{session-served}
 
 -- The texts of the faults are short.
@@ -238,8 +238,9 @@ module _ (state : State) (name : ℕ) (session : Session) (frame : List ℕ)
   given_by : (refused : Bool) (answer : Answer)
       → after_refusal state name session (request_of session frame) ≡ state
       → OnDone (Replies (reply_max session)) answer
-      → Given (refused && ran_out frame answer) (answered state name session frame refused answer)
-  given_by refused answer left its = by_memory (refused && ran_out frame answer) refl
+      → Given (refused && frame_may_fail frame answer)
+      (answered state name session frame refused answer)
+  given_by refused answer left its = by_memory (refused && frame_may_fail frame answer) refl
     where
       by_answer : (a : Answer) → OnDone (Replies (reply_max session)) a
           → Given false (with_outcome state name frame (outcome_of session a))
@@ -252,8 +253,8 @@ module _ (state : State) (name : ℕ) (session : Session) (frame : List ℕ)
           (ap (λ r. record state { sessions = r })
           (set_value-same (is_at (nat_cmp name)) state.sessions session there) ∙ sym left)
 
-      by_memory : (b : Bool) → (refused && ran_out frame answer) ≡ b
-          → Given (refused && ran_out frame answer)
+      by_memory : (b : Bool) → (refused && frame_may_fail frame answer) ≡ b
+          → Given (refused && frame_may_fail frame answer)
           (answered state name session frame refused answer)
       by_memory true e =
           rw e
@@ -265,20 +266,22 @@ module _ (state : State) (name : ℕ) (session : Session) (frame : List ℕ)
   removed_by : (refused : Bool) (now fid : ℕ) → IsForest state.forest → IsWide session
       → request_of session frame ≡ Ok (Tremove fid)
       → Given
-      (refused && ran_out frame (remove_answer state.setting state.forest session now fid))
+      (refused && frame_may_fail frame (remove_answer state.setting state.forest session now fid))
       (answered state name session frame refused
       (remove_answer state.setting state.forest session now fid))
   unfolding obtain
   removed_by refused now fid sound wide is =
       rw (unmarked refused) (by_fid (fid_at fid session.fids) refl)
     where
-      never : ran_out frame (remove_answer state.setting state.forest session now fid) ≡ false
+      never : frame_may_fail frame (remove_answer state.setting state.forest session now fid)
+          ≡ false
       never =
-          ran_out-is session frame (Tremove fid)
+          frame_may_fail-is session frame (Tremove fid)
           (remove_answer state.setting state.forest session now fid) is
 
       unmarked : (b : Bool)
-          → (b && ran_out frame (remove_answer state.setting state.forest session now fid)) ≡ false
+          → (b && frame_may_fail frame (remove_answer state.setting state.forest session now fid))
+          ≡ false
       unmarked true = never
       unmarked false = refl
 
@@ -346,7 +349,8 @@ module _ (state : State) (name : ℕ) (session : Session) (frame : List ℕ) (no
   by_message : (m : TMessage) → request_of session frame ≡ Ok m
       → Given state name session frame there least tagged
       (refused
-      && ran_out frame (message_answer state.setting state.forest state.sessions session now m))
+      && frame_may_fail frame
+      (message_answer state.setting state.forest state.sessions session now m))
       (answered state name session frame refused
       (message_answer state.setting state.forest state.sessions session now m))
   by_message (Tversion msize version) is =
@@ -455,7 +459,7 @@ module _ (state : State) (name : ℕ) (session : Session) (frame : List ℕ) (no
   by_request : (r : Result TMessage Fault) → request_of session frame ≡ r
       → Given state name session frame there least tagged
       (refused
-      && ran_out frame
+      && frame_may_fail frame
       (and_then r (message_answer state.setting state.forest state.sessions session now)))
       (answered state name session frame refused
       (and_then r (message_answer state.setting state.forest state.sessions session now)))

@@ -16,7 +16,7 @@ use Rattle.p9_space.specs.Table.{MountRow}
 use Rattle.p9_fids.specs.declared.opened.Opened.{Opened}
 use Rattle.p9_fids.specs.Fid.{Fid, FidRow, fid_at, without_fid}
 use Rattle.p9_step.specs.ForestChange.{ForestChange, DropNode, all_applied, applied}
-use Rattle.p9_step.specs.Sound.{FidFits, FidsFit}
+use Rattle.p9_step.specs.Sound.{IsWellOpen, AreWellOpen}
 use Rattle.p9_step.specs.State.{fid_file, fid_ref}
 use Rattle.p9_step.specs.End.{on_end, on_ends, parent_marked}
 use Rattle.p9_step.specs.End.{removes_on_close, taken_out}
@@ -101,7 +101,7 @@ leaf forest at n sound found file = go (slice_get forest at.server) refl
 
 -- what is open with remove-on-close is a file
 pub removed_file : (table : List MountRow) (forest : List Server) (v : Fid) (n : Node)
-    → FidFits table forest v → removes_on_close v ≡ true → fid_file table forest v ≡ Some n
+    → IsWellOpen table forest v → removes_on_close v ≡ true → fid_file table forest v ≡ Some n
     → is_dir n ≡ false
 removed_file table forest v n fits removes found = go v.opened refl
   where
@@ -162,15 +162,15 @@ module _ (table : List MountRow) (now : ℕ) where
 
   -- what is kept of the others after the end of one
   pub fits-ended : (forest : List Server) (row : FidRow) (rows : List FidRow) → IsForest forest
-      → FidsFit table forest (row ∷ rows)
-      → FidsFit table (all_applied (on_end table now forest row.1) forest) rows
+      → AreWellOpen table forest (row ∷ rows)
+      → AreWellOpen table (all_applied (on_end table now forest row.1) forest) rows
   fits-ended forest row rows sound fits =
       fits-evolved table forest (all_applied (on_end table now forest row.1) forest) sound
       (evolves-all forest (on_end table now forest row.1) (steady-on_end forest row.1)) rows fits.1
 
 -- what is open with remove-on-close may be dropped
 pub removed_leaf : (table : List MountRow) (forest : List Server) (v : Fid) (at : NodeRef)
-    (n : Node) → IsForest forest → FidFits table forest v → removes_on_close v ≡ true
+    (n : Node) → IsForest forest → IsWellOpen table forest v → removes_on_close v ≡ true
     → at ≡ fid_ref table v → node_of at forest ≡ Some n → IsLeaf at forest
 removed_leaf table forest v at n sound fits removes is found =
     leaf forest at n sound found
@@ -180,7 +180,7 @@ removed_leaf table forest v at n sound fits removes is found =
 -- the first of all fids has ended
 pub record IsEnded (table : List MountRow) (now : ℕ) (f f' : List Server)
     (fids fids' : List FidRow) : Type 0 where
-  pub fit : FidsFit table f' fids'
+  pub fit : AreWellOpen table f' fids'
   pub same : all_applied (on_ends table now f' fids') f' ≡ all_applied (on_ends table now f fids) f
   pub fewer : length fids' < length fids
 
@@ -203,7 +203,7 @@ first-there (row ∷ rows) number first none =
 -- the rest ends as all would have, once the first has
 pub ended-first : (table : List MountRow) (now : ℕ) (f f' : List Server) (fids fids' : List FidRow)
     (number : ℕ) (v : Fid) →
-    IsForest f → FidsFit table f fids
+    IsForest f → AreWellOpen table f fids
     → option_map (λ (row : FidRow). row.0) (slice_get fids 0) ≡ Some number
     → fid_at number fids ≡ Some v →
     fids' ≡ without_fid number fids → f' ≡ all_applied (on_end table now f v) f

@@ -6,20 +6,21 @@ use Rattle.std.specs.BTreeMap.{is_at}
 use Rattle.p9_tree.specs.Server.{Server}
 use Rattle.p9_space.specs.Table.{MountRow}
 use Rattle.p9_fids.specs.Fid.{Fid, FidRow, fid_at, without_fid}
-use Rattle.p9_step.specs.Sound.{FidFits, FidsFit}
+use Rattle.p9_step.specs.Sound.{IsWellOpen, AreWellOpen}
 
 -- what is kept of all fids is kept of the one that is found
-pub FidsFit-fid_at : (table : List MountRow) (forest : List Server) (fids : List FidRow) (fid : ℕ)
-    (v : Fid) → FidsFit table forest fids → fid_at fid fids ≡ Some v → FidFits table forest v
-FidsFit-fid_at table forest [] fid v fit found = let none : None ≡ Some v = found in cc
-FidsFit-fid_at table forest (row ∷ rows) fid v fit found =
-    go (is_at (nat_cmp fid) row.0) refl (FidsFit-fid_at table forest rows fid v fit.1)
+pub AreWellOpen-fid_at : (table : List MountRow) (forest : List Server) (fids : List FidRow)
+    (fid : ℕ)
+    (v : Fid) → AreWellOpen table forest fids → fid_at fid fids ≡ Some v → IsWellOpen table forest v
+AreWellOpen-fid_at table forest [] fid v fit found = let none : None ≡ Some v = found in cc
+AreWellOpen-fid_at table forest (row ∷ rows) fid v fit found =
+    go (is_at (nat_cmp fid) row.0) refl (AreWellOpen-fid_at table forest rows fid v fit.1)
   where
     go : (b : Bool) → is_at (nat_cmp fid) row.0 ≡ b
-        → (fid_at fid rows ≡ Some v → FidFits table forest v) → FidFits table forest v
+        → (fid_at fid rows ≡ Some v → IsWellOpen table forest v) → IsWellOpen table forest v
     go true e later =
         let here : Some row.1 ≡ Some v = rw e at found in let same : row.1 ≡ v = cc in
-        subst (λ (w : Fid). FidFits table forest w) same fit.0
+        subst (λ (w : Fid). IsWellOpen table forest w) same fit.0
     go false e later = let further : fid_at fid rows ≡ Some v = rw e at found in later further
 
 -- without an entry that isn't there

@@ -33,9 +33,9 @@ use Rattle.p9_step.specs.Open.{is_cut, truncation}
 use Rattle.p9_step.specs.Opening.{is_plain_read, is_read, newly_opened}
 use Rattle.p9_step.specs.Qid.{qid_of}
 use Rattle.p9_step.specs.Read.{cursor_at, fitting, listed_session, readable}
-use Rattle.p9_step.specs.Sound.{FidFits, IsFid, IsOpenOn, IsSession}
+use Rattle.p9_step.specs.Sound.{IsWellOpen, IsFid, IsOpenOn, IsSession}
 use Rattle.p9_step.specs.State.{Session, Setting, fid_file, fid_ref, room_of}
-use Rattle.p9_step.specs.Write.{is_writable, write_place}
+use Rattle.p9_step.specs.Write.{is_writable, write_offset}
 use Rattle.p9_step.specs.declared.opening.Opening.{Opening}
 use Rattle.p9_step.proofs.Changes.{evolves-all, keeps-mark}
 use Rattle.p9_step.proofs.Evolves.{Evolves, evolves-same, found-evolved}
@@ -80,7 +80,7 @@ dir-reads o false e is = absurd (cc)
 -- a fid is opened
 fit-opened : (table : List MountRow) (f g : List Server) (v : Fid) (n : Node) (o : Opening)
     → IsForest f → Evolves f g → fid_file table f v ≡ Some n
-    → (not (is_dir n) || is_plain_read o) ≡ true → FidFits table g (opened_as (newly_opened o) v)
+    → (not (is_dir n) || is_plain_read o) ≡ true → IsWellOpen table g (opened_as (newly_opened o) v)
 fit-opened table f g v n o sound evolves found test p is =
     let same : newly_opened o ≡ p = cc in
     let given = node_of-given f (fid_ref table v) n sound found in
@@ -207,9 +207,9 @@ module _ (setting : Setting) (forest : List Server) (session : Session) (now : �
 
   -- Reads.
 
-  fit-read : (v : Fid) (o p : Opened) → FidFits setting.table forest v → v.opened ≡ Some o
+  fit-read : (v : Fid) (o p : Opened) → IsWellOpen setting.table forest v → v.opened ≡ Some o
       → p.mode ≡ o.mode → p.remove_on_close ≡ o.remove_on_close
-      → FidFits setting.table forest (opened_as p v)
+      → IsWellOpen setting.table forest (opened_as p v)
   fit-read v o p old is mode stays q same =
       let this : p ≡ q = cc in
       let kept = old o is in
@@ -252,7 +252,7 @@ module _ (setting : Setting) (forest : List Server) (session : Session) (now : �
   -- Writes.
 
   -- what is open for writing is no directory
-  written_file : (v : Fid) (n : Node) → FidFits setting.table forest v
+  written_file : (v : Fid) (n : Node) → IsWellOpen setting.table forest v
       → fid_file setting.table forest v ≡ Some n → is_writable v ≡ true → is_dir n ≡ false
   written_file v n fit found opens = by v.opened refl opens
     where
@@ -276,7 +276,7 @@ module _ (setting : Setting) (forest : List Server) (session : Session) (now : �
         (kept-quiet setting forest session now ready session _ ready.its)
     | inr some ↦ (let v = done.v in
         let at = fid_ref setting.table v in
-        let place = write_place offset done.n in
+        let place = write_offset offset done.n in
         let first : EditFits forest at (Overwrite place bytes) =
         lawful-overwrite forest ready.sound at done.n place bytes done.there
         (written_file v done.n (fid-of setting forest session now ready fid v done.found).opened
@@ -402,7 +402,7 @@ module _ (setting : Setting) (forest : List Server) (session : Session) (now : �
           rw (here-pushed v.trail place)
           (new-file forest setting.table place ready.given refl)
 
-      fit : FidFits setting.table after (record v {
+      fit : IsWellOpen setting.table after (record v {
         trail = v.trail ++ place ∷ [];
         opened = Some (newly_opened done.opening);
       })

@@ -26,7 +26,7 @@ use Rattle.p9_fids.specs.Fid.{Fid, FidRow}
 use Rattle.p9_step.specs.ForestChange.{AddNode, ForestChange, Cut, DropNode, Edit, EditNode, Mark, Overwrite}
 use Rattle.p9_step.specs.ForestChange.{Rewrite, Touch, all_applied, applied, edited}
 use Rattle.p9_step.specs.End.{on_end, on_ends, parent_marked, removes_on_close, taken_out}
-use Rattle.p9_step.specs.Sound.{FidFits, FidsFit}
+use Rattle.p9_step.specs.Sound.{IsWellOpen, AreWellOpen}
 use Rattle.p9_step.specs.State.{fid_file, fid_ref}
 use Rattle.p9_step.proofs.Changes.{AllSteady, IsSteady, evolves-all}
 use Rattle.p9_step.proofs.Ends.{IsLeaf, fits-ended, removed_leaf}
@@ -259,7 +259,7 @@ module _ (table : List MountRow) (now : ℕ) (short : now < 2 ^ 32) where
 
   -- what the end of a fid changes is lawful
   pub lawful-on_end : (forest : List Server) (v : Fid) → IsForest forest → is_user v.user ≡ true
-      → FidFits table forest v → AllLawful forest (on_end table now forest v)
+      → IsWellOpen table forest v → AllLawful forest (on_end table now forest v)
   lawful-on_end forest v sound valid fits =
       go (removes_on_close v) refl (fid_file table forest v) refl
     where
@@ -274,7 +274,7 @@ module _ (table : List MountRow) (now : ℕ) (short : now < 2 ^ 32) where
 
   -- and what the end of all of them does
   pub lawful-on_ends : (forest : List Server) (fids : List FidRow) → IsForest forest
-      → AllByRecursion (λ row. is_user row.1.user ≡ true) fids → FidsFit table forest fids
+      → AllByRecursion (λ row. is_user row.1.user ≡ true) fids → AreWellOpen table forest fids
       → AllLawful forest (on_ends table now forest fids)
   lawful-on_ends forest [] sound valid fits = tt
   lawful-on_ends forest (row ∷ rows) sound valid fits =

@@ -41,7 +41,7 @@ use Rattle.p9_step.specs.Listing.{UnionEntry, listing_behind}
 use Rattle.p9_step.specs.Open.{may_open, open_answer, opened_session, truncated, truncation}
 use Rattle.p9_step.specs.Opening.{is_plain_read}
 use Rattle.p9_step.specs.Qid.{qid_of, stat_of}
-use Rattle.p9_step.specs.Read.{cursor_at, entry_bytes, fitting, given_of, listed_session}
+use Rattle.p9_step.specs.Read.{cursor_at, entry_bytes, fitting, entries_or_fault, listed_session}
 use Rattle.p9_step.specs.Read.{read_answer, read_dir, read_file, readable}
 use Rattle.p9_step.specs.Remove.{removal, remove_answer}
 use Rattle.p9_step.specs.Rights.{may_write_parent}
@@ -49,7 +49,7 @@ use Rattle.p9_step.specs.Stat.{stat_answer}
 use Rattle.p9_step.specs.State.{Session, SessionRow, Setting, fid_file, fid_ref, room_of}
 use Rattle.p9_step.specs.Version.{begun, is_known, msize_min, not_spoken, version_answer}
 use Rattle.p9_step.specs.Walk.{ended_walk, moved, newfid_fault, walk_answer, walked}
-use Rattle.p9_step.specs.Write.{is_writable, write_answer, write_file, write_place}
+use Rattle.p9_step.specs.Write.{is_writable, write_answer, write_file, write_offset}
 use Rattle.p9_step.specs.Wstat.{rewriting, touched_of, wstat_answer, wstat_fault}
 use Rattle.p9_step.specs.declared.opening.Opening.{Opening}
 use Rattle.p9_step.proofs.Done.{OnDone, done-err, done-given, done-if, done-need, done-ok}
@@ -185,9 +185,9 @@ pub record WriteDone (setting : Setting) (forest : List Server) (session : Sessi
   pub held : is_writable v ≡ true
   pub there : fid_file setting.table forest v ≡ Some n
   pub is : ((bytes ≡ []) × (o ≡ record { changes = []; session = session; reply = Rwrite 0 }))
-      ⊎ ((write_place offset n + length bytes ≤ file_max) × (o ≡ record {
+      ⊎ ((write_offset offset n + length bytes ≤ file_max) × (o ≡ record {
         changes =
-            EditNode (fid_ref setting.table v) (Overwrite (write_place offset n) bytes)
+            EditNode (fid_ref setting.table v) (Overwrite (write_offset offset n) bytes)
             ∷ EditNode (fid_ref setting.table v) (Mark v.user now) ∷ [];
         session = session;
         reply = Rwrite (length bytes);
@@ -464,7 +464,7 @@ module _ (setting : Setting) (forest : List Server) (session : Session) where
           → readable v.opened ≡ Some opened → fid_file setting.table forest v ≡ Some n
           → (left given : List UnionEntry) → fitting (min count (room_of session)) left ≡ given
           → OnDone (ReadDone setting forest session now fid offset count)
-          (given_of session fid opened offset (cursor_at offset opened) left given)
+          (entries_or_fault session fid opened offset (cursor_at offset opened) left given)
       listed v opened n found held there [] given same =
           done-ok (ReadDone setting forest session now fid offset count) _
           (done v opened n found held there [] given same)

@@ -8,7 +8,7 @@ use Rattle.p9_wire.specs.Reading.{t_message_of}
 use Rattle.p9_step.specs.State.{Session}
 use Rattle.p9_step.specs.Answer.{Answer}
 use Rattle.p9_step.specs.Request.{fits_msize, is_version, request_of}
-use Rattle.p9_step.specs.Memory.{may_run_out, ran_out}
+use Rattle.p9_step.specs.Memory.{may_run_out, frame_may_fail}
 
 module _ (session : Session) (frame : List ℕ) where
   -- it is spelled by the frame, and it is a version, or the msize is set
@@ -44,6 +44,6 @@ module _ (session : Session) (frame : List ℕ) where
       by_msize false e = let no : Err Malformed ≡ Ok m = rw e at is in absurd (cc)
 
   -- so whether its answer may be a failed allocation is the request's
-  pub ran_out-is : (m : TMessage) (a : Answer) → request_of session frame ≡ Ok m
-      → ran_out frame a ≡ may_run_out m a
-  ran_out-is m a is = let r = request-is m is in rw r.read refl
+  pub frame_may_fail-is : (m : TMessage) (a : Answer) → request_of session frame ≡ Ok m
+      → frame_may_fail frame a ≡ may_run_out m a
+  frame_may_fail-is m a is = let r = request-is m is in rw r.read refl

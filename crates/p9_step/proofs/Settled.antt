@@ -34,7 +34,7 @@ use Rattle.p9_space.specs.declared.trail.Step.TheVariants.{To, Up}
 use Rattle.p9_fids.specs.Fid.{Fid, FidRow}
 use Rattle.p9_step.specs.Attach.{listed_user}
 use Rattle.p9_step.specs.Qid.{qid_at}
-use Rattle.p9_step.specs.Sound.{FidsFit, IsFid, IsSession, IsSetting}
+use Rattle.p9_step.specs.Sound.{AreWellOpen, IsFid, IsSession, IsSetting}
 use Rattle.p9_step.specs.State.{Session, SessionRow, Setting}
 use Rattle.p9_step.specs.Walk.{Arrival, arrival, arrived_by, step_and_rest, trail_after, walked}
 use Rattle.p9_step.proofs.Evolves.{Evolves}
@@ -111,7 +111,8 @@ module _ (setting : Setting) (f g : List Server) (sound : IsForest f) (evolves :
 
 -- what is kept of open fids
 pub fits-of : (setting : Setting) (forest : List Server) (fids : List FidRow)
-    → AllByRecursion (λ row. IsFid setting forest row.1) fids → FidsFit setting.table forest fids
+    → AllByRecursion (λ row. IsFid setting forest row.1) fids
+    → AreWellOpen setting.table forest fids
 fits-of setting forest [] each = tt
 fits-of setting forest (row ∷ rows) each = (each.0.opened, fits-of setting forest rows each.1)
 

@@ -9,7 +9,7 @@ use Rattle.p9_step.specs.Answer.{Answer, Outcome, outcome_of}
 use Rattle.p9_step.specs.End.{on_ends}
 use Rattle.p9_step.specs.Event.{Close, Event, IsEvent, Message, Open}
 use Rattle.p9_step.specs.Laws.{IsRunOfBoth}
-use Rattle.p9_step.specs.Memory.{ran_out}
+use Rattle.p9_step.specs.Memory.{frame_may_fail}
 use Rattle.p9_step.specs.Sound.{IsState}
 use Rattle.p9_step.specs.State.{Session, State, fresh, session_at, with_session}
 use Rattle.p9_step.specs.Step.{Marked, Stepped, answered, closed, frame_answer, run}
@@ -38,7 +38,7 @@ module _ (state : State) (its : IsState state) where
       → OnDone (Kept state.setting state.forest) answer
       → IsStateAfter (answered state name session frame refused answer)
   after-answer name session frame refused answer there kept =
-      by_memory (refused && ran_out frame answer) refl
+      by_memory (refused && frame_may_fail frame answer) refl
     where
       by_answer : (a : Answer) → OnDone (Kept state.setting state.forest) a
           → IsStateAfter (with_outcome state name frame (outcome_of session a))
@@ -53,7 +53,7 @@ module _ (state : State) (its : IsState state) where
                 session there;
           })
 
-      by_memory : (b : Bool) → (refused && ran_out frame answer) ≡ b
+      by_memory : (b : Bool) → (refused && frame_may_fail frame answer) ≡ b
           → IsStateAfter (answered state name session frame refused answer)
       by_memory true e = rw e its
       by_memory false e = rw e (by_answer answer kept)

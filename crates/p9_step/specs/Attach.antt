@@ -29,7 +29,8 @@ abbrev pub is_attach_name : List ℕ → Bool
 is_attach_name aname = bytes_eq aname [] || is_rooted aname
 
 -- the trail to the place that it names, by a user's walk along the cleaned path
-abbrev pub attach_walk : Setting → List Server → List ℕ → List ℕ → Result (List NodeRef) Fault
+abbrev pub attach_walk : Setting → List Server → (user aname : List ℕ)
+    → Result (List NodeRef) Fault
 attach_walk setting forest user aname =
     walk forest setting.table (Some (who_of setting user)) (root_place ∷ [])
     (cleaned_elements aname)

@@ -7,7 +7,7 @@ use Rattle.p9_base.specs.Mode.{is_dir as is_dir_mode}
 
 -- a right to read or write is given only where the directory gives it; to execute, in a file, as
 -- asked
-abbrev pub file_rights : Rights → Rights → Rights
+abbrev pub file_rights : (dir asked : Rights) → Rights
 file_rights dir asked = record {
   read = asked.read && dir.read;
   write = asked.write && dir.write;
@@ -15,7 +15,7 @@ file_rights dir asked = record {
 }
 
 -- in a directory each right only where the directory around gives it
-abbrev pub dir_rights : Rights → Rights → Rights
+abbrev pub dir_rights : (dir asked : Rights) → Rights
 dir_rights dir asked = record {
   read = asked.read && dir.read;
   write = asked.write && dir.write;
@@ -23,7 +23,7 @@ dir_rights dir asked = record {
 }
 
 -- the same in each class
-abbrev pub in_each : (Rights → Rights → Rights) → Permissions → Permissions → Permissions
+abbrev pub in_each : (Rights → Rights → Rights) → (dir asked : Permissions) → Permissions
 in_each f dir asked = record {
   owner = f dir.owner asked.owner;
   group = f dir.group asked.group;

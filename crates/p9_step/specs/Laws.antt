@@ -14,7 +14,7 @@ use Rattle.p9_step.specs.Clunk.{without}
 use Rattle.p9_step.specs.Event.{Event, IsEvent, Message}
 use Rattle.p9_step.specs.Sound.{IsState}
 use Rattle.p9_step.specs.Request.{request_of, tag_of}
-use Rattle.p9_step.specs.Memory.{ran_out}
+use Rattle.p9_step.specs.Memory.{frame_may_fail}
 use Rattle.p9_step.specs.Step.{Marked, Stepped, frame_answer, run, step}
 
 -- a step of a state that the exporter can come to leads to such a state, with every mark
@@ -65,7 +65,8 @@ IsFaultText ename = (fault : Fault) × (ename ≡ text_of fault)
 abbrev pub runs_out : State → Session → List ℕ → ℕ → Bool → Bool
 runs_out state session frame now refused =
     refused
-    && ran_out frame (frame_answer state.setting state.forest state.sessions session now frame)
+    && frame_may_fail frame
+    (frame_answer state.setting state.forest state.sessions session now frame)
 
 -- the reply to a frame of a session: the bytes spell it with the frame's tag, and are no more than
 -- the session takes; if it is an error, it is one of the faults, and the state is that after a

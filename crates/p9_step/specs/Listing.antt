@@ -50,7 +50,7 @@ is_behind cursor e =
     (λ c. nat_lt c.member e.position || (c.member == e.position && nat_lt c.number e.node.number))
     cursor true
 
--- the entries that are still to be given
+-- the entries of a place that are behind it, which are still to be given
 abbrev pub listing_behind : Option Cursor → List MountRow → List Server → Who → NodeRef
     → List UnionEntry
 listing_behind cursor table forest who place =

@@ -26,13 +26,13 @@ may_run_out (Twstat fid stat) answer = is_done answer
 may_run_out other answer = false
 
 -- the same of a frame
-abbrev pub ran_out : List ℕ → Answer → Bool
-ran_out frame answer = option_map_or (λ m. may_run_out m.1 answer) (t_message_of frame) false
+abbrev pub frame_may_fail : (frame : List ℕ) → Answer → Bool
+frame_may_fail frame answer = option_map_or (λ m. may_run_out m.1 answer) (t_message_of frame) false
 
 -- the reply to a frame for which there is no memory
 abbrev pub no_memory_reply : List ℕ → List ℕ
 no_memory_reply frame = r_spelling (tag_of frame) (Rerror (text_of OutOfMemory))
 
 -- whether a frame was answered so
-abbrev pub is_no_memory_reply : List ℕ → List ℕ → Bool
+abbrev pub is_no_memory_reply : (frame reply : List ℕ) → Bool
 is_no_memory_reply frame reply = bytes_eq reply (no_memory_reply frame)

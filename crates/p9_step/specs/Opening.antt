@@ -16,7 +16,7 @@ open_mode_of bits =
     else Execute
 
 -- besides these there are truncation (16), close on exec (32), which is dropped, and
--- remove-on-close (64); no other bit is known
+-- remove-on-close (64). The other bits are 4, 8 and 128, which are 140 together; none has a meaning
 abbrev pub opening_of : ℕ → Option Opening
 opening_of bits =
     if bit_and bits 140 == 0 then Some (record {

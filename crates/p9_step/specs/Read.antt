@@ -56,32 +56,33 @@ cursor_after cursor (e ∷ es) = cursor_after (Some (cursor_of e)) es
 abbrev pub cursor_at : ℕ → Opened → Option Cursor
 cursor_at offset opened = if offset == 0 then None else opened.cursor
 
--- the next read of the directory goes on behind the entries that were given
+-- the next read of the directory goes on behind these entries
 abbrev pub listed_session : (fid : ℕ) → Opened → (offset : ℕ) → Option Cursor → List UnionEntry
     → Session → Session
-listed_session fid opened offset cursor given session = record session {
+listed_session fid opened offset cursor entries session = record session {
   fids =
       changed_fid fid (opened_as (record opened {
-        next_offset = offset + length (flat_map entry_bytes given);
-        cursor = cursor_after cursor given;
+        next_offset = offset + length (flat_map entry_bytes entries);
+        cursor = cursor_after cursor entries;
       })) session.fids;
 }
 
--- the entries that are given of those that are left
-abbrev pub listed : Session → (fid : ℕ) → Opened → (offset : ℕ) → Option Cursor → List UnionEntry
-    → Answer
-listed session fid opened offset cursor given =
+-- these entries are the reply
+abbrev pub entries_answer : Session → (fid : ℕ) → Opened → (offset : ℕ) → Option Cursor
+    → List UnionEntry → Answer
+entries_answer session fid opened offset cursor entries =
     Ok (record {
       changes = [];
-      session = listed_session fid opened offset cursor given session;
-      reply = Rread (flat_map entry_bytes given);
+      session = listed_session fid opened offset cursor entries session;
+      reply = Rread (flat_map entry_bytes entries);
     })
 
--- where entries are left, room for one is needed
-abbrev pub given_of : Session → (fid : ℕ) → Opened → (offset : ℕ) → Option Cursor → List UnionEntry
-    → List UnionEntry → Answer
-given_of session fid opened offset cursor (e ∷ es) [] = Err SmallReadCount
-given_of session fid opened offset cursor left given = listed session fid opened offset cursor given
+-- the same, of those that are left the ones that fit; where any is left, one has to fit
+abbrev pub entries_or_fault : Session → (fid : ℕ) → Opened → (offset : ℕ) → Option Cursor
+    → (left fit : List UnionEntry) → Answer
+entries_or_fault session fid opened offset cursor (e ∷ es) [] = Err SmallReadCount
+entries_or_fault session fid opened offset cursor left fit =
+    entries_answer session fid opened offset cursor fit
 
 -- a read begins anew, or where the last one ended
 abbrev pub read_dir : Setting → List Server → Session → (fid : ℕ) → Fid → Opened
@@ -90,7 +91,7 @@ read_dir setting forest session fid v opened offset room =
     let cursor = cursor_at offset opened in
     let left = listing_behind cursor setting.table forest (who_of setting v.user) (here v.trail) in
     need (offset == 0 || offset == opened.next_offset) BadDirectoryOffset (
-    given_of session fid opened offset cursor left (fitting room left))
+    entries_or_fault session fid opened offset cursor left (fitting room left))
 
 -- open for reading, or not
 abbrev pub readable : Option Opened → Option Opened

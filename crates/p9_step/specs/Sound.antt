@@ -27,20 +27,20 @@ pub record IsOpenOn (table : List MountRow) (forest : List Server) (v : Fid) (op
       → opened.remove_on_close ≡ false
 
 -- the same of a fid, if it is open
-abbrev pub FidFits : List MountRow → List Server → Fid → Type 0
-FidFits table forest v = (opened : Opened) → v.opened ≡ Some opened
+abbrev pub IsWellOpen : List MountRow → List Server → Fid → Type 0
+IsWellOpen table forest v = (opened : Opened) → v.opened ≡ Some opened
     → IsOpenOn table forest v opened
 
 -- the same of each fid of a session
-abbrev pub FidsFit : List MountRow → List Server → List FidRow → Type 0
-FidsFit table forest fids = AllByRecursion (λ row. FidFits table forest row.1) fids
+abbrev pub AreWellOpen : List MountRow → List Server → List FidRow → Type 0
+AreWellOpen table forest fids = AllByRecursion (λ row. IsWellOpen table forest row.1) fids
 
 -- of a fid: a listed user holds it, its trail has 1 to 64 places, whose numbers were given to nodes
 pub record IsFid (setting : Setting) (forest : List Server) (v : Fid) : Type 0 where
   pub listed : IsTrue (is_listed_user setting.users v.user)
   pub trail : IsTrail v.trail
   pub given : IsTrue (list_all (is_given forest) v.trail)
-  pub opened : FidFits setting.table forest v
+  pub opened : IsWellOpen setting.table forest v
 
 -- an msize that a version can set
 abbrev pub IsMsize : Option ℕ → Type 0
@@ -54,7 +54,7 @@ pub record IsSession (setting : Setting) (forest : List Server) (session : Sessi
   pub each : AllByRecursion (λ row. IsFid setting forest row.1) session.fids
 
 -- of what no event changes: whom it lists are users, each group has a name that a user may have,
--- and no row of the mount table is empty, nor has a key two
+-- and no row of the mount table is empty, and no key has two rows
 pub record IsSetting (setting : Setting) : Type 0 where
   pub users : IsTrue (list_all is_user setting.users)
   pub groups : IsTrue (are_groups setting.groups)

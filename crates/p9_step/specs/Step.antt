@@ -25,7 +25,7 @@ use Rattle.p9_step.specs.Remove.{remove_answer}
 use Rattle.p9_step.specs.Stat.{stat_answer}
 use Rattle.p9_step.specs.Wstat.{wstat_answer}
 use Rattle.p9_step.specs.Request.{request_of, tag_of}
-use Rattle.p9_step.specs.Memory.{no_memory_reply, ran_out}
+use Rattle.p9_step.specs.Memory.{no_memory_reply, frame_may_fail}
 use Rattle.p9_wire.specs.Frame.{is_frame}
 use Rattle.p9_step.specs.Event.{Event, Open, Message, Close}
 
@@ -84,7 +84,8 @@ with_outcome state name frame outcome = record {
 -- the same of an answer; where an allocation failed and that may be answered, nothing changes
 abbrev pub answered : State → ℕ → Session → List ℕ → Bool → Answer → Stepped
 answered state name session frame refused answer =
-    if refused && ran_out frame answer then record { state = state; reply = no_memory_reply frame }
+    if refused && frame_may_fail frame answer
+    then record { state = state; reply = no_memory_reply frame }
     else with_outcome state name frame (outcome_of session answer)
 
 -- a session ends, and its fids by rising number
@@ -128,6 +129,6 @@ pub record Ran : Type 0 where
 abbrev pub run : State → List Marked → Ran
 run state [] = record { state = state; replies = [] }
 run state (event ∷ events) =
-    let here = step state event.0 event.1 in
-    let later = run here.state events in
-    record { state = later.state; replies = here.reply ∷ later.replies }
+    let first = step state event.0 event.1 in
+    let others = run first.state events in
+    record { state = others.state; replies = first.reply ∷ others.replies }

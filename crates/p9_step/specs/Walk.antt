@@ -48,13 +48,13 @@ module _ (setting : Setting) (forest : List Server) where
       (qid_at setting.table forest (here next)) (Err PhaseError)
 
   -- one step by a name
-  abbrev pub arrived_by : List ℕ → List NodeRef → List ℕ → Result Arrival Fault
+  abbrev pub arrived_by : (user : List ℕ) → List NodeRef → (name : List ℕ) → Result Arrival Fault
   arrived_by user trail name =
       and_then (step_of forest setting.table (Some (who_of setting user)) trail name)
       (arrival trail)
 
   -- one step after another, up to the first that is refused
-  abbrev pub walked : List ℕ → List NodeRef → List (List ℕ) → Walked
+  abbrev pub walked : (user : List ℕ) → List NodeRef → (names : List (List ℕ)) → Walked
   walked user trail [] = record { qids = []; trail = trail; stopped = None }
   walked user trail (name ∷ names) =
       let step = arrived_by user trail name in

@@ -20,15 +20,15 @@ use Rattle.p9_tree.specs.Bytes.{file_max}
 abbrev pub is_writable : Fid → Bool
 is_writable v = option_map_or (λ o. writes o.mode) v.opened false
 
--- the offset; the end of an append-only file
-abbrev pub write_place : ℕ → Node → ℕ
-write_place offset n = if is_append_only n then length n.bytes else offset
+-- where the bytes go: to the offset; in an append-only file, to its end
+abbrev pub write_offset : (offset : ℕ) → Node → ℕ
+write_offset offset n = if is_append_only n then length n.bytes else offset
 
--- the bytes are at the place, and the file is marked
-abbrev pub written : Session → (now : ℕ) → Fid → NodeRef → (place : ℕ) (bytes : List ℕ) → Answer
-written session now v at place bytes =
+-- the bytes are in the file from the start on, and it is marked
+abbrev pub written : Session → (now : ℕ) → Fid → NodeRef → (start : ℕ) (bytes : List ℕ) → Answer
+written session now v at start bytes =
     Ok (record {
-      changes = EditNode at (Overwrite place bytes) ∷ EditNode at (Mark v.user now) ∷ [];
+      changes = EditNode at (Overwrite start bytes) ∷ EditNode at (Mark v.user now) ∷ [];
       session = session;
       reply = Rwrite (length bytes);
     })
@@ -40,9 +40,9 @@ write_file session now v at n offset [] =
     Ok (record { changes = []; session = session; reply = Rwrite 0 })
 write_file session now v at n offset (b ∷ bs) =
     let bytes = b ∷ bs in
-    let place = write_place offset n in
-    need (nat_le (place + length bytes) file_max) FileTooLarge (
-    written session now v at place bytes)
+    let start = write_offset offset n in
+    need (nat_le (start + length bytes) file_max) FileTooLarge (
+    written session now v at start bytes)
 
 -- the tests in their order
 abbrev pub write_answer : Setting → List Server → Session → (now fid offset : ℕ) (bytes : List ℕ)

@@ -39,7 +39,7 @@ abbrev pub is_number_touched : (greatest there wanted : ℕ) → Bool
 is_number_touched greatest there wanted = not (wanted == greatest || wanted == there)
 
 -- a text
-abbrev pub is_text_touched : List ℕ → List ℕ → Bool
+abbrev pub is_text_touched : (there wanted : List ℕ) → Bool
 is_text_touched there wanted = not (bytes_eq wanted [] || bytes_eq wanted there)
 
 -- what is wanted, where it is touched
@@ -48,18 +48,18 @@ touched_number greatest there wanted =
     if is_number_touched greatest there wanted then Some wanted else None
 
 -- the same of a text
-abbrev pub touched_text : List ℕ → List ℕ → Option (List ℕ)
+abbrev pub touched_text : (there wanted : List ℕ) → Option (List ℕ)
 touched_text there wanted = if is_text_touched there wanted then Some wanted else None
 
 -- a part of the qid, each by itself
-abbrev pub touches_qid : Qid → Qid → Bool
+abbrev pub touches_qid : (there wanted : Qid) → Bool
 touches_qid there wanted =
     is_number_touched (2 ^ 8 - 1) there.kind wanted.kind
     || is_number_touched (2 ^ 32 - 1) there.version wanted.version
     || is_number_touched (2 ^ 64 - 1) there.path wanted.path
 
 -- a field that no wstat changes
-abbrev pub touches_fixed : StatFields → StatFields → Bool
+abbrev pub touches_fixed : (there wanted : StatFields) → Bool
 touches_fixed there wanted =
     is_number_touched (2 ^ 16 - 1) there.kind wanted.kind
     || is_number_touched (2 ^ 32 - 1) there.dev wanted.dev
@@ -77,7 +77,7 @@ pub record Touched : Type 0 where
   pub gid : Option (List ℕ)
 
 -- the fields that are touched of what is wanted
-abbrev pub touched_of : StatFields → StatFields → Touched
+abbrev pub touched_of : (there wanted : StatFields) → Touched
 touched_of there wanted = record {
   mode = touched_number (2 ^ 32 - 1) there.mode wanted.mode;
   name = touched_text there.name wanted.name;

@@ -24,7 +24,7 @@ pub data IsInside (nodes : List Node) (h : ℕ) : ℕ → Type 0 where
   Deeper : (k p : ℕ) (n : Node) → node_at k nodes ≡ Some n → n.parent ≡ Some p
       → IsInside nodes h p → IsInside nodes h k
 
--- a hidden directory does
+-- some hidden directory is in its chain of parents
 abbrev pub IsInsideAny : List ℕ → List Node → ℕ → Type 0
 IsInsideAny hidden nodes k = (h : ℕ) × IsTrue (is_among hidden h) × IsInside nodes h k
 
@@ -39,10 +39,11 @@ is_inner numbers n = option_map_or (λ parent. is_among numbers parent) n.parent
 abbrev pub grown_by : List ℕ → Node → List ℕ
 grown_by barred n = if is_inner barred n then n.number ∷ barred else barred
 
--- the numbers that are hidden, or those of nodes inside a hidden directory
-abbrev pub barred_from : List ℕ → List Node → List ℕ
-barred_from hidden [] = hidden
-barred_from hidden (n ∷ ns) = barred_from (grown_by hidden n) ns
+-- the numbers that are hidden, and those of nodes inside a hidden directory; those that are known
+-- grow node by node
+abbrev pub barred_from : (barred : List ℕ) → List Node → List ℕ
+barred_from barred [] = barred
+barred_from barred (n ∷ ns) = barred_from (grown_by barred n) ns
 
 -- whether the number is barred: hidden, or that of a node inside a hidden directory
 abbrev pub is_barred_at : ℕ → List ℕ → List Node → Bool

@@ -47,7 +47,7 @@ is_child dir name n = is_in dir n && bytes_eq n.name name
 abbrev pub is_above : Option ℕ → Node → Bool
 is_above floor n = option_map_or (λ k. nat_lt k n.number) floor true
 
--- What a stat tells of a node has room in it.
+-- What of a node fits the fields of a stat.
 
 -- its owner, its group and who changed it last are users
 abbrev pub HasUsers : Node → Type 0
@@ -77,7 +77,7 @@ abbrev pub touched : ℕ → Node → Node
 touched now n = record n { atime = now }
 
 -- a directory with these permissions, owner and group, changed last by the owner
-abbrev pub with_owner : Permissions → List ℕ → List ℕ → Node → Node
+abbrev pub with_owner : Permissions → (uid gid : List ℕ) → Node → Node
 with_owner permissions uid gid n = record n {
   mode = record { kind = Directory; permissions = permissions };
   uid = uid;

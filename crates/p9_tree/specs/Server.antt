@@ -52,8 +52,9 @@ has_children dir nodes = is_some (child_after dir None nodes)
 
 -- Well-formed servers.
 
--- what holds of a node by itself: it has users' names and numbers of 32 bits; that its mode has no
--- bit without a meaning is in modes' type
+-- what holds of a node by itself: a file is not too long, a directory has no bytes, the root alone
+-- is named `/`, and a stat can tell it. That its mode has no bit without a meaning is in modes'
+-- type
 pub record IsSound (n : Node) : Type 0 where
   pub small : length n.bytes ≤ file_max
   pub empty_dir : IsTrue (is_dir n) → n.bytes ≡ []

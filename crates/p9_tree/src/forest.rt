@@ -114,8 +114,8 @@ impl<T: Tree> Forest<T> {
         }
     }
 
-    /// Makes all of the change in the node at once, as [`Tree::change`]. Where an allocation fails,
-    /// which it may be only where there is a node, the forest is as before.
+    /// Makes all of the change in the node at once, as [`Tree::change`]. An allocation can fail
+    /// only where there is a node. The forest is unchanged then.
     pub fn change(&mut self, at: NodeRef, change: &Change) -> Result<(), NoMemory>
         requires { let server = server_at at.server self.old in
             CanChange server at.number change.now }
@@ -150,8 +150,7 @@ impl<T: Tree> Forest<T> {
     }
 
     /// Writes into a file at the offset, and fills a gap before it with zeros. It isn't marked.
-    /// Where an allocation fails, which it may only where there is a node, the forest is as
-    /// before.
+    /// An allocation can fail only where there is a node. The forest is unchanged then.
     pub fn write(&mut self, at: NodeRef, offset: u64, bytes: &[u8]) -> Result<(), NoMemory>
         requires file { IsFalse (is_dir_of at self.old) }
         requires fits { offset + length bytes.now ≤ FILE_MAX }

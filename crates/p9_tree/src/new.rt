@@ -14,6 +14,6 @@ pub struct New<'a> {
     pub atime: u32,
     /// In seconds since 1970, modulo 2^32.
     pub mtime: u32,
-    /// None, for a directory.
+    /// Empty for a directory.
     pub bytes: &'a [u8],
 }

@@ -32,8 +32,9 @@ pub const NEXT_MAX: u64 = 1 << 48;
 /// entries, as stat(5): the user becomes the one who changed it last, its version grows by 1 modulo
 /// 2^32, and both its times become the clock reading.
 ///
-/// A call that names a number at which there is no node changes nothing. Only `add`, `change` and
-/// `write` take memory; where it is refused they answer so, and the tree is as before.
+/// A call that names a number at which there is no node changes nothing. Of the
+/// calls on a tree only `add`, `change` and `write` take memory; where an allocation fails they
+/// return so, and the tree is unchanged.
 pub trait Tree: Sized + Drop {
     /// The allocator of all that grows in it.
     type Alloc: Allocator + Copy;

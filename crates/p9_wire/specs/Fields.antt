@@ -8,7 +8,7 @@ use Rattle.p9_wire.specs.Message.{StatFields}
 
 -- a number in so many bytes, the lowest first
 unfoldable pub number : (bytes value : ℕ) → List ℕ
-number n x = little_bytes n x
+number bytes value = little_bytes bytes value
 
 -- two bytes of length, and the text
 abbrev pub text : List ℕ → List ℕ

@@ -13,7 +13,8 @@ msize_max = 1048576
 abbrev pub header : ℕ
 header = 7
 
--- one whole frame: as many bytes as its size says, and no fewer than a header has
+-- one whole frame: as many bytes as its size says, no fewer than a header has, and no more than the
+-- greatest frame has
 abbrev pub is_frame : List ℕ → Bool
 is_frame frame =
     nat_le header (length frame) && nat_le (length frame) msize_max
@@ -39,8 +40,8 @@ frames_by Need bytes others = Rest bytes
 frames_by (Whole size) bytes others = Next (take size bytes) (others (drop size bytes))
 frames_by Broken bytes others = BrokenSize
 
--- at most so many frames, which are all where there are no fewer than bytes
-unfoldable pub frames_within : ℕ → List ℕ → Frames
+-- at most so many frames from the front; these are all frames, if the bytes are no more than that
+unfoldable pub frames_within : (most : ℕ) (bytes : List ℕ) → Frames
 frames_within zero bytes = Rest bytes
 frames_within (suc n) bytes = frames_by (first_frame bytes) bytes (frames_within n)
 

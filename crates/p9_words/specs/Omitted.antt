@@ -42,7 +42,7 @@ given_at tag field text =
     if is_next field.0 text then field_at field text else or_read (omitted tag field.0) field text
 
 -- the bytes of one field after the other, behind those before them
-abbrev pub given_from : ℕ → List ℕ → List (Key × Form) → Reader (List ℕ)
+abbrev pub given_from : (tag : ℕ) (bytes : List ℕ) → List (Key × Form) → Reader (List ℕ)
 given_from tag bytes [] text = Ok (bytes, text)
 given_from tag bytes (field ∷ fields) text =
     given_at tag field text >>= λ x. given_from tag (bytes ++ x.0) fields x.1

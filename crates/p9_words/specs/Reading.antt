@@ -64,12 +64,12 @@ found None expected text f = missing expected text
 found (Some x) expected text f = f x
 
 -- what follows a mark, where the text begins with it
-unfoldable pub behind : List ℕ → List ℕ → Option (List ℕ)
+unfoldable pub behind : (mark text : List ℕ) → Option (List ℕ)
 behind mark text =
     if bytes_eq (take (length mark) text) mark then Some (drop (length mark) text) else None
 
 -- a mark, behind blanks
-unfoldable pub mark_at : List ℕ → Expected → List ℕ → Result (List ℕ) Fault
+unfoldable pub mark_at : (mark : List ℕ) → Expected → (text : List ℕ) → Result (List ℕ) Fault
 mark_at mark expected text =
     let here = skip_blanks text in found (behind mark here) expected here Ok
 
@@ -110,7 +110,7 @@ number_at base most text =
 
 -- the bytes behind a quote, up to the quote that ends them, where two quotes stand for one; and
 -- whether a quote was just read
-abbrev pub unquoted_from : Bool → List ℕ → Reader (List ℕ)
+abbrev pub unquoted_from : Bool → (bytes : List ℕ) → Reader (List ℕ)
 unquoted_from true bytes [] = Ok (bytes, [])
 unquoted_from false bytes [] = missing expected.Quote []
 unquoted_from true bytes (b ∷ text) =
@@ -259,7 +259,7 @@ unfoldable pub field_at : Key × Form → Reader (List ℕ)
 field_at field text = key_at field.0 text >>= λ rest. value_at field.1 rest
 
 -- the bytes of one field after the other, behind those before them
-abbrev pub fields_from : List ℕ → List (Key × Form) → Reader (List ℕ)
+abbrev pub fields_from : (bytes : List ℕ) → List (Key × Form) → Reader (List ℕ)
 fields_from bytes [] text = Ok (bytes, text)
 fields_from bytes (field ∷ fields) text =
     field_at field text >>= λ x. fields_from (bytes ++ x.0) fields x.1
@@ -269,11 +269,11 @@ abbrev pub tag_field : Key × Form
 tag_field = (key.Tag, form.Number U16)
 
 -- the frame of a message of this type, of which these are the bytes behind the type
-abbrev pub framed : ℕ → List ℕ → List ℕ
+abbrev pub framed : (kind : ℕ) (bytes : List ℕ) → List ℕ
 framed kind bytes = number 4 (5 + length bytes) ++ (number 1 kind ++ bytes)
 
 -- the frame, where the line ends here and four bytes hold its size
-unfoldable pub frame_at : Verb → List ℕ → List ℕ → Result (List ℕ) Fault
+unfoldable pub frame_at : Verb → (bytes text : List ℕ) → Result (List ℕ) Fault
 frame_at verb bytes text =
     let here = skip_blanks text in
     if nat_lt 0 (length here) then missing expected.End here

@@ -109,7 +109,7 @@ pub fn unexpected(expected: Expected, text: &[u8]) -> ReadError
     })
 }
 
-/// From whatever says that an allocation failed.
+/// Every error that [`p9_base::NoMemory`] is made from says that an allocation failed.
 impl<E: Drop> From<E> for ReadError
 where
     NoMemory: From<E>,

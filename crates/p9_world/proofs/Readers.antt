@@ -12,7 +12,7 @@ use Rattle.std.specs.Str.{bytes_eq}
 use Rattle.p9_base.specs.declared.node_ref.NodeRef.{NodeRef}
 use Rattle.p9_base.specs.NodeRef.{same_node}
 use Rattle.p9_base.specs.Results.{need}
-use Rattle.p9_base.specs.User.{is_user}
+use Rattle.p9_base.specs.User.{is_listed_user, is_user}
 use Rattle.p9_base.specs.Variable.{Variable}
 use Rattle.p9_base.proofs.Views.{list_any-map}
 use Rattle.p9_tree.specs.Forest.{next_of}
@@ -20,8 +20,8 @@ use Rattle.p9_world.specs.declared.error.LineFault.TheVariants.{Duplicate}
 use Rattle.p9_world.specs.declared.last_dir.LastDir.{LastDir}
 use Rattle.p9_world.specs.declared.positions.Positions.{Positions}
 use Rattle.p9_world.specs.Positions.{HasSame, Indexes, Places, position_at}
-use Rattle.p9_world.specs.Reader.{HasHidden, IsReader, names_of, node_cmp}
-use Rattle.p9_world.specs.User.{is_listed, user_line}
+use Rattle.p9_world.specs.Reader.{HasHidden, IsReader, variable_names, node_cmp}
+use Rattle.p9_world.specs.User.{user_line}
 use Rattle.p9_world.specs.Variable.{is_set, is_variable_name, set_line}
 use Rattle.p9_world.specs.World.{IsWorld, World, empty_world}
 use Rattle.p9_world.proofs.LastDirs.{led-root}
@@ -86,7 +86,7 @@ module _ {Z : Type 0} (w : World) (users vars servers : Positions Z) (hidden : B
     users = reader.users;
     vars =
         rw (map_push (λ (var : Variable). var.0) w.vars (name, value))
-        (Indexes-joined (names_of w.vars) name count vars new reader.vars
+        (Indexes-joined (variable_names w.vars) name count vars new reader.vars
         (no-position (position_at vars name) absent)
         (omega (arith, last, length-map w.vars (λ (var : Variable). var.0))) places);
     servers = reader.servers;
@@ -101,14 +101,15 @@ module _ {Z : Type 0} (w : World) (users vars servers : Positions Z) (hidden : B
   reader-same users' vars' servers' u v s = record {
     world = reader.world;
     users = Indexes-same w.users users users' reader.users u;
-    vars = Indexes-same (names_of w.vars) vars vars' reader.vars v;
+    vars = Indexes-same (variable_names w.vars) vars vars' reader.vars v;
     servers = Indexes-same w.servers servers servers' reader.servers s;
     hidden = reader.hidden;
     led = reader.led;
   }
 
   -- a user is listed where it has a position
-  pub listed-position : (name : List ℕ) → is_listed name w.users ≡ is_some (position_at users name)
+  pub listed-position : (name : List ℕ)
+      → is_listed_user w.users name ≡ is_some (position_at users name)
   listed-position name =
       sym (ap is_some (reader.users name)
       ∙ is_some-position (λ other. bytes_eq other name) w.users)
@@ -129,7 +130,7 @@ module _ {Z : Type 0} (w : World) (users vars servers : Positions Z) (hidden : B
   set-position name =
       list_any-map (λ (var : Variable). var.0) (λ other. bytes_eq other name) w.vars
       ∙ sym (ap is_some (reader.vars name)
-      ∙ is_some-position (λ other. bytes_eq other name) (names_of w.vars))
+      ∙ is_some-position (λ other. bytes_eq other name) (variable_names w.vars))
 
   pub set_line-again : (name value : List ℕ) → is_variable_name name ≡ true
       → is_some (position_at vars name) ≡ true → set_line name value w ≡ Err Duplicate

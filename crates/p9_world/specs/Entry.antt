@@ -44,8 +44,8 @@ pub record NodeLine : Type 0 where
   pub bytes : List ℕ
 
 -- the node of the server's next number in the directory, never changed since the time 0
-abbrev pub new_node : (number dir : ℕ) → Component → NodeLine → Node
-new_node number dir name entry = record {
+abbrev pub node_of_line : (number dir : ℕ) → Component → NodeLine → Node
+node_of_line number dir name entry = record {
   number = number;
   parent = Some dir;
   name = name;
@@ -65,17 +65,17 @@ with_entry name names entry server =
     obtain (dir_of names server) NoParent (λ dir.
     need (not (is_some (child_of dir name server.nodes))) Duplicate (
     need (nat_lt server.next next_max) TooMany (
-    Ok (added server (new_node server.next dir name entry)))))
+    Ok (added server (node_of_line server.next dir name entry)))))
 
 -- Lines.
 
 -- the owner and the group have names of users
-abbrev pub are_users : List ℕ → List ℕ → Bool
+abbrev pub are_users : (uid gid : List ℕ) → Bool
 are_users uid gid = is_user uid && is_user gid
 
 -- '/' is the root, which is changed; any other path is a new directory's
-abbrev pub with_dir : Option (Component × List Component) → Permissions → List ℕ → List ℕ → Server
-    → Result Server LineFault
+abbrev pub with_dir : Option (Component × List Component) → Permissions → (uid gid : List ℕ)
+    → Server → Result Server LineFault
 with_dir None permissions uid gid server =
     Ok (with_changed 0 (with_owner permissions uid gid) server)
 with_dir (Some place) permissions uid gid server =
@@ -87,7 +87,7 @@ with_dir (Some place) permissions uid gid server =
     }) server
 
 -- what comes of the last server by 'dir PATH MODE UID GID'
-abbrev pub dir_line : List ℕ → List ℕ → List ℕ → List ℕ → Server → Result Server LineFault
+abbrev pub dir_line : (path mode uid gid : List ℕ) → Server → Result Server LineFault
 dir_line path mode uid gid server =
     obtain (names_of path) BadPath (λ names.
     obtain (permissions_in mode) BadMode (λ permissions.
@@ -99,7 +99,7 @@ abbrev pub bytes_in : List ℕ → Option (List ℕ)
 bytes_in word = if bytes_eq word (codes "-") then Some [] else result_ok (decode_of word)
 
 -- what comes of it by 'file PATH MODE UID GID HEX'
-abbrev pub file_line : List ℕ → List ℕ → List ℕ → List ℕ → List ℕ → Server → Result Server LineFault
+abbrev pub file_line : (path mode uid gid hex : List ℕ) → Server → Result Server LineFault
 file_line path mode uid gid hex server =
     obtain (names_of path) BadPath (λ names.
     obtain (last_and_rest names) BadPath (λ place.

@@ -19,7 +19,8 @@ are_distinct (text ∷ texts) = not (list_any (bytes_eq text) texts) && are_dist
 
 -- what comes of a world by 'group NAME LEADER [MEMBER ...]': a group of this name, which has none
 -- yet, of this leader and these members
-abbrev pub group_line : List ℕ → List ℕ → List (List ℕ) → World → Result World LineFault
+abbrev pub group_line : (name leader : List ℕ) (members : List (List ℕ)) → World
+    → Result World LineFault
 group_line name leader members w =
     need (list_all is_user (name ∷ leader ∷ members)) BadUser (
     need (not (is_some (group_of name w.groups))) Duplicate (

@@ -23,7 +23,7 @@ with_hidden node w =
     Ok (record w { hidden = w.hidden ++ node ∷ [] }))
 
 -- what comes of a world by 'hide SERVER PATH'
-abbrev pub hide_line : List ℕ → List ℕ → World → Result World LineFault
+abbrev pub hide_line : (server path : List ℕ) → World → Result World LineFault
 hide_line server path w =
     obtain (server_number server w.servers) NoServer (λ number.
     obtain (names_of path) BadPath (λ names.

@@ -19,8 +19,8 @@ abbrev pub node_cmp : NodeRef → NodeRef → Ordering
 node_cmp a b = ordering_then (nat_cmp a.server b.server) (nat_cmp a.number b.number)
 
 -- the names of variables
-abbrev pub names_of : List Variable → List (List ℕ)
-names_of vars = map (λ var. var.0) vars
+abbrev pub variable_names : List Variable → List (List ℕ)
+variable_names vars = map (λ var. var.0) vars
 
 -- the set has the hidden directories
 abbrev pub HasHidden : BTreeSet NodeRef → List NodeRef → Type 0
@@ -33,7 +33,7 @@ pub record IsReader {Z : Type 0} (w : World) (user_positions var_positions : Pos
     : Type 0 where
   pub world : IsWorld w
   pub users : Indexes user_positions w.users
-  pub vars : Indexes var_positions (names_of w.vars)
+  pub vars : Indexes var_positions (variable_names w.vars)
   pub servers : Indexes server_positions w.servers
   pub hidden : HasHidden hidden_set w.hidden
   pub led : IsWhereNamesLead last_dir (server_at (last_number w) w.forest)

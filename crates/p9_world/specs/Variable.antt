@@ -19,7 +19,7 @@ abbrev pub is_set : List ℕ → List Variable → Bool
 is_set name vars = list_any (λ var. bytes_eq var.0 name) vars
 
 -- what comes of a world by 'set NAME VALUE': the variable joins the others
-abbrev pub set_line : List ℕ → List ℕ → World → Result World LineFault
+abbrev pub set_line : (name value : List ℕ) → World → Result World LineFault
 set_line name value w =
     need (is_variable_name name) BadName (
     need (not (is_set name w.vars)) Duplicate (

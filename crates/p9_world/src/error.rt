@@ -86,7 +86,7 @@ pub enum WorldError {
     NoMemory,
 }
 
-/// From whatever says that an allocation failed.
+/// Every error that [`p9_base::NoMemory`] is made from says that an allocation failed.
 impl<E: Drop> From<E> for WorldError
 where
     NoMemory: From<E>,
@@ -108,7 +108,7 @@ pub(crate) enum LineError {
     NoMemory,
 }
 
-/// From whatever says that an allocation failed.
+/// Every error that [`p9_base::NoMemory`] is made from says that an allocation failed.
 impl<E: Drop> From<E> for LineError
 where
     NoMemory: From<E>,

@@ -1,5 +1,5 @@
 use Rattle.std.proofs.Common.{◌≡◌, ◌+◌, drop, take}
-use Rattle.p9_cert.specs.Closed.{AreShown}
+use Rattle.p9_cert.specs.Closed.{AreNotBarred}
 use Rattle.p9_cert.specs.Gap.{first_counted, row_gap}
 use Rattle.p9_cert.specs.Policy.{policy_of}
 use Rattle.p9_cert.proofs.check.check_rows.Given as goal
@@ -9,4 +9,4 @@ abbrev pub invariant-loop-i : goal.invariant-loop-i
 invariant-loop-i g l =
     (first_counted (row_gap (policy_of l.world) l.world.forest) (l.i + 1) (drop l.i l.rows)
     ≡ first_counted (row_gap (policy_of l.world) l.world.forest) 1 l.rows)
-    × AreShown l.world.hidden l.world.forest (take l.i l.rows)
+    × AreNotBarred l.world.hidden l.world.forest (take l.i l.rows)

@@ -2,7 +2,7 @@ use Rattle.std.proofs.Common.{◌≡◌, None, Some, inl, refl, sym, ap, ◌∙�
 use Rattle.std.specs.Option.{option_map}
 use Rattle.p9_fids.specs.Held.{fid_of}
 use Rattle.p9_base.specs.Results.{obtain}
-use Rattle.p9_step.proofs.Fids.{FidsFit-fid_at, without_fid-none}
+use Rattle.p9_step.proofs.Fids.{AreWellOpen-fid_at, without_fid-none}
 use Rattle.p9_fids.specs.Fid.{fid_at}
 use Rattle.p9_export.proofs.clunk.clunk.Goals as goal
 
@@ -18,5 +18,5 @@ pub end_fid-requires-clause-opened : goal.end_fid-requires-clause-opened
 end_fid-requires-clause-opened g c =
     let found : fid_at c.args.fid c.session.inside.fids.fids ≡ Some c.in-Some.ended.fid =
     sym c.take.ensures.value ∙ ap (option_map fid_of) c.in-Some.is in
-    FidsFit-fid_at c.args.setting.now.table c.args.forest.now
+    AreWellOpen-fid_at c.args.setting.now.table c.args.forest.now
     c.args.session.now.session.fids c.args.fid _ c.requires.opened (rw (← c.session.view_is) found)

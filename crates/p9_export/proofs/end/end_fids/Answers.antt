@@ -2,12 +2,13 @@ use Rattle.std.proofs.Common.{◌∙◌, ap, sym}
 use Rattle.std.specs.Option.{option_map}
 use Rattle.p9_fids.specs.Held.{fid_of}
 use Rattle.p9_step.proofs.Ends.{ended-first, first-there, no-first}
-use Rattle.p9_step.proofs.Fids.{FidsFit-fid_at}
+use Rattle.p9_step.proofs.Fids.{AreWellOpen-fid_at}
 use Rattle.p9_export.proofs.end.end_fids.Goals as goal
 
 pub end_fid-requires-clause-opened : goal.end_fid-requires-clause-opened
 end_fid-requires-clause-opened g c =
-    FidsFit-fid_at c.args.setting.now.table _ c.loop-number.fids.fids c.in-Some.number c.in-Some-take.fid.fid
+    AreWellOpen-fid_at c.args.setting.now.table _ c.loop-number.fids.fids c.in-Some.number
+    c.in-Some-take.fid.fid
     c.loop-number.invariant.0 (sym c.take.ensures.value ∙ ap (option_map fid_of) c.in-Some-take.is)
 
 pub loop-number-smaller-in-Some-take : goal.loop-number-smaller-in-Some-take

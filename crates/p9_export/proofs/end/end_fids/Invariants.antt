@@ -1,7 +1,7 @@
 use Rattle.std.proofs.Common.{◌≡◌, length}
 use Rattle.p9_fids.specs.Held.{AllFit}
 use Rattle.p9_step.specs.ForestChange.{all_applied}
-use Rattle.p9_step.specs.Sound.{FidsFit}
+use Rattle.p9_step.specs.Sound.{AreWellOpen}
 use Rattle.p9_step.specs.End.{on_ends}
 use Rattle.p9_export.proofs.end.end_fids.Given as goal
 
@@ -9,7 +9,7 @@ abbrev pub invariant-loop-number : goal.invariant-loop-number
 invariant-loop-number g l =
     let here = l.forest in
     let start = l.fn.forest in
-    FidsFit l.setting.table here l.fids.fids
+    AreWellOpen l.setting.table here l.fids.fids
     × (all_applied (on_ends l.setting.table l.now here l.fids.fids) here
     ≡ all_applied (on_ends l.fn.setting.table l.fn.now start l.fn.fids.fids) start)
     × AllFit l.setting.table l.fids

@@ -7,7 +7,7 @@ use Rattle.p9_wire.specs.Message.{Rwrite}
 use Rattle.p9_fids.specs.Fid.{fid_at}
 use Rattle.p9_step.specs.State.{fid_ref}
 use Rattle.p9_step.specs.Write.{is_writable}
-use Rattle.p9_step.proofs.Fids.{FidsFit-fid_at}
+use Rattle.p9_step.proofs.Fids.{AreWellOpen-fid_at}
 use Rattle.p9_export.proofs.Writes.{memory_refused, writable_file, write-did, write_answer-done}
 use Rattle.p9_export.proofs.write.write.Goals as goal
 
@@ -22,7 +22,7 @@ write-requires-clause-file g c =
     let opens : is_writable v ≡ true = sym c.is_writable.ensures ∙ c.if-not-is_writable.false in
     rw c.file-at.ensures
     (writable_file c.args.setting.now.table forest v c.in-Some-node.file.now there
-    (FidsFit-fid_at c.args.setting.now.table forest c.args.session.now.session.fids c.args.fid v
+    (AreWellOpen-fid_at c.args.setting.now.table forest c.args.session.now.session.fids c.args.fid v
     c.requires.opened found) opens)
 
 pub returns-in_err-write : goal.returns-in_err-write
@@ -35,7 +35,7 @@ returns-in_err-write g c =
     let done =
     write_answer-done c.args.setting.now forest c.args.session.now.session c.args.now c.args.fid
     c.args.offset c.args.bytes.now v c.in-Some-node.file.now c.file-at.result
-    c.write_place-place.result c.file-at.ensures c.write_place-place.ensures found opens
+    c.write_offset-place.result c.file-at.ensures c.write_offset-place.ensures found opens
     (sym c.in-Some-node.ensures) (sym c.is_empty.ensures ∙ c.if-is_empty.false)
     (sym c.fits.ensures ∙ c.if-not-fits.false) in
     let refused = err_from_is_err_and c.from_residual.result c.from_residual.ensures.1 in
@@ -53,7 +53,7 @@ returns g c =
     let done =
     write_answer-done c.args.setting.now forest c.args.session.now.session c.args.now c.args.fid
     c.args.offset c.args.bytes.now v c.in-Some-node.file.now c.file-at.result
-    c.write_place-place.result c.file-at.ensures c.write_place-place.ensures found opens
+    c.write_offset-place.result c.file-at.ensures c.write_offset-place.ensures found opens
     (sym c.in-Some-node.ensures) (sym c.is_empty.ensures ∙ c.if-is_empty.false)
     (sym c.fits.ensures ∙ c.if-not-fits.false) in
     let new = c.bump.new.self in
@@ -63,7 +63,7 @@ returns g c =
     c.in_ok-write.ensures.ok in
     let changed : new ≡ forest_changed_at c.file-at.result (marked v.user c.args.now)
     (forest_changed_at c.file-at.result
-    (with_bytes (overwritten c.write_place-place.result c.args.bytes.now)) forest) = rw
+    (with_bytes (overwritten c.write_offset-place.result c.args.bytes.now)) forest) = rw
     (← c.held.view_is) bumped in
     write-did _ forest new c.args.session.now.session c.args.now c.args.bytes.now v c.file-at.result
-    c.write_place-place.result done changed
+    c.write_offset-place.result done changed

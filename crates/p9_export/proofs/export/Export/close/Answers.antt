@@ -2,7 +2,7 @@ use Rattle.std.proofs.Common.{◌≡◌, None, Some, false, true, refl, sym, ap,
 use Rattle.std.specs.Ordering.{nat_cmp}
 use Rattle.std.specs.BTreeMap.{is_at}
 use Rattle.p9_fids.proofs.Values.{remove-mapped}
-use Rattle.p9_step.specs.Sound.{FidsFit}
+use Rattle.p9_step.specs.Sound.{AreWellOpen}
 use Rattle.p9_step.specs.State.{Session, session_at}
 use Rattle.p9_step.proofs.Sounds.{served-closed}
 use Rattle.p9_export.specs.Held.{HeldSession, SessionFits, session_in, sessions_in}
@@ -14,7 +14,7 @@ pub end_fids-requires-clause-opened : goal.end_fids-requires-clause-opened
 end_fids-requires-clause-opened g c =
     let forest = c.self.inside.forest in
     let rows = c.self.inside.sessions.entries in
-    subst (FidsFit c.self.inside.setting.table forest)
+    subst (AreWellOpen c.self.inside.setting.table forest)
     (sym (ap (λ (s : HeldSession). s.session.fids) c.session.view_is))
     (found-fits c.self.inside.setting forest (sessions_in rows) c.args.name
     c.in-Some.session.session c.well_formed-2.ensures c.self.invariant.served

@@ -1,6 +1,6 @@
 use Rattle.std.proofs.Common.{◌≡◌, ◌+◌, ◌++◌, ◌∙◌, ℕ, ap, arith, refl, subst, suc, sym}
 use Rattle.std.specs.Prelude.{count_by}
-use Rattle.p9_serve.specs.Serving.{Turned, is_closed, is_moved, listed}
+use Rattle.p9_serve.specs.Serving.{Turned, is_closed, is_moved, turns_of}
 use Rattle.p9_serve.proofs.Keyed.{counted}
 use Rattle.p9_serve.proofs.clients.Clients.turns.Goals as goal
 
@@ -8,7 +8,7 @@ pub loop-key-preserved : goal.loop-key-preserved
 loop-key-preserved g c =
     let so_far = c.loop-key.invariant in
     let first = so_far.0 in
-    let more = listed c.turn_at.result in
+    let more = turns_of c.turn_at.result in
     let next : c.loop-key.key + 1 ≡ suc c.loop-key.key = omega arith in (
       first ++ more,
       subst (λ (n : ℕ). Turned g.S.Read.remaining g.S.Write.contents c.args.now n c.args.self.now
