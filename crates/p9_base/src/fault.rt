@@ -50,8 +50,8 @@ pub enum Fault {
     #[error("permission denied")]
     PermissionDenied,
     /// A file that has to exist was removed: that of a fid, the root of the name space in an
-    /// attach, each member of a place from which a walk or a create goes on, or the file where a walk
-    /// arrives.
+    /// attach, each member of a place from which a walk or a create goes on, or the file where a
+    /// walk arrives.
     #[error("phase error")]
     PhaseError,
     /// A mode to open or create with that means nothing.
