@@ -45,7 +45,7 @@ module _ (frame : List ℕ) (tag : ℕ) (m : TMessage) (spelled : TSpells frame 
   tag_is =
       ap tag_of spelled.whole ∙ little_number-reads_back 2 tag (t_body m) spelled.tag_fits
 
-  -- so it is a frame, if it is no longer than one
+  -- so it is a frame, if it is no longer than the greatest
   whole_is : length frame ≤ msize_max → is_frame frame ≡ true
   whole_is small = joined least most same
     where

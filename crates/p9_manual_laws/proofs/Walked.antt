@@ -28,7 +28,7 @@ use Rattle.p9_manual_laws.proofs.Gone.{step_arrives}
 use Rattle.p9_manual_laws.proofs.Rows.{lookup-inserted}
 use Rattle.p9_manual_laws.proofs.Sessions.{changed-same, fid_at-changed, session_at-changed}
 
--- Qids of names, one name more.
+-- How far names lead, and their qids.
 
 -- a fid of the same user at another trail
 at_trail : Fid → List NodeRef → Fid
@@ -51,14 +51,14 @@ Leads state v names (Ok trail) w =
 Leads state v names (Err fault) w = (w.stopped ≡ Some fault) × Halts state v names fault w.qids
 
 module _ (state : State) where
-  -- no name has a qid
+  -- no names have no qids
   no_qids : (v : Fid) → AreQidsOf state v [] []
   no_qids v = record {
     count = refl;
     each = λ k qid e. let none : None ≡ Some qid = e in absurd (cc);
   }
 
-  -- behind a step that is taken
+  -- a first step that is taken
   module _ (v : Fid) (name : List ℕ) (step : Step)
       (is : step_of state.forest state.setting.table (Some (who_of state.setting v.user)) v.trail
       name ≡ Ok step) where
@@ -69,7 +69,7 @@ module _ (state : State) where
     unfolding next at_trail
     further names = rw is refl
 
-    -- the qid of the name, and those of the names behind it
+    -- its qid is before those of the names behind it
     qids_behind : (names : List (List ℕ)) (q : Qid) (qs : List Qid)
         → LeadTo state v (name ∷ []) q → AreQidsOf state next names qs
         → AreQidsOf state v (name ∷ names) (q ∷ qs)
