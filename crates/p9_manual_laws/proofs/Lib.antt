@@ -1,4 +1,5 @@
 pub mod Rows
+pub mod Spelled
 pub mod Frames
 pub mod Sessions
 pub mod Untouched

@@ -32,7 +32,7 @@ use Rattle.p9_step.specs.Read.{listed_session, read_answer, readable}
 use Rattle.p9_step.specs.State.{Session, SessionRow, Setting, State, changed_session, fid_file, room_of}
 use Rattle.p9_step.specs.State.{session_at, who_of}
 use Rattle.p9_manual_laws.specs.Asked.{Asked, after_outcome, asked}
-use Rattle.p9_manual_laws.specs.Listings.{ReadsGiveAll, data_before, reads_from}
+use Rattle.p9_manual_laws.specs.Listings.{ReadAt, ReadsGiveAll, data_before, reads_from}
 use Rattle.p9_manual_laws.proofs.Entries.{InOrder, behind_given, fitting_first, order_from}
 use Rattle.p9_manual_laws.proofs.Sessions.{fid_at-changed, session_at-changed}
 
@@ -280,7 +280,7 @@ module _ (setting : Setting) (forest : List Server) (name fid : ℕ) (v : Fid) (
       ∙ sym (flat_map-append entry_bytes g.given g.others)
       ∙ ap (flat_map entry_bytes) (sym g.left_is)
 
-  gives_all : (reads : List (ℕ × ℕ)) (rows : List SessionRow) (offset : ℕ) (left : List UnionEntry)
+  gives_all : (reads : List ReadAt) (rows : List SessionRow) (offset : ℕ) (left : List UnionEntry)
       (parts : List (List ℕ))
       → Stands rows offset left
       → reads_from (at rows) name fid offset reads ≡ Some (parts ++ [] ∷ [])
@@ -288,11 +288,11 @@ module _ (setting : Setting) (forest : List Server) (name fid : ℕ) (v : Fid) (
   gives_all [] rows offset left [] s is = absurd (cc)
   gives_all [] rows offset left (p ∷ ps) s is = absurd (cc)
   gives_all (read ∷ reads) rows offset left parts s is =
-      by (asked (at rows) name read.0 (Tread fid offset read.1)).reply refl
+      by (asked (at rows) name read.now (Tread fid offset read.count)).reply refl
       (λ after next others. gives_all reads after next others)
     where
       after : Asked
-      after = asked (at rows) name read.0 (Tread fid offset read.1)
+      after = asked (at rows) name read.now (Tread fid offset read.count)
 
       by_rest : (bytes : List ℕ) (r : Option (List (List ℕ)))
           → option_map (λ ps. bytes ∷ ps) r ≡ Some (parts ++ [] ∷ [])
@@ -310,10 +310,10 @@ module _ (setting : Setting) (forest : List Server) (name fid : ℕ) (v : Fid) (
           let one = answered_with r _ _ (ap (λ x. data_before x (λ bytes. reads_from after.state name
           fid (offset + length bytes) reads)) (sym e) ∙ is) in
           let bytes : List ℕ = one.0 in
-          let g = goes rows offset read.0 read.1 left bytes s (e ∙ one.1) in
+          let g = goes rows offset read.now read.count left bytes s (e ∙ one.1) in
           let rest = by_rest bytes
           (reads_from after.state name fid (offset + length bytes) reads) one.2 in
-          gives_further offset read.0 read.1 rows left bytes rest.0 parts g rest.2 (λ ps same.
+          gives_further offset read.now read.count rows left bytes rest.0 parts g rest.2 (λ ps same.
           later g.after (offset + length bytes) g.others ps g.stands
           (ap (λ st. reads_from st name fid (offset + length bytes) reads) (sym g.state_is)
           ∙ rest.1 ∙ ap (λ x. Some x) same))

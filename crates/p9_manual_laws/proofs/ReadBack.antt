@@ -118,31 +118,32 @@ read_gives state name session fid now offset count v opened n has held there fil
     rw (has.session_is, has.fid_is, held, there, file) refl
 
 pub written_is_read_back : WrittenIsReadBack
-written_is_read_back state writer reader here there fid other now later v w n opened offset bytes
-    writing reading same found file plain held short =
+written_is_read_back state writer reader writer_session reader_session fid other_fid now later v w n
+    opened offset bytes writing reading same found file plain held short =
     let o : Outcome =
-    outcome_of here (write_answer state.setting state.forest here now fid offset bytes) in
+    outcome_of writer_session
+    (write_answer state.setting state.forest writer_session now fid offset bytes) in
     let is : asked state writer now (Twrite fid offset bytes) ≡ after_outcome state writer o =
     rw writing.session_is refl in
     subst (λ (after : Asked). after.reply ≡ Some (Rwrite (length bytes))
-    → (asked after.state reader later (Tread other offset (length bytes))).reply
+    → (asked after.state reader later (Tread other_fid offset (length bytes))).reply
     ≡ Some (Rread bytes)) (sym is) (λ accepted.
     let told : o.reply ≡ Rwrite (length bytes) = cc in
     let lands =
-    write_lands state.setting state.forest here now fid offset bytes v n writing.fid_is found plain
-    told in
+    write_lands state.setting state.forest writer_session now fid offset bytes v n writing.fid_is
+    found plain told in
     let after : State = (after_outcome state writer o).state in
-    let has : Has after reader there other w = record {
+    let has : Has after reader reader_session other_fid w = record {
       session_is =
           ap (λ s. session_at reader (changed_session writer s state.sessions)) lands.same
-          ∙ ap (session_at reader) (changed-same state writer here writing.session_is)
+          ∙ ap (session_at reader) (changed-same state writer writer_session writing.session_is)
           ∙ reading.session_is;
       fid_is = reading.fid_is;
     } in
     let there_now : fid_file after.setting.table after.forest w ≡ Some lands.node =
     ap (λ at. node_of at after.forest) same ∙ lands.found in
-    let whole : min (length bytes) (room_of there) ≡ length bytes = omega (arith, short) in
-    read_gives after reader there other later offset (length bytes) w opened lands.node has held
-    there_now (lands.kind ∙ file)
+    let whole : min (length bytes) (room_of reader_session) ≡ length bytes = omega (arith, short) in
+    read_gives after reader reader_session other_fid later offset (length bytes) w opened lands.node
+    has held there_now (lands.kind ∙ file)
     ∙ ap (λ k. Some (Rread (read_from offset k lands.node.bytes))) whole
     ∙ ap (λ xs. Some (Rread xs)) lands.bytes_are)

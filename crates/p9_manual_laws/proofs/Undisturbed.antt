@@ -98,19 +98,22 @@ same_read setting forest at changes session now later fid offset count w found s
     (touched now n) found there there_now file.2 file.2 refl
 
 pub reads_dont_disturb : ReadsDontDisturb
-reads_dont_disturb state first second here there fid other now later v w offset at count room apart
-    one two same =
+reads_dont_disturb state first second first_session second_session fid other_fid now later v w offset
+    other_offset count other_count apart one two same =
     let o : Outcome =
-    outcome_of here (read_answer state.setting state.forest here now fid offset count) in
+    outcome_of first_session
+    (read_answer state.setting state.forest first_session now fid offset count) in
     let is : asked state first now (Tread fid offset count) ≡ after_outcome state first o =
     rw one.session_is refl in
     let after : State = (after_outcome state first o).state in
     let other_is = session_at-other state first second o.session (λ e. apart (sym e))
     ∙ two.session_is in
-    let reads = read_touches state.setting state.forest here now fid offset count v one.fid_is in
-    subst (λ (a : Asked). (asked a.state second later (Tread other at room)).reply
-    ≡ (asked state second later (Tread other at room)).reply) (sym is)
+    let reads =
+    read_touches state.setting state.forest first_session now fid offset count v one.fid_is in
+    subst (λ (a : Asked). (asked a.state second later
+    (Tread other_fid other_offset other_count)).reply
+    ≡ (asked state second later (Tread other_fid other_offset other_count)).reply) (sym is)
     (rw (other_is, two.session_is)
     (ap (λ r. Some r)
-    (same_read state.setting state.forest (fid_ref state.setting.table v) o.changes there now later
-    other at room w two.fid_is same reads)))
+    (same_read state.setting state.forest (fid_ref state.setting.table v) o.changes second_session
+    now later other_fid other_offset other_count w two.fid_is same reads)))

@@ -1,14 +1,15 @@
 -- What a message makes of a state, where no allocation fails.
-use Rattle.std.specs.Prelude.{◌≡◌, ℕ, false, List, Option, None, Some, Ok, IsTrue}
+use Rattle.std.specs.Prelude.{◌≡◌, ℕ, ◌≤◌, true, false, List, Option, None, Some, length}
 use Rattle.std.specs.Option.{option_map_or}
-use Rattle.p9_wire.specs.Frame.{is_frame}
+use Rattle.p9_wire.specs.Frame.{msize_max}
 use Rattle.p9_wire.specs.Message.{RMessage, TMessage}
-use Rattle.p9_wire.specs.Spelling.{r_spelling}
+use Rattle.p9_wire.specs.Spelling.{RSpells, TSpells, r_spelling}
 use Rattle.p9_fids.specs.Fid.{Fid, fid_at}
 use Rattle.p9_step.specs.Answer.{Outcome, outcome_of}
 use Rattle.p9_step.specs.ForestChange.{all_applied}
 use Rattle.p9_step.specs.Event.{Message}
-use Rattle.p9_step.specs.Request.{request_of, tag_of}
+use Rattle.p9_step.specs.Request.{is_version}
+use Rattle.p9_step.specs.Sound.{IsState}
 use Rattle.p9_step.specs.State.{Session, State, changed_session, session_at}
 use Rattle.p9_step.specs.Step.{message_answer, step}
 
@@ -40,27 +41,33 @@ asked state name now m =
     option_map_or (asked_in state name now m) (session_at name state.sessions)
     (record { state = state; reply = None })
 
--- the frame of an open session spells the message
-pub record Spells (state : State) (name : ℕ) (frame : List ℕ) (m : TMessage) : Type 0 where
+-- the session of the name is open, and the frame spells the message with the tag; the frame is no
+-- longer than the greatest one, nor than the session's msize; while no version is set, the message
+-- is a version
+pub record IsSent (state : State) (name : ℕ) (frame : List ℕ) (tag : ℕ) (m : TMessage)
+    : Type 0 where
   pub session : Session
   pub is_open : session_at name state.sessions ≡ Some session
-  pub is_whole : IsTrue (is_frame frame)
-  pub request_is : request_of session frame ≡ Ok m
+  pub spelled : TSpells frame tag m
+  pub small : length frame ≤ msize_max
+  pub short : (msize : ℕ) → session.msize ≡ Some msize → length frame ≤ msize
+  pub allowed : session.msize ≡ None → is_version m ≡ true
 
--- the step of a frame is what its message makes of the state, and its bytes spell the reply
-pub record IsAskedBy (state : State) (name : ℕ) (frame : List ℕ) (now : ℕ) (m : TMessage)
+-- the step of a frame is what the message makes of the state, and its bytes are the reply with the
+-- tag; in a state that the exporter can come to, they spell it by the grammar
+pub record IsAskedBy (state : State) (name : ℕ) (frame : List ℕ) (now tag : ℕ) (m : TMessage)
     : Type 0 where
   pub reply : RMessage
   pub reply_is : (asked state name now m).reply ≡ Some reply
   pub state_is : (step state (Message name frame now) false).state ≡ (asked state name now m).state
-  pub bytes_are : (step state (Message name frame now) false).reply
-      ≡ r_spelling (tag_of frame) reply
+  pub bytes_are : (step state (Message name frame now) false).reply ≡ r_spelling tag reply
+  pub spelled : IsState state → RSpells (step state (Message name frame now) false).reply tag reply
 
--- a frame of an open session is answered as the message that it spells
+-- a frame of an open session is answered as the message that it spells, with the same tag
 abbrev pub FrameIsAsked : Type 0
 FrameIsAsked =
-    (state : State) (name : ℕ) (frame : List ℕ) (now : ℕ) (m : TMessage)
-    → Spells state name frame m → IsAskedBy state name frame now m
+    (state : State) (name : ℕ) (frame : List ℕ) (now tag : ℕ) (m : TMessage)
+    → IsSent state name frame tag m → IsAskedBy state name frame now tag m
 
 -- the session of the name is open, and has the fid
 pub record Has (state : State) (name : ℕ) (session : Session) (fid : ℕ) (v : Fid) : Type 0 where

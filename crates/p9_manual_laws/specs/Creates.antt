@@ -75,7 +75,7 @@ pub record IsMade (before after : State) (v : Fid) (name : List ℕ) (perm : ℕ
       → walk after.forest after.setting.table who trail (name ∷ [])
       ≡ Ok (trail ++ beside member.node node.number ∷ [])
 
--- a file that was created is of the mode that was asked, is found by a walk, and listed
+-- a file that was created has the mode that the formula gives, is found by a walk, and listed
 abbrev pub CreatedIsFound : Type 0
 CreatedIsFound =
     (state : State) (name : ℕ) (session : Session) (fid now : ℕ) (v : Fid) (new : List ℕ)

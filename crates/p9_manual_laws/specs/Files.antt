@@ -13,25 +13,27 @@ use Rattle.p9_manual_laws.specs.Asked.{Has, asked}
 -- open for reading the file, also in another session
 abbrev pub WrittenIsReadBack : Type 0
 WrittenIsReadBack =
-    (state : State) (writer reader : ℕ) (here there : Session) (fid other now later : ℕ)
-    (v w : Fid) (n : Node) (opened : Opened) (offset : ℕ) (bytes : List ℕ)
-    → Has state writer here fid v → Has state reader there other w
+    (state : State) (writer reader : ℕ) (writer_session reader_session : Session)
+    (fid other_fid now later : ℕ) (v w : Fid) (n : Node) (opened : Opened) (offset : ℕ)
+    (bytes : List ℕ)
+    → Has state writer writer_session fid v → Has state reader reader_session other_fid w
     → fid_ref state.setting.table w ≡ fid_ref state.setting.table v
     → fid_file state.setting.table state.forest v ≡ Some n → is_dir n ≡ false
     → is_append_only n ≡ false → readable w.opened ≡ Some opened
-    → length bytes ≤ room_of there
+    → length bytes ≤ room_of reader_session
     → let after = asked state writer now (Twrite fid offset bytes) in
     after.reply ≡ Some (Rwrite (length bytes))
-    → (asked after.state reader later (Tread other offset (length bytes))).reply
+    → (asked after.state reader later (Tread other_fid offset (length bytes))).reply
     ≡ Some (Rread bytes)
 
 -- a read of a file or directory gives what it would have given before a read by another session
 abbrev pub ReadsDontDisturb : Type 0
 ReadsDontDisturb =
-    (state : State) (first second : ℕ) (here there : Session) (fid other now later : ℕ) (v w : Fid)
-    (offset at count room : ℕ)
-    → (first ≡ second → ⊥) → Has state first here fid v → Has state second there other w
+    (state : State) (first second : ℕ) (first_session second_session : Session)
+    (fid other_fid now later : ℕ) (v w : Fid) (offset other_offset count other_count : ℕ)
+    → (first ≡ second → ⊥) → Has state first first_session fid v
+    → Has state second second_session other_fid w
     → fid_ref state.setting.table w ≡ fid_ref state.setting.table v
     → let after = asked state first now (Tread fid offset count) in
-    (asked after.state second later (Tread other at room)).reply
-    ≡ (asked state second later (Tread other at room)).reply
+    (asked after.state second later (Tread other_fid other_offset other_count)).reply
+    ≡ (asked state second later (Tread other_fid other_offset other_count)).reply

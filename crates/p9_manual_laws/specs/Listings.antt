@@ -18,12 +18,16 @@ abbrev pub data_before : Option RMessage → (List ℕ → Option (List (List �
 data_before (Some (Rread bytes)) rest = option_map (λ parts. bytes ∷ parts) (rest bytes)
 data_before other rest = None
 
--- the data of reads of a fid, each at a reading of the clock and with a count: the first is at the
--- offset, and each other where the one before ended
-abbrev pub reads_from : State → (name fid offset : ℕ) → List (ℕ × ℕ) → Option (List (List ℕ))
+-- a read, at a reading of the clock, of so many bytes at most
+pub record ReadAt : Type 0 where
+  pub now : ℕ
+  pub count : ℕ
+
+-- the data of reads of a fid: the first is at the offset, and each other where the one before ended
+abbrev pub reads_from : State → (name fid offset : ℕ) → List ReadAt → Option (List (List ℕ))
 reads_from state name fid offset [] = Some []
 reads_from state name fid offset (read ∷ reads) =
-    let after = asked state name read.0 (Tread fid offset read.1) in
+    let after = asked state name read.now (Tread fid offset read.count) in
     data_before after.reply (λ bytes.
     reads_from after.state name fid (offset + length bytes) reads)
 
@@ -31,7 +35,7 @@ reads_from state name fid offset (read ∷ reads) =
 abbrev pub ReadsGiveAll : Type 0
 ReadsGiveAll =
     (state : State) (name : ℕ) (session : Session) (fid : ℕ) (v : Fid) (n : Node)
-    (reads : List (ℕ × ℕ)) (parts : List (List ℕ))
+    (reads : List ReadAt) (parts : List (List ℕ))
     → IsState state → Has state name session fid v
     → fid_file state.setting.table state.forest v ≡ Some n → is_dir n ≡ true
     → reads_from state name fid 0 reads ≡ Some (parts ++ [] ∷ [])

@@ -31,7 +31,7 @@ use Rattle.p9_step.specs.Write.{is_writable}
 use Rattle.p9_manual_laws.specs.Asked.{Has, asked}
 
 -- the message asks for the file of the fid, which is open for it where it has to be
-abbrev pub AsksFile : ℕ → Fid → TMessage → Type 0
+abbrev pub AsksFile : (fid : ℕ) → Fid → TMessage → Type 0
 AsksFile fid v (Topen asked mode) = (asked ≡ fid) × (v.opened ≡ None)
 AsksFile fid v (Tread asked offset count) =
     (asked ≡ fid) × ((opened : Opened) × (readable v.opened ≡ Some opened))
@@ -51,14 +51,14 @@ pub record IsCreation (name : List ℕ) (perm mode : ℕ) : Type 0 where
   pub plain : (not (is_dir asked) || is_plain_read opening) ≡ true
 
 -- the message goes on from the place of the fid, by a name at least, or makes a file there
-abbrev pub GoesOn : Session → ℕ → Fid → TMessage → Type 0
+abbrev pub GoesOn : Session → (fid : ℕ) → Fid → TMessage → Type 0
 GoesOn session fid v (Twalk asked newfid (name ∷ names)) =
     (asked ≡ fid) × (v.opened ≡ None) × (newfid_fault fid newfid session.fids ≡ None)
 GoesOn session fid v (Tcreate asked name perm mode) =
     (asked ≡ fid) × (v.opened ≡ None) × IsCreation name perm mode
 GoesOn session fid v other = ⊥
 
--- each file that is mounted where the fid is is this one, or doesn't exist either
+-- each member of the fid's place is this node, or doesn't exist
 abbrev pub NoneElse : State → NodeRef → Fid → Type 0
 NoneElse state at v =
     All (λ m. (m.node ≡ at) ⊎ (node_of m.node state.forest ≡ None))
@@ -70,7 +70,7 @@ IsPhaseError state name now m =
     asked state name now m ≡ record { state = state; reply = Some (Rerror (text_of PhaseError)) }
 
 -- a message ends the fid, with this reply, and changes nothing else
-abbrev pub EndsFid : State → (name now : ℕ) → Session → ℕ → TMessage → RMessage → Type 0
+abbrev pub EndsFid : State → (name now : ℕ) → Session → (fid : ℕ) → TMessage → RMessage → Type 0
 EndsFid state name now session fid m reply =
     asked state name now m
     ≡ record { state = without_fid_of name session fid state; reply = Some reply }
@@ -81,9 +81,9 @@ EndsFid state name now session fid m reply =
 -- Where nothing else is mounted, a walk by a name and a create are answered 'phase error' too.
 pub record IsGone (state : State) (at : NodeRef) : Type 0 where
   pub absent : node_of at state.forest ≡ None
-  pub no_walk : (who : Option Who) (trail reached : List NodeRef) (name : List ℕ)
+  pub no_walk : (who : Option Who) (trail reached : List NodeRef) (file_name : List ℕ)
       (names : List (List ℕ))
-      → walk state.forest state.setting.table who trail (name ∷ names) ≡ Ok reached
+      → walk state.forest state.setting.table who trail (file_name ∷ names) ≡ Ok reached
       → file_ref (here reached) state.setting.table ≡ at → ⊥
   pub stale : (name : ℕ) (session : Session) (fid now : ℕ) (v : Fid) (m : TMessage)
       → Has state name session fid v → fid_ref state.setting.table v ≡ at → AsksFile fid v m

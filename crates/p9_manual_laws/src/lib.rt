@@ -13,7 +13,9 @@ ghost use Rattle.p9_manual_laws.specs.Removes.{RemovedIsGone, RemovedStaysGone};
 ghost use Rattle.p9_manual_laws.specs.Walks.{WalkLeadsByTable};
 ghost use Rattle.p9_manual_laws.specs.Wstats.{UntouchedStatChangesNothing};
 
-/// A frame of an open session is answered as the message that it spells.
+/// A frame of an open session that spells a message with a tag, by the grammar of 9P2000, is
+/// answered as that message, and the reply has the same tag, as intro(5). In a state that the
+/// exporter can come to, the bytes of the answer spell the reply by the grammar too.
 pub fn a_frame_is_answered_as_its_message()
     ensures { FrameIsAsked }
 {}
@@ -23,7 +25,9 @@ pub fn a_clunk_frees_its_fid()
     ensures { ClunkFreesFid }
 {}
 
-/// A wstat with every field untouched changes nothing, as stat(5).
+/// A wstat with every field untouched changes nothing, as stat(5). A number is untouched where it is
+/// the greatest of its field or that of the file's stat, and a text where it is empty or that of the
+/// file's stat.
 pub fn an_untouched_stat_changes_nothing()
     ensures { UntouchedStatChangesNothing }
 {}
@@ -38,9 +42,9 @@ pub fn reads_do_not_disturb_each_other()
     ensures { ReadsDontDisturb }
 {}
 
-/// A file that was created has the mode that was asked for, as the octal formula of open(5) gives it,
-/// the fid's user as its owner and its directory's group. It is found by a walk, and is listed behind
-/// the files that were in its directory.
+/// A file that was created has the mode that the octal formula of open(5) gives for the one that was
+/// asked for, the fid's user as its owner and its directory's group. It is found by a walk, and is
+/// listed behind the files that were in its directory.
 pub fn a_created_file_is_found()
     ensures { CreatedIsFound }
 {}
@@ -61,7 +65,9 @@ pub fn a_removed_file_stays_gone()
     ensures { RemovedStaysGone }
 {}
 
-/// A walk of a fid leads where a walk in the mount table leads, as walk(5).
+/// A walk of a fid leads where a walk in the mount table leads, as walk(5). Each qid is that of the
+/// file to which the names up to its own lead. Where a step is refused, nothing changes: the reply
+/// has the qids of the names before it, or its fault if there are none.
 pub fn a_walk_leads_by_the_mount_table()
     ensures { WalkLeadsByTable }
 {}
