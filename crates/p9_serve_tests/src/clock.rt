@@ -1,70 +1,16 @@
 //! What serving asks of the clock: an input is served on a machine whose clock counts its readings.
 
 use crate::loopback::any_port;
+use crate::machine::Machine;
 use crate::rows::SMALL;
 use p9_serve::run_serve;
-use std::alloc::Global;
-use std::cell::Cell;
-use std::io;
-use std::io::ErrorKind;
-use std::net::{Net, SocketAddr};
+use std::net::Net;
 use std::process::Abort;
-use std::rt::Clock;
-use std::time::Duration;
-
-// A machine whose clock can be read so many times, and counts the readings.
-#[derive(Drop)]
-struct Machine<'a, R> {
-    host: &'a R,
-    readings: Cell<u64>,
-    most: u64,
-}
-
-impl<R: Net> Net for Machine<'_, R> {
-    type Stream = R::Stream;
-
-    type Listener = R::Listener;
-
-    fn bind(&self, addr: SocketAddr) -> io::Result<R::Listener> {
-        self.host.bind(addr)
-    }
-
-    fn connect(&self, addr: SocketAddr) -> io::Result<R::Stream> {
-        self.host.connect(addr)
-    }
-}
-
-impl<R: AllocGlobal> Alloc for Machine<'_, R> {
-    type A = Global;
-
-    fn alloc(&self) -> Global {
-        self.host.alloc()
-    }
-}
-
-impl<R> Clock for Machine<'_, R> {
-    fn monotonic(&self) -> io::Result<Duration> {
-        Ok(Duration::ZERO)
-    }
-
-    fn since_1970(&self) -> io::Result<Duration> {
-        let readings = self.readings.get();
-        if readings >= self.most {
-            return Err(io::Error::from(ErrorKind::Other));
-        }
-        self.readings.set(readings.saturating_add(1));
-        Ok(Duration::from_secs(readings))
-    }
-}
 
 // Serves an input for so many rounds, where the clock can be read so many times. Returns the exit
 // status, and how often the clock was read.
 fn serve(rt: &(impl Abort + AllocGlobal + Net), rounds: u64, most: u64) -> (u8, u64) {
-    let machine = Machine {
-        host: rt,
-        readings: Cell::new(0),
-        most,
-    };
+    let machine = Machine::new(rt, 0, most);
     let mut out = Vec::new(rt.alloc());
     let mut err = Vec::new(rt.alloc());
     let status = run_serve(
@@ -75,7 +21,7 @@ fn serve(rt: &(impl Abort + AllocGlobal + Net), rounds: u64, most: u64) -> (u8, 
         &mut out,
         &mut err,
     );
-    (status, machine.readings.get())
+    (status, machine.readings())
 }
 
 #[test]

@@ -11,6 +11,10 @@ mod inputs;
 #[cfg(test)]
 mod loopback;
 #[cfg(test)]
+mod machine;
+#[cfg(test)]
 mod rows;
+#[cfg(test)]
+mod served;
 #[cfg(test)]
 mod soak;

@@ -2,7 +2,6 @@
 //! the vector, and the vector is read and written back.
 
 use p9_wire::{Frame, RMsg, TMsg, frame_of, read_r, read_t, write_r, write_t};
-use std::alloc::{AllocError, Global};
 use std::process::Abort;
 
 /// More bytes than any vector has.
@@ -10,27 +9,6 @@ const ROOM: usize = 512;
 
 /// The bytes of a buffer to which nothing was written.
 pub const UNTOUCHED: u8 = 0xAA;
-
-/// The bytes of hexadecimal digits, which blanks may part.
-pub fn bytes_of(alloc: Global, digits: &str) -> Result<Vec<u8>, AllocError> {
-    let mut bytes = Vec::new(alloc);
-    let mut high = None;
-    for digit in digits.bytes() {
-        let value = match digit {
-            b'0'..=b'9' => digit - b'0',
-            b'a'..=b'f' => digit - b'a' + 10,
-            _ => continue,
-        };
-        high = match high {
-            None => Some(value),
-            Some(first) => {
-                bytes.push(value.wrapping_add(16u8.wrapping_mul(first)))?;
-                None
-            }
-        };
-    }
-    Ok(bytes)
-}
 
 /// Whether these bytes are at the front, and nothing was written behind them.
 pub fn holds_only(out: &[u8], want: &[u8]) -> bool {

@@ -1,7 +1,8 @@
 //! Replies as the vectors spell them.
 
-use crate::bytes::{UNTOUCHED, bytes_of, holds_only, reply};
+use crate::bytes::{UNTOUCHED, holds_only, reply};
 use p9_base::Qid;
+use p9_digits::bytes_of;
 use p9_wire::{HEADER, NOTAG, Qids, RMsg, Stat, finish_read, write_stat};
 use std::process::Abort;
 use std::test::Fail;

@@ -1,7 +1,8 @@
 //! Requests as the vectors spell them.
 
-use crate::bytes::{bytes_of, request};
+use crate::bytes::request;
 use p9_base::{NOFID, Qid};
+use p9_digits::bytes_of;
 use p9_wire::{NOTAG, Names, Stat, TMsg};
 use std::test::Fail;
 

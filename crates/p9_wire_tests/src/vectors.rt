@@ -1,10 +1,10 @@
 //! Every request and reply of the vectors, read and written back; and each request cut short.
 
-use crate::bytes::{bytes_of, needs_all_bytes, no_request_shorter, reads_r, reads_t};
+use crate::bytes::{needs_all_bytes, no_request_shorter, reads_r, reads_t};
+use p9_digits::bytes_of;
 use p9_wire::{read_r, read_t};
-use std::alloc::{AllocError, Global};
+use std::alloc::Global;
 use std::process::Abort;
-use std::test::Fail;
 
 // Name, tag and bytes of each.
 const REQUESTS: &str = "\
@@ -40,23 +40,23 @@ listing_reads 11 17000000 74 0b00 02000000 8800000000000000 44000000
 authentication 2 15000000 66 0200 03000000 0600 676c656e6461 0000";
 
 #[test]
-fn vector_requests(rt: HostRuntime) -> Result<(), Fail> {
+fn vector_requests(rt: HostRuntime) {
     for row in REQUESTS.lines() {
-        let (tag, bytes) = vector(&rt, rt.alloc(), row)?;
+        let (tag, bytes) = vector(&rt, rt.alloc(), row);
         assert!(rt; read_t(&bytes).is_some(), "{row}");
         reads_t(&rt, tag, &bytes);
         needs_all_bytes(&rt, &bytes);
         no_request_shorter(&rt, &bytes);
     }
-    Ok(())
 }
 
 // The tag and the bytes of a row.
-fn vector(rt: &impl Abort, alloc: Global, row: &str) -> Result<(u16, Vec<u8>), AllocError> {
+fn vector(rt: &impl Abort, alloc: Global, row: &str) -> (u16, Vec<u8>) {
     let (_, vector) = row.split_once(' ').expect(rt, "a name");
     let (tag, digits) = vector.split_once(' ').expect(rt, "a tag");
     let tag = tag.parse::<u16>().expect(rt, "a tag");
-    Ok((tag, bytes_of(alloc, digits)?))
+    let bytes = bytes_of(alloc, digits).expect(rt, "hexadecimal digits");
+    (tag, bytes)
 }
 
 const REPLIES: &str = "\
@@ -79,11 +79,10 @@ a4010000 00000000 00000000 0100000000000000 0100 6e 0600 676c656e6461 0600 676c6
 listing_reads 11 0b000000 75 0b00 00000000";
 
 #[test]
-fn vector_replies(rt: HostRuntime) -> Result<(), Fail> {
+fn vector_replies(rt: HostRuntime) {
     for row in REPLIES.lines() {
-        let (tag, bytes) = vector(&rt, rt.alloc(), row)?;
+        let (tag, bytes) = vector(&rt, rt.alloc(), row);
         assert!(rt; read_r(&bytes).is_some(), "{row}");
         reads_r(&rt, tag, &bytes);
     }
-    Ok(())
 }
