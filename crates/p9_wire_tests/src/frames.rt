@@ -13,6 +13,7 @@ fn row_frame_sizes(rt: HostRuntime) -> Result<(), Fail> {
         ("130000", Frame::Need),
         ("06000000", Frame::Broken),
         ("07000000", Frame::Need),
+        ("00000100", Frame::Need),
         ("01000100", Frame::Need),
         ("00001000", Frame::Need),
         ("01001000", Frame::Broken),
