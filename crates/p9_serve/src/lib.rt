@@ -1,4 +1,5 @@
-//! A guard served to clients over sockets: connections in a slab, one turn each in a round.
+//! A guard served to clients over sockets: connections in a slab, one turn each in a round. And an
+//! input served at an address, for a number of rounds.
 #![tactic(auto)]
 
 mod clients;

@@ -30,8 +30,8 @@ pub struct Round {
 /// The clients of a guard that come to a listener. Nothing here waits: where there is nothing to
 /// do, a round does nothing.
 ///
-/// An accept takes ten times as long as a read that finds nothing, so one is made only in the first
-/// round and after a round in which nothing moved, but at least once in 64 rounds.
+/// An accept takes longer than a read that finds nothing, so one is made only in the first round and
+/// after a round in which nothing moved, but at least once in 64 rounds.
 #[derive(Drop)]
 pub struct Server<T: Tree> {
     listener: TcpListener,
@@ -73,7 +73,8 @@ impl<T: Tree> Server<T> {
     /// Takes in one client, if an accept is due and one is waiting; then gives each client's
     /// connection a turn, by rising key, at this reading of the clock. Returns what came of it.
     ///
-    /// A client is dropped, and not counted, where [`Clients::take_in`] drops it.
+    /// A client is dropped, and not counted, where [`Clients::take_in`] drops it. An accept that
+    /// fails takes in nobody, as one does that finds nobody waiting.
     pub fn round(&mut self, now: u32) -> Round
         ensures { HasRound untold untold now self.old self.new result }
     {
@@ -115,8 +116,8 @@ impl<T: Tree> Server<T> {
     }
 }
 
-// The stream of a client that waits, if there is one. Its bytes are sent without delay, where the
-// system grants that.
+// The stream of a client that waits, if there is one and the accept doesn't fail. Its bytes are sent
+// without delay, where the system grants that.
 fn waiting(listener: &TcpListener) -> Option<TcpStream> {
     let (stream, _) = listener.accept().ok()?;
     let _ = stream.set_nodelay(true);
