@@ -44,25 +44,7 @@ fn prints<A: Allocator + Copy>(rt: &impl Abort, alloc: A, line: &str, frame: &[u
 
 #[test]
 fn lines_are_read_at_each_refusal(rt: HostRuntime) -> Result<(), Fail> {
-    for (line, digits) in REQUESTS {
-        let frame = bytes_of(rt.alloc(), digits)?;
-        let memory = Refusing::new(rt.alloc());
-        let refusals = refuse_each(
-            &memory,
-            || (),
-            |()| {
-                let read = reads(&rt, &memory, line, frame.as_slice());
-                assert!(rt; read != memory.has_refused());
-            },
-        );
-        assert!(rt; refusals > 0);
-    }
-    Ok(())
-}
-
-#[test]
-fn replies_are_read_at_each_refusal(rt: HostRuntime) -> Result<(), Fail> {
-    for (line, digits) in REPLIES {
+    for (line, digits) in REQUESTS.iter().chain(&REPLIES) {
         let frame = bytes_of(rt.alloc(), digits)?;
         let memory = Refusing::new(rt.alloc());
         let refusals = refuse_each(

@@ -1,11 +1,12 @@
 //! Groups of a world: who is a member, and who leads.
 
 use crate::faults::told;
+use crate::refused::read_again;
 use p9_base::User;
 use p9_index::IndexTree;
 use p9_refusing::{Refusing, refuse_each};
 use p9_tree::{PlainTree, Tree};
-use p9_world::{World, WorldError, read_world};
+use p9_world::{World, read_world};
 use std::alloc::{AllocError, Global};
 use std::process::Abort;
 use std::test::Fail;
@@ -113,26 +114,21 @@ fn the_example_of_the_guide_has_its_groups(rt: HostRuntime) -> Result<(), Fail> 
     Ok(())
 }
 
-// Reads the groups, again where an allocation failed.
-fn read_again<T: Tree>(rt: &impl Abort, telling: Global, lent: T::Alloc) {
-    let world = match read_world::<T>(lent, TEXT) {
-        Ok(world) => world,
-        Err(error) => {
-            assert_eq!(rt; error, WorldError::NoMemory);
-            let again = read_world::<T>(lent, TEXT);
-            again.expect(rt, "a world with ample memory")
-        }
-    };
-    is_asked(rt, telling, &world, ASKED).expect(rt, "memory");
-}
-
+// The groups are read with each request of memory refused in turn.
 fn read_refused<T: Tree>(
     rt: &impl Abort,
     telling: Global,
     memory: &Refusing<Global>,
     lent: T::Alloc,
 ) {
-    let refusals = refuse_each(memory, || (), |()| read_again::<T>(rt, telling, lent));
+    let refusals = refuse_each(
+        memory,
+        || (),
+        |()| {
+            let world = read_again::<T>(rt, lent, TEXT);
+            is_asked(rt, telling, &world, ASKED).expect(rt, "memory");
+        },
+    );
     assert!(rt; refusals > 20);
 }
 

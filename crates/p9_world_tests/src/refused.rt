@@ -5,21 +5,20 @@ use crate::worlds::{HOME, Sample, VAULT};
 use p9_index::IndexTree;
 use p9_refusing::{Refusing, refuse_each};
 use p9_tree::{PlainTree, Tree};
-use p9_world::{WorldError, read_world};
+use p9_world::{World, WorldError, read_world};
 use std::alloc::Global;
 use std::process::Abort;
 
-// Reads the sample, again where it was refused.
-fn read_again<T: Tree>(rt: &impl Abort, telling: Global, lent: T::Alloc, sample: &Sample) {
-    let world = match read_world::<T>(lent, sample.text) {
+/// Reads a world, again where an allocation failed.
+pub fn read_again<T: Tree>(rt: &impl Abort, lent: T::Alloc, text: &str) -> World<T> {
+    match read_world::<T>(lent, text) {
         Ok(world) => world,
         Err(error) => {
             assert_eq!(rt; error, WorldError::NoMemory);
-            let again = read_world::<T>(lent, sample.text);
+            let again = read_world::<T>(lent, text);
             again.expect(rt, "a world with ample memory")
         }
-    };
-    is_sample(rt, telling, &world, sample);
+    }
 }
 
 // The sample is read with each request of memory refused in turn.
@@ -33,7 +32,10 @@ fn read_refused<T: Tree>(
     let refusals = refuse_each(
         memory,
         || (),
-        |()| read_again::<T>(rt, telling, lent, sample),
+        |()| {
+            let world = read_again::<T>(rt, lent, sample.text);
+            is_sample(rt, telling, &world, sample);
+        },
     );
     assert!(rt; refusals > 20);
 }
