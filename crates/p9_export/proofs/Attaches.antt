@@ -1,5 +1,4 @@
 -- The walk of an attach.
-use Rattle.std.proofs.Common.{◌∙◌, None, Option, inl, inr, sym}
 use Rattle.std.proofs.Common.{◌≡◌, ◌⊎◌, Err, IfErr, IfOk, List, Ok, Result, Some, [], ◌∷◌, refl, subst, ℕ}
 use Rattle.p9_base.specs.declared.fault.Fault.{Fault}
 use Rattle.p9_base.specs.declared.fault.Fault.TheVariants.{OutOfMemory}
@@ -31,10 +30,3 @@ module _ (setting : Setting) (forest : List Server) (user aname : List ℕ) (who
       → IfErr result (λ fault. (fault ≡ OutOfMemory)
       ⊎ (attach_walk setting forest user aname ≡ Err fault))
   walk-err result = subst (λ w. IfErr result (λ fault. (fault ≡ OutOfMemory) ⊎ (w ≡ Err fault))) same
-
--- what no test refuses is refused for a failed allocation
-pub memory_alone : (o : Option Fault) (fault : Fault) → o ≡ None
-    → (o ≡ Some fault) ⊎ ((o ≡ None) × (fault ≡ OutOfMemory)) → fault ≡ OutOfMemory
-memory_alone o fault none (inl some) =
-    let no : None ≡ Some fault = sym none ∙ some in absurd (cc)
-memory_alone o fault none (inr memory) = memory.1

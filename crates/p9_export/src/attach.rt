@@ -121,7 +121,7 @@ fn attach_at<T: Tree>(
     let qid = qid_of(at, file);
     let trail = Trail::at(setting.alloc, place)?;
     let channels = Channels::of(&setting.table, trail)?;
-    session.fids.put(
+    session.fids.add(
         fid,
         Fid {
             user,

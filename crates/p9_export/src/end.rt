@@ -77,10 +77,8 @@ pub fn end_fids<T: Tree>(
     ensures fids { fids.new.fids ≡ [] }
     ensures channels { AllFit setting.now.table fids.new }
 {
-    while let Some(number) = fids.first() {
+    while let Some((_, fid)) = fids.take_first() {
         forest.well_formed();
-        if let Some(fid) = fids.take(number) {
-            end_fid(setting, forest, &fid, now);
-        }
+        end_fid(setting, forest, &fid, now);
     }
 }

@@ -46,8 +46,7 @@ pub fn tag_of(frame: &[u8]) -> u16
     requires { 7 ≤ length frame.now }
     ensures { result ≡ tag_of frame.now }
 {
-    let (_, behind) = frame.split_at(5);
-    LittleEndian::read_u16(behind)
+    LittleEndian::read_u16(&frame[5..])
 }
 
 /// Writes the reply to a frame with this tag at the front of the buffer, also where it is a

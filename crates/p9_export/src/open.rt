@@ -1,6 +1,6 @@
 //! The answer to an open, as open(5).
 
-ghost use Rattle.std.specs.Prelude.{◌≡◌, List, false, nat_lt, IfSome, IsSome};
+ghost use Rattle.std.specs.Prelude.{◌≡◌, ◌∷◌, [], List, false, nat_lt, IfSome, IsSome};
 ghost use Rattle.std.specs.List.{All, list_any};
 ghost use Rattle.std.specs.Map.{values_of};
 ghost use Rattle.std.specs.Option.{option_map_or};
@@ -9,10 +9,10 @@ ghost use Rattle.p9_tree.specs.Forest.{node_of};
 ghost use Rattle.p9_export.specs.Held.{SessionFits, SessionsFit, sessions_in};
 ghost use Rattle.p9_export.specs.Answers.{Answers, replied};
 ghost use Rattle.p9_space.specs.Rights.{who_view};
-ghost use Rattle.p9_step.specs.ForestChange.{all_applied};
+ghost use Rattle.p9_step.specs.ForestChange.{Cut, EditNode, Mark, all_applied, edited};
 ghost use Rattle.p9_export.specs.Taken.{is_fid_taken};
 ghost use Rattle.p9_step.specs.Open.{is_append_only, is_cut, is_exclusive, is_in_use};
-ghost use Rattle.p9_step.specs.Open.{may_open, open_answer, open_reply, truncated, truncation};
+ghost use Rattle.p9_step.specs.Open.{may_open, open_answer, open_reply};
 ghost use Rattle.p9_step.specs.Qid.{qid_of};
 ghost use Rattle.p9_step.specs.State.{SessionRow};
 
@@ -76,7 +76,12 @@ pub fn open<T: Tree>(
     if taken {
         return Err(Fault::ExclusiveUse);
     }
-    let qid = truncated_qid(forest, at, user, now, opening);
+    forest.well_formed();
+    let qid = if is_cut(file, opening) {
+        cut_file(forest, at, user, now)
+    } else {
+        qid_of(at, file)
+    };
     session.fids.set_opened(fid, opening.opened());
     Ok((qid, session.room()))
 }
@@ -103,35 +108,18 @@ fn is_cut<A: Allocator>(file: &Node<A>, opening: Opening) -> bool
     opening.truncates && !is_append_only(file)
 }
 
-// Cuts the file where the opening truncates it, and returns its qid after that.
-fn truncated_qid<T: Tree>(
-    forest: &mut Forest<T>,
-    at: NodeRef,
-    user: User,
-    now: u32,
-    opening: Opening,
-) -> Qid
+// Cuts a file to nothing and marks it, and returns its qid after that.
+fn cut_file<T: Tree>(forest: &mut Forest<T>, at: NodeRef, user: User, now: u32) -> Qid
     requires { IsSome (node_of at forest.old) }
-    ensures forest { IfSome (node_of at forest.old)
-        (λ n. forest.new ≡ all_applied (truncation user now at n opening) forest.old) }
+    ensures forest { forest.new ≡ all_applied (EditNode at (Cut 0) ∷ EditNode at (Mark user now)
+        ∷ []) forest.old }
     ensures qid { IfSome (node_of at forest.old)
-        (λ n. result ≡ qid_of at (truncated user now n opening)) }
+        (λ n. result ≡ qid_of at (edited (Mark user now) (edited (Cut 0) n))) }
 {
-    truncate(forest, at, user, now, opening);
+    forest.cut(at, 0);
+    forest.bump(at, user, now);
     forest.well_formed();
     qid_of(at, forest.node(at).unwrap())
-}
-
-// Cuts the file where the opening truncates it.
-fn truncate<T: Tree>(forest: &mut Forest<T>, at: NodeRef, user: User, now: u32, opening: Opening)
-    requires { IsSome (node_of at forest.old) }
-    ensures { IfSome (node_of at forest.old)
-        (λ n. forest.new ≡ all_applied (truncation user now at n opening) forest.old) }
-{
-    if is_cut(forest.node(at).unwrap(), opening) {
-        forest.cut(at, 0);
-        forest.bump(at, user, now);
-    }
 }
 
 /// Whether each write goes to the file's end, and no opening truncates it.

@@ -1,8 +1,7 @@
 //! The answer to a walk, as walk(5).
 
-ghost use Rattle.std.specs.Prelude.{◌≡◌, ◌≤◌, List, None, Some, IfOk, IfErr, IsSome, OnErr, OnOk};
+ghost use Rattle.std.specs.Prelude.{◌≡◌, ◌≤◌, List, None, Some, IfOk, IsSome, OnErr, OnOk};
 ghost use Rattle.std.specs.Prelude.{length, true};
-ghost use Rattle.p9_base.specs.declared.fault.Fault.TheVariants.{OutOfMemory};
 ghost use Rattle.p9_fids.specs.Fid.{fid_at};
 ghost use Rattle.p9_space.specs.Channel.{Fits, row_position, trail_of};
 ghost use Rattle.p9_space.specs.Table.{MountRow};
@@ -202,13 +201,12 @@ fn move_fid<A: Allocator + Copy>(
     newfid: u32,
     user: User,
     channels: Channels<A>,
-) -> Result<(), Fault>
+) -> Result<(), NoMemory>
     requires there { IsSome (fid_at fid session.old.session.fids) }
     requires free { newfid_fault fid newfid session.old.session.fids ≡ None }
     ensures ok { OnOk result (session.new.session ≡ moved fid newfid
         (record { user = user; trail = trail_of channels; opened = None }) (trail_of channels)
         session.old.session) }
-    ensures err { IfErr result (λ fault. fault ≡ OutOfMemory) }
     ensures unchanged { OnErr result (session.new.session ≡ session.old.session) }
     ensures channels { (table : List MountRow) → SessionFits table session.old →
         Fits table channels → SessionFits table session.new }
@@ -217,7 +215,7 @@ fn move_fid<A: Allocator + Copy>(
         session.fids.move_to(fid, channels);
         return Ok(());
     }
-    session.fids.put(
+    session.fids.add(
         newfid,
         Fid {
             user,

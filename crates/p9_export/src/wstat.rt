@@ -1,10 +1,9 @@
 //! The answer to a wstat, as stat(5).
 
-ghost use Rattle.std.specs.Prelude.{◌≡◌, ◌-◌, ◌^◌, IsTrue, option_and_then};
-ghost use Rattle.std.specs.Option.{ForSome, option_copied};
+ghost use Rattle.std.specs.Prelude.{◌≡◌, ◌-◌, ◌^◌, Ok, option_and_then};
+ghost use Rattle.std.specs.Option.{option_copied, option_or};
 ghost use Rattle.p9_base.specs.Mode.{mode_of};
-ghost use Rattle.p9_base.specs.Name.{is_name};
-ghost use Rattle.p9_base.specs.User.{is_user};
+ghost use Rattle.p9_base.specs.Results.{unless};
 ghost use Rattle.p9_space.specs.Rights.{who_view};
 ghost use Rattle.p9_wire.specs.Message.{Rwstat, stat_view};
 ghost use Rattle.p9_export.specs.Held.{SessionFits};
@@ -78,16 +77,11 @@ pub fn wstat<T: Tree>(
         return Err(Fault::FixedField);
     }
     let touched = touched_of(&there, wanted);
-    if let Some(fault) = wstat_fault(setting.who(&held.user), forest, at, file, &touched) {
-        return Err(fault);
-    }
+    let change = change_wanted(setting.who(&held.user), forest, at, file, now, &touched)?;
     if !is_any(&touched) {
         return Ok(());
     }
-    setting.groups.well_formed();
-    let _valid = held.user.as_str();
     let parent = file.parent();
-    let change = node_change(held.user, now, &touched);
     forest.change(at, &change)?;
     mark_parent(forest, at, parent, held.user, now);
     Ok(())
@@ -173,71 +167,80 @@ fn is_any(touched: &Touched<'_>) -> bool
         || touched.gid.is_some()
 }
 
-// The fault of the first test that refuses the change.
-fn wstat_fault<T: Tree>(
+// What is changed of the file, or the fault of the first test that refuses it.
+fn change_wanted<T: Tree>(
     who: Who<'_, T::Alloc>,
     forest: &Forest<T>,
     at: NodeRef,
     file: &Node<T::Alloc>,
+    now: u32,
     touched: &Touched<'_>,
-) -> Option<Fault>
-    ensures { result ≡ wstat_fault (who_view who.entry) forest.now at file.now
-        (touched_view touched.now) }
+) -> Result<Change, Fault>
+    ensures { let who = who_view who.entry in let touched = touched_view touched.now in result
+        ≡ unless (wstat_fault who forest.now at file.now touched)
+        (Ok (node_change who.user now touched)) }
 {
-    if let Some(fault) = mode_fault(file, touched.mode) {
-        return Some(fault);
+    let mode = wanted_mode(file, touched.mode)?;
+    let name = wanted_name(who, forest, at, file, touched.name)?;
+    let length = wanted_length(who, file, touched.length)?;
+    if let Some(fault) = ruling_fault(who, file, touched) {
+        return Err(fault);
     }
-    if let Some(fault) = name_fault(who, forest, at, file, touched.name) {
-        return Some(fault);
-    }
-    if let Some(fault) = length_fault(who, file, touched.length) {
-        return Some(fault);
-    }
-    if let Some(fault) = ruling_fault(who, file, touched.mode) {
-        return Some(fault);
-    }
-    if let Some(fault) = ruling_fault(who, file, touched.mtime) {
-        return Some(fault);
-    }
-    gid_fault(who, file, touched.gid)
+    let gid = wanted_gid(who, file, touched.gid)?;
+    Ok(Change {
+        name,
+        mode,
+        gid,
+        length,
+        mtime: touched.mtime,
+        user: *who.user,
+        now,
+    })
 }
 
-// A mode that means nothing, or isn't for the file's kind, is refused.
-fn mode_fault<A: Allocator>(file: &Node<A>, mode: Option<u32>) -> Option<Fault>
-    ensures { result ≡ option_and_then (mode_fault file.now) mode }
+// The mode that is wanted, if one is. It is refused where the bits mean nothing, or aren't for the
+// file's kind.
+fn wanted_mode<A: Allocator>(file: &Node<A>, bits: Option<u32>) -> Result<Option<Mode>, Fault>
+    ensures { result ≡ unless (option_and_then (mode_fault file.now) bits)
+        (Ok (option_and_then mode_of bits)) }
 {
-    let bits = mode?;
+    let Some(bits) = bits else {
+        return Ok(None);
+    };
     match Mode::from_bits(bits) {
-        Some(mode) if mode.is_dir() == file.is_dir() => None,
-        _ => Some(Fault::FixedField),
+        Some(mode) if mode.is_dir() == file.is_dir() => Ok(Some(mode)),
+        _ => Err(Fault::FixedField),
     }
 }
 
-// A root keeps its name. Any other file's new name is valid, the user may write the directory, and
-// nothing there has the name.
-fn name_fault<T: Tree>(
+// The name that is wanted, if one is. A root keeps its name. Any other file's new name is valid,
+// the user may write the directory, and nothing there has the name.
+fn wanted_name<T: Tree>(
     who: Who<'_, T::Alloc>,
     forest: &Forest<T>,
     at: NodeRef,
     file: &Node<T::Alloc>,
     name: Option<&str>,
-) -> Option<Fault>
-    ensures { result ≡ option_and_then (name_fault (who_view who.entry)
-        forest.now at file.now) (option_copied name.entry) }
+) -> Result<Option<Name>, Fault>
+    ensures { let name = option_copied name.entry in result
+        ≡ unless (option_and_then (name_fault (who_view who.entry) forest.now at file.now) name)
+        (Ok name) }
 {
-    let name = name?;
+    let Some(name) = name else {
+        return Ok(None);
+    };
     if file.parent().is_none() {
-        return Some(Fault::IsRoot);
+        return Err(Fault::IsRoot);
     }
     let Some(name) = Name::new(name) else {
-        return Some(Fault::BadFileName);
+        return Err(Fault::BadFileName);
     };
     if !may_write_parent(who, forest, at, file) {
-        Some(Fault::PermissionDenied)
+        Err(Fault::PermissionDenied)
     } else if has_sibling(forest, at, file, &name) {
-        Some(Fault::FileExists)
+        Err(Fault::FileExists)
     } else {
-        None
+        Ok(Some(name))
     }
 }
 
@@ -251,23 +254,27 @@ fn has_sibling<T: Tree>(forest: &Forest<T>, at: NodeRef, file: &Node<T::Alloc>, 
     forest.child(at.beside(number), name).is_some()
 }
 
-// A directory has no length. A file's is for who may write it, up to [`FILE_MAX`].
-fn length_fault<A: Allocator, B: Allocator + Copy>(
+// The length that is wanted, if one is. A directory has no length. A file's is for who may write
+// it, up to [`FILE_MAX`].
+fn wanted_length<A: Allocator, B: Allocator + Copy>(
     who: Who<'_, B>,
     file: &Node<A>,
     length: Option<u64>,
-) -> Option<Fault>
-    ensures { result ≡ option_and_then (length_fault (who_view who.entry) file.now) length }
+) -> Result<Option<u64>, Fault>
+    ensures { result ≡ unless (option_and_then (length_fault (who_view who.entry) file.now) length)
+        (Ok length) }
 {
-    let size = length?;
+    let Some(size) = length else {
+        return Ok(None);
+    };
     if file.is_dir() {
-        Some(Fault::IsDirectory)
+        Err(Fault::IsDirectory)
     } else if !may(who, file, TO_WRITE) {
-        Some(Fault::PermissionDenied)
+        Err(Fault::PermissionDenied)
     } else if size > FILE_MAX as u64 {
-        Some(Fault::FileTooLarge)
+        Err(Fault::FileTooLarge)
     } else {
-        None
+        Ok(length)
     }
 }
 
@@ -275,83 +282,53 @@ fn length_fault<A: Allocator, B: Allocator + Copy>(
 fn ruling_fault<A: Allocator, B: Allocator + Copy>(
     who: Who<'_, B>,
     file: &Node<A>,
-    touched: Option<u32>,
+    touched: &Touched<'_>,
 ) -> Option<Fault>
-    ensures { result ≡ option_and_then (ruling_fault (who_view who.entry) file.now) touched }
+    ensures { let fault = ruling_fault (who_view who.entry) file.now in result
+        ≡ option_or (option_and_then fault touched.now.mode)
+        (option_and_then fault touched.now.mtime) }
 {
-    if touched.is_some() && !rules(who, file) {
+    let is_touched = touched.mode.is_some() || touched.mtime.is_some();
+    if is_touched && !rules(who, file) {
         Some(Fault::PermissionDenied)
     } else {
         None
     }
 }
 
-// A group is refused that the user may not give the file to.
-fn gid_fault<A: Allocator, B: Allocator + Copy>(
+// The group that is wanted, if one is. It is refused where the user may not give it the file. A text
+// that names no group is nobody's to give.
+fn wanted_gid<A: Allocator, B: Allocator + Copy>(
     who: Who<'_, B>,
     file: &Node<A>,
     gid: Option<&str>,
-) -> Option<Fault>
-    ensures { result ≡ option_and_then (gid_fault (who_view who.entry) file.now)
-        (option_copied gid.entry) }
+) -> Result<Option<User>, Fault>
+    ensures { let gid = option_copied gid.entry in result
+        ≡ unless (option_and_then (gid_fault (who_view who.entry) file.now) gid) (Ok gid) }
 {
-    let gid = gid?;
-    if may_give(who, file, gid) {
-        None
-    } else {
-        Some(Fault::PermissionDenied)
-    }
-}
-
-// Whether the user may give the file to the group. A text that names no group is nobody's.
-fn may_give<A: Allocator, B: Allocator + Copy>(who: Who<'_, B>, file: &Node<A>, gid: &str) -> bool
-    ensures { result ≡ may_give (who_view who.entry) file.now gid.now }
-{
+    let Some(gid) = gid else {
+        return Ok(None);
+    };
     let Some(group) = User::new(gid) else {
         who.groups.well_formed();
         let _valid = who.user.as_str();
-        return false;
+        return Err(Fault::PermissionDenied);
     };
-    file.uid() == who.user && who.groups.member(who.user, &group)
-        || who.groups.leads(who.user, file.gid()) && who.groups.leads(who.user, &group)
-}
-
-// What is changed.
-fn node_change(user: User, now: u32, touched: &Touched<'_>) -> Change
-    requires name { ForSome (option_copied touched.now.name) (λ name. IsTrue (is_name name)) }
-    requires gid { ForSome (option_copied touched.now.gid) (λ gid. IsTrue (is_user gid)) }
-    ensures { result ≡ node_change user now (touched_view touched.now) }
-{
-    Change {
-        name: new_name(touched.name),
-        mode: new_mode(touched.mode),
-        gid: new_gid(touched.gid),
-        length: touched.length,
-        mtime: touched.mtime,
-        user,
-        now,
+    if may_give(who, file, &group) {
+        Ok(Some(group))
+    } else {
+        Err(Fault::PermissionDenied)
     }
 }
 
-// The name as it is kept.
-fn new_name(name: Option<&str>) -> Option<Name>
-    requires { ForSome (option_copied name) (λ name. IsTrue (is_name name)) }
-    ensures { result ≡ option_copied name.entry }
+// Whether the user may give the file to the group.
+fn may_give<A: Allocator, B: Allocator + Copy>(
+    who: Who<'_, B>,
+    file: &Node<A>,
+    group: &User,
+) -> bool
+    ensures { result ≡ may_give (who_view who.entry) file.now group.now }
 {
-    Name::new(name?)
-}
-
-// The mode that the bits say.
-fn new_mode(mode: Option<u32>) -> Option<Mode>
-    ensures { result ≡ option_and_then mode_of mode }
-{
-    Mode::from_bits(mode?)
-}
-
-// The group as it is kept.
-fn new_gid(gid: Option<&str>) -> Option<User>
-    requires { ForSome (option_copied gid) (λ gid. IsTrue (is_user gid)) }
-    ensures { result ≡ option_copied gid.entry }
-{
-    User::new(gid?)
+    file.uid() == who.user && who.groups.member(who.user, group)
+        || who.groups.leads(who.user, file.gid()) && who.groups.leads(who.user, group)
 }

@@ -1,3 +1,4 @@
 pub mod Fids
 pub mod Values
 pub mod Holding
+pub mod Popped

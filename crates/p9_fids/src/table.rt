@@ -2,7 +2,7 @@
 
 ghost use Rattle.std.specs.Prelude.{◌≡◌, ◌⊎◌, ◌≤◌, None, Some, List, length, slice_get, IfErr, IfSome};
 ghost use Rattle.std.specs.Prelude.{IsSome, count_by, nat_lt};
-ghost use Rattle.std.specs.Prelude.{OnErr, OnOk};
+ghost use Rattle.std.specs.Prelude.{◌∷◌, [], IfNone, OnErr, OnOk};
 ghost use Rattle.std.specs.Option.{option_copied, option_map};
 ghost use Rattle.p9_base.specs.declared.fault.Fault.TheVariants.{OutOfMemory};
 ghost use Rattle.std.specs.List.{All, AllByRecursion, list_any};
@@ -16,7 +16,7 @@ ghost use Rattle.p9_fids.specs.Held.{AllFit, HeldFits, fid_of, no_fids};
 
 use crate::fid::Fid;
 use crate::opened::Opened;
-use p9_base::{Fault, NOFID, NodeRef};
+use p9_base::{Fault, NOFID, NoMemory, NodeRef};
 use p9_space::{Channels, MountTable};
 use std::alloc::Allocator;
 use std::collections::BTreeMap;
@@ -121,6 +121,19 @@ impl<A: Allocator + Copy> FidTable<A> {
         if let Some(fault) = self.put_fault(fid) {
             return Err(fault);
         }
+        self.add(fid, held)?;
+        Ok(())
+    }
+
+    /// Adds a fid of which [`FidTable::put_fault`] tells no fault, unless an allocation fails. The
+    /// fids are unchanged then, and the new one is dropped.
+    pub fn add(&mut self, fid: u32, held: Fid<A>) -> Result<(), NoMemory>
+        requires { put_fault fid self.old.fids ≡ None }
+        ensures ok { OnOk result (self.new.fids ≡ with_fid fid held.fid self.old.fids) }
+        ensures unchanged { OnErr result (self.new ≡ self.old) }
+        ensures fits { (table : List MountRow) → AllFit table self.old → HeldFits table held →
+            AllFit table self.new }
+    {
         self.fids.insert(fid, held)?;
         Ok(())
     }
@@ -135,6 +148,19 @@ impl<A: Allocator + Copy> FidTable<A> {
             AllFit table self.new }
     {
         self.fids.remove(&fid)
+    }
+
+    /// Ends the fid of the least number, and gives that number and what it was, or `None` where
+    /// there is no fid. The others stay.
+    pub fn take_first(&mut self) -> Option<(u32, Fid<A>)>
+        ensures some { IfSome result (λ row. self.old.fids ≡ (row.0, row.1.fid) ∷ self.new.fids) }
+        ensures none { IfNone result ((self.old.fids ≡ []) × (self.new ≡ self.old)) }
+        ensures value_fits { (table : List MountRow) → AllFit table self.old →
+            IfSome result (λ row. HeldFits table row.1) }
+        ensures after_fits { (table : List MountRow) → AllFit table self.old →
+            AllFit table self.new }
+    {
+        self.fids.pop_first()
     }
 
     /// Moves a fid to where the channels lead. What it is open for stays.

@@ -1,20 +1,16 @@
 -- The end of fids.
 use Rattle.std.proofs.Common.{◌≡◌, ◌≢◌, ℕ, ◌<◌, ◌&&◌, Bool, true, false, List, [], ◌∷◌, ◌++◌}
-use Rattle.std.proofs.Common.{Option, Some, None, refl, sym, ap, ◌∙◌, subst, arith, length, Equal}
+use Rattle.std.proofs.Common.{Option, Some, None, refl, ap, ◌∙◌, subst, arith}
 use Rattle.std.specs.Prelude.{◌==◌, is_some, slice_get}
-use Rattle.std.specs.Option.{option_map}
-use Rattle.std.specs.Cmp.{nat_cmp_is}
 use Rattle.std.proofs.lemmas.Bool.{and_parts}
 use Rattle.std.proofs.lemmas.Bool.Decides.{nat_tests}
-use Rattle.std.specs.Ordering.{nat_cmp}
-use Rattle.std.specs.BTreeMap.{is_at}
 use Rattle.p9_base.specs.declared.node_ref.NodeRef.{NodeRef}
 use Rattle.p9_tree.specs.Node.{Node, is_above, is_dir, is_in}
 use Rattle.p9_tree.specs.Server.{Server, WellFormed, child_after, is_dir_at, node_at}
 use Rattle.p9_tree.specs.Forest.{IsForest, has_children_of, node_of}
 use Rattle.p9_space.specs.Table.{MountRow}
 use Rattle.p9_fids.specs.declared.opened.Opened.{Opened}
-use Rattle.p9_fids.specs.Fid.{Fid, FidRow, fid_at, without_fid}
+use Rattle.p9_fids.specs.Fid.{Fid, FidRow}
 use Rattle.p9_step.specs.ForestChange.{ForestChange, DropNode, all_applied, applied}
 use Rattle.p9_step.specs.Sound.{IsWellOpen, AreWellOpen}
 use Rattle.p9_step.specs.State.{fid_file, fid_ref}
@@ -176,58 +172,3 @@ removed_leaf table forest v at n sound fits removes is found =
     leaf forest at n sound found
     (removed_file table forest v n fits removes
     (subst (λ r. node_of r forest ≡ Some n) is found))
-
--- the first of all fids has ended
-pub record IsEnded (table : List MountRow) (now : ℕ) (f f' : List Server)
-    (fids fids' : List FidRow) : Type 0 where
-  pub fit : AreWellOpen table f' fids'
-  pub same : all_applied (on_ends table now f' fids') f' ≡ all_applied (on_ends table now f fids) f
-  pub fewer : length fids' < length fids
-
-at-itself : (k : ℕ) → is_at (nat_cmp k) k ≡ true
-at-itself k = rw (sym (nat_cmp_is k k Equal refl)) refl
-
--- the first fid is there
-pub first-there : (fids : List FidRow) (number : ℕ)
-    → option_map (λ (row : FidRow). row.0) (slice_get fids 0) ≡ Some number
-    → fid_at number fids ≡ None → ⊥
-first-there [] number first none = let no : None ≡ Some number = first in cc
-first-there (row ∷ rows) number first none =
-    let is : Some row.0 ≡ Some number = first in
-    let same : row.0 ≡ number = cc in
-    let here : is_at (nat_cmp number) row.0 ≡ true =
-    subst (λ k. is_at (nat_cmp number) k ≡ true) (sym same) (at-itself number) in
-    let no : Some row.1 ≡ None = rw here at none in
-    cc
-
--- the rest ends as all would have, once the first has
-pub ended-first : (table : List MountRow) (now : ℕ) (f f' : List Server) (fids fids' : List FidRow)
-    (number : ℕ) (v : Fid) →
-    IsForest f → AreWellOpen table f fids
-    → option_map (λ (row : FidRow). row.0) (slice_get fids 0) ≡ Some number
-    → fid_at number fids ≡ Some v →
-    fids' ≡ without_fid number fids → f' ≡ all_applied (on_end table now f v) f
-    → IsEnded table now f f' fids fids'
-ended-first table now f f' [] fids' number v sound fits first found taken ended =
-    let no : None ≡ Some number = first in cc
-ended-first table now f f' (row ∷ rows) fids' number v sound fits first found taken ended =
-    let is : Some row.0 ≡ Some number = first in
-    let same : row.0 ≡ number = cc in
-    let here : is_at (nat_cmp number) row.0 ≡ true =
-    subst (λ k. is_at (nat_cmp number) k ≡ true) (sym same) (at-itself number) in
-    let value : Some row.1 ≡ Some v = rw here at found in
-    let it : v ≡ row.1 = cc in
-    let left : fids' ≡ rows = rw here at taken in
-    let after : f' ≡ all_applied (on_end table now f row.1) f =
-    ended ∙ ap (λ (w : Fid). all_applied (on_end table now f w) f) it in
-    rw (left, after) (record {
-      fit = fits-ended table now f row rows sound fits;
-      same = sym (ends-first table now f row rows);
-      fewer = omega arith;
-    })
-
--- without a first there are none
-pub no-first : (fids : List FidRow) → option_map (λ (row : FidRow). row.0) (slice_get fids 0) ≡ None
-    → fids ≡ []
-no-first [] none = refl
-no-first (row ∷ rows) none = let no : Some row.0 ≡ None = none in absurd (cc)

@@ -1,54 +1,31 @@
-use Rattle.std.proofs.Common.{◌∙◌, ap, sym}
-use Rattle.std.specs.Option.{option_map}
-use Rattle.p9_fids.specs.Held.{fid_of}
-use Rattle.p9_step.proofs.Ends.{ended-first, first-there, no-first}
-use Rattle.p9_step.proofs.Fids.{AreWellOpen-fid_at}
+use Rattle.std.proofs.Common.{◌≡◌, ℕ, List, ◌∷◌, sym, ◌∙◌}
+use Rattle.p9_tree.specs.Server.{Server}
+use Rattle.p9_tree.specs.Forest.{IsForest}
+use Rattle.p9_space.specs.Table.{MountRow}
+use Rattle.p9_fids.specs.Fid.{FidRow}
+use Rattle.p9_step.specs.ForestChange.{all_applied}
+use Rattle.p9_step.specs.Sound.{AreWellOpen}
+use Rattle.p9_step.specs.End.{on_end, on_ends}
+use Rattle.p9_step.proofs.Ends.{ends-first, fits-ended}
 use Rattle.p9_export.proofs.end.end_fids.Goals as goal
 
-pub end_fid-requires-clause-opened : goal.end_fid-requires-clause-opened
-end_fid-requires-clause-opened g c =
-    AreWellOpen-fid_at c.args.setting.now.table _ c.loop-number.fids.fids c.in-Some.number
-    c.in-Some-take.fid.fid
-    c.loop-number.invariant.0 (sym c.take.ensures.value ∙ ap (option_map fid_of) c.in-Some-take.is)
+-- the rest ends as all would have, once the first has
+after-first : (table : List MountRow) (now : ℕ) (f f' : List Server) (fids rest : List FidRow)
+    (row : FidRow) → IsForest f → AreWellOpen table f fids → fids ≡ row ∷ rest
+    → f' ≡ all_applied (on_end table now f row.1) f
+    → AreWellOpen table f' rest
+    × (all_applied (on_ends table now f' rest) f' ≡ all_applied (on_ends table now f fids) f)
+after-first table now f f' fids rest row sound fit is ended =
+    rw (ended, is)
+    (fits-ended table now f row rest sound (rw is at fit), sym (ends-first table now f row rest))
 
-pub loop-number-smaller-in-Some-take : goal.loop-number-smaller-in-Some-take
-loop-number-smaller-in-Some-take g c =
-    (ended-first c.args.setting.now.table c.args.now _ _ c.loop-number.fids.fids c.take.new.self.fids
-    c.in-Some.number c.in-Some-take.fid.fid c.well_formed-in-Some.ensures c.loop-number.invariant.0
-    (sym c.first.ensures.first ∙ c.in-Some.is) (sym c.take.ensures.value ∙ ap (option_map fid_of) c.in-Some-take.is)
-    c.take.ensures.after c.end_fid.ensures).fewer
-
-pub loop-number-preserved-in-Some-take : goal.loop-number-preserved-in-Some-take
-loop-number-preserved-in-Some-take g c =
-    let ended =
-    ended-first c.args.setting.now.table c.args.now _ _ c.loop-number.fids.fids c.take.new.self.fids
-    c.in-Some.number c.in-Some-take.fid.fid c.well_formed-in-Some.ensures c.loop-number.invariant.0
-    (sym c.first.ensures.first ∙ c.in-Some.is) (sym c.take.ensures.value ∙ ap (option_map fid_of) c.in-Some-take.is)
-    c.take.ensures.after c.end_fid.ensures in (
-      ended.fit,
-      ended.same ∙ c.loop-number.invariant.1,
-      c.take.ensures.after_fits c.args.setting.now.table c.loop-number.invariant.2,
+pub loop-fid-preserved : goal.loop-fid-preserved
+loop-fid-preserved g c =
+    let first =
+    after-first c.args.setting.now.table c.args.now c.loop-fid.forest c.end_fid.new.forest
+    c.loop-fid.fids.fids c.take_first.new.self.fids (c.in-Some.field-0-0, c.in-Some.fid.fid)
+    c.well_formed-in-Some.ensures c.loop-fid.invariant.0 c.in-Some.ensures.some c.end_fid.ensures in (
+      first.0,
+      first.1 ∙ c.loop-fid.invariant.1,
+      c.take_first.ensures.after_fits c.args.setting.now.table c.loop-fid.invariant.2,
     )
-
-pub loop-number-smaller : goal.loop-number-smaller
-loop-number-smaller g c =
-    absurd (first-there c.loop-number.fids.fids c.in-Some.number
-    (sym c.first.ensures.first ∙ c.in-Some.is)
-    (sym c.take.ensures.value ∙ ap (option_map fid_of) c.in_default-take.is))
-
-pub loop-number-preserved : goal.loop-number-preserved
-loop-number-preserved g c =
-    absurd (first-there c.loop-number.fids.fids c.in-Some.number
-    (sym c.first.ensures.first ∙ c.in-Some.is)
-    (sym c.take.ensures.value ∙ ap (option_map fid_of) c.in_default-take.is))
-
-pub returns-clause-forest : goal.returns-clause-forest
-returns-clause-forest g c =
-    rw (no-first c.loop-number.fids.fids (sym c.first.ensures.first ∙ c.in_default.is)) at
-    c.loop-number.invariant.1
-
-pub returns-clause-fids : goal.returns-clause-fids
-returns-clause-fids g c = no-first c.loop-number.fids.fids (sym c.first.ensures.first ∙ c.in_default.is)
-
-pub returns-clause-channels : goal.returns-clause-channels
-returns-clause-channels g c = c.loop-number.invariant.2

@@ -5,8 +5,8 @@ use Rattle.p9_step.specs.Sound.{AreWellOpen}
 use Rattle.p9_step.specs.End.{on_ends}
 use Rattle.p9_export.proofs.end.end_fids.Given as goal
 
-abbrev pub invariant-loop-number : goal.invariant-loop-number
-invariant-loop-number g l =
+abbrev pub invariant-loop-fid : goal.invariant-loop-fid
+invariant-loop-fid g l =
     let here = l.forest in
     let start = l.fn.forest in
     AreWellOpen l.setting.table here l.fids.fids
@@ -14,5 +14,5 @@ invariant-loop-number g l =
     ≡ all_applied (on_ends l.fn.setting.table l.fn.now start l.fn.fids.fids) start)
     × AllFit l.setting.table l.fids
 
-abbrev pub decreases-loop-number : goal.decreases-loop-number
-decreases-loop-number g l = length l.fids.fids
+abbrev pub decreases-loop-fid : goal.decreases-loop-fid
+decreases-loop-fid g l = length l.fids.fids

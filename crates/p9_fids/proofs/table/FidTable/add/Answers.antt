@@ -5,7 +5,7 @@ use Rattle.p9_fids.specs.Held.{AllFit, HeldFids, fid_of, held_fids, map_values}
 use Rattle.p9_fids.proofs.Fids.{fids-with}
 use Rattle.p9_fids.proofs.Holding.{fit-insert}
 use Rattle.p9_fids.proofs.Values.{insert-mapped}
-use Rattle.p9_fids.proofs.table.FidTable.put.Goals as goal
+use Rattle.p9_fids.proofs.table.FidTable.add.Goals as goal
 
 pub invariant_of-self-2 : goal.invariant_of-self-2
 invariant_of-self-2 g c =
@@ -13,16 +13,14 @@ invariant_of-self-2 g c =
     (sym (ap (map_values fid_of) c.in_ok-insert.ensures.entries
     ∙ insert-mapped fid_of nat_cmp c.self.inside.fids.entries c.args.fid c.args.held))
     (fids-with c.args.fid _ (map_values fid_of c.self.inside.fids.entries) c.ranges.fid.fits
-    (ap (λ (held : HeldFids). put_fault c.args.fid held.fids) c.self.view_is
-    ∙ sym c.put_fault.ensures ∙ c.in_default.is) c.self.invariant)
+    (ap (λ (held : HeldFids). put_fault c.args.fid held.fids) c.self.view_is ∙ c.requires)
+    c.self.invariant)
 
 pub returns-clause-ok : goal.returns-clause-ok
-returns-clause-ok g c = (
-  sym c.put_fault.ensures ∙ c.in_default.is,
-  rw (← c.self.view_is)
-      (ap (map_values fid_of) c.in_ok-insert.ensures.entries
-      ∙ insert-mapped fid_of nat_cmp c.self.inside.fids.entries c.args.fid c.args.held),
-)
+returns-clause-ok g c =
+    rw (← c.self.view_is)
+    (ap (map_values fid_of) c.in_ok-insert.ensures.entries
+    ∙ insert-mapped fid_of nat_cmp c.self.inside.fids.entries c.args.fid c.args.held)
 
 pub returns-clause-fits : goal.returns-clause-fits
 returns-clause-fits g c =
