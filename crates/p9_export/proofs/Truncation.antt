@@ -9,7 +9,8 @@ use Rattle.p9_tree.specs.Node.{Node, marked, with_bytes}
 use Rattle.p9_tree.specs.Server.{Server}
 use Rattle.p9_tree.specs.Forest.{forest_changed_at, node_of}
 use Rattle.p9_tree.proofs.Changed.{keeps-marked, keeps-with_bytes}
-use Rattle.p9_step.specs.ForestChange.{ForestChange, Cut, EditNode, Mark, all_applied, applied, edited}
+use Rattle.p9_step.specs.ForestChange.{ForestChange, Cut, EditNode, Mark, all_applied, applied}
+use Rattle.p9_step.specs.ForestChange.{edited}
 use Rattle.p9_step.specs.Qid.{qid_of}
 use Rattle.p9_step.proofs.Found.{node_of-changed}
 

@@ -1,7 +1,8 @@
 -- The answer to a wstat that no test refuses.
 use Rattle.p9_step.specs.State.{who_of}
 use Rattle.std.proofs.Common.{◌≡◌, ℕ, Bool, Bor, true, false, List, [], ◌∷◌, Option, Some}
-use Rattle.std.proofs.Common.{None, Result, Ok, Err, inl, refl, sym, ap, ◌∙◌, option_and_then, subst}
+use Rattle.std.proofs.Common.{None, Result, Ok, Err, inl, refl, sym, ap, ◌∙◌, option_and_then}
+use Rattle.std.proofs.Common.{subst}
 use Rattle.std.specs.Option.{option_copied, option_or}
 use Rattle.std.specs.Prelude.{not, if◌then◌else◌}
 use Rattle.p9_base.specs.declared.fault.Fault.{Fault}
@@ -225,6 +226,7 @@ change_of name mode gid length mtime user now = record {
 pub same-change : (name name' : Option (List ℕ)) (mode mode' : Option Mode)
     (gid gid' : Option (List ℕ)) (length length' mtime : Option ℕ) (user : List ℕ) (now : ℕ)
     → name ≡ name' → mode ≡ mode' → gid ≡ gid' → length ≡ length'
-    → change_of name mode gid length mtime user now ≡ change_of name' mode' gid' length' mtime user now
+    → change_of name mode gid length mtime user now
+    ≡ change_of name' mode' gid' length' mtime user now
 same-change name name' mode mode' gid gid' length length' mtime user now en em eg el =
     rw (en, em, eg, el) refl

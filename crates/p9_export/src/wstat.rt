@@ -296,8 +296,8 @@ fn ruling_fault<A: Allocator, B: Allocator + Copy>(
     }
 }
 
-// The group that is wanted, if one is. It is refused where the user may not give it the file. A text
-// that names no group is nobody's to give.
+// The group that is wanted, if one is. It is refused where the user may not give it the file. A
+// text that names no group is nobody's to give.
 fn wanted_gid<A: Allocator, B: Allocator + Copy>(
     who: Who<'_, B>,
     file: &Node<A>,

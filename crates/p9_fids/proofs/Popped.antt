@@ -1,6 +1,7 @@
 -- Fids with their rows, after the first is taken out, if there is one.
 use Rattle.std.proofs.Common.{◌≡◌, ◌<◌, ◌↔◌, ℕ, true, false, List, [], ◌∷◌, Option, Some, None}
-use Rattle.std.proofs.Common.{Equal, IfSome, IfNone, IsSome, ap, arith, drop, get_or, length, refl, sym}
+use Rattle.std.proofs.Common.{Equal, IfSome, IfNone, IsSome, ap, arith, drop, get_or, length, refl}
+use Rattle.std.proofs.Common.{sym}
 use Rattle.std.specs.Cmp.{nat_cmp_is}
 use Rattle.std.specs.Map.{values_of}
 use Rattle.std.specs.Ordering.{nat_cmp}

@@ -11,7 +11,8 @@ qid_of-qid-requires g c =
 
 pub returns-in_err-add-clause-answer : goal.returns-in_err-add-clause-answer
 returns-in_err-add-clause-answer g c =
-    let p = err_from_is_err_and c.from_residual-in_err-add.result c.from_residual-in_err-add.ensures.1 in
+    let p =
+    err_from_is_err_and c.from_residual-in_err-add.result c.from_residual-in_err-add.ensures.1 in
     let same : record { msize = c.session.inside.msize; fids = c.add.new.self.fids }
     ≡ c.args.session.now.session = rw (← c.session.view_is) (ap
     (λ (held : HeldFids). record { msize = c.session.inside.msize; fids = held.fids })

@@ -4,7 +4,8 @@ use Rattle.p9_tree.specs.Forest.{forest_changed_at, node_of}
 use Rattle.p9_tree.specs.Node.{marked}
 use Rattle.p9_step.specs.ForestChange.{Cut, Mark, all_applied, edited}
 use Rattle.p9_export.proofs.Places.{node_of-below}
-use Rattle.p9_export.proofs.Truncation.{copied-some, cut-there, cuts, cuts-made, qid-after, still_there}
+use Rattle.p9_export.proofs.Truncation.{copied-some, cut-there, cuts, cuts-made, qid-after}
+use Rattle.p9_export.proofs.Truncation.{still_there}
 use Rattle.p9_export.proofs.open.cut_file.Goals as goal
 
 pub unwrap-requires : goal.unwrap-requires
