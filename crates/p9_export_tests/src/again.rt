@@ -1,7 +1,7 @@
 //! Messages in a world where allocations fail: a request that is answered `out of memory` is sent
 //! again.
 
-use crate::exchange::{Exchange, exchange, exchange_all, is_reply, room, send};
+use crate::exchange::{Exchange, exchange, is_reply, room, send};
 use crate::worlds::{ATTACH, Bind, VERSION, exporter, in_session};
 use p9_digits::bytes_of;
 use p9_export::{Export, OpenError};
@@ -89,40 +89,9 @@ fn exchange_again<T: Tree>(
     }
 }
 
-/// A request that makes a file longer, at a reading of the clock, and what tells of the file before
-/// and after it.
-#[derive(Clone, Copy)]
-pub struct Growth<'a> {
-    pub now: u32,
-    pub request: Exchange,
-    pub before: &'a [Exchange],
-    pub after: &'a [Exchange],
-}
-
-/// Makes a file longer, again where an allocation failed: all is then as before.
-pub fn grow_again<T: Tree>(
-    rt: &impl Abort,
-    alloc: Global,
-    export: &mut Export<T>,
-    growth: Growth<'_>,
-    reply: &mut [u8],
-) {
-    let Growth {
-        now,
-        request,
-        before,
-        after,
-    } = growth;
-    if !is_answered(rt, alloc, export, now, request, reply) {
-        exchange_all(rt, alloc, export, now, before, reply);
-        exchange(rt, alloc, export, now, request, reply);
-    }
-    exchange_all(rt, alloc, export, now, after, reply);
-}
-
-// Sends a request, and compares the reply unless that is `out of memory`. Returns whether it
-// is another one.
-fn is_answered<T: Tree>(
+/// Sends a request, and compares the reply unless that is `out of memory`. Returns whether it
+/// is another one.
+pub fn is_answered<T: Tree>(
     rt: &impl Abort,
     alloc: Global,
     export: &mut Export<T>,

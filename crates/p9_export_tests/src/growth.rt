@@ -1,8 +1,8 @@
 //! A wstat that makes a file longer, with each request for memory refused in turn: it changes all
 //! that it asks for, or nothing.
 
-use crate::again::{Growth, grow_again};
-use crate::exchange::{Exchange, exchange_all, room};
+use crate::again::is_answered;
+use crate::exchange::{Exchange, exchange, exchange_all, room};
 use crate::worlds::{SMALL, begin, exporter};
 use p9_export::Export;
 use p9_index::IndexTree;
@@ -41,6 +41,22 @@ const REFUSED: [Exchange; 2] = [
         "1a000000 6b 0100 1100 7065726d697373696f6e2064656e696564",
     ),
 ];
+
+// At the time 7 the file gets the mode 600, the name g and 9,000 bytes.
+const FIRST: Exchange = (
+    1,
+    "3f000000 7e 0100 02000000 3200 3000 ffff ffffffff ff ffffffff ffffffffffffffff 80010000 \
+    ffffffff ffffffff 2823000000000000 0100 67 0000 0000 0000",
+    "07000000 7f 0100",
+);
+
+// Then it gets 20,000 bytes and the mtime 9.
+const SECOND: Exchange = (
+    1,
+    "3e000000 7e 0100 02000000 3100 2f00 ffff ffffffff ff ffffffff ffffffffffffffff ffffffff \
+    ffffffff 09000000 204e000000000000 0000 0000 0000 0000",
+    "07000000 7f 0100",
+);
 
 // The stats of the directory and the file at first.
 const AT_FIRST: [Exchange; 2] = [
@@ -90,32 +106,6 @@ const TWICE: [Exchange; 2] = [
     ),
 ];
 
-// The file gets the mode 600, the name g and 9,000 bytes.
-const FIRST: Growth<'static> = Growth {
-    now: 7,
-    request: (
-        1,
-        "3f000000 7e 0100 02000000 3200 3000 ffff ffffffff ff ffffffff ffffffffffffffff 80010000 \
-        ffffffff ffffffff 2823000000000000 0100 67 0000 0000 0000",
-        "07000000 7f 0100",
-    ),
-    before: &AT_FIRST,
-    after: &ONCE,
-};
-
-// Then it gets 20,000 bytes and the mtime 9.
-const SECOND: Growth<'static> = Growth {
-    now: 7,
-    request: (
-        1,
-        "3e000000 7e 0100 02000000 3100 2f00 ffff ffffffff ff ffffffff ffffffffffffffff ffffffff \
-        ffffffff 09000000 204e000000000000 0000 0000 0000 0000",
-        "07000000 7f 0100",
-    ),
-    before: &ONCE,
-    after: &TWICE,
-};
-
 fn ready<T: Tree>(rt: &impl Abort, alloc: Global, memory: T::Alloc) -> Export<T> {
     let mut export = exporter(rt, memory, SMALL, &[]);
     let mut room = room(rt, alloc);
@@ -125,12 +115,29 @@ fn ready<T: Tree>(rt: &impl Abort, alloc: Global, memory: T::Alloc) -> Export<T>
     export
 }
 
+// Sends a wstat, and again where an allocation failed: all is then as before.
+fn grow_again<T: Tree>(
+    rt: &impl Abort,
+    alloc: Global,
+    export: &mut Export<T>,
+    wstat: Exchange,
+    before: &[Exchange],
+    after: &[Exchange],
+    reply: &mut [u8],
+) {
+    if !is_answered(rt, alloc, export, 7, wstat, reply) {
+        exchange_all(rt, alloc, export, 7, before, reply);
+        exchange(rt, alloc, export, 7, wstat, reply);
+    }
+    exchange_all(rt, alloc, export, 7, after, reply);
+}
+
 fn grow_twice<T: Tree>(rt: &impl Abort, alloc: Global, export: &mut Export<T>) {
     let mut room = room(rt, alloc);
     let reply = room.as_mut_slice();
     exchange_all(rt, alloc, export, 7, &REFUSED, reply);
-    grow_again(rt, alloc, export, FIRST, reply);
-    grow_again(rt, alloc, export, SECOND, reply);
+    grow_again(rt, alloc, export, FIRST, &AT_FIRST, &ONCE, reply);
+    grow_again(rt, alloc, export, SECOND, &ONCE, &TWICE, reply);
 }
 
 // Each growth asks for memory once, and nothing else does.

@@ -1,6 +1,6 @@
 //! Messages and files of the greatest length.
 
-use crate::again::{Growth, grow_again};
+use crate::again::is_answered;
 use crate::exchange::{Exchange, exchange, exchange_all, is_reply, read_at, room, send};
 use crate::worlds::{SMALL, exporter};
 use p9_export::Export;
@@ -377,29 +377,19 @@ const GROWN_AGAIN: [Exchange; 4] = [
 ];
 
 // A write behind the end makes the file half as long as it may be.
-const WRITE: Growth<'static> = Growth {
-    now: 0,
-    request: (
-        1,
-        "18000000 76 0400 01000000 ffff7f0000000000 01000000 78",
-        "0b000000 77 0400 01000000",
-    ),
-    before: &AT_FIRST,
-    after: &GROWN,
-};
+const WRITE: Exchange = (
+    1,
+    "18000000 76 0400 01000000 ffff7f0000000000 01000000 78",
+    "0b000000 77 0400 01000000",
+);
 
 // A wstat makes it as long as it may be.
-const WSTAT: Growth<'static> = Growth {
-    now: 0,
-    request: (
-        1,
-        "3e000000 7e 0400 01000000 3100 2f00 ffff ffffffff ff ffffffff ffffffffffffffff ffffffff \
-        ffffffff ffffffff 0000000100000000 0000 0000 0000 0000",
-        "07000000 7f 0400",
-    ),
-    before: &GROWN,
-    after: &GROWN_AGAIN,
-};
+const WSTAT: Exchange = (
+    1,
+    "3e000000 7e 0400 01000000 3100 2f00 ffff ffffffff ff ffffffff ffffffffffffffff ffffffff \
+    ffffffff ffffffff 0000000100000000 0000 0000 0000 0000",
+    "07000000 7f 0400",
+);
 
 // One byte more is too long.
 const TOO_LONG: Exchange = (
@@ -409,12 +399,29 @@ const TOO_LONG: Exchange = (
     "17000000 6b 0400 0e00 66696c6520746f6f206c61726765",
 );
 
+// Grows the file, and again where an allocation failed: all is then as before.
+fn grow_again<T: Tree>(
+    rt: &impl Abort,
+    alloc: Global,
+    export: &mut Export<T>,
+    growth: Exchange,
+    before: &[Exchange],
+    after: &[Exchange],
+    reply: &mut [u8],
+) {
+    if !is_answered(rt, alloc, export, 0, growth, reply) {
+        exchange_all(rt, alloc, export, 0, before, reply);
+        exchange(rt, alloc, export, 0, growth, reply);
+    }
+    exchange_all(rt, alloc, export, 0, after, reply);
+}
+
 fn grow_twice<T: Tree>(rt: &impl Abort, alloc: Global, export: &mut Export<T>) {
     let mut room = room(rt, alloc);
     let reply = room.as_mut_slice();
-    grow_again(rt, alloc, export, WRITE, reply);
+    grow_again(rt, alloc, export, WRITE, &AT_FIRST, &GROWN, reply);
     exchange(rt, alloc, export, 0, TOO_LONG, reply);
-    grow_again(rt, alloc, export, WSTAT, reply);
+    grow_again(rt, alloc, export, WSTAT, &GROWN, &GROWN_AGAIN, reply);
     exchange(rt, alloc, export, 0, TOO_LONG, reply);
 }
 
