@@ -2,7 +2,7 @@ use Rattle.std.proofs.Common.{◌≡◌, ◌-◌, List, ℕ, arith, length, subs
 use Rattle.p9_step.specs.Event.{IsEvent, Message}
 use Rattle.p9_step.specs.Memory.{is_no_memory_reply}
 use Rattle.p9_guard.proofs.Promises.{are_bytes}
-use Rattle.p9_conn.specs.Conn.{IsAnswered}
+use Rattle.p9_conn.specs.Conn.{FrameIsAnswered}
 use Rattle.p9_conn.proofs.Outcomes.{guarded-answer}
 use Rattle.p9_conn.proofs.output.Output.answer.Goals as goal
 
@@ -16,9 +16,9 @@ returns g c =
     omega (arith, c.answer-self-inside.auto.reply, c.as_mut_slice.ensures.len) in
     let all : count - 0 ≡ count = omega arith in
     let bytes = take_at c.answer-self-inside.new.reply _ c.lengthen.new.bytes.len long in
-    subst (λ (zs : List ℕ). IsAnswered c.args.session c.args.frame.now c.args.now c.args.guard.now
+    subst (λ (zs : List ℕ). FrameIsAnswered c.args.session c.args.frame.now c.args.now c.args.guard.now
     c.answer-self-inside.new.self (take (count - 0) zs)) (sym bytes)
-    (subst (λ (n : ℕ). IsAnswered c.args.session c.args.frame.now c.args.now c.args.guard.now
+    (subst (λ (n : ℕ). FrameIsAnswered c.args.session c.args.frame.now c.args.now c.args.guard.now
     c.answer-self-inside.new.self (take n c.answer-self-inside.new.reply)) (sym all)
     (guarded-answer c.args.session c.args.frame.now c.args.now c.args.guard.now
     c.answer-self-inside.new.self (is_no_memory_reply c.args.frame.now reply) reply fine
