@@ -72,7 +72,7 @@ among-request setting forest forest' rows rows' name now session other new frame
     rw same at (did (ap (λ s. finds_taken setting forest rows s m) same ∙ sym takes)) in
     let answer : frame_among setting forest rows name now frame ≡ a = rw (there, sym is) refl in
     let may : frame_may_fail frame a ≡ may_run_out m a =
-        frame_may_fail-is session frame m a (sym is) in
+    frame_may_fail-is session frame m a (sym is) in
     rw (answer, may)
     (among name a (may_run_out m a) forest forest' rows rows' session new result there rows_are
     its)
