@@ -50,8 +50,8 @@ pub enum Fault {
     #[error("permission denied")]
     PermissionDenied,
     /// A file that has to exist was removed: that of a fid, the root of the name space in an
-    /// attach, each member of a place from which a walk or a create goes on, or the file where a
-    /// walk arrives.
+    /// attach, each member of a place from which a walk or a create goes on, the member in which a
+    /// create makes its file, or the file where a walk arrives.
     #[error("phase error")]
     PhaseError,
     /// A mode to open or create with that means nothing.
@@ -87,7 +87,8 @@ pub enum Fault {
     /// A remove or a rename of a server's root.
     #[error("root can't be removed or renamed")]
     IsRoot,
-    /// A wstat of a field that never changes.
+    /// A wstat of a field that never changes, or of a mode that means nothing or is of the other
+    /// kind: a directory's for a file, or a file's for a directory.
     #[error("wstat of a fixed field")]
     FixedField,
     /// A session has as many fids as it may have.

@@ -9,14 +9,15 @@ ghost use Rattle.p9_base.specs.Line.{lines_of, words_of, is_skipped as skip_test
 use std::alloc::{AllocError, Allocator};
 
 /// The lines of a text, in order and without their newlines. Where the text ends with a newline,
-/// an empty line follows it.
+/// an empty line follows it. The only error is a failed allocation.
 pub fn lines<A: Allocator + Copy>(alloc: A, text: &str) -> Result<Vec<&str, A>, AllocError>
     ensures { IfOk result (λ found. map (λ line. line.now) found.items ≡ lines_of text.now) }
 {
     text.split('\n').collect(alloc)
 }
 
-/// The words of a line, in order: the longest runs of bytes that are neither a blank nor a tab.
+/// The words of a line, in order: the longest runs of bytes that are neither a blank nor a tab. The
+/// only error is a failed allocation.
 pub fn words<A: Allocator + Copy>(alloc: A, line: &str) -> Result<Vec<&str, A>, AllocError>
     ensures { IfOk result (λ found. map (λ word. word.now) found.items ≡ words_of line.now) }
 {

@@ -16,7 +16,7 @@ pub struct Statement<'a, A: Allocator> {
 }
 
 /// The statements of a text, in order. Blank lines and comments, whose first word begins with `#`,
-/// are passed over and counted.
+/// are passed over and counted. The only error is a failed allocation.
 pub fn statements<A: Allocator + Copy>(
     alloc: A,
     text: &str,

@@ -3,7 +3,7 @@
 //! A world hides directories. A certificate lists every directory that listed users may come to
 //! search, so to look at its rows and their children is enough to know that no walk leads into a
 //! hidden directory. Who made it isn't trusted: [`verify`] tests it against the world and the mount
-//! table, and tells the first [`Gap`].
+//! table, and returns the first [`Gap`].
 #![tactic(auto)]
 
 mod certificate;

@@ -1,6 +1,6 @@
-//! Tests of the program's commands that no row of `p9_rows` holds: refused memory, calls that the
+//! Tests of the program's commands that no row of `p9_rows` has: failed allocations, calls that the
 //! commands don't make, a command of a name that no row can write, and frames that are too large
-//! for the data of a row. There is nothing else here.
+//! for the data of a row.
 #![tactic(auto)]
 
 #[cfg(test)]

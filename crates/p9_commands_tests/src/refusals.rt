@@ -1,4 +1,4 @@
-//! Refused memory: a command says so, and run again it does all that it has to.
+//! Allocations that fail: a command says so, and run again it does all that it has to.
 
 use p9_base::NoMemory;
 use p9_commands::run_command;

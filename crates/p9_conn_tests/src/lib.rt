@@ -1,5 +1,5 @@
 //! Tests of connections: bytes that come and go in pieces, streams that fail, many connections,
-//! allocations that fail, and memory that is given back. There is nothing else here.
+//! allocations that fail, and memory that is freed.
 #![tactic(auto)]
 
 #[cfg(test)]

@@ -9,7 +9,7 @@ ghost use Rattle.p9_exchange.specs.Line.{turn_behind};
 
 use hex::FromHexError;
 use p9_words::{
-    Base, Class, Expected, ReadError, run, skip_blanks, take_message, take_number, unexpected,
+    Base, Class, Expected, ReadError, prefix_len, skip_blanks, take_message, take_number, unexpected,
 };
 use std::alloc::Allocator;
 
@@ -67,7 +67,7 @@ fn split_word(text: &[u8]) -> (&[u8], &[u8])
     ensures word { result.0.now ≡ first_word text.now }
     ensures rest { result.1.now ≡ behind_word text.now }
 {
-    text.split_at(run(Class::Filled, text))
+    text.split_at(prefix_len(Class::Filled, text))
 }
 
 // The bytes that a word of hexadecimal digits writes.
@@ -92,7 +92,7 @@ fn take_bytes<A: Allocator + Copy>(alloc: A, text: &[u8]) -> Result<(Vec<u8, A>,
 fn take_session(text: &[u8]) -> Result<(u32, &[u8]), ReadError>
     ensures { Gives (λ x. (x.0, x.1.now)) result (session_at text.now) }
 {
-    if run(Class::Digit(Base::Decimal), text) == 0 {
+    if prefix_len(Class::Digit(Base::Decimal), text) == 0 {
         return Err(unexpected(Expected::Event, text));
     }
     take_short(text)

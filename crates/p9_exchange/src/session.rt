@@ -1,9 +1,9 @@
 //! The sessions that are open.
 
-ghost use Rattle.std.specs.Prelude.{◌≡◌, ◌==◌, IfOk, filter, not};
+ghost use Rattle.std.specs.Prelude.{◌≡◌, ◌==◌, filter, not};
 ghost use Rattle.std.specs.List.{list_any};
 
-use std::alloc::{AllocError, Allocator};
+use std::alloc::Allocator;
 
 /// Whether the session of this name is among them.
 pub fn has(session: u32, sessions: &[u32]) -> bool
@@ -12,18 +12,9 @@ pub fn has(session: u32, sessions: &[u32]) -> bool
     sessions.contains(&session)
 }
 
-/// The sessions but the one of this name.
-pub fn others<A: Allocator + Copy>(
-    alloc: A,
-    session: u32,
-    sessions: &[u32],
-) -> Result<Vec<u32, A>, AllocError>
-    ensures { IfOk result (λ others.
-        others.items ≡ filter (λ name. not (name == session)) sessions.now) }
+/// Takes the session of this name out of them.
+pub fn remove<A: Allocator>(session: u32, sessions: &mut Vec<u32, A>)
+    ensures { sessions.new.items ≡ filter (λ name. not (name == session)) sessions.old.items }
 {
-    sessions
-        .iter()
-        .copied()
-        .filter(|name| *name != session)
-        .collect(alloc)
+    sessions.retain(|name| *name != session);
 }

@@ -15,7 +15,7 @@ ghost use Rattle.p9_exchange.specs.Talk.{closed, sent, done, with_said};
 use crate::line::Line;
 use crate::message::{frame_fault, print_message};
 use crate::refusal::{Awaited, Refusal, Stop};
-use crate::session::{has, others};
+use crate::session::{has, remove};
 use hex::FromHexError;
 use p9_base::NoMemory;
 use p9_wire::is_frame;
@@ -254,7 +254,7 @@ impl<A: Allocator + Copy> Talk<A> {
         if !self.is_open(session) {
             return self.skip(replies, line, session, "no such session");
         }
-        self.sessions = others(*self.text.allocator(), session, self.sessions.as_slice())?;
+        remove(session, &mut self.sessions);
         Ok(())
     }
 

@@ -1,4 +1,4 @@
-//! Tests of p9_exchange: scripts in words, exchanges, bad lines of each kind, and refused memory.
+//! Tests of p9_exchange: scripts in words, exchanges, bad lines of each kind, and failed allocations.
 //! The examples of the pages are rows of `p9_rows`.
 #![tactic(auto)]
 

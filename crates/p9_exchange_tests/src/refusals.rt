@@ -1,5 +1,5 @@
-//! Refused memory: a call that fails says so, and only where an allocation failed. A refusal that a
-//! list can do without, as of more room than it needs, changes nothing.
+//! Allocations that fail: a call says so, and only where an allocation failed. A failure that a list
+//! can do without, as of more room than it needs, changes nothing.
 
 use crate::exchanges::{EXCHANGE, PLAYED};
 use crate::scripts::{SCRIPT, WORDS};

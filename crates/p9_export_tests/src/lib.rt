@@ -1,7 +1,6 @@
-//! Tests of the exporter that no row of `p9_rows` holds: refused memory, so many files, fids,
+//! Tests of the exporter that no row of `p9_rows` has: allocations that fail, so many files, fids,
 //! modes or bytes that a loop says it better, and calls that the program's command doesn't make.
-//! Each test runs over both kinds of tree, and wants the same bytes of both. There is nothing else
-//! here.
+//! Each test runs over both kinds of tree, and requires the same bytes of both.
 #![tactic(auto)]
 
 #[cfg(test)]

@@ -1,5 +1,5 @@
 //! Tests of the guard: replies that hidden directories don't change, allocations that fail, and
-//! memory that is given back. There is nothing else here.
+//! memory that is freed.
 #![tactic(auto)]
 
 #[cfg(test)]

@@ -62,7 +62,7 @@ impl<A: Allocator + Copy> Tree for IndexTree<A> {
 
     fn set_root(&mut self, permissions: Permissions, uid: User, gid: User) {
         if let Some(node) = self.nodes.get_mut(&0) {
-            node.give(permissions, uid, gid);
+            node.set_owner(permissions, uid, gid);
         }
     }
 

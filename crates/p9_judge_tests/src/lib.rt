@@ -1,7 +1,7 @@
-//! Tests of p9_judge: certificates and breaches of small worlds, the order of discovery, refused
-//! memory, and many worlds made by a rule.
+//! Tests of p9_judge: certificates and breaches of small worlds, the order of discovery,
+//! allocations that fail, and many worlds made by a rule.
 //!
-//! What is to be told is in a line of a text, with what it is told of. So a proof loads one
+//! Each line of a test's text has a case and the result that is expected. So a proof loads one
 //! literal, whatever a test has in it, which costs much less than a table of values.
 #![tactic(auto)]
 

@@ -9,7 +9,8 @@ use thiserror::Error;
 /// Why an operation fails. It is reported with its line, and changes nothing.
 #[derive(Clone, Copy, Debug, PartialEq, Eq, Error)]
 pub enum OpFault {
-    /// A path leads nowhere, or to a file where a directory must be.
+    /// A path leads nowhere, to a file where a directory must be, or to a place that doesn't exist
+    /// any more, or has too many places.
     #[error("{0}")]
     Path(Fault),
     /// No server has this name.

@@ -28,7 +28,8 @@ pub const NESTED_MAX: u8 = 8;
 
 /// Runs a namespace file: the mount table is what its lines make of it, one after another. The
 /// result is what operations failed, in order: the line's number, counted from 1, and the fault.
-/// An operation that fails does nothing, and the next one goes on. A table that names only nodes
+/// An operation that fails does nothing, and the next one goes on. What fails in an included file is
+/// reported with the number of the text's own line that includes it. A table that names only nodes
 /// that were made stays one.
 ///
 /// `vars` are the variables, each a name and its value, and `servers` the names of the servers by

@@ -1,4 +1,4 @@
-//! A run of a namespace file that was refused memory does not change the table.
+//! A run of a namespace file in which an allocation fails does not change the table.
 
 use crate::telling::row;
 use crate::worlds::forest;
@@ -49,7 +49,7 @@ fn make_given<T: Tree>(rt: &impl Abort, alloc: T::Alloc) -> Result<Given<T>, NoM
     })
 }
 
-// Runs the text, which tells that `cd /none` failed and makes a row; or it was refused memory, and
+// Runs the text, which reports that `cd /none` failed and makes a row; or an allocation fails, and
 // the table is as before.
 fn run<T: Tree>(rt: &impl Abort, telling: Global, given: &Given<T>) {
     let memory = *given.vars.allocator();

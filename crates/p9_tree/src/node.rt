@@ -209,7 +209,8 @@ impl<A: Allocator> Node<A> {
         }
     }
 
-    /// A new node of this number, in the directory. Its version is 0.
+    /// A new node of this number, in the directory. Its version is 0. The only error is a failed
+    /// allocation.
     pub fn new(alloc: A, number: u64, dir: u64, new: &New<'_>) -> Result<Node<A>, NoMemory>
         ensures node { IfOk result (λ node. node ≡ new_node number dir new.now) }
         ensures name { IsTrue (is_name new.now.name) }
@@ -257,7 +258,7 @@ impl<A: Allocator> Node<A> {
     }
 
     /// Makes it a directory of these permissions, owner and group, changed last by the owner.
-    pub fn give(&mut self, permissions: Permissions, uid: User, gid: User)
+    pub fn set_owner(&mut self, permissions: Permissions, uid: User, gid: User)
         ensures node { self.new ≡ with_owner permissions uid gid self.old }
         ensures tellable { IsTellable self.new }
     {

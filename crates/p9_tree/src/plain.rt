@@ -58,7 +58,7 @@ impl<A: Allocator + Copy> Tree for PlainTree<A> {
 
     fn set_root(&mut self, permissions: Permissions, uid: User, gid: User) {
         if let Some(at) = self.position(0) {
-            self.nodes[at].give(permissions, uid, gid);
+            self.nodes[at].set_owner(permissions, uid, gid);
         }
     }
 

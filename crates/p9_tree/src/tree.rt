@@ -42,7 +42,7 @@ pub trait Tree: Sized + Drop {
     ghost state: { Self → Server };
 
     /// A tree of a root alone, of mode 755, whose owner, group and last changer are `sys`. Its
-    /// version and times are 0.
+    /// version and times are 0. The only error is a failed allocation.
     fn with_root(alloc: Self::Alloc) -> Result<Self, NoMemory>
         ensures { IfOk result (λ tree. state tree ≡ rooted) };
 
@@ -83,7 +83,7 @@ pub trait Tree: Sized + Drop {
 
     /// Makes all of the change in the node at once: a new length cuts a file or adds zeros to it,
     /// and marks it; a new time of change wins over the mark's, and makes the user the last to have
-    /// changed the node. The parent isn't marked. Memory may be refused only where there is a node.
+    /// changed the node. The parent isn't marked. An allocation may fail only where there is a node.
     fn change(&mut self, number: u64, change: &Change) -> Result<(), NoMemory>
         requires { CanChange (state self.old) number change.now }
         ensures ok { OnOk result (state self.new
@@ -100,7 +100,7 @@ pub trait Tree: Sized + Drop {
         ensures { state self.new ≡ with_changed number (touched now) (state self.old) };
 
     /// Writes into a file at the offset, and fills a gap before it with zeros. It isn't marked.
-    /// Memory may be refused only where there is a node.
+    /// An allocation may fail only where there is a node.
     fn write(&mut self, number: u64, offset: u64, bytes: &[u8]) -> Result<(), NoMemory>
         requires file { IsFalse (is_dir_at number (state self.old).nodes) }
         requires fits { offset + length bytes.now ≤ FILE_MAX }

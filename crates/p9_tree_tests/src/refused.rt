@@ -1,4 +1,4 @@
-//! Calls that were refused memory change nothing, and go through when made again.
+//! Calls in which an allocation fails change nothing, and succeed when made again.
 
 use crate::calls::{call, make, tell, two_servers};
 use p9_index::IndexTree;

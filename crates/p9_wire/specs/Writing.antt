@@ -1,4 +1,4 @@
--- What a writer leaves in a buffer.
+-- What is in a buffer after a writer.
 use Rattle.std.specs.Prelude.{◌≡◌, ℕ, ◌+◌, List, ◌++◌, length, take, drop}
 
 -- the bytes are from one index on and end before the next; all in front of them and behind them

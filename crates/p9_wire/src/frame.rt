@@ -18,7 +18,7 @@ pub enum Frame {
 }
 
 /// What is at the front of these bytes, by the four bytes of its size alone: whether the frame
-/// is a message is `read_t`'s and `read_r`'s answer.
+/// is a message is what [`crate::read_t`] and [`crate::read_r`] tell.
 pub fn frame_of(bytes: &[u8]) -> Frame
     ensures front { result ≡ first_frame bytes.now }
     // The first case of the bytes' frames.
@@ -42,7 +42,5 @@ pub fn frame_of(bytes: &[u8]) -> Frame
 pub fn is_frame(bytes: &[u8]) -> bool
     ensures { result ≡ is_frame bytes.now }
 {
-    HEADER <= bytes.len()
-        && bytes.len() <= MSIZE_MAX as usize
-        && LittleEndian::read_u32(bytes) as usize == bytes.len()
+    matches!(frame_of(bytes), Frame::Whole(size) if size == bytes.len())
 }

@@ -2,7 +2,7 @@
 //!
 //! A frame is `size[4] type[1] tag[2]` and a body, as intro(5) lays it out. The codec is exact in
 //! both directions: a message with a tag has one spelling, which the writers put at the front of
-//! the caller's buffer, and the readers answer a message exactly where some message has these
+//! the caller's buffer, and the readers return a message exactly where some message has these
 //! bytes. Nothing here allocates: texts and data are slices of the frame.
 #![tactic(auto)]
 

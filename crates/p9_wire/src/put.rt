@@ -1,5 +1,5 @@
-//! Fields put into a buffer. Each is written from the index `at` on and leaves all else as it was;
-//! they return the index behind it.
+//! Fields put into a buffer. Each is written from the index `at` on. All else in the buffer is
+//! unchanged, and the index behind the field is returned.
 
 ghost use Rattle.std.specs.Prelude.{◌≡◌, ◌≤◌, ◌<◌, ◌+◌, ◌*◌, ◌^◌, ◌++◌, All, length, sum_by};
 ghost use Rattle.p9_wire.specs.Fields.{number, text, counted, several, sized, qid_bytes};

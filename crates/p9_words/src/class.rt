@@ -42,7 +42,7 @@ impl Class {
 }
 
 /// How many bytes at the front are of the kind.
-pub fn run(class: Class, text: &[u8]) -> usize
+pub fn prefix_len(class: Class, text: &[u8]) -> usize
     ensures front { result ≡ prefix_len (is_in class) text.now }
     ensures within { result ≤ length text.now }
 {
@@ -59,7 +59,7 @@ pub fn run(class: Class, text: &[u8]) -> usize
 pub fn skip_blanks(text: &[u8]) -> &[u8]
     ensures { result.now ≡ skip_blanks text.now }
 {
-    &text[run(Class::Blank, text)..]
+    &text[prefix_len(Class::Blank, text)..]
 }
 
 /// Whether each byte is of the kind.

@@ -14,6 +14,7 @@ use crate::key::Key;
 use crate::stat::take_stat;
 use crate::word::{take_data, take_key, take_mark, take_number, take_text};
 use p9_base::{NoMemory, Qid};
+use p9_wire::MAXWELEM;
 use std::alloc::Allocator;
 
 /// `(PATH VERS TYPE)`.
@@ -40,7 +41,7 @@ fn take_index(index: u64, text: &[u8]) -> Result<&[u8], ReadError>
     ensures { Gives (λ x. x.now) result (index_at index text.now) }
 {
     let here = skip_blanks(text);
-    let (number, rest) = take_number(Base::Decimal, 16, here)?;
+    let (number, rest) = take_number(Base::Decimal, MAXWELEM as u64, here)?;
     if number == index {
         take_mark(b":", Expected::Colon, rest)
     } else {
@@ -155,7 +156,7 @@ fn take_several<A: Allocator + Copy>(
 ) -> Result<(Vec<u8, A>, &[u8]), ReadError>
     ensures { Gives (λ x. (x.0.items, x.1.now)) result (several_at item text.now) }
 {
-    let (count, rest) = take_number(Base::Decimal, 16, text)?;
+    let (count, rest) = take_number(Base::Decimal, MAXWELEM as u64, text)?;
     let bytes = number_bytes(alloc, Width::U16, count)?;
     take_items(item, bytes, count, rest)
 }

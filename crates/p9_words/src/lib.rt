@@ -17,7 +17,7 @@ mod value;
 mod verb;
 mod word;
 
-pub use class::{Class, run, skip_blanks};
+pub use class::{Class, prefix_len, skip_blanks};
 pub use error::{Expected, Fault, ReadError, WordsError, unexpected};
 pub use form::{Base, Form, Width};
 pub use key::Key;

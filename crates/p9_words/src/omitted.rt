@@ -5,7 +5,7 @@ ghost use Rattle.p9_words.specs.Reading.{Gives};
 ghost use Rattle.p9_words.specs.Omitted.{tag_for, omitted, is_next, given_at, given_from};
 ghost use Rattle.p9_words.specs.Omitted.{message_of_words};
 
-use crate::class::{Class, run, skip_blanks};
+use crate::class::{Class, prefix_len, skip_blanks};
 use crate::error::ReadError;
 use crate::field::{number_bytes, take_field};
 use crate::form::{Form, Width};
@@ -70,7 +70,7 @@ fn is_next(key: Key, text: &[u8]) -> bool
     ensures { result ≡ is_next key text.now }
 {
     let here = skip_blanks(text);
-    &here[..run(Class::Filled, here)] == key.text().as_bytes()
+    &here[..prefix_len(Class::Filled, here)] == key.text().as_bytes()
 }
 
 // The bytes of a field, or of what stands for it where its word is not the next.

@@ -14,6 +14,7 @@ use crate::form::{Base, Width};
 use crate::key::Key;
 use crate::word::{take_key, take_number, take_text};
 use p9_base::{NoMemory, Qid};
+use p9_wire::STAT_FIXED;
 use std::alloc::Allocator;
 
 /// What is told of a file, with its texts in memory of their own.
@@ -79,8 +80,7 @@ fn size_of<A: Allocator + Copy>(parts: &Parts<A>) -> Option<u64>
     ensures { SomeIff result (stat_len (parts_view parts.now) < 2 ^ 16)
         (stat_len (parts_view parts.now)) }
 {
-    let fixed = 49usize;
-    let size = fixed
+    let size = STAT_FIXED
         .checked_add(parts.name.len())?
         .checked_add(parts.uid.len())?
         .checked_add(parts.gid.len())?

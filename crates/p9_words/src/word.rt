@@ -14,7 +14,7 @@ ghost use Rattle.p9_words.specs.Reading.{digits_at, unquoted_from, pairs_at, bar
 ghost use Rattle.p9_words.specs.Reading.{text_at, data_at, is_short_text};
 ghost use Rattle.p9_words.specs.Verb.{verb_text, verbs};
 
-use crate::class::{Class, run, skip_blanks};
+use crate::class::{Class, prefix_len, skip_blanks};
 use crate::error::{Expected, ReadError, unexpected};
 use crate::form::Base;
 use crate::key::Key;
@@ -50,7 +50,7 @@ pub fn take_key(key: Key, text: &[u8]) -> Result<&[u8], ReadError>
     ensures { Gives (λ x. x.now) result (key_at key text.now) }
 {
     let here = skip_blanks(text);
-    let (word, rest) = here.split_at(run(Class::Filled, here));
+    let (word, rest) = here.split_at(prefix_len(Class::Filled, here));
     if word == key.text().as_bytes() {
         Ok(rest)
     } else {
@@ -64,7 +64,7 @@ pub fn take_verb(text: &[u8]) -> Result<(Verb, &[u8]), ReadError>
     ensures { Gives (λ x. (x.0, x.1.now)) result (verb_at text.now) }
 {
     let here = skip_blanks(text);
-    let (word, rest) = here.split_at(run(Class::Filled, here));
+    let (word, rest) = here.split_at(prefix_len(Class::Filled, here));
     match verb_named(word) {
         Some(verb) => Ok((verb, rest)),
         None => Err(unexpected(Expected::Verb, here)),
@@ -88,7 +88,7 @@ pub fn take_number(base: Base, most: u64, text: &[u8]) -> Result<(u64, &[u8]), R
     ensures small { IfOk result (λ x. x.0 ≤ most) }
 {
     let here = skip_blanks(text);
-    take_digits(base, most, run(Class::Digit(base), here), here)
+    take_digits(base, most, prefix_len(Class::Digit(base), here), here)
 }
 
 // A number of so many digits at the front, at most so great.
@@ -171,7 +171,7 @@ pub fn take_quoted<A: Allocator + Copy>(
 fn take_pairs<A: Allocator + Copy>(alloc: A, text: &[u8]) -> Result<(Vec<u8, A>, &[u8]), ReadError>
     ensures { Gives (λ x. (x.0.items, x.1.now)) result (pairs_at text.now) }
 {
-    let (digits, rest) = text.split_at(run(Class::Unquoted, text));
+    let (digits, rest) = text.split_at(prefix_len(Class::Unquoted, text));
     match hex::decode(alloc, digits) {
         Ok(bytes) => {
             match behind(b"'", rest) {
@@ -189,7 +189,7 @@ fn take_pairs<A: Allocator + Copy>(alloc: A, text: &[u8]) -> Result<(Vec<u8, A>,
 fn take_bare<A: Allocator + Copy>(alloc: A, text: &[u8]) -> Result<(Vec<u8, A>, &[u8]), ReadError>
     ensures { Gives (λ x. (x.0.items, x.1.now)) result (bare_at text.now) }
 {
-    let n = run(Class::Bare, text);
+    let n = prefix_len(Class::Bare, text);
     if n == 0 {
         return Err(unexpected(Expected::Word, text));
     }

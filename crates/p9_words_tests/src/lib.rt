@@ -1,4 +1,4 @@
-//! Tests of p9_words: lines and frames by hand, bad lines, and refused memory.
+//! Tests of p9_words: lines and frames by hand, bad lines, and failed allocations.
 #![tactic(auto)]
 
 #[cfg(test)]

@@ -1,4 +1,4 @@
-//! Refused memory: a call says so and changes nothing, and with memory it does all.
+//! Allocations that fail: a call says so and changes nothing, and with memory it does all.
 
 use crate::lines::{REPLIES, REQUESTS};
 use p9_digits::bytes_of;

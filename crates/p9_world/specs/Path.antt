@@ -3,7 +3,7 @@ use Rattle.std.specs.Prelude.{ℕ, List, [], ◌∷◌, Option, Some, None, if�
 use Rattle.std.specs.List.{list_all}
 use Rattle.std.specs.Option.{option_and_then, option_map_or}
 use Rattle.p9_base.specs.Name.{is_name}
-use Rattle.p9_clean.specs.Path.{Component, cleaned, elements_of, is_rooted}
+use Rattle.p9_clean.specs.Path.{Component, cleaned_elements, is_rooted}
 use Rattle.p9_tree.specs.Node.{Node}
 use Rattle.p9_tree.specs.Server.{Server, child_of, is_dir_at}
 
@@ -13,7 +13,7 @@ names_among elements = if list_all is_name elements then Some elements else None
 
 -- the names along a path once it is cleaned, if it begins with a slash
 abbrev pub names_of : List ℕ → Option (List Component)
-names_of path = if is_rooted path then names_among (elements_of (cleaned path)) else None
+names_of path = if is_rooted path then names_among (cleaned_elements path) else None
 
 -- the last of some names, and those before it
 abbrev pub last_and_rest : List Component → Option (Component × List Component)

@@ -18,43 +18,46 @@ use p9_base::{Kind, Mode, Name, NoMemory, Permissions, User};
 use p9_tree::{FILE_MAX, NEXT_MAX, New, Tree};
 use std::alloc::Allocator;
 
+/// The words behind `dir`, and behind `file` before the file's bytes.
+#[derive(Clone, Copy)]
+pub(crate) struct NodeWords<'a> {
+    pub path: &'a str,
+    pub mode: &'a str,
+    pub uid: &'a str,
+    pub gid: &'a str,
+}
+
 /// A directory joins the last server, or the root of that server is changed.
 pub(crate) fn add_dir<T: Tree>(
     alloc: T::Alloc,
     world: &mut Reader<T>,
-    path: &str,
-    mode: &str,
-    uid: &str,
-    gid: &str,
+    words: NodeWords<'_>,
 ) -> Result<(), LineError>
-    ensures { Makes (in_last_server (dir_line path.now mode.now uid.now gid.now) world.old)
-        world.old world.new result }
+    ensures { Makes (in_last_server (dir_line words.entry.path.now words.entry.mode.now
+        words.entry.uid.now words.entry.gid.now) world.old) world.old world.new result }
 {
     let forest = &mut world.forest;
     let Some(tree) = forest.trees.last_mut() else {
         return Err(LineError::Bad(LineFault::NoServer));
     };
-    add_dir_to(alloc, tree, &mut world.last_dir, path, mode, uid, gid)
+    add_dir_to(alloc, tree, &mut world.last_dir, words)
 }
 
 /// A file joins the last server.
 pub(crate) fn add_file<T: Tree>(
     alloc: T::Alloc,
     world: &mut Reader<T>,
-    path: &str,
-    mode: &str,
-    uid: &str,
-    gid: &str,
+    words: NodeWords<'_>,
     hex: &str,
 ) -> Result<(), LineError>
-    ensures { Makes (in_last_server (file_line path.now mode.now uid.now gid.now hex.now) world.old)
-        world.old world.new result }
+    ensures { Makes (in_last_server (file_line words.entry.path.now words.entry.mode.now
+        words.entry.uid.now words.entry.gid.now hex.now) world.old) world.old world.new result }
 {
     let forest = &mut world.forest;
     let Some(tree) = forest.trees.last_mut() else {
         return Err(LineError::Bad(LineFault::NoServer));
     };
-    add_file_to(alloc, tree, &mut world.last_dir, path, mode, uid, gid, hex)
+    add_file_to(alloc, tree, &mut world.last_dir, words, hex)
 }
 
 // A directory joins the tree, or its root is changed.
@@ -62,24 +65,21 @@ fn add_dir_to<T: Tree>(
     alloc: T::Alloc,
     tree: &mut T,
     last_dir: &mut LastDir<T::Alloc>,
-    path: &str,
-    mode: &str,
-    uid: &str,
-    gid: &str,
+    words: NodeWords<'_>,
 ) -> Result<(), LineError>
     requires { IsWhereNamesLead last_dir.old (T.state tree.old) }
-    ensures made { Makes (dir_line path.now mode.now uid.now gid.now (T.state tree.old))
-        (T.state tree.old) (T.state tree.new) result }
+    ensures made { Makes (dir_line words.entry.path.now words.entry.mode.now words.entry.uid.now
+        words.entry.gid.now (T.state tree.old)) (T.state tree.old) (T.state tree.new) result }
     ensures next { (T.state tree.old).next ≤ (T.state tree.new).next }
     ensures led { IsWhereNamesLead last_dir.new (T.state tree.new) }
 {
-    let Some(names) = names_of(alloc, path)? else {
+    let Some(names) = names_of(alloc, words.path)? else {
         return Err(LineError::Bad(LineFault::BadPath));
     };
-    let Some(permissions) = permissions_in(mode.as_bytes()) else {
+    let Some(permissions) = permissions_in(words.mode.as_bytes()) else {
         return Err(LineError::Bad(LineFault::BadMode));
     };
-    let Some((uid, gid)) = owners(uid, gid) else {
+    let Some((uid, gid)) = owners(words.uid, words.gid) else {
         return Err(LineError::Bad(LineFault::BadUser));
     };
     make_dir(tree, last_dir, names, permissions, uid, gid)
@@ -121,28 +121,26 @@ fn add_file_to<T: Tree>(
     alloc: T::Alloc,
     tree: &mut T,
     last_dir: &mut LastDir<T::Alloc>,
-    path: &str,
-    mode: &str,
-    uid: &str,
-    gid: &str,
+    words: NodeWords<'_>,
     hex: &str,
 ) -> Result<(), LineError>
     requires { IsWhereNamesLead last_dir.old (T.state tree.old) }
-    ensures made { Makes (file_line path.now mode.now uid.now gid.now hex.now (T.state tree.old))
-        (T.state tree.old) (T.state tree.new) result }
+    ensures made { Makes (file_line words.entry.path.now words.entry.mode.now words.entry.uid.now
+        words.entry.gid.now hex.now (T.state tree.old)) (T.state tree.old) (T.state tree.new)
+        result }
     ensures next { (T.state tree.old).next ≤ (T.state tree.new).next }
     ensures led { IsWhereNamesLead last_dir.new (T.state tree.new) }
 {
-    let Some(mut names) = names_of(alloc, path)? else {
+    let Some(mut names) = names_of(alloc, words.path)? else {
         return Err(LineError::Bad(LineFault::BadPath));
     };
     let Some(name) = take_last(&mut names) else {
         return Err(LineError::Bad(LineFault::BadPath));
     };
-    let Some(mode) = file_mode_in(mode.as_bytes()) else {
+    let Some(mode) = file_mode_in(words.mode.as_bytes()) else {
         return Err(LineError::Bad(LineFault::BadMode));
     };
-    let Some((uid, gid)) = owners(uid, gid) else {
+    let Some((uid, gid)) = owners(words.uid, words.gid) else {
         return Err(LineError::Bad(LineFault::BadUser));
     };
     let Some(bytes) = bytes_in(alloc, hex)? else {

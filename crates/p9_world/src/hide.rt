@@ -44,11 +44,10 @@ fn add_hidden<T: Tree>(world: &mut Reader<T>, node: NodeRef) -> Result<(), LineE
     requires { node.number < next_of node.server world.old.forest }
     ensures { Makes (with_hidden node world.old) world.old world.new result }
 {
-    if world.hidden_set.contains(&node) {
+    world.hidden.reserve(1)?;
+    if !world.hidden_set.insert(node)? {
         return Err(LineError::Bad(LineFault::Duplicate));
     }
-    world.hidden.reserve(1)?;
-    world.hidden_set.insert(node)?;
     world.hidden.push(node).unwrap();
     Ok(())
 }

@@ -5,7 +5,7 @@ ghost use Rattle.p9_world.specs.LastDir.{dir_from};
 ghost use Rattle.p9_world.specs.Path.{dir_of, last_and_rest, names_among, names_of};
 
 use p9_base::{Name, NoMemory};
-use p9_clean::{clean, elements};
+use p9_clean::cleaned_elements;
 use p9_tree::Tree;
 use std::alloc::Allocator;
 
@@ -20,8 +20,7 @@ pub(crate) fn names_of<A: Allocator + Copy>(
     if !path.starts_with('/') {
         return Ok(None);
     }
-    let cleaned = clean(alloc, path)?;
-    let elements = elements(alloc, cleaned.as_str())?;
+    let elements = cleaned_elements(alloc, path)?;
     names_among(alloc, elements.as_slice())
 }
 
@@ -43,7 +42,7 @@ fn names_among<A: Allocator + Copy>(
     Ok(Some(names))
 }
 
-/// Takes the last of some names out, and leaves those before it.
+/// Takes the last of some names out, and returns it. Those before it stay.
 pub(crate) fn take_last<A: Allocator + Copy>(names: &mut Vec<Name, A>) -> Option<Name>
     ensures { option_map (λ name. (name, names.new.items)) result
         ≡ last_and_rest names.old.items }

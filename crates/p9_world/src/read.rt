@@ -6,7 +6,7 @@ ghost use Rattle.p9_world.specs.Meaning.{Makes};
 ghost use Rattle.p9_world.specs.Read.{Steps, Tells, line_meaning, operated, operation_of};
 ghost use Rattle.p9_world.specs.Read.{read_statement, world_of};
 
-use crate::entry::{add_dir, add_file};
+use crate::entry::{NodeWords, add_dir, add_file};
 use crate::error::{LineError, LineFault, WorldError};
 use crate::group::add_group;
 use crate::hide::hide;
@@ -129,9 +129,23 @@ fn operate<T: Tree>(
 {
     match (operation, words) {
         (Operation::Server, [name]) => add_server(alloc, world, name),
-        (Operation::Dir, [path, mode, uid, gid]) => add_dir(alloc, world, path, mode, uid, gid),
+        (Operation::Dir, [path, mode, uid, gid]) => {
+            let words = NodeWords {
+                path,
+                mode,
+                uid,
+                gid,
+            };
+            add_dir(alloc, world, words)
+        }
         (Operation::File, [path, mode, uid, gid, hex]) => {
-            add_file(alloc, world, path, mode, uid, gid, hex)
+            let words = NodeWords {
+                path,
+                mode,
+                uid,
+                gid,
+            };
+            add_file(alloc, world, words, hex)
         }
         (Operation::User, [name]) => add_user(world, name),
         (Operation::Group, [name, leader, members @ ..]) => {

@@ -1,8 +1,8 @@
-//! Tests of p9_world: the worlds that texts make, the first bad line of a text, and where memory
-//! is refused.
+//! Tests of p9_world: the worlds that texts make, the first bad line of a text, and allocations
+//! that fail.
 //!
-//! What is to be told of a text is a text, too. So a proof loads two literals, whatever a test has
-//! in it, which costs much less than a table of values.
+//! What is expected of a text is a text, too. So a proof loads two literals, whatever a test has in
+//! it, which costs much less than a table of values.
 #![tactic(auto)]
 
 #[cfg(test)]

@@ -31,5 +31,5 @@ returns g c =
     (Makes-last g.T.Tree.state c.forest.inside.trees.items c.in-Some.tree.now
     c.add_file_to.new.tree _ c.forest.inside.trees.ok.0 some c.in-Some.ensures.value _
     c.forest.view_is _ _ _ _ _
-    (file_line c.args.path.now c.args.mode.now c.args.uid.now c.args.gid.now c.args.hex.now)
+    (file_line c.args.words.path.now c.args.words.mode.now c.args.words.uid.now c.args.words.gid.now c.args.hex.now)
     c.add_file_to.result c.add_file_to.ensures.made)

@@ -14,11 +14,11 @@ invariant_of-self g c =
     let t = c.args.self.now in
     let kept = tree-kept t.nodes.entries _ t.next 0 t.entries
     (with_owner c.args.permissions c.args.uid c.args.gid) c.in-Some.node.now _ t.index t.well_formed
-    c.in-Some.ensures.value (c.get_mut.follows.holds c.give.new.self).0 c.give.ensures.node
+    c.in-Some.ensures.value (c.get_mut.follows.holds c.set_owner.new.self).0 c.set_owner.ensures.node
     (keeps-with_owner _ _ _)
     (sound-with_owner _ _ _ _
     (root_is_dir (values_of t.nodes.entries) c.in-Some.node.now (node_at-values_of 0 t.nodes.entries t.index.keyed ∙ sym c.in-Some.ensures.value) t.well_formed.root)
-    (subst IsTellable c.give.ensures.node c.give.ensures.tellable)) in
+    (subst IsTellable c.set_owner.ensures.node c.set_owner.ensures.tellable)) in
     record { well_formed = kept.0; index = kept.1 }
 
 pub returns-in-Some : goal.returns-in-Some
@@ -26,7 +26,7 @@ returns-in-Some g c =
     let t = c.args.self.now in
     state-changed t.nodes.entries _ t.next 0 t.entries
     (with_owner c.args.permissions c.args.uid c.args.gid) c.in-Some.node.now _ t.index t.well_formed
-    c.in-Some.ensures.value (c.get_mut.follows.holds c.give.new.self).0 c.give.ensures.node
+    c.in-Some.ensures.value (c.get_mut.follows.holds c.set_owner.new.self).0 c.set_owner.ensures.node
     (keeps-with_owner _ _ _).in_dir
 
 pub returns-in_default : goal.returns-in_default

@@ -11,11 +11,11 @@ invariant_of-self g c =
     record {
       well_formed =
           WellFormed-set 0 (with_owner c.args.permissions c.args.uid c.args.gid) s _ _ _
-          (sym c.position.ensures ∙ c.in-Some.is) c.index_mut.ensures.value c.give.ensures.node
+          (sym c.position.ensures ∙ c.in-Some.is) c.index_mut.ensures.value c.set_owner.ensures.node
           (keeps-with_owner _ _ _)
           (sound-with_owner _ _ _ _
           (root_is_dir s _ _ c.args.self.now.well_formed (sym c.position.ensures ∙ c.in-Some.is)
-          c.index_mut.ensures.value) (subst IsTellable c.give.ensures.node c.give.ensures.tellable))
+          c.index_mut.ensures.value) (subst IsTellable c.set_owner.ensures.node c.set_owner.ensures.tellable))
           c.args.self.now.well_formed;
     }
 
@@ -24,7 +24,7 @@ returns-in-Some g c =
     let s : Server = record { nodes = c.args.self.now.nodes.items; next = c.args.self.now.next } in
     ap (with_nodes s)
     (set-changed_at 0 (with_owner c.args.permissions c.args.uid c.args.gid) _ _ _ _
-    (sym c.position.ensures ∙ c.in-Some.is) c.index_mut.ensures.value c.give.ensures.node)
+    (sym c.position.ensures ∙ c.in-Some.is) c.index_mut.ensures.value c.set_owner.ensures.node)
 
 pub returns-in_default : goal.returns-in_default
 returns-in_default g c =

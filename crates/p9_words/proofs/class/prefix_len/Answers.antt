@@ -1,7 +1,7 @@
 use Rattle.std.proofs.Common.{sym, ◌∙◌, arith}
 use Rattle.std.proofs.lemmas.List.Sums.{prefix_len_is}
 use Rattle.p9_words.specs.Class.{is_in}
-use Rattle.p9_words.proofs.class.run.Goals as goal
+use Rattle.p9_words.proofs.class.prefix_len.Goals as goal
 
 pub returns-then-not-contains-clause-front : goal.returns-then-not-contains-clause-front
 returns-then-not-contains-clause-front c =
