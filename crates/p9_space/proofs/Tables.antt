@@ -89,11 +89,6 @@ members_of-some key table sound =
     by None some = omega arith
     by (Some ms) some = some
 
--- the members of a key with a row are its row's
-pub members_of-row : (key : NodeRef) (table : List MountRow) (ms : List Member)
-    → row_of key table ≡ Some ms → members_of key table ≡ ms
-members_of-row key table ms found = ap (λ row. unwrap_or row (member true key ∷ [])) found
-
 -- a table stays sound under a row of members
 pub IsTable-with_row : (new table : List MountRow) (key : NodeRef) (ms : List Member)
     → new ≡ with_row key ms table → 0 < length ms → IsDistinct same_node (keys_of new)
