@@ -1,7 +1,7 @@
 -- Nodes that are hidden or inside, seen from their parents.
 use Rattle.std.proofs.Common.{◌≡◌, ℕ, ◌+◌, ◌<◌, Bool, true, false, cond, ◌&&◌, ◌||◌, List, []}
 use Rattle.std.proofs.Common.{◌∷◌, Option, Some, None, refl, sym, ap, ◌∙◌, subst}
-use Rattle.std.proofs.Common.{option_and_then, length, get_or, take}
+use Rattle.std.proofs.Common.{arith, option_and_then, length, get_or, take}
 use Rattle.std.specs.Prelude.{filter, map, ◌==◌, if◌then◌else◌, not}
 use Rattle.std.specs.Option.{option_map_or}
 use Rattle.std.proofs.lemmas.Bool.{or_left}
@@ -15,7 +15,7 @@ use Rattle.p9_tree.specs.Inside.{is_among, is_barred, is_hidden, is_inside}
 use Rattle.p9_inside.proofs.Forests.{barred_is_hidden_or_inside, inside_by_barred_parent}
 use Rattle.p9_inside.proofs.Forests.{server_ordered}
 use Rattle.p9_cert.specs.Closed.{AreNotBarred}
-use Rattle.p9_cert.specs.Gap.{row_fault, where_true}
+use Rattle.p9_cert.specs.Gap.{member_fault, row_fault, where_true}
 use Rattle.p9_cert.specs.Policy.{Policy}
 use Rattle.p9_cert.specs.Rows.{is_row}
 use Rattle.p9_cert.proofs.Basics.{same_ref}
@@ -34,55 +34,68 @@ row_is_hidden (r ∷ rs) at =
       | false ↦ row_is_hidden rs at
     ]
 
+-- a node of this parent is inside where the parent is barred
+abbrev pub inside_under : List NodeRef → List Server → NodeRef → Option ℕ → Bool
+inside_under hidden forest at parent =
+    option_map_or (λ p. is_barred (beside at p) hidden forest) parent false
+
+module _ (hidden : List NodeRef) (forest : List Server) (at : NodeRef) where
+  -- so is the node
+  pub inside-under : (parent : Option ℕ) → parent ≡ option_and_then (λ n. n.parent) (node_of at forest)
+      → inside_under hidden forest at parent ≡ is_inside at hidden forest
+  inside-under parent e =
+      ap (inside_under hidden forest at) e ∙ sym (inside_by_barred_parent hidden forest at)
+
+  -- a node that doesn't exist is not inside
+  pub inside-absent : node_of at forest ≡ None → is_inside at hidden forest ≡ false
+  inside-absent e = sym (inside-under None (sym (ap (option_and_then (λ n. n.parent)) e)))
+
+-- so nothing is wrong with it
+pub fault-absent : (policy : Policy) (forest : List Server) (rows : List NodeRef) (at : NodeRef)
+    → node_of at forest ≡ None → member_fault policy forest rows at ≡ None
+fault-absent policy forest rows at e = rw (inside-absent policy.hidden forest at e, e)
+
 module _ (hidden : List NodeRef) (forest : List Server) (sound : IsForest forest) (at : NodeRef)
   where
-    -- inside, by the number of the parent
-    by_parent : is_inside at hidden forest
-        ≡ option_map_or (λ p. is_barred (beside at p) hidden forest)
-        (option_and_then (λ n. n.parent) (node_of at forest)) false
-    by_parent = inside_by_barred_parent hidden forest at
-
-    -- what has no parent is not inside
-    pub inside-none : option_and_then (λ n. n.parent) (node_of at forest) ≡ None
-        → is_inside at hidden forest ≡ false
-    inside-none e =
-        by_parent ∙ ap (λ o. option_map_or (λ p. is_barred (beside at p) hidden forest) o false) e
-
-    module _ (p : ℕ) (parent : option_and_then (λ n. n.parent) (node_of at forest) ≡ Some p) where
-      up : is_inside at hidden forest ≡ is_barred (beside at p) hidden forest
-      up =
-          by_parent
-          ∙ ap (λ o. option_map_or (λ p. is_barred (beside at p) hidden forest) o false) parent
-
+    module _ (p : ℕ) where
       barred : is_barred (beside at p) hidden forest
           ≡ (is_hidden (beside at p) hidden || is_inside (beside at p) hidden forest)
       barred = barred_is_hidden_or_inside hidden forest (beside at p) sound
 
-      -- where the parent is hidden, it is inside
-      pub inside-hidden : is_hidden (beside at p) hidden ≡ true → is_inside at hidden forest ≡ true
-      inside-hidden h =
-          up ∙ barred ∙ or_left (is_hidden (beside at p) hidden) (is_inside
+      -- a parent that is hidden is barred
+      pub barred-hidden : is_hidden (beside at p) hidden ≡ true
+          → is_barred (beside at p) hidden forest ≡ true
+      barred-hidden h =
+          barred ∙ or_left (is_hidden (beside at p) hidden) (is_inside
           (beside at p) hidden forest) h
 
-      -- where it is shown, it is not
-      pub inside-shown : (rows : List NodeRef) → AreNotBarred hidden forest rows
-          → is_row rows (beside at p) ≡ true → is_inside at hidden forest ≡ false
-      inside-shown rows shown row = up ∙ shown.each (beside at p) row
+      -- another is barred where its own parent is
+      pub barred-up : is_hidden (beside at p) hidden ≡ false
+          → inside_under hidden forest at
+          (option_and_then (λ n. n.parent) (node_of (beside at p) forest))
+          ≡ is_barred (beside at p) hidden forest
+      barred-up h =
+          sym (barred ∙ ap (λ b. b || is_inside (beside at p) hidden forest) h
+          ∙ inside_by_barred_parent hidden forest (beside at p))
 
-      -- else it is as the parent is
-      pub inside-up : is_hidden (beside at p) hidden ≡ false
-          → is_inside (beside at p) hidden forest ≡ is_inside at hidden forest
-      inside-up h =
-          sym (up ∙ barred ∙ ap (λ b. b || is_inside (beside at p) hidden forest) h)
-
-      -- and the parent's number is smaller
-      pub parent-smaller : p < at.number
-      parent-smaller = go (node_of at forest) refl parent
+      -- and that has a smaller number
+      pub above-smaller : (above : Option ℕ)
+          → above ≡ option_and_then (λ n. n.parent) (node_of (beside at p) forest)
+          → option_map_or (λ q. q + 1) above 0 < p + 1
+      above-smaller above e = go (node_of (beside at p) forest) refl e
         where
-          go : (o : Option Node) → node_of at forest ≡ o
-              → option_and_then (λ n. n.parent) o ≡ Some p → p < at.number
-          go None e q = let none : None ≡ Some p = q in absurd (cc)
-          go (Some n) e q = (server_ordered forest sound at.server).parents at.number p n e q
+          go : (o : Option Node) → node_of (beside at p) forest ≡ o
+              → above ≡ option_and_then (λ n. n.parent) o → option_map_or (λ q. q + 1) above 0 < p + 1
+          go None there none = rw none (omega arith)
+          go (Some n) there is = rw is (by n.parent refl)
+            where
+              by : (parent : Option ℕ) → n.parent ≡ parent
+                  → option_map_or (λ q. q + 1) parent 0 < p + 1
+              by None own = omega arith
+              by (Some q) own =
+                  let less : q < p =
+                  (server_ordered forest sound at.server).parents p q n there own in
+                  omega arith
 
 -- A row without a fault is shown.
 

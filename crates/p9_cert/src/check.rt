@@ -14,7 +14,7 @@ use crate::gap::{Gap, RowFault};
 use crate::inside::{is_hidden, is_inside};
 use crate::place::place_fault;
 use p9_base::NodeRef;
-use p9_space::{Member, MountTable, ROOT_PLACE};
+use p9_space::{Member, MountTable, ROOT_PLACE, is_given};
 use p9_tree::{Forest, Tree};
 use p9_world::World;
 use std::alloc::Allocator;
@@ -99,7 +99,7 @@ fn check_members<T: Tree>(forest: &Forest<T>, members: &[Member]) -> Result<(), 
 fn check_given<T: Tree>(forest: &Forest<T>, at: NodeRef) -> Result<(), Gap>
     ensures { result_err result ≡ node_gap forest.now at }
 {
-    if at.number < forest.next_of(at.server) {
+    if is_given(forest, at) {
         Ok(())
     } else {
         Err(Gap::Table(at))
@@ -146,11 +146,14 @@ fn row_fault<T: Tree>(world: &World<T>, shown: &[NodeRef], row: NodeRef) -> Opti
     ensures { result ≡ row_fault (policy_of world.now) world.now.forest row }
 {
     let hidden = world.hidden.as_slice();
-    if !world.forest.node(row).is_some_and(|node| node.is_dir()) {
+    let Some(node) = world.forest.node(row) else {
+        return Some(RowFault::Absent);
+    };
+    if !node.is_dir() {
         Some(RowFault::Absent)
     } else if is_hidden(hidden, row) {
         Some(RowFault::Hidden)
-    } else if is_inside(&world.forest, hidden, shown, row) {
+    } else if is_inside(&world.forest, hidden, shown, row, node.parent()) {
         Some(RowFault::Inside)
     } else {
         None

@@ -24,21 +24,24 @@ fn is_among(nodes: &[NodeRef], at: NodeRef) -> bool
     nodes.iter().any(|other| *other == at)
 }
 
-/// Whether the node is inside a hidden directory. Its parents are looked at, upward, as far as the
-/// first of them that is known: one that is hidden, or one of the rows, which are shown.
+/// Whether the node, which has this parent, is inside a hidden directory. Its parents are looked at,
+/// upward, as far as the first of them that is known: one that is hidden, or one of the rows, which
+/// are shown.
 pub(crate) fn is_inside<T: Tree>(
     forest: &Forest<T>,
     hidden: &[NodeRef],
     shown: &[NodeRef],
     at: NodeRef,
+    parent: Option<u64>,
 ) -> bool
+    requires parent { parent ≡ option_and_then (λ n. n.parent) (node_of at forest.now) }
     requires rising { AllPairs (λ a b. IsTrue (is_below a b)) shown.now }
     requires shown { AreNotBarred hidden.now forest.now shown.now }
     ensures { result ≡ is_inside at hidden.now forest.now }
 {
     forest.well_formed();
-    let mut number = at.number;
-    while let Some(parent) = parent_of(forest, at.beside(number)) {
+    let mut above = parent;
+    while let Some(parent) = above {
         let dir = at.beside(parent);
         if is_hidden(hidden, dir) {
             return true;
@@ -46,7 +49,7 @@ pub(crate) fn is_inside<T: Tree>(
         if is_row(shown, dir) {
             return false;
         }
-        number = parent;
+        above = parent_of(forest, dir);
     }
     false
 }

@@ -45,10 +45,12 @@ pub fn member_fault<T: Tree>(world: &World<T>, rows: &[NodeRef], at: NodeRef) ->
     requires shown { AreNotBarred world.now.hidden world.now.forest rows.now }
     ensures { result ≡ member_fault (policy_of world.now) world.now.forest rows.now at }
 {
-    if is_inside(&world.forest, world.hidden.as_slice(), rows, at) {
+    let node = world.forest.node(at)?;
+    let hidden = world.hidden.as_slice();
+    if is_inside(&world.forest, hidden, rows, at, node.parent()) {
         return Some(MemberFault::Inside);
     }
-    node_fault(world, rows, at, world.forest.node(at)?)
+    node_fault(world, rows, at, node)
 }
 
 // What is wrong with a member that exists and isn't inside.
@@ -66,7 +68,7 @@ fn node_fault<T: Tree>(
             return Some(kind);
         }
     }
-    if listed_in(world).may_pass(node) && !is_row(rows, at) {
+    if !is_row(rows, at) && listed_in(world).may_pass(node) {
         return Some(MemberFault::Missing);
     }
     None

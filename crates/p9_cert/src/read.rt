@@ -8,7 +8,7 @@ ghost use Rattle.p9_cert.specs.Text.{IsReadError, certificate_of, is_head, row_i
 
 use crate::certificate::Certificate;
 use crate::rows::may_follow;
-use p9_base::{NoMemory, NodeRef, Statement, number, statements};
+use p9_base::{NoMemory, NodeRef, SERVERS_MAX, Statement, number, statements};
 use p9_tree::NEXT_MAX;
 use std::alloc::Allocator;
 use thiserror::Error;
@@ -121,7 +121,7 @@ fn row_in(words: &[&str]) -> Option<NodeRef>
     if *verb != "dir" {
         return None;
     }
-    let server = number(server, 1 << 16)?;
+    let server = number(server, SERVERS_MAX as u64)?;
     let number = number(node, NEXT_MAX)?;
     Some(NodeRef {
         server: server as u16,

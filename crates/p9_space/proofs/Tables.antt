@@ -1,5 +1,5 @@
 -- What keeps a table's rows non-empty and its keys distinct, and rows that are changed in place.
-use Rattle.std.proofs.Common.{◌≡◌, ℕ, ◌<◌, Bool, true, false, List, [], ◌∷◌, Option, Some, None}
+use Rattle.std.proofs.Common.{◌≡◌, ℕ, ◌<◌, ◌≤◌, Bool, true, false, List, [], ◌∷◌, Option, Some, None}
 use Rattle.std.proofs.Common.{IfSome, is_some, unwrap_or, cond, length, position, remove, Ok, refl}
 use Rattle.std.proofs.Common.{sym, ap, ◌∙◌, true≢false, arith, length-append}
 use Rattle.std.specs.List.{All, IsDistinct}
@@ -89,11 +89,6 @@ members_of-some key table sound =
     by None some = omega arith
     by (Some ms) some = some
 
--- the members of a key with a row are its row's
-pub members_of-row : (key : NodeRef) (table : List MountRow) (ms : List Member)
-    → row_of key table ≡ Some ms → members_of key table ≡ ms
-members_of-row key table ms found = ap (λ row. unwrap_or row (member true key ∷ [])) found
-
 -- a table stays sound under a row of members
 pub IsTable-with_row : (new table : List MountRow) (key : NodeRef) (ms : List Member)
     → new ≡ with_row key ms table → 0 < length ms → IsDistinct same_node (keys_of new)
@@ -130,7 +125,15 @@ length-remove-some ms i within others = omega (arith, length-remove ms i within)
 -- without one of a row's several members
 pub without_member-more : (key node : NodeRef) (table : List MountRow) (ms : List Member) (i : ℕ)
     → row_of key table ≡ Some ms → position (is_of node) ms ≡ Some i → i < length ms → 1 < length ms
-    → unmounted key (Some node) table ≡ Ok (with_row key (remove (members_of key table) i) table)
+    → unmounted key (Some node) table ≡ Ok (with_row key (remove ms i) table)
 without_member-more key node table ms i row first within others =
     let e = with_members-some key (remove ms i) table (length-remove-some ms i within others) in
+    rw (row, first, e)
+
+-- without the one member of a row
+pub without_member-one : (key node : NodeRef) (table : List MountRow) (ms : List Member) (i : ℕ)
+    → row_of key table ≡ Some ms → position (is_of node) ms ≡ Some i → i < length ms → length ms ≤ 1
+    → unmounted key (Some node) table ≡ Ok (without_row key table)
+without_member-one key node table ms i row first within one =
+    let e = with_members-one key ms i table (omega arith) within in
     rw (row, first, e)

@@ -42,7 +42,7 @@ impl<A: Allocator> Model for Channels<A> {
 }
 
 impl<A: Allocator + Copy> Channels<A> {
-    /// The trail with the rows of its places.
+    /// The trail with the rows of its places. The only error is that an allocation fails.
     pub fn of<B: Allocator + Copy>(
         table: &MountTable<B>,
         trail: Trail<A>,
@@ -58,7 +58,7 @@ impl<A: Allocator + Copy> Channels<A> {
         Ok(Channels { trail, rows })
     }
 
-    /// Other channels of the same places and rows.
+    /// Other channels of the same places and rows. The only error is that an allocation fails.
     pub fn copy(&self) -> Result<Channels<A>, NoMemory>
         ensures { IfOk result (λ copy. copy ≡ self.now) }
     {
@@ -81,6 +81,7 @@ impl<A: Allocator + Copy> Channels<A> {
         ensures members { result ≡ members_of (here (trail_of self.now)) table.now }
         ensures not_empty { 0 < length result }
     {
+        self.trail.well_formed();
         let row = self.rows[self.trail.len() - 1];
         table.members_at(row, self.trail.here())
     }
@@ -90,6 +91,7 @@ impl<A: Allocator + Copy> Channels<A> {
         requires { Fits table.now self.now }
         ensures { result ≡ file_ref (here (trail_of self.now)) table.now }
     {
+        self.trail.well_formed();
         let row = self.rows[self.trail.len() - 1];
         table.file_at(row, self.trail.here())
     }

@@ -40,8 +40,8 @@ fn are_given<T: Tree>(forest: &Forest<T>, members: &[Member]) -> bool
     members.iter().all(|m| is_given(forest, m.node))
 }
 
-// Whether the number of the node was given. Where there is no such server none was.
-fn is_given<T: Tree>(forest: &Forest<T>, at: NodeRef) -> bool
+/// Whether the number of the node was given. Where there is no such server none was.
+pub fn is_given<T: Tree>(forest: &Forest<T>, at: NodeRef) -> bool
     ensures { result ≡ is_given forest.now at }
 {
     at.number < forest.next_of(at.server)

@@ -14,10 +14,10 @@ mod trail;
 mod walk;
 
 pub use channel::{Channels, advance, find_arrival_from};
-pub use given::is_table_given;
+pub use given::{is_given, is_table_given};
 pub use p9_clean::clean;
 pub use rights::{TO_EXECUTE, TO_READ, TO_WRITE, Who, may, rules};
 pub use row::{Member, Members, Order};
 pub use table::{MountTable, UnmountError};
 pub use trail::{PLACES_MAX, ROOT_PLACE, Step, Trail};
-pub use walk::{Arrival, dir_fault, find_arrival, find_step, resolve};
+pub use walk::{Arrival, dir_fault, find_arrival, resolve};

@@ -168,28 +168,18 @@ impl<A: Allocator + Copy> MountTable<A> {
         ensures err { IfErr result (λ e. unmounted key (Some node) self.old ≡ Err e) }
         ensures unchanged { OnErr result (self.new ≡ self.old) }
     {
-        let Some(row) = self.rows.get(&key) else {
+        let Some(row) = self.rows.get_mut(&key) else {
             return Err(UnmountError::NotMounted);
         };
         let Some(position) = row.position(node) else {
             return Err(UnmountError::NotMember);
         };
-        if row.as_slice().len() == 1 {
-            let _ = self.remove_row(key);
+        if row.as_slice().len() > 1 {
+            row.remove(position);
         } else {
-            self.remove_member(key, position);
+            let _ = self.remove_row(key);
         }
         Ok(())
-    }
-
-    // Takes a member out of a row that has others.
-    fn remove_member(&mut self, key: NodeRef, position: usize)
-        requires row { IsSome (row_of key self.old) }
-        requires within { position < length (members_of key self.old) }
-        requires others { 1 < length (members_of key self.old) }
-        ensures { self.new ≡ with_row key (remove (members_of key self.old) position) self.old }
-    {
-        self.rows.get_mut(&key).unwrap().remove(position);
     }
 
     /// What stands for the key: the members of its row, or the key alone, which permits creation.
@@ -214,7 +204,7 @@ impl<A: Allocator + Copy> MountTable<A> {
         ensures members { result ≡ members_of key self.now }
         ensures not_empty { 0 < length result }
     {
-        let _rows = self.len();
+        self.well_formed();
         match row {
             Some(position) => Members::new(self.members_of_row(position), key),
             None => Members::new(None, key),
@@ -253,7 +243,7 @@ impl<A: Allocator + Copy> MountTable<A> {
         self.rows.clear();
     }
 
-    /// Another table of the same rows.
+    /// Another table of the same rows. The only error is that an allocation fails.
     pub fn copy(&self) -> Result<MountTable<A>, NoMemory>
         ensures { IfOk result (λ copy. copy ≡ self.now) }
     {
@@ -263,10 +253,17 @@ impl<A: Allocator + Copy> MountTable<A> {
         })
     }
 
+    /// What is kept of each table: no row is empty, and no key has two. This does nothing when it
+    /// runs; it is for a caller that has to know so.
+    pub fn well_formed(&self)
+        ensures { IsTable self.now }
+    {
+        let _rows = &self.rows;
+    }
+
     /// How many rows there are.
     pub fn len(&self) -> usize
-        ensures len { result ≡ length self.now }
-        ensures sound { IsTable self.now }
+        ensures { result ≡ length self.now }
     {
         self.rows.len()
     }

@@ -48,7 +48,7 @@ impl<A: Allocator> Model for Trail<A> {
 }
 
 impl<A: Allocator + Copy> Trail<A> {
-    /// The trail of one place.
+    /// The trail of one place. The only error is that an allocation fails.
     pub fn at(alloc: A, place: NodeRef) -> Result<Trail<A>, NoMemory>
         ensures { IfOk result (λ trail. trail ≡ place ∷ []) }
     {
@@ -57,7 +57,7 @@ impl<A: Allocator + Copy> Trail<A> {
         Ok(Trail { places })
     }
 
-    /// Another trail of the same places.
+    /// Another trail of the same places. The only error is that an allocation fails.
     pub fn copy(&self) -> Result<Trail<A>, NoMemory>
         ensures { IfOk result (λ copy. copy ≡ self.now) }
     {
@@ -76,10 +76,17 @@ impl<A: Allocator + Copy> Trail<A> {
         Ok(())
     }
 
+    /// What is kept of each trail: it has at least one place, and at most [`PLACES_MAX`]. This does
+    /// nothing when it runs; it is for a caller that has to know so.
+    pub fn well_formed(&self)
+        ensures { IsTrail self.now }
+    {
+        let _places = &self.places;
+    }
+
     /// How many places there are: 1 to [`PLACES_MAX`].
     pub fn len(&self) -> usize
-        ensures len { result ≡ length self.now }
-        ensures sound { IsTrail self.now }
+        ensures { result ≡ length self.now }
     {
         self.places.len()
     }
@@ -105,8 +112,7 @@ impl<A: Allocator + Copy> Trail<A> {
 
     /// The last place, at which the trail has arrived.
     pub fn here(&self) -> NodeRef
-        ensures last { result ≡ here self.now }
-        ensures sound { IsTrail self.now }
+        ensures { result ≡ here self.now }
     {
         self.places[self.places.len() - 1]
     }
@@ -116,6 +122,7 @@ impl<A: Allocator + Copy> Trail<A> {
         ensures within { result < length self.now }
         ensures above { slice_get self.now result ≡ Some (here (upward self.now)) }
     {
+        self.well_formed();
         self.len().saturating_sub(2)
     }
 

@@ -199,6 +199,7 @@ fn find_child<'a, T: Tree, A: Allocator + Copy>(
     match found.child {
         None => Err(Fault::NotFound),
         Some(child) => {
+            trail.well_formed();
             if trail.len() == PLACES_MAX {
                 Err(Fault::PathTooDeep)
             } else {
@@ -268,7 +269,32 @@ pub fn find_arrival<'a, T: Tree, A: Allocator + Copy, B: Allocator + Copy>(
     ensures file { IfOk result (λ arrival. node_of arrival.at forest.now ≡ Some arrival.file.now) }
     ensures room { IfOk result (λ arrival. length (stepped trail.now arrival.step) ≤ PLACES_MAX) }
 {
-    let members = table.members(trail.here());
+    let row = table.position(trail.here());
+    find_arrival_at(forest, table, trail, row, name, who)
+}
+
+// The same, by the row of the last place.
+fn find_arrival_at<'a, T: Tree, A: Allocator + Copy, B: Allocator + Copy>(
+    forest: &'a Forest<T>,
+    table: &MountTable<A>,
+    trail: &Trail<B>,
+    row: Option<usize>,
+    name: &str,
+    who: Option<Who<'_, B>>,
+) -> Result<Arrival<'a, T::Alloc>, Fault>
+    requires { row ≡ row_position (here trail.now) table.now }
+    ensures ok { IfOk result (λ arrival. step_of forest.now table.now
+        (option_map who_view who.entry) trail.now name.now ≡ Ok arrival.step) }
+    ensures err { IfErr result (λ fault. step_of forest.now table.now
+        (option_map who_view who.entry) trail.now name.now ≡ Err fault) }
+    ensures row { IfOk result (λ arrival. arrival.row
+        ≡ row_position (here (stepped trail.now arrival.step)) table.now) }
+    ensures at { IfOk result (λ arrival. arrival.at
+        ≡ file_ref (here (stepped trail.now arrival.step)) table.now) }
+    ensures file { IfOk result (λ arrival. node_of arrival.at forest.now ≡ Some arrival.file.now) }
+    ensures room { IfOk result (λ arrival. length (stepped trail.now arrival.step) ≤ PLACES_MAX) }
+{
+    let members = table.members_at(row, trail.here());
     if name == ".." {
         let row = table.position(trail.above());
         arrive_up(forest, table, trail, members.as_slice(), row)
@@ -298,7 +324,7 @@ pub(crate) fn arrive_up<'a, T: Tree, A: Allocator + Copy, B: Allocator + Copy>(
     ensures file { IfOk result (λ arrival. node_of arrival.at forest.now ≡ Some arrival.file.now) }
     ensures room { IfOk result (λ arrival. length (stepped trail.now arrival.step) ≤ PLACES_MAX) }
 {
-    trail.len();
+    trail.well_formed();
     if let Some(fault) = dir_fault(forest, members) {
         return Err(fault);
     }
@@ -368,26 +394,8 @@ fn arrive_at<'a, T: Tree, A: Allocator + Copy>(
     }
 }
 
-/// The step alone of [`find_arrival`].
-pub fn find_step<T: Tree, A: Allocator + Copy, B: Allocator + Copy>(
-    forest: &Forest<T>,
-    table: &MountTable<A>,
-    trail: &Trail<B>,
-    name: &str,
-    who: Option<Who<'_, B>>,
-) -> Result<Step, Fault>
-    ensures step { result ≡ step_of forest.now table.now (option_map who_view who.entry) trail.now
-        name.now }
-    ensures room { IfOk result (λ step. length (stepped trail.now step) ≤ PLACES_MAX) }
-{
-    match find_arrival(forest, table, trail, name, who) {
-        Ok(arrival) => Ok(arrival.step),
-        Err(fault) => Err(fault),
-    }
-}
-
 /// Walks from a trail along names, each any text; the answer is a trail of its own. The fault is
-/// that of the first step that is refused, as [`find_step`] says, or [`Fault::OutOfMemory`].
+/// that of the first step that is refused, as [`find_arrival`] says, or [`Fault::OutOfMemory`].
 pub fn resolve<T: Tree, A: Allocator + Copy, B: Allocator + Copy>(
     forest: &Forest<T>,
     table: &MountTable<A>,
@@ -402,9 +410,11 @@ pub fn resolve<T: Tree, A: Allocator + Copy, B: Allocator + Copy>(
         (map (λ n. n.now) names.now) ≡ Err fault)) }
 {
     let mut trail = start.copy()?;
+    let mut row = table.position(trail.here());
     for name in names {
-        let step = find_step(forest, table, &trail, name, who)?;
-        trail.take(step)?;
+        let arrival = find_arrival_at(forest, table, &trail, row, name, who)?;
+        trail.take(arrival.step)?;
+        row = arrival.row;
     }
     Ok(trail)
 }

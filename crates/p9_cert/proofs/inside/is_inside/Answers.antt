@@ -1,71 +1,65 @@
-use Rattle.std.proofs.Common.{◌≡◌, ◌∙◌, Some, true, false, option_and_then, subst}
-use Rattle.std.proofs.Common.{sym}
+use Rattle.std.proofs.Common.{◌≡◌, ◌∙◌, ◌+◌, ◌<◌, true, false, ap, subst, sym}
+use Rattle.std.specs.Option.{option_and_then, option_map_or}
 use Rattle.p9_base.specs.declared.node_ref.NodeRef.{NodeRef}
 use Rattle.p9_base.specs.NodeRef.{beside}
 use Rattle.p9_tree.specs.Forest.{node_of}
 use Rattle.p9_tree.specs.Inside.{is_hidden}
 use Rattle.p9_cert.specs.Rows.{is_row}
-use Rattle.p9_cert.proofs.Parents.{inside-hidden, inside-none, inside-shown, inside-up}
-use Rattle.p9_cert.proofs.Parents.{parent-smaller}
+use Rattle.p9_cert.proofs.Parents.{above-smaller, barred-hidden, barred-up, inside_under}
+use Rattle.p9_cert.proofs.Parents.{inside-under}
 use Rattle.p9_cert.proofs.inside.is_inside.Goals as goal
+
+pub loop-above-init : goal.loop-above-init
+loop-above-init g c =
+    inside-under c.args.hidden.now c.args.forest.now c.args.at c.args.parent c.requires.parent
 
 pub returns-then-is_hidden : goal.returns-then-is_hidden
 returns-then-is_hidden g c =
     let forest = c.args.forest.now in
-    let here = beside c.args.at c.loop-parent.number in
-    let parent =
-    sym (subst (λ (r : NodeRef). Some c.in-Some.parent
-    ≡ option_and_then (λ n. n.parent) (node_of r forest)) c.beside.ensures c.in-Some.ensures) in
     let test =
     subst (λ (r : NodeRef). is_hidden r c.args.hidden.now ≡ true) c.beside-dir.ensures
     (sym c.is_hidden.ensures ∙ c.if-is_hidden.true) in
-    sym (inside-hidden c.args.hidden.now forest c.well_formed-2.ensures here c.in-Some.parent parent
+    sym (barred-hidden c.args.hidden.now forest c.well_formed-2.ensures c.args.at c.in-Some.parent
     test)
-    ∙ c.loop-parent.invariant
+    ∙ sym (ap (inside_under c.args.hidden.now forest c.args.at) c.in-Some.is)
+    ∙ c.loop-above.invariant
 
 pub returns-then-is_row : goal.returns-then-is_row
 returns-then-is_row g c =
     let forest = c.args.forest.now in
-    let here = beside c.args.at c.loop-parent.number in
-    let parent =
-    sym (subst (λ (r : NodeRef). Some c.in-Some.parent
-    ≡ option_and_then (λ n. n.parent) (node_of r forest)) c.beside.ensures c.in-Some.ensures) in
     let test =
     subst (λ (r : NodeRef). is_row c.args.shown.now r ≡ true) c.beside-dir.ensures
     (sym c.is_row.ensures ∙ c.if-is_row.true) in
-    sym (inside-shown c.args.hidden.now forest c.well_formed-2.ensures here c.in-Some.parent parent
-    c.args.shown.now c.requires.shown test)
-    ∙ c.loop-parent.invariant
+    sym (c.requires.shown.each (beside c.args.at c.in-Some.parent) test)
+    ∙ sym (ap (inside_under c.args.hidden.now forest c.args.at) c.in-Some.is)
+    ∙ c.loop-above.invariant
 
-pub loop-parent-smaller : goal.loop-parent-smaller
-loop-parent-smaller g c =
+pub loop-above-smaller : goal.loop-above-smaller
+loop-above-smaller g c =
     let forest = c.args.forest.now in
-    let here = beside c.args.at c.loop-parent.number in
-    let parent =
-    sym (subst (λ (r : NodeRef). Some c.in-Some.parent
-    ≡ option_and_then (λ n. n.parent) (node_of r forest)) c.beside.ensures c.in-Some.ensures) in
-    parent-smaller c.args.hidden.now forest c.well_formed-2.ensures here c.in-Some.parent parent
+    let above =
+    subst (λ (r : NodeRef). c.parent_of-above.result
+    ≡ option_and_then (λ n. n.parent) (node_of r forest)) c.beside-dir.ensures c.parent_of-above.ensures in
+    subst (λ o. option_map_or (λ p. p + 1) c.parent_of-above.result 0 < option_map_or (λ p. p + 1) o 0)
+    (sym c.in-Some.is)
+    (above-smaller c.args.hidden.now forest c.well_formed-2.ensures c.args.at c.in-Some.parent
+    c.parent_of-above.result above)
 
-pub loop-parent-preserved : goal.loop-parent-preserved
-loop-parent-preserved g c =
+pub loop-above-preserved : goal.loop-above-preserved
+loop-above-preserved g c =
     let forest = c.args.forest.now in
-    let here = beside c.args.at c.loop-parent.number in
-    let parent =
-    sym (subst (λ (r : NodeRef). Some c.in-Some.parent
-    ≡ option_and_then (λ n. n.parent) (node_of r forest)) c.beside.ensures c.in-Some.ensures) in
+    let above =
+    subst (λ (r : NodeRef). c.parent_of-above.result
+    ≡ option_and_then (λ n. n.parent) (node_of r forest)) c.beside-dir.ensures c.parent_of-above.ensures in
     let test =
     subst (λ (r : NodeRef). is_hidden r c.args.hidden.now ≡ false) c.beside-dir.ensures
     (sym c.is_hidden.ensures ∙ c.if-is_hidden.false) in
-    inside-up c.args.hidden.now forest c.well_formed-2.ensures here c.in-Some.parent parent test
-    ∙ c.loop-parent.invariant
+    ap (inside_under c.args.hidden.now forest c.args.at) above
+    ∙ barred-up c.args.hidden.now forest c.well_formed-2.ensures c.args.at c.in-Some.parent test
+    ∙ sym (ap (inside_under c.args.hidden.now forest c.args.at) c.in-Some.is)
+    ∙ c.loop-above.invariant
 
 pub returns : goal.returns
 returns g c =
-    let forest = c.args.forest.now in
-    let here = beside c.args.at c.loop-parent.number in
-    let none =
-    sym (subst (λ (r : NodeRef). c.parent_of.result
-    ≡ option_and_then (λ n. n.parent) (node_of r forest)) c.beside.ensures c.parent_of.ensures)
-    ∙ c.in_default.is in
-    sym (inside-none c.args.hidden.now forest c.well_formed-2.ensures here none)
-    ∙ c.loop-parent.invariant
+    sym (ap (inside_under c.args.hidden.now c.args.forest.now c.args.at) c.in_default.is)
+    ∙ c.loop-above.invariant

@@ -10,6 +10,6 @@ returns-clause-fits g c =
     rw (← c.self.view_is) at fits in
     let trail = c.step_up.ensures in
     c.truncate.ensures.items
-    ∙ ap (λ n. take n c.self.inside.rows.items) (c.len.ensures.len ∙ ap length trail)
+    ∙ ap (λ n. take n c.self.inside.rows.items) (c.len.ensures ∙ ap length trail)
     ∙ rows-upward table c.self.inside.trail c.self.inside.rows.items fits'
     ∙ ap (rows_of table) (sym trail)

@@ -21,7 +21,7 @@ returns-in-Some-clause-not_empty g c =
     (c.members_of_row.ensures
     ∙ row_at-position c.args.key c.args.self.now c.in-Some.position
     (sym c.requires ∙ c.in-Some.is)) in
-    rw e (members_of-some c.args.key c.args.self.now c.len-rows.ensures.sound)
+    rw e (members_of-some c.args.key c.args.self.now c.well_formed-2.ensures)
 
 pub returns-in-None-clause-members : goal.returns-in-None-clause-members
 returns-in-None-clause-members g c =

@@ -3,7 +3,7 @@ use Rattle.std.specs.Option.{option_map}
 use Rattle.std.proofs.lemmas.Slice.Eq.{bytes_eq-Decides}
 use Rattle.p9_space.specs.Rights.{who_view}
 use Rattle.p9_space.specs.Walk.{step_of}
-use Rattle.p9_space.proofs.walk.find_arrival.Goals as goal
+use Rattle.p9_space.proofs.walk.find_arrival_at.Goals as goal
 
 pub returns-then-eq-clause-ok : goal.returns-then-eq-clause-ok
 returns-then-eq-clause-ok g c =
