@@ -32,13 +32,13 @@ use Rattle.p9_fids.specs.Fid.{Fid, fid_at}
 use Rattle.p9_step.specs.declared.opening.Opening.{Opening}
 use Rattle.p9_step.specs.State.{Setting, Session, room_of, who_of}
 use Rattle.p9_step.specs.Answer.{Answer}
-use Rattle.p9_step.specs.Create.{create_answer, create_reply, created, creation, entered, permitting}
+use Rattle.p9_step.specs.Create.{create_answer, created, creation, entered, permitting}
 use Rattle.p9_step.specs.ForestChange.{AddNode, EditNode, Mark, applied, edited}
 use Rattle.p9_step.specs.Memory.{is_done}
 use Rattle.p9_step.specs.Opening.{is_plain_read, opening_of}
 use Rattle.p9_step.specs.Qid.{qid_of}
 use Rattle.p9_export.specs.declared.create.Asked.{Asked}
-use Rattle.p9_export.specs.Answers.{Answers, IsRefusal, replied}
+use Rattle.p9_export.specs.Answers.{Answers, IsRefusal, create_reply, replied}
 use Rattle.p9_export.specs.Create.{asked_of, create_steps, created_in, place_in, plan_answer}
 use Rattle.p9_export.specs.Create.{target_among}
 

@@ -3,7 +3,6 @@ use Rattle.std.proofs.Common.{◌≡◌, ℕ, ◌≤◌, Bool, true, false, List
 use Rattle.std.proofs.Common.{length, take, Some, Result, Ok, Err, refl, sym, ap, ◌∙◌}
 use Rattle.std.proofs.Common.{inl}
 use Rattle.std.specs.Prelude.{◌++◌, min, if◌then◌else◌}
-use Rattle.std.specs.Option.{option_map_or}
 use Rattle.std.proofs.lemmas.List.{take-append-le}
 use Rattle.p9_base.specs.declared.fault.Fault.{Fault}
 use Rattle.p9_base.specs.declared.fault.Fault.TheVariants.{FidNotOpen}
@@ -11,7 +10,7 @@ use Rattle.p9_base.specs.declared.fault.Fault.TheVariants.{PhaseError}
 use Rattle.p9_base.specs.declared.fault.Fault.TheVariants.{UnknownFid}
 use Rattle.p9_base.specs.Results.{obtain, need}
 use Rattle.p9_tree.specs.Bytes.{read_from}
-use Rattle.p9_tree.specs.Forest.{bytes_of, forest_changed_at}
+use Rattle.p9_tree.specs.Forest.{forest_changed_at}
 use Rattle.p9_tree.specs.Node.{Node, is_dir, touched}
 use Rattle.p9_tree.specs.Server.{Server}
 use Rattle.p9_wire.specs.Message.{Rread}
@@ -89,14 +88,12 @@ module _ (setting : Setting) (forest : List Server) (session : Session) (now fid
   -- a file
   pub reads_file : (room size : ℕ) (buffer : List ℕ) (forest' : List Server) → is_dir n ≡ false
       → room ≡ min count (room_of session)
-      → take size buffer ≡ read_from offset room (bytes_of (fid_ref setting.table v) forest)
+      → take size buffer ≡ read_from offset room n.bytes
       → forest' ≡ forest_changed_at (fid_ref setting.table v) (touched now) forest
       → Answers (read_answer setting forest session now fid offset count) false forest forest'
       session session (Ok (Rread (take size buffer)))
   unfolding applied edited
   reads_file room size buffer forest' plain room_is bytes changed =
-      let bytes_are : bytes_of (fid_ref setting.table v) forest ≡ n.bytes =
-      ap (λ w. option_map_or (λ m. m.bytes) w []) r.alive in
       let is : read_answer setting forest session now fid offset count ≡ Ok (record {
         changes = EditNode (fid_ref setting.table v) (Touch now) ∷ [];
         session = session;
@@ -108,5 +105,5 @@ module _ (setting : Setting) (forest : List Server) (session : Session) (now fid
         changes = EditNode (fid_ref setting.table v) (Touch now) ∷ [];
         session = session;
         reply = Rread bs;
-      })) (sym (bytes ∙ ap (read_from offset room) bytes_are)) in
+      })) (sym bytes) in
       rw is (refl, changed)

@@ -5,11 +5,13 @@ use Rattle.std.specs.Option.{option_map_or}
 use Rattle.p9_base.specs.declared.fault.Fault.{Fault}
 use Rattle.p9_base.specs.declared.fault.Fault.TheVariants.{OutOfMemory, PhaseError}
 use Rattle.p9_base.specs.declared.node_ref.NodeRef.{NodeRef}
+use Rattle.p9_base.specs.declared.qid.Qid.{Qid}
 use Rattle.p9_base.specs.Fault.{text_of}
 use Rattle.p9_tree.specs.Server.{Server}
 use Rattle.p9_tree.specs.Forest.{node_of}
 use Rattle.p9_wire.specs.Frame.{msize_max}
-use Rattle.p9_wire.specs.Message.{RMessage, Rerror, Rread, Rstat, TMessage, r_view, t_view}
+use Rattle.p9_wire.specs.Message.{RMessage, Rcreate, Rerror, Ropen, Rread, Rstat, TMessage}
+use Rattle.p9_wire.specs.Message.{r_view, t_view}
 use Rattle.p9_wire.specs.Spelling.{RFits, r_len, read_header}
 use Rattle.p9_wire.specs.declared.message.TMsg.{TMsg}
 use Rattle.p9_export.specs.declared.reply.Reply.{Reply}
@@ -60,6 +62,14 @@ AnswersAmong name answer may_fail forest forest' old new (Err fault) =
 abbrev pub replied : {X : Type 0} → (X → RMessage) → Result X Fault → Result RMessage Fault
 replied f (Ok x) = Ok (f x)
 replied f (Err fault) = Err fault
+
+-- what is told of a file that was opened: its qid, and the iounit
+abbrev pub open_reply : Qid × ℕ → RMessage
+open_reply r = Ropen r.0 r.1
+
+-- the same of a file that was made
+abbrev pub create_reply : Qid × ℕ → RMessage
+create_reply r = Rcreate r.0 r.1
 
 -- the stat of a node that exists
 abbrev pub stat_reply : List Server → NodeRef → RMessage

@@ -27,7 +27,7 @@ use p9_tree::{Forest, Tree};
 /// ([`p9_fids::FidTable::put_fault`]); an afid is given, [`Fault::NoAuthentication`]; the user
 /// isn't listed, [`Fault::UnknownUser`]; the attach name is neither empty nor begins with a slash,
 /// [`Fault::UnknownAttachName`]; the root place has no file, [`Fault::PhaseError`]; a step of the
-/// user's walk along the cleaned name is refused ([`p9_space::find_step`]); the file there is no
+/// user's walk along the cleaned name is refused ([`p9_space::find_arrival`]); the file there is no
 /// directory, [`Fault::NotDirectory`]. In the place of any answer an allocation may fail,
 /// [`Fault::OutOfMemory`].
 pub fn attach<T: Tree>(
@@ -110,7 +110,9 @@ fn attach_at<T: Tree>(
         true forest.now forest.now session.old.session session.new.session
         (replied Rattach result) }
 {
-    let at = setting.table.file(place);
+    let trail = Trail::at(setting.alloc, place)?;
+    let channels = Channels::of(&setting.table, trail)?;
+    let at = channels.file(&setting.table);
     let Some(file) = forest.node(at) else {
         return Err(Fault::PhaseError);
     };
@@ -119,8 +121,6 @@ fn attach_at<T: Tree>(
     }
     forest.well_formed();
     let qid = qid_of(at, file);
-    let trail = Trail::at(setting.alloc, place)?;
-    let channels = Channels::of(&setting.table, trail)?;
     session.fids.add(
         fid,
         Fid {

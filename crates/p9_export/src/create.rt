@@ -13,10 +13,10 @@ ghost use Rattle.p9_space.specs.Table.{MountRow};
 ghost use Rattle.p9_fids.specs.Fid.{fid_at};
 ghost use Rattle.p9_fids.specs.Held.{HeldFits};
 ghost use Rattle.p9_export.specs.Held.{SessionFits};
-ghost use Rattle.p9_export.specs.Answers.{Answers, IsRefusal, replied};
+ghost use Rattle.p9_export.specs.Answers.{Answers, IsRefusal, create_reply, replied};
 ghost use Rattle.p9_export.specs.Create.{asked_of, create_steps, created_in, place_in, plan_answer};
 ghost use Rattle.p9_export.specs.Create.{target_among};
-ghost use Rattle.p9_step.specs.Create.{create_answer, create_reply, created, entered, permitting};
+ghost use Rattle.p9_step.specs.Create.{create_answer, created, entered, permitting};
 ghost use Rattle.p9_step.specs.Qid.{qid_of};
 ghost use Rattle.p9_step.specs.Memory.{is_done};
 ghost use Rattle.p9_step.specs.State.{Session as SessionOf};
@@ -75,7 +75,7 @@ struct Plan<A: Allocator + Copy> {
 /// [`Fault::CreationForbidden`]; the first that does doesn't exist, [`Fault::PhaseError`], or is no
 /// directory, [`Fault::NotDirectory`]; the user may not write it, [`Fault::PermissionDenied`]; it
 /// has that name, [`Fault::FileExists`]; the server's numbers are used up, [`Fault::QidsUsedUp`];
-/// the fid's trail has [`PLACES_MAX`] places, [`Fault::PathTooDeep`]. Else memory may be refused,
+/// the fid's trail has [`PLACES_MAX`] places, [`Fault::PathTooDeep`]. Else an allocation may fail,
 /// [`Fault::OutOfMemory`].
 pub fn create<T: Tree>(
     setting: &Setting<T::Alloc>,

@@ -141,7 +141,9 @@ impl<T: Tree> Export<T> {
         }
     }
 
-    /// Closes a session, and ends its fids.
+    /// Closes a session: its fids end, by rising number, as clunk(5). A file that one holds open
+    /// with remove-on-close is removed, and its directory is marked at `now`, which is in seconds
+    /// since 1970, modulo 2^32. This takes no memory.
     pub fn close(&mut self, name: u32, now: u32)
         requires { IsSome (session_at name self.old.sessions) }
         ensures { self.new ≡ (step self.old (Close name now) false).state }
@@ -155,7 +157,8 @@ impl<T: Tree> Export<T> {
     /// Answers one frame of an open session: writes the reply at the front of the buffer, and
     /// returns its length, which is no more than the session's msize, and before a version than 43.
     /// What the buffer holds behind the reply is undefined, and is not to be handed on. The buffer
-    /// has as many bytes as [`Export::reply_max`] says.
+    /// has at least as many bytes as [`Export::reply_max`] says. `now` is in seconds since 1970,
+    /// modulo 2^32.
     ///
     /// Every frame gets exactly one reply. Where that is [`p9_base::Fault::OutOfMemory`], an
     /// allocation failed, and the exporter is unchanged.

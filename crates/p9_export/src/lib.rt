@@ -30,5 +30,4 @@ mod wstat;
 pub use event::Event;
 pub use export::{Export, OpenError};
 pub use p9_wire::is_frame;
-pub use session::Session;
 pub use version::MSIZE_MIN;

@@ -7,12 +7,12 @@ ghost use Rattle.std.specs.Option.{option_map_or};
 ghost use Rattle.p9_fids.specs.Fid.{open_count};
 ghost use Rattle.p9_tree.specs.Forest.{node_of};
 ghost use Rattle.p9_export.specs.Held.{SessionFits, SessionsFit, sessions_in};
-ghost use Rattle.p9_export.specs.Answers.{Answers, replied};
+ghost use Rattle.p9_export.specs.Answers.{Answers, open_reply, replied};
 ghost use Rattle.p9_space.specs.Rights.{who_view};
 ghost use Rattle.p9_step.specs.ForestChange.{Cut, EditNode, Mark, all_applied, edited};
 ghost use Rattle.p9_export.specs.Taken.{is_fid_taken};
 ghost use Rattle.p9_step.specs.Open.{is_append_only, is_cut, is_exclusive, is_in_use};
-ghost use Rattle.p9_step.specs.Open.{may_open, open_answer, open_reply};
+ghost use Rattle.p9_step.specs.Open.{may_open, open_answer};
 ghost use Rattle.p9_step.specs.Qid.{qid_of};
 ghost use Rattle.p9_step.specs.State.{SessionRow};
 

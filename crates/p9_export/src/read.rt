@@ -3,9 +3,6 @@
 ghost use Rattle.std.specs.Prelude.{◌≡◌, ◌==◌, ◌||◌, ◌≤◌, ◌<◌, ◌^◌, Err, false, IfErr, IfOk, length};
 ghost use Rattle.std.specs.Prelude.{take, ℕ};
 ghost use Rattle.p9_fids.specs.Held.{HeldFits};
-ghost use Rattle.p9_tree.specs.Bytes.{read_from};
-ghost use Rattle.p9_tree.specs.Forest.{bytes_of, forest_changed_at};
-ghost use Rattle.p9_tree.specs.Node.{touched};
 ghost use Rattle.p9_export.specs.Held.{SessionFits};
 ghost use Rattle.p9_export.specs.Answers.{Answers, data_reply, replied};
 ghost use Rattle.p9_export.specs.Listing.{list_answer};
@@ -15,7 +12,7 @@ ghost use Rattle.p9_step.specs.Read.{cursor_at, read_answer, read_dir, readable}
 use crate::listing::list;
 use crate::session::Session;
 use crate::setting::Setting;
-use p9_base::{Fault, NodeRef};
+use p9_base::Fault;
 use p9_fids::{Cursor, Fid, Opened};
 use p9_tree::{Forest, Tree};
 
@@ -88,7 +85,9 @@ pub fn read<T: Tree>(
         session.fids.set_opened(wanted.fid, listed.opened);
         Ok(listed.size)
     } else {
-        Ok(read_file(forest, now, at, wanted.offset, &mut buffer[..room]))
+        let size = file.read_into(wanted.offset, &mut buffer[..room]);
+        forest.touch(at, now);
+        Ok(size as u32)
     }
 }
 
@@ -100,24 +99,6 @@ fn readable(opened: Option<Opened>) -> Option<Opened>
         Some(opened) if opened.mode.reads() => Some(opened),
         _ => None,
     }
-}
-
-fn read_file<T: Tree>(
-    forest: &mut Forest<T>,
-    now: u32,
-    at: NodeRef,
-    offset: u64,
-    buffer: &mut [u8],
-) -> u32
-    requires { length buffer.old < 2 ^ 32 }
-    ensures size { result ≤ length buffer.old }
-    ensures bytes { take result buffer.new
-        ≡ read_from offset (length buffer.old) (bytes_of at forest.old) }
-    ensures forest { forest.new ≡ forest_changed_at at (touched now) forest.old }
-{
-    let size = forest.read_into(at, offset, buffer);
-    forest.touch(at, now);
-    size as u32
 }
 
 // Lists the directory of a fid that is open as said, into the whole buffer.

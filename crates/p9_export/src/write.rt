@@ -25,7 +25,7 @@ use std::alloc::Allocator;
 /// The first that applies refuses, and nothing changes: there is no such fid,
 /// [`Fault::UnknownFid`]; it isn't open for writing, [`Fault::FidNotOpen`]; its file doesn't exist,
 /// [`Fault::PhaseError`]; the file would have more than [`FILE_MAX`] bytes,
-/// [`Fault::FileTooLarge`]. Else memory may be refused, [`Fault::OutOfMemory`].
+/// [`Fault::FileTooLarge`]. Else an allocation may fail, [`Fault::OutOfMemory`].
 pub fn write<T: Tree>(
     setting: &Setting<T::Alloc>,
     forest: &mut Forest<T>,

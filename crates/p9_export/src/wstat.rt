@@ -50,7 +50,7 @@ struct Touched<'a> {
 /// directory, [`Fault::IsDirectory`], or the user may not write the file,
 /// [`Fault::PermissionDenied`], or it is more than [`FILE_MAX`], [`Fault::FileTooLarge`]; the
 /// mode or the mtime is touched and the user doesn't rule the file, or the user may not give it
-/// to the group, [`Fault::PermissionDenied`]. Else memory may be refused, [`Fault::OutOfMemory`].
+/// to the group, [`Fault::PermissionDenied`]. Else an allocation may fail, [`Fault::OutOfMemory`].
 pub fn wstat<T: Tree>(
     setting: &Setting<T::Alloc>,
     forest: &mut Forest<T>,

@@ -9,7 +9,6 @@ use Rattle.p9_base.specs.declared.fault.Fault.TheVariants.{PermissionDenied, Pha
 use Rattle.p9_base.specs.declared.fault.Fault.TheVariants.{UnknownFid}
 use Rattle.p9_base.specs.declared.mode.Mode.{Mode}
 use Rattle.p9_base.specs.declared.node_ref.NodeRef.{NodeRef}
-use Rattle.p9_base.specs.declared.qid.Qid.{Qid}
 use Rattle.p9_base.specs.Mode.{is_dir as is_dir_mode, mode_of}
 use Rattle.p9_base.specs.Name.{is_name}
 use Rattle.p9_base.specs.Results.{obtain, need}
@@ -22,7 +21,7 @@ use Rattle.p9_space.specs.Rights.{may, to_write}
 use Rattle.p9_space.specs.Table.{members_of}
 use Rattle.p9_space.specs.Trail.{here, places_max}
 use Rattle.p9_space.specs.Walk.{is_alive, is_alive_dir}
-use Rattle.p9_wire.specs.Message.{RMessage, Rcreate}
+use Rattle.p9_wire.specs.Message.{Rcreate}
 use Rattle.p9_fids.specs.Fid.{Fid, changed_fid, fid_at}
 use Rattle.p9_step.specs.declared.opening.Opening.{Opening}
 use Rattle.p9_step.specs.State.{Setting, Session, room_of, who_of}
@@ -95,7 +94,3 @@ create_answer setting forest session now fid name perm bits =
     need (nat_lt (next_of target.server forest) next_max) QidsUsedUp (
     need (nat_lt (length v.trail) places_max) PathTooDeep (
     creation forest session now fid v target dir name asked opening)))))))))))))))
-
--- what is told of a file that was made
-abbrev pub create_reply : Qid × ℕ → RMessage
-create_reply r = Rcreate r.0 r.1

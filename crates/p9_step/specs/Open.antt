@@ -9,13 +9,12 @@ use Rattle.p9_base.specs.declared.fault.Fault.TheVariants.{PhaseError, UnknownFi
 use Rattle.p9_base.specs.declared.mode.Kind.{Kind}
 use Rattle.p9_base.specs.declared.mode.Kind.TheVariants.{Directory, File}
 use Rattle.p9_base.specs.declared.node_ref.NodeRef.{NodeRef}
-use Rattle.p9_base.specs.declared.qid.Qid.{Qid}
 use Rattle.p9_base.specs.Results.{obtain, need}
 use Rattle.p9_tree.specs.Node.{Node, is_dir}
 use Rattle.p9_tree.specs.Server.{Server}
 use Rattle.p9_space.specs.Rights.{Who, may}
 use Rattle.p9_space.specs.Table.{MountRow}
-use Rattle.p9_wire.specs.Message.{RMessage, Ropen}
+use Rattle.p9_wire.specs.Message.{Ropen}
 use Rattle.p9_fids.specs.Fid.{changed_fid, fid_at, open_count, opened_as}
 use Rattle.p9_step.specs.declared.opening.Opening.{Opening}
 use Rattle.p9_step.specs.State.{Setting, Session, SessionRow, fid_file, fid_ref, room_of, who_of}
@@ -95,7 +94,3 @@ open_answer setting forest sessions session now fid bits =
       session = opened_session fid opening session;
       reply = Ropen (qid_of at (truncated v.user now n opening)) (room_of session);
     }))))))))
-
--- what is told of a file that was opened
-abbrev pub open_reply : Qid × ℕ → RMessage
-open_reply r = Ropen r.0 r.1

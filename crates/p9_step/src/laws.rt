@@ -3,8 +3,8 @@
 ghost use Rattle.p9_step.specs.Laws.{EveryFrameIsAnswered, RunGoesOn, RunKeepsState};
 ghost use Rattle.p9_step.specs.Laws.{StepKeepsState};
 
-/// A step of a state that the exporter can come to leads to such a state, whether or not memory was
-/// refused.
+/// A step of a state that the exporter can come to leads to such a state, whether or not an
+/// allocation failed.
 pub fn a_step_keeps_the_state()
     ensures { StepKeepsState }
 {}

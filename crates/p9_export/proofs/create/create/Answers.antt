@@ -1,7 +1,7 @@
 use Rattle.std.proofs.Common.{refl, sym, ◌∙◌}
 use Rattle.std.proofs.lemmas.Result.{err_from_is_err_and}
 use Rattle.p9_space.specs.Channel.{trail_of}
-use Rattle.p9_step.specs.Create.{create_reply}
+use Rattle.p9_export.specs.Answers.{create_reply}
 use Rattle.p9_export.proofs.Creates.{plan-did, refused, steps-are}
 use Rattle.p9_export.proofs.Writes.{memory_refused}
 use Rattle.p9_export.proofs.create.create.Goals as goal

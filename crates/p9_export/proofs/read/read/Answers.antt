@@ -1,16 +1,22 @@
-use Rattle.std.proofs.Common.{◌≡◌, ◌≤◌, ◌++◌, arith, length, take, drop, min, sym, ap}
-use Rattle.std.proofs.Common.{refl, ◌∙◌}
-use Rattle.std.proofs.lemmas.List.{length-take-le, take-append-le}
+use Rattle.std.proofs.Common.{◌≡◌, ◌≤◌, ◌++◌, List, ℕ, arith, length, take, drop, min, sym, ap}
+use Rattle.std.proofs.Common.{append_assoc, refl, ◌∙◌}
+use Rattle.std.proofs.lemmas.List.{length-take-le, take_at}
 use Rattle.std.proofs.lemmas.Result.{err_from_is_err_and}
 use Rattle.p9_base.specs.declared.node_ref.NodeRef.{NodeRef}
-use Rattle.p9_tree.specs.Bytes.{read_from}
-use Rattle.p9_tree.specs.Forest.{bytes_of, forest_changed_at, node_of}
+use Rattle.p9_tree.specs.Bytes.{put_front, read_from}
+use Rattle.p9_tree.specs.Forest.{forest_changed_at, node_of}
 use Rattle.p9_tree.specs.Node.{touched}
 use Rattle.p9_fids.specs.Fid.{changed_fid, fid_at, opened_as}
 use Rattle.p9_step.specs.State.{room_of}
 use Rattle.p9_step.specs.Read.{readable}
 use Rattle.p9_export.proofs.DirectoryReads.{IsReadable, dir_read, dir_refused, reads_file}
 use Rattle.p9_export.proofs.read.read.Goals as goal
+
+-- what was put at the front of a buffer, before what stands behind it
+front-read : (given sub rest : List ℕ) (size : ℕ) (buffer : List ℕ) → size ≡ length given
+    → buffer ≡ put_front given sub → take size (buffer ++ rest) ≡ given
+front-read given sub rest size buffer is filled =
+    rw (filled, append_assoc) (take_at given (drop (length given) sub ++ rest) size (sym is))
 
 pub returns-in_err-listed-clause-answer : goal.returns-in_err-listed-clause-answer
 returns-in_err-listed-clause-answer g c =
@@ -91,18 +97,15 @@ returns-else-is_dir-clause-answer g c =
     let fits : c.min-room.result ≤ length c.args.buffer.now = omega (arith, room_is, enough) in
     let long : length (take c.min-room.result c.args.buffer.now) ≡ c.min-room.result =
     length-take-le c.min-room.result c.args.buffer.now fits in
-    let size = c.read_file.ensures.size in
-    let kept = c.read_file.auto.buffer in
-    let within : c.read_file.result ≤ length c.read_file.new.buffer = omega (arith, size, kept) in
+    let given = read_from c.args.wanted.offset (length (take c.min-room.result c.args.buffer.now))
+    c.in-Some-node.file.now.bytes in
     reads_file c.args.setting.now forest c.args.session.now.session c.args.now c.args.wanted.fid c.args.wanted.offset
     c.args.wanted.count c.in-Some.held.now.fid c.in-Some-readable.opened c.in-Some-node.file.now r
-    (length (take c.min-room.result c.args.buffer.now)) c.read_file.result
-    (c.read_file.new.buffer ++ drop c.min-room.result c.args.buffer.now)
-    c.read_file.new.forest
+    (length (take c.min-room.result c.args.buffer.now)) c.read_into-size.result
+    (c.read_into-size.new.buffer ++ drop c.min-room.result c.args.buffer.now)
+    c.touch.new.self
     (sym c.is_dir.ensures ∙ c.if-is_dir.false) (long ∙ room_is)
-    (take-append-le c.read_file.result c.read_file.new.buffer
-    (drop c.min-room.result c.args.buffer.now) within ∙ c.read_file.ensures.bytes
-    ∙ ap (λ (at : NodeRef). read_from c.args.wanted.offset
-    (length (take c.min-room.result c.args.buffer.now)) (bytes_of at forest)) c.file-at.ensures)
-    (c.read_file.ensures.forest
+    (front-read given (take c.min-room.result c.args.buffer.now) _ _ _
+    c.read_into-size.ensures.count c.read_into-size.ensures.filled)
+    (c.touch.ensures
     ∙ ap (λ (at : NodeRef). forest_changed_at at (touched c.args.now) forest) c.file-at.ensures)
