@@ -105,6 +105,9 @@ pub enum Fault {
     PathTooDeep,
 }
 
+/// The most bytes of a fault's text.
+pub const FAULT_TEXT_MAX: usize = 34;
+
 impl Fault {
     /// The fault's number, from 1 to 30 in the order above.
     pub fn number(self) -> u8
@@ -113,7 +116,7 @@ impl Fault {
         self as u8 + 1
     }
 
-    /// The text that a reply carries, at most 34 bytes.
+    /// The text that a reply carries, at most [`FAULT_TEXT_MAX`] bytes.
     #[tactic(auto, using(crate::proofs::Faults::fault_text_is_text))]
     pub fn text(self) -> &'static str
         ensures value { result.now ≡ text_of self }

@@ -24,7 +24,7 @@ mod text;
 mod user;
 
 pub use decimal::number;
-pub use fault::Fault;
+pub use fault::{FAULT_TEXT_MAX, Fault};
 pub use fid::NOFID;
 pub use group::{Group, Groups};
 pub use line::{is_skipped, lines, words};

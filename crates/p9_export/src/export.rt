@@ -83,7 +83,7 @@ impl<T: Tree> Export<T> {
         forest.well_formed();
         each_is_a_user(users.as_slice());
         groups.well_formed();
-        let _rows = table.len();
+        table.well_formed();
         let alloc = *users.allocator();
         Export {
             setting: Setting {

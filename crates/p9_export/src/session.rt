@@ -5,13 +5,14 @@ ghost use Rattle.p9_step.specs.Laws.{reply_max};
 ghost use Rattle.p9_step.specs.State.{room_of};
 ghost use Rattle.p9_export.specs.Held.{fresh_held};
 
+use p9_base::FAULT_TEXT_MAX;
 use p9_fids::FidTable;
 use p9_wire::{HEADER, IOHDRSZ};
 use std::alloc::Allocator;
 use std::marker::Model;
 
 // The most bytes of a refusal: its header, the length of its text, and the longest text of a fault.
-const REFUSAL_MAX: usize = HEADER + 2 + 34;
+const REFUSAL_MAX: usize = HEADER + 2 + FAULT_TEXT_MAX;
 
 /// A session, as version(5). It is seen as that, with the rows of the fids' places beside it.
 #[derive(Drop)]
