@@ -12,7 +12,7 @@ invariant_of-result g c = record {
       users = subst (λ users. list_all is_user users ≡ true) c.as_slice.ensures.value
           c.each_is_a_user.ensures;
       groups = c.well_formed-3.ensures;
-      table = c.len-rows.ensures.sound;
+      table = c.well_formed-4.ensures;
     };
     given = c.requires;
     rising = rw c.new.ensures.empty tt;
