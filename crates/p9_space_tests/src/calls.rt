@@ -7,7 +7,7 @@ use p9_base::{Fault, Groups, NoMemory, User};
 use p9_index::IndexTree;
 use p9_space::{
     Channels, MountTable, ROOT_PLACE, TO_EXECUTE, TO_READ, TO_WRITE, Trail, Who, advance,
-    find_step, is_table_given, may, resolve, rules,
+    find_arrival, is_table_given, may, resolve, rules,
 };
 use p9_tree::{Forest, PlainTree, Tree};
 use std::alloc::{AllocError, Allocator, Global};
@@ -70,14 +70,14 @@ fn who<'a, A: Allocator + Copy>(
 // Looks where one step leads.
 fn find<T: Tree>(alloc: Global, space: &Space<T>, line: &mut &str) -> Result<String, NoMemory> {
     let user = take_user(line);
-    let found = find_step(
+    let found = find_arrival(
         &space.forest,
         &space.table,
         &space.trail,
         line,
         who(&user, &space.groups),
     );
-    Ok(step(alloc, found)?)
+    Ok(step(alloc, found.map(|arrival| arrival.step))?)
 }
 
 // Walks on along names, by the trail and by channels, and goes there.
