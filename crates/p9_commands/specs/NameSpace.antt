@@ -13,7 +13,7 @@ use Rattle.p9_nsfile.specs.Run.{run_of}
 use Rattle.p9_nsfile.specs.Environment.{Environment}
 use Rattle.p9_nsfile.specs.Space.{Report}
 use Rattle.p9_step.specs.State.{State}
-use Rattle.p9_guard.specs.Guard.{served}
+use Rattle.p9_guard.specs.Guard.{Guarded, new_guard, served}
 use Rattle.p9_commands.specs.Refusal.{or_refused}
 use Rattle.p9_commands.specs.Small.{small_world}
 use Rattle.p9_commands.specs.declared.refusal.Refusal.{Refusal}
@@ -59,3 +59,7 @@ gap_over space rows = first_gap (policy_of space.world) space.world.forest space
 -- the exporter of the name space to the world's users, without sessions
 abbrev pub exported : NameSpace → State
 exported space = served space.world space.table
+
+-- the guard over the name space by a certificate of these rows, without sessions
+abbrev pub guard_over : NameSpace → List NodeRef → Guarded
+guard_over space rows = new_guard space.world space.table rows

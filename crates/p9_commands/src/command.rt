@@ -21,27 +21,41 @@ use p9_index::IndexTree;
 use p9_tree::Tree;
 use std::alloc::Allocator;
 
-/// Runs a command of the program over its input, and returns the exit status. What is printed goes
-/// behind what is in `out`, and what is told of faults, in lines, behind what is in `err`.
+/// Runs a command of the program over its input, and returns the exit status. What it prints is
+/// appended to `out`, and what it reports is appended to `err`, each report as a line.
 ///
-/// The input is a bundle. Its world, or the sample world without one, is what the lines of its
-/// namespace section are run over. An operation that fails is told as `ns:L: TEXT`, and does
-/// nothing more. Then
+/// The first of these conditions that holds is reported. The command then ends with the status
+/// beside it, and `out` is unchanged. `L` is the number of a line, from 1: of the input in a report
+/// of `bundle`, and else of its section.
+///
+/// 1. The word is no command: `p9: bad command line`, status 2.
+/// 2. The input is not UTF-8: `input: not UTF-8`, status 1.
+/// 3. The input is no bundle, and this is its first bad line: `bundle:L: bad section`, status 1.
+/// 4. The world section has a bad line, or its world is bad as a whole, with 0 for `L`:
+///    `world:L: TEXT`, status 1. Without that section the world is the sample world.
+/// 5. The namespace section has a line of bad form: `ns:L: TEXT`, status 1.
+/// 6. The certificate section has a bad line: `cert:L: bad line`, status 1.
+/// 7. The command is `verify`, and there is no certificate section: `cert: missing`, status 1.
+/// 8. The script section has a bad line: `script:L: bad line`, status 1.
+/// 9. The command is `play`, and the certificate has a gap: `cert: GAP`, status 1.
+///
+/// Where none of the first five holds, the lines of the namespace section are run over the world.
+/// An operation that fails changes nothing, and is reported as `ns:L: TEXT`, before any report of
+/// the others.
+///
+/// Where no condition holds, the command does its work:
 ///
 /// - `play` plays the script over the name space, on a [`Guard`](p9_guard::Guard) where the input
 ///   has a certificate. For each frame it prints a line, the reply in lower case hexadecimal
-///   digits, and `skip` for an event that doesn't fit. It ends with status 0.
-/// - `check` prints `yes` and a certificate, and ends with status 0, or `no` and the lines of a
-///   breach, and ends with status 1, as [`judge`](p9_judge::judge) says.
-/// - `verify` prints `ok` and ends with status 0, or the first gap of the input's certificate and
-///   ends with status 1, as [`verify`](p9_cert::verify) says.
-/// - `ns` prints the mount table, a bind for each member of each row, and ends with status 0.
+///   digits, and `skip` for an event that doesn't fit. The status is 0.
+/// - `check` prints `yes` and a certificate, with status 0, or `no` and the lines of a breach, with
+///   status 1, as [`judge`](p9_judge::judge) says.
+/// - `verify` prints `ok`, with status 0, or the first gap of the certificate, with status 1, as
+///   [`verify`](p9_cert::verify) says.
+/// - `ns` prints the mount table, a bind for each member of each row. The status is 0.
 ///
-/// An input ends with status 1 that is not UTF-8 or no bundle, and so does the first bad line of
-/// its world, its namespace file, its certificate and its script, in this order. With the
-/// certificate's turn comes that `verify` finds none, and last that `play` finds a gap in it. Any
-/// other command ends with status 2. Each of these is told on `err`, and nothing is printed on
-/// `out`. Where an allocation fails, a part of the output may be printed.
+/// Where an allocation fails, it returns [`NoMemory`], and a part of what is to be printed and
+/// reported may be appended.
 pub fn run_command<A: Allocator + Copy>(
     word: &str,
     input: &[u8],
@@ -72,7 +86,7 @@ pub fn run_command_over<T: Tree>(
       err = err.new.items;
     })) }
 {
-    match run::<T>(word, input, out, err) {
+    match run_word::<T>(word, input, out, err) {
         Ok(status) => Ok(status),
         Err(Stop::Refused(refusal)) => {
             tell(refusal, err)?;
@@ -82,8 +96,8 @@ pub fn run_command_over<T: Tree>(
     }
 }
 
-// Does what a command is asked, up to the reason that stops it.
-fn run<T: Tree>(
+// Does what a word asks for, up to the reason that stops it.
+fn run_word<T: Tree>(
     word: &str,
     input: &[u8],
     out: &mut Vec<u8, T::Alloc>,
@@ -97,7 +111,7 @@ fn run<T: Tree>(
     }) result }
 {
     match command_of(word) {
-        Some(command) => run_in::<T>(command, input, out, err),
+        Some(command) => run_input::<T>(command, input, out, err),
         None => Err(Stop::Refused(Refusal::BadCommandLine)),
     }
 }
@@ -116,7 +130,7 @@ fn command_of(word: &str) -> Option<Command>
 }
 
 // The same for a command, of an input.
-fn run_in<T: Tree>(
+fn run_input<T: Tree>(
     command: Command,
     input: &[u8],
     out: &mut Vec<u8, T::Alloc>,
@@ -133,11 +147,11 @@ fn run_in<T: Tree>(
         return Err(Stop::Refused(Refusal::NotUtf8));
     };
     let bundle = sections(*out.allocator(), text)?;
-    run_over::<T>(command, &bundle, out, err)
+    run_bundle::<T>(command, &bundle, out, err)
 }
 
 // The same for a command, of the sections of an input.
-fn run_over<T: Tree>(
+fn run_bundle<T: Tree>(
     command: Command,
     bundle: &Bundle<T::Alloc>,
     out: &mut Vec<u8, T::Alloc>,
@@ -151,12 +165,12 @@ fn run_over<T: Tree>(
     }) result }
 {
     let space: NameSpace<T> = name_space(*out.allocator(), bundle)?;
-    run_on(command, space, bundle, out, err)
+    run_space(command, space, bundle, out, err)
 }
 
 // The same for a command, of a name space and the other sections: what failed in the making of the
-// name space is told first.
-fn run_on<T: Tree>(
+// name space is reported first.
+fn run_space<T: Tree>(
     command: Command,
     space: NameSpace<T>,
     bundle: &Bundle<T::Alloc>,

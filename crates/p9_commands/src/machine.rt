@@ -21,15 +21,16 @@ pub(crate) trait Machine {
     fn live(&self, name: u32) -> bool
         ensures { IsTrue result ↔ IsSome (session_at name (state self.now).sessions) };
 
-    /// Opens a session. An error leaves the machine unchanged.
+    /// Opens a session. Where it returns an error, the machine is unchanged.
     fn open(&mut self, name: u32) -> Result<(), OpenError>
         ensures ok { OnOk result ((session_at name (state self.old).sessions ≡ None)
             × (state self.new ≡ (step (state self.old) (Open name) false).state)) }
         ensures live { (result ≡ Err Live) ↔ IsSome (session_at name (state self.old).sessions) }
         ensures unchanged { OnErr result (state self.new ≡ state self.old) };
 
-    /// Answers one frame of a session: writes the reply at the front of the buffer, and returns its
-    /// length. It is `None` where no session of this name is open; nothing changes then.
+    /// Answers one frame of a session at this reading of the clock: writes the reply at the front of
+    /// the buffer, and returns its length. It is `None` where no session of this name is open;
+    /// nothing changes then.
     fn answer(&mut self, name: u32, frame: &[u8], now: u32, reply: &mut [u8]) -> Option<usize>
         requires whole { IsTrue (is_frame frame.now) }
         requires room { msize_max ≤ length reply.old }
@@ -43,7 +44,7 @@ pub(crate) trait Machine {
             ≡ (step (state self.old) (Message name frame.now now) (is_no_memory_reply frame.now
             (take size reply.new))).reply) };
 
-    /// Closes a session, and ends its fids.
+    /// Closes a session at this reading of the clock, and ends its fids.
     fn close(&mut self, name: u32, now: u32)
         requires { IsSome (session_at name (state self.old).sessions) }
         ensures { state self.new ≡ (step (state self.old) (Close name now) false).state };

@@ -6,12 +6,11 @@ ghost use Rattle.std.specs.Option.{option_copied};
 ghost use Rattle.p9_nsfile.specs.Given.{KeepsGiven};
 ghost use Rattle.p9_nsfile.specs.Line.{IsNsFault};
 ghost use Rattle.p9_nsfile.specs.Run.{run_of};
-ghost use Rattle.p9_guard.specs.Guard.{new_guard};
 ghost use Rattle.p9_commands.specs.Judgement.{IsTold, SaysNo, SaysYes, verified_status};
 ghost use Rattle.p9_commands.specs.Judgement.{verified_text};
 ghost use Rattle.p9_commands.specs.Listing.{table_text};
-ghost use Rattle.p9_commands.specs.NameSpace.{exported, gap_over, or_bad_operation, environment_of};
-ghost use Rattle.p9_commands.specs.NameSpace.{space_in, space_over, world_in};
+ghost use Rattle.p9_commands.specs.NameSpace.{environment_of, exported, gap_over, guard_over};
+ghost use Rattle.p9_commands.specs.NameSpace.{or_bad_operation, space_in, space_over, world_in};
 ghost use Rattle.p9_commands.specs.Refusal.{IsStop, IsUnverified};
 ghost use Rattle.p9_commands.specs.Report.{reports_text};
 
@@ -131,7 +130,7 @@ impl<T: Tree> NameSpace<T> {
 
     /// The guard of the name space by this certificate, without sessions. A gap is the refusal.
     pub fn guard(self, certificate: Certificate<T::Alloc>) -> Result<Guard<T>, Stop>
-        ensures ok { IfOk result (λ guard. guard.state ≡ exported self) }
+        ensures ok { IfOk result (λ guard. guard ≡ guard_over self certificate) }
         ensures closed { OnOk result (gap_over self certificate ≡ None) }
         ensures stop { IfErr result (IsUnverified (gap_over self certificate)) }
     {

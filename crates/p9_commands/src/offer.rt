@@ -15,15 +15,29 @@ use p9_guard::Guard;
 use p9_index::IndexTree;
 use std::alloc::Allocator;
 
-/// The guard over the name space of an input, by its certificate, for a server; or `None` where
-/// something is against it. What is told of faults, in lines, goes behind what is in `err`.
+/// The guard over the name space of an input, by its certificate and without sessions, for a
+/// server: that which [`Guard::new`] makes of the world, the mount table and the certificate. What
+/// is reported is appended to `err`, each report as a line.
 ///
-/// The input is a bundle. Its world, or the sample world without one, is what the lines of its
-/// namespace section are run over. An operation that fails is told as `ns:L: TEXT`, and does
-/// nothing more. There is no guard for an input that is not UTF-8 or no bundle, nor where a line of
-/// its world, its namespace file, its certificate or its script is bad, nor without a certificate
-/// (told as `cert: missing`), nor where the certificate has a gap. The first of these, in this
-/// order, is told. The script is not played. Where an allocation fails, a part may be told.
+/// The first of these conditions that holds is reported, and the result is `None`. `L` is the
+/// number of a line, from 1: of the input in a report of `bundle`, and else of its section.
+///
+/// 1. The input is not UTF-8: `input: not UTF-8`.
+/// 2. The input is no bundle, and this is its first bad line: `bundle:L: bad section`.
+/// 3. The world section has a bad line, or its world is bad as a whole, with 0 for `L`:
+///    `world:L: TEXT`. Without that section the world is the sample world.
+/// 4. The namespace section has a line of bad form: `ns:L: TEXT`.
+/// 5. The certificate section has a bad line: `cert:L: bad line`.
+/// 6. There is no certificate section: `cert: missing`.
+/// 7. The script section has a bad line: `script:L: bad line`. The script is not played.
+/// 8. The certificate has a gap: `cert: GAP`.
+///
+/// Where none of the first four holds, the lines of the namespace section are run over the world.
+/// An operation that fails changes nothing, and is reported as `ns:L: TEXT`, before any report of
+/// the others.
+///
+/// Where an allocation fails, it returns [`NoMemory`], and a part of what is to be reported may be
+/// appended.
 pub fn served_guard<A: Allocator + Copy>(
     input: &[u8],
     err: &mut Vec<u8, A>,
@@ -31,7 +45,7 @@ pub fn served_guard<A: Allocator + Copy>(
     ensures { IfOk result (λ guard. Serves (offer_of input.now) err.old.items err.new.items
         guard) }
 {
-    match admitted(input, err) {
+    match admit_input(input, err) {
         Ok(guard) => Ok(Some(guard)),
         Err(Stop::Refused(refusal)) => {
             tell(refusal, err)?;
@@ -41,8 +55,8 @@ pub fn served_guard<A: Allocator + Copy>(
     }
 }
 
-// The guard of an input, up to the reason against it.
-fn admitted<A: Allocator + Copy>(
+// The guard that an input offers, up to the reason against it.
+fn admit_input<A: Allocator + Copy>(
     input: &[u8],
     err: &mut Vec<u8, A>,
 ) -> Result<Guard<IndexTree<A>>, Stop>
@@ -52,23 +66,23 @@ fn admitted<A: Allocator + Copy>(
         return Err(Stop::Refused(Refusal::NotUtf8));
     };
     let bundle = sections(*err.allocator(), text)?;
-    admitted_over(&bundle, err)
+    admit_bundle(&bundle, err)
 }
 
 // The same of the sections of an input.
-fn admitted_over<A: Allocator + Copy>(
+fn admit_bundle<A: Allocator + Copy>(
     bundle: &Bundle<A>,
     err: &mut Vec<u8, A>,
 ) -> Result<Guard<IndexTree<A>>, Stop>
     ensures { Admits (offer_over (bundle_view bundle.now)) err.old.items err.new.items result }
 {
     let space = name_space(*err.allocator(), bundle)?;
-    admitted_on(space, bundle, err)
+    admit_space(space, bundle, err)
 }
 
 // The same of a name space and the other sections: what failed in the making of the name space is
-// told first.
-fn admitted_on<A: Allocator + Copy>(
+// reported first.
+fn admit_space<A: Allocator + Copy>(
     space: NameSpace<IndexTree<A>>,
     bundle: &Bundle<A>,
     err: &mut Vec<u8, A>,

@@ -95,16 +95,20 @@ impl<S: Read + Write + Drop, A: Allocator + Copy> Conn<S, A> {
         &self.stream
     }
 
-    /// Does the first of these that can be done, and returns what it came to.
+    /// Does the first of these that can be done, and returns what it came to. `now` is the reading of
+    /// the clock, in seconds since 1970, modulo 2^32.
     ///
     /// A closed connection does nothing. A reply that is pending is written, in one write. A whole
-    /// frame is taken out of the buffer and answered at this reading of the clock; its reply is
-    /// pending then. Where a size comes that no frame has, session and connection are closed. Else
-    /// one read puts bytes into the buffer.
+    /// frame is taken out of the buffer and answered at `now`; its reply is pending then. Where a
+    /// size comes that no frame has, session and connection are closed. Else one read puts bytes into
+    /// the buffer.
     ///
     /// A stream that would block or was interrupted changes nothing. One that fails otherwise, or
     /// moves no byte, closes the connection and its session, and no other. This takes no memory,
     /// except for what an answer may take.
+    ///
+    /// When a session is closed, its fids end by rising number. A file that one of them has open with
+    /// remove-on-close is removed, and its directory is marked at `now`, as clunk(5).
     pub fn turn<T: Tree>(&mut self, guard: &mut Guard<T>, now: u32) -> Turn
         ensures { HasTurned S.remaining S.contents (phase_of self.old.link) now self.old guard.old
             self.new guard.new result }

@@ -1,4 +1,4 @@
--- Where a mark of refused memory counts.
+-- Where a mark of a failed allocation counts.
 use Rattle.std.specs.Prelude.{◌&&◌, ◌||◌, Bool, true, false, not, List, [], ◌∷◌, Result}
 use Rattle.std.specs.Prelude.{Ok, Err, is_some}
 use Rattle.std.specs.Option.{option_map_or}

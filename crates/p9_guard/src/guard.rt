@@ -152,7 +152,8 @@ impl<T: Tree> Guard<T> {
     /// Answers one frame of an open session: writes the reply at the front of the buffer, and
     /// returns its length, which is no more than the session's msize, and before a version than 43.
     /// What the buffer holds behind the reply is undefined, and is not to be handed on. The buffer
-    /// has as many bytes as [`Guard::reply_max`] says.
+    /// has as many bytes as [`Guard::reply_max`] says. `now` is the reading of the clock, in seconds
+    /// since 1970, modulo 2^32.
     ///
     /// Every frame gets exactly one reply. Where that is [`p9_base::Fault::OutOfMemory`], an
     /// allocation failed, and the guard is unchanged.
@@ -172,7 +173,10 @@ impl<T: Tree> Guard<T> {
         self.export.message(name, frame, now, reply)
     }
 
-    /// Closes a session, and ends its fids.
+    /// Closes a session. `now` is the reading of the clock, in seconds since 1970, modulo 2^32.
+    ///
+    /// The session's fids end by rising number. A file that one of them has open with
+    /// remove-on-close is removed, and its directory is marked at `now`, as clunk(5).
     pub fn close(&mut self, name: u32, now: u32)
         requires { IsSome (session_at name self.old.state.sessions) }
         ensures hidden { self.new.hidden ≡ self.old.hidden }

@@ -12,4 +12,5 @@ mod run;
 
 pub use cause::Cause;
 pub use guard::Guard;
+pub use p9_export::{Event, OpenError, is_frame};
 pub use run::Stopped;

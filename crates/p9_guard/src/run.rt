@@ -23,7 +23,9 @@ pub struct Stopped {
 }
 
 impl<T: Tree> Guard<T> {
-    /// Does events, one after another, and appends their replies to the bytes.
+    /// Does events, one after another, and appends their replies to the bytes. Each reading of the
+    /// clock in them is in seconds since 1970, modulo 2^32. An opening is that of [`Guard::open`], a
+    /// message that of [`Guard::answer`], and a closing that of [`Guard::close`].
     ///
     /// An event that doesn't fit does nothing and has no reply: opening a session that is open, a
     /// frame for or the closing of one that isn't, and bytes that are no whole frame. An opening

@@ -3,7 +3,7 @@ use Rattle.std.proofs.Common.{map}
 use Rattle.p9_export.specs.Event.{event_view}
 use Rattle.p9_commands.specs.Bundle.{bundle_view}
 use Rattle.p9_commands.proofs.Offers.{guard-made, rows-refused, script-refused}
-use Rattle.p9_commands.proofs.offer.admitted_on.Goals as goal
+use Rattle.p9_commands.proofs.offer.admit_space.Goals as goal
 
 pub returns-in_err-certificate : goal.returns-in_err-certificate
 returns-in_err-certificate g c =

@@ -6,7 +6,7 @@ use Rattle.p9_commands.specs.Bundle.{bundle_view}
 use Rattle.p9_commands.specs.Task.{task_view}
 use Rattle.p9_commands.specs.declared.refusal.Refusal.{Refusal}
 use Rattle.p9_commands.proofs.Tasks.{script-refused, task-refused, worked}
-use Rattle.p9_commands.proofs.command.run_on.Goals as goal
+use Rattle.p9_commands.proofs.command.run_space.Goals as goal
 
 pub returns-in_err-task : goal.returns-in_err-task
 returns-in_err-task g c =
