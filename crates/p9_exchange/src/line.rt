@@ -9,7 +9,8 @@ ghost use Rattle.p9_exchange.specs.Line.{turn_behind};
 
 use hex::FromHexError;
 use p9_words::{
-    Base, Class, Expected, ReadError, prefix_len, skip_blanks, take_message, take_number, unexpected,
+    Base, Class, Expected, ReadError, prefix_len, skip_blanks, take_message, take_number,
+    unexpected,
 };
 use std::alloc::Allocator;
 

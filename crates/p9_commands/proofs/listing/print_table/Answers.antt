@@ -19,6 +19,6 @@ loop-position-preserved g c =
       | in_default w ↦
           absurd (none-past c.args.table.now c.loop-position.position
           (sym c.row.ensures ∙ w.in_default.is)
-          (subst (λ n. c.loop-position.position < n) c.len-position-end.ensures.len
+          (subst (λ n. c.loop-position.position < n) c.len-position-end.ensures
           c.loop-position-test.true))
     ]
