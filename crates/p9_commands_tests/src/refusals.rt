@@ -168,7 +168,7 @@ fn a_no_is_said_again_at_each_refusal(rt: HostRuntime) {
     assert!(rt; refusals_of(&rt, rt.alloc(), run) > 30);
 }
 
-// The vault with its certificate, and a script that a verification reads and leaves.
+// The vault with its certificate, and a script that a verification reads and does not play.
 const CERTIFIED: &str = "%% world
 server main
 dir / 755 sys sys

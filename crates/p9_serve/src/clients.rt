@@ -100,7 +100,9 @@ impl<S: Read + Write + Drop, T: Tree> Clients<S, T> {
         true
     }
 
-    /// Gives each client's connection a turn, by rising key, at this reading of the clock.
+    /// Gives each client's connection a turn, by rising key, at the clock reading `now`, in seconds
+    /// since 1970, modulo 2^32. A connection that is closed then is dropped. Returns how many turns
+    /// moved something, and how many closed their connection.
     pub fn turns(&mut self, now: u32) -> Tally
         ensures { HasTurns S.remaining S.contents now self.old self.new result }
     {
@@ -114,7 +116,11 @@ impl<S: Read + Write + Drop, T: Tree> Clients<S, T> {
         tally
     }
 
-    /// Closes each client's session by rising key, drops the connections, and returns the guard.
+    /// Closes each client's session by rising key, at the clock reading `now`, in seconds since 1970,
+    /// modulo 2^32. Drops the connections, and returns the guard.
+    ///
+    /// The fids of a session end by rising number. A file that one of them has open with
+    /// remove-on-close is removed, and its directory is marked at `now`, as clunk(5).
     pub fn finish(mut self, now: u32) -> Guard<T>
         ensures { IsFinished now self result }
     {

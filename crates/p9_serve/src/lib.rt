@@ -8,7 +8,9 @@ mod run;
 mod server;
 
 pub use clients::{Clients, Tally};
-pub use p9_commands::{Bundle, BundleError, ScriptError, read_script, run_command, split_bundle};
+pub use p9_commands::{
+    Bundle, BundleError, ScriptError, read_script, run_command, served_guard, split_bundle,
+};
 pub use p9_conn::{Conn, Turn, laws};
 pub use run::{run_serve, tell_failure};
 pub use server::{Round, Server};

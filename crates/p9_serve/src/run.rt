@@ -30,13 +30,13 @@ const INPUT_OR_OUTPUT_FAILED: u8 = 4;
 
 /// Serves an input at an address for a number of rounds, and returns the exit status.
 ///
-/// What the input offers is that of [`served_guard`], and so is what is told on `err`; where there
-/// is nothing to serve the status is 1. Else a listener is made, `out` gets the line
+/// What the input offers is that of [`served_guard`], and so is what is reported on `err`; where
+/// there is nothing to serve the status is 1. Else a listener is made, `out` gets the line
 /// `listening ADDR` with the address that it has, and is flushed; then come the rounds, each at the
 /// machine's clock in whole seconds since 1970, modulo 2^32, which is read once a round. Behind the
 /// last one all sessions are closed, at its time, and the status is 0. Where an allocation fails
 /// the status is 3, and where a listener can't be made, or input or output fails otherwise, it is
-/// 4; that is told on `err`.
+/// 4; that is reported on `err`.
 pub fn run_serve<R: Net + Clock + AllocGlobal, W: Write, E: Write>(
     rt: &R,
     address: SocketAddr,

@@ -71,7 +71,8 @@ impl<T: Tree> Server<T> {
     }
 
     /// Takes in one client, if an accept is due and one is waiting; then gives each client's
-    /// connection a turn, by rising key, at this reading of the clock. Returns what came of it.
+    /// connection a turn, by rising key, at the clock reading `now`, in seconds since 1970, modulo
+    /// 2^32. Returns what came of it.
     ///
     /// A client is dropped, and not counted, where [`Clients::take_in`] drops it. An accept that
     /// fails takes in nobody, as one does that finds nobody waiting.
@@ -88,8 +89,11 @@ impl<T: Tree> Server<T> {
         }
     }
 
-    /// Closes each client's session by rising key, at this reading of the clock. Drops the
-    /// connections and the listener, and returns the guard.
+    /// Closes each client's session by rising key, at the clock reading `now`, in seconds since 1970,
+    /// modulo 2^32. Drops the connections and the listener, and returns the guard.
+    ///
+    /// The fids of a session end by rising number. A file that one of them has open with
+    /// remove-on-close is removed, and its directory is marked at `now`, as clunk(5).
     pub fn finish(self, now: u32) -> Guard<T>
         ensures { IsFinished now self.serving result }
     {

@@ -1,5 +1,6 @@
-//! Tests of the server: clients on loopback, in one process with it, hostile ones among them, and
-//! inputs that are served at an address. There is nothing else here.
+//! Tests of the server: clients on loopback, in one process with it, hostile ones among them, inputs
+//! that are served at an address, and allocations that fail while a client is taken in. There is
+//! nothing else here.
 #![tactic(auto)]
 
 #[cfg(test)]
@@ -12,6 +13,8 @@ mod inputs;
 mod loopback;
 #[cfg(test)]
 mod machine;
+#[cfg(test)]
+mod refused;
 #[cfg(test)]
 mod rows;
 #[cfg(test)]

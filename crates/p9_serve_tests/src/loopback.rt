@@ -2,10 +2,9 @@
 
 use crate::rows::Row;
 use mio::net::{TcpListener, TcpStream};
-use p9_commands::served_guard;
 use p9_digits::bytes_of;
 use p9_index::IndexTree;
-use p9_serve::Server;
+use p9_serve::{Server, served_guard};
 use std::alloc::Global;
 use std::io::{ErrorKind, Read, Write};
 use std::net::{Ipv4Addr, Net, SocketAddr};
