@@ -1,6 +1,5 @@
 //! Tests of the server: clients on loopback, in one process with it, hostile ones among them, inputs
-//! that are served at an address, and allocations that fail while a client is taken in. There is
-//! nothing else here.
+//! that are served at an address, and allocations that fail while a client is taken in.
 #![tactic(auto)]
 
 #[cfg(test)]
