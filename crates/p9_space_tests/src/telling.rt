@@ -30,6 +30,7 @@ pub fn channels_told<A: Allocator + Copy>(
     requires { Fits table.now channels.now }
 {
     let places = channels.trail();
+    places.well_formed();
     let mut told = String::new(alloc);
     for position in 0..places.len() - 1 {
         if let Some(place) = places.get(position) {
