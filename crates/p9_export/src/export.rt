@@ -190,7 +190,7 @@ impl<T: Tree> Export<T> {
     }
 }
 
-// What is kept of each user: it is one. This does nothing when it runs.
+// The type of a user keeps that its name is one. This goes over the users to say so of the list, and changes nothing.
 fn each_is_a_user(users: &[User])
     ensures { IsTrue (list_all is_user users.now) }
 {
