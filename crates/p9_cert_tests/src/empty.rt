@@ -3,6 +3,7 @@
 use p9_base::{Groups, NoMemory, NodeRef};
 use p9_cert::{Certificate, Gap, RowFault, verify};
 use p9_index::IndexTree;
+use p9_judge::{Verdict, judge};
 use p9_space::{MountTable, Order, ROOT_PLACE};
 use p9_tree::{Forest, PlainTree, Tree};
 use p9_world::World;
@@ -53,4 +54,18 @@ fn no_row_and_no_server_is_closed(rt: HostRuntime) -> Result<(), Fail> {
     is_closed::<PlainTree<Global>>(&rt, rt.alloc())?;
     is_closed::<IndexTree<Global>>(&rt, rt.alloc())?;
     Ok(())
+}
+
+fn needs_no_row<T: Tree>(rt: &impl Abort, alloc: T::Alloc) {
+    let world = no_server::<T>(alloc);
+    match judge(alloc, &world, &MountTable::new(alloc)).expect(rt, "a verdict") {
+        Verdict::Yes(certificate) => assert_eq!(rt; certificate.rows().len(), 0),
+        Verdict::No(breach) => panic!(rt; "{breach}"),
+    }
+}
+
+#[test]
+fn no_row_is_needed_where_there_is_no_server(rt: HostRuntime) {
+    needs_no_row::<PlainTree<Global>>(&rt, rt.alloc());
+    needs_no_row::<IndexTree<Global>>(&rt, rt.alloc());
 }

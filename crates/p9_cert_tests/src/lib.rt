@@ -1,5 +1,5 @@
-//! Tests of p9_cert: the gaps of certificates over worlds and mount tables, and the texts of
-//! certificates.
+//! Tests of p9_cert, the gaps of certificates over worlds and mount tables and the texts of
+//! certificates; and of p9_judge.
 //!
 //! Each line of a test's text has a case and the result that is expected. So a proof loads one
 //! literal, whatever a test has in it, which costs much less than a table of values.
@@ -10,7 +10,11 @@ mod empty;
 #[cfg(test)]
 mod gaps;
 #[cfg(test)]
+mod judge;
+#[cfg(test)]
 mod refused;
+#[cfg(test)]
+mod tables;
 #[cfg(test)]
 mod telling;
 #[cfg(test)]

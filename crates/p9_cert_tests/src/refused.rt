@@ -2,7 +2,7 @@
 
 use p9_base::NoMemory;
 use p9_cert::{ReadError, read_cert, write_cert};
-use p9_refusing::{Refusing, refuse_each};
+use p9_testing::{Refusing, refuse_each};
 use std::alloc::Global;
 use std::process::Abort;
 

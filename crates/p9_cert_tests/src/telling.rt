@@ -1,10 +1,10 @@
 //! What is told of a certificate over a world and a mount table.
 
-use p9_base::{Group, Groups, NoMemory, NodeRef, User, number, words};
+use crate::tables::table_of;
+use p9_base::{Group, Groups, NoMemory, User, words};
 use p9_cert::{Certificate, read_cert, verify};
 use p9_index::IndexTree;
-use p9_space::{MountTable, Order};
-use p9_tree::{NEXT_MAX, PlainTree, Tree};
+use p9_tree::{PlainTree, Tree};
 use p9_world::{World, read_world};
 use std::alloc::{Allocator, Global};
 use std::process::Abort;
@@ -80,40 +80,6 @@ fn add_groups<A: Allocator + Copy>(
 
 fn user(rt: &impl Abort, name: &str) -> User {
     User::new(name).expect(rt, "a user")
-}
-
-// A mount table of rows: of each its key and its members, every node by its server and its number.
-fn table_of<A: Allocator + Copy>(
-    rt: &impl Abort,
-    alloc: A,
-    text: &str,
-) -> Result<MountTable<A>, NoMemory> {
-    let mut table = MountTable::new(alloc);
-    for line in text.split(';') {
-        let nodes = nodes_of(rt, alloc, line)?;
-        if let [key, members @ ..] = nodes.as_slice() {
-            assert!(rt; members.len() > 0);
-            table.bind(*key, members, Order::Replace, false)?;
-        }
-    }
-    Ok(table)
-}
-
-fn nodes_of<A: Allocator + Copy>(
-    rt: &impl Abort,
-    alloc: A,
-    line: &str,
-) -> Result<Vec<NodeRef, A>, NoMemory> {
-    let mut nodes = Vec::new(alloc);
-    for pair in words(alloc, line)?.chunks(2) {
-        if let [server, node] = pair {
-            nodes.push(NodeRef {
-                server: number(server, 1 << 16).expect(rt, "a server") as u16,
-                number: number(node, NEXT_MAX).expect(rt, "a number"),
-            })?;
-        }
-    }
-    Ok(nodes)
 }
 
 fn certificate_of(

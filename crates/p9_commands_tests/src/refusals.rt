@@ -2,7 +2,7 @@
 
 use p9_base::NoMemory;
 use p9_commands::run_command;
-use p9_refusing::{Refusing, refuse_each};
+use p9_testing::{Refusing, refuse_each};
 use std::alloc::{Allocator, Global};
 use std::process::Abort;
 

@@ -4,7 +4,7 @@ use crate::rows::{ASIDE, FOUND, GONE, LOOK, WORK};
 use crate::scripted::{Answer, Scripted};
 use crate::serving::{Served, connect, is_answered, is_closed, new_guard, serve, stream_of};
 use p9_conn::Conn;
-use p9_digits::bytes_of;
+use p9_testing::bytes_of;
 use std::alloc::Global;
 use std::process::Abort;
 

@@ -1,6 +1,6 @@
 //! Requests with their replies, as hexadecimal digits from outside.
 
-use p9_digits::bytes_of;
+use p9_testing::bytes_of;
 use std::alloc::Global;
 use std::process::Abort;
 

@@ -6,7 +6,7 @@ use crate::exchange::{Exchange, exchange, exchange_all, room};
 use crate::worlds::{SMALL, begin, exporter};
 use p9_export::Export;
 use p9_index::IndexTree;
-use p9_refusing::{Refusing, refuse_each};
+use p9_testing::{Refusing, refuse_each};
 use p9_tree::{PlainTree, Tree};
 use std::alloc::Global;
 use std::process::Abort;

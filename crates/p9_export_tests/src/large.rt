@@ -5,7 +5,7 @@ use crate::exchange::{Exchange, exchange, exchange_all, is_reply, read_at, room,
 use crate::worlds::{SMALL, exporter};
 use p9_export::Export;
 use p9_index::IndexTree;
-use p9_refusing::{Refusing, refuse_each};
+use p9_testing::{Refusing, refuse_each};
 use p9_tree::{FILE_MAX, PlainTree, Tree};
 use std::alloc::Global;
 use std::process::Abort;

@@ -4,7 +4,7 @@
 use crate::exchange::{room, send};
 use crate::worlds::{SMALL, begin, exporter};
 use linked_list_allocator::LocalHeap;
-use p9_digits::bytes_of;
+use p9_testing::bytes_of;
 use p9_export::Export;
 use p9_index::IndexTree;
 use p9_tree::{PlainTree, Tree};

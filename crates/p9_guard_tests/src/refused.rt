@@ -3,7 +3,7 @@
 use crate::worlds::{CERTIFICATE, VAULT, certificate_of, replace, table_of, world_of};
 use p9_guard::{Cause, Guard};
 use p9_index::IndexTree;
-use p9_refusing::{Refusing, refuse_each};
+use p9_testing::{Refusing, refuse_each};
 use p9_tree::{PlainTree, Tree};
 use std::alloc::Global;
 use std::process::Abort;

@@ -1,7 +1,7 @@
 //! Scripts as lists of events.
 
 use crate::scripts::{Script, Step, step_of};
-use p9_digits::bytes_of;
+use p9_testing::bytes_of;
 use p9_export::Event;
 use std::alloc::Global;
 use std::process::Abort;

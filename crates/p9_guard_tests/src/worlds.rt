@@ -3,7 +3,7 @@
 use crate::scripts::Script;
 use p9_base::NodeRef;
 use p9_cert::{Certificate, read_cert};
-use p9_digits::bytes_of;
+use p9_testing::bytes_of;
 use p9_export::Event;
 use p9_guard::Guard;
 use p9_space::{MountTable, Order};

@@ -2,7 +2,7 @@
 
 use crate::rows::Row;
 use mio::net::{TcpListener, TcpStream};
-use p9_digits::bytes_of;
+use p9_testing::bytes_of;
 use p9_index::IndexTree;
 use p9_serve::{Server, served_guard};
 use std::alloc::Global;

@@ -2,7 +2,7 @@
 
 use crate::rows::SMALL;
 use p9_index::IndexTree;
-use p9_refusing::{Refusing, refuse_each};
+use p9_testing::{Refusing, refuse_each};
 use p9_serve::{Clients, Tally, served_guard};
 use std::alloc::Global;
 use std::io::Cursor;

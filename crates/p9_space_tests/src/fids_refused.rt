@@ -4,7 +4,7 @@ use crate::fids::fid_on;
 use crate::words::node;
 use p9_base::{Fault, NoMemory};
 use p9_fids::{Fid, FidTable};
-use p9_refusing::{Refusing, refuse_each};
+use p9_testing::{Refusing, refuse_each};
 use p9_space::{Channels, MountTable, Trail};
 use std::alloc::{Allocator, Global};
 use std::process::Abort;

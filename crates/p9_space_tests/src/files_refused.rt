@@ -5,7 +5,7 @@ use crate::worlds::forest;
 use p9_base::{Fault, NoMemory};
 use p9_index::IndexTree;
 use p9_nsfile::{NsError, OpFault, run_file};
-use p9_refusing::{Refusing, refuse_each};
+use p9_testing::{Refusing, refuse_each};
 use p9_space::MountTable;
 use p9_tree::{Forest, PlainTree, Tree};
 use std::alloc::Global;

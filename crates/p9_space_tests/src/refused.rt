@@ -6,7 +6,7 @@ use crate::words::node;
 use crate::worlds::{SMALL, Space, space_of};
 use p9_base::{Fault, NoMemory};
 use p9_index::IndexTree;
-use p9_refusing::{Refusing, refuse_each};
+use p9_testing::{Refusing, refuse_each};
 use p9_space::{Channels, MountTable, PLACES_MAX, Trail, Who, advance, resolve};
 use p9_tree::{PlainTree, Tree};
 use std::alloc::Global;

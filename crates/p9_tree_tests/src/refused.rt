@@ -2,7 +2,7 @@
 
 use crate::calls::{call, make, tell, two_servers};
 use p9_index::IndexTree;
-use p9_refusing::{Refusing, refuse_each};
+use p9_testing::{Refusing, refuse_each};
 use p9_tree::{Forest, PlainTree, Tree};
 use std::alloc::{AllocError, Global};
 use std::process::Abort;

@@ -1,6 +1,6 @@
 //! The first frame of a stream.
 
-use p9_digits::bytes_of;
+use p9_testing::bytes_of;
 use p9_wire::{Frame, frame_of};
 use std::test::Fail;
 

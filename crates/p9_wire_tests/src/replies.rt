@@ -2,7 +2,7 @@
 
 use crate::bytes::{UNTOUCHED, holds_only, reply};
 use p9_base::Qid;
-use p9_digits::bytes_of;
+use p9_testing::bytes_of;
 use p9_wire::{HEADER, NOTAG, Qids, RMsg, Stat, finish_read, write_stat};
 use std::process::Abort;
 use std::test::Fail;

@@ -2,7 +2,7 @@
 
 use crate::bytes::request;
 use p9_base::{NOFID, Qid};
-use p9_digits::bytes_of;
+use p9_testing::bytes_of;
 use p9_wire::{NOTAG, Names, Stat, TMsg};
 use std::test::Fail;
 

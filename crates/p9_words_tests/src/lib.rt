@@ -1,6 +1,9 @@
-//! Tests of p9_words: lines and frames by hand, bad lines, and failed allocations.
+//! Tests of p9_words: lines and frames by hand, bad lines, and failed allocations; and of
+//! p9_exchange.
 #![tactic(auto)]
 
+#[cfg(test)]
+mod exchange;
 #[cfg(test)]
 mod faults;
 #[cfg(test)]

@@ -1,8 +1,7 @@
 //! Allocations that fail: a call says so and changes nothing, and with memory it does all.
 
 use crate::lines::{REPLIES, REQUESTS};
-use p9_digits::bytes_of;
-use p9_refusing::{Refusing, refuse_each};
+use p9_testing::{Refusing, bytes_of, refuse_each};
 use p9_wire::{read_r, read_t};
 use p9_words::{WordsError, print_reply, print_request, read_words};
 use std::alloc::Allocator;

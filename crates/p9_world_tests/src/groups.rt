@@ -4,7 +4,7 @@ use crate::faults::told;
 use crate::refused::read_again;
 use p9_base::User;
 use p9_index::IndexTree;
-use p9_refusing::{Refusing, refuse_each};
+use p9_testing::{Refusing, refuse_each};
 use p9_tree::{PlainTree, Tree};
 use p9_world::{World, read_world};
 use std::alloc::{AllocError, Global};

@@ -3,7 +3,7 @@
 use crate::samples::is_sample;
 use crate::worlds::{HOME, Sample, VAULT};
 use p9_index::IndexTree;
-use p9_refusing::{Refusing, refuse_each};
+use p9_testing::{Refusing, refuse_each};
 use p9_tree::{PlainTree, Tree};
 use p9_world::{World, WorldError, read_world};
 use std::alloc::Global;

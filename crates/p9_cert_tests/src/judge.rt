@@ -1,0 +1,8 @@
+//! Tests of p9_judge: certificates and breaches of small worlds, the order of discovery,
+//! allocations that fail, and many worlds made by a rule.
+
+mod dice;
+mod many;
+mod refused;
+mod telling;
+mod verdicts;

@@ -1,3 +1,0 @@
-pub mod Allocator
-pub mod Count
-pub mod Turns

@@ -1,0 +1,4 @@
+pub mod Allocator
+pub mod Count
+pub mod Digits
+pub mod Turns
