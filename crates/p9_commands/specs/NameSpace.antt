@@ -13,7 +13,8 @@ use Rattle.p9_nsfile.specs.Run.{run_of}
 use Rattle.p9_nsfile.specs.Environment.{Environment}
 use Rattle.p9_nsfile.specs.Space.{Report}
 use Rattle.p9_step.specs.State.{State}
-use Rattle.p9_guard.specs.Guard.{Guarded, new_guard, served}
+use Rattle.p9_guard.specs.Guard.{Guarded, new_guard}
+use Rattle.p9_guard.specs.Served.{served}
 use Rattle.p9_commands.specs.Refusal.{or_refused}
 use Rattle.p9_commands.specs.Small.{small_world}
 use Rattle.p9_commands.specs.declared.refusal.Refusal.{Refusal}

@@ -20,7 +20,7 @@ use Rattle.p9_step.specs.Sound.{IsState}
 use Rattle.p9_step.specs.State.{State}
 use Rattle.p9_guard_laws.specs.Guarded.{AreHiddenGiven, IsGuardedState}
 use Rattle.p9_guard_laws.proofs.Begins.{certified_is_guarded}
-use Rattle.p9_guard.specs.Guard.{served}
+use Rattle.p9_guard.specs.Served.{served}
 
 -- what holds of each of some nodes holds of one that is among them
 among : (P : NodeRef → Type 0) (rows : List NodeRef) (at : NodeRef) → All P rows

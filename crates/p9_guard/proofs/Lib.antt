@@ -3,3 +3,4 @@ pub mod Promises
 pub mod Rooms
 pub mod Progress
 pub mod Begins
+pub mod Sentences

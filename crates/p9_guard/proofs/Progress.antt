@@ -138,3 +138,9 @@ pub taken-more-twice : {X Y Z : Type 0} (field : Y → Z) (view : X → Y) (xs :
 taken-more-twice field view xs i x within is =
     taken-more field (map view xs) i (view x) (omega (arith, within, length-map xs view))
     (ap view is ∙ sym (get_or-map view xs i x (view x) within))
+
+pub item-map : {X Y : Type 0} (view : X → Y) (xs : List X) (i : ℕ) (x : X) → i < length xs
+    → x ≡ get_or xs i x → slice_get (map view xs) i ≡ Some (view x)
+item-map view (y ∷ ys) zero x within is = ap (λ z. Some (view z)) (sym is)
+item-map view (y ∷ ys) (suc i) x within is = item-map view ys i x (omega arith) is
+item-map view [] i x within is = absurd (omega arith)

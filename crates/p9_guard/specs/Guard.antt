@@ -1,5 +1,5 @@
 -- A guard, as its callers see it.
-use Rattle.std.specs.Prelude.{List, [], Option, Some, None}
+use Rattle.std.specs.Prelude.{List, Option, Some, None}
 use Rattle.p9_base.specs.declared.node_ref.NodeRef.{NodeRef}
 use Rattle.p9_space.specs.Table.{MountRow}
 use Rattle.p9_world.specs.World.{World}
@@ -8,6 +8,7 @@ use Rattle.p9_cert.specs.declared.gap.Gap.{Gap}
 use Rattle.p9_guard_laws.specs.Grown.{Start, start_of}
 use Rattle.p9_guard.specs.declared.cause.Cause.{Cause}
 use Rattle.p9_guard.specs.declared.cause.Cause.TheVariants.{Gap as GapCause, NoMemory}
+use Rattle.p9_guard.specs.Served.{served}
 
 -- the state that it serves, what is hidden, and what it began with: the rows of the certificate,
 -- and each server's next number
@@ -15,14 +16,6 @@ pub record Guarded : Type 0 where
   pub state : State
   pub hidden : List NodeRef
   pub start : Start
-
--- the world's forest is served to its users by the mount table, without sessions yet
-abbrev pub served : World → List MountRow → State
-served world table = record {
-  setting = record { users = world.users; groups = world.groups; table = table };
-  forest = world.forest;
-  sessions = [];
-}
 
 -- a new guard
 abbrev pub new_guard : World → List MountRow → List NodeRef → Guarded

@@ -1,5 +1,5 @@
 -- The headline: what is promised of every list of events that a guard was given.
-use Rattle.std.specs.Prelude.{◌≡◌, ℕ, ◌<◌, List, ◌++◌, IsTrue, length, map, take}
+use Rattle.std.specs.Prelude.{◌≡◌, ℕ, List, ◌++◌, Some, IsTrue, map, slice_get, take}
 use Rattle.std.specs.List.{concat}
 use Rattle.p9_base.specs.declared.node_ref.NodeRef.{NodeRef}
 use Rattle.p9_tree.specs.Inside.{inner}
@@ -7,7 +7,7 @@ use Rattle.p9_step.specs.State.{State}
 use Rattle.p9_step.specs.Event.{Event}
 use Rattle.p9_step.specs.Step.{Marked, run}
 use Rattle.p9_guard_laws.specs.Alike.{AreAlike}
-use Rattle.p9_guard.specs.Marks.{are_permitted}
+use Rattle.p9_guard.specs.Marks.{are_permitted, is_answered}
 
 -- Events happened one after another, each with its mark, whether an allocation failed in it.
 -- Between the state before and the state after these bytes were given as replies.
@@ -36,8 +36,11 @@ pub record HasRun (hidden : List NodeRef) (before : State) (events : List Event)
   pub appended : new ≡ old ++ bytes
   pub promised : IsPromised hidden before marked after bytes
 
--- The same of the first so many events, of which there are more.
+-- The first so many events happened so. There are more, and the next one has a reply, for which
+-- there was no room.
 pub record HasStopped (hidden : List NodeRef) (before : State) (events : List Event) (done : ℕ)
     (after : State) (old new : List ℕ) : Type 0 where
-  pub more : done < length events
   pub first : HasRun hidden before (take done events) after old new
+  pub next : Event
+  pub next_is : slice_get events done ≡ Some next
+  pub has_reply : IsTrue (is_answered after next)

@@ -1,3 +1,5 @@
 pub mod Marks
-pub mod Guard
 pub mod Headline
+pub mod Served
+pub mod Guard
+pub mod Sentence

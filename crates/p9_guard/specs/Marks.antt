@@ -10,6 +10,13 @@ use Rattle.p9_step.specs.Step.{Marked, step}
 use Rattle.p9_export.specs.declared.export.OpenError.{OpenError}
 use Rattle.p9_export.specs.declared.export.OpenError.TheVariants.{Live, NoMemory}
 
+-- an event has a reply: it is a whole frame of a session that is open
+abbrev pub is_answered : State → Event → Bool
+is_answered state (Open name) = false
+is_answered state (Message name frame now) =
+    is_frame frame && is_some (session_at name state.sessions)
+is_answered state (Close name now) = false
+
 -- memory may be refused to an opening that fits, and to a request that may be answered so
 abbrev pub may_be_refused : State → Event → Bool
 may_be_refused state (Open name) = not (is_some (session_at name state.sessions))

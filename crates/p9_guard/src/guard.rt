@@ -1,7 +1,7 @@
 //! The guard: an exporter, what it hides, and its verified certificate.
 
 ghost use Rattle.std.specs.Prelude.{◌≡◌, ◌≤◌, ◌↔◌, [], ◌∷◌, Err, None, false, IfErr, IfOk, IsSome};
-ghost use Rattle.std.specs.Prelude.{IfSome, IsTrue, OnOk, length, map, take, unwrap_or};
+ghost use Rattle.std.specs.Prelude.{IfSome, IsTrue, OnErr, OnOk, length, map, take, unwrap_or};
 ghost use Rattle.p9_wire.specs.Frame.{is_frame, msize_max};
 ghost use Rattle.p9_step.specs.Event.{Open, Message, Close};
 ghost use Rattle.p9_step.specs.Laws.{reply_max};
@@ -145,6 +145,7 @@ impl<T: Tree> Guard<T> {
         ensures live { (result ≡ Err Live) ↔ IsSome (session_at name self.old.state.sessions) }
         ensures promised { IsPromised self.old.hidden self.old.state
             ((Open name, is_refused result) ∷ []) self.new.state [] }
+        ensures unchanged { OnErr result (self.new ≡ self.old) }
     {
         self.export.open(name)
     }
@@ -155,8 +156,9 @@ impl<T: Tree> Guard<T> {
     /// has as many bytes as [`Guard::reply_max`] says. `now` is the reading of the clock, in seconds
     /// since 1970, modulo 2^32.
     ///
-    /// Every frame gets exactly one reply. Where that is [`p9_base::Fault::OutOfMemory`], an
-    /// allocation failed, and the guard is unchanged.
+    /// Every frame gets exactly one reply. Where that is [`p9_base::Fault::OutOfMemory`], the guard
+    /// is unchanged. Only an attach or a walk is answered so, or a create, a write or a wstat that
+    /// nothing else refuses.
     pub fn answer(&mut self, name: u32, frame: &[u8], now: u32, reply: &mut [u8]) -> usize
         requires live { IsSome (session_at name self.old.state.sessions) }
         requires whole { IsTrue (is_frame frame.now) }
@@ -169,6 +171,8 @@ impl<T: Tree> Guard<T> {
         ensures promised { IsPromised self.old.hidden self.old.state
             ((Message name frame.now now, is_no_memory_reply frame.now (take result reply.new))
             ∷ []) self.new.state (take result reply.new) }
+        ensures unchanged { IsTrue (is_no_memory_reply frame.now (take result reply.new))
+            → self.new ≡ self.old }
     {
         self.export.message(name, frame, now, reply)
     }

@@ -1,11 +1,12 @@
 //! Lists of events, done one after another.
 
 ghost use Rattle.std.specs.Prelude.{◌≡◌, ◌≤◌, ◌+◌, ◌∷◌, [], ◌++◌, Bool, List, ℕ, false};
-ghost use Rattle.std.specs.Prelude.{IfErr, IfOk, OnErr, OnOk};
+ghost use Rattle.std.specs.Prelude.{IfErr, IfOk, IsTrue, OnErr, OnOk};
 ghost use Rattle.std.specs.Prelude.{length, map, take};
 ghost use Rattle.p9_step.specs.Event.{IsEvent, Message, Close, Open};
 ghost use Rattle.p9_export.specs.Event.{event_view};
 ghost use Rattle.p9_guard.specs.Headline.{HasRun, HasStopped, IsPromised};
+ghost use Rattle.p9_guard.specs.Marks.{is_answered};
 
 use crate::guard::Guard;
 use p9_base::NoMemory;
@@ -31,8 +32,11 @@ impl<T: Tree> Guard<T> {
     /// frame for or the closing of one that isn't, and bytes that are no whole frame. An opening
     /// for which an allocation fails opens nothing.
     ///
+    /// What is promised of the events, and of no guard, is
+    /// [`every_run_is_promised`](crate::laws::every_run_is_promised), from a new guard's state on.
+    ///
     /// Room for a reply is taken before its request is answered. Where that allocation fails the
-    /// run stops: the events before are done, and their replies appended.
+    /// run stops at that request: the events before it are done, and their replies appended.
     pub fn run<B: Allocator>(
         &mut self,
         events: &[Event<B>],
@@ -79,6 +83,8 @@ impl<T: Tree> Guard<T> {
             × IsPromised self.old.hidden self.old.state ((event_view event.now, refused) ∷ [])
             self.new.state reply) }
         ensures err { OnErr result (self.new ≡ self.old) }
+        ensures answered { OnErr result
+            (IsTrue (is_answered self.old.state (event_view event.now))) }
     {
         match event {
             Event::Open(name) => {
@@ -115,6 +121,8 @@ impl<T: Tree> Guard<T> {
             × IsPromised self.old.hidden self.old.state ((Message name frame.now now, refused) ∷ [])
             self.new.state reply) }
         ensures err { OnErr result (self.new ≡ self.old) }
+        ensures answered { OnErr result
+            (IsTrue (is_answered self.old.state (Message name frame.now now))) }
     {
         let Some(room) = self.reply_max(name) else {
             return Ok(0);

@@ -1,13 +1,13 @@
-use Rattle.std.proofs.Common.{◌≡◌, ◌∙◌, ap, arith, map, refl, rules, subst, take}
+use Rattle.std.proofs.Common.{◌≡◌, ◌∙◌, IsTrue, ap, arith, map, refl, rules, subst, sym, take}
 use Rattle.std.proofs.lemmas.List.{length-map, take_all}
 use Rattle.p9_guard.specs.Headline.{HasRun}
+use Rattle.p9_guard.specs.Marks.{is_answered}
 use Rattle.p9_export.specs.Event.{event_view}
-use Rattle.p9_guard.proofs.Progress.{has-run, none-done, one-more, taken-more}
+use Rattle.p9_guard.proofs.Progress.{has-run, item-map, none-done, one-more, taken-more}
 use Rattle.p9_guard.proofs.guard.Guard.run.Goals as goal
 
 pub returns-in-Err-clause-stopped : goal.returns-in-Err-clause-stopped
 returns-in-Err-clause-stopped g c = record {
-  more = omega (arith, length-map c.args.events.now event_view, c.loop-done-test.true);
   first =
       has-run c.args.self.now.hidden c.args.self.now.start c.args.self.now.state
       c.args.bytes.now.items (take c.loop-done.done (map event_view c.args.events.now))
@@ -15,6 +15,13 @@ returns-in-Err-clause-stopped g c = record {
       c.run_event.new.bytes.items c.truncate.new.self.items c.well_formed-2.ensures
       c.loop-done.invariant.2 (ap (λ guard. guard.state) c.in-Err.ensures.err)
       c.in-Err.ensures.kept c.truncate.ensures.items;
+  next = event_view c.index-events-done.result;
+  next_is =
+      item-map event_view c.args.events.now c.loop-done.done c.index-events-done.result
+      c.loop-done-test.true c.index-events-done.is;
+  has_reply =
+      subst (λ s. IsTrue (is_answered s (event_view c.index-events-done.result)))
+      (sym (ap (λ guard. guard.state) c.in-Err.ensures.err)) c.in-Err.ensures.answered;
 }
 
 pub loop-done-init : goal.loop-done-init
