@@ -160,8 +160,9 @@ impl<T: Tree> Export<T> {
     /// has at least as many bytes as [`Export::reply_max`] says. `now` is in seconds since 1970,
     /// modulo 2^32.
     ///
-    /// Every frame gets exactly one reply. Where that is [`p9_base::Fault::OutOfMemory`], an
-    /// allocation failed, and the exporter is unchanged.
+    /// Every frame gets exactly one reply. Where that is [`p9_base::Fault::OutOfMemory`], the
+    /// exporter is unchanged. Only an attach or a walk is answered so, or a create, a write or a
+    /// wstat that nothing else refuses.
     pub fn message(&mut self, name: u32, frame: &[u8], now: u32, reply: &mut [u8]) -> usize
         requires live { IsSome (session_at name self.old.sessions) }
         requires whole { IsTrue (is_frame frame.now) }
