@@ -13,7 +13,8 @@ use Rattle.p9_wire.specs.Spelling.{RSpells}
 use Rattle.p9_wire.proofs.Framing.{one_message}
 use Rattle.p9_wire.proofs.RGrammar.{r-decides}
 use Rattle.p9_step.specs.Event.{Open, Message}
-use Rattle.p9_step.specs.Laws.{IsAnswered, runs_out}
+use Rattle.p9_step.specs.Laws.{IsAnswered}
+use Rattle.p9_step.specs.Step.{runs_out}
 use Rattle.p9_step.specs.Memory.{is_no_memory_reply, no_memory_reply}
 use Rattle.p9_step.specs.Request.{tag_of}
 use Rattle.p9_step.specs.Sound.{IsState}

@@ -5,7 +5,7 @@ use Rattle.std.specs.Option.{option_map_or}
 use Rattle.p9_wire.specs.Frame.{is_frame}
 use Rattle.p9_step.specs.State.{State, session_at}
 use Rattle.p9_step.specs.Event.{Event, Open, Message, Close}
-use Rattle.p9_step.specs.Laws.{runs_out}
+use Rattle.p9_step.specs.Step.{runs_out}
 use Rattle.p9_step.specs.Step.{Marked, step}
 use Rattle.p9_export.specs.declared.export.OpenError.{OpenError}
 use Rattle.p9_export.specs.declared.export.OpenError.TheVariants.{Live, NoMemory}

@@ -1,5 +1,5 @@
 -- What the laws of steps, of replies and of runs say.
-use Rattle.std.specs.Prelude.{◌≡◌, ℕ, ◌+◌, ◌≤◌, ◌++◌, ◌&&◌, Bool, List, Some, Result, Ok, IsTrue}
+use Rattle.std.specs.Prelude.{◌≡◌, ℕ, ◌+◌, ◌≤◌, ◌++◌, Bool, List, Some, Result, Ok, IsTrue}
 use Rattle.std.specs.Prelude.{length, unwrap_or}
 use Rattle.std.specs.List.{AllByRecursion}
 use Rattle.p9_base.specs.declared.fault.Fault.{Fault}
@@ -14,8 +14,7 @@ use Rattle.p9_step.specs.Clunk.{without}
 use Rattle.p9_step.specs.Event.{Event, IsEvent, Message}
 use Rattle.p9_step.specs.Sound.{IsState}
 use Rattle.p9_step.specs.Request.{request_of, tag_of}
-use Rattle.p9_step.specs.Memory.{frame_may_fail}
-use Rattle.p9_step.specs.Step.{Marked, Stepped, frame_answer, run, step}
+use Rattle.p9_step.specs.Step.{Marked, Stepped, run, runs_out, step}
 
 -- a step of a state that the exporter can come to leads to such a state, with every mark
 abbrev pub StepKeepsState : Type 0
@@ -60,13 +59,6 @@ after_refusal state name session request = state
 -- the text of one of the thirty faults
 abbrev pub IsFaultText : List ℕ → Type 0
 IsFaultText ename = (fault : Fault) × (ename ≡ text_of fault)
-
--- an allocation failed in a request of a session that may be answered so
-abbrev pub runs_out : State → Session → List ℕ → ℕ → Bool → Bool
-runs_out state session frame now refused =
-    refused
-    && frame_may_fail frame
-    (frame_answer state.setting state.forest state.sessions session now frame)
 
 -- the reply to a frame of a session: the bytes spell it with the frame's tag, and are no more than
 -- the session takes; if it is an error, it is one of the faults, and the state is that after a

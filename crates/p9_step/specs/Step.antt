@@ -62,6 +62,13 @@ abbrev pub frame_answer : Setting → List Server → List SessionRow → Sessio
 frame_answer setting forest sessions session now frame =
     and_then (request_of session frame) (message_answer setting forest sessions session now)
 
+-- an allocation failed in a request of a session that may be answered so
+abbrev pub runs_out : State → Session → List ℕ → ℕ → Bool → Bool
+runs_out state session frame now refused =
+    refused
+    && frame_may_fail frame
+    (frame_answer state.setting state.forest state.sessions session now frame)
+
 -- the state after an event, and the bytes that answer it
 pub record Stepped : Type 0 where
   pub state : State
