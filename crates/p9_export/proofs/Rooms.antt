@@ -6,9 +6,10 @@ use Rattle.std.specs.Option.{option_map, option_map_or}
 use Rattle.p9_base.specs.declared.fault.Fault.{Fault}
 use Rattle.p9_tree.specs.Server.{Server}
 use Rattle.p9_wire.specs.Frame.{is_frame, msize_max}
-use Rattle.p9_wire.specs.Laws.{IsBytes}
+use Rattle.p9_wire.specs.Frame.{IsBytes}
 use Rattle.p9_wire.specs.Message.{RMessage, r_view}
-use Rattle.p9_wire.specs.Spelling.{r_len, r_spelling, read_header}
+use Rattle.p9_wire.specs.Spelling.{r_len, read_header}
+use Rattle.p9_wire.specs.Reply.{r_spelling}
 use Rattle.p9_step.specs.Laws.{refusal_max, reply_max}
 use Rattle.p9_step.specs.Memory.{is_no_memory_reply, frame_may_fail}
 use Rattle.p9_step.specs.Request.{tag_of}

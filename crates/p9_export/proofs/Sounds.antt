@@ -7,7 +7,7 @@ use Rattle.p9_base.specs.declared.fault.Fault.{Fault}
 use Rattle.p9_tree.specs.Forest.{IsForest}
 use Rattle.p9_tree.specs.Server.{Server}
 use Rattle.p9_wire.specs.Frame.{is_frame}
-use Rattle.p9_wire.specs.Laws.{IsBytes}
+use Rattle.p9_wire.specs.Frame.{IsBytes}
 use Rattle.p9_wire.specs.Message.{RMessage}
 use Rattle.p9_step.specs.Event.{Message}
 use Rattle.p9_step.specs.Laws.{reply_max}

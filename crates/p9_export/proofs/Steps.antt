@@ -11,7 +11,7 @@ use Rattle.p9_base.specs.declared.fault.Fault.TheVariants.{OutOfMemory}
 use Rattle.p9_base.specs.Fault.{text_of}
 use Rattle.p9_tree.specs.Server.{Server}
 use Rattle.p9_wire.specs.Message.{RMessage, Rerror, TMessage}
-use Rattle.p9_wire.specs.Spelling.{r_spelling}
+use Rattle.p9_wire.specs.Reply.{r_spelling}
 use Rattle.p9_step.specs.State.{Session, SessionRow, State, changed_session, session_at}
 use Rattle.p9_step.specs.ForestChange.{ForestChange, all_applied}
 use Rattle.p9_step.specs.Answer.{Answer, is_error}

@@ -3,7 +3,8 @@
 ghost use Rattle.std.specs.Prelude.{◌≡◌, ◌≤◌, ◌+◌, length, take, drop};
 ghost use Rattle.p9_base.specs.Fault.{text_of};
 ghost use Rattle.p9_wire.specs.Message.{Rerror};
-ghost use Rattle.p9_wire.specs.Spelling.{r_len, r_spelling, read_header};
+ghost use Rattle.p9_wire.specs.Spelling.{r_len, read_header};
+ghost use Rattle.p9_wire.specs.Reply.{r_spelling};
 ghost use Rattle.p9_step.specs.Request.{request_of, tag_of};
 ghost use Rattle.p9_export.specs.Answers.{CanWrite, message_of, replied, reply_view, request_view};
 ghost use Rattle.p9_export.specs.Answers.{stat_reply};

@@ -16,7 +16,8 @@ use Rattle.p9_base.specs.declared.fault.Fault.{Fault}
 use Rattle.p9_base.specs.declared.fault.Fault.TheVariants.{FidInUse, TooManyFids, UnknownFid}
 use Rattle.p9_base.proofs.Rising.{all_keys-insert, all_keys-remove, all_keys-set, length-insert}
 use Rattle.p9_base.proofs.Rising.{length-remove, rising-insert, rising-remove, rising-set}
-use Rattle.p9_fids.specs.Fid.{Fid, FidRow, IsFids, changed_fid, fid_at, fids_max, nofid, put_fault}
+use Rattle.p9_fids.specs.Fid.{Fid, FidRow, changed_fid, fid_at, fids_max, nofid, put_fault}
+use Rattle.p9_fids.specs.Fids.{IsFids}
 use Rattle.p9_fids.specs.Fid.{with_fid, without_fid}
 
 -- what holds of a fid that can be added

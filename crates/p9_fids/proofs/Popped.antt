@@ -7,7 +7,8 @@ use Rattle.std.specs.Map.{values_of}
 use Rattle.std.specs.Ordering.{nat_cmp}
 use Rattle.std.specs.BTreeMap.{is_at}
 use Rattle.p9_space.specs.Table.{MountRow}
-use Rattle.p9_fids.specs.Fid.{FidRow, IsFids}
+use Rattle.p9_fids.specs.Fid.{FidRow}
+use Rattle.p9_fids.specs.Fids.{IsFids}
 use Rattle.p9_fids.specs.Held.{AllFit, Held, HeldFits, fid_of, held_fids, map_values}
 use Rattle.p9_fids.proofs.Fids.{fids-without}
 

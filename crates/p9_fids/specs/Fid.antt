@@ -1,17 +1,15 @@
 -- The fids of a session: a finite map from numbers to users, trails and what is open.
-use Rattle.std.specs.Prelude.{ℕ, ◌-◌, ◌^◌, ◌<◌, ◌≤◌, ◌==◌, ◌&&◌, Bool, count_by, nat_le, List}
+use Rattle.std.specs.Prelude.{ℕ, ◌-◌, ◌^◌, ◌==◌, ◌&&◌, Bool, count_by, nat_le, List}
 use Rattle.std.specs.Prelude.{Option, None}
 use Rattle.std.specs.Prelude.{Some, length, is_some, if◌then◌else◌}
-use Rattle.std.specs.List.{AllByRecursion}
 use Rattle.std.specs.Option.{option_map_or}
 use Rattle.std.specs.Ordering.{nat_cmp}
-use Rattle.std.specs.Map.{keys_of, lookup, remove_entry, set_value, values_of}
+use Rattle.std.specs.Map.{lookup, remove_entry, set_value, values_of}
 use Rattle.std.specs.BTreeMap.{insert_entry, is_at}
 use Rattle.p9_base.specs.declared.fault.Fault.{Fault}
 use Rattle.p9_base.specs.declared.fault.Fault.TheVariants.{FidInUse, TooManyFids, UnknownFid}
 use Rattle.p9_base.specs.declared.node_ref.NodeRef.{NodeRef}
 use Rattle.p9_base.specs.NodeRef.{same_node}
-use Rattle.p9_base.specs.Rising.{IsRising}
 use Rattle.p9_space.specs.Place.{file_ref}
 use Rattle.p9_space.specs.Table.{MountRow}
 use Rattle.p9_space.specs.Trail.{here}
@@ -59,17 +57,6 @@ nofid = 2 ^ 32 - 1
 -- the most fids of a session
 abbrev pub fids_max : ℕ
 fids_max = 1024
-
--- the fids of a session: their numbers rise strictly, none is the number that is no fid, and they
--- are not too many
-pub record IsFids (fids : List FidRow) : Type 0 where
-  pub rising : IsRising fids
-  pub below : AllByRecursion (λ fid. fid < nofid) (keys_of fids)
-  pub few : length fids ≤ fids_max
-
--- a number that is no more than that of each fid
-abbrev pub IsLeast : List FidRow → ℕ → Type 0
-IsLeast fids fid = AllByRecursion (λ other. fid ≤ other) (keys_of fids)
 
 -- why the fid can't be added
 abbrev pub put_fault : ℕ → List FidRow → Option Fault

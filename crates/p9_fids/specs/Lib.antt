@@ -1,3 +1,4 @@
 pub mod Opened
 pub mod Fid
+pub mod Fids
 pub mod Held

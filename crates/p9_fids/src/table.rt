@@ -9,7 +9,8 @@ ghost use Rattle.std.specs.List.{All, AllByRecursion, list_any};
 ghost use Rattle.std.specs.Map.{keys_of, values_of};
 ghost use Rattle.p9_space.specs.Channel.{Fits, trail_of};
 ghost use Rattle.p9_space.specs.Table.{MountRow};
-ghost use Rattle.p9_fids.specs.Fid.{IsFids, IsLeast, changed_fid, fid_at, is_open_on, open_count};
+ghost use Rattle.p9_fids.specs.Fid.{changed_fid, fid_at, is_open_on, open_count};
+ghost use Rattle.p9_fids.specs.Fids.{IsFids, IsLeast};
 ghost use Rattle.p9_fids.specs.Fid.{opened_as};
 ghost use Rattle.p9_fids.specs.Fid.{put_fault, trailed, with_fid, without_fid};
 ghost use Rattle.p9_fids.specs.Held.{AllFit, HeldFits, fid_of, no_fids};
@@ -37,7 +38,7 @@ pub struct FidTable<A: Allocator + Copy> {
 }
 
 impl<A: Allocator + Copy> Model for FidTable<A> {
-    ghost use Rattle.p9_fids.specs.Fid.{IsFids};
+    ghost use Rattle.p9_fids.specs.Fids.{IsFids};
     ghost use Rattle.p9_fids.specs.Held.{HeldFids, fid_of, held_fids, map_values};
 
     ghost Value = { HeldFids };

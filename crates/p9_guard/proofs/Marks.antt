@@ -7,7 +7,7 @@ use Rattle.p9_base.specs.declared.fault.Fault.TheVariants.{OutOfMemory}
 use Rattle.p9_base.specs.Fault.{text_of}
 use Rattle.p9_base.proofs.Faults.{fault_text_is_text}
 use Rattle.p9_wire.specs.Frame.{is_frame}
-use Rattle.p9_wire.specs.Laws.{IsBytes}
+use Rattle.p9_wire.specs.Frame.{IsBytes}
 use Rattle.p9_wire.specs.Message.{Rerror}
 use Rattle.p9_wire.specs.Spelling.{RSpells}
 use Rattle.p9_wire.proofs.Framing.{one_message}

@@ -2,7 +2,7 @@
 use Rattle.std.proofs.Common.{◌≡◌, ℕ, ◌<◌, ◌^◌, Bool, true, false, List, [], ◌∷◌, IsTrue, refl, sym, ◌∙◌}
 use Rattle.std.proofs.Common.{subst, append-nil, arith, get_or, zero, suc, Option, Some, None}
 use Rattle.std.specs.Option.{option_map_or}
-use Rattle.p9_wire.specs.Laws.{IsBytes}
+use Rattle.p9_wire.specs.Frame.{IsBytes}
 use Rattle.std.specs.Prelude.{◌||◌, not}
 use Rattle.std.specs.List.{AllByRecursion, concat}
 use Rattle.p9_base.specs.declared.node_ref.NodeRef.{NodeRef}

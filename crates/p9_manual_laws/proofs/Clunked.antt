@@ -9,7 +9,8 @@ use Rattle.std.specs.Ordering.{nat_cmp}
 use Rattle.std.proofs.lemmas.Bool.Decides.{nat_tests}
 use Rattle.p9_base.specs.Results.{obtain}
 use Rattle.p9_base.proofs.Rows.{each-lookup}
-use Rattle.p9_fids.specs.Fid.{Fid, FidRow, IsFids, fid_at, nofid, put_fault, without_fid}
+use Rattle.p9_fids.specs.Fid.{Fid, FidRow, fid_at, nofid, put_fault, without_fid}
+use Rattle.p9_fids.specs.Fids.{IsFids}
 use Rattle.p9_step.specs.Clunk.{without}
 use Rattle.p9_step.specs.Sound.{IsSession}
 use Rattle.p9_manual_laws.specs.Clunks.{ClunkFreesFid}

@@ -13,7 +13,8 @@ use Rattle.p9_wire.specs.Fields.{number}
 use Rattle.p9_wire.specs.Frame.{header, is_frame, msize_max}
 use Rattle.p9_wire.specs.Message.{TMessage}
 use Rattle.p9_wire.specs.Reading.{t_message_of}
-use Rattle.p9_wire.specs.Spelling.{TSpells, r_spelling, t_body, t_spelling, t_type}
+use Rattle.p9_wire.specs.Spelling.{TSpells, t_body, t_spelling, t_type}
+use Rattle.p9_wire.specs.Reply.{r_spelling}
 use Rattle.p9_wire.proofs.Lengths.{length-frame, length-t_body, t_len-fits}
 use Rattle.p9_wire.proofs.TGrammar.{t-decides}
 use Rattle.p9_step.specs.Answer.{Outcome, outcome_of}

@@ -3,7 +3,8 @@ use Rattle.std.specs.Prelude.{◌≡◌, ℕ, ◌≤◌, true, false, List, Opti
 use Rattle.std.specs.Option.{option_map_or}
 use Rattle.p9_wire.specs.Frame.{msize_max}
 use Rattle.p9_wire.specs.Message.{RMessage, TMessage}
-use Rattle.p9_wire.specs.Spelling.{RSpells, TSpells, r_spelling}
+use Rattle.p9_wire.specs.Spelling.{RSpells, TSpells}
+use Rattle.p9_wire.specs.Reply.{r_spelling}
 use Rattle.p9_fids.specs.Fid.{Fid, fid_at}
 use Rattle.p9_step.specs.Answer.{Outcome, outcome_of}
 use Rattle.p9_step.specs.ForestChange.{all_applied}

@@ -32,11 +32,12 @@ use Rattle.p9_base.proofs.Rows.{set_value-same}
 use Rattle.p9_tree.specs.Forest.{IsForest}
 use Rattle.p9_wire.specs.Fields.{FitsText}
 use Rattle.p9_wire.specs.Frame.{msize_max}
-use Rattle.p9_wire.specs.Laws.{IsBytes}
+use Rattle.p9_wire.specs.Frame.{IsBytes}
 use Rattle.p9_wire.specs.Message.{RMessage, Rerror, TMessage, Tattach, Tauth, Tclunk, Tcreate}
 use Rattle.p9_wire.specs.Message.{Tflush, Topen, Tread, Tremove, Tstat, Tversion, Twalk, Twrite}
 use Rattle.p9_wire.specs.Message.{Twstat}
-use Rattle.p9_wire.specs.Spelling.{TSpells, r_body, r_len, r_spelling, r_type}
+use Rattle.p9_wire.specs.Spelling.{TSpells, r_len}
+use Rattle.p9_wire.specs.Reply.{r_body, r_spelling, r_type}
 use Rattle.p9_wire.proofs.Lengths.{length-frame, length-r_body}
 use Rattle.p9_wire.proofs.TGrammar.{t-decides}
 use Rattle.p9_fids.specs.Fid.{Fid, fid_at, without_fid}

@@ -3,7 +3,7 @@ use Rattle.std.proofs.Common.{◌≡◌, ℕ, List, false, get_or, refl, ap, sym
 use Rattle.p9_wire.specs.Fields.{number}
 use Rattle.p9_wire.specs.Message.{RMessage, Rversion, Rattach, Rerror, Rflush, Rwalk, Ropen}
 use Rattle.p9_wire.specs.Message.{Rcreate, Rread, Rwrite, Rclunk, Rremove, Rstat, Rwstat}
-use Rattle.p9_wire.specs.Spelling.{r_spelling, r_type}
+use Rattle.p9_wire.specs.Reply.{r_spelling, r_type}
 use Rattle.p9_step.specs.Answer.{is_error}
 
 -- the fifth byte is the type

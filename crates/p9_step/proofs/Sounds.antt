@@ -10,7 +10,7 @@ use Rattle.p9_base.proofs.Rows.{each-insert, each-lookup, each-remove, each-set}
 use Rattle.p9_tree.specs.Forest.{IsForest}
 use Rattle.p9_tree.specs.Server.{Server}
 use Rattle.p9_space.specs.Given.{is_table_given}
-use Rattle.p9_wire.specs.Laws.{IsBytes}
+use Rattle.p9_wire.specs.Frame.{IsBytes}
 use Rattle.p9_wire.specs.Message.{TMessage, Tattach, Tauth, Tclunk, Tcreate, Tflush, Topen, Tread}
 use Rattle.p9_wire.specs.Message.{Tremove, Tstat, Tversion, Twalk, Twrite, Twstat}
 use Rattle.p9_wire.specs.Spelling.{TNumbersFit, TSpells}

@@ -4,7 +4,7 @@ use Rattle.std.proofs.Common.{true, ℕ, ◌<◌, ◌^◌, ◌||◌, ◌∷◌, 
 use Rattle.std.specs.List.{AllByRecursion}
 use Rattle.std.specs.Prelude.{◌&&◌}
 use Rattle.p9_wire.specs.Frame.{is_frame}
-use Rattle.p9_wire.specs.Laws.{IsBytes}
+use Rattle.p9_wire.specs.Frame.{IsBytes}
 use Rattle.p9_step.specs.Answer.{Answer, Outcome, outcome_of}
 use Rattle.p9_step.specs.End.{on_ends}
 use Rattle.p9_step.specs.Event.{Close, Event, IsEvent, Message, Open}

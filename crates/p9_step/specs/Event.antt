@@ -1,6 +1,6 @@
 -- What happens to the exporter, one whole event after another.
 use Rattle.std.specs.Prelude.{ℕ, ◌<◌, ◌^◌, List}
-use Rattle.p9_wire.specs.Laws.{IsBytes}
+use Rattle.p9_wire.specs.Frame.{IsBytes}
 
 -- a session is opened, gets a frame at a reading of the clock, and is closed at one
 pub data Event : Type 0 where

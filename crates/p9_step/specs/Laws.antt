@@ -6,7 +6,7 @@ use Rattle.p9_base.specs.declared.fault.Fault.{Fault}
 use Rattle.p9_base.specs.declared.fault.Fault.TheVariants.{OutOfMemory}
 use Rattle.p9_base.specs.Fault.{fault_text_max, text_of}
 use Rattle.p9_wire.specs.Frame.{header, is_frame}
-use Rattle.p9_wire.specs.Laws.{IsBytes}
+use Rattle.p9_wire.specs.Frame.{IsBytes}
 use Rattle.p9_wire.specs.Message.{RMessage, Rerror, TMessage, Tremove}
 use Rattle.p9_wire.specs.Spelling.{RSpells}
 use Rattle.p9_step.specs.State.{Session, State, changed_session, session_at}

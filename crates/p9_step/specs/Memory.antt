@@ -6,7 +6,7 @@ use Rattle.p9_base.specs.declared.fault.Fault.TheVariants.{OutOfMemory}
 use Rattle.p9_base.specs.Fault.{text_of}
 use Rattle.p9_wire.specs.Message.{TMessage, Tattach, Twalk, Tcreate, Twrite, Twstat, Rerror}
 use Rattle.p9_wire.specs.Reading.{t_message_of}
-use Rattle.p9_wire.specs.Spelling.{r_spelling}
+use Rattle.p9_wire.specs.Reply.{r_spelling}
 use Rattle.p9_step.specs.Answer.{Answer}
 use Rattle.p9_step.specs.Request.{tag_of}
 

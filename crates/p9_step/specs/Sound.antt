@@ -13,7 +13,8 @@ use Rattle.p9_space.specs.Trail.{IsTrail}
 use Rattle.p9_wire.specs.Frame.{msize_max}
 use Rattle.p9_fids.specs.declared.opened.OpenMode.TheVariants.{Read}
 use Rattle.p9_fids.specs.declared.opened.Opened.{Opened}
-use Rattle.p9_fids.specs.Fid.{Fid, FidRow, IsFids}
+use Rattle.p9_fids.specs.Fid.{Fid, FidRow}
+use Rattle.p9_fids.specs.Fids.{IsFids}
 use Rattle.p9_step.specs.State.{Session, SessionRow, Setting, State, fid_file, fid_ref}
 use Rattle.p9_step.specs.Version.{msize_min}
 

@@ -7,7 +7,7 @@ use Rattle.p9_base.specs.Results.{and_then}
 use Rattle.p9_tree.specs.Server.{Server}
 use Rattle.p9_wire.specs.Message.{TMessage, Tversion, Tauth, Tattach, Tflush, Twalk, Topen, Tcreate}
 use Rattle.p9_wire.specs.Message.{Tread, Twrite, Tclunk, Tremove, Tstat, Twstat, Rflush}
-use Rattle.p9_wire.specs.Spelling.{r_spelling}
+use Rattle.p9_wire.specs.Reply.{r_spelling}
 use Rattle.p9_step.specs.State.{Setting, Session, SessionRow, State, changed_session, fresh}
 use Rattle.p9_step.specs.State.{session_at, with_session, without_session}
 use Rattle.p9_step.specs.ForestChange.{all_applied}

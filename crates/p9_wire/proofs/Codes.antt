@@ -21,7 +21,7 @@ use Rattle.p9_wire.specs.Fields.{stat_bytes, FitsText, FitsStat, QidNumbersFit, 
 use Rattle.p9_wire.specs.FieldReading.{◌and_then◌, Reader, number_at, bytes_at, ◌then◌, mapped}
 use Rattle.p9_wire.specs.FieldReading.{text_at, nothing_at, qid_at, counted_at, times, several_at}
 use Rattle.p9_wire.specs.FieldReading.{sized_bytes_at, sized_at, stat_fields_at, stat_at}
-use Rattle.p9_wire.specs.Laws.{IsBytes}
+use Rattle.p9_wire.specs.Frame.{IsBytes}
 use Rattle.p9_wire.proofs.Bytes.{IsBytes-back, IsBytes-front, each_below, number-back}
 use Rattle.p9_wire.proofs.Lengths.{length-stat_bytes, length-stat_fields}
 

@@ -5,11 +5,11 @@ use Rattle.std.proofs.lemmas.Bool.{eqb-true, eq-eqb}
 use Rattle.std.proofs.lemmas.List.{append-nil, nil_from_length}
 use Rattle.std.proofs.lemmas.Option.{cond_some, same_Some}
 use Rattle.p9_wire.specs.Fields.{number}
-use Rattle.p9_wire.specs.Spelling.{frame}
+use Rattle.p9_wire.specs.Reply.{frame}
 use Rattle.std.specs.Prelude.{IfSome, IfNone}
 use Rattle.p9_wire.specs.FieldReading.{◌and_then◌, Gives, Reader, number_at, ◌then◌, mapped}
 use Rattle.p9_wire.specs.Reading.{header_at, message_at}
-use Rattle.p9_wire.specs.Laws.{IsBytes}
+use Rattle.p9_wire.specs.Frame.{IsBytes}
 use Rattle.p9_wire.proofs.Bytes.{IsBytes-back}
 use Rattle.p9_wire.proofs.Lengths.{length-parts, length-frame}
 use Rattle.p9_wire.proofs.Codes.{bind_some, when_passed, Codes, number-codes, then-codes}

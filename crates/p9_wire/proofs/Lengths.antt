@@ -13,7 +13,8 @@ use Rattle.p9_wire.specs.Message.{RMessage, Rversion, Rattach, Rerror, Rflush, R
 use Rattle.p9_wire.specs.Message.{Rcreate, Rread, Rwrite, Rclunk, Rremove, Rstat, Rwstat}
 use Rattle.p9_wire.specs.Fields.{number, text, qid_bytes, stat_fields, stat_bytes, stat_len}
 use Rattle.p9_wire.specs.Fields.{FitsText}
-use Rattle.p9_wire.specs.Spelling.{frame, t_body, t_len, TFits, r_body, r_len, RFits}
+use Rattle.p9_wire.specs.Spelling.{t_body, t_len, TFits, r_len, RFits}
+use Rattle.p9_wire.specs.Reply.{frame, r_body}
 use Rattle.p9_wire.proofs.Bytes.{length-number}
 
 -- texts take two bytes and their own

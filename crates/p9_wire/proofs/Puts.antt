@@ -7,7 +7,7 @@ use Rattle.std.proofs.lemmas.Slice.{take-put_mid, drop-put_mid}
 use borrow.Rule.Slice.PartMut.{put_mid}
 use Rattle.std.proofs.lemmas.List.{take-append-drop, drop_at}
 use Rattle.p9_wire.specs.Fields.{number, counted}
-use Rattle.p9_wire.specs.Spelling.{frame}
+use Rattle.p9_wire.specs.Reply.{frame}
 use Rattle.p9_wire.specs.Writing.{Puts, Writes}
 use Rattle.p9_wire.proofs.Bytes.{length-number}
 

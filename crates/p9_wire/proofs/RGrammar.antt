@@ -3,7 +3,8 @@ use Rattle.std.proofs.Common.{◌≡◌, ℕ, ◌+◌, ◌<◌, ◌^◌, List, �
 use Rattle.p9_wire.specs.Message.{RMessage, Rversion, Rattach, Rerror, Rflush, Rwalk, Ropen}
 use Rattle.p9_wire.specs.Message.{Rcreate, Rread, Rwrite, Rclunk, Rremove, Rstat, Rwstat}
 use Rattle.p9_wire.specs.Fields.{FitsText, FitsStat, QidNumbersFit, StatNumbersFit}
-use Rattle.p9_wire.specs.Spelling.{r_type, r_body, r_len, RNumbersFit, RFits, r_spelling, RSpells}
+use Rattle.p9_wire.specs.Spelling.{r_len, RNumbersFit, RFits, RSpells}
+use Rattle.p9_wire.specs.Reply.{r_type, r_body, r_spelling}
 use Rattle.p9_wire.specs.Reading.{r_version_at, r_attach_at, r_error_at, r_flush_at, r_walk_at}
 use Rattle.p9_wire.specs.Reading.{r_open_at, r_create_at, r_read_at, r_write_at, r_clunk_at}
 use Rattle.p9_wire.specs.Reading.{r_remove_at, r_stat_at, r_wstat_at, r_body_at, r_message_of}

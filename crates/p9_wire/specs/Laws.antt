@@ -1,9 +1,6 @@
 -- The words of the laws: how a function that reads and a relation that says what is spelled agree.
-use Rattle.std.specs.Prelude.{◌≡◌, ℕ, ◌<◌, ◌^◌, List, Option, Some, All}
-
--- each item is a byte
-abbrev pub IsBytes : List ℕ → Type 0
-IsBytes bytes = All (λ b. b < 2 ^ 8) bytes
+use Rattle.std.specs.Prelude.{◌≡◌, ℕ, List, Option, Some}
+use Rattle.p9_wire.specs.Frame.{IsBytes}
 
 -- which bytes are which message with which tag
 abbrev pub Spelling : Type 0 → Type 1

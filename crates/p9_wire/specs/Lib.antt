@@ -1,5 +1,6 @@
 pub mod Message
 pub mod Fields
+pub mod Reply
 pub mod Spelling
 pub mod FieldReading
 pub mod Reading

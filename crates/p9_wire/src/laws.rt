@@ -2,7 +2,8 @@
 
 ghost use Rattle.std.specs.Prelude.{◌≡◌, ◌≢◌, ℕ, ◌+◌, IsTrue, List, ◌++◌, length, take};
 ghost use Rattle.p9_wire.specs.Message.{TMessage, RMessage};
-ghost use Rattle.p9_wire.specs.Spelling.{t_len, t_spelling, TSpells, r_len, r_spelling, RSpells};
+ghost use Rattle.p9_wire.specs.Spelling.{t_len, t_spelling, TSpells, r_len, RSpells};
+ghost use Rattle.p9_wire.specs.Reply.{r_spelling};
 ghost use Rattle.p9_wire.specs.Reading.{t_message_of, r_message_of};
 ghost use Rattle.p9_wire.specs.Frame.{first_frame, is_frame, BeginsFrames};
 ghost use Rattle.p9_wire.specs.declared.frame.Frame.TheVariants.{Need, Whole};

@@ -2,7 +2,8 @@
 
 ghost use Rattle.std.specs.Prelude.{◌≡◌, ◌≤◌, ◌<◌, ◌^◌, take, drop, ◌+◌, length};
 ghost use Rattle.p9_wire.specs.Message.{Rread, r_view};
-ghost use Rattle.p9_wire.specs.Spelling.{r_type, r_body, r_len, read_header, RFits, r_spelling};
+ghost use Rattle.p9_wire.specs.Spelling.{r_len, read_header, RFits};
+ghost use Rattle.p9_wire.specs.Reply.{r_type, r_body, r_spelling};
 ghost use Rattle.p9_wire.specs.Writing.{Puts, Writes};
 
 use crate::constants::{

@@ -7,7 +7,7 @@ use Rattle.std.proofs.lemmas.Bool.{eq-eqb}
 use Rattle.std.proofs.lemmas.List.{append-nil}
 use Rattle.p9_base.specs.declared.qid.Qid.{Qid}
 use Rattle.p9_wire.specs.Fields.{text, QidNumbersFit}
-use Rattle.p9_wire.specs.Laws.{IsBytes}
+use Rattle.p9_wire.specs.Frame.{IsBytes}
 use Rattle.p9_words.specs.Class.{is_in, skip_blanks}
 use Rattle.p9_words.specs.Reading.{behind, mark_at, number_at, data_at, qid_at}
 use Rattle.p9_words.specs.Reading.{index_at, item_at, indexed_at, items_from}

@@ -5,8 +5,8 @@ use Rattle.std.specs.List.{flat_map}
 use Rattle.std.proofs.lemmas.Bool.{lt-ltb}
 use Rattle.std.proofs.lemmas.List.{append-nil, length-append}
 use Rattle.p9_wire.specs.Fields.{number}
-use Rattle.p9_wire.specs.Laws.{IsBytes}
-use Rattle.p9_wire.specs.Spelling.{frame}
+use Rattle.p9_wire.specs.Frame.{IsBytes}
+use Rattle.p9_wire.specs.Reply.{frame}
 use Rattle.p9_wire.proofs.Bytes.{IsBytes-back, IsBytes-front, length-number}
 use Rattle.p9_words.specs.Class.{skip_blanks}
 use Rattle.p9_words.specs.Reading.{verb_at, field_at, fields_from, tag_field, framed, frame_at}

@@ -11,7 +11,7 @@ use Rattle.std.proofs.lemmas.List.{append-nil, take_at, drop_at}
 use Rattle.hex.specs.Hex.{encode_lower, encode_with, lower_digits}
 use Rattle.hex.proofs.HexLemmas.{decode_of-encode_lower}
 use Rattle.p9_wire.specs.Fields.{FitsText}
-use Rattle.p9_wire.specs.Laws.{IsBytes}
+use Rattle.p9_wire.specs.Frame.{IsBytes}
 use Rattle.p9_wire.proofs.Bytes.{each_below}
 use Rattle.p9_words.specs.Class.{is_in, is_bare, skip_blanks}
 use Rattle.p9_words.specs.Reading.{behind, unquoted_from, pairs_at, bare_at, word_at, text_at}

@@ -2,11 +2,12 @@
 use Rattle.std.proofs.Common.{◌≡◌, ℕ, ◌+◌, ◌<◌, ◌^◌, List, length, Ok, refl, arith}
 use Rattle.std.proofs.Common.{append_assoc}
 use Rattle.std.proofs.lemmas.List.{append-nil}
-use Rattle.p9_wire.specs.Laws.{IsBytes}
+use Rattle.p9_wire.specs.Frame.{IsBytes}
 use Rattle.p9_wire.specs.Message.{RMessage, Rversion, Rattach, Rerror, Rflush, Rwalk, Ropen}
 use Rattle.p9_wire.specs.Message.{Rcreate}
 use Rattle.p9_wire.specs.Message.{Rread, Rwrite, Rclunk, Rremove, Rstat, Rwstat}
-use Rattle.p9_wire.specs.Spelling.{r_type, r_body, RNumbersFit, RFits, r_spelling, RSpells}
+use Rattle.p9_wire.specs.Spelling.{RNumbersFit, RFits, RSpells}
+use Rattle.p9_wire.specs.Reply.{r_type, r_body, r_spelling}
 use Rattle.p9_wire.proofs.Lengths.{length-r_body, r_len-fits}
 use Rattle.p9_words.specs.Reading.{frame_of_words}
 use Rattle.p9_words.specs.Verb.{type_of, fields_of}

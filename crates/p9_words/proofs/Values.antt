@@ -11,7 +11,7 @@ use Rattle.p9_wire.specs.Fields.{number, text, counted, several, sized, qid_byte
 use Rattle.p9_wire.specs.Fields.{stat_fields, FitsText, FitsNames, FitsStat, QidNumbersFit}
 use Rattle.p9_wire.specs.Fields.{stat_len}
 use Rattle.p9_wire.specs.Fields.{StatNumbersFit}
-use Rattle.p9_wire.specs.Laws.{IsBytes}
+use Rattle.p9_wire.specs.Frame.{IsBytes}
 use Rattle.p9_wire.specs.Message.{StatFields}
 use Rattle.p9_wire.proofs.Bytes.{IsBytes-back, IsBytes-front}
 use Rattle.p9_words.specs.Class.{is_in, skip_blanks}

@@ -1,6 +1,7 @@
 -- The words of the laws.
 use Rattle.std.specs.Prelude.{◌≡◌, ℕ, List, Result, Ok}
-use Rattle.p9_wire.specs.Laws.{IsBytes, Spelling}
+use Rattle.p9_wire.specs.Laws.{Spelling}
+use Rattle.p9_wire.specs.Frame.{IsBytes}
 use Rattle.p9_words.specs.declared.error.Fault.{Fault}
 use Rattle.p9_words.specs.Reading.{frame_of_words}
 

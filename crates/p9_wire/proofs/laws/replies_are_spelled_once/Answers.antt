@@ -1,5 +1,5 @@
 use Rattle.std.proofs.Common.{ℕ, ◌+◌, ap, ◌∙◌}
-use Rattle.p9_wire.specs.Spelling.{r_type, r_body, r_spelling}
+use Rattle.p9_wire.specs.Reply.{r_type, r_body, r_spelling}
 use Rattle.p9_wire.proofs.Lengths.{length-frame, length-r_body}
 use Rattle.p9_wire.proofs.Framing.{one_tag, one_message}
 use Rattle.p9_wire.proofs.RGrammar.{r-decides}

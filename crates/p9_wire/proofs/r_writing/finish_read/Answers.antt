@@ -1,5 +1,5 @@
 use Rattle.std.proofs.Common.{arith}
-use Rattle.p9_wire.specs.Spelling.{r_spelling}
+use Rattle.p9_wire.specs.Reply.{r_spelling}
 use Rattle.p9_wire.proofs.Puts.{framed, puts_counted}
 use Rattle.p9_wire.proofs.r_writing.finish_read.Goals as goal
 

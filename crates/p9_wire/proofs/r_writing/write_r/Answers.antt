@@ -1,6 +1,6 @@
 use Rattle.std.proofs.Common.{arith}
 use Rattle.p9_wire.specs.Message.{r_view}
-use Rattle.p9_wire.specs.Spelling.{r_spelling}
+use Rattle.p9_wire.specs.Reply.{r_spelling}
 use Rattle.p9_wire.proofs.Lengths.{length-r_body, r_len-fits}
 use Rattle.p9_wire.proofs.Puts.{framed}
 use Rattle.p9_wire.proofs.r_writing.write_r.Goals as goal

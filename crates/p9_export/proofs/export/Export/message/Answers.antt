@@ -1,6 +1,6 @@
 use Rattle.std.proofs.Common.{◌<◌, ◌≤◌, IfSome, arith, drop, length, subst, sym, take}
 use Rattle.std.proofs.lemmas.List.Elements.{All-from_get_or}
-use Rattle.p9_wire.specs.Laws.{IsBytes}
+use Rattle.p9_wire.specs.Frame.{IsBytes}
 use Rattle.p9_wire.specs.Spelling.{read_header}
 use Rattle.p9_step.specs.Laws.{reply_max}
 use Rattle.p9_step.specs.State.{State, session_at}

@@ -1,6 +1,7 @@
 use Rattle.std.proofs.Common.{◌∙◌, ap, subst, sym}
 use Rattle.std.specs.Ordering.{nat_cmp}
-use Rattle.p9_fids.specs.Fid.{IsFids, put_fault}
+use Rattle.p9_fids.specs.Fid.{put_fault}
+use Rattle.p9_fids.specs.Fids.{IsFids}
 use Rattle.p9_fids.specs.Held.{AllFit, HeldFids, fid_of, held_fids, map_values}
 use Rattle.p9_fids.proofs.Fids.{fids-with}
 use Rattle.p9_fids.proofs.Holding.{fit-insert}

@@ -4,7 +4,8 @@ use Rattle.std.specs.Option.{option_copied_mut}
 use Rattle.std.specs.Ordering.{nat_cmp}
 use Rattle.std.specs.BTreeMap.{is_at}
 use Rattle.p9_space.specs.Channel.{trail_of}
-use Rattle.p9_fids.specs.Fid.{IsFids, opened_as}
+use Rattle.p9_fids.specs.Fid.{opened_as}
+use Rattle.p9_fids.specs.Fids.{IsFids}
 use Rattle.p9_fids.specs.Held.{AllFit, Held, fid_of, held_fids, map_values}
 use Rattle.p9_fids.proofs.Fids.{fids-changed}
 use Rattle.p9_fids.proofs.Holding.{changed-held, fit-lookup, fit-set, held-there}

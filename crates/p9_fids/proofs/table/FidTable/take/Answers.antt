@@ -2,7 +2,7 @@ use Rattle.std.proofs.Common.{◌∙◌, IfSome, ap, subst, sym}
 use Rattle.std.specs.Option.{option_map}
 use Rattle.std.specs.Ordering.{nat_cmp}
 use Rattle.std.specs.BTreeMap.{is_at}
-use Rattle.p9_fids.specs.Fid.{IsFids}
+use Rattle.p9_fids.specs.Fids.{IsFids}
 use Rattle.p9_fids.specs.Held.{AllFit, HeldFits, fid_of, held_fids, map_values}
 use Rattle.p9_fids.proofs.Fids.{fids-without}
 use Rattle.p9_fids.proofs.Holding.{fit-found, fit-remove}
