@@ -3,9 +3,9 @@
 
 use crate::exchange::{Exchange, exchange, is_reply, room, send};
 use crate::worlds::{ATTACH, Bind, VERSION, exporter, in_session};
-use p9_testing::{Refusing, bytes_of, refuse_each};
 use p9_export::{Export, OpenError};
 use p9_index::IndexTree;
+use p9_testing::{Refusing, bytes_of, refuse_each};
 use p9_tree::{PlainTree, Tree};
 use std::alloc::Global;
 use std::process::Abort;

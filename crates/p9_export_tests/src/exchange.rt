@@ -1,7 +1,7 @@
 //! Frames and their replies.
 
-use p9_testing::bytes_of;
 use p9_export::{Export, is_frame};
+use p9_testing::bytes_of;
 use p9_tree::Tree;
 use p9_wire::MSIZE_MAX;
 use std::alloc::Global;

@@ -4,9 +4,9 @@
 use crate::exchange::{room, send};
 use crate::worlds::{SMALL, begin, exporter};
 use linked_list_allocator::LocalHeap;
-use p9_testing::bytes_of;
 use p9_export::Export;
 use p9_index::IndexTree;
+use p9_testing::bytes_of;
 use p9_tree::{PlainTree, Tree};
 use std::alloc::Global;
 use std::process::Abort;

@@ -21,7 +21,8 @@ pub record IsPromised (hidden : List NodeRef) (before : State) (events : List Ma
   -- nothing inside a hidden directory has changed
   pub insides : inner hidden after.forest ≡ inner hidden before.forest
   -- a run from any state that differs only inside hidden directories gives the same replies, and
-  -- leads to a state that differs only there
+  -- leads to a state that differs only there. Each member of the mount table and each place of a
+  -- fid exists in both states or in neither: AreAlike says so
   pub same_replies : (other : State) → AreAlike hidden before other
       → (run other events).replies ≡ (run before events).replies
   pub same_state : (other : State) → AreAlike hidden before other

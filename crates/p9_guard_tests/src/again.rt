@@ -4,10 +4,10 @@
 use crate::refusals::{is_refusal, may_run_out};
 use crate::scripts::{SCRIPTS, Script, Step, step_of};
 use crate::worlds::scripted;
-use p9_testing::{Refusing, bytes_of, refuse_each};
 use p9_export::{OpenError, is_frame};
 use p9_guard::Guard;
 use p9_index::IndexTree;
+use p9_testing::{Refusing, bytes_of, refuse_each};
 use p9_tree::{PlainTree, Tree};
 use std::alloc::Global;
 use std::process::Abort;

@@ -7,6 +7,8 @@ mod again;
 #[cfg(test)]
 mod lent;
 #[cfg(test)]
+mod misfits;
+#[cfg(test)]
 mod pairs;
 #[cfg(test)]
 mod refusals;

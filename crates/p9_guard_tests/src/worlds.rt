@@ -3,10 +3,10 @@
 use crate::scripts::Script;
 use p9_base::NodeRef;
 use p9_cert::{Certificate, read_cert};
-use p9_testing::bytes_of;
 use p9_export::Event;
 use p9_guard::Guard;
 use p9_space::{MountTable, Order};
+use p9_testing::bytes_of;
 use p9_tree::Tree;
 use p9_world::{World, read_world};
 use std::alloc::{Allocator, Global};
@@ -41,13 +41,13 @@ hide main /vault
 pub const CERTIFICATE: &str = "cert 1\ndir 0 0\ndir 0 1\n";
 
 /// A client asks for an msize of 8,192.
-const VERSION: Row = (
+pub const VERSION: Row = (
     "13000000 64 ffff 00200000 0600 395032303030",
     "13000000 65 ffff 00200000 0600 395032303030",
 );
 
 /// Glenda attaches fid 0.
-const ATTACH: Row = (
+pub const ATTACH: Row = (
     "19000000 68 0100 00000000 ffffffff 0600 676c656e6461 0000",
     "14000000 69 0100 80 00000000 0000000000000000",
 );

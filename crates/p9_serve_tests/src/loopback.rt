@@ -2,9 +2,9 @@
 
 use crate::rows::Row;
 use mio::net::{TcpListener, TcpStream};
-use p9_testing::bytes_of;
 use p9_index::IndexTree;
 use p9_serve::{Server, served_guard};
+use p9_testing::bytes_of;
 use std::alloc::Global;
 use std::io::{ErrorKind, Read, Write};
 use std::net::{Ipv4Addr, Net, SocketAddr};

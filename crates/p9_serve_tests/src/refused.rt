@@ -2,8 +2,8 @@
 
 use crate::rows::SMALL;
 use p9_index::IndexTree;
-use p9_testing::{Refusing, refuse_each};
 use p9_serve::{Clients, Tally, served_guard};
+use p9_testing::{Refusing, refuse_each};
 use std::alloc::Global;
 use std::io::Cursor;
 use std::process::Abort;

@@ -4,8 +4,8 @@ use crate::fids::fid_on;
 use crate::words::node;
 use p9_base::{Fault, NoMemory};
 use p9_fids::{Fid, FidTable};
-use p9_testing::{Refusing, refuse_each};
 use p9_space::{Channels, MountTable, Trail};
+use p9_testing::{Refusing, refuse_each};
 use std::alloc::{Allocator, Global};
 use std::process::Abort;
 
