@@ -63,8 +63,8 @@ impl Played {
     }
 }
 
-// Two sessions with a name each, and a third event of each kind that doesn't fit.
-fn played(rt: &impl Abort, alloc: Global) -> Played {
+// Two sessions, among events of each kind that do not fit.
+fn two_sessions(rt: &impl Abort, alloc: Global) -> Played {
     let mut list = Played::new(alloc);
     list.send_unanswered(rt, alloc, 1, VERSION.0);
     list.add(rt, Event::Close(1, 7));
@@ -92,7 +92,7 @@ fn plays<T: Tree>(rt: &impl Abort, alloc: Global, lent: T::Alloc) {
     let certificate = certificate_of(rt, lent, CERTIFICATE);
     match Guard::new(world, MountTable::new(lent), certificate) {
         Ok(mut guard) => {
-            let list = played(rt, alloc);
+            let list = two_sessions(rt, alloc);
             let mut bytes = Vec::new(lent);
             assert_eq!(rt; guard.run(list.events.as_slice(), &mut bytes), Ok(()));
             assert!(rt; bytes.as_slice() == list.replies.as_slice());
