@@ -36,7 +36,7 @@ pub record Common (old new : Scene) (deeds : Deeds) : Type 0 where
   pub comes : IsGathered old.link.buffer deeds new.link.buffer
       ⊎ IsTaken old.link.buffer deeds new.link.buffer
 
-no-run : (state : State) → IsRun state [] state
+pub no-run : (state : State) → IsRun state [] state
 no-run state = record { permitted = refl; state_is = refl; replies_are = refl }
 
 one-run : (entry : Answered) (old new : State) → IsStep entry old new → IsRun old (entry ∷ []) new
@@ -131,7 +131,7 @@ by-phase false false session now old new deeds e (inl t) = sends old new deeds t
 by-phase false false session now old new deeds e (inr (inl t)) = idle old new deeds t
 by-phase false false session now old new deeds e (inr (inr t)) = ends session now old new deeds t
 
-common : (session now : ℕ) (old new : Scene) (deeds : Deeds)
+pub common : (session now : ℕ) (old new : Scene) (deeds : Deeds)
     → IsTurn session now old new deeds → Common old new deeds
 common session now old new deeds t =
     by-phase old.link.closed (nat_eq (length old.link.pending) 0) session now old new deeds refl t

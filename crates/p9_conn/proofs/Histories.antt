@@ -1,32 +1,20 @@
 -- A history is a run, and it is promised.
 use Rattle.std.proofs.Common.{◌≡◌, ℕ, true, List, [], ◌∷◌, ◌++◌, refl, ap, sym, ◌∙◌}
-use Rattle.std.proofs.lemmas.Bool.{and_parts}
 use Rattle.std.proofs.lemmas.List.{map-append}
-use Rattle.std.specs.Prelude.{◌||◌, not}
 use Rattle.std.specs.List.{AllByRecursion, concat}
 use Rattle.p9_step.specs.Event.{IsEvent}
 use Rattle.p9_step.specs.State.{State}
-use Rattle.p9_step.specs.Step.{Marked, run, step}
+use Rattle.p9_step.specs.Step.{Marked, run}
 use Rattle.p9_step.proofs.Steps.{run-goes-on}
-use Rattle.p9_guard.specs.Marks.{are_permitted, may_be_refused}
 use Rattle.p9_guard.proofs.Promises.{promised}
+use Rattle.p9_guard.proofs.Sentences.{permitted-both}
 use Rattle.p9_conn.specs.Turn.{Answered}
 use Rattle.p9_conn.specs.History.{Happening, Links, Runs, events_of, history, replies_of}
 use Rattle.p9_conn.specs.Laws.{HistoryIsPromised, HistoryIsRun, IsRun}
 use Rattle.p9_conn.proofs.Facts.{turned}
 
--- marks of events, and of others behind them
-permitted-both : (state : State) (events others : List Marked)
-    → are_permitted state events ≡ true → are_permitted (run state events).state others ≡ true
-    → are_permitted state (events ++ others) ≡ true
-permitted-both state [] others first later = later
-permitted-both state (e ∷ events) others first later =
-    let parts = and_parts (not e.1 || may_be_refused state e.0)
-    (are_permitted (step state e.0 e.1).state events) first in
-    rw (parts.0) (permitted-both (step state e.0 e.1).state events others parts.1 later)
-
 -- a run, and another behind it
-both : (old mid new : State) (answered others : List Answered) → IsRun old answered mid
+pub both : (old mid new : State) (answered others : List Answered) → IsRun old answered mid
     → IsRun mid others new → IsRun old (answered ++ others) new
 both old mid new answered others first later =
     let on = run-goes-on old (events_of answered) (events_of others) in
@@ -62,7 +50,7 @@ history-is-run (h ∷ hs) links links' state state' runs =
     (history-is-run hs between links' mid state' runs.3)
 
 -- events that can happen, and others
-fine-both : (events others : List Marked) → AllByRecursion (λ event. IsEvent event.0) events
+pub fine-both : (events others : List Marked) → AllByRecursion (λ event. IsEvent event.0) events
     → AllByRecursion (λ event. IsEvent event.0) others
     → AllByRecursion (λ event. IsEvent event.0) (events ++ others)
 fine-both [] others all more = more

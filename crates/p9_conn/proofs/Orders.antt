@@ -116,7 +116,7 @@ frames-come-in-order (h ∷ hs) links links' state state' runs session =
 -- Replies.
 
 -- a turn, and replies behind it
-goes-out : (pending left end later : List ℕ) (deeds : Deeds) (others : List Answered)
+pub goes-out : (pending left end later : List ℕ) (deeds : Deeds) (others : List Answered)
     → pending ++ concat (replies_of deeds.answered) ≡ deeds.written ++ left
     → left ++ concat (replies_of others) ≡ later ++ end
     → pending ++ concat (replies_of (deeds.answered ++ others)) ≡ (deeds.written ++ later) ++ end

@@ -46,7 +46,7 @@ every-run-is-promised world table certificate ok verified events happen =
     (concat (run (served world table) events).replies) happen.permitted refl refl
 
 -- marks of events, and of others that follow them
-permitted-both : (state : State) (events others : List Marked)
+pub permitted-both : (state : State) (events others : List Marked)
     → are_permitted state events ≡ true → are_permitted (run state events).state others ≡ true
     → are_permitted state (events ++ others) ≡ true
 permitted-both state [] others first last = last

@@ -1,2 +1,4 @@
 mod Sessions
 mod Keyed
+mod Lives
+mod Sends

@@ -1,3 +1,5 @@
 pub mod Serving
 pub mod Rounds
 pub mod Run
+pub mod Life
+pub mod Laws

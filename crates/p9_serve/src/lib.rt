@@ -4,6 +4,7 @@
 
 mod clients;
 mod clock;
+pub mod laws;
 mod run;
 mod server;
 
@@ -11,6 +12,6 @@ pub use clients::{Clients, Tally};
 pub use p9_commands::{
     Bundle, BundleError, ScriptError, read_script, run_command, served_guard, split_bundle,
 };
-pub use p9_conn::{Conn, Turn, laws};
+pub use p9_conn::{Conn, Turn};
 pub use run::{run_serve, tell_failure};
 pub use server::{Round, Server};

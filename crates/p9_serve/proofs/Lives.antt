@@ -1,0 +1,214 @@
+-- A server's life is a run that is promised.
+use Rattle.std.proofs.Common.{◌≡◌, ℕ, zero, suc, ◌<◌, ◌^◌, true, false, List, [], ◌∷◌, ◌++◌, Option}
+use Rattle.std.proofs.Common.{Some, None, refl, sym, ap, subst, ◌∙◌}
+use Rattle.std.specs.List.{AllByRecursion, concat}
+use Rattle.p9_step.specs.Event.{IsEvent}
+use Rattle.p9_step.specs.State.{State}
+use Rattle.p9_guard.specs.Guard.{Guarded}
+use Rattle.p9_guard.proofs.Promises.{closing_is_silent, promised}
+use Rattle.p9_guard_laws.specs.Guarded.{IsGuardedState}
+use Rattle.p9_conn.specs.Conn.{Connection, scene}
+use Rattle.p9_conn.specs.History.{Happening, events_of, replies_of}
+use Rattle.p9_conn.specs.Laws.{IsRun}
+use Rattle.p9_conn.specs.Turn.{Answered, Deeds}
+use Rattle.p9_conn.specs.declared.conn.Turn.{Turn}
+use Rattle.p9_conn.proofs.Facts.{common, no-run}
+use Rattle.p9_conn.proofs.Histories.{both, fine-both}
+use Rattle.std.proofs.lemmas.List.{map-append}
+use Rattle.p9_serve.specs.Laws.{EveryLifeIsPromised, HasLived, IsLife}
+use Rattle.p9_serve.specs.Life.{Acts, ArrivesAt, Arrives, HasActed, HasRounds, Leaves, LeavesAt, Moment}
+use Rattle.p9_serve.specs.Life.{Pass, Passes, events_in, history, opening}
+use Rattle.p9_serve.specs.Rounds.{Accepts, AcceptsIfDue, HasRound, Running}
+use Rattle.p9_serve.specs.Serving.{EndAt, Ended, IsFinished, Serving, TurnAt, Turned, in_state, slot_at}
+use Rattle.p9_serve.specs.declared.server.Round.{Round}
+
+-- a reading of the clock at which a connection leaves has 32 bits
+abbrev pub IsTimely : Moment → Type 0
+IsTimely (Arrives key) = Unit {0}
+IsTimely (Acts h) = Unit {0}
+IsTimely (Leaves key now) = now < 2 ^ 32
+
+module _ {S : Type 0} (remaining contents : S → Option (List ℕ)) where
+  pub pass-both : (ms ns : List Moment) (a b c : Serving S) → Pass remaining contents ms a b
+      → Pass remaining contents ns b c → Pass remaining contents (ms ++ ns) a c
+  pass-both [] ns a b c one two =
+      subst (λ (s : Serving S). Pass remaining contents ns s c) one two
+  pass-both (m ∷ ms) ns a b c one two = (one.0, one.1, pass-both ms ns one.0 b c one.2 two)
+
+  timely-both : (ms ns : List Moment) → AllByRecursion IsTimely ms → AllByRecursion IsTimely ns
+      → AllByRecursion IsTimely (ms ++ ns)
+  timely-both [] ns one two = two
+  timely-both (m ∷ ms) ns one two = (one.0, timely-both ms ns one.1 two)
+
+  -- moments lead from clients to clients
+  pub record Leads (a b : Serving S) : Type 0 where
+    pub moments : List Moment
+    pub passed : Pass remaining contents moments a b
+    pub timely : AllByRecursion IsTimely moments
+
+  nothing : (a b : Serving S) → b ≡ a → Leads a b
+  nothing a b same = record { moments = []; passed = same; timely = tt }
+
+  leads-both : (a b c : Serving S) → Leads a b → Leads b c → Leads a c
+  leads-both a b c one two = record {
+    moments = one.moments ++ two.moments;
+    passed = pass-both one.moments two.moments a b c one.passed two.passed;
+    timely = timely-both one.moments two.moments one.timely two.timely;
+  }
+
+  turn-leads : (now key : ℕ) (o : Option (Connection S)) (a b : Serving S) (turn : Option Turn)
+      → slot_at a.slots key ≡ o → TurnAt remaining contents now key o a b turn → Leads a b
+  turn-leads now key None a b turn e t = nothing a b t.0
+  turn-leads now key (Some conn) a b None e t = absurd t
+  turn-leads now key (Some conn) a b (Some turn) e t =
+      let h : Happening = record { session = key; now = now; deeds = t.turned.deeds } in
+      let acted : HasActed remaining contents h a b =
+      record { conn = conn; there = e; turn = turn; had = t; deeds_are = refl } in
+      record { moments = Acts h ∷ []; passed = (b, acted, refl); timely = (tt, tt) }
+
+  turns-lead : (now keys : ℕ) (a b : Serving S) (turns : List Turn)
+      → Turned remaining contents now keys a b turns → Leads a b
+  turns-lead now zero a b turns t = nothing a b t.0
+  turns-lead now (suc key) a b turns t =
+      leads-both a t.0 b (turns-lead now key a t.0 t.1 t.3)
+      (turn-leads now key (slot_at t.0.slots key) t.0 b t.2 refl t.4)
+
+  accept-leads : (a b : Serving S) (accepted : ℕ) → Accepts a b accepted → Leads a b
+  accept-leads a b zero t = nothing a b t
+  accept-leads a b (suc zero) t =
+      let key = t.1.key in
+      let arrives : ArrivesAt remaining contents key a b =
+      record { stream = t.0; taken = t.1; key_is = refl } in
+      record { moments = Arrives key ∷ []; passed = (b, arrives, refl); timely = (tt, tt) }
+  accept-leads a b (suc (suc more)) t = absurd t
+
+  due-leads : (left : ℕ) (a b : Serving S) (accepted : ℕ) → AcceptsIfDue left a b accepted
+      → Leads a b
+  due-leads zero a b accepted t = accept-leads a b accepted t
+  due-leads (suc left) a b accepted t = nothing a b t.0
+
+  round-leads : (now : ℕ) (a b : Running S) (round : Round)
+      → HasRound remaining contents now a b round → Leads a.serving b.serving
+  round-leads now a b round t =
+      leads-both a.serving t.between b.serving
+      (due-leads a.left a.serving t.between round.accepted t.accepted)
+      (turns-lead now t.turned.bound t.between b.serving t.turned.turns t.turned.turned)
+
+  rounds-lead : (nows : List ℕ) (a b : Running S) → HasRounds remaining contents nows a b
+      → Leads a.serving b.serving
+  rounds-lead [] a b t = nothing a.serving b.serving (ap (λ (r : Running S). r.serving) t)
+  rounds-lead (now ∷ nows) a b t =
+      leads-both a.serving t.0.serving b.serving (round-leads now a t.0 t.1 t.2)
+      (rounds-lead nows t.0 b t.3)
+
+  end-leads : (now key : ℕ) → now < 2 ^ 32 → (o : Option (Connection S)) (a b : Serving S)
+      → slot_at a.slots key ≡ o → EndAt now key o a b → Leads a b
+  end-leads now key small None a b e t = nothing a b t
+  end-leads now key small (Some conn) a b e t =
+      let leaves : LeavesAt remaining contents key now a b =
+      record { conn = conn; there = e; ended = t } in
+      record { moments = Leaves key now ∷ []; passed = (b, leaves, refl); timely = (small, tt) }
+
+  ends-lead : (now keys : ℕ) → now < 2 ^ 32 → (a b : Serving S) → Ended now keys a b → Leads a b
+  ends-lead now zero small a b t = nothing a b t
+  ends-lead now (suc key) small a b t =
+      leads-both a t.0 b (ends-lead now key small a t.0 t.1)
+      (end-leads now key small (slot_at t.0.slots key) t.0 b refl t.2)
+
+  -- What moments make of the guard's state.
+
+  -- the events of moments are a run, they can happen, and nothing but the guard's state changes
+  pub record HasDone (a b : Serving S) (answered : List Answered) : Type 0 where
+    pub is_run : IsRun a.guard.state answered b.guard.state
+    pub fine : AllByRecursion (λ event. IsEvent event.0) (events_of answered)
+    pub guard_is : b.guard ≡ in_state a.guard b.guard.state
+
+  arrival : (key : ℕ) (a b : Serving S) → ArrivesAt remaining contents key a b
+      → HasDone a b (opening key ∷ [])
+  arrival key a b t =
+      let taken = t.taken in
+      let free = rw (t.key_is) at taken.was_closed in
+      let guard = rw (t.key_is) at taken.guard_is in
+      let state = ap (λ (g : Guarded). g.state) guard in
+      record {
+        is_run = record { permitted = refl; state_is = state; replies_are = rw free refl };
+        fine = (tt, tt);
+        guard_is = guard ∙ ap (in_state a.guard) (sym state);
+      }
+
+  act : (h : Happening) (a b : Serving S) → HasActed remaining contents h a b
+      → HasDone a b h.deeds.answered
+  act h a b t =
+      let turned = t.had.turned in
+      let its = common t.conn.session h.now (scene t.conn a.guard) (scene t.had.after b.guard)
+      turned.deeds turned.turn in
+      subst (λ (d : Deeds). HasDone a b d.answered) t.deeds_are
+      (record { is_run = its.is_run; fine = its.fine; guard_is = turned.guard_is })
+
+  leave : (key now : ℕ) (a b : Serving S) → now < 2 ^ 32 → LeavesAt remaining contents key now a b
+      → HasDone a b (events_in (Leaves key now))
+  leave key now a b small t =
+      let state = ap (λ (g : Guarded). g.state) t.ended.guard_is in
+      record {
+        is_run = record {
+          permitted = refl;
+          state_is = state;
+          replies_are = ap (λ (r : List ℕ). r ∷ []) (closing_is_silent a.guard.state key now);
+        };
+        fine = (small, tt);
+        guard_is = t.ended.guard_is ∙ ap (in_state a.guard) (sym state);
+      }
+
+  moment-done : (m : Moment) (a b : Serving S) → IsTimely m → Passes remaining contents m a b
+      → HasDone a b (events_in m)
+  moment-done (Arrives key) a b timely t = arrival key a b t
+  moment-done (Acts h) a b timely t = act h a b t
+  moment-done (Leaves key now) a b timely t = leave key now a b timely t
+
+  pub moments-done : (ms : List Moment) (a b : Serving S) → AllByRecursion IsTimely ms
+      → Pass remaining contents ms a b → HasDone a b (history ms)
+  moments-done [] a b timely t =
+      rw t (record { is_run = no-run a.guard.state; fine = tt; guard_is = refl })
+  moments-done (m ∷ ms) a b timely t =
+      let between = t.0 in
+      let one = moment-done m a between timely.0 t.1 in
+      let two = moments-done ms between b timely.1 t.2 in
+      record {
+        is_run =
+            both a.guard.state between.guard.state b.guard.state (events_in m) (history ms)
+            one.is_run two.is_run;
+        fine =
+            rw (map-append (λ (entry : Answered). entry.event) (events_in m) (history ms))
+            (fine-both (events_of (events_in m)) (events_of (history ms)) one.fine two.fine);
+        guard_is = two.guard_is ∙ ap (λ (g : Guarded). in_state g b.guard.state) one.guard_is;
+      }
+
+  pub life-is : (a b : Serving S) → IsGuardedState a.guard.hidden a.guard.start a.guard.state
+      → (t : Leads a b) → IsLife a.guard.hidden a.guard.state t.moments b.guard.state
+  life-is a b guarded t =
+      let done = moments-done t.moments a b t.timely t.passed in
+      let events = events_of (history t.moments) in
+      record {
+        run = done.is_run;
+        promised =
+            promised a.guard.hidden a.guard.start a.guard.state events guarded done.fine
+            b.guard.state (concat (replies_of (history t.moments))) done.is_run.permitted
+            done.is_run.state_is (ap concat done.is_run.replies_are);
+      }
+
+pub every-life-is-promised : {S : Type 0} → EveryLifeIsPromised S
+every-life-is-promised {S} remaining contents guard after nows last running guarded small timely
+    rounds finished =
+    let first : Serving S = record { guard = guard; slots = [] } in
+    let leads = leads-both remaining contents first running.serving finished.last
+    (rounds-lead remaining contents nows _ running rounds)
+    (ends-lead remaining contents last finished.bound timely running.serving finished.last
+    finished.ended) in (
+      finished.last,
+      finished.guard_is,
+      record {
+        moments = leads.moments;
+        passed = leads.passed;
+        life = life-is remaining contents first finished.last guarded leads;
+      },
+    )

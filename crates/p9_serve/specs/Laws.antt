@@ -1,0 +1,58 @@
+-- The laws of a server's life.
+use Rattle.std.specs.Prelude.{◌≡◌, ℕ, ◌<◌, ◌^◌, List, [], ◌∷◌, ◌++◌, Option}
+use Rattle.std.specs.List.{AllByRecursion, concat}
+use Rattle.p9_base.specs.declared.node_ref.NodeRef.{NodeRef}
+use Rattle.p9_step.specs.State.{State}
+use Rattle.p9_guard.specs.Guard.{Guarded}
+use Rattle.p9_guard.specs.Headline.{IsPromised}
+use Rattle.p9_guard_laws.specs.Guarded.{IsGuardedState}
+use Rattle.p9_conn.specs.History.{events_of, replies_of}
+use Rattle.p9_conn.specs.Laws.{IsRun}
+use Rattle.p9_serve.specs.Life.{Arrives, HasRounds, Moment, Pass, answered_at, history, stay}
+use Rattle.p9_serve.specs.Life.{written_at}
+use Rattle.p9_serve.specs.Rounds.{Running, new_server}
+use Rattle.p9_serve.specs.Serving.{IsFinished, Serving}
+
+-- the state and all replies are those of the run of the openings, messages and closings, in their
+-- order; nothing inside a hidden directory has changed, and no byte that any client was answered
+-- depends on what is there
+pub record IsLife (hidden : List NodeRef) (before : State) (moments : List Moment) (after : State)
+    : Type 0 where
+  pub run : IsRun before (history moments) after
+  pub promised : IsPromised hidden before (events_of (history moments)) after
+      (concat (replies_of (history moments)))
+
+-- what a client was sent, and what is pending for it, is its own replies
+pub record IsSent (key : ℕ) (moments : List Moment) : Type 0 where
+  pub pending : List ℕ
+  pub own : concat (replies_of (answered_at key (stay key moments)))
+      ≡ written_at key (stay key moments) ++ pending
+
+module _ (S : Type 0) where
+  -- a life from clients to clients
+  pub record HasLived (remaining contents : S → Option (List ℕ)) (old new : Serving S) : Type 0
+    where
+      pub moments : List Moment
+      pub passed : Pass remaining contents moments old new
+      pub life : IsLife old.guard.hidden old.guard.state moments new.guard.state
+
+  -- from a new server, through any rounds, to the end of all sessions
+  abbrev pub EveryLifeIsPromised : Type 0
+  EveryLifeIsPromised =
+      (remaining contents : S → Option (List ℕ)) (guard after : Guarded)
+      (nows : List ℕ) (last : ℕ) (running : Running S)
+      → IsGuardedState guard.hidden guard.start guard.state
+      → AllByRecursion (λ now. now < 2 ^ 32) nows → last < 2 ^ 32
+      → HasRounds remaining contents nows
+      (new_server (record { guard = guard; slots = [] })) running
+      → IsFinished last running.serving after
+      → (end : Serving S) × (after ≡ end.guard)
+      × HasLived remaining contents (record { guard = guard; slots = [] }) end
+
+  -- what a client that arrives at a key is sent is its own replies, until the key is given to
+  -- another, also where another had it before
+  abbrev pub ClientsAreSentTheirReplies : Type 0
+  ClientsAreSentTheirReplies =
+      (remaining contents : S → Option (List ℕ)) (earlier later : List Moment)
+      (old new : Serving S) (key : ℕ)
+      → Pass remaining contents (earlier ++ Arrives key ∷ later) old new → IsSent key later

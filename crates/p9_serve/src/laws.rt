@@ -1,0 +1,26 @@
+//! The laws of a server's life, and those of lists of turns. Each function does nothing: its clauses
+//! are the laws.
+
+ghost use Rattle.p9_serve.specs.Laws.{ClientsAreSentTheirReplies, EveryLifeIsPromised};
+
+pub use p9_conn::laws::{
+    a_history_is_a_run, a_history_is_promised, frames_come_in_order, replies_go_out,
+};
+
+/// The theorem, of a server's whole life: from a new server over a guard, through any rounds in
+/// which clients are taken in, have turns, end, and leave their keys to others, to the end of all
+/// sessions. The guard's state and all replies are those of the run of the openings, messages and
+/// closings, in their order. Nothing inside a hidden directory changes, and no byte that any client
+/// is answered depends on what is there.
+///
+/// [`Server::round`](crate::Server::round) makes a round, and
+/// [`Server::finish`](crate::Server::finish) ends all sessions.
+pub fn every_life_is_promised<S>()
+    ensures { EveryLifeIsPromised S }
+{}
+
+/// What a client's connection has written, with what is pending, is the replies to it, in their
+/// order, until its key is given to another client; and so where another had the key before.
+pub fn clients_are_sent_their_replies<S>()
+    ensures { ClientsAreSentTheirReplies S }
+{}
