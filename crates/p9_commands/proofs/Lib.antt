@@ -10,3 +10,4 @@ mod Machines
 mod Tasks
 mod Judgements
 mod Offers
+mod Alikes

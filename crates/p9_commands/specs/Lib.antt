@@ -11,3 +11,4 @@ pub mod Judgement
 pub mod Task
 pub mod Command
 pub mod Offer
+pub mod Laws

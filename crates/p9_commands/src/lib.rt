@@ -7,6 +7,7 @@ mod bundle;
 mod command;
 mod input;
 mod judgement;
+pub mod laws;
 mod line;
 mod listing;
 mod machine;

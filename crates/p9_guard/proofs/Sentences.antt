@@ -15,6 +15,7 @@ use Rattle.p9_step.specs.Step.{Marked, run, step}
 use Rattle.p9_step.proofs.Steps.{run-goes-on}
 use Rattle.p9_guard_laws.specs.Alike.{AreAlike}
 use Rattle.p9_guard_laws.specs.Grown.{start_of}
+use Rattle.p9_guard_laws.specs.Guarded.{IsGuardedState}
 use Rattle.p9_guard.specs.Headline.{IsPromised}
 use Rattle.p9_guard.specs.Marks.{are_permitted, may_be_refused}
 use Rattle.p9_guard.specs.Sentence.{CanHappen, EveryRunIsPromised, IsWellFormed, PromisesJoin}
@@ -37,12 +38,19 @@ begins world table certificate ok verified = record {
   };
 }
 
+-- and it is guarded
+pub starts-guarded : (world : World) (table : List MountRow) (certificate : List NodeRef)
+    → IsWellFormed world table
+    → first_gap (policy_of world) world.forest table certificate ≡ None
+    → IsGuardedState world.hidden (start_of certificate world.forest) (served world table)
+starts-guarded world table certificate ok verified =
+    begun world table certificate verified ok.forest ok.named (map (λ s. s.next) world.forest) refl
+    (served world table) refl (begins world table certificate ok verified)
+
 pub every-run-is-promised : EveryRunIsPromised
 every-run-is-promised world table certificate ok verified events happen =
     promised world.hidden (start_of certificate world.forest) (served world table) events
-    (begun world table certificate verified ok.forest ok.named (map (λ s. s.next) world.forest) refl
-    (served world table) refl (begins world table certificate ok verified))
-    happen.each (run (served world table) events).state
+    (starts-guarded world table certificate ok verified) happen.each (run (served world table) events).state
     (concat (run (served world table) events).replies) happen.permitted refl refl
 
 -- marks of events, and of others that follow them
