@@ -29,10 +29,10 @@ module _ {S : Type 0} (remaining contents : S → Option (List ℕ)) (key : ℕ)
   arrived other a b t e =
       t.taken.others key (λ same. eqb-false other key e (sym (same ∙ t.key_is)))
 
-  acted : (k : ℕ) (slot : Option (Connection S)) (a b : Serving S) (was : Option (Connection S))
+  acted : (k : ℕ) (slot : Option (Connection S)) (a b : Serving S)
       → b.slots ≡ slice_set a.slots k slot → (k == key) ≡ false
       → slot_at b.slots key ≡ slot_at a.slots key
-  acted k slot a b was is e =
+  acted k slot a b is e =
       ap (λ slots. slot_at slots key) is
       ∙ get_or-set_other a.slots k key slot None (λ same. eqb-false k key e (sym same))
 
@@ -54,7 +54,7 @@ module _ {S : Type 0} (remaining contents : S → Option (List ℕ)) (key : ℕ)
           let its = later e in rw e (record { answered = its.answered; written = its.written })
   gone (Acts h ∷ ms) a b t none =
       by (h.session == key) refl
-      (λ e. gone ms t.0 b t.2 (acted h.session _ a t.0 None t.1.had.slots_are e ∙ none))
+      (λ e. gone ms t.0 b t.2 (acted h.session _ a t.0 t.1.had.slots_are e ∙ none))
     where
       by : (c : Bool) → (h.session == key) ≡ c → ((h.session == key) ≡ false → IsSilent ms)
           → IsSilent (Acts h ∷ ms)
@@ -71,7 +71,7 @@ module _ {S : Type 0} (remaining contents : S → Option (List ℕ)) (key : ℕ)
           let no : Some t.1.conn ≡ None =
           sym t.1.there ∙ ap (slot_at a.slots) (eqb-true other key e) ∙ none in absurd (cc)
       by false e =
-          let its = gone ms t.0 b t.2 (acted other None a t.0 None t.1.ended.slots_are e ∙ none) in
+          let its = gone ms t.0 b t.2 (acted other None a t.0 t.1.ended.slots_are e ∙ none) in
           record { answered = its.answered; written = its.written }
 
   silent-goes-out : (pending : List ℕ) (ms : List Moment) → IsSilent ms
@@ -155,7 +155,7 @@ module _ {S : Type 0} (remaining contents : S → Option (List ℕ)) (key : ℕ)
           (behind after.link.closed refl same))
       by false e =
           let its = here ms t.0 b conn t.2
-          (acted h.session _ a t.0 None t.1.had.slots_are e ∙ there) in
+          (acted h.session _ a t.0 t.1.had.slots_are e ∙ there) in
           rw e (record { left = its.left; is = its.is })
   here (Leaves other now ∷ ms) a b conn t there =
       by (other == key) refl
@@ -173,7 +173,7 @@ module _ {S : Type 0} (remaining contents : S → Option (List ℕ)) (key : ℕ)
           (within a.slots other t.1.conn t.1.there))) in
           record { left = its.left; is = its.is }
       by false e =
-          let its = here ms t.0 b conn t.2 (acted other None a t.0 None t.1.ended.slots_are e ∙ there) in
+          let its = here ms t.0 b conn t.2 (acted other None a t.0 t.1.ended.slots_are e ∙ there) in
           record { left = its.left; is = its.is }
 
   from-arrival : (earlier later : List Moment) (a b : Serving S)
