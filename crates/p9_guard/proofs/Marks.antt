@@ -71,6 +71,24 @@ module _ (state : State) (name : ℕ) (frame : List ℕ) (now : ℕ) (ok : IsSta
           (permitted (session_at name state.sessions) refl (rw e at is)
           ((bytes_decides reply (no_memory_reply frame)).0 e))
 
+  -- where the reply says so, nothing has changed
+  pub message_unchanged : (after : State) (reply : List ℕ) → IsSome (session_at name state.sessions)
+      → reply
+      ≡ (step state (Message name frame now) (is_no_memory_reply frame reply)).reply
+      → after
+      ≡ (step state (Message name frame now) (is_no_memory_reply frame reply)).state
+      → is_no_memory_reply frame reply ≡ true → after ≡ state
+  message_unchanged after reply live is after_is e = go (session_at name state.sessions) refl
+    where
+      marked : after ≡ (step state (Message name frame now) true).state
+      marked = rw e at after_is
+
+      go : (o : Option Session) → session_at name state.sessions ≡ o → after ≡ state
+      go None there = let no : false ≡ true = rw there at live in absurd (cc)
+      go (Some session) there =
+          rw (whole, there, frame_may_fail session there reply (rw e at is)
+              ((bytes_decides reply (no_memory_reply frame)).0 e)) at marked
+
 -- An opening.
 
 -- what an opening makes of the state

@@ -1,6 +1,7 @@
 -- How far a run has come.
 use Rattle.std.proofs.Common.{◌≡◌, ℕ, ◌≤◌, ◌+◌, Bool, true, List, [], ◌∷◌, ◌++◌, refl, sym, ap, ◌∙◌}
 use Rattle.std.proofs.Common.{◌<◌, arith, get_or, take, take_all, length, append-nil, append_assoc}
+use Rattle.std.proofs.Common.{Some, slice_get, suc, zero}
 use Rattle.std.proofs.lemmas.Bool.{and_parts}
 use Rattle.std.proofs.lemmas.List.{get_or-map, length-map, take_more}
 use Rattle.std.specs.Prelude.{◌||◌, not, map}

@@ -4,6 +4,7 @@ use Rattle.std.proofs.lemmas.Bool.{and_parts}
 use Rattle.std.proofs.lemmas.List.Folds.{concat-append}
 use Rattle.std.specs.Prelude.{◌||◌, not, map}
 use Rattle.std.specs.List.{concat}
+use Rattle.std.specs.List.Sorted.{IsStrictlySortedBy}
 use Rattle.p9_base.specs.declared.node_ref.NodeRef.{NodeRef}
 use Rattle.p9_space.specs.Table.{MountRow}
 use Rattle.p9_world.specs.World.{World}
@@ -28,6 +29,7 @@ begins : (world : World) (table : List MountRow) (certificate : List NodeRef)
     → IsWellFormed world table
     → first_gap (policy_of world) world.forest table certificate ≡ None
     → IsState (served world table)
+unfolding IsStrictlySortedBy
 begins world table certificate ok verified = record {
   forest = ok.forest;
   served = record {
