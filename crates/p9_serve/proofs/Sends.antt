@@ -7,7 +7,7 @@ use Rattle.std.specs.Prelude.{if◌then◌else◌, slice_set}
 use Rattle.std.specs.List.{concat}
 use Rattle.p9_conn.specs.Conn.{Connection, scene}
 use Rattle.p9_conn.specs.History.{replies_of}
-use Rattle.p9_conn.specs.Turn.{Answered}
+use Rattle.p9_conn.specs.Turn.{Answered, Deeds}
 use Rattle.p9_conn.proofs.Facts.{common}
 use Rattle.p9_conn.proofs.Orders.{goes-out}
 use Rattle.p9_serve.specs.Laws.{ClientsAreSentTheirReplies, IsSent}
@@ -49,9 +49,10 @@ module _ {S : Type 0} (remaining contents : S → Option (List ℕ)) (key : ℕ)
     where
       by : (c : Bool) → (other == key) ≡ c → ((other == key) ≡ false → IsSilent ms)
           → IsSilent (Arrives other ∷ ms)
-      by true e later = rw e (record { answered = refl; written = refl })
+      by true e later = record { answered = rw e refl; written = rw e refl }
       by false e later =
-          let its = later e in rw e (record { answered = its.answered; written = its.written })
+          let its = later e in
+          record { answered = rw e its.answered; written = rw e its.written }
   gone (Acts h ∷ ms) a b t none =
       by (h.session == key) refl
       (λ e. gone ms t.0 b t.2 (acted h.session _ a t.0 t.1.had.slots_are e ∙ none))
@@ -62,17 +63,19 @@ module _ {S : Type 0} (remaining contents : S → Option (List ℕ)) (key : ℕ)
           let no : Some t.1.conn ≡ None =
           sym t.1.there ∙ ap (slot_at a.slots) (eqb-true h.session key e) ∙ none in absurd (cc)
       by false e later =
-          let its = later e in rw e (record { answered = its.answered; written = its.written })
+          let its = later e in
+          record { answered = rw e its.answered; written = rw e its.written }
   gone (Leaves other now ∷ ms) a b t none =
       by (other == key) refl
+      (λ e. gone ms t.0 b t.2 (acted other None a t.0 t.1.ended.slots_are e ∙ none))
     where
-      by : (c : Bool) → (other == key) ≡ c → IsSilent (Leaves other now ∷ ms)
-      by true e =
+      by : (c : Bool) → (other == key) ≡ c → ((other == key) ≡ false → IsSilent ms)
+          → IsSilent (Leaves other now ∷ ms)
+      by true e later =
           let no : Some t.1.conn ≡ None =
           sym t.1.there ∙ ap (slot_at a.slots) (eqb-true other key e) ∙ none in absurd (cc)
-      by false e =
-          let its = gone ms t.0 b t.2 (acted other None a t.0 t.1.ended.slots_are e ∙ none) in
-          record { answered = its.answered; written = its.written }
+      by false e later =
+          let its = later e in record { answered = its.answered; written = its.written }
 
   silent-goes-out : (pending : List ℕ) (ms : List Moment) → IsSilent ms
       → GoesOut pending (answered_at key (stay key ms)) (written_at key (stay key ms))
@@ -111,15 +114,19 @@ module _ {S : Type 0} (remaining contents : S → Option (List ℕ)) (key : ℕ)
           rw e (record { left = conn.link.pending; is = append-nil conn.link.pending })
       by false e later = let its = later e in rw e (record { left = its.left; is = its.is })
   here (Acts h ∷ ms) a b conn t there =
-      by (h.session == key) refl
+      by (h.session == key) refl (λ kept is. here ms t.0 b kept t.2 is)
     where
+      Later : Type 0
+      Later = (kept : Connection S) → slot_at t.0.slots key ≡ Some kept
+          → GoesOut kept.link.pending (answered_at key (stay key ms)) (written_at key (stay key ms))
+
       after : Connection S
       after = t.1.had.after
 
-      behind : (closed : Bool) → after.link.closed ≡ closed → h.session ≡ key
+      behind : (closed : Bool) → after.link.closed ≡ closed → h.session ≡ key → Later
           → GoesOut after.link.pending (answered_at key (stay key ms))
           (written_at key (stay key ms))
-      behind true e same =
+      behind true e same later =
           silent-goes-out after.link.pending ms
           (gone ms t.0 b t.2
           (ap (λ slots. slot_at slots key) t.1.had.slots_are
@@ -128,8 +135,8 @@ module _ {S : Type 0} (remaining contents : S → Option (List ℕ)) (key : ℕ)
           ∙ ap (slot_at (slice_set a.slots h.session None)) (sym same)
           ∙ get_or-set_same a.slots h.session None None
           (within a.slots h.session t.1.conn t.1.there)))
-      behind false e same =
-          here ms t.0 b after t.2
+      behind false e same later =
+          later after
           (ap (λ slots. slot_at slots key) t.1.had.slots_are
           ∙ ap (λ (c : Bool). slot_at (slice_set a.slots h.session
           (if c then None else Some after)) key) e
@@ -137,10 +144,10 @@ module _ {S : Type 0} (remaining contents : S → Option (List ℕ)) (key : ℕ)
           ∙ get_or-set_same a.slots h.session (Some after) None
           (within a.slots h.session t.1.conn t.1.there))
 
-      by : (c : Bool) → (h.session == key) ≡ c
+      by : (c : Bool) → (h.session == key) ≡ c → Later
           → GoesOut conn.link.pending (answered_at key (stay key (Acts h ∷ ms)))
           (written_at key (stay key (Acts h ∷ ms)))
-      by true e =
+      by true e later =
           let same = eqb-true h.session key e in
           let conn-is : Some conn ≡ Some t.1.conn =
           sym there ∙ ap (slot_at a.slots) (sym same) ∙ t.1.there in
@@ -148,22 +155,26 @@ module _ {S : Type 0} (remaining contents : S → Option (List ℕ)) (key : ℕ)
           let turned = t.1.had.turned in
           let its = common t.1.conn.session h.now (scene t.1.conn a.guard) (scene after t.0.guard)
           turned.deeds turned.turn in
-          let out = rw (t.1.deeds_are) at its.out in
+          let out = subst (λ (d : Deeds). t.1.conn.link.pending ++ concat (replies_of d.answered)
+          ≡ d.written ++ after.link.pending) t.1.deeds_are its.out in
           rw (e, pending-is)
           (turn-goes-out t.1.conn.link.pending after.link.pending h.deeds.answered
           h.deeds.written (answered_at key (stay key ms)) (written_at key (stay key ms)) out
-          (behind after.link.closed refl same))
-      by false e =
-          let its = here ms t.0 b conn t.2
-          (acted h.session _ a t.0 t.1.had.slots_are e ∙ there) in
+          (behind after.link.closed refl same later))
+      by false e later =
+          let its = later conn (acted h.session _ a t.0 t.1.had.slots_are e ∙ there) in
           rw e (record { left = its.left; is = its.is })
   here (Leaves other now ∷ ms) a b conn t there =
       by (other == key) refl
+      (λ e. here ms t.0 b conn t.2 (acted other None a t.0 t.1.ended.slots_are e ∙ there))
     where
       by : (c : Bool) → (other == key) ≡ c
+          → ((other == key) ≡ false
+          → GoesOut conn.link.pending (answered_at key (stay key ms))
+          (written_at key (stay key ms)))
           → GoesOut conn.link.pending (answered_at key (stay key (Leaves other now ∷ ms)))
           (written_at key (stay key (Leaves other now ∷ ms)))
-      by true e =
+      by true e later =
           let same = eqb-true other key e in
           let its = silent-goes-out conn.link.pending ms
           (gone ms t.0 b t.2
@@ -172,9 +183,7 @@ module _ {S : Type 0} (remaining contents : S → Option (List ℕ)) (key : ℕ)
           ∙ get_or-set_same a.slots other None None
           (within a.slots other t.1.conn t.1.there))) in
           record { left = its.left; is = its.is }
-      by false e =
-          let its = here ms t.0 b conn t.2 (acted other None a t.0 t.1.ended.slots_are e ∙ there) in
-          record { left = its.left; is = its.is }
+      by false e later = let its = later e in record { left = its.left; is = its.is }
 
   from-arrival : (earlier later : List Moment) (a b : Serving S)
       → Pass remaining contents (earlier ++ Arrives key ∷ later) a b → IsSent key later

@@ -1,5 +1,6 @@
 -- A server's life: what happens to its clients, one thing after another.
-use Rattle.std.specs.Prelude.{◌≡◌, ℕ, ◌==◌, List, [], ◌∷◌, ◌++◌, Option, Some, if◌then◌else◌}
+use Rattle.std.specs.Prelude.{◌≡◌, ℕ, ◌==◌, false, List, [], ◌∷◌, ◌++◌}
+use Rattle.std.specs.Prelude.{Option, Some, if◌then◌else◌}
 use Rattle.p9_step.specs.Event.{Open}
 use Rattle.p9_conn.specs.Conn.{Connection}
 use Rattle.p9_conn.specs.History.{Happening}
