@@ -1,6 +1,9 @@
 //! Groups of users, as users(6).
 
-ghost use Rattle.std.specs.Prelude.{◌≡◌, [], IfOk, IsTrue, OnErr, OnOk, is_some, not};
+ghost use Rattle.std.specs.Prelude.{◌≡◌, ◌==◌, [], IfOk, IfSome, IsTrue, OnErr, OnOk, Some, is_some};
+ghost use Rattle.std.specs.Prelude.{length, not, option_copied, slice_get};
+ghost use Rattle.std.specs.Map.Iter.{deref_pair};
+ghost use Rattle.std.specs.Option.{option_map};
 ghost use Rattle.indexmap.specs.IndexSet.{insert_key};
 ghost use Rattle.std.specs.Str.{bytes_eq};
 ghost use Rattle.p9_base.specs.Group.{are_groups, group_of, has_member, is_member};
@@ -54,6 +57,27 @@ impl<A: Allocator + Copy> Group<A> {
     {
         Ok(self.members.insert(user)?)
     }
+
+    /// Who leads it.
+    pub fn leader(&self) -> &User
+        ensures { result.now ≡ self.now.leader }
+    {
+        &self.leader
+    }
+
+    /// Its members, in the order in which they were added.
+    pub fn members(&self) -> &[User]
+        ensures { result.now ≡ self.now.members }
+    {
+        self.members.as_slice()
+    }
+
+    /// Whether the user is among the members.
+    pub fn has_member(&self, user: &User) -> bool
+        ensures { result ≡ has_member user.now self.now }
+    {
+        self.members.contains(user)
+    }
 }
 
 /// The groups that are listed, each by its name.
@@ -95,6 +119,37 @@ impl<A: Allocator + Copy> Groups<A> {
         let _groups = &self.by_name;
     }
 
+    /// How many groups are listed.
+    pub fn len(&self) -> usize
+        ensures { result ≡ length self.now }
+    {
+        self.by_name.len()
+    }
+
+    /// Whether no group is listed.
+    pub fn is_empty(&self) -> bool
+        ensures { result ≡ (length self.now == 0) }
+    {
+        self.by_name.is_empty()
+    }
+
+    /// The name of the group that is listed at the position, and the group, or `None` exactly where
+    /// the position isn't below [`len`](Groups::len). A group has the position in which its name
+    /// was listed first; by the name no other is found.
+    pub fn at(&self, position: usize) -> Option<(&User, &Group<A>)>
+        ensures row { option_map deref_pair result ≡ slice_get self.now position }
+        ensures only { IfSome result (λ row. group_of row.0.now self.now ≡ Some row.1.now) }
+    {
+        self.by_name.get_index(position)
+    }
+
+    /// The group of this name, where one is listed.
+    pub fn get(&self, name: &User) -> Option<&Group<A>>
+        ensures { option_copied result ≡ group_of name.now self.now }
+    {
+        self.by_name.get(name)
+    }
+
     /// Whether a group of this name is listed.
     pub fn contains(&self, name: &User) -> bool
         ensures { result ≡ is_some (group_of name.now self.now) }
@@ -119,7 +174,7 @@ impl<A: Allocator + Copy> Groups<A> {
         ensures { result ≡ is_member self.now group.now user.now }
     {
         match self.by_name.get(group) {
-            Some(listed) => listed.members.contains(user),
+            Some(listed) => listed.has_member(user),
             None => group == user,
         }
     }

@@ -206,6 +206,32 @@ fn groups_have_members_and_a_leader(rt: HostRuntime) -> Result<(), Fail> {
 }
 
 #[test]
+fn the_groups_that_are_listed_can_be_read(rt: HostRuntime) -> Result<(), Fail> {
+    let mut groups = Groups::new(rt.alloc());
+    assert!(rt; groups.is_empty());
+    let staff = group(&rt, rt.alloc(), "rob", &["glenda", "ken"]);
+    groups.insert(user(&rt, "staff"), staff)?;
+    groups.insert(user(&rt, "none"), group(&rt, rt.alloc(), "ken", &[]))?;
+    assert_eq!(rt; groups.len(), 2);
+    let mut told = String::new(rt.alloc());
+    for position in 0..3 {
+        if let Some((name, group)) = groups.at(position) {
+            write!(told, "{name} {}", group.leader())?;
+            for member in group.members() {
+                write!(told, " {member}")?;
+            }
+            writeln!(told)?;
+        }
+    }
+    assert_eq!(rt; told.as_str(), "staff rob glenda ken\nnone ken\n");
+    let staff = groups.get(&user(&rt, "staff")).expect(&rt, "a group");
+    assert!(rt; staff.has_member(&user(&rt, "ken")));
+    assert!(rt; !staff.has_member(&user(&rt, "rob")));
+    assert!(rt; groups.get(&user(&rt, "rob")).is_none());
+    Ok(())
+}
+
+#[test]
 fn a_name_that_is_not_listed_is_a_group(rt: HostRuntime) -> Result<(), Fail> {
     let mut groups = Groups::new(rt.alloc());
     assert_eq!(rt; asked(&rt, &groups, "glenda", "glenda"), (true, true));

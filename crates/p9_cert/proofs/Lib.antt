@@ -1,6 +1,7 @@
 pub mod Basics
 pub mod Firsts
 pub mod Searched
+pub mod ByClass
 pub mod Parents
 pub mod Children
 pub mod Readings

@@ -3,7 +3,7 @@ use Rattle.std.proofs.Common.{◌≡◌, ℕ, ◌+◌, ◌<◌, Bool, true, fals
 use Rattle.std.proofs.Common.{◌∷◌, Option, Some, None, refl, sym, ap, ◌∙◌, subst}
 use Rattle.std.proofs.Common.{arith, option_and_then, length, get_or, take}
 use Rattle.std.specs.Prelude.{filter, map, ◌==◌, if◌then◌else◌, not}
-use Rattle.std.specs.Option.{option_map_or}
+use Rattle.std.specs.Option.{option_map_or, option_or}
 use Rattle.std.proofs.lemmas.Bool.{or_left}
 use Rattle.std.proofs.lemmas.List.Folds.{list_any_more}
 use Rattle.p9_base.specs.declared.node_ref.NodeRef.{NodeRef}
@@ -14,11 +14,16 @@ use Rattle.p9_tree.specs.Forest.{IsForest, is_dir_of, node_of}
 use Rattle.p9_tree.specs.Inside.{is_among, is_barred, is_hidden, is_inside}
 use Rattle.p9_inside.proofs.Forests.{barred_is_hidden_or_inside, inside_by_barred_parent}
 use Rattle.p9_inside.proofs.Forests.{server_ordered}
+use Rattle.p9_cert.specs.declared.gap.MemberFault.{MemberFault}
+use Rattle.p9_cert.specs.declared.gap.MemberFault.TheVariants.{Missing, Open, Owned, Removable}
 use Rattle.p9_cert.specs.Closed.{AreNotBarred}
-use Rattle.p9_cert.specs.Gap.{member_fault, row_fault, where_true}
+use Rattle.p9_cert.specs.Gap.{hidden_fault, is_removable, member_fault, node_fault, row_fault}
+use Rattle.p9_cert.specs.Gap.{where_true}
+use Rattle.p9_cert.specs.Listed.{is_open, is_owned, is_passable}
 use Rattle.p9_cert.specs.Policy.{Policy}
 use Rattle.p9_cert.specs.Rows.{is_row}
-use Rattle.p9_cert.proofs.Basics.{same_ref}
+use Rattle.p9_cert.proofs.Basics.{clash, same_ref}
+use Rattle.p9_cert.proofs.ByClass.{shut-not-passable}
 
 -- a node is hidden where it is in the list
 pub row_is_hidden : (hidden : List NodeRef) (at : NodeRef) → is_row hidden at ≡ is_hidden at hidden
@@ -143,3 +148,69 @@ shown-more hidden forest rows i row d l e out shown = record {
         sym (ap (λ b. b || same_node (get_or rows i d) at) s) ∙ t in
         let same : row ≡ at = e ∙ same_ref (get_or rows i d) at here in
         subst (λ r. is_barred r hidden forest ≡ false) same out
+
+-- A member whose fault is known.
+
+module _ (policy : Policy) (forest : List Server) (rows : List NodeRef) (at : NodeRef) where
+  -- a row that is shown has none
+  pub fault-row : IsForest forest → AreNotBarred policy.hidden forest rows
+      → is_row rows at ≡ true → member_fault policy forest rows at ≡ None
+  fault-row sound shown row =
+      go (is_hidden at policy.hidden) (is_inside at policy.hidden forest) refl refl
+    where
+      barred : (is_hidden at policy.hidden || is_inside at policy.hidden forest) ≡ false
+      barred =
+          sym (barred_is_hidden_or_inside policy.hidden forest at sound) ∙ shown.each at row
+
+      never : (b : Bool) → where_true (b && not true) Missing ≡ None
+      never true = refl
+      never false = refl
+
+      there : is_hidden at policy.hidden ≡ false → (o : Option Node)
+          → option_and_then (node_fault policy forest rows at) o ≡ None
+      there hid None = refl
+      there hid (Some n) =
+          rw (hid, row) (never (is_passable policy.users policy.groups n))
+
+      go : (h i : Bool) → is_hidden at policy.hidden ≡ h → is_inside at policy.hidden forest ≡ i
+          → member_fault policy forest rows at ≡ None
+      go true i p q =
+          clash (is_hidden at policy.hidden || is_inside at policy.hidden forest)
+          (ap (λ b. b || is_inside at policy.hidden forest) p) barred
+      go false true p q =
+          clash (is_hidden at policy.hidden || is_inside at policy.hidden forest)
+          (rw (p, q) refl) barred
+      go false false p q = rw q (there p (node_of at forest))
+
+  module _ (n : Node) (here : node_of at forest ≡ Some n)
+      (outside : is_inside at policy.hidden forest ≡ false) where
+    -- a hidden directory has those of hidden ones alone: what nobody may use or rules nobody passes
+    pub fault-hidden : is_hidden at policy.hidden ≡ true
+        → member_fault policy forest rows at ≡ hidden_fault policy forest at n
+    fault-hidden hid = rw (outside, here, hid) (go (is_open policy.users policy.groups n)
+        (is_owned policy.users policy.groups n) (is_removable policy forest at n) refl refl)
+      where
+        go : (a b c : Bool) → is_open policy.users policy.groups n ≡ a
+            → is_owned policy.users policy.groups n ≡ b
+            → option_or (if a then Some Open else if b then Some Owned
+            else where_true c Removable)
+            (where_true (is_passable policy.users policy.groups n && not (is_row rows at)) Missing)
+            ≡ (if a then Some Open else if b then Some Owned else where_true c Removable)
+        go true b c p q = refl
+        go false true c p q = refl
+        go false false true p q = refl
+        go false false false p q =
+            ap (λ b. where_true (b && not (is_row rows at)) Missing)
+            (shut-not-passable policy.users policy.groups n (rw (p, q) refl))
+
+    -- one that isn't a row, and isn't hidden, is missing where somebody may pass it
+    pub fault-shown : is_hidden at policy.hidden ≡ false → is_row rows at ≡ false
+        → member_fault policy forest rows at
+        ≡ where_true (is_passable policy.users policy.groups n) Missing
+    fault-shown hid row =
+        rw (outside, here, hid, row) (ap (λ b. where_true b Missing) (always
+        (is_passable policy.users policy.groups n)))
+      where
+        always : (b : Bool) → (b && true) ≡ b
+        always true = refl
+        always false = refl

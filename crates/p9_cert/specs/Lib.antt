@@ -1,4 +1,5 @@
 pub mod Policy
+pub mod Classes
 pub mod Listed
 pub mod Rows
 pub mod Safe

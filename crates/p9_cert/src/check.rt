@@ -28,10 +28,11 @@ use std::alloc::Allocator;
 /// 3. the members of the root place, and then, row by row and by rising number, those of each child
 ///    of a row, taken as a place: each is safe, as [`MemberFault`](crate::MemberFault) says.
 ///
-/// This takes no memory. For each row, and for each member of a child of a row, it looks for the
-/// node, and for its number among the rows, and goes over the listed users and the hidden
-/// directories. To see whether a node is inside, it also looks at the directories above it, up to
-/// the first that is a row, and goes over the hidden directories for each of them.
+/// This takes no memory. For each row, and for each member of a child of a row, it looks for its
+/// number among the rows. For a row, and for a member that is none, it looks for the node and goes
+/// over the hidden directories, and to see whether it is inside, it looks at the directories above
+/// it, up to the first that is a row. It goes over the listed users only for a member that is no row
+/// and whose mode doesn't let everybody pass, and then compares names alone.
 pub fn verify<T: Tree, A: Allocator + Copy, B: Allocator>(
     world: &World<T>,
     table: &MountTable<A>,

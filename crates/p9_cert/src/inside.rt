@@ -11,7 +11,7 @@ use p9_base::NodeRef;
 use p9_tree::{Forest, Tree};
 
 /// Whether the node is a hidden directory.
-pub(crate) fn is_hidden(hidden: &[NodeRef], at: NodeRef) -> bool
+pub fn is_hidden(hidden: &[NodeRef], at: NodeRef) -> bool
     ensures { result ≡ is_hidden at hidden.now }
 {
     is_among(hidden, at)
@@ -25,9 +25,9 @@ fn is_among(nodes: &[NodeRef], at: NodeRef) -> bool
 }
 
 /// Whether the node, which has this parent, is inside a hidden directory. Its parents are looked at,
-/// upward, as far as the first of them that is known: one that is hidden, or one of the rows, which
-/// are shown.
-pub(crate) fn is_inside<T: Tree>(
+/// upward, as far as the first of them that is known: one of the rows, which are shown, or one that is
+/// hidden.
+pub fn is_inside<T: Tree>(
     forest: &Forest<T>,
     hidden: &[NodeRef],
     shown: &[NodeRef],
@@ -43,11 +43,11 @@ pub(crate) fn is_inside<T: Tree>(
     let mut above = parent;
     while let Some(parent) = above {
         let dir = at.beside(parent);
-        if is_hidden(hidden, dir) {
-            return true;
-        }
         if is_row(shown, dir) {
             return false;
+        }
+        if is_hidden(hidden, dir) {
+            return true;
         }
         above = parent_of(forest, dir);
     }

@@ -8,6 +8,7 @@
 
 mod certificate;
 mod check;
+mod classes;
 mod gap;
 mod inside;
 pub mod laws;
@@ -19,7 +20,9 @@ mod write;
 
 pub use certificate::Certificate;
 pub use check::verify;
+pub use classes::Classes;
 pub use gap::{Gap, MemberFault, RowFault};
+pub use inside::{is_hidden, is_inside};
 pub use listed::may_pass;
 pub use place::member_fault;
 pub use read::{ReadError, read_cert};

@@ -1,16 +1,16 @@
 //! What is wrong with the members of a place.
 
-ghost use Rattle.std.specs.Prelude.{◌≡◌, AllPairs, IsTrue, Some};
-ghost use Rattle.p9_tree.specs.Forest.{node_of};
+ghost use Rattle.std.specs.Prelude.{◌≡◌, AllPairs, IsTrue, Some, if◌then◌else◌};
 ghost use Rattle.p9_cert.specs.Closed.{AreNotBarred};
-ghost use Rattle.p9_cert.specs.Gap.{hidden_fault, is_removable, member_fault, node_fault};
-ghost use Rattle.p9_cert.specs.Gap.{place_fault};
+ghost use Rattle.p9_cert.specs.declared.gap.MemberFault.TheVariants.{Open, Owned};
+ghost use Rattle.p9_cert.specs.Gap.{hidden_fault, is_removable, member_fault, place_fault};
+ghost use Rattle.p9_cert.specs.Listed.{is_open};
 ghost use Rattle.p9_cert.specs.Policy.{policy_of};
 ghost use Rattle.p9_cert.specs.Rows.{is_below};
 
 use crate::gap::MemberFault;
 use crate::inside::{is_hidden, is_inside};
-use crate::listed::listed_in;
+use crate::listed::{Listed, listed_in};
 use crate::rows::is_row;
 use p9_base::NodeRef;
 use p9_space::MountTable;
@@ -45,33 +45,22 @@ pub fn member_fault<T: Tree>(world: &World<T>, rows: &[NodeRef], at: NodeRef) ->
     requires shown { AreNotBarred world.now.hidden world.now.forest rows.now }
     ensures { result ≡ member_fault (policy_of world.now) world.now.forest rows.now at }
 {
+    world.forest.well_formed();
+    if is_row(rows, at) {
+        return None;
+    }
     let node = world.forest.node(at)?;
     let hidden = world.hidden.as_slice();
     if is_inside(&world.forest, hidden, rows, at, node.parent()) {
         return Some(MemberFault::Inside);
     }
-    node_fault(world, rows, at, node)
-}
-
-// What is wrong with a member that exists and isn't inside.
-fn node_fault<T: Tree>(
-    world: &World<T>,
-    rows: &[NodeRef],
-    at: NodeRef,
-    node: &Node<T::Alloc>,
-) -> Option<MemberFault>
-    requires { AllPairs (λ a b. IsTrue (is_below a b)) rows.now }
-    ensures { result ≡ node_fault (policy_of world.now) world.now.forest rows.now at node.now }
-{
-    if is_hidden(world.hidden.as_slice(), at) {
-        if let Some(kind) = hidden_fault(world, at, node) {
-            return Some(kind);
-        }
+    if is_hidden(hidden, at) {
+        hidden_fault(world, at, node)
+    } else if listed_in(world).may_pass(node) {
+        Some(MemberFault::Missing)
+    } else {
+        None
     }
-    if !is_row(rows, at) && listed_in(world).may_pass(node) {
-        return Some(MemberFault::Missing);
-    }
-    None
 }
 
 // What is wrong with a hidden directory.
@@ -83,14 +72,27 @@ fn hidden_fault<T: Tree>(
     ensures { result ≡ hidden_fault (policy_of world.now) world.now.forest at node.now }
 {
     let listed = listed_in(world);
-    if listed.may_use(node) {
-        Some(MemberFault::Open)
-    } else if listed.rule(node) {
-        Some(MemberFault::Owned)
+    if listed.may_use_or_rule(node) {
+        Some(use_fault(listed, node))
     } else if is_removable(world, at, node) {
         Some(MemberFault::Removable)
     } else {
         None
+    }
+}
+
+// What is wrong with a hidden directory that some listed user may use or rules.
+fn use_fault<A: Allocator + Copy, B: Allocator>(
+    listed: Listed<'_, A>,
+    node: &Node<B>,
+) -> MemberFault
+    ensures { result ≡ (if is_open listed.entry.users.now listed.entry.groups.now node.now then Open
+        else Owned) }
+{
+    if listed.may_use(node) {
+        MemberFault::Open
+    } else {
+        MemberFault::Owned
     }
 }
 

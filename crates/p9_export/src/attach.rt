@@ -111,7 +111,7 @@ fn attach_at<T: Tree>(
         (replied Rattach result) }
 {
     let trail = Trail::at(setting.alloc, place)?;
-    let channels = Channels::of(&setting.table, trail)?;
+    let channels = Channels::of(&setting.table, &trail)?;
     let at = channels.file(&setting.table);
     let Some(file) = forest.node(at) else {
         return Err(Fault::PhaseError);

@@ -165,7 +165,7 @@ fn any_has_open<A: Allocator + Copy>(
 {
     sessions
         .values()
-        .any(|session| session.fids.has_open(table, at))
+        .any(|session| session.fids.has_open_by_rows(table, at))
 }
 
 /// The file of the fid, if it is for one fid at a time: it is taken where a fid of some session has

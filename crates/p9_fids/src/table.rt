@@ -201,18 +201,18 @@ impl<A: Allocator + Copy> FidTable<A> {
         };
     }
 
-    /// Whether an open fid has the node as its file. This asks no fid behind the first that has.
-    pub fn has_open(&self, table: &MountTable<A>, node: NodeRef) -> bool
+    /// Whether an open fid has the node as its file, by the rows that the fids keep of the table.
+    /// This looks no place up, and asks no fid behind the first that has.
+    pub fn has_open_by_rows(&self, table: &MountTable<A>, node: NodeRef) -> bool
         requires { AllFit table.now self.now }
         ensures { result ≡ nat_lt 0 (open_count table.now node self.now.fids) }
     {
-        any_open(&self.fids, table, node)
+        has_open_by_rows(&self.fids, table, node)
     }
 
     /// How many open fids have the node as their file: the first member of the place where their
     /// trail ends.
     pub fn open_count(&self, table: &MountTable<A>, node: NodeRef) -> usize
-        requires { AllFit table.now self.now }
         ensures { result ≡ open_count table.now node self.now.fids }
     {
         count_open(&self.fids, table, node)
@@ -230,18 +230,21 @@ fn first_of<A: Allocator + Copy>(fids: &Fids<A>) -> Option<u32>
     fids.first_key_value().map(|(fid, _)| *fid)
 }
 
-// Whether a fid is open, and has the node as its file.
-fn any_open<A: Allocator + Copy>(fids: &Fids<A>, table: &MountTable<A>, node: NodeRef) -> bool
+// Whether a fid is open, and has the node as its file by its row.
+fn has_open_by_rows<A: Allocator + Copy>(
+    fids: &Fids<A>,
+    table: &MountTable<A>,
+    node: NodeRef,
+) -> bool
     requires { All (HeldFits table.now) (values_of fids.now.entries) }
     ensures { result ≡ list_any (λ held. is_open_on table.now node held.fid)
         (values_of fids.now.entries) }
 {
-    fids.values().any(|fid| is_open_on(fid, table, node))
+    fids.values().any(|fid| is_open_by_row(fid, table, node))
 }
 
 // How many fids are open, and have the node as their file.
 fn count_open<A: Allocator + Copy>(fids: &Fids<A>, table: &MountTable<A>, node: NodeRef) -> usize
-    requires { All (HeldFits table.now) (values_of fids.now.entries) }
     ensures { result ≡ count_by (λ held. is_open_on table.now node held.fid)
         (values_of fids.now.entries) }
 {
@@ -250,8 +253,15 @@ fn count_open<A: Allocator + Copy>(fids: &Fids<A>, table: &MountTable<A>, node: 
         .count()
 }
 
-// Whether the fid is open, and has the node as its file.
+// Whether the fid is open, and has the node as its file. Its last place is looked up in the table.
 fn is_open_on<A: Allocator + Copy>(fid: &Fid<A>, table: &MountTable<A>, node: NodeRef) -> bool
+    ensures { result ≡ is_open_on table.now node fid.now.fid }
+{
+    fid.opened.is_some() && table.file(fid.channels.trail().here()) == node
+}
+
+// Whether the fid is open, and has the node as its file, which is found by the row that it keeps.
+fn is_open_by_row<A: Allocator + Copy>(fid: &Fid<A>, table: &MountTable<A>, node: NodeRef) -> bool
     requires { HeldFits table.now fid.now }
     ensures { result ≡ is_open_on table.now node fid.now.fid }
 {

@@ -13,12 +13,15 @@ use Rattle.p9_tree.specs.Forest.{IsForest, child_in_after, node_of, server_at}
 use Rattle.p9_tree.proofs.Lookups.{node_at-found, passes-found}
 use Rattle.p9_inside.proofs.Forests.{server_ordered}
 use Rattle.p9_inside.proofs.Looks.{in-parent}
+use Rattle.p9_cert.specs.Listed.{is_passable}
 use Rattle.p9_cert.specs.Policy.{Policy}
 use Rattle.p9_cert.specs.Rows.{is_row}
+use Rattle.p9_cert.proofs.Basics.{clash}
 use Rattle.p9_cert.proofs.Children.{is_left, left-next, left_of, none_kept}
 use Rattle.p9_judge.specs.declared.search.Place.{Place}
 use Rattle.p9_judge.specs.Breach.{first_passer, passer_of}
 use Rattle.p9_judge.specs.Search.{child_places, discovered}
+use Rattle.p9_judge.proofs.Members.{passable-passer, passer-passable}
 
 pub append_nil : {X : Type 0} (xs : List X) → xs ++ [] ≡ xs
 append_nil [] = refl
@@ -26,34 +29,58 @@ append_nil (x ∷ xs) = ap (λ ys. x ∷ ys) (append_nil xs)
 
 -- Who passes a member.
 
-pub passer-is : (policy : Policy) (f : List Server) (at : NodeRef) (n : Node) (user : List ℕ)
-    → Some n ≡ node_of at f → Some user ≡ first_passer policy n
-    → passer_of policy f at ≡ Some user
-passer-is policy f at n user w e = ap (option_and_then (first_passer policy)) (sym w) ∙ sym e
+module _ (policy : Policy) (f : List Server) (at : NodeRef) (n : Node) (here : Some n ≡ node_of at f)
+  where
+    -- a directory that is passable has one who passes it
+    pub passer-some : is_passable policy.users policy.groups n ≡ true
+        → (user : List ℕ) × (passer_of policy f at ≡ Some user)
+    passer-some t =
+        let found = passable-passer policy f n t in
+        (found.0, ap (option_and_then (first_passer policy)) (sym here) ∙ found.1)
+
+    -- another node has none
+    pub passer-none : is_passable policy.users policy.groups n ≡ false
+        → passer_of policy f at ≡ None
+    passer-none t =
+        ap (option_and_then (first_passer policy)) (sym here) ∙ go (first_passer policy n) refl
+      where
+        go : (o : Option (List ℕ)) → first_passer policy n ≡ o → first_passer policy n ≡ None
+        go None e = e
+        go (Some user) e =
+            clash (is_passable policy.users policy.groups n) (passer-passable policy f n user e) t
 
 module _ (policy : Policy) (f : List Server) (from : ℕ) (passed : List NodeRef) (member : NodeRef)
     (user : List ℕ) (passer : passer_of policy f member ≡ Some user) where
   by_row : discovered policy f from passed member
-      ≡ (if is_row passed member then [] else child_places f from member user)
+      ≡ (if is_row passed member then [] else child_places f from member)
   by_row =
       ap (λ o. option_map_or
-      (λ u. if is_row passed member then [] else child_places f from member u) o []) passer
+      (λ _. if is_row passed member then [] else child_places f from member) o []) passer
 
   -- for the first time
   pub discovered-new : (places more : List Place) → is_row passed member ≡ false
-      → more ≡ places ++ child_places f from member user
+      → more ≡ places ++ child_places f from member
       → more ≡ places ++ discovered policy f from passed member
   discovered-new places more row e =
       e ∙ ap (λ ps. places ++ ps)
-      (sym (by_row ∙ ap (λ b. if b then [] else child_places f from member user) row))
+      (sym (by_row ∙ ap (λ b. if b then [] else child_places f from member) row))
 
   -- and again
   pub discovered-again : (places : List Place) → is_row passed member ≡ true
       → places ≡ places ++ discovered policy f from passed member
   discovered-again places row =
       sym (ap (λ ps. places ++ ps)
-      (by_row ∙ ap (λ b. if b then [] else child_places f from member user) row)
+      (by_row ∙ ap (λ b. if b then [] else child_places f from member) row)
       ∙ append_nil places)
+
+-- by nobody
+pub discovered-none : (policy : Policy) (f : List Server) (from : ℕ) (passed : List NodeRef)
+    (member : NodeRef) (places : List Place) → passer_of policy f member ≡ None
+    → places ≡ places ++ discovered policy f from passed member
+discovered-none policy f from passed member places none =
+    sym (ap (λ o. places ++ option_map_or
+    (λ _. if is_row passed member then [] else child_places f from member) o []) none
+    ∙ append_nil places)
 
 -- The children, one after another.
 

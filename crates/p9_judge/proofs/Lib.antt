@@ -1,4 +1,5 @@
 pub mod Lists
+pub mod Users
 pub mod Members
 pub mod Breaches
 pub mod Found

@@ -21,6 +21,7 @@ use Rattle.p9_cert.specs.Safe.{IsSafeMember, Set}
 use Rattle.p9_cert.proofs.Basics.{each_weaker, not_some, same_ref, same_self, some_same}
 use Rattle.p9_cert.proofs.Firsts.{first_none, no_map}
 use Rattle.p9_cert.proofs.Gaps.{guarded_from, hidden-none, removable_none}
+use Rattle.p9_cert.proofs.Parents.{inside-absent}
 use Rattle.p9_judge.specs.declared.breach.BreachKind.{BreachKind}
 use Rattle.p9_judge.specs.declared.breach.BreachKind.TheVariants.{Inside, Open, Owned, Removable}
 use Rattle.p9_judge.specs.Breach.{breach_kind, breaching, first_passer, hidden_kind, is_listed}
@@ -39,6 +40,16 @@ lift : {X : Type 0} (b : Bool) (o : Option X) → (b ≡ true → o ≡ None)
     → (if b then o else None) ≡ None
 lift true o h = h refl
 lift false o h = refl
+
+-- a member that is gone has no fault
+pub kind-absent : (policy : Policy) (f : List Server) (at : NodeRef) → node_of at f ≡ None
+    → breach_kind policy f at ≡ None
+kind-absent policy f at e =
+    rw (inside-absent policy.hidden f at e, e) (go (is_hidden at policy.hidden))
+  where
+    go : (b : Bool) → ◌≡◌ {A = Option BreachKind} (if b then None else None) None
+    go true = refl
+    go false = refl
 
 module _ (policy : Policy) (f : List Server) where
   -- a member without a fault is safe, where the certificate has it if listed users may pass it

@@ -82,8 +82,7 @@ module _ (policy : Policy) (f : List Server) (table : List MountRow) where
     (r.3.0, g.kept o.from r.3.0 r.3.1, r.3.2),
     r.4,
     r.5,
-    g.still o.step.member r.6,
-    r.7,
+    g.still o.member r.6,
   )
 
   pub among_more : (places more : List Place) (passed further : List NodeRef)
@@ -186,13 +185,13 @@ module _ (policy : Policy) (f : List Server) (table : List MountRow) (sound : Is
     module _ (places more : List Place) (passed further : List NodeRef)
         (s : IsSearch policy f table places passed) (from : ℕ) (key : NodeRef)
         (at : IsAt places from key) (is_held : is_member_of_place table key member ≡ true)
-        (grew : more ≡ places ++ child_places f from member user)
+        (grew : more ≡ places ++ child_places f from member)
         (rows : (r : NodeRef) → is_row further r ≡ (is_row passed r || same_node member r)) where
       new_grown : IsGrown places more passed further
       new_grown = record {
         kept =
             λ i p e. ap (λ ps. slice_get ps i) grew
-            ∙ kept_at places (child_places f from member user) i p e;
+            ∙ kept_at places (child_places f from member) i p e;
         still = λ r t. rows r ∙ or_left (is_row passed r) (same_node member r) t;
       }
 
@@ -209,13 +208,13 @@ module _ (policy : Policy) (f : List Server) (table : List MountRow) (sound : Is
       -- a place was there, or is a child's
       new_place : (i : ℕ) (p : Place) → slice_get more i ≡ Some p
           → (slice_get places i ≡ Some p)
-          ⊎ ((n : Node) × (child_place from member user n ≡ p) × (length places ≤ i)
+          ⊎ ((n : Node) × (child_place from member n ≡ p) × (length places ≤ i)
           × (node_of (beside member n.number) f ≡ Some n) × (n.parent ≡ Some member.number))
       new_place i p e =
-          elim (split_at places (child_places f from member user) i p
+          elim (split_at places (child_places f from member) i p
           (ap (λ ps. slice_get ps i) (sym grew) ∙ e)) [
             | inl there ↦ inl there
-            | inr new ↦ (let image = map_at (child_place from member user) (children_of member f)
+            | inr new ↦ (let image = map_at (child_place from member) (children_of member f)
                 new.0 p new.2 in
                 let child = child_at f sound member new.0 image.0 image.1 in
                 let past : length places ≤ i = at_past (length places) new.0 i new.1 in
@@ -269,10 +268,13 @@ module _ (policy : Policy) (f : List Server) (table : List MountRow) (sound : Is
                 new.0,
                 lt,
                 (at.0, new_grown.kept from at.0 at.1, at.2),
-                step_passed new.0 new.3 new.4,
+                (
+                  record { name = new.0.name; member = member; user = user },
+                  record { name = refl; member = refl; user = passer },
+                  step_passed new.0 new.3 new.4,
+                ),
                 refl,
                 row_member,
-                passer,
               ))
         ];
         shown = λ r t. elim (new_row r t) [
@@ -304,14 +306,14 @@ module _ (policy : Policy) (f : List Server) (table : List MountRow) (sound : Is
           children_new k n there parent =
               let j = at_child f sound member k n there parent in
               let image =
-              at_map (child_place from member user) (children_of member f) j.0 n j.1 in
+              at_map (child_place from member) (children_of member f) j.0 n j.1 in
               let number = number-node_at k (server_at member.server f).nodes n there in (
                 length places + j.0,
                 (
-                  child_place from member user n,
+                  child_place from member n,
                   ap (λ ps. slice_get ps (length places + j.0)) grew
-                      ∙ new_at places (child_places f from member user) j.0
-                      (child_place from member user n) image,
+                      ∙ new_at places (child_places f from member) j.0
+                      (child_place from member n) image,
                   ap (beside member) number,
                 ),
               )
@@ -358,7 +360,7 @@ module _ (policy : Policy) (f : List Server) (table : List MountRow) (sound : Is
 
         again : (user : List ℕ) → passer_of policy f member ≡ Some user → (b : Bool)
             → is_row passed member ≡ b
-            → more ≡ places ++ (if b then [] else child_places f from member user)
+            → more ≡ places ++ (if b then [] else child_places f from member)
             → ((r : NodeRef) → is_row further r ≡ (is_row passed r || same_node member r))
             → Wanted
         again user w true t a b = nothing_new a (λ r. b r ∙ absorbed t r)
@@ -369,7 +371,7 @@ module _ (policy : Policy) (f : List Server) (table : List MountRow) (sound : Is
 
         go : (o : Option (List ℕ)) → passer_of policy f member ≡ o
             → more ≡ places ++ option_map_or
-            (λ user. if is_row passed member then [] else child_places f from member user) o []
+            (λ _. if is_row passed member then [] else child_places f from member) o []
             → ((r : NodeRef)
             → is_row further r ≡ (is_row passed r || (is_some o && same_node member r)))
             → Wanted

@@ -1,7 +1,7 @@
 -- What the search's end says.
 use Rattle.std.proofs.Common.{◌≡◌, ℕ, ◌+◌, ◌<◌, Bool, true, false, ◌||◌, List, [], ◌∷◌, length}
 use Rattle.std.proofs.Common.{Option, Some, None, refl, sym, ap, ◌∙◌, subst, arith, inl, inr}
-use Rattle.std.specs.Prelude.{slice_get, option_map, MatchOption, IsTrue}
+use Rattle.std.specs.Prelude.{slice_get, option_and_then, option_map, is_some, MatchOption, IsTrue}
 use Rattle.std.specs.List.{AllByRecursion}
 use Rattle.std.proofs.lemmas.Bool.{cases_lt}
 use Rattle.p9_base.specs.declared.node_ref.NodeRef.{NodeRef}
@@ -26,12 +26,31 @@ use Rattle.p9_judge.specs.declared.breach.Step.{Step}
 use Rattle.p9_judge.specs.declared.search.Origin.{Origin}
 use Rattle.p9_judge.specs.declared.search.Place.{Place}
 use Rattle.p9_judge.specs.Breach.{IsBreach, IsByFirst, IsPassed, Lead}
-use Rattle.p9_judge.specs.Breach.{place_breach}
-use Rattle.p9_judge.specs.Search.{AreTested, IsAmong, IsGrown, IsReached, IsSearch, IsWay, IsWayTo}
+use Rattle.p9_judge.specs.Breach.{passer_of, place_breach}
+use Rattle.p9_judge.specs.Search.{ArePassed, AreTested, IsAmong, IsGrown, IsReached, IsSearch}
+use Rattle.p9_judge.specs.Search.{IsStepFrom, IsWay, IsWayTo}
 use Rattle.p9_judge.specs.Verdict.{IsLeast}
 use Rattle.p9_judge.proofs.Found.{dir-small}
 use Rattle.p9_judge.proofs.Lists.{at-within, within-at}
 use Rattle.p9_judge.proofs.Members.{fault_found, safer}
+
+-- what a place was discovered from
+
+pub discovered-from : (places : List Place) (i : ℕ) (origin : Origin)
+    → Some origin ≡ option_and_then (λ (p : Place). p.origin) (slice_get places i)
+    → (p : Place) × (slice_get places i ≡ Some p) × (p.origin ≡ Some origin)
+discovered-from places i origin e = go (slice_get places i) refl e
+  where
+    go : (o : Option Place) → slice_get places i ≡ o
+        → Some origin ≡ option_and_then (λ (p : Place). p.origin) o
+        → (p : Place) × (slice_get places i ≡ Some p) × (p.origin ≡ Some origin)
+    go None there e = not_some origin (sym e)
+    go (Some p) there e = (p, there, sym e)
+
+pub discovered-nowhere : (places : List Place) (i : ℕ) (p : Place) → slice_get places i ≡ Some p
+    → None ≡ option_and_then (λ (p : Place). p.origin) (slice_get places i) → p.origin ≡ None
+discovered-nowhere places i p there e =
+    sym (e ∙ ap (option_and_then (λ (p : Place). p.origin)) there)
 
 module _ (policy : Policy) (f : List Server) (table : List MountRow) where
   place_safer : (less more : Set) → ((at : NodeRef) → IsTrue (less at) → IsTrue (more at))
@@ -80,7 +99,7 @@ module _ (policy : Policy) (f : List Server) (table : List MountRow) where
     -- nor is the directory that a place was discovered in
     pub parent_shown : (i : ℕ) (p : Place) → slice_get places i ≡ Some p
         → (parent : Option NodeRef)
-        → parent ≡ option_map (λ (o : Origin). o.step.member) p.origin → (nodes : List NodeRef)
+        → parent ≡ option_map (λ (o : Origin). o.member) p.origin → (nodes : List NodeRef)
         → MatchOption parent (nodes ≡ []) (λ x. nodes ≡ x ∷ [])
         → AreNotBarred policy.hidden f nodes
     parent_shown i p at parent e nodes m = record {
@@ -102,7 +121,7 @@ module _ (policy : Policy) (f : List Server) (table : List MountRow) where
             by false q h = let no : false ≡ true = h in absurd (cc)
 
         go : (x : Option NodeRef) (o : Option Origin)
-            → x ≡ option_map (λ (o : Origin). o.step.member) o
+            → x ≡ option_map (λ (o : Origin). o.member) o
             → IsReached policy f table places passed i p.key o
             → MatchOption x (nodes ≡ []) (λ y. nodes ≡ y ∷ [])
             → (r : NodeRef) → is_row nodes r ≡ true → is_barred r policy.hidden f ≡ false
@@ -111,7 +130,7 @@ module _ (policy : Policy) (f : List Server) (table : List MountRow) where
         go (Some x) (Some o) e r m =
             alone x nodes m
             (subst (λ y. is_barred y policy.hidden f ≡ false)
-            (sym (some_same x o.step.member e)) (not_barred o.step.member r.6))
+            (sym (some_same x o.member e)) (not_barred o.member r.6))
 
     -- The way to a breach.
 
@@ -121,8 +140,19 @@ module _ (policy : Policy) (f : List Server) (table : List MountRow) where
     from_nowhere i key None e r = r
     from_nowhere i key (Some o) e r = let no : Some o ≡ None = e in absurd (cc)
 
+    -- two steps from one place to one name by the first user are one
+    one_step : (o : Origin) (a b : Step) → IsStepFrom policy f o a → IsStepFrom policy f o b → a ≡ b
+    one_step o a b first second =
+        let name : a.name ≡ b.name = first.name ∙ sym second.name in
+        let member : a.member ≡ b.member = first.member ∙ sym second.member in
+        let user : a.user ≡ b.user = some_same a.user b.user (sym first.user ∙ second.user) in
+        λ i. record { name = name i; member = member i; user = user i }
+
+    by_first : (o : Origin) (step : Step) → IsStepFrom policy f o step → IsByFirst policy f step
+    by_first o step first = ap (passer_of policy f) first.member ∙ first.user
+
     way_leads : (last : ℕ) (q : Place) → slice_get places last ≡ Some q → (steps : List Step)
-        (i : ℕ) (p : Place) → slice_get places i ≡ Some p → IsWay places i steps last
+        (i : ℕ) (p : Place) → slice_get places i ≡ Some p → IsWay policy f places i steps last
         → Lead policy f table p.key steps q.key × AllByRecursion (IsByFirst policy f) steps
     way_leads last q there [] i p at w =
         let one : Some p ≡ Some q = sym at ∙ ap (slice_get places) w ∙ there in
@@ -132,34 +162,44 @@ module _ (policy : Policy) (f : List Server) (table : List MountRow) where
       where
         turned : (next : ℕ) (pn : Place) (origin : Origin)
             → IsReached policy f table places passed next pn.key (Some origin) → origin.from ≡ i
+            → IsStepFrom policy f origin step
             → Lead policy f table pn.key steps q.key
             → AllByRecursion (IsByFirst policy f) steps
-            → Lead policy f table p.key (origin.step ∷ steps) q.key
-            × AllByRecursion (IsByFirst policy f) (origin.step ∷ steps)
-        turned next pn origin r back lead first =
+            → Lead policy f table p.key (step ∷ steps) q.key
+            × AllByRecursion (IsByFirst policy f) (step ∷ steps)
+        turned next pn origin r back by lead first =
             let one : Some r.3.0 ≡ Some p = sym r.3.1 ∙ ap (slice_get places) back ∙ at in
             let from : r.0 ≡ p.key =
             sym r.3.2 ∙ ap (λ (x : Place). x.key) (some_same r.3.0 p one) in
+            let same : r.4.0 ≡ step = one_step origin r.4.0 step r.4.1 by in
             let passes =
-            subst (λ k. IsPassed policy f table k origin.step r.1) from r.4 in
-            let on = subst (λ k. Lead policy f table k steps q.key) r.5 lead in
-            ((r.1, passes, on), (r.7, first))
+            subst (λ k. IsPassed policy f table k step r.1) from
+            (subst (λ x. IsPassed policy f table r.0 x r.1) same r.4.2) in
+            let key : pn.key ≡ beside step.member r.1.number =
+            r.5 ∙ ap (λ m. beside m r.1.number) (sym by.member) in
+            let on = subst (λ k. Lead policy f table k steps q.key) key lead in
+            ((r.1, passes, on), (by_first origin step by, first))
 
         go : (next : ℕ) (pn : Place) (origin : Origin) → slice_get places next ≡ Some pn
-            → pn.origin ≡ Some origin → origin.from ≡ i → origin.step ≡ step
+            → pn.origin ≡ Some origin → origin.from ≡ i → IsStepFrom policy f origin step
             → Lead policy f table pn.key steps q.key × AllByRecursion (IsByFirst policy f) steps
             → Lead policy f table p.key (step ∷ steps) q.key
             × AllByRecursion (IsByFirst policy f) (step ∷ steps)
-        go next pn origin here come back same later =
+        go next pn origin here come back by later =
             let r =
             subst (λ o. IsReached policy f table places passed next pn.key o) come
             (s.reached next pn here) in
-            subst (λ x. Lead policy f table p.key (x ∷ steps) q.key
-            × AllByRecursion (IsByFirst policy f) (x ∷ steps)) same
-            (turned next pn origin r back later.0 later.1)
+            turned next pn origin r back by later.0 later.1
+
+    -- each place was discovered through a member that somebody may pass
+    pub are_passed : ArePassed policy f places
+    are_passed i p origin at e =
+        let r =
+        subst (λ o. IsReached policy f table places passed i p.key o) e (s.reached i p at) in
+        (r.2, ap is_some r.4.1.user)
 
     pub found_breach : (i : ℕ) (p : Place) → slice_get places i ≡ Some p → (steps : List Step)
-        → IsWayTo places steps i → (member : NodeRef) (kind : BreachKind)
+        → IsWayTo policy f places steps i → (member : NodeRef) (kind : BreachKind)
         → place_breach policy f table p.key ≡ Some (member, kind)
         → IsBreach policy f table steps member kind × AllByRecursion (IsByFirst policy f) steps
     found_breach i p at steps w member kind e =

@@ -1,5 +1,6 @@
 pub mod Breach
 pub mod Text
 pub mod Verdict
+pub mod Listed
 pub mod Search
 pub mod Laws

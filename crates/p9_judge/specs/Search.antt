@@ -1,6 +1,6 @@
 -- What the search for a breach keeps: places in the order of their discovery, and the directories
 -- that were passed.
-use Rattle.std.specs.Prelude.{◌≡◌, ℕ, ◌<◌, List, [], ◌∷◌, Option, Some, None, IsTrue, map}
+use Rattle.std.specs.Prelude.{◌≡◌, ℕ, ◌<◌, List, [], ◌∷◌, Option, Some, None, IsSome, IsTrue, map}
 use Rattle.std.specs.Prelude.{slice_get}
 use Rattle.std.specs.Prelude.{if◌then◌else◌}
 use Rattle.std.specs.Option.{option_map_or}
@@ -18,7 +18,7 @@ use Rattle.p9_cert.specs.Safe.{IsSafe, Set}
 use Rattle.p9_judge.specs.declared.breach.Step.{Step}
 use Rattle.p9_judge.specs.declared.search.Origin.{Origin}
 use Rattle.p9_judge.specs.declared.search.Place.{Place}
-use Rattle.p9_judge.specs.Breach.{IsByFirst, IsPassed, passer_of}
+use Rattle.p9_judge.specs.Breach.{IsPassed, passer_of}
 
 -- Places by their positions.
 
@@ -30,47 +30,52 @@ IsAt places i key = (p : Place) × (slice_get places i ≡ Some p) × (p.key ≡
 abbrev pub IsAmong : List Place → NodeRef → Type 0
 IsAmong places key = (i : ℕ) × IsAt places i key
 
--- each place was discovered from an earlier one
-abbrev pub AreEarlier : List Place → Type 0
-AreEarlier places = (i : ℕ) (p : Place) (origin : Origin) → slice_get places i ≡ Some p
-    → p.origin ≡ Some origin → origin.from < i
+module _ (policy : Policy) (forest : List Server) where
+  -- each place was discovered from an earlier one, through a member that somebody may pass
+  abbrev pub ArePassed : List Place → Type 0
+  ArePassed places = (i : ℕ) (p : Place) (origin : Origin) → slice_get places i ≡ Some p
+      → p.origin ≡ Some origin
+      → (origin.from < i) × IsSome (passer_of policy forest origin.member)
 
--- the steps by which places were discovered, from that of the first position to that of the last
-abbrev pub IsWay : List Place → (first : ℕ) → List Step → (last : ℕ) → Type 0
-IsWay places first [] last = first ≡ last
-IsWay places first (step ∷ steps) last =
-    (next : ℕ) × (p : Place) × (origin : Origin) × (slice_get places next ≡ Some p)
-    × (p.origin ≡ Some origin) × (origin.from ≡ first) × (origin.step ≡ step)
-    × IsWay places next steps last
+  -- the step through the member to the child of the name, with the first user who may make it
+  pub record IsStepFrom (origin : Origin) (step : Step) : Type 0 where
+    pub name : step.name ≡ origin.name
+    pub member : step.member ≡ origin.member
+    pub user : passer_of policy forest origin.member ≡ Some step.user
 
--- the same, from a place that was discovered from nowhere
-abbrev pub IsWayTo : List Place → List Step → ℕ → Type 0
-IsWayTo places steps last =
-    (first : ℕ) × (p : Place) × (slice_get places first ≡ Some p) × (p.origin ≡ None)
-    × IsWay places first steps last
+  -- the steps by which places were discovered, from that of the first position to that of the last
+  abbrev pub IsWay : List Place → (first : ℕ) → List Step → (last : ℕ) → Type 0
+  IsWay places first [] last = first ≡ last
+  IsWay places first (step ∷ steps) last =
+      (next : ℕ) × (p : Place) × (origin : Origin) × (slice_get places next ≡ Some p)
+      × (p.origin ≡ Some origin) × (origin.from ≡ first) × IsStepFrom origin step
+      × IsWay places next steps last
+
+  -- the same, from a place that was discovered from nowhere
+  abbrev pub IsWayTo : List Place → List Step → ℕ → Type 0
+  IsWayTo places steps last =
+      (first : ℕ) × (p : Place) × (slice_get places first ≡ Some p) × (p.origin ≡ None)
+      × IsWay places first steps last
 
 -- Discovering.
 
 -- the place of a directory's child, discovered from the place of the position
-abbrev pub child_place : ℕ → NodeRef → List ℕ → Node → Place
-child_place from dir user child = record {
+abbrev pub child_place : ℕ → NodeRef → Node → Place
+child_place from dir child = record {
   key = beside dir child.number;
-  origin = Some (record {
-    from = from;
-    step = record { name = child.name; member = dir; user = user };
-  });
+  origin = Some (record { from = from; member = dir; name = child.name });
 }
 
 -- those of all children of a directory
-abbrev pub child_places : List Server → ℕ → NodeRef → List ℕ → List Place
-child_places forest from dir user = map (child_place from dir user) (children_of dir forest)
+abbrev pub child_places : List Server → ℕ → NodeRef → List Place
+child_places forest from dir = map (child_place from dir) (children_of dir forest)
 
 module _ (policy : Policy) (forest : List Server) where
   -- what a member adds to the places: its children, where it is passed for the first time
   abbrev pub discovered : ℕ → List NodeRef → NodeRef → List Place
   discovered from passed member =
       option_map_or
-      (λ user. if is_row passed member then [] else child_places forest from member user)
+      (λ _. if is_row passed member then [] else child_places forest from member)
       (passer_of policy forest member) []
 
   module _ (table : List MountRow) where
@@ -80,10 +85,10 @@ module _ (policy : Policy) (forest : List Server) where
     IsReached places passed i key None = key ≡ root_place
     IsReached places passed i key (Some origin) =
         (from : NodeRef) × (child : Node) × (origin.from < i) × IsAt places origin.from from
-        × IsPassed policy forest table from origin.step child
-        × (key ≡ beside origin.step.member child.number)
-        × IsTrue (is_row passed origin.step.member)
-        × IsByFirst policy forest origin.step
+        × ((step : Step) × IsStepFrom policy forest origin step
+        × IsPassed policy forest table from step child)
+        × (key ≡ beside origin.member child.number)
+        × IsTrue (is_row passed origin.member)
 
     -- the root place is there, and the children of all that was passed; what is there had to be:
     -- each place is safe and each passed directory is in every closed certificate

@@ -7,6 +7,7 @@
 
 mod breach;
 pub mod laws;
+mod listed;
 mod member;
 mod search;
 mod verdict;

@@ -4,12 +4,15 @@ ghost use Rattle.std.specs.Prelude.{◌≡◌, AllPairs, IsTrue, find};
 ghost use Rattle.p9_cert.specs.Closed.{AreNotBarred};
 ghost use Rattle.p9_cert.specs.Policy.{policy_of};
 ghost use Rattle.p9_cert.specs.Rows.{is_below};
-ghost use Rattle.p9_judge.specs.Breach.{breach_kind, first_passer, may_be_passed_by};
-ghost use Rattle.p9_judge.specs.Breach.{place_breach};
+ghost use Rattle.p9_cert.specs.Gap.{is_removable};
+ghost use Rattle.p9_judge.specs.Breach.{breach_kind, first_passer, hidden_kind, may_be_passed_by};
+ghost use Rattle.p9_judge.specs.Breach.{passer_of, place_breach};
+ghost use Rattle.p9_judge.specs.Listed.{Lists};
 
 use crate::breach::BreachKind;
+use crate::listed::Listed;
 use p9_base::{NodeRef, User};
-use p9_cert::{MemberFault, may_pass, member_fault};
+use p9_cert::{is_hidden, is_inside, may_pass};
 use p9_space::{MountTable, Who};
 use p9_tree::{Node, Tree};
 use p9_world::World;
@@ -17,18 +20,20 @@ use std::alloc::Allocator;
 
 /// The first member of a place with which something is wrong, and what that is. `shown` are
 /// directories by rising number that are neither hidden nor inside a hidden one.
-pub(crate) fn place_breach<T: Tree, B: Allocator + Copy>(
+pub(crate) fn place_breach<T: Tree, A: Allocator + Copy, B: Allocator + Copy>(
     world: &World<T>,
+    listed: &Listed<A>,
     table: &MountTable<B>,
     shown: &[NodeRef],
     place: NodeRef,
 ) -> Option<(NodeRef, BreachKind)>
+    requires listed { Lists world.now.users world.now.groups listed.now }
     requires rising { AllPairs (λ a b. IsTrue (is_below a b)) shown.now }
     requires shown { AreNotBarred world.now.hidden world.now.forest shown.now }
     ensures { result ≡ place_breach (policy_of world.now) world.now.forest table.now place }
 {
     for member in table.members(place).as_slice() {
-        if let Some(kind) = breach_kind(world, shown, member.node) {
+        if let Some(kind) = breach_kind(world, listed, shown, member.node) {
             return Some((member.node, kind));
         }
     }
@@ -36,22 +41,78 @@ pub(crate) fn place_breach<T: Tree, B: Allocator + Copy>(
 }
 
 // What is wrong with a member, whatever the certificate.
-fn breach_kind<T: Tree>(world: &World<T>, shown: &[NodeRef], at: NodeRef) -> Option<BreachKind>
+fn breach_kind<T: Tree, A: Allocator + Copy>(
+    world: &World<T>,
+    listed: &Listed<A>,
+    shown: &[NodeRef],
+    at: NodeRef,
+) -> Option<BreachKind>
+    requires listed { Lists world.now.users world.now.groups listed.now }
     requires rising { AllPairs (λ a b. IsTrue (is_below a b)) shown.now }
     requires shown { AreNotBarred world.now.hidden world.now.forest shown.now }
     ensures { result ≡ breach_kind (policy_of world.now) world.now.forest at }
 {
-    match member_fault(world, shown, at)? {
-        MemberFault::Inside => Some(BreachKind::Inside),
-        MemberFault::Open => Some(BreachKind::Open),
-        MemberFault::Owned => Some(BreachKind::Owned),
-        MemberFault::Removable => Some(BreachKind::Removable),
-        MemberFault::Missing => None,
+    let node = world.forest.node(at)?;
+    let hidden = world.hidden.as_slice();
+    if is_inside(&world.forest, hidden, shown, at, node.parent()) {
+        Some(BreachKind::Inside)
+    } else if is_hidden(hidden, at) {
+        hidden_kind(world, listed, at, node)
+    } else {
+        None
     }
 }
 
-/// The first listed user who may search the directory or rules it. A file has none.
-pub(crate) fn first_passer<T: Tree>(world: &World<T>, node: &Node<T::Alloc>) -> Option<User>
+// What is wrong with a hidden directory.
+fn hidden_kind<T: Tree, A: Allocator + Copy>(
+    world: &World<T>,
+    listed: &Listed<A>,
+    at: NodeRef,
+    node: &Node<T::Alloc>,
+) -> Option<BreachKind>
+    requires { Lists world.now.users world.now.groups listed.now }
+    ensures { result ≡ hidden_kind (policy_of world.now) world.now.forest at node.now }
+{
+    if listed.may_use(world, node) {
+        Some(BreachKind::Open)
+    } else if listed.rule(world, node) {
+        Some(BreachKind::Owned)
+    } else if is_removable(world, listed, at, node) {
+        Some(BreachKind::Removable)
+    } else {
+        None
+    }
+}
+
+// Whether some listed user may write the directory that the node is in, or rules that.
+fn is_removable<T: Tree, A: Allocator + Copy>(
+    world: &World<T>,
+    listed: &Listed<A>,
+    at: NodeRef,
+    node: &Node<T::Alloc>,
+) -> bool
+    requires { Lists world.now.users world.now.groups listed.now }
+    ensures { result ≡ is_removable (policy_of world.now) world.now.forest at node.now }
+{
+    let Some(parent) = node.parent() else {
+        return false;
+    };
+    match world.forest.node(at.beside(parent)) {
+        Some(dir) => listed.may_alter(world, dir),
+        None => false,
+    }
+}
+
+/// The first listed user who may search the directory of this number or rules it. A file has none,
+/// and so has a node that doesn't exist.
+pub(crate) fn passer<T: Tree>(world: &World<T>, at: NodeRef) -> Option<User>
+    ensures { result ≡ passer_of (policy_of world.now) world.now.forest at }
+{
+    first_passer(world, world.forest.node(at)?)
+}
+
+// The first listed user who may search the directory or rules it. A file has none.
+fn first_passer<T: Tree>(world: &World<T>, node: &Node<T::Alloc>) -> Option<User>
     ensures { result ≡ first_passer (policy_of world.now) node.now }
 {
     if node.is_dir() {

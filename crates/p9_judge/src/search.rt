@@ -1,7 +1,7 @@
 //! The search of a world for breaches.
 
-ghost use Rattle.std.specs.Prelude.{◌≡◌, ◌++◌, ◌∷◌, ◌<◌, ◌&&◌, ◌||◌, [], IfOk, IsTrue, None, OnOk};
-ghost use Rattle.std.specs.Prelude.{is_some, length, slice_get, option_map};
+ghost use Rattle.std.specs.Prelude.{◌≡◌, ◌++◌, ◌∷◌, ◌<◌, ◌&&◌, ◌||◌, [], IfOk, IsSome, IsTrue, None, OnOk};
+ghost use Rattle.std.specs.Prelude.{is_some, length, slice_get, option_and_then, option_map};
 ghost use Rattle.p9_base.specs.NodeRef.{same_node};
 ghost use Rattle.p9_base.specs.Name.{is_name};
 ghost use Rattle.p9_tree.specs.Server.{next_max};
@@ -10,12 +10,14 @@ ghost use Rattle.p9_cert.specs.Policy.{policy_of};
 ghost use Rattle.p9_cert.specs.Rows.{is_row};
 ghost use Rattle.p9_cert.specs.Safe.{IsSafe};
 ghost use Rattle.p9_judge.specs.Breach.{passer_of, place_breach};
-ghost use Rattle.p9_judge.specs.Search.{AreEarlier, IsAt, IsGrown, IsSearch, IsWayTo, child_place};
-ghost use Rattle.p9_judge.specs.Search.{child_places, discovered};
+ghost use Rattle.p9_judge.specs.Listed.{Lists};
+ghost use Rattle.p9_judge.specs.Search.{ArePassed, IsAt, IsGrown, IsSearch, IsStepFrom, IsWayTo};
+ghost use Rattle.p9_judge.specs.Search.{child_place, child_places, discovered};
 
 use crate::breach::Step;
-use crate::member::first_passer;
-use p9_base::{Name, NoMemory, NodeRef, User};
+use crate::listed::Listed;
+use crate::member::passer;
+use p9_base::{Name, NoMemory, NodeRef};
 use p9_cert::Certificate;
 use p9_space::{MountTable, ROOT_PLACE};
 use p9_tree::{Forest, Node, Tree};
@@ -31,20 +33,21 @@ pub(crate) struct Place {
     origin: Option<Origin>,
 }
 
-/// Where a place was discovered from: the place with this position in the order of discovery, and
-/// the step from there.
+/// Where a place was discovered from: the place with this position in the order of discovery, the
+/// member of it that was passed, and the child's name there.
 #[derive(Clone, Copy)]
 struct Origin {
     from: usize,
-    step: Step,
+    member: NodeRef,
+    name: Name,
 }
 
 impl Place {
     /// The directory that the place was discovered in.
     pub fn parent(&self) -> Option<NodeRef>
-        ensures { result ≡ option_map (λ origin. origin.step.member) self.now.origin }
+        ensures { result ≡ option_map (λ origin. origin.member) self.now.origin }
     {
-        self.origin.map(|origin| origin.step.member)
+        self.origin.map(|origin| origin.member)
     }
 }
 
@@ -82,14 +85,24 @@ impl<A: Allocator + Copy> Search<A> {
         self.places.get(position).copied()
     }
 
+    // Where the place of this position was discovered from.
+    fn origin(&self, position: usize) -> Option<Origin>
+        ensures { result
+            ≡ option_and_then (λ p. p.origin) (slice_get self.now.places.items position) }
+    {
+        self.place(position)?.origin
+    }
+
     /// Passes each member of a place that some listed user may pass.
     pub fn pass<T: Tree, B: Allocator + Copy>(
         &mut self,
         world: &World<T>,
+        listed: &Listed<A>,
         table: &MountTable<B>,
         from: usize,
         place: NodeRef,
     ) -> Result<(), NoMemory>
+        requires listed { Lists world.now.users world.now.groups listed.now }
         requires search { IsSearch (policy_of world.now) world.now.forest table.now
             self.old.places.items self.old.passed.keys }
         requires place { IsAt self.old.places.items from place }
@@ -104,7 +117,7 @@ impl<A: Allocator + Copy> Search<A> {
     {
         world.forest.well_formed();
         for member in table.members(place).as_slice() {
-            self.pass_member(world, from, member.node)?;
+            self.pass_member(world, listed, from, member.node)?;
         }
         Ok(())
     }
@@ -113,9 +126,11 @@ impl<A: Allocator + Copy> Search<A> {
     fn pass_member<T: Tree>(
         &mut self,
         world: &World<T>,
+        listed: &Listed<A>,
         from: usize,
         member: NodeRef,
     ) -> Result<(), NoMemory>
+        requires { Lists world.now.users world.now.groups listed.now }
         ensures places { OnOk result (self.new.places.items ≡ self.old.places.items
             ++ discovered (policy_of world.now) world.now.forest from self.old.passed.keys member) }
         ensures passed { OnOk result ((at : NodeRef) → is_row self.new.passed.keys at
@@ -126,11 +141,11 @@ impl<A: Allocator + Copy> Search<A> {
         let Some(node) = world.forest.node(member) else {
             return Ok(());
         };
-        let Some(user) = first_passer(world, node) else {
+        if !listed.may_pass(world, node) {
             return Ok(());
-        };
+        }
         if self.passed.insert(member)? {
-            self.discover_children(&world.forest, from, member, user)?;
+            self.discover_children(&world.forest, from, member)?;
         }
         Ok(())
     }
@@ -141,32 +156,39 @@ impl<A: Allocator + Copy> Search<A> {
         forest: &Forest<T>,
         from: usize,
         dir: NodeRef,
-        user: User,
     ) -> Result<(), NoMemory>
         ensures places { OnOk result (self.new.places.items ≡ self.old.places.items
-            ++ child_places forest.now from dir user) }
+            ++ child_places forest.now from dir) }
         ensures passed { self.new.passed.keys ≡ self.old.passed.keys }
     {
         forest.well_formed();
         let mut floor = None;
         while let Some(child) = forest.after(dir, floor) {
-            self.places.push(child_place(from, dir, user, child))?;
+            self.places.push(child_place(from, dir, child))?;
             floor = Some(child.number());
         }
         Ok(())
     }
 
-    /// The steps from the root place to the place of this position.
-    pub fn steps_to(&self, alloc: A, position: usize) -> Result<Vec<Step, A>, NoMemory>
-        requires earlier { AreEarlier self.now.places.items }
+    /// The steps from the root place to the place of this position. The user of each is looked for
+    /// among the listed ones.
+    pub fn steps_to<T: Tree, B: Allocator>(
+        &self,
+        alloc: B,
+        world: &World<T>,
+        position: usize,
+    ) -> Result<Vec<Step, B>, NoMemory>
+        requires passed { ArePassed (policy_of world.now) world.now.forest self.now.places.items }
         requires within { position < length self.now.places.items }
-        ensures { IfOk result (λ steps. IsWayTo self.now.places.items steps.items position) }
+        ensures { IfOk result (λ steps. IsWayTo (policy_of world.now) world.now.forest
+            self.now.places.items steps.items position) }
     {
         let mut steps = Vec::new(alloc);
         let mut position = position;
-        while let Some(origin) = self.places[position].origin {
-            steps.push(origin.step)?;
-            position = origin.from;
+        while let Some(origin) = self.origin(position) {
+            let from = origin.from;
+            steps.push(step_from(world, origin))?;
+            position = from;
         }
         steps.reverse();
         Ok(steps)
@@ -187,19 +209,28 @@ impl<A: Allocator + Copy> Search<A> {
 }
 
 // The place of a directory's child.
-fn child_place<A: Allocator>(from: usize, dir: NodeRef, user: User, child: &Node<A>) -> Place
+fn child_place<A: Allocator>(from: usize, dir: NodeRef, child: &Node<A>) -> Place
     requires { IsTrue (is_name child.now.name) }
-    ensures { result ≡ child_place from dir user child.now }
+    ensures { result ≡ child_place from dir child.now }
 {
     Place {
         key: dir.beside(child.number()),
         origin: Some(Origin {
             from,
-            step: Step {
-                name: Name::new(child.name()).unwrap(),
-                member: dir,
-                user,
-            },
+            member: dir,
+            name: Name::new(child.name()).unwrap(),
         }),
+    }
+}
+
+// The step by which a place was discovered, with the first listed user who may make it.
+fn step_from<T: Tree>(world: &World<T>, origin: Origin) -> Step
+    requires { IsSome (passer_of (policy_of world.now) world.now.forest origin.member) }
+    ensures { IsStepFrom (policy_of world.now) world.now.forest origin result }
+{
+    Step {
+        name: origin.name,
+        member: origin.member,
+        user: passer(world, origin.member).unwrap(),
     }
 }

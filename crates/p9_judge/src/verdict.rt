@@ -5,6 +5,7 @@ ghost use Rattle.p9_cert.specs.Policy.{policy_of};
 ghost use Rattle.p9_judge.specs.Verdict.{IsVerdict};
 
 use crate::breach::Breach;
+use crate::listed::Listed;
 use crate::member::place_breach;
 use crate::search::Search;
 use p9_base::NoMemory;
@@ -38,8 +39,11 @@ pub enum Verdict<A: Allocator> {
 /// allocation fails. No contract says which breach of several is returned; tests do.
 ///
 /// Each place is discovered once, since its directory is passed once. For each member of a place
-/// that is discovered, its node is looked for, and the listed users and the hidden directories are
-/// gone over. For a member that was bound there, so are the directories above it.
+/// that is discovered, its node is looked for, and the hidden directories are gone over. For a
+/// member that was bound there, so are the directories above it. The listed users are gone over once
+/// for all, and the groups; and once for each step of a breach. What follows from a node's mode is
+/// asked of the classes of its users: everybody, its owner, the members of its group, and who leads
+/// it.
 ///
 /// [`BreachKind`]: crate::BreachKind
 pub fn judge<T: Tree, A: Allocator + Copy, B: Allocator + Copy>(
@@ -50,19 +54,20 @@ pub fn judge<T: Tree, A: Allocator + Copy, B: Allocator + Copy>(
     ensures { IfOk result (IsVerdict (policy_of world.now) world.now.forest table.now) }
 {
     world.forest.well_formed();
+    let listed = Listed::of(alloc, world)?;
     let mut search = Search::new(alloc)?;
     let mut tested = 0;
     while let Some(place) = search.place(tested) {
         let parent = place.parent();
-        let fault = place_breach(world, table, parent.as_slice(), place.key);
+        let fault = place_breach(world, &listed, table, parent.as_slice(), place.key);
         if let Some((member, kind)) = fault {
             return Ok(Verdict::No(Breach {
-                steps: search.steps_to(alloc, tested)?,
+                steps: search.steps_to(alloc, world, tested)?,
                 member,
                 kind,
             }));
         }
-        search.pass(world, table, tested, place.key)?;
+        search.pass(world, &listed, table, tested, place.key)?;
         tested += 1;
     }
     Ok(Verdict::Yes(search.certificate(alloc)?))

@@ -42,14 +42,15 @@ impl<A: Allocator> Model for Channels<A> {
 }
 
 impl<A: Allocator + Copy> Channels<A> {
-    /// The trail with the rows of its places. The only error is that an allocation fails.
+    /// A copy of the trail, with the rows of its places. The only error is that an allocation fails.
     pub fn of<B: Allocator + Copy>(
         table: &MountTable<B>,
-        trail: Trail<A>,
+        trail: &Trail<A>,
     ) -> Result<Channels<A>, NoMemory>
-        ensures trail { IfOk result (λ channels. trail_of channels ≡ trail) }
+        ensures trail { IfOk result (λ channels. trail_of channels ≡ trail.now) }
         ensures fits { IfOk result (λ channels. Fits table.now channels) }
     {
+        let trail = trail.copy()?;
         let rows = trail
             .as_slice()
             .iter()

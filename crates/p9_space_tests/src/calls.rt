@@ -115,7 +115,7 @@ fn walk_by_channels<T: Tree>(
     names: &[&str],
     user: &Option<User>,
 ) -> Result<String, NoMemory> {
-    let mut channels = Channels::of(&space.table, space.trail.copy()?)?;
+    let mut channels = Channels::of(&space.table, &space.trail)?;
     match advance(
         &space.forest,
         &space.table,

@@ -34,7 +34,7 @@ fn channels_at(
     ensures { Fits table.now result }
 {
     let trail = Trail::at(alloc, node(place)).expect(rt, "a trail");
-    Channels::of(table, trail).expect(rt, "channels")
+    Channels::of(table, &trail).expect(rt, "channels")
 }
 
 // A fid joins at the place.

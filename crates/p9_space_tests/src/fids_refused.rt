@@ -10,7 +10,7 @@ use std::alloc::{Allocator, Global};
 use std::process::Abort;
 
 fn channels_at<A: Allocator + Copy>(memory: A) -> Result<Channels<A>, NoMemory> {
-    Channels::of(&MountTable::new(memory), Trail::at(memory, node(1))?)
+    Channels::of(&MountTable::new(memory), &Trail::at(memory, node(1))?)
 }
 
 // A fid, made again where an allocation failed.

@@ -143,7 +143,7 @@ fn walk_again<T: Tree>(rt: &impl Abort, alloc: Global, space: &Space<T>) {
 // The same walk by channels.
 fn walk_by_channels<T: Tree>(space: &Space<T>) -> Result<Channels<T::Alloc>, Fault> {
     let names = ["a", "b"];
-    let mut channels = Channels::of(&space.table, space.trail.copy()?)?;
+    let mut channels = Channels::of(&space.table, &space.trail)?;
     advance(
         &space.forest,
         &space.table,

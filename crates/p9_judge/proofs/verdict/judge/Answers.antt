@@ -5,7 +5,8 @@ use Rattle.p9_cert.specs.Policy.{policy_of}
 use Rattle.p9_judge.specs.Verdict.{IsLeast}
 use Rattle.p9_judge.proofs.Lists.{at-within}
 use Rattle.p9_judge.proofs.Searches.{search_begins}
-use Rattle.p9_judge.proofs.Verdicts.{found_breach, least, parent_shown, passed-small, tested_more}
+use Rattle.p9_judge.proofs.Verdicts.{are_passed, found_breach, least, parent_shown}
+use Rattle.p9_judge.proofs.Verdicts.{passed-small, tested_more}
 use Rattle.p9_judge.proofs.verdict.judge.Goals as goal
 
 pub loop-place-init : goal.loop-place-init
@@ -27,6 +28,13 @@ place_breach-fault-requires-clause-shown g c =
     c.loop-place.search.places.items c.loop-place.search.passed.keys c.loop-place.invariant.search
     c.loop-place.tested c.in-Some.place (sym c.place.ensures ∙ c.in-Some.is) c.parent-parent.result
     c.parent-parent.ensures c.as_slice.result.now c.as_slice.ensures
+
+pub steps_to-requires-clause-passed : goal.steps_to-requires-clause-passed
+steps_to-requires-clause-passed g c =
+    let world = c.args.world.now in
+    let sound = subst (λ (w : World). IsForest w.forest) c.world.view_is c.well_formed-2.ensures in
+    are_passed (policy_of world) world.forest c.args.table.now sound
+    c.loop-place.search.places.items c.loop-place.search.passed.keys c.loop-place.invariant.search
 
 pub steps_to-requires-clause-within : goal.steps_to-requires-clause-within
 steps_to-requires-clause-within g c =

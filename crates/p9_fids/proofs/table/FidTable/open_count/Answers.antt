@@ -2,7 +2,6 @@ use Rattle.std.proofs.Common.{◌∙◌, sym}
 use Rattle.std.specs.Map.{values_of}
 use Rattle.p9_fids.specs.Fid.{is_open_on}
 use Rattle.p9_fids.specs.Held.{fid_of}
-use Rattle.p9_fids.proofs.Holding.{fit-all}
 use Rattle.p9_fids.proofs.Values.{count-mapped, values-mapped}
 use Rattle.p9_fids.proofs.table.FidTable.open_count.Goals as goal
 
@@ -12,7 +11,3 @@ returns g c =
     rw (← c.self.view_is, values-mapped fid_of entries)
     (c.count_open.ensures
     ∙ sym (count-mapped fid_of (is_open_on c.args.table.now c.args.node) (values_of entries)))
-
-pub count_open-requires : goal.count_open-requires
-count_open-requires g c =
-    fit-all c.args.table.now c.self.inside.fids.entries (rw (← c.self.view_is) at c.requires)

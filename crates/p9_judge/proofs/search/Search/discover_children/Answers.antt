@@ -30,8 +30,8 @@ loop-child-preserved g c =
     record {
       discovered =
           discovered-next forest c.well_formed-2.ensures c.args.dir
-          (child_place c.args.from c.args.dir c.args.user)
-          (c.args.self.now.places.items ++ child_places forest c.args.from c.args.dir c.args.user)
+          (child_place c.args.from c.args.dir)
+          (c.args.self.now.places.items ++ child_places forest c.args.from c.args.dir)
           c.loop-child.floor c.loop-child.self.places.items c.push.new.self.items
           c.child_place.result c.in-Some.child.now c.number.result c.in_ok-push.ensures.items
           c.child_place.ensures c.number.ensures (sym c.in-Some.ensures)
@@ -43,7 +43,7 @@ pub returns-clause-places : goal.returns-clause-places
 returns-clause-places g c =
     let forest = c.args.forest.now in
     discovered-end forest c.well_formed-2.ensures c.args.dir
-    (child_place c.args.from c.args.dir c.args.user)
-    (c.args.self.now.places.items ++ child_places forest c.args.from c.args.dir c.args.user)
+    (child_place c.args.from c.args.dir)
+    (c.args.self.now.places.items ++ child_places forest c.args.from c.args.dir)
     c.loop-child.floor c.loop-child.self.places.items
     (sym c.after.ensures ∙ ap option_copied c.in_default.is) c.loop-child.invariant.discovered

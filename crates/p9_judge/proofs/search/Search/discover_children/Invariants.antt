@@ -9,8 +9,8 @@ abbrev pub invariant-loop-child : goal.invariant-loop-child
 invariant-loop-child g l =
     let forest = l.forest in record {
       discovered : l.self.places.items
-          ++ map (child_place l.from l.dir l.user) (left_of l.dir l.floor forest)
-          ≡ l.initial.self.places.items ++ child_places forest l.from l.dir l.user;
+          ++ map (child_place l.from l.dir) (left_of l.dir l.floor forest)
+          ≡ l.initial.self.places.items ++ child_places forest l.from l.dir;
       passed : l.self.passed.keys ≡ l.initial.self.passed.keys;
     }
 
