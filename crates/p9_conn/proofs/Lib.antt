@@ -1,5 +1,6 @@
 mod Buffers
-mod Facts
-mod Histories
-mod Orders
+pub mod Facts
+pub mod Histories
+pub mod Orders
 mod Outcomes
+mod Told
