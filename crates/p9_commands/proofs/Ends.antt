@@ -35,19 +35,19 @@ module _ (none printed before after : List ℕ) (empty : none ≡ [])
       → Writes command prepared status none printed → Writes command prepared status before after
   writes-moved Play prepared status writes =
       (writes.0, record { marks = writes.1.marks; text_is = moved _ writes.1.text_is })
-  writes-moved Check prepared status (inl yes) = inl (record {
-    rows = yes.rows;
-    told = told-moved _ _ _ yes.told;
-    closed = yes.closed;
-    least = yes.least;
+  writes-moved Check prepared status (inl says) = inl (record {
+    rows = says.rows;
+    told = told-moved _ _ _ says.told;
+    closed = says.closed;
+    least = says.least;
   })
-  writes-moved Check prepared status (inr no) = inr (record {
-    steps = no.steps;
-    member = no.member;
-    kind = no.kind;
-    told = told-moved _ _ _ no.told;
-    breach = no.breach;
-    by_first = no.by_first;
+  writes-moved Check prepared status (inr says) = inr (record {
+    steps = says.steps;
+    member = says.member;
+    kind = says.kind;
+    told = told-moved _ _ _ says.told;
+    breach = says.breach;
+    by_first = says.by_first;
   })
   writes-moved Verify prepared status writes = told-moved _ _ _ writes
   writes-moved Ns prepared status writes = told-moved _ _ _ writes

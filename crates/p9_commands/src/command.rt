@@ -273,9 +273,9 @@ fn work<T: Tree>(
 // Plays the script, over a guard where there is a certificate.
 fn play<T: Tree>(prepared: Prepared<T>, out: &mut Vec<u8, T::Alloc>) -> Result<u8, Stop>
     ensures ok { IfOk result (λ status.
-        Writes Play prepared status out.old.items out.new.items) }
-    ensures admitted { OnOk result (gap_against Play prepared ≡ None) }
-    ensures stop { IfErr result (IsUnverified (gap_against Play prepared)) }
+        Writes Command.Play prepared status out.old.items out.new.items) }
+    ensures admitted { OnOk result (gap_against Command.Play prepared ≡ None) }
+    ensures stop { IfErr result (IsUnverified (gap_against Command.Play prepared)) }
     ensures silent { IfErr result (IsSilent out.old.items out.new.items) }
 {
     let Prepared {

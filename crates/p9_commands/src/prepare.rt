@@ -1,6 +1,6 @@
 //! An input that is prepared: all that the commands and the server take from it.
 
-ghost use Rattle.std.specs.Prelude.{◌≡◌, ◌++◌, ◌×◌, IfErr, IfOk, Ok, OnOk, map};
+ghost use Rattle.std.specs.Prelude.{◌≡◌, IfErr, IfOk, Ok, OnOk, map};
 ghost use Rattle.p9_cert.specs.declared.gap.Gap.{Gap};
 ghost use Rattle.p9_commands.specs.Bundle.{bundle_view};
 ghost use Rattle.p9_commands.specs.Prepared.{IsPrepareError, TellsError, gap_in, guard_in, needed};
