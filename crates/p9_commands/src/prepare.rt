@@ -104,10 +104,7 @@ pub fn prepare<T: Tree>(
 }
 
 // The sections of an input, and the name space that they describe.
-fn opened<T: Tree>(
-    alloc: T::Alloc,
-    input: &[u8],
-) -> Result<(Bundle<T::Alloc>, NameSpace<T>), Stop>
+fn opened<T: Tree>(alloc: T::Alloc, input: &[u8]) -> Result<(Bundle<T::Alloc>, NameSpace<T>), Stop>
     ensures ok { IfOk result (λ found. opened input.now ≡ Ok (bundle_view found.0, found.1)) }
     ensures stop { IfErr result (IsStop (opened input.now)) }
 {
