@@ -4,7 +4,7 @@ use super::{Asked, command_asked};
 use std::alloc::Global;
 use std::process::Abort;
 
-// The words behind the program's name, and what they ask for.
+// The words after the program's name, and what they ask for.
 const CASES: &str = "\
 : Play
 play: Play
