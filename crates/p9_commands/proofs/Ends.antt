@@ -4,9 +4,12 @@ use Rattle.std.proofs.Common.{refl, sym, ap, subst, ◌∙◌, append_assoc, app
 use Rattle.std.specs.Option.{option_map_or}
 use Rattle.p9_base.specs.Results.{and_then}
 use Rattle.p9_cert.specs.declared.gap.Gap.{Gap}
+use Rattle.p9_base.specs.declared.node_ref.NodeRef.{NodeRef}
 use Rattle.p9_nsfile.specs.Space.{Report}
+use Rattle.p9_step.specs.Event.{Event}
 use Rattle.p9_commands.specs.Command.{CommandEnds, Printed, Writes, admitted, gap_against}
 use Rattle.p9_commands.specs.Judgement.{IsTold}
+use Rattle.p9_commands.specs.NameSpace.{NameSpace}
 use Rattle.p9_commands.specs.Prepared.{IsPrepareErrorBy, Prepared, Rejected}
 use Rattle.p9_commands.specs.Refusal.{IsSilent, IsUnverified, TellsStop, refusal_line}
 use Rattle.p9_commands.specs.Report.{reports_text}
@@ -111,3 +114,13 @@ module _ (command : Command) (p : Printed) where
               (refusal_line (Unverified is.0)),
           same,
         )
+
+-- what holds of the parts of a prepared input holds of it
+pub of_parts : (P : Prepared → Type 0) (space : NameSpace) (rows : Option (List NodeRef))
+    (events given : List Event) (prepared : Prepared)
+    → record { space = space; rows = rows; events = events } ≡ prepared → given ≡ events
+    → P (record { space = space; rows = rows; events = given }) → P prepared
+of_parts P space rows events given prepared is same holds =
+    subst P is
+    (subst (λ (list : List Event). P (record { space = space; rows = rows; events = list })) same
+    holds)

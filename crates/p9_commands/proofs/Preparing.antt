@@ -7,37 +7,17 @@ use Rattle.p9_cert.specs.declared.gap.Gap.{Gap}
 use Rattle.p9_guard.specs.Guard.{Guarded}
 use Rattle.p9_nsfile.specs.Space.{Report}
 use Rattle.p9_commands.specs.NameSpace.{NameSpace, gap_over, guard_over}
-use Rattle.p9_commands.specs.Prepared.{IsPrepareErrorBy, Rejected, guarded, with_reports}
+use Rattle.p9_commands.specs.Prepared.{Rejected, guarded, with_reports}
 use Rattle.p9_commands.specs.Refusal.{IsStop, IsUnverified}
 use Rattle.p9_commands.specs.declared.refusal.Refusal.{Refusal}
 use Rattle.p9_commands.specs.declared.refusal.Stop.{Stop}
 use Rattle.p9_commands.specs.declared.refusal.Stop.TheVariants.{Refused, NoMemory}
-
--- what stops a part stops the input, with the reports before it
-pub part-refused : {X Y : Type 0} (reports given : List Report) (found : Result X Refusal)
-    (rest : X → Result Y Rejected) (stop : Stop) → given ≡ reports → IsStop found stop
-    → IsPrepareErrorBy (and_then (with_reports reports found) rest) given stop
-part-refused reports given found rest NoMemory same is = tt
-part-refused reports given found rest (Refused refusal) same is = rw (is, same) refl
 
 -- a part that is found is followed by the rest
 pub part-found : {X Y : Type 0} (reports : List Report) (found : Result X Refusal)
     (rest : X → Result Y Rejected) (value : X) → found ≡ Ok value
     → and_then (with_reports reports found) rest ≡ rest value
 part-found reports found rest value is = rw is refl
-
--- what stops the first of two parts stops both
-pub first-refused : {X Y : Type 0} (first : Result X Refusal) (second : X → Result Y Refusal)
-    (stop : Stop) → IsStop first stop → IsStop (and_then first second) stop
-first-refused first second NoMemory is = tt
-first-refused first second (Refused refusal) is = rw is refl
-
--- what stops the second of two parts stops both
-pub second-refused : {X Y : Type 0} (first : Result X Refusal) (second : X → Result Y Refusal)
-    (value : X) (stop : Stop) → first ≡ Ok value → IsStop (second value) stop
-    → IsStop (and_then first second) stop
-second-refused first second value NoMemory found is = tt
-second-refused first second value (Refused refusal) found is = rw found is
 
 -- a certificate without a gap gives the guard, and one with a gap none
 module _ (space : NameSpace) (rows : List NodeRef) where
@@ -48,7 +28,9 @@ module _ (space : NameSpace) (rows : List NodeRef) where
   guard-ok (Ok guard) made none = rw (none, made) refl
   guard-ok (Err stop) made none = tt
 
-  pub guard-stop : (stop : Stop) → IsUnverified (gap_over space rows) stop
-      → IsStop (guarded space rows) stop
-  guard-stop NoMemory is = tt
-  guard-stop (Refused refusal) is = rw (is.1, is.2) refl
+  pub guard-stop : (result : Result Guarded Stop)
+      → IfErr result (IsUnverified (gap_over space rows))
+      → IfErr result (IsStop (guarded space rows))
+  guard-stop (Ok guard) is = tt
+  guard-stop (Err NoMemory) is = tt
+  guard-stop (Err (Refused refusal)) is = rw (is.1, is.2) refl

@@ -12,8 +12,8 @@ use Rattle.p9_commands.specs.Report.{reports_text}
 use Rattle.p9_commands.specs.Word.{command_of}
 use Rattle.p9_commands.specs.declared.command.Command.{Command}
 use Rattle.p9_commands.specs.declared.command.Command.TheVariants.{Play, Check, Verify, Ns}
-use Rattle.p9_commands.specs.declared.prepare.Needs.{Needs}
-use Rattle.p9_commands.specs.declared.prepare.Needs.TheVariants.{Nothing, Certificate}
+use Rattle.p9_commands.specs.declared.prepared.Needs.{Needs}
+use Rattle.p9_commands.specs.declared.prepared.Needs.TheVariants.{Nothing, Certificate}
 use Rattle.p9_commands.specs.declared.refusal.Refusal.TheVariants.{Unverified}
 
 -- What is asked.

@@ -6,7 +6,7 @@ use Rattle.p9_nsfile.specs.Space.{Report}
 use Rattle.p9_commands.specs.Prepared.{Prepared, Rejected, guard_in, prepared_of, rejected_text}
 use Rattle.p9_commands.specs.Prepared.{with_reports}
 use Rattle.p9_commands.specs.Report.{reports_text}
-use Rattle.p9_commands.specs.declared.prepare.Needs.TheVariants.{Certificate}
+use Rattle.p9_commands.specs.declared.prepared.Needs.TheVariants.{Certificate}
 
 -- a guard that is to be served, and what failed in the making of its name space
 pub record Offer : Type 0 where

@@ -14,9 +14,9 @@ use Rattle.p9_commands.specs.NameSpace.{NameSpace, gap_over, guard_over, space_i
 use Rattle.p9_commands.specs.Refusal.{TellsStop, or_refused, refusal_line}
 use Rattle.p9_commands.specs.Report.{reports_text}
 use Rattle.p9_commands.specs.Script.{script_of}
-use Rattle.p9_commands.specs.declared.prepare.Needs.{Needs}
-use Rattle.p9_commands.specs.declared.prepare.Needs.TheVariants.{Nothing, Certificate}
-use Rattle.p9_commands.specs.declared.prepare.PrepareError.{PrepareError}
+use Rattle.p9_commands.specs.declared.prepared.Needs.{Needs}
+use Rattle.p9_commands.specs.declared.prepared.Needs.TheVariants.{Nothing, Certificate}
+use Rattle.p9_commands.specs.declared.prepared.PrepareError.{PrepareError}
 use Rattle.p9_commands.specs.declared.refusal.Refusal.{Refusal}
 use Rattle.p9_commands.specs.declared.refusal.Refusal.TheVariants.{BadCertificate, BadEvent}
 use Rattle.p9_commands.specs.declared.refusal.Refusal.TheVariants.{BadSection, NoCertificate}

@@ -1,17 +1,23 @@
 //! The program's commands, and how each ends over an input.
 
-ghost use Rattle.std.specs.Prelude.{◌≡◌, IfErr, IfOk, None, OnErr, OnOk};
+ghost use Rattle.std.specs.Prelude.{◌≡◌, IfErr, IfOk, None, OnErr, OnOk, map};
+ghost use Rattle.std.specs.Option.{option_map_or};
 ghost use Rattle.p9_commands.specs.Command.{CommandEnds, IsUnchanged, WordEnds, Writes, admitted};
 ghost use Rattle.p9_commands.specs.Command.{asked, gap_against, needs_of};
+ghost use Rattle.p9_commands.specs.NameSpace.{gap_over};
 ghost use Rattle.p9_commands.specs.Refusal.{IsSilent, IsUnverified};
+ghost use Rattle.p9_export.specs.Event.{event_view};
 
 use crate::judgement::print_verified;
+use crate::name_space::NameSpace;
 use crate::play::play_events;
-use crate::prepare::{Needs, Prepared, prepare};
+use crate::prepared::{Needs, Prepared, prepare};
 use crate::printed::append_both;
 use crate::refusal::Stop;
 use crate::status::{BAD_COMMAND_LINE, DONE, REFUSED};
 use p9_base::NoMemory;
+use p9_cert::Certificate;
+use p9_export::Event;
 use p9_index::IndexTree;
 use p9_tree::Tree;
 use std::alloc::Allocator;
@@ -240,7 +246,7 @@ fn end_prepared<T: Tree>(
           err = err.new.items;
         })) }
 {
-    prepared.space.print_reports(err)?;
+    prepared.print_reports(err)?;
     match work(command, prepared, out) {
         Ok(status) => Ok(status),
         Err(stop) => {
@@ -263,29 +269,38 @@ fn work<T: Tree>(
     ensures silent { IfErr result (IsSilent out.old.items out.new.items) }
 {
     match command {
-        Command::Play => play(prepared, out),
+        Command::Play => {
+            let Prepared {
+                space,
+                certificate,
+                events,
+            } = prepared;
+            play(space, certificate, events.as_slice(), out)
+        }
         Command::Check => Ok(prepared.space.check(out)?),
         Command::Verify => Ok(print_verified(prepared.gap(), out)?),
         Command::Ns => Ok(prepared.space.list(out)?),
     }
 }
 
-// Plays the script, over a guard where there is a certificate.
-fn play<T: Tree>(prepared: Prepared<T>, out: &mut Vec<u8, T::Alloc>) -> Result<u8, Stop>
-    ensures ok { IfOk result (λ status.
-        Writes Command.Play prepared status out.old.items out.new.items) }
-    ensures admitted { OnOk result (gap_against Command.Play prepared ≡ None) }
-    ensures stop { IfErr result (IsUnverified (gap_against Command.Play prepared)) }
+// Plays events over a name space, on a guard where there is a certificate.
+fn play<T: Tree>(
+    space: NameSpace<T>,
+    certificate: Option<Certificate<T::Alloc>>,
+    events: &[Event<T::Alloc>],
+    out: &mut Vec<u8, T::Alloc>,
+) -> Result<u8, Stop>
+    ensures ok { IfOk result (λ status. Writes Command.Play
+        (record { space = space; rows = certificate; events = map event_view events.now }) status
+        out.old.items out.new.items) }
+    ensures admitted { OnOk result (option_map_or (gap_over space) certificate None ≡ None) }
+    ensures stop { IfErr result
+        (IsUnverified (option_map_or (gap_over space) certificate None)) }
     ensures silent { IfErr result (IsSilent out.old.items out.new.items) }
 {
-    let Prepared {
-        space,
-        certificate,
-        events,
-    } = prepared;
     match certificate {
-        Some(certificate) => play_events(&mut space.guard(certificate)?, events.as_slice(), out)?,
-        None => play_events(&mut space.export(), events.as_slice(), out)?,
+        Some(certificate) => play_events(&mut space.guard(certificate)?, events, out)?,
+        None => play_events(&mut space.export(), events, out)?,
     }
     Ok(DONE)
 }

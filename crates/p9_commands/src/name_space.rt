@@ -11,12 +11,10 @@ ghost use Rattle.p9_commands.specs.Listing.{table_text};
 ghost use Rattle.p9_commands.specs.NameSpace.{environment_of, exported, gap_over, guard_over};
 ghost use Rattle.p9_commands.specs.NameSpace.{or_bad_operation, space_in, space_over, world_in};
 ghost use Rattle.p9_commands.specs.Refusal.{IsStop, IsUnverified};
-ghost use Rattle.p9_commands.specs.Report.{reports_text};
 
 use crate::judgement::print_verdict;
 use crate::listing::print_table;
 use crate::refusal::{Refusal, Stop};
-use crate::report::print_reports;
 use crate::small::small_world;
 use p9_base::NoMemory;
 use p9_cert::Certificate;
@@ -90,13 +88,6 @@ impl<T: Tree> NameSpace<T> {
             table,
             reports,
         })
-    }
-
-    /// Prints what failed, a line each. Where an allocation fails, some of them may be there.
-    pub(crate) fn print_reports(&self, err: &mut Vec<u8, T::Alloc>) -> Result<(), NoMemory>
-        ensures { OnOk result (err.new.items ≡ err.old.items ++ reports_text self.now.reports) }
-    {
-        print_reports(self.reports.as_slice(), err)
     }
 
     /// Prints the mount table, a line for each member of each row. Returns the exit status. Where

@@ -3,7 +3,7 @@
 ghost use Rattle.std.specs.Prelude.{◌≡◌, IfOk, OnErr};
 ghost use Rattle.p9_commands.specs.Offer.{Serves, offer_in, offer_of};
 
-use crate::prepare::{Needs, Prepared, prepare};
+use crate::prepared::{Needs, Prepared, prepare};
 use p9_base::NoMemory;
 use p9_guard::Guard;
 use p9_index::IndexTree;
@@ -60,7 +60,7 @@ fn offer_prepared<A: Allocator + Copy>(
 ) -> Result<Option<Guard<IndexTree<A>>>, NoMemory>
     ensures { IfOk result (λ guard. Serves (offer_in prepared) err.old.items err.new.items guard) }
 {
-    prepared.space.print_reports(err)?;
+    prepared.print_reports(err)?;
     match prepared.guard() {
         Ok(guard) => Ok(Some(guard)),
         Err(stop) => {

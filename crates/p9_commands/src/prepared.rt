@@ -1,11 +1,12 @@
 //! An input that is prepared: all that the commands and the server take from it.
 
-ghost use Rattle.std.specs.Prelude.{◌≡◌, IfErr, IfOk, Ok, OnOk, map};
+ghost use Rattle.std.specs.Prelude.{◌≡◌, ◌++◌, IfErr, IfOk, Ok, OnOk, map};
 ghost use Rattle.p9_cert.specs.declared.gap.Gap.{Gap};
 ghost use Rattle.p9_commands.specs.Bundle.{bundle_view};
 ghost use Rattle.p9_commands.specs.Prepared.{IsPrepareError, TellsError, gap_in, guard_in, needed};
 ghost use Rattle.p9_commands.specs.Prepared.{opened, prepared_of, prepared_with, rest_in};
 ghost use Rattle.p9_commands.specs.Refusal.{IsStop};
+ghost use Rattle.p9_commands.specs.Report.{reports_text};
 ghost use Rattle.p9_export.specs.Event.{event_view};
 
 use crate::bundle::Bundle;
@@ -171,6 +172,15 @@ fn needed<A: Allocator>(
 }
 
 impl<T: Tree> Prepared<T> {
+    /// Prints what failed in the namespace file, a line each. Where an allocation fails, some of
+    /// them may be there.
+    pub(crate) fn print_reports(&self, err: &mut Vec<u8, T::Alloc>) -> Result<(), NoMemory>
+        ensures { OnOk result
+            (err.new.items ≡ err.old.items ++ reports_text self.now.space.reports) }
+    {
+        print_reports(self.space.reports.as_slice(), err)
+    }
+
     /// The first gap of the certificate, as [`verify`] returns it; none where there is no
     /// certificate.
     pub fn gap(&self) -> Option<Gap>
