@@ -26,72 +26,72 @@ module _ (hidden : List NodeRef) (start : Start) where
     guarded : IsGuardedState hidden start a.state
 
   module _ (a b : State) (guarded : IsGuardedState hidden start a) (alike : AreAlike hidden a b)
-      where
-    stays : PlaysAlike (skipped a) (skipped b)
-    stays = record { text = refl; alike = alike; guarded = guarded }
+    where
+      stays : PlaysAlike (skipped a) (skipped b)
+      stays = record { text = refl; alike = alike; guarded = guarded }
 
-    stepped : (event : Event) (refused : Bool) → IsEvent event
-        → IsSafeStep hidden start a (step a event refused) (step b event refused)
-    stepped event refused fine = alike_step hidden start a b event refused guarded alike fine
+      stepped : (event : Event) (refused : Bool) → IsEvent event
+          → IsSafeStep hidden start a (step a event refused) (step b event refused)
+      stepped event refused fine = alike_step hidden start a b event refused guarded alike fine
 
-    is-silent : (event : Event) → IsEvent event
-        → PlaysAlike (silent (step a event false)) (silent (step b event false))
-    is-silent event fine =
-        let its = stepped event false fine in
-        record { text = refl; alike = its.alike; guarded = its.guarded }
+      is-silent : (event : Event) → IsEvent event
+          → PlaysAlike (silent (step a event false)) (silent (step b event false))
+      is-silent event fine =
+          let its = stepped event false fine in
+          record { text = refl; alike = its.alike; guarded = its.guarded }
 
-    is-replied : (event : Event) (refused : Bool) → IsEvent event
-        → PlaysAlike (replied (step a event refused)) (replied (step b event refused))
-    is-replied event refused fine =
-        let its = stepped event refused fine in
-        record {
-          text = ap (λ (reply : List ℕ). encode_lower reply ++ 10 ∷ []) its.reply;
-          alike = its.alike;
-          guarded = its.guarded;
-        }
+      is-replied : (event : Event) (refused : Bool) → IsEvent event
+          → PlaysAlike (replied (step a event refused)) (replied (step b event refused))
+      is-replied event refused fine =
+          let its = stepped event refused fine in
+          record {
+            text = ap (λ (reply : List ℕ). encode_lower reply ++ 10 ∷ []) its.reply;
+            alike = its.alike;
+            guarded = its.guarded;
+          }
 
-    -- a session is open in both or in neither
-    fits : (name : ℕ)
-        → is_some (session_at name b.sessions) ≡ is_some (session_at name a.sessions)
-    fits name = ap (λ (rows : List SessionRow). is_some (session_at name rows)) alike.sessions
+      -- a session is open in both or in neither
+      fits : (name : ℕ)
+          → is_some (session_at name b.sessions) ≡ is_some (session_at name a.sessions)
+      fits name = ap (λ (rows : List SessionRow). is_some (session_at name rows)) alike.sessions
 
-    -- an event is played; whether it fits is the same in both
-    plays : (event : Event) (refused : Bool) → IsEvent event
-        → PlaysAlike (played a event refused) (played b event refused)
-    plays (Open name) refused fine =
-        go (is_some (session_at name a.sessions)) (is_some (session_at name b.sessions))
-        (fits name)
-      where
-        go : (c d : Bool) → d ≡ c
-            → PlaysAlike (if c then skipped a else silent (step a (Open name) false))
-            (if d then skipped b else silent (step b (Open name) false))
-        go true true e = stays
-        go false false e = is-silent (Open name) fine
-        go true false e = absurd (cc)
-        go false true e = absurd (cc)
-    plays (Message name frame now) refused fine =
-        go (is_frame frame && is_some (session_at name a.sessions))
-        (is_frame frame && is_some (session_at name b.sessions))
-        (ap (λ (c : Bool). is_frame frame && c) (fits name))
-      where
-        go : (c d : Bool) → d ≡ c
-            → PlaysAlike (if c then replied (step a (Message name frame now) refused) else skipped a)
-            (if d then replied (step b (Message name frame now) refused) else skipped b)
-        go true true e = is-replied (Message name frame now) refused fine
-        go false false e = stays
-        go true false e = absurd (cc)
-        go false true e = absurd (cc)
-    plays (Close name now) refused fine =
-        go (is_some (session_at name a.sessions)) (is_some (session_at name b.sessions))
-        (fits name)
-      where
-        go : (c d : Bool) → d ≡ c
-            → PlaysAlike (if c then silent (step a (Close name now) false) else skipped a)
-            (if d then silent (step b (Close name now) false) else skipped b)
-        go true true e = is-silent (Close name now) fine
-        go false false e = stays
-        go true false e = absurd (cc)
-        go false true e = absurd (cc)
+      -- an event is played; whether it fits is the same in both
+      plays : (event : Event) (refused : Bool) → IsEvent event
+          → PlaysAlike (played a event refused) (played b event refused)
+      plays (Open name) refused fine =
+          go (is_some (session_at name a.sessions)) (is_some (session_at name b.sessions))
+          (fits name)
+        where
+          go : (c d : Bool) → d ≡ c
+              → PlaysAlike (if c then skipped a else silent (step a (Open name) false))
+              (if d then skipped b else silent (step b (Open name) false))
+          go true true e = stays
+          go false false e = is-silent (Open name) fine
+          go true false e = absurd (cc)
+          go false true e = absurd (cc)
+      plays (Message name frame now) refused fine =
+          go (is_frame frame && is_some (session_at name a.sessions))
+          (is_frame frame && is_some (session_at name b.sessions))
+          (ap (λ (c : Bool). is_frame frame && c) (fits name))
+        where
+          go : (c d : Bool) → d ≡ c
+              → PlaysAlike (if c then replied (step a (Message name frame now) refused) else skipped a)
+              (if d then replied (step b (Message name frame now) refused) else skipped b)
+          go true true e = is-replied (Message name frame now) refused fine
+          go false false e = stays
+          go true false e = absurd (cc)
+          go false true e = absurd (cc)
+      plays (Close name now) refused fine =
+          go (is_some (session_at name a.sessions)) (is_some (session_at name b.sessions))
+          (fits name)
+        where
+          go : (c d : Bool) → d ≡ c
+              → PlaysAlike (if c then silent (step a (Close name now) false) else skipped a)
+              (if d then silent (step b (Close name now) false) else skipped b)
+          go true true e = is-silent (Close name now) fine
+          go false false e = stays
+          go true false e = absurd (cc)
+          go false true e = absurd (cc)
 
   plays-all : (a b : State) → IsGuardedState hidden start a → AreAlike hidden a b
       → (events : List Event) (marks : List Bool) → AllByRecursion IsEvent events

@@ -86,8 +86,12 @@ module _ (state : State) (name : ℕ) (frame : List ℕ) (now : ℕ) (ok : IsSta
       go : (o : Option Session) → session_at name state.sessions ≡ o → after ≡ state
       go None there = let no : false ≡ true = rw there at live in absurd (cc)
       go (Some session) there =
-          rw (whole, there, frame_may_fail session there reply (rw e at is)
-              ((bytes_decides reply (no_memory_reply frame)).0 e)) at marked
+          rw (
+            whole,
+            there,
+            frame_may_fail session there reply (rw e at is)
+                ((bytes_decides reply (no_memory_reply frame)).0 e),
+          ) at marked
 
 -- An opening.
 
