@@ -14,7 +14,6 @@ use Rattle.p9_tree.specs.Forest.{IsForest, is_dir_of, node_of}
 use Rattle.p9_tree.specs.Inside.{is_among, is_barred, is_hidden, is_inside}
 use Rattle.p9_inside.proofs.Forests.{barred_is_hidden_or_inside, inside_by_barred_parent}
 use Rattle.p9_inside.proofs.Forests.{server_ordered}
-use Rattle.p9_cert.specs.declared.gap.MemberFault.{MemberFault}
 use Rattle.p9_cert.specs.declared.gap.MemberFault.TheVariants.{Missing, Open, Owned, Removable}
 use Rattle.p9_cert.specs.Closed.{AreNotBarred}
 use Rattle.p9_cert.specs.Gap.{hidden_fault, is_removable, member_fault, node_fault, row_fault}

@@ -31,8 +31,8 @@ use std::alloc::Allocator;
 /// This takes no memory. For each row, and for each member of a child of a row, it looks for its
 /// number among the rows. For a row, and for a member that is none, it looks for the node and goes
 /// over the hidden directories, and to see whether it is inside, it looks at the directories above
-/// it, up to the first that is a row. It goes over the listed users only for a member that is no row
-/// and whose mode doesn't let everybody pass, and then compares names alone.
+/// it, up to the first that is a row. It goes over the listed users only for a member that is no
+/// row and whose mode doesn't let everybody pass, and then compares names alone.
 pub fn verify<T: Tree, A: Allocator + Copy, B: Allocator>(
     world: &World<T>,
     table: &MountTable<A>,

@@ -24,9 +24,9 @@ fn is_among(nodes: &[NodeRef], at: NodeRef) -> bool
     nodes.iter().any(|other| *other == at)
 }
 
-/// Whether the node, which has this parent, is inside a hidden directory. Its parents are looked at,
-/// upward, as far as the first of them that is known: one of the rows, which are shown, or one that is
-/// hidden.
+/// Whether the node, which has this parent, is inside a hidden directory. Its parents are looked
+/// at, upward, as far as the first of them that is known: one of the rows, which are shown, or one
+/// that is hidden.
 pub fn is_inside<T: Tree>(
     forest: &Forest<T>,
     hidden: &[NodeRef],

@@ -90,7 +90,8 @@ fn is_in_group<A: Allocator + Copy>(
     gid: &User,
     group: Option<&Group<A>>,
 ) -> bool
-    ensures { result ≡ ((classes.members && has_as_member gid.now (option_copied group.entry) user.now)
+    ensures { result
+        ≡ ((classes.members && has_as_member gid.now (option_copied group.entry) user.now)
         || (classes.leader && has_as_leader gid.now (option_copied group.entry) user.now)) }
 {
     match group {

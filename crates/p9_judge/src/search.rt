@@ -1,7 +1,7 @@
 //! The search of a world for breaches.
 
-ghost use Rattle.std.specs.Prelude.{◌≡◌, ◌++◌, ◌∷◌, ◌<◌, ◌&&◌, ◌||◌, [], IfOk, IsSome, IsTrue, None, OnOk};
-ghost use Rattle.std.specs.Prelude.{is_some, length, slice_get, option_and_then, option_map};
+ghost use Rattle.std.specs.Prelude.{◌≡◌, ◌++◌, ◌∷◌, ◌<◌, ◌&&◌, ◌||◌, [], IfOk, IsTrue, None, OnOk};
+ghost use Rattle.std.specs.Prelude.{IsSome, is_some, length, slice_get, option_and_then, option_map};
 ghost use Rattle.p9_base.specs.NodeRef.{same_node};
 ghost use Rattle.p9_base.specs.Name.{is_name};
 ghost use Rattle.p9_tree.specs.Server.{next_max};

@@ -40,10 +40,10 @@ pub enum Verdict<A: Allocator> {
 ///
 /// Each place is discovered once, since its directory is passed once. For each member of a place
 /// that is discovered, its node is looked for, and the hidden directories are gone over. For a
-/// member that was bound there, so are the directories above it. The listed users are gone over once
-/// for all, and the groups; and once for each step of a breach. What follows from a node's mode is
-/// asked of the classes of its users: everybody, its owner, the members of its group, and who leads
-/// it.
+/// member that was bound there, so are the directories above it. The listed users are gone over
+/// once for all, and the groups; and once for each step of a breach. What follows from a node's
+/// mode is asked of the classes of its users: everybody, its owner, the members of its group, and
+/// who leads it.
 ///
 /// [`BreachKind`]: crate::BreachKind
 pub fn judge<T: Tree, A: Allocator + Copy, B: Allocator + Copy>(

@@ -1,11 +1,11 @@
-use Rattle.std.proofs.Common.{◌≡◌, ◌∙◌, ℕ, List, Some, true, false, get_or, sym, ap}
+use Rattle.std.proofs.Common.{◌≡◌, ◌∙◌, Some, true, false, get_or, sym, ap}
 use Rattle.std.specs.Prelude.{slice_get}
 use Rattle.std.specs.List.{list_any}
 use Rattle.std.specs.Map.Iter.{deref_pair}
 use Rattle.std.specs.Option.{option_map}
 use Rattle.std.specs.Str.{bytes_eq}
 use Rattle.std.proofs.lemmas.Option.{slice_get-get_or}
-use Rattle.p9_base.specs.Group.{Group, GroupRow, group_of}
+use Rattle.p9_base.specs.Group.{group_of}
 use Rattle.p9_cert.proofs.Basics.{some_same}
 use Rattle.p9_judge.specs.Listed.{has_listed}
 use Rattle.p9_judge.proofs.Users.{marked-more, marked-same}

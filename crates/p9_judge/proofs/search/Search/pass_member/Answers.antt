@@ -7,7 +7,6 @@ use Rattle.p9_tree.specs.Forest.{node_of}
 use Rattle.p9_world.specs.World.{World}
 use Rattle.p9_cert.specs.Policy.{policy_of}
 use Rattle.p9_cert.specs.Rows.{is_row}
-use Rattle.p9_judge.specs.Breach.{passer_of}
 use Rattle.p9_judge.specs.Search.{child_places}
 use Rattle.p9_judge.proofs.Discovered.{discovered-again, discovered-new, discovered-none}
 use Rattle.p9_judge.proofs.Discovered.{passer-none, passer-some}
