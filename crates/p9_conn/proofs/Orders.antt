@@ -75,7 +75,7 @@ taken buffer more left end deeds others t later =
           ∙ sym (append_assoc (take size buffer) (concat (frames_in others)) end);
     })
 
-one : (buffer more left end : List ℕ) (deeds : Deeds) (others : List Answered)
+pub one : (buffer more left end : List ℕ) (deeds : Deeds) (others : List Answered)
     → (IsGathered buffer deeds left ⊎ IsTaken buffer deeds left)
     → ComeInOrder (frames_in others) (left ++ more) end
     → ComeInOrder (frames_in (deeds.answered ++ others)) (buffer ++ (deeds.read ++ more)) end

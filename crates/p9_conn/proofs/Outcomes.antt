@@ -8,6 +8,7 @@ use Rattle.std.specs.declared.io.Error.{Error}
 use Rattle.p9_wire.specs.Frame.{first_frame}
 use Rattle.p9_wire.specs.declared.frame.Frame.TheVariants.{Broken}
 use Rattle.p9_step.specs.Event.{IsEvent, Message}
+use Rattle.std.specs.Io.KnownBytes.{Keeps}
 use Rattle.p9_guard.specs.Guard.{Guarded}
 use Rattle.p9_guard.specs.Headline.{IsPromised}
 use Rattle.p9_conn.specs.declared.conn.Turn.{Turn}
@@ -39,10 +40,11 @@ module _ {S : Type 0} (remaining contents : S → Option (List ℕ)) (now : ℕ)
     (closed : Bool) (is_open : closed ≡ false) where
   pub sending : (buffer pending pending' : List ℕ) (written : Result ℕ Error)
       → HasWritten (contents stream) (contents stream') written pending pending'
+      → Keeps (remaining stream) (remaining stream')
       → ComesTo written now (conn stream' session buffer pending' closed) before new after result
       → HasTurned remaining contents Sending now (conn stream session buffer pending closed)
       before new after result
-  sending buffer pending pending' (Ok zero) w t =
+  sending buffer pending pending' (Ok zero) w kept t =
       rw (t.conn_is, t.result_is) (record {
         deeds = deeds_of (closing session now);
         turn = inr (inr (record {
@@ -51,12 +53,12 @@ module _ {S : Type 0} (remaining contents : S → Option (List ℕ)) (now : ℕ)
           stepped = t.stepped;
           deeds_are = refl;
         }));
-        stream = w.appended;
+        stream = record { appended = w.appended; left = kept };
         session_is = refl;
         guard_is = t.guard_is;
         result_is = refl;
       })
-  sending buffer pending pending' (Ok (suc n)) w t =
+  sending buffer pending pending' (Ok (suc n)) w kept t =
       let long : length (take (suc n) pending) ≡ suc n = length-take-le (suc n) pending w.within in
       let deeds : Deeds = record { read = []; written = take (suc n) pending; answered = [] } in
       rw (t.conn_is, t.guard_is, t.result_is) (record {
@@ -70,21 +72,21 @@ module _ {S : Type 0} (remaining contents : S → Option (List ℕ)) (now : ℕ)
           no_read = refl;
           no_entry = refl;
         });
-        stream = w.appended;
+        stream = record { appended = w.appended; left = kept };
         session_is = refl;
         guard_is = refl;
         result_is = moved deeds closed is_open (omega (arith, long));
       })
-  sending buffer pending pending' (Err error) w (inl t) =
+  sending buffer pending pending' (Err error) w kept (inl t) =
       rw (t.1.conn_is, t.1.guard_is, t.1.result_is, w.0) (record {
         deeds = no_deeds;
         turn = inr (inl (record { scene_is = refl; deeds_are = refl }));
-        stream = none-appended (contents stream) (contents stream') w.1;
+        stream = record { appended = none-appended (contents stream) (contents stream') w.1; left = kept };
         session_is = refl;
         guard_is = refl;
         result_is = rw is_open refl;
       })
-  sending buffer pending pending' (Err error) w (inr t) =
+  sending buffer pending pending' (Err error) w kept (inr t) =
       rw (t.1.conn_is, t.1.result_is) (record {
         deeds = deeds_of (closing session now);
         turn = inr (inr (record {
@@ -93,7 +95,7 @@ module _ {S : Type 0} (remaining contents : S → Option (List ℕ)) (now : ℕ)
           stepped = t.1.stepped;
           deeds_are = refl;
         }));
-        stream = none-appended (contents stream) (contents stream') w.1;
+        stream = record { appended = none-appended (contents stream) (contents stream') w.1; left = kept };
         session_is = refl;
         guard_is = t.1.guard_is;
         result_is = refl;
@@ -101,10 +103,11 @@ module _ {S : Type 0} (remaining contents : S → Option (List ℕ)) (now : ℕ)
 
   pub receiving : (buffer buffer' pending : List ℕ) (read : Result ℕ Error)
       → HasRead (remaining stream) (remaining stream') read buffer buffer'
+      → Keeps (contents stream) (contents stream')
       → ComesTo read now (conn stream' session buffer' pending closed) before new after result
       → HasTurned remaining contents Receiving now (conn stream session buffer pending closed)
       before new after result
-  receiving buffer buffer' pending (Ok zero) w t =
+  receiving buffer buffer' pending (Ok zero) w kept t =
       let none = no-bytes w.read w.count_is in
       let same : buffer' ≡ buffer =
       w.behind ∙ ap (λ (zs : List ℕ). buffer ++ zs) none ∙ append-nil buffer in
@@ -116,12 +119,12 @@ module _ {S : Type 0} (remaining contents : S → Option (List ℕ)) (now : ℕ)
           stepped = t.stepped;
           deeds_are = refl;
         }));
-        stream = rw (← none) w.consumed;
+        stream = record { consumed = rw (← none) w.consumed; written = kept };
         session_is = refl;
         guard_is = t.guard_is;
         result_is = refl;
       })
-  receiving buffer buffer' pending (Ok (suc n)) w t =
+  receiving buffer buffer' pending (Ok (suc n)) w kept t =
       let deeds : Deeds = record { read = w.read; written = []; answered = [] } in
       rw (t.conn_is, t.guard_is, t.result_is) (record {
         deeds = deeds;
@@ -134,21 +137,21 @@ module _ {S : Type 0} (remaining contents : S → Option (List ℕ)) (now : ℕ)
           none_written = refl;
           no_entry = refl;
         });
-        stream = w.consumed;
+        stream = record { consumed = w.consumed; written = kept };
         session_is = refl;
         guard_is = refl;
         result_is = moved deeds closed is_open (omega (arith, w.count_is));
       })
-  receiving buffer buffer' pending (Err error) w (inl t) =
+  receiving buffer buffer' pending (Err error) w kept (inl t) =
       rw (t.1.conn_is, t.1.guard_is, t.1.result_is, w.0) (record {
         deeds = no_deeds;
         turn = inr (inl (record { scene_is = refl; deeds_are = refl }));
-        stream = none-consumed (remaining stream) (remaining stream') w.1;
+        stream = record { consumed = none-consumed (remaining stream) (remaining stream') w.1; written = kept };
         session_is = refl;
         guard_is = refl;
         result_is = rw is_open refl;
       })
-  receiving buffer buffer' pending (Err error) w (inr t) =
+  receiving buffer buffer' pending (Err error) w kept (inr t) =
       rw (t.1.conn_is, t.1.result_is) (record {
         deeds = deeds_of (closing session now);
         turn = inr (inr (record {
@@ -157,7 +160,7 @@ module _ {S : Type 0} (remaining contents : S → Option (List ℕ)) (now : ℕ)
           stepped = t.1.stepped;
           deeds_are = refl;
         }));
-        stream = none-consumed (remaining stream) (remaining stream') w.1;
+        stream = record { consumed = none-consumed (remaining stream) (remaining stream') w.1; written = kept };
         session_is = refl;
         guard_is = t.1.guard_is;
         result_is = refl;

@@ -1,7 +1,7 @@
 -- A connection, as its callers see it, and what a turn of it comes to.
 use Rattle.std.specs.Prelude.{◌≡◌, ℕ, zero, suc, ◌+◌, ◌⊎◌, Bool, false, true, List, [], Option, Result}
 use Rattle.std.specs.Prelude.{Ok, Err, length, nat_lt, if◌then◌else◌}
-use Rattle.std.specs.Io.KnownBytes.{Appends, Consumes}
+use Rattle.std.specs.Io.KnownBytes.{Appends, Consumes, Keeps}
 use Rattle.std.specs.IoError.{error_kind}
 use Rattle.std.specs.declared.io.Error.{Error}
 use Rattle.std.specs.declared.io.ErrorKind.{ErrorKind}
@@ -30,16 +30,28 @@ new_connection stream session = record {
 abbrev pub scene : {S : Type 0} → Connection S → Guarded → Scene
 scene conn guard = record { link = conn.link; state = guard.state }
 
+-- bytes were written to a stream, and what is left to read is unchanged
+pub record Writes {S : Type 0} (remaining contents : S → Option (List ℕ)) (old new : S)
+    (written : List ℕ) : Type 0 where
+  pub appended : Appends (contents old) (contents new) written
+  pub left : Keeps (remaining old) (remaining new)
+
+-- bytes were read from a stream, and what was written to it is unchanged
+pub record Reads {S : Type 0} (remaining contents : S → Option (List ℕ)) (old new : S)
+    (read : List ℕ) : Type 0 where
+  pub consumed : Consumes (remaining old) (remaining new) read
+  pub written : Keeps (contents old) (contents new)
+
 -- what a turn does to its stream: it writes, it reads, or it has nothing to do with it
 abbrev pub UsesStream : {S : Type 0} → (remaining contents : S → Option (List ℕ)) → Phase
     → (old new : S) → Deeds → Type 0
 UsesStream remaining contents Over old new deeds = new ≡ old
 UsesStream remaining contents Sending old new deeds =
-    Appends (contents old) (contents new) deeds.written
+    Writes remaining contents old new deeds.written
 UsesStream remaining contents (Answering size) old new deeds = new ≡ old
 UsesStream remaining contents Ending old new deeds = new ≡ old
 UsesStream remaining contents Receiving old new deeds =
-    Consumes (remaining old) (remaining new) deeds.read
+    Reads remaining contents old new deeds.read
 
 -- what a turn returns: whether the connection is closed, else whether it did something
 abbrev pub turn_of : Deeds → Bool → Turn

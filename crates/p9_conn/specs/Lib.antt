@@ -3,3 +3,4 @@ pub mod Device
 pub mod Conn
 pub mod History
 pub mod Laws
+pub mod Told

@@ -8,13 +8,14 @@ ghost use Rattle.p9_wire.specs.declared.frame.Frame.TheVariants.{Need, Whole};
 
 use crate::input::Input;
 use crate::output::Output;
+use crate::stream::Stream;
 use p9_base::NoMemory;
 use p9_guard::Guard;
 use p9_tree::Tree;
 use p9_wire::Frame;
 use std::alloc::Allocator;
 use std::io;
-use std::io::{ErrorKind, Read, Write};
+use std::io::ErrorKind;
 use std::marker::Model;
 
 /// What a turn came to.
@@ -53,7 +54,7 @@ impl<S, A: Allocator + Copy> Model for Conn<S, A> {
     } };
 }
 
-impl<S: Read + Write + Drop, A: Allocator + Copy> Conn<S, A> {
+impl<S: Stream + Drop, A: Allocator + Copy> Conn<S, A> {
     /// A connection over a stream, which serves the session of this name. It has read and written
     /// nothing yet.
     ///
@@ -126,14 +127,15 @@ impl<S: Read + Write + Drop, A: Allocator + Copy> Conn<S, A> {
         }
     }
 
-    // Writes of what is pending.
+    // Writes of what is pending. Another reply follows where another whole frame is there.
     fn send<T: Tree>(&mut self, guard: &mut Guard<T>, now: u32) -> Turn
         requires open { self.old.link.closed ≡ false }
         requires pending { 0 < length self.old.link.pending }
         ensures { HasTurned S.remaining S.contents Sending now self.old guard.old self.new guard.new
             result }
     {
-        let written = self.output.send(&mut self.stream);
+        let more = matches!(self.input.front(), Frame::Whole(_));
+        let written = self.output.send(&mut self.stream, more);
         self.after(written, guard, now)
     }
 

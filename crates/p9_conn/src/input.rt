@@ -7,11 +7,11 @@ ghost use Rattle.p9_conn.specs.Device.{HasRead};
 ghost use Rattle.p9_wire.specs.Frame.{first_frame, msize_max};
 
 use crate::room::{lengthen, with_room};
+use crate::stream::Stream;
 use p9_base::NoMemory;
 use p9_wire::{Frame, MSIZE_MAX, frame_of};
 use std::alloc::Allocator;
 use std::io;
-use std::io::Read;
 use std::marker::Model;
 
 // How long the buffer is when it is first written to.
@@ -84,10 +84,11 @@ impl<A: Allocator + Copy> Input<A> {
 
     /// Reads once, behind the bytes, and returns how many came. An error of the stream changes no
     /// byte.
-    pub fn receive<S: Read>(&mut self, stream: &mut S) -> io::Result<usize>
+    pub fn receive<S: Stream>(&mut self, stream: &mut S) -> io::Result<usize>
         requires { length self.old < msize_max }
-        ensures { HasRead (S.remaining stream.old) (S.remaining stream.new) result self.old
+        ensures came { HasRead (S.remaining stream.old) (S.remaining stream.new) result self.old
             self.new }
+        ensures written { Keeps (S.contents stream.old) (S.contents stream.new) }
     {
         let filled = self.end - self.start;
         move_to_front(&mut self.bytes, self.start, self.end);
@@ -132,7 +133,7 @@ fn make_room<A: Allocator>(bytes: &mut Vec<u8, A>, filled: usize)
 }
 
 // Reads behind the first bytes of a buffer.
-fn read_behind<S: Read, A: Allocator>(
+fn read_behind<S: Stream, A: Allocator>(
     stream: &mut S,
     bytes: &mut Vec<u8, A>,
     filled: usize,
@@ -145,6 +146,7 @@ fn read_behind<S: Read, A: Allocator>(
     ensures read { IfOk result (λ count. Consumes (S.remaining stream.old)
         (S.remaining stream.new) (drop filled (take (filled + count) bytes.new.items))) }
     ensures err { OnErr result (Keeps (S.remaining stream.old) (S.remaining stream.new)) }
+    ensures written { Keeps (S.contents stream.old) (S.contents stream.new) }
 {
-    stream.read(&mut bytes[filled..])
+    stream.receive(&mut bytes[filled..])
 }

@@ -5,6 +5,7 @@
 
 ghost use Rattle.p9_conn.specs.Laws.{FramesComeInOrder, HistoryIsPromised, HistoryIsRun};
 ghost use Rattle.p9_conn.specs.Laws.{RepliesGoOut};
+ghost use Rattle.p9_conn.specs.Told.{BytesBecomeReplies};
 
 /// The guard's state, and the replies, are those of the run of the events that the turns made, with
 /// their marks.
@@ -28,4 +29,11 @@ pub fn replies_go_out()
 /// turns, and no byte of a reply depends on what is there.
 pub fn a_history_is_promised()
     ensures { HistoryIsPromised }
+{}
+
+/// From the bytes that are read to those that are written, of a connection alone over a stream that
+/// tells both: the frames are the first ones of the bytes that it gave, and what it holds is what
+/// it held, followed by the replies of the run of these frames, up to what is pending.
+pub fn bytes_become_replies<S>()
+    ensures { BytesBecomeReplies S }
 {}

@@ -11,5 +11,7 @@ mod input;
 pub mod laws;
 mod output;
 mod room;
+mod stream;
 
 pub use conn::{Conn, Turn};
+pub use stream::Stream;

@@ -1,17 +1,18 @@
 //! The bytes that a connection is to write.
 
 ghost use Rattle.std.specs.Prelude.{◌≡◌, [], IfOk, IsTrue, length, nat_eq};
+ghost use Rattle.std.specs.Io.KnownBytes.{Keeps};
 ghost use Rattle.p9_conn.specs.Device.{HasWritten};
 ghost use Rattle.p9_conn.specs.Conn.{FrameIsAnswered};
 ghost use Rattle.p9_wire.specs.Frame.{is_frame};
 
 use crate::room::{lengthen, with_room};
+use crate::stream::Stream;
 use p9_base::NoMemory;
 use p9_guard::Guard;
 use p9_tree::Tree;
 use std::alloc::Allocator;
 use std::io;
-use std::io::Write;
 use std::marker::Model;
 
 /// What is left to write of a reply. The reply is sent from where the guard wrote it.
@@ -57,11 +58,13 @@ impl<A: Allocator + Copy> Output<A> {
     }
 
     /// Writes once, and returns how many bytes went out. An error of the stream changes no byte.
-    pub fn send<S: Write>(&mut self, stream: &mut S) -> io::Result<usize>
-        ensures { HasWritten (S.contents stream.old) (S.contents stream.new) result self.old
+    /// `more` says that another reply will follow this one.
+    pub fn send<S: Stream>(&mut self, stream: &mut S, more: bool) -> io::Result<usize>
+        ensures went { HasWritten (S.contents stream.old) (S.contents stream.new) result self.old
             self.new }
+        ensures left { Keeps (S.remaining stream.old) (S.remaining stream.new) }
     {
-        let count = stream.write(&self.bytes[self.sent..self.end])?;
+        let count = stream.send(&self.bytes[self.sent..self.end], more)?;
         self.sent += count;
         Ok(count)
     }

@@ -1,7 +1,7 @@
 //! Many frames in one read, and a frame that is longer than the buffer is at first.
 
 use crate::rows::{ATTACH, GREATEST_VERSION, Row, VERSION, WALK, add, replies, requests};
-use crate::scripted::Scripted;
+use crate::scripted::{Answer, Scripted};
 use crate::serving::{connect, new_guard, serve};
 use p9_conn::Conn;
 use std::alloc::Global;
@@ -40,6 +40,24 @@ fn frames_that_come_in_one_read_are_answered_in_order(rt: HostRuntime) {
     serve(&mut guard, &mut conns);
     is_written(&rt, &conns[0], wanted.as_slice());
     assert_eq!(rt; conns[0].stream().moving_reads(), 1);
+    assert_eq!(rt; conns[0].stream().moving_writes(), 301);
+    assert_eq!(rt; conns[0].stream().writes_with_more(), 300);
+}
+
+// Where no whole frame is there, a reply is written as the last one.
+#[test]
+fn no_reply_waits_for_a_frame_that_is_cut(rt: HostRuntime) {
+    let alloc = rt.alloc();
+    let mut guard = new_guard(&rt, alloc);
+    let input = requests(&rt, alloc, &[VERSION, ATTACH]);
+    let wanted = replies(&rt, alloc, &[VERSION, ATTACH]);
+    let mut stream = Scripted::new(alloc, input, 100);
+    stream.then(&rt, Answer::Moves(43));
+    let mut conns = [connect(&rt, alloc, &mut guard, 1, stream)];
+    serve(&mut guard, &mut conns);
+    is_written(&rt, &conns[0], wanted.as_slice());
+    assert_eq!(rt; conns[0].stream().moving_reads(), 2);
+    assert_eq!(rt; conns[0].stream().writes_with_more(), 0);
 }
 
 // Compares what an open connection wrote.

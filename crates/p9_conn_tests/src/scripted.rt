@@ -1,10 +1,86 @@
-//! A stream over bytes in memory, whose calls answer by a list.
+//! A stream over bytes in memory, and one whose calls answer by a list.
 
+ghost use Rattle.std.specs.Prelude.{◌≡◌};
+ghost use Rattle.std.specs.Io.{ReadsAtMost, WritesAtMost};
+ghost use Rattle.std.specs.Io.KnownBytes.{ReadConsumes, WriteAppends};
+
+use p9_conn::Stream;
 use std::alloc::Global;
 use std::collections::VecDeque;
 use std::io;
 use std::io::{Cursor, ErrorKind, Read, Write};
 use std::process::Abort;
+
+/// A stream over bytes in memory, which tells the bytes that are left to read and those that were
+/// written. A read that finds no byte would block.
+#[derive(Drop)]
+pub struct Memory {
+    input: Cursor<Vec<u8, Global>>,
+    output: Vec<u8, Global>,
+}
+
+impl Memory {
+    /// A stream that gives these bytes.
+    pub fn new(alloc: Global, input: Vec<u8, Global>) -> Memory {
+        Memory {
+            input: Cursor::new(input),
+            output: Vec::new(alloc),
+        }
+    }
+
+    /// What was written to it.
+    pub fn output(&self) -> &[u8] {
+        self.output.as_slice()
+    }
+
+    /// Whether its bytes were read.
+    pub fn is_read(&self) -> bool {
+        self.input.position() >= self.input.get_ref().len() as u64
+    }
+}
+
+impl Read for Memory {
+    ghost remaining = { λ m. ⟦<Cursor<Vec<u8, Global>> as Read>⟧.remaining m.input };
+
+    fn read(&mut self, buf: &mut [u8]) -> io::Result<usize>
+        ensures bound { ReadsAtMost result buf.new }
+        ensures bytes { ReadConsumes (⟦<Cursor<Vec<u8, Global>> as Read>⟧.remaining self.old.input)
+            (⟦<Cursor<Vec<u8, Global>> as Read>⟧.remaining self.new.input) result buf.new }
+        ensures kept { self.new.output ≡ self.old.output }
+    {
+        if self.is_read() {
+            return Err(io::Error::from(ErrorKind::WouldBlock));
+        }
+        self.input.read(buf)
+    }
+}
+
+impl Write for Memory {
+    ghost contents = { λ m. ⟦<Vec<u8, Global> as Write>⟧.contents m.output };
+
+    fn write(&mut self, buf: &[u8]) -> io::Result<usize>
+        ensures bound { WritesAtMost result buf.now }
+        ensures bytes { WriteAppends (⟦<Vec<u8, Global> as Write>⟧.contents self.old.output)
+            (⟦<Vec<u8, Global> as Write>⟧.contents self.new.output) result buf.now }
+        ensures kept { self.new.input ≡ self.old.input }
+    {
+        self.output.write(buf)
+    }
+
+    fn flush(&mut self) -> io::Result<()> {
+        Ok(())
+    }
+}
+
+impl Stream for Memory {
+    fn receive(&mut self, bytes: &mut [u8]) -> io::Result<usize> {
+        self.read(bytes)
+    }
+
+    fn send(&mut self, bytes: &[u8], _more: bool) -> io::Result<usize> {
+        self.write(bytes)
+    }
+}
 
 /// What a call of a stream does.
 #[derive(Clone, Copy, Debug, PartialEq, Eq)]
@@ -25,11 +101,11 @@ pub enum Answer {
 pub struct Scripted {
     answers: VecDeque<Answer, Global>,
     most: usize,
-    input: Cursor<Vec<u8, Global>>,
-    output: Vec<u8, Global>,
+    memory: Memory,
     calls: u64,
     moving_reads: u64,
     moving_writes: u64,
+    writes_with_more: u64,
 }
 
 impl Scripted {
@@ -38,11 +114,11 @@ impl Scripted {
         Scripted {
             answers: VecDeque::new(alloc),
             most,
-            input: Cursor::new(input),
-            output: Vec::new(alloc),
+            memory: Memory::new(alloc, input),
             calls: 0,
             moving_reads: 0,
             moving_writes: 0,
+            writes_with_more: 0,
         }
     }
 
@@ -53,7 +129,7 @@ impl Scripted {
 
     /// What was written to it.
     pub fn output(&self) -> &[u8] {
-        self.output.as_slice()
+        self.memory.output()
     }
 
     /// How many calls were made.
@@ -71,22 +147,25 @@ impl Scripted {
         self.moving_writes
     }
 
+    /// How many writes were told that more bytes will follow.
+    pub fn writes_with_more(&self) -> u64 {
+        self.writes_with_more
+    }
+
     /// How many bytes were read.
     pub fn bytes_read(&self) -> u64 {
-        self.input.position()
+        self.memory.input.position()
     }
 
     /// Whether its list is used up, and its bytes were read.
     pub fn is_used_up(&self) -> bool {
-        self.answers.is_empty() && self.has_no_input()
-    }
-
-    fn has_no_input(&self) -> bool {
-        self.input.position() >= self.input.get_ref().len() as u64
+        self.answers.is_empty() && self.memory.is_read()
     }
 
     // How many bytes a call may move, by the front of the list.
-    fn room(&mut self) -> io::Result<usize> {
+    fn room(&mut self) -> io::Result<usize>
+        ensures { self.new.memory ≡ self.old.memory }
+    {
         self.calls = self.calls.saturating_add(1);
         match self.answers.pop_front() {
             Some(Answer::Moves(count)) => Ok(count),
@@ -98,7 +177,9 @@ impl Scripted {
     }
 
     // The same of a read.
-    fn room_to_read(&mut self) -> io::Result<usize> {
+    fn room_to_read(&mut self) -> io::Result<usize>
+        ensures { self.new.memory ≡ self.old.memory }
+    {
         let is_blocked = self.is_used_up();
         let room = self.room()?;
         if is_blocked {
@@ -108,10 +189,15 @@ impl Scripted {
     }
 }
 
+// A read gives no byte where the list says so, also before its bytes were read. So what is left to
+// read is not told.
 impl Read for Scripted {
-    fn read(&mut self, buf: &mut [u8]) -> io::Result<usize> {
+    fn read(&mut self, buf: &mut [u8]) -> io::Result<usize>
+        ensures bound { ReadsAtMost result buf.new }
+        ensures kept { self.new.memory.output ≡ self.old.memory.output }
+    {
         let room = self.room_to_read()?.min(buf.len());
-        let count = self.input.read(&mut buf[..room])?;
+        let count = self.memory.input.read(&mut buf[..room])?;
         if count > 0 {
             self.moving_reads = self.moving_reads.saturating_add(1);
         }
@@ -120,9 +206,11 @@ impl Read for Scripted {
 }
 
 impl Write for Scripted {
+    ghost contents = { λ s. ⟦<Memory as Write>⟧.contents s.memory };
+
     fn write(&mut self, buf: &[u8]) -> io::Result<usize> {
         let room = self.room()?.min(buf.len());
-        let count = self.output.write(&buf[..room])?;
+        let count = self.memory.write(&buf[..room])?;
         if count > 0 {
             self.moving_writes = self.moving_writes.saturating_add(1);
         }
@@ -131,5 +219,18 @@ impl Write for Scripted {
 
     fn flush(&mut self) -> io::Result<()> {
         Ok(())
+    }
+}
+
+impl Stream for Scripted {
+    fn receive(&mut self, bytes: &mut [u8]) -> io::Result<usize> {
+        self.read(bytes)
+    }
+
+    fn send(&mut self, bytes: &[u8], more: bool) -> io::Result<usize> {
+        if more {
+            self.writes_with_more = self.writes_with_more.saturating_add(1);
+        }
+        self.write(bytes)
     }
 }

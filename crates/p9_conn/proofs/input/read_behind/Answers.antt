@@ -5,6 +5,6 @@ use Rattle.p9_conn.proofs.input.read_behind.Goals as goal
 
 pub returns-clause-read : goal.returns-clause-read
 returns-clause-read g c =
-    read-there _ _ c.read.result c.read.new.buf _ c.read.ensures.bytes c.read.ensures.bound
-    (λ count fits. behind-lent _ c.deref_mut.result.now c.read.new.buf _ _ c.args.filled count
+    read-there _ _ c.receive.result c.receive.new.bytes _ c.receive.ensures.read c.receive.ensures.bound
+    (λ count fits. behind-lent _ c.deref_mut.result.now c.receive.new.bytes _ _ c.args.filled count
     (search (rules, common_steps)) (omega (arith, c.deref_mut.ensures.len, c.requires)) fits)

@@ -3,8 +3,8 @@ use Rattle.std.proofs.Common.{take}
 use Rattle.p9_conn.proofs.Buffers.{gained, gained-length}
 use Rattle.p9_conn.proofs.input.Input.receive.Goals as goal
 
-pub returns : goal.returns
-returns g c =
+pub returns-clause-came : goal.returns-clause-came
+returns-clause-came g c =
     let b = c.self.inside in
     let filled = b.end - b.start in
     let bytes = c.read_behind.new.bytes.items in

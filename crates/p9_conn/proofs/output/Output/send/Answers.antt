@@ -4,8 +4,8 @@ use Rattle.std.specs.Io.KnownBytes.{Appends}
 use Rattle.p9_conn.proofs.Buffers.{part, part-length, part-shorter}
 use Rattle.p9_conn.proofs.output.Output.send.Goals as goal
 
-pub returns : goal.returns
-returns g c =
+pub returns-clause-went : goal.returns-clause-went
+returns-clause-went g c =
     let b = c.self.inside in
     let count = c.in_ok-count.count in
     let pending = part b.sent b.end b.bytes.items in
@@ -21,6 +21,6 @@ returns g c =
           ∙ ap (drop count) c.self.view_is;
       appended =
           subst (λ (zs : List ℕ). Appends (g.S.Write.contents c.args.stream.now)
-          (g.S.Write.contents c.write.new.self) (take count zs)) c.self.view_is
-          (rw c.deref.ensures.value at c.in_ok-count.ensures.bytes);
+          (g.S.Write.contents c.send.new.self) (take count zs)) c.self.view_is
+          (rw c.deref.ensures.value at c.in_ok-count.ensures.written);
     }
