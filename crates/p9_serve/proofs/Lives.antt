@@ -1,6 +1,6 @@
 -- A server's life is a run that is promised.
-use Rattle.std.proofs.Common.{◌≡◌, ℕ, zero, suc, ◌<◌, ◌^◌, true, false, List, [], ◌∷◌, ◌++◌, Option}
-use Rattle.std.proofs.Common.{Some, None, refl, sym, ap, subst, ◌∙◌}
+use Rattle.std.proofs.Common.{◌≡◌, ℕ, zero, suc, ◌<◌, ◌^◌, Bool, true, false, List, [], ◌∷◌, ◌++◌}
+use Rattle.std.proofs.Common.{Option, Some, None, refl, sym, ap, subst, ◌∙◌}
 use Rattle.std.specs.List.{AllByRecursion, concat}
 use Rattle.p9_step.specs.Event.{IsEvent}
 use Rattle.p9_step.specs.State.{State}
@@ -18,7 +18,8 @@ use Rattle.std.proofs.lemmas.List.{map-append}
 use Rattle.p9_serve.specs.Laws.{EveryLifeIsPromised, HasLived, IsLife}
 use Rattle.p9_serve.specs.Life.{Acts, ArrivesAt, Arrives, HasActed, HasRounds, Leaves, LeavesAt, Moment}
 use Rattle.p9_serve.specs.Life.{Pass, Passes, events_in, history, opening}
-use Rattle.p9_serve.specs.Rounds.{Accepts, AcceptsIfDue, HasRound, Running}
+use Rattle.p9_serve.specs.Pace.{is_due}
+use Rattle.p9_serve.specs.Rounds.{Accepts, AcceptsIf, HasRound, Running}
 use Rattle.p9_serve.specs.Serving.{EndAt, Ended, IsFinished, Serving, TurnAt, Turned, in_state, slot_at}
 use Rattle.p9_serve.specs.declared.server.Round.{Round}
 
@@ -82,16 +83,16 @@ module _ {S : Type 0} (remaining contents : S → Option (List ℕ)) where
       record { moments = Arrives key ∷ []; passed = (b, arrives, refl); timely = (tt, tt) }
   accept-leads a b (suc (suc more)) t = absurd t
 
-  due-leads : (left : ℕ) (a b : Serving S) (accepted : ℕ) → AcceptsIfDue left a b accepted
+  due-leads : (due : Bool) (a b : Serving S) (accepted : ℕ) → AcceptsIf due a b accepted
       → Leads a b
-  due-leads zero a b accepted t = accept-leads a b accepted t
-  due-leads (suc left) a b accepted t = nothing a b t.0
+  due-leads true a b accepted t = accept-leads a b accepted t
+  due-leads false a b accepted t = nothing a b t.0
 
   round-leads : (now : ℕ) (a b : Running S) (round : Round)
       → HasRound remaining contents now a b round → Leads a.serving b.serving
   round-leads now a b round t =
       leads-both a.serving t.between b.serving
-      (due-leads a.left a.serving t.between round.accepted t.accepted)
+      (due-leads (is_due a.pace) a.serving t.between round.accepted t.accepted)
       (turns-lead now t.turned.bound t.between b.serving t.turned.turns t.turned.turned)
 
   rounds-lead : (nows : List ℕ) (a b : Running S) → HasRounds remaining contents nows a b

@@ -1,4 +1,5 @@
 pub mod Serving
+pub mod Pace
 pub mod Rounds
 pub mod Run
 pub mod Life

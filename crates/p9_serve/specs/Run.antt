@@ -1,5 +1,6 @@
 -- How the serving of an input ends.
-use Rattle.std.specs.Prelude.{◌≡◌, ℕ, ◌⊎◌, List, [], ◌++◌, Option, Some, None, codes}
+use Rattle.std.specs.Prelude.{◌≡◌, ℕ, ◌/◌, ◌%◌, ◌^◌, ◌⊎◌, List, [], ◌++◌, Option, Some, None}
+use Rattle.std.specs.Prelude.{codes, take}
 use Rattle.std.specs.Io.KnownBytes.{Appends}
 use Rattle.std.specs.Net.Text.{socket_text}
 use Rattle.std.specs.declared.io.ErrorKind.{ErrorKind}
@@ -7,6 +8,10 @@ use Rattle.std.specs.declared.io.ErrorKind.TheVariants.{OutOfMemory}
 use Rattle.std.specs.declared.net.socket_addr.SocketAddr.{SocketAddr}
 use Rattle.p9_guard.specs.Guard.{Guarded}
 use Rattle.p9_commands.specs.Offer.{Offered, Serves}
+
+-- what the clock reads so many nanoseconds after 1970 began: whole seconds, modulo 2^32
+abbrev pub reading : (nanoseconds : ℕ) → ℕ
+reading nanoseconds = nanoseconds / 1_000_000_000 % 2 ^ 32
 
 -- the line that tells which address is served
 abbrev pub listening : SocketAddr → List ℕ
@@ -40,11 +45,41 @@ abbrev pub Served : Offered → Written → ℕ → Type 0
 Served offered w status =
     ((status ≡ 0) × WasServed offered w) ⊎ ((status ≡ 1) × IsRefused offered w)
 
--- and of a failure: an allocation failed, or the system
+-- a text was written, or a front of it
+abbrev pub AppendsFront : Option (List ℕ) → Option (List ℕ) → List ℕ → Type 0
+AppendsFront old new text = (count : ℕ) × Appends old new (take count text)
+
+-- what is reported of an input, or nothing
+abbrev pub AreReports : Offered → List ℕ → Type 0
+AreReports offered reports =
+    (reports ≡ []) ⊎ ((guard : Option Guarded) × Serves offered [] reports guard)
+
+-- serving broke off: there is a front of the reports, and a front of the line with an address
+pub record BreaksOff (offered : Offered) (w : Written) : Type 0 where
+  pub reports : List ℕ
+  pub are_reports : AreReports offered reports
+  pub address : SocketAddr
+  pub errors : AppendsFront w.err_before w.err reports
+  pub output : AppendsFront w.out_before w.out (listening address)
+
+-- the exit status of a failure: an allocation failed, or the system
 abbrev pub failure_status : ErrorKind → ℕ
 failure_status OutOfMemory = 3
 failure_status kind = 4
 
--- the exit status of a failure
-abbrev pub IsFailure : ℕ → Type 0
-IsFailure status = (status ≡ 3) ⊎ (status ≡ 4)
+-- the text that tells of it
+abbrev pub failure_text : ErrorKind → List ℕ
+failure_text OutOfMemory = codes "out of memory\n"
+failure_text kind = codes "input or output failed\n"
+
+-- serving broke off for a failure, and a front of its text is behind what was reported
+pub record HasFailed (offered : Offered) (w : Written) (status : ℕ) : Type 0 where
+  pub kind : ErrorKind
+  pub status_is : status ≡ failure_status kind
+  pub between : Option (List ℕ)
+  pub broken : BreaksOff offered (record w { err = between })
+  pub told : AppendsFront between w.err (failure_text kind)
+
+-- a serving of what an input offers, a refusal of it, or a failure
+abbrev pub Ends : Offered → Written → ℕ → Type 0
+Ends offered w status = HasFailed offered w status ⊎ Served offered w status

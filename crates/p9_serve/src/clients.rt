@@ -1,15 +1,14 @@
 //! The clients of a guard: a connection for each, with a session of its own.
 
 ghost use Rattle.std.specs.Prelude.{◌≡◌, ◌<◌, ◌≤◌, ◌+◌, ◌^◌, [], None, count_by, length, slice_set};
-ghost use Rattle.p9_serve.specs.Serving.{EndAt, HasTurns, IsFinished, TakesIn, TurnAt};
+ghost use Rattle.p9_serve.specs.Serving.{AreKeyed, EndAt, HasTurns, IsFinished, TakesIn, TurnAt};
 ghost use Rattle.p9_serve.specs.Serving.{is_closed, is_moved, turns_of, slot_at};
 
-use p9_conn::{Conn, Turn};
+use p9_conn::{Conn, Stream, Turn};
 use p9_guard::Guard;
 use p9_tree::Tree;
 use slab::Slab;
 use std::alloc::Allocator;
-use std::io::{Read, Write};
 use std::marker::Model;
 
 /// How many turns of one round came to something.
@@ -64,7 +63,7 @@ impl<S, T: Tree> Model for Clients<S, T> {
     ghost invariant = { λ c. AreKeyed c.conns.slots c.guard.state.sessions };
 }
 
-impl<S: Read + Write + Drop, T: Tree> Clients<S, T> {
+impl<S: Stream + Drop, T: Tree> Clients<S, T> {
     /// No clients of a guard, whose sessions stay as they are. This takes no memory.
     pub fn new(alloc: T::Alloc, guard: Guard<T>) -> Clients<S, T>
         ensures { result ≡ record { guard = guard; slots = [] } }
@@ -74,6 +73,14 @@ impl<S: Read + Write + Drop, T: Tree> Clients<S, T> {
             guard,
             conns: Slab::new(alloc),
         }
+    }
+
+    /// What is kept of each value: each connection's session is that of its key, and open. This does
+    /// nothing when it runs; it is for a caller that has to know so.
+    pub fn well_formed(&self)
+        ensures { AreKeyed self.now.slots self.now.guard.state.sessions }
+    {
+        let _conns = &self.conns;
     }
 
     /// Takes in a client with its stream, and opens its session; returns whether it did.
@@ -110,7 +117,7 @@ impl<S: Read + Write + Drop, T: Tree> Clients<S, T> {
             moved: 0,
             closed: 0,
         };
-        for key in 0..self.bound() {
+        for key in 0..bound(&self.conns) {
             tally = tally.with(self.turn_at(key, now));
         }
         tally
@@ -124,17 +131,10 @@ impl<S: Read + Write + Drop, T: Tree> Clients<S, T> {
     pub fn finish(mut self, now: u32) -> Guard<T>
         ensures { IsFinished now self result }
     {
-        for key in 0..self.bound() {
+        for key in 0..bound(&self.conns) {
             self.end_at(key, now);
         }
         self.guard
-    }
-
-    // No key is as great as this one.
-    fn bound(&self) -> usize
-        ensures { length self.now.slots ≤ result }
-    {
-        self.conns.capacity()
     }
 
     // A turn of the connection of this key, if there is one.
@@ -158,6 +158,14 @@ impl<S: Read + Write + Drop, T: Tree> Clients<S, T> {
             self.guard.close(conn.session(), now);
         }
     }
+}
+
+// How many values have room without an allocation. No key is as great.
+fn bound<C, A: Allocator>(values: &Slab<C, A>) -> usize
+    ensures room { result ≡ values.now.capacity }
+    ensures keys { length values.now.slots ≤ result }
+{
+    values.capacity()
 }
 
 // Drops the value at a key, if there is one.

@@ -1,23 +1,29 @@
 //! The machine's clock.
 
-ghost use Rattle.std.specs.Prelude.{◌≡◌, ◌%◌, ◌^◌};
+ghost use Rattle.std.specs.Prelude.{◌≡◌};
+ghost use Rattle.std.specs.Duration.{as_nanos};
+ghost use Rattle.p9_serve.specs.Run.{reading};
 
-use std::io;
 use std::rt::Clock;
-use std::time::{SystemTime, UNIX_EPOCH};
+use std::time::{Duration, SystemTime, UNIX_EPOCH};
+use std::{io, thread};
 
 /// The whole seconds since 1970, modulo 2^32. A clock that is before 1970 reads 0.
 pub(crate) fn seconds(rt: &impl Clock) -> io::Result<u32> {
     let now = SystemTime::now(rt)?;
-    match now.duration_since(UNIX_EPOCH) {
-        Ok(since) => Ok(low_half(since.as_secs())),
-        Err(_) => Ok(0),
+    Ok(now.duration_since(UNIX_EPOCH).map_or(0, reading))
+}
+
+/// Rests so long, where that is any time.
+pub(crate) fn rest(rt: &impl Clock, length: Duration) {
+    if !length.is_zero() {
+        thread::sleep(rt, length);
     }
 }
 
-// A number modulo 2^32.
-fn low_half(number: u64) -> u32
-    ensures { result ≡ number % 2 ^ 32 }
+// What the clock reads so long after 1970 began.
+fn reading(since: Duration) -> u32
+    ensures { result ≡ reading (as_nanos since) }
 {
-    (number % 0x1_0000_0000) as u32
+    (since.as_secs() % 0x1_0000_0000) as u32
 }

@@ -1,20 +1,21 @@
 //! A server: a listener, and its clients.
 
-ghost use Rattle.std.specs.Prelude.{◌≡◌, ◌≤◌, []};
-ghost use Rattle.p9_serve.specs.Rounds.{AcceptsIfDue, HasRound, left_after, longest_wait};
-ghost use Rattle.p9_serve.specs.Rounds.{new_server, untold};
-ghost use Rattle.p9_serve.specs.Serving.{IsFinished};
+ghost use Rattle.std.specs.Prelude.{◌≡◌, ◌*◌, []};
+ghost use Rattle.std.specs.Duration.{as_nanos};
+ghost use Rattle.p9_serve.specs.Pace.{is_due, rest_of};
+ghost use Rattle.p9_serve.specs.Rounds.{AcceptsIf, HasRound, new_server, untold};
+ghost use Rattle.p9_serve.specs.Serving.{AreKeyed, IsFinished};
 
 use crate::clients::Clients;
-use mio::net::{TcpListener, TcpStream};
+use crate::pace::Pace;
+use crate::socket::Socket;
+use mio::net::TcpListener;
 use p9_guard::Guard;
 use p9_tree::Tree;
 use std::io;
 use std::marker::Model;
 use std::net::SocketAddr;
-
-// So many rounds pass at most without an accept.
-const LONGEST_WAIT: u64 = 63;
+use std::time::Duration;
 
 /// What a round came to.
 #[derive(Clone, Copy, Debug, PartialEq, Eq)]
@@ -28,28 +29,22 @@ pub struct Round {
 }
 
 /// The clients of a guard that come to a listener. Nothing here waits: where there is nothing to
-/// do, a round does nothing.
-///
-/// An accept takes longer than a read that finds nothing, so one is made only in the first round and
-/// after a round in which nothing moved, but at least once in 64 rounds.
+/// do, a round does nothing, and [`Server::rest`] says how long its caller may rest before the next
+/// one.
 #[derive(Drop)]
 pub struct Server<T: Tree> {
     listener: TcpListener,
-    clients: Clients<TcpStream, T>,
-    // The rounds that are still to pass before an accept.
-    left: u64,
+    clients: Clients<Socket, T>,
+    pace: Pace,
 }
 
 impl<T: Tree> Model for Server<T> {
-    ghost use Rattle.std.specs.Prelude.{◌≤◌};
-    ghost use Rattle.mio.specs.declared.net.stream.TcpStream.{TcpStream};
-    ghost use Rattle.p9_serve.specs.Rounds.{Running, longest_wait};
+    ghost use Rattle.p9_serve.specs.Rounds.{Running};
+    ghost use Rattle.p9_serve.specs.declared.socket.Socket.{Socket};
 
-    ghost Value = { Running TcpStream };
+    ghost Value = { Running Socket };
 
-    ghost view = { λ s. record { serving = s.clients; left = s.left } };
-
-    ghost invariant = { λ s. s.left ≤ longest_wait };
+    ghost view = { λ s. record { serving = s.clients; pace = s.pace } };
 }
 
 impl<T: Tree> Server<T> {
@@ -61,7 +56,7 @@ impl<T: Tree> Server<T> {
         Server {
             listener,
             clients: Clients::new(alloc, guard),
-            left: 0,
+            pace: Pace::new(),
         }
     }
 
@@ -70,9 +65,28 @@ impl<T: Tree> Server<T> {
         self.listener.local_addr()
     }
 
-    /// Takes in one client, if an accept is due and one is waiting; then gives each client's
-    /// connection a turn, by rising key, at the clock reading `now`, in seconds since 1970, modulo
-    /// 2^32. Returns what came of it.
+    /// What is kept of each server: each connection's session is that of its key, and open. This
+    /// does nothing when it runs; it is for a caller that has to know so.
+    pub fn well_formed(&self)
+        ensures { AreKeyed self.now.serving.slots self.now.serving.guard.state.sessions }
+    {
+        self.clients.well_formed();
+    }
+
+    /// How long to rest before the next round: not at all, but behind many rounds in which nothing
+    /// was taken in, moved or closed, as [`Pace`] has it. A request that comes meanwhile is read
+    /// when the rest is over.
+    pub fn rest(&self) -> Duration
+        ensures { as_nanos result ≡ rest_of self.now.pace.quiet * 1_000 }
+    {
+        self.pace.rest()
+    }
+
+    /// Accepts, if that is due: in the first round, if none of the 63 rounds before this one did, if
+    /// nothing was taken in, moved or closed in the 16 rounds before it or in a multiple of 16, and
+    /// behind each rest ([`Pace`]). So one client is taken in, if one is waiting. Then each client's
+    /// connection has a turn, by rising key, at the clock reading `now`, in seconds since 1970,
+    /// modulo 2^32. Returns what came of it.
     ///
     /// A client is dropped, and not counted, where [`Clients::take_in`] drops it. An accept that
     /// fails takes in nobody, as one does that finds nobody waiting.
@@ -81,12 +95,13 @@ impl<T: Tree> Server<T> {
     {
         let accepted = self.accept();
         let tally = self.clients.turns(now);
-        self.left = left_after(self.left, tally.moved);
-        Round {
+        let round = Round {
             accepted,
             moved: tally.moved,
             closed: tally.closed,
-        }
+        };
+        self.pace.count(round);
+        round
     }
 
     /// Closes each client's session by rising key, at the clock reading `now`, in seconds since 1970,
@@ -100,17 +115,18 @@ impl<T: Tree> Server<T> {
         let Server {
             listener: _,
             clients,
-            left: _,
+            pace: _,
         } = self;
         clients.finish(now)
     }
 
     // Takes in a client that waits, if an accept is due; returns how many.
     fn accept(&mut self) -> u64
-        ensures accepted { AcceptsIfDue self.old.left self.old.serving self.new.serving result }
-        ensures same { self.new.left ≡ self.old.left }
+        ensures accepted { AcceptsIf (is_due self.old.pace) self.old.serving self.new.serving
+            result }
+        ensures same { self.new.pace ≡ self.old.pace }
     {
-        if self.left > 0 {
+        if !self.pace.is_due() {
             return 0;
         }
         match waiting(&self.listener) {
@@ -120,23 +136,8 @@ impl<T: Tree> Server<T> {
     }
 }
 
-// The stream of a client that waits, if there is one and the accept doesn't fail. Its bytes are sent
-// without delay, where the system grants that.
-fn waiting(listener: &TcpListener) -> Option<TcpStream> {
+// The socket of a client that waits, if there is one and the accept doesn't fail.
+fn waiting(listener: &TcpListener) -> Option<Socket> {
     let (stream, _) = listener.accept().ok()?;
-    let _ = stream.set_nodelay(true);
-    Some(stream)
-}
-
-// The rounds that are still to pass after one in which so many turns moved something.
-fn left_after(left: u64, moved: u64) -> u64
-    requires { left ≤ longest_wait }
-    ensures value { result ≡ left_after left moved }
-    ensures within { result ≤ longest_wait }
-{
-    match (left, moved) {
-        (_, 0) => 0,
-        (0, _) => LONGEST_WAIT,
-        _ => left - 1,
-    }
+    Some(Socket::new(stream))
 }

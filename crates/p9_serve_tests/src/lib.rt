@@ -15,8 +15,12 @@ mod machine;
 #[cfg(test)]
 mod refused;
 #[cfg(test)]
+mod rests;
+#[cfg(test)]
 mod rows;
 #[cfg(test)]
 mod served;
 #[cfg(test)]
 mod soak;
+#[cfg(test)]
+mod told;

@@ -9,6 +9,7 @@ use std::alloc::Global;
 use std::io::{ErrorKind, Read, Write};
 use std::net::{Ipv4Addr, Net, SocketAddr};
 use std::process::Abort;
+use std::time::Duration;
 
 // More rounds than any test takes.
 const ROUNDS: u64 = 200_000;
@@ -59,6 +60,18 @@ impl Loopback {
         self.moved = self.moved.saturating_add(round.moved);
         self.closed = self.closed.saturating_add(round.closed);
         round.moved > 0
+    }
+
+    /// Takes so many rounds.
+    pub fn wait(&mut self, rounds: u64) {
+        for _ in 0..rounds {
+            let _ = self.round();
+        }
+    }
+
+    /// How long the server is to rest now.
+    pub fn rest(&self) -> Duration {
+        self.server.rest()
     }
 
     /// Takes rounds until a client has got a reply, which is to be this one.

@@ -1,4 +1,4 @@
-//! A machine whose clock counts its readings.
+//! A machine whose clock counts its readings and its sleeps.
 
 use std::alloc::Global;
 use std::cell::Cell;
@@ -9,13 +9,15 @@ use std::rt::Clock;
 use std::time::Duration;
 
 /// A machine whose clock can be read so many times. Each reading is a second later than the one
-/// before.
+/// before. It doesn't sleep, but adds up how long it was to.
 #[derive(Drop)]
 pub struct Machine<'a, R> {
     host: &'a R,
     first: u64,
     most: u64,
     readings: Cell<u64>,
+    sleeps: Cell<u64>,
+    slept: Cell<Duration>,
 }
 
 impl<R> Machine<'_, R> {
@@ -26,12 +28,24 @@ impl<R> Machine<'_, R> {
             first,
             most,
             readings: Cell::new(0),
+            sleeps: Cell::new(0),
+            slept: Cell::new(Duration::ZERO),
         }
     }
 
     /// How often the clock was read.
     pub fn readings(&self) -> u64 {
         self.readings.get()
+    }
+
+    /// How often it was to sleep.
+    pub fn sleeps(&self) -> u64 {
+        self.sleeps.get()
+    }
+
+    /// How long it was to sleep in all.
+    pub fn slept(&self) -> Duration {
+        self.slept.get()
     }
 }
 
@@ -69,5 +83,10 @@ impl<R> Clock for Machine<'_, R> {
         }
         self.readings.set(readings.saturating_add(1));
         Ok(Duration::from_secs(self.first.saturating_add(readings)))
+    }
+
+    fn sleep(&self, duration: Duration) {
+        self.sleeps.set(self.sleeps.get().saturating_add(1));
+        self.slept.set(self.slept.get().saturating_add(duration));
     }
 }

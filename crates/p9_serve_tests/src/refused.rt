@@ -2,17 +2,48 @@
 
 use crate::rows::SMALL;
 use p9_index::IndexTree;
-use p9_serve::{Clients, Tally, served_guard};
+use p9_serve::{Clients, Stream, Tally, served_guard};
 use p9_testing::{Refusing, refuse_each};
 use std::alloc::Global;
-use std::io::Cursor;
+use std::io;
+use std::io::{Read, Write};
 use std::process::Abort;
 
-// Clients with streams in memory.
-type InMemory<'a> = Clients<Cursor<Vec<u8, Global>>, IndexTree<&'a Refusing<Global>>>;
+// A stream that has ended.
+#[derive(Drop)]
+struct Ended;
+
+impl Read for Ended {
+    fn read(&mut self, _buf: &mut [u8]) -> io::Result<usize> {
+        Ok(0)
+    }
+}
+
+impl Write for Ended {
+    fn write(&mut self, _buf: &[u8]) -> io::Result<usize> {
+        Ok(0)
+    }
+
+    fn flush(&mut self) -> io::Result<()> {
+        Ok(())
+    }
+}
+
+impl Stream for Ended {
+    fn receive(&mut self, bytes: &mut [u8]) -> io::Result<usize> {
+        self.read(bytes)
+    }
+
+    fn send(&mut self, bytes: &[u8], _more: bool) -> io::Result<usize> {
+        self.write(bytes)
+    }
+}
+
+// Clients with streams that have ended.
+type EndedClients<'a> = Clients<Ended, IndexTree<&'a Refusing<Global>>>;
 
 // No clients of a guard without sessions.
-fn no_clients<'a>(rt: &impl Abort, memory: &'a Refusing<Global>) -> InMemory<'a> {
+fn no_clients<'a>(rt: &impl Abort, memory: &'a Refusing<Global>) -> EndedClients<'a> {
     let mut told = Vec::new(memory);
     let guard = served_guard(SMALL.as_bytes(), &mut told)
         .expect(rt, "memory")
@@ -20,17 +51,12 @@ fn no_clients<'a>(rt: &impl Abort, memory: &'a Refusing<Global>) -> InMemory<'a>
     Clients::new(memory, guard)
 }
 
-// A stream that has ended.
-fn ended(alloc: Global) -> Cursor<Vec<u8, Global>> {
-    Cursor::new(Vec::new(alloc))
-}
-
 // Takes a client in, again where an allocation failed: there are no clients then. The turn of the
 // one that is taken in closes its connection.
-fn take_in_again(rt: &impl Abort, alloc: Global, mut clients: InMemory<'_>) {
-    if !clients.take_in(ended(alloc)) {
+fn take_in_again(rt: &impl Abort, mut clients: EndedClients<'_>) {
+    if !clients.take_in(Ended) {
         assert_eq!(rt; clients.turns(0), closings(0));
-        assert!(rt; clients.take_in(ended(alloc)));
+        assert!(rt; clients.take_in(Ended));
     }
     assert_eq!(rt; clients.turns(0), closings(1));
     assert!(rt; !clients.finish(0).live(0));
@@ -44,12 +70,11 @@ fn closings(closed: u64) -> Tally {
 // The place, the two buffers and the session are taken one after another.
 #[test]
 fn a_client_is_taken_in_after_each_refusal(rt: HostRuntime) {
-    let alloc = rt.alloc();
-    let memory = Refusing::new(alloc);
+    let memory = Refusing::new(rt.alloc());
     let refusals = refuse_each(
         &memory,
         || no_clients(&rt, &memory),
-        |clients| take_in_again(&rt, alloc, clients),
+        |clients| take_in_again(&rt, clients),
     );
     assert!(rt; refusals > 3);
 }

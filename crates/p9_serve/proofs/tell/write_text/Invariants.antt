@@ -1,0 +1,9 @@
+use Rattle.std.proofs.Common.{◌≤◌, length, take}
+use Rattle.std.specs.Io.KnownBytes.{Appends}
+use Rattle.p9_serve.proofs.tell.write_text.Given as goal
+
+-- so many bytes of the text were written
+abbrev pub invariant-loop : goal.invariant-loop
+invariant-loop g l =
+    (l.count ≤ length l.text)
+    × Appends (g.W.Write.contents l.fn.out) (g.W.Write.contents l.out) (take l.count l.text)

@@ -1,0 +1,52 @@
+-- When a server accepts, and how long it rests between rounds.
+use Rattle.std.specs.Prelude.{ℕ, ◌+◌, ◌-◌, ◌*◌, ◌^◌, ◌%◌, ◌&&◌, ◌||◌, Bool, min, nat_eq, nat_le}
+use Rattle.std.specs.Prelude.{nat_lt, if◌then◌else◌}
+use Rattle.p9_serve.specs.declared.server.Round.{Round}
+
+-- how many quiet rounds in a row were the last ones, as far as it matters, and how many rounds may
+-- still pass before one accepts, whatever comes
+pub record Pacing : Type 0 where
+  pub quiet : ℕ
+  pub left : ℕ
+
+-- so many rounds pass at most without an accept
+abbrev pub longest_wait : ℕ
+longest_wait = 63
+
+-- so many quiet rounds come between two accepts
+abbrev pub accept_each : ℕ
+accept_each = 16
+
+-- behind so many quiet rounds a server rests before each further one
+abbrev pub rest_from : ℕ
+rest_from = 2_000
+
+-- behind so many it rests longest
+abbrev pub most_quiet : ℕ
+most_quiet = 2_007
+
+-- before the first round
+abbrev pub new_pacing : Pacing
+new_pacing = record { quiet = 0; left = 0 }
+
+-- the rest before the next round, in microseconds: 50 at first, then each time twice as long, up to
+-- 4,000
+abbrev pub rest_of : (quiet : ℕ) → ℕ
+rest_of quiet = if nat_lt quiet rest_from then 0 else min 4_000 (50 * 2 ^ (quiet - rest_from))
+
+-- whether the next round accepts
+abbrev pub is_due : Pacing → Bool
+is_due p =
+    nat_eq p.left 0 || nat_le rest_from p.quiet
+    || (nat_lt 0 p.quiet && nat_eq (p.quiet % accept_each) 0)
+
+-- whether nothing was taken in, moved or closed
+abbrev pub is_quiet : Round → Bool
+is_quiet round = nat_eq round.accepted 0 && nat_eq round.moved 0 && nat_eq round.closed 0
+
+-- after one round more
+abbrev pub pacing_after : Pacing → Round → Pacing
+pacing_after p round = record {
+  quiet = (if is_quiet round then min (p.quiet + 1) most_quiet else 0);
+  left = (if is_due p then longest_wait else p.left - 1);
+}

@@ -1,0 +1,44 @@
+//! When a server rests, and when it accepts.
+
+use crate::loopback::{Loopback, bytes, send};
+use crate::rows::{SMALL, VERSION};
+use std::time::Duration;
+
+// A rest ends with the round in which a client comes, and so does the next one with that in which a
+// request comes.
+#[test]
+fn whoever_comes_ends_the_rests(rt: HostRuntime) {
+    let mut loopback = Loopback::new(&rt, SMALL);
+    loopback.wait(2_000);
+    assert_eq!(rt; loopback.rest(), Duration::from_micros(50));
+    loopback.wait(7);
+    assert_eq!(rt; loopback.rest(), Duration::from_micros(4_000));
+    let mut client = loopback.connect(&rt);
+    loopback.wait(1);
+    assert_eq!(rt; loopback.accepted, 1);
+    assert_eq!(rt; loopback.rest(), Duration::ZERO);
+    loopback.wait(2_000);
+    assert_eq!(rt; loopback.rest(), Duration::from_micros(50));
+    send(&rt, &mut client, bytes(&rt, VERSION.0).as_slice());
+    loopback.reply(&rt, &mut client, VERSION.1);
+    assert_eq!(rt; loopback.rest(), Duration::ZERO);
+    loopback.wait(2_003);
+    assert!(rt; loopback.rest() > Duration::ZERO);
+    drop(client);
+    loopback.close(&rt, 1);
+    assert_eq!(rt; loopback.rest(), Duration::ZERO);
+}
+
+// A new server accepts in its first round. Where nothing comes, it does so again each 16 rounds.
+#[test]
+fn a_quiet_server_accepts_each_sixteenth_round(rt: HostRuntime) {
+    let mut loopback = Loopback::new(&rt, SMALL);
+    let _first = loopback.connect(&rt);
+    loopback.wait(1);
+    assert_eq!(rt; loopback.accepted, 1);
+    let _second = loopback.connect(&rt);
+    loopback.wait(16);
+    assert_eq!(rt; loopback.accepted, 1);
+    loopback.wait(1);
+    assert_eq!(rt; loopback.accepted, 2);
+}
