@@ -6,7 +6,7 @@ use Rattle.hex.specs.Hex.{encode_lower}
 use Rattle.p9_base.specs.declared.node_ref.NodeRef.{NodeRef}
 use Rattle.p9_wire.specs.Frame.{is_frame}
 use Rattle.p9_step.specs.Event.{Event, Open, Message, Close, IsEvent}
-use Rattle.p9_step.specs.State.{State, session_at}
+use Rattle.p9_step.specs.State.{SessionRow, State, session_at}
 use Rattle.p9_step.specs.Step.{step}
 use Rattle.p9_guard.specs.Served.{served}
 use Rattle.p9_guard.proofs.Sentences.{starts-guarded}
@@ -50,33 +50,48 @@ module _ (hidden : List NodeRef) (start : Start) where
           guarded = its.guarded;
         }
 
+    -- a session is open in both or in neither
+    fits : (name : ℕ)
+        → is_some (session_at name b.sessions) ≡ is_some (session_at name a.sessions)
+    fits name = ap (λ (rows : List SessionRow). is_some (session_at name rows)) alike.sessions
+
     -- an event is played; whether it fits is the same in both
     plays : (event : Event) (refused : Bool) → IsEvent event
         → PlaysAlike (played a event refused) (played b event refused)
     plays (Open name) refused fine =
-        rw (alike.sessions) (go (is_some (session_at name a.sessions)))
+        go (is_some (session_at name a.sessions)) (is_some (session_at name b.sessions))
+        (fits name)
       where
-        go : (c : Bool)
+        go : (c d : Bool) → d ≡ c
             → PlaysAlike (if c then skipped a else silent (step a (Open name) false))
-            (if c then skipped b else silent (step b (Open name) false))
-        go true = stays
-        go false = is-silent (Open name) fine
+            (if d then skipped b else silent (step b (Open name) false))
+        go true true e = stays
+        go false false e = is-silent (Open name) fine
+        go true false e = absurd (cc)
+        go false true e = absurd (cc)
     plays (Message name frame now) refused fine =
-        rw (alike.sessions) (go (is_frame frame && is_some (session_at name a.sessions)))
+        go (is_frame frame && is_some (session_at name a.sessions))
+        (is_frame frame && is_some (session_at name b.sessions))
+        (ap (λ (c : Bool). is_frame frame && c) (fits name))
       where
-        go : (c : Bool)
+        go : (c d : Bool) → d ≡ c
             → PlaysAlike (if c then replied (step a (Message name frame now) refused) else skipped a)
-            (if c then replied (step b (Message name frame now) refused) else skipped b)
-        go true = is-replied (Message name frame now) refused fine
-        go false = stays
+            (if d then replied (step b (Message name frame now) refused) else skipped b)
+        go true true e = is-replied (Message name frame now) refused fine
+        go false false e = stays
+        go true false e = absurd (cc)
+        go false true e = absurd (cc)
     plays (Close name now) refused fine =
-        rw (alike.sessions) (go (is_some (session_at name a.sessions)))
+        go (is_some (session_at name a.sessions)) (is_some (session_at name b.sessions))
+        (fits name)
       where
-        go : (c : Bool)
+        go : (c d : Bool) → d ≡ c
             → PlaysAlike (if c then silent (step a (Close name now) false) else skipped a)
-            (if c then silent (step b (Close name now) false) else skipped b)
-        go true = is-silent (Close name now) fine
-        go false = stays
+            (if d then silent (step b (Close name now) false) else skipped b)
+        go true true e = is-silent (Close name now) fine
+        go false false e = stays
+        go true false e = absurd (cc)
+        go false true e = absurd (cc)
 
   plays-all : (a b : State) → IsGuardedState hidden start a → AreAlike hidden a b
       → (events : List Event) (marks : List Bool) → AllByRecursion IsEvent events
