@@ -22,7 +22,7 @@ use Rattle.p9_commands.specs.declared.refusal.Stop.TheVariants.{Refused, NoMemor
 -- A text that was printed after an empty one is appended to another.
 module _ (none printed before after : List ℕ) (empty : none ≡ [])
     (appended : after ≡ before ++ printed) where
-  moved : (text : List ℕ) → printed ≡ none ++ text → after ≡ before ++ text
+  pub moved : (text : List ℕ) → printed ≡ none ++ text → after ≡ before ++ text
   moved text is =
       appended ∙ ap (λ t. before ++ t) (is ∙ ap (λ n. n ++ text) empty)
 

@@ -1,9 +1,10 @@
 -- What an input offers to a server.
-use Rattle.std.proofs.Common.{◌≡◌, ℕ, ◌++◌, List, Some, None, Result, Ok, Err, refl, ◌∙◌}
-use Rattle.std.proofs.Common.{append_assoc, sym, subst, ap}
+use Rattle.std.proofs.Common.{◌≡◌, ℕ, [], ◌++◌, List, Option, Some, None, Result, Ok, Err, refl}
+use Rattle.std.proofs.Common.{append_assoc, sym, subst, ap, ◌∙◌}
 use Rattle.p9_base.specs.Results.{and_then}
 use Rattle.p9_guard.specs.Guard.{Guarded}
 use Rattle.p9_nsfile.specs.Space.{Report}
+use Rattle.p9_commands.proofs.Ends.{moved}
 use Rattle.p9_commands.specs.Offer.{Offer, Serves, offer_in}
 use Rattle.p9_commands.specs.Prepared.{IsPrepareErrorBy, Prepared, Rejected, guard_in}
 use Rattle.p9_commands.specs.Prepared.{with_reports}
@@ -49,3 +50,15 @@ module _ (before after : List ℕ) where
         (sym is)
         (told ∙ ap (λ b. b ++ refusal_line refusal) reported
         ∙ append_assoc before (reports_text prepared.space.reports) (refusal_line refusal))
+
+-- what is told of an offer after nothing may be appended to another text
+pub offer-moved : (offered : Result Offer Rejected) (none printed before after : List ℕ)
+    (guard : Option Guarded) → none ≡ [] → after ≡ before ++ printed
+    → Serves offered none printed guard → Serves offered before after guard
+offer-moved (Ok offer) none printed before after (Some guard) empty appended serves =
+    (serves.0, moved none printed before after empty appended _ serves.1)
+offer-moved (Ok offer) none printed before after None empty appended serves = absurd serves
+offer-moved (Err rejected) none printed before after (Some guard) empty appended serves =
+    absurd serves
+offer-moved (Err rejected) none printed before after None empty appended serves =
+    moved none printed before after empty appended _ serves
