@@ -10,6 +10,7 @@ ghost use Rattle.p9_tree.specs.Node.{marked};
 ghost use Rattle.p9_tree.specs.Server.{CanAdd, added};
 ghost use Rattle.p9_space.specs.Channel.{Fits, trail_of};
 ghost use Rattle.p9_space.specs.Table.{MountRow};
+ghost use Rattle.p9_space.specs.Trail.{places_max};
 ghost use Rattle.p9_fids.specs.Fid.{fid_at};
 ghost use Rattle.p9_fids.specs.Held.{HeldFits};
 ghost use Rattle.p9_export.specs.Held.{SessionFits};
@@ -263,7 +264,7 @@ fn channels_to<A: Allocator + Copy>(
     place: NodeRef,
 ) -> Result<Channels<A>, NoMemory>
     requires fits { Fits table.now channels.now }
-    requires room { length (trail_of channels.now) < PLACES_MAX }
+    requires room { length (trail_of channels.now) < places_max }
     ensures trail { IfOk result (λ longer. trail_of longer ≡ trail_of channels.now ++ place ∷ []) }
     ensures fits { IfOk result (λ longer. Fits table.now longer) }
 {

@@ -5,7 +5,7 @@ ghost use Rattle.std.specs.Prelude.{length, true};
 ghost use Rattle.p9_fids.specs.Fid.{fid_at};
 ghost use Rattle.p9_space.specs.Channel.{Fits, row_position, trail_of};
 ghost use Rattle.p9_space.specs.Table.{MountRow};
-ghost use Rattle.p9_space.specs.Trail.{here, stepped};
+ghost use Rattle.p9_space.specs.Trail.{here, places_max, stepped};
 ghost use Rattle.p9_tree.specs.Forest.{node_of};
 ghost use Rattle.p9_tree.specs.Server.{Server};
 ghost use Rattle.p9_wire.specs.Message.{Rwalk};
@@ -19,7 +19,7 @@ use crate::session::Session;
 use crate::setting::Setting;
 use p9_base::{Fault, NOFID, NoMemory, Qid, User};
 use p9_fids::Fid;
-use p9_space::{Arrival, Channels, PLACES_MAX, find_arrival_from};
+use p9_space::{Arrival, Channels, find_arrival_from};
 use p9_tree::{Forest, Tree};
 use p9_wire::{Names, Qids};
 use std::alloc::Allocator;
@@ -145,7 +145,7 @@ fn arrive<T: Tree>(
     channels: &mut Channels<T::Alloc>,
     arrival: Arrival<'_, T::Alloc>,
 ) -> Result<Qid, NoMemory>
-    requires room { length (stepped (trail_of channels.old) arrival.step) ≤ PLACES_MAX }
+    requires room { length (stepped (trail_of channels.old) arrival.step) ≤ places_max }
     requires row { arrival.row
         ≡ row_position (here (stepped (trail_of channels.old) arrival.step)) setting.now.table }
     requires file { node_of arrival.at forest.now ≡ Some arrival.file.now }

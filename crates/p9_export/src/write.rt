@@ -1,6 +1,6 @@
 //! The answer to a write, as read(5).
 
-ghost use Rattle.std.specs.Prelude.{◌≡◌, ◌+◌, length, nat_le};
+ghost use Rattle.std.specs.Prelude.{◌≡◌};
 ghost use Rattle.p9_fids.specs.Opened.{writes};
 ghost use Rattle.p9_wire.specs.Message.{Rwrite};
 ghost use Rattle.p9_export.specs.Held.{SessionFits};
@@ -8,14 +8,13 @@ ghost use Rattle.p9_export.specs.Answers.{Answers, replied};
 ghost use Rattle.p9_step.specs.Sound.{AreWellOpen};
 ghost use Rattle.p9_step.specs.Memory.{is_done};
 ghost use Rattle.p9_step.specs.Write.{is_writable, write_answer, write_offset};
-ghost use Rattle.p9_tree.specs.declared.bytes.TheConstants.{FILE_MAX};
 
 use crate::open::is_append_only;
 use crate::session::Session;
 use crate::setting::Setting;
 use p9_base::Fault;
 use p9_fids::Fid;
-use p9_tree::{FILE_MAX, Forest, Node, Tree};
+use p9_tree::{Forest, Node, Tree, fits_file};
 use std::alloc::Allocator;
 
 /// Writes into the file of an open fid, at the offset, or at the end of an append-only file. A gap
@@ -24,7 +23,7 @@ use std::alloc::Allocator;
 ///
 /// The first that applies refuses, and nothing changes: there is no such fid,
 /// [`Fault::UnknownFid`]; it isn't open for writing, [`Fault::FidNotOpen`]; its file doesn't exist,
-/// [`Fault::PhaseError`]; the file would have more than [`FILE_MAX`] bytes,
+/// [`Fault::PhaseError`]; the file would have more than [`FILE_MAX`](p9_tree::FILE_MAX) bytes,
 /// [`Fault::FileTooLarge`]. Else an allocation may fail, [`Fault::OutOfMemory`].
 pub fn write<T: Tree>(
     setting: &Setting<T::Alloc>,
@@ -55,7 +54,7 @@ pub fn write<T: Tree>(
         return Ok(0);
     }
     let place = write_offset(file, offset);
-    if !fits(place, bytes.len()) {
+    if !fits_file(place, bytes.len()) {
         return Err(Fault::FileTooLarge);
     }
     forest.write(at, place, bytes)?;
@@ -79,11 +78,4 @@ fn write_offset<A: Allocator>(file: &Node<A>, offset: u64) -> u64
     } else {
         offset
     }
-}
-
-// Whether a file has room for so many bytes at the place.
-fn fits(place: u64, count: usize) -> bool
-    ensures { result ≡ nat_le (place + count) FILE_MAX }
-{
-    place <= FILE_MAX as u64 && count <= FILE_MAX - place as usize
 }

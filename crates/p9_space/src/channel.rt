@@ -8,14 +8,14 @@ ghost use Rattle.p9_space.specs.Channel.{Fits, row_position, trail_of};
 ghost use Rattle.p9_space.specs.Place.{file_ref};
 ghost use Rattle.p9_space.specs.Rights.{who_view};
 ghost use Rattle.p9_space.specs.Table.{MountRow, members_of};
-ghost use Rattle.p9_space.specs.Trail.{IsTrail, here, stepped, upward};
+ghost use Rattle.p9_space.specs.Trail.{IsTrail, here, places_max, stepped, upward};
 ghost use Rattle.p9_space.specs.Walk.{step_of, walk};
 ghost use Rattle.p9_tree.specs.Forest.{node_of};
 
 use crate::rights::Who;
 use crate::row::Members;
 use crate::table::MountTable;
-use crate::trail::{PLACES_MAX, Step, Trail};
+use crate::trail::{Step, Trail};
 use crate::walk::{Arrival, arrive_down, arrive_up};
 use p9_base::{Fault, NoMemory, NodeRef};
 use p9_tree::{Forest, Tree};
@@ -103,7 +103,7 @@ impl<A: Allocator + Copy> Channels<A> {
         table: &MountTable<B>,
         place: NodeRef,
     ) -> Result<(), NoMemory>
-        requires { length (trail_of self.old) < PLACES_MAX }
+        requires { length (trail_of self.old) < places_max }
         ensures ok { OnOk result (trail_of self.new ≡ trail_of self.old ++ place ∷ []) }
         ensures fits { OnOk result (Fits table.now self.old → Fits table.now self.new) }
         ensures err { OnErr result (self.new ≡ self.old) }
@@ -113,7 +113,7 @@ impl<A: Allocator + Copy> Channels<A> {
 
     // The same, where the place has this row in the table.
     fn push_with_row(&mut self, place: NodeRef, row: Option<usize>) -> Result<(), NoMemory>
-        requires { length (trail_of self.old) < PLACES_MAX }
+        requires { length (trail_of self.old) < places_max }
         ensures ok { OnOk result (trail_of self.new ≡ trail_of self.old ++ place ∷ []) }
         ensures fits { OnOk result ((table : List MountRow) → row ≡ row_position place table →
             Fits table self.old → Fits table self.new) }
@@ -138,7 +138,7 @@ impl<A: Allocator + Copy> Channels<A> {
     /// Takes a step, where the place after it has this row in the table. Where an allocation fails the
     /// channels are unchanged.
     pub fn take(&mut self, step: Step, row: Option<usize>) -> Result<(), NoMemory>
-        requires { length (stepped (trail_of self.old) step) ≤ PLACES_MAX }
+        requires { length (stepped (trail_of self.old) step) ≤ places_max }
         ensures ok { OnOk result (trail_of self.new ≡ stepped (trail_of self.old) step) }
         ensures fits { OnOk result ((table : List MountRow) →
             row ≡ row_position (here (stepped (trail_of self.old) step)) table →
@@ -175,7 +175,7 @@ pub fn find_arrival_from<'a, T: Tree, A: Allocator + Copy, B: Allocator + Copy>(
         ≡ file_ref (here (stepped (trail_of channels.now) arrival.step)) table.now) }
     ensures file { IfOk result (λ arrival. node_of arrival.at forest.now ≡ Some arrival.file.now) }
     ensures room { IfOk result (λ arrival. length (stepped (trail_of channels.now) arrival.step)
-        ≤ PLACES_MAX) }
+        ≤ places_max) }
 {
     let trail = channels.trail();
     let members = channels.members(table);

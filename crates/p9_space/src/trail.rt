@@ -2,7 +2,7 @@
 
 ghost use Rattle.std.specs.Prelude.{◌≡◌, ◌++◌, ◌∷◌, ◌<◌, ◌≤◌, [], length, slice_get, IfOk, OnOk};
 ghost use Rattle.std.specs.Prelude.{OnErr, Some};
-ghost use Rattle.p9_space.specs.Trail.{IsTrail, here, stepped, upward};
+ghost use Rattle.p9_space.specs.Trail.{IsTrail, here, places_max, stepped, upward};
 
 use p9_base::{NoMemory, NodeRef};
 use std::alloc::Allocator;
@@ -68,7 +68,7 @@ impl<A: Allocator + Copy> Trail<A> {
 
     /// Goes on to a place. Where an allocation fails, the trail is unchanged.
     pub fn push(&mut self, place: NodeRef) -> Result<(), NoMemory>
-        requires { length self.old < PLACES_MAX }
+        requires { length self.old < places_max }
         ensures ok { OnOk result (self.new ≡ self.old ++ place ∷ []) }
         ensures err { OnErr result (self.new ≡ self.old) }
     {
@@ -145,7 +145,7 @@ impl<A: Allocator + Copy> Trail<A> {
 
     /// Takes a step. Where an allocation fails, the trail is unchanged.
     pub fn take(&mut self, step: Step) -> Result<(), NoMemory>
-        requires { length (stepped self.old step) ≤ PLACES_MAX }
+        requires { length (stepped self.old step) ≤ places_max }
         ensures ok { OnOk result (self.new ≡ stepped self.old step) }
         ensures err { OnErr result (self.new ≡ self.old) }
     {

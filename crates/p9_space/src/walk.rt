@@ -11,7 +11,7 @@ ghost use Rattle.p9_space.specs.Found.{IsThere, place_of};
 ghost use Rattle.p9_space.specs.Place.{file_of, file_ref};
 ghost use Rattle.p9_space.specs.Rights.{Who as WhoOf, who_view};
 ghost use Rattle.p9_space.specs.Table.{members_of};
-ghost use Rattle.p9_space.specs.Trail.{here, stepped, upward};
+ghost use Rattle.p9_space.specs.Trail.{here, places_max, stepped, upward};
 ghost use Rattle.p9_space.specs.Walk.{child_among, child_ref, dir_fault, is_alive, is_alive_dir};
 ghost use Rattle.p9_space.specs.Walk.{is_searched, may_search, named_among, named_child};
 ghost use Rattle.p9_space.specs.Walk.{step_among, step_of, walk};
@@ -184,7 +184,7 @@ fn find_child<'a, T: Tree, A: Allocator + Copy>(
     ensures err { IfErr result (λ fault. step_among forest.now (option_map who_view who.entry)
         trail.now name.now members.now ≡ Err fault) }
     ensures node { IfOk result (IsThere forest.now) }
-    ensures room { OnOk result (length trail.now < PLACES_MAX) }
+    ensures room { OnOk result (length trail.now < places_max) }
 {
     let found = find_by(forest, members, name, who);
     if !found.alive {
@@ -267,7 +267,7 @@ pub fn find_arrival<'a, T: Tree, A: Allocator + Copy, B: Allocator + Copy>(
     ensures at { IfOk result (λ arrival. arrival.at
         ≡ file_ref (here (stepped trail.now arrival.step)) table.now) }
     ensures file { IfOk result (λ arrival. node_of arrival.at forest.now ≡ Some arrival.file.now) }
-    ensures room { IfOk result (λ arrival. length (stepped trail.now arrival.step) ≤ PLACES_MAX) }
+    ensures room { IfOk result (λ arrival. length (stepped trail.now arrival.step) ≤ places_max) }
 {
     let row = table.position(trail.here());
     find_arrival_at(forest, table, trail, row, name, who)
@@ -292,7 +292,7 @@ fn find_arrival_at<'a, T: Tree, A: Allocator + Copy, B: Allocator + Copy>(
     ensures at { IfOk result (λ arrival. arrival.at
         ≡ file_ref (here (stepped trail.now arrival.step)) table.now) }
     ensures file { IfOk result (λ arrival. node_of arrival.at forest.now ≡ Some arrival.file.now) }
-    ensures room { IfOk result (λ arrival. length (stepped trail.now arrival.step) ≤ PLACES_MAX) }
+    ensures room { IfOk result (λ arrival. length (stepped trail.now arrival.step) ≤ places_max) }
 {
     let members = table.members_at(row, trail.here());
     if name == ".." {
@@ -322,7 +322,7 @@ pub(crate) fn arrive_up<'a, T: Tree, A: Allocator + Copy, B: Allocator + Copy>(
     ensures at { IfOk result (λ arrival. arrival.at
         ≡ file_ref (here (stepped trail.now arrival.step)) table.now) }
     ensures file { IfOk result (λ arrival. node_of arrival.at forest.now ≡ Some arrival.file.now) }
-    ensures room { IfOk result (λ arrival. length (stepped trail.now arrival.step) ≤ PLACES_MAX) }
+    ensures room { IfOk result (λ arrival. length (stepped trail.now arrival.step) ≤ places_max) }
 {
     trail.well_formed();
     if let Some(fault) = dir_fault(forest, members) {
@@ -352,7 +352,7 @@ pub(crate) fn arrive_down<'a, T: Tree, A: Allocator + Copy, B: Allocator + Copy>
     ensures at { IfOk result (λ arrival. arrival.at
         ≡ file_ref (here (stepped trail.now arrival.step)) table.now) }
     ensures file { IfOk result (λ arrival. node_of arrival.at forest.now ≡ Some arrival.file.now) }
-    ensures room { IfOk result (λ arrival. length (stepped trail.now arrival.step) ≤ PLACES_MAX) }
+    ensures room { IfOk result (λ arrival. length (stepped trail.now arrival.step) ≤ places_max) }
 {
     let Child { place, node } = find_child(forest, trail, members, name, who)?;
     match table.position(place) {

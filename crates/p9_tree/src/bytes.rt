@@ -1,8 +1,8 @@
 //! The bytes of a file.
 
-ghost use Rattle.std.specs.Prelude.{◌≡◌, ◌+◌, ◌≤◌, [], ◌++◌, IfOk, OnOk, OnErr, drop, length, take};
+ghost use Rattle.std.specs.Prelude.{◌≡◌, ◌+◌, ◌≤◌, [], ◌++◌, IfOk, OnOk, OnErr, drop, length, nat_le, take};
 ghost use Rattle.p9_base.specs.Text.{padded};
-ghost use Rattle.p9_tree.specs.Bytes.{cut_to, overwritten, put_front, read_from, resized};
+ghost use Rattle.p9_tree.specs.Bytes.{cut_to, file_max, overwritten, put_front, read_from, resized};
 
 use p9_base::NoMemory;
 use std::alloc::Allocator;
@@ -10,6 +10,13 @@ use std::marker::Model;
 
 /// The most bytes that a file has.
 pub const FILE_MAX: usize = 16_777_216;
+
+/// Whether a file may have so many bytes from the offset on: no more than [`FILE_MAX`] in all.
+pub fn fits_file(offset: u64, count: usize) -> bool
+    ensures { result ≡ nat_le (offset + count) file_max }
+{
+    offset <= FILE_MAX as u64 && count <= FILE_MAX - offset as usize
+}
 
 /// The bytes of a file, seen as their list.
 #[derive(Drop)]
@@ -54,7 +61,7 @@ impl<A: Allocator> Bytes<A> {
     /// Writes at the offset, and fills a gap before it with zeros. Where an allocation fails, all
     /// stays as it was.
     pub fn write(&mut self, offset: u64, bytes: &[u8]) -> Result<(), NoMemory>
-        requires { offset + length bytes.now ≤ FILE_MAX }
+        requires { offset + length bytes.now ≤ file_max }
         ensures ok { OnOk result (self.new ≡ overwritten offset bytes.now self.old) }
         ensures err { OnErr result (self.new ≡ self.old) }
     {
@@ -94,7 +101,7 @@ impl<A: Allocator> Bytes<A> {
     /// Brings them to this number: it cuts them, or adds zeros. Where an allocation fails, all
     /// stays as it was.
     pub fn resize(&mut self, size: u64) -> Result<(), NoMemory>
-        requires { size ≤ FILE_MAX }
+        requires { size ≤ file_max }
         ensures ok { OnOk result (self.new ≡ resized size self.old) }
         ensures err { OnErr result (self.new ≡ self.old) }
     {

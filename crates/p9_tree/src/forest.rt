@@ -3,7 +3,7 @@
 ghost use Rattle.std.specs.Prelude.{◌≡◌, ◌≢◌, ◌+◌, ◌≤◌, IfOk, IsFalse, IsTrue, OnErr, OnOk};
 ghost use Rattle.std.specs.Prelude.{length};
 ghost use Rattle.std.specs.Option.{option_copied};
-ghost use Rattle.p9_tree.specs.Bytes.{cut_to, overwritten, put_front, read_from};
+ghost use Rattle.p9_tree.specs.Bytes.{cut_to, file_max, overwritten, put_front, read_from};
 ghost use Rattle.p9_tree.specs.Change.{CanChange, changed};
 ghost use Rattle.p9_tree.specs.Forest.{IsForest, bytes_of, child_in, child_in_after};
 ghost use Rattle.p9_tree.specs.Forest.{forest_changed_at, has_children_of, is_dir_of, next_of};
@@ -12,7 +12,6 @@ ghost use Rattle.p9_tree.specs.New.{CanAddNew, added_new};
 ghost use Rattle.p9_tree.specs.Node.{marked, touched, with_bytes};
 ghost use Rattle.p9_tree.specs.Server.{exists_at, with_dropped};
 
-use crate::bytes::FILE_MAX;
 use crate::change::Change;
 use crate::new::New;
 use crate::node::Node;
@@ -153,7 +152,7 @@ impl<T: Tree> Forest<T> {
     /// An allocation can fail only where there is a node. The forest is unchanged then.
     pub fn write(&mut self, at: NodeRef, offset: u64, bytes: &[u8]) -> Result<(), NoMemory>
         requires file { IsFalse (is_dir_of at self.old) }
-        requires fits { offset + length bytes.now ≤ FILE_MAX }
+        requires fits { offset + length bytes.now ≤ file_max }
         ensures ok { OnOk result (self.new
             ≡ forest_changed_at at (with_bytes (overwritten offset bytes.now)) self.old) }
         ensures err { OnErr result (self.new ≡ self.old) }

@@ -13,7 +13,7 @@ mod node;
 mod plain;
 mod tree;
 
-pub use bytes::FILE_MAX;
+pub use bytes::{FILE_MAX, fits_file};
 pub use change::Change;
 pub use forest::Forest;
 pub use new::New;

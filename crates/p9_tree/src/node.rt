@@ -5,14 +5,14 @@ ghost use Rattle.std.specs.Prelude.{codes, length, unwrap_or};
 ghost use Rattle.std.specs.Option.{ForSome, option_map};
 ghost use Rattle.p9_base.specs.Name.{is_name, name_max};
 ghost use Rattle.p9_base.specs.Text.{is_text};
-ghost use Rattle.p9_tree.specs.Bytes.{cut_to, overwritten, put_front, read_from};
+ghost use Rattle.p9_tree.specs.Bytes.{cut_to, file_max, overwritten, put_front, read_from};
 ghost use Rattle.p9_tree.specs.Change.{changed, with_length, with_mtime};
 ghost use Rattle.p9_tree.specs.New.{new_node};
 ghost use Rattle.p9_tree.specs.Node.{IsTellable, is_above, is_child, is_dir, is_in, marked};
 ghost use Rattle.p9_tree.specs.Node.{touched, with_bytes, with_owner};
 ghost use Rattle.p9_tree.specs.Server.{root_mode, root_node};
 
-use crate::bytes::{Bytes, FILE_MAX};
+use crate::bytes::Bytes;
 use crate::change::Change;
 use crate::new::New;
 use p9_base::{Kind, Mode, Name, NoMemory, Permissions, Rights, User, valid_name};
@@ -275,7 +275,7 @@ impl<A: Allocator> Node<A> {
     /// Writes into the file's bytes at the offset, and fills a gap before it with zeros. Where
     /// an allocation fails, the node is as before.
     pub fn write(&mut self, offset: u64, bytes: &[u8]) -> Result<(), NoMemory>
-        requires { offset + length bytes.now ≤ FILE_MAX }
+        requires { offset + length bytes.now ≤ file_max }
         ensures ok { OnOk result (self.new ≡ with_bytes (overwritten offset bytes.now) self.old) }
         ensures err { OnErr result (self.new ≡ self.old) }
     {
@@ -302,7 +302,7 @@ impl<A: Allocator> Node<A> {
     /// Makes all of the change. Where an allocation fails, the node is as before.
     pub fn change(&mut self, change: &Change) -> Result<(), NoMemory>
         requires named { ForSome change.now.name (λ name. IsSome self.old.parent) }
-        requires small { ForSome change.now.length (λ size. size ≤ FILE_MAX) }
+        requires small { ForSome change.now.length (λ size. size ≤ file_max) }
         ensures ok { OnOk result (self.new ≡ changed change.entry.now self.old) }
         ensures name { OnOk result (ForSome change.entry.now.name (λ name. IsTrue (is_name name))) }
         ensures tellable { OnOk result (IsTellable self.new) }
@@ -331,7 +331,7 @@ impl<A: Allocator> Node<A> {
 
     // Cuts the file to the new length, if there is one, or adds zeros, and marks it.
     fn set_length(&mut self, change: &Change) -> Result<(), NoMemory>
-        requires { ForSome change.now.length (λ size. size ≤ FILE_MAX) }
+        requires { ForSome change.now.length (λ size. size ≤ file_max) }
         ensures ok { OnOk result (self.new ≡ with_length change.entry.now self.old) }
         ensures err { OnErr result (self.new ≡ self.old) }
     {

@@ -3,7 +3,7 @@
 ghost use Rattle.std.specs.Prelude.{◌≡◌, ◌≢◌, ◌+◌, ◌≤◌, IfOk, IsFalse, IsTrue, OnErr, OnOk};
 ghost use Rattle.std.specs.Prelude.{length};
 ghost use Rattle.std.specs.Option.{option_copied};
-ghost use Rattle.p9_tree.specs.Bytes.{cut_to, overwritten, put_front, read_from};
+ghost use Rattle.p9_tree.specs.Bytes.{cut_to, file_max, overwritten, put_front, read_from};
 ghost use Rattle.p9_tree.specs.Change.{CanChange, changed};
 ghost use Rattle.p9_tree.specs.New.{CanAddNew, added_new};
 ghost use Rattle.p9_tree.specs.Node.{marked, touched, with_bytes, with_owner};
@@ -11,7 +11,6 @@ ghost use Rattle.p9_tree.specs.Server.{Server, WellFormed, bytes_at, child_after
 ghost use Rattle.p9_tree.specs.Server.{has_children, is_dir_at, node_at, rooted, with_changed};
 ghost use Rattle.p9_tree.specs.Server.{exists_at, with_dropped};
 
-use crate::bytes::FILE_MAX;
 use crate::change::Change;
 use crate::new::New;
 use crate::node::Node;
@@ -26,7 +25,7 @@ pub const NEXT_MAX: u64 = 1 << 48;
 /// Each tree is well-formed: its numbers are below the next, which is at most [`NEXT_MAX`]; node 0
 /// is a directory named `/` and the one without a parent; each other node has a valid name, and a
 /// directory of smaller number for a parent, in which no other has its name; a file has at most
-/// [`FILE_MAX`] bytes, and a directory none.
+/// [`FILE_MAX`](crate::FILE_MAX) bytes, and a directory none.
 ///
 /// To *mark* a node is to note that a user has changed it now, a file's bytes or a directory's
 /// entries, as stat(5): the user becomes the one who changed it last, its version grows by 1 modulo
@@ -103,7 +102,7 @@ pub trait Tree: Sized + Drop {
     /// An allocation may fail only where there is a node.
     fn write(&mut self, number: u64, offset: u64, bytes: &[u8]) -> Result<(), NoMemory>
         requires file { IsFalse (is_dir_at number (state self.old).nodes) }
-        requires fits { offset + length bytes.now ≤ FILE_MAX }
+        requires fits { offset + length bytes.now ≤ file_max }
         ensures ok { OnOk result (state self.new
             ≡ with_changed number (with_bytes (overwritten offset bytes.now)) (state self.old)) }
         ensures err { OnErr result (state self.new ≡ state self.old) }

@@ -3,6 +3,7 @@
 ghost use Rattle.std.specs.Prelude.{◌≡◌, ◌≤◌, ◌∷◌, [], IfNone, IfOk, IfSome, IsTrue, false, length};
 ghost use Rattle.std.specs.Prelude.{option_map, true};
 ghost use Rattle.p9_base.specs.Mode.{is_dir};
+ghost use Rattle.p9_tree.specs.Bytes.{file_max};
 ghost use Rattle.p9_world.specs.Entry.{are_users, bytes_in, dir_line, file_line, in_last_server};
 ghost use Rattle.p9_world.specs.Entry.{with_dir, with_entry};
 ghost use Rattle.p9_world.specs.LastDir.{IsWhereNamesLead};
@@ -185,7 +186,7 @@ fn add_entry<T: Tree>(
     entry: &NodeLine<'_>,
 ) -> Result<(), LineError>
     requires led { IsWhereNamesLead last_dir.old (T.state tree.old) }
-    requires small { length entry.now.bytes.now ≤ FILE_MAX }
+    requires small { length entry.now.bytes.now ≤ file_max }
     requires empty_dir { IsTrue (is_dir entry.now.mode) → entry.now.bytes.now ≡ [] }
     ensures made { Makes (with_entry name names.items
         (record {

@@ -37,7 +37,7 @@ returns-in_err-write g c =
     c.args.offset c.args.bytes.now v c.in-Some-node.file.now c.file-at.result
     c.write_offset-place.result c.file-at.ensures c.write_offset-place.ensures found opens
     (sym c.in-Some-node.ensures) (sym c.is_empty.ensures ∙ c.if-is_empty.false)
-    (sym c.fits.ensures ∙ c.if-not-fits.false) in
+    (sym c.fits_file.ensures ∙ c.if-not-fits_file.false) in
     let refused = err_from_is_err_and c.from_residual.result c.from_residual.ensures.1 in
     memory_refused Rwrite _ _ forest c.write.new.self
     c.args.session.now.session c.args.session.now.session c.from_residual.result refused.0 done refused.1
@@ -55,7 +55,7 @@ returns g c =
     c.args.offset c.args.bytes.now v c.in-Some-node.file.now c.file-at.result
     c.write_offset-place.result c.file-at.ensures c.write_offset-place.ensures found opens
     (sym c.in-Some-node.ensures) (sym c.is_empty.ensures ∙ c.if-is_empty.false)
-    (sym c.fits.ensures ∙ c.if-not-fits.false) in
+    (sym c.fits_file.ensures ∙ c.if-not-fits_file.false) in
     let new = c.bump.new.self in
     let bumped =
     c.bump.ensures
