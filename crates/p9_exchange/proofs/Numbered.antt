@@ -26,7 +26,7 @@ module _ {S : Type 0} (step : S → ℕ × List ℕ → Result S Refusal) (items
   abbrev lines : List (ℕ × List ℕ)
   lines = enumerate_from 1 (map (λ line. line.now) items)
 
-  -- the line at a position has the number behind it
+  -- the line at a position has the number after it
   numbered_at : (d : Bor (List ℕ)) → i < length items
       → (i + 1, get_or items i d) ≡ get_or (enumerate_from 1 items) i (0, d)
   numbered_at d l =

@@ -22,7 +22,7 @@ module _ (lines part : List (Bor (List ℕ))) where
       ∙ sym (take-map (λ (line : Bor (List ℕ)). line.now)
       (lines_before script_head (pointed lines) + 1) lines)
 
-  -- and those behind it
+  -- and those after it
   pub back-is : part ≡ drop (lines_before script_head (pointed lines) + 1) lines
       → pointed part ≡ script_lines (pointed lines)
   unfolding script_lines

@@ -28,7 +28,7 @@ unfoldable pub exchange_of_lines : (replies script : List (List ℕ)) → Result
 exchange_of_lines replies script =
     and_then (try_fold (talked replies) nothing_said (enumerate_from 1 script)) (all_told replies)
 
--- the exchange of the lines of an input: the script, and the replies behind their head
+-- the exchange of the lines of an input: the script, and the replies after their head
 unfoldable pub exchange_in : List (List ℕ) → Result (List ℕ) Refusal
 exchange_in lines =
     let n = lines_before replies_head lines in

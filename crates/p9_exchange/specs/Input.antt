@@ -10,7 +10,7 @@ abbrev pub ends_empty : List (List ℕ) → Bool
 ends_empty lines =
     nat_lt 0 (length lines) && length (slice_index_or lines (length lines - 1) []) == 0
 
--- the lines of a text: behind a newline at its end there is none
+-- the lines of a text: after a newline at its end there is none
 unfoldable pub whole_lines : List ℕ → List (List ℕ)
 whole_lines text =
     let lines = lines_of text in
@@ -31,6 +31,6 @@ replies_head = codes "%% replies"
 unfoldable pub head_lines : List (List ℕ) → List (List ℕ)
 head_lines lines = take (lines_before script_head lines + 1) lines
 
--- and those behind it
+-- and those after it
 unfoldable pub script_lines : List (List ℕ) → List (List ℕ)
 script_lines lines = drop (lines_before script_head lines + 1) lines

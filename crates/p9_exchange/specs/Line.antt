@@ -100,7 +100,7 @@ line_at turn text =
     else if bytes_eq (codes "close") word then close_at (behind_word here)
     else words_at turn here
 
--- the tag whose turn comes behind a line: it counts the messages since a session was opened, and
+-- the tag whose turn comes after a line: it counts the messages since a session was opened, and
 -- is never 65535
 abbrev pub turn_behind : Line → ℕ → ℕ
 turn_behind Skipped turn = turn

@@ -50,7 +50,7 @@ with_line w numbered =
     and_then (or_refused numbered (line_at w.turn numbered.1))
     (λ said. Ok (written numbered.1 w said))
 
--- what is written behind a text for the lines of a script
+-- what is written after a text for the lines of a script
 unfoldable pub written_behind : List ℕ → List (List ℕ) → Result (List ℕ) Refusal
 written_behind text lines =
     and_then (try_fold with_line (record { turn = 0; text = text }) (enumerate_from 1 lines))

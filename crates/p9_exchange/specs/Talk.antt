@@ -46,7 +46,7 @@ abbrev pub telling : (line session : ℕ) (words : List ℕ) → List ℕ
 telling line session words =
     (decimal line ++ (codes " -" ++ (decimal session ++ codes "-> "))) ++ words ++ 10 ∷ []
 
--- the exchange with a text behind it
+-- the exchange with a text after it
 abbrev pub behind : Talk → List ℕ → Talk
 behind talk text = record talk { text = talk.text ++ text }
 

@@ -67,7 +67,7 @@ fn exchange_of_lines<A: Allocator + Copy>(
     all_told(replies, talk)
 }
 
-// The exchange of the lines of an input: the script, and the replies behind their head.
+// The exchange of the lines of an input: the script, and the replies after their head.
 fn exchange_in<A: Allocator + Copy>(alloc: A, lines: &[&str]) -> Result<Vec<u8, A>, Stop>
     ensures { Makes (λ text. text.items) result
         (exchange_in (map (λ line. line.now) lines.now)) }

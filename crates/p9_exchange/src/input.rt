@@ -35,7 +35,7 @@ fn ends_empty(lines: &[&str]) -> bool
     }
 }
 
-/// The lines of a text. Behind a newline at its end there is none.
+/// The lines of a text. After a newline at its end there is none.
 #[tactic(auto, unfolding(crate::specs::Input::whole_lines))]
 pub fn whole_lines<A: Allocator + Copy>(alloc: A, text: &str) -> Result<Vec<&str, A>, AllocError>
     ensures { IfOk result (λ found. map (λ line. line.now) found.items ≡ whole_lines text.now) }
@@ -60,7 +60,7 @@ pub fn lines_before(head: &str, lines: &[&str]) -> usize
     lines.len()
 }
 
-/// The lines up to the first one that is this head, and those behind it.
+/// The lines up to the first one that is this head, and those after it.
 pub fn split_behind<'a, 'b>(head: &str, lines: &'a [&'b str]) -> (&'a [&'b str], &'a [&'b str])
     ensures front { result.0.now
         ≡ take (lines_before head.now (map (λ line. line.now) lines.now) + 1) lines.now }

@@ -29,7 +29,7 @@ pub enum Line<A: Allocator> {
 }
 
 impl<A: Allocator> Line<A> {
-    /// The tag whose turn comes behind the line, where this one's is the turn at it.
+    /// The tag whose turn comes after the line, where this one's is the turn at it.
     pub fn turn_behind(&self, turn: u16) -> u16
         ensures { result ≡ turn_behind (line_view self.now) turn }
     {

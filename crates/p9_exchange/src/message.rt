@@ -10,7 +10,7 @@ use p9_wire::{read_r, read_t};
 use p9_words::{print_paired, print_reply, print_request};
 use std::alloc::{AllocError, Allocator};
 
-/// Prints the message that bytes are in words, behind what `out` has. Bytes that are no message are
+/// Prints the message that bytes are in words, after what `out` has. Bytes that are no message are
 /// printed in hexadecimal digits.
 #[tactic(auto, unfolding(crate::specs::Message::message_words))]
 pub fn print_message<A: Allocator + Copy>(

@@ -26,14 +26,14 @@ impl fmt::Display for Awaited {
     }
 }
 
-/// Why nothing is written. Lines count from 1, behind the line that begins the section.
+/// Why nothing is written. Lines count from 1, after the line that begins the section.
 #[derive(Clone, Copy, Debug, PartialEq, Eq, Error)]
 pub enum Refusal {
     /// The input is no text.
     #[error("input: not UTF-8")]
     NotUtf8,
-    /// In this line of the script something else was expected behind its first `at` bytes.
-    #[error("script:{line}: {expected} expected behind byte {at}")]
+    /// In this line of the script something else was expected after its first `at` bytes.
+    #[error("script:{line}: {expected} expected after byte {at}")]
     BadLine {
         line: usize,
         at: usize,

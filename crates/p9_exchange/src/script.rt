@@ -99,7 +99,7 @@ fn copied<A: Allocator + Copy>(alloc: A, lines: &[&str]) -> Result<String<A>, No
     Ok(text)
 }
 
-// What is written behind a text for the lines of a script.
+// What is written after a text for the lines of a script.
 #[tactic(auto, unfolding(crate::specs::Script::written_behind))]
 fn written_behind<A: Allocator + Copy>(
     alloc: A,
@@ -130,7 +130,7 @@ fn script_of_lines<A: Allocator + Copy>(alloc: A, lines: &[&str]) -> Result<Stri
 /// The input with its script as `p9 play` reads it.
 ///
 /// The input is a bundle, whose script may be in words. The lines up to `%% script` are copied as
-/// they are. Behind it a line is `open S`, `close S NOW`, `msg S NOW HEX`, or `S NOW` and a message
+/// they are. After it a line is `open S`, `close S NOW`, `msg S NOW HEX`, or `S NOW` and a message
 /// in words, of which the tag and the msize may be left out; it is written as the line of the
 /// script that says the same. Blank lines and comments are copied. So each line of the output has
 /// the number of its line in the input.

@@ -76,7 +76,7 @@ fn bare_program<'a>(alloc: Global) -> Words<'a>
         .disable_help_subcommand(true)
 }
 
-// Adds the command of a name, behind which nothing may follow.
+// Adds the command of a name, after which nothing may follow.
 fn with_command<'a>(
     alloc: Global,
     program: Words<'a>,

@@ -44,7 +44,7 @@ front-number base n most rest small fits e =
     ended-number base n most (number_words base n ++ rest) rest
     (skip-none _ (number-starts base n rest small)) small fits e
 
--- behind a blank
+-- after a blank
 pub next-number : (base : Base) (n most : ℕ) (rest : List ℕ) → n < 2 ^ 64 → n ≤ most
     → ends rest ≡ true → number_at base most (32 ∷ (number_words base n ++ rest)) ≡ Ok (n, rest)
 next-number base n most rest small fits e =
@@ -98,7 +98,7 @@ data-law s text rest here bytes small e =
       eq-eqb (length s) (length s) refl,
     ) refl
 
--- an index and a colon behind a blank
+-- an index and a colon after a blank
 index-law : (i : ℕ) (rest : List ℕ) → i ≤ 16
     → index_at i (32 ∷ (number_words Decimal i ++ 58 ∷ rest)) ≡ Ok rest
 unfolding index_at
@@ -118,7 +118,7 @@ item-law : (item : Item) (i : ℕ) (text rest : List ℕ) → index_at i text �
 unfolding indexed_at
 item-law item i text rest read = rw read refl
 
--- one item, and those behind it
+-- one item, and those after it
 step : (item : Item) (bytes : List ℕ) (i n : ℕ) (text x rest : List ℕ)
     → indexed_at item i text ≡ Ok (x, rest)
     → items_from item bytes i (suc n) text ≡ items_from item (bytes ++ x) (i + 1) n rest

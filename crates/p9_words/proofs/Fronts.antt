@@ -7,7 +7,7 @@ use Rattle.std.proofs.lemmas.Bool.{and_parts, or_cases, eqb-true, not-true, not_
 use Rattle.std.proofs.lemmas.Bool.{false_from_ne_true}
 use Rattle.p9_words.specs.Class.{is_blank, skip_blanks}
 
--- what may be behind a word: nothing, or a blank or a parenthesis first
+-- what may be after a word: nothing, or a blank or a parenthesis first
 abbrev pub ends : List ℕ → Bool
 ends [] = true
 ends (c ∷ s) = eqb c 32 || eqb c 41
@@ -25,7 +25,7 @@ prefix_len-front p (x ∷ xs) rest all none =
     let a = and_parts (p x) (list_all p xs) all in
     rw (a.0, prefix_len-front p xs rest a.1 none) (omega arith)
 
--- a kind without a blank and a parenthesis has none behind a word
+-- a kind without a blank and a parenthesis has none after a word
 pub prefix_len-ends : (p : ℕ → Bool) (rest : List ℕ) → p 32 ≡ false → p 41 ≡ false
     → ends rest ≡ true → prefix_len p rest ≡ 0
 prefix_len-ends p [] blank closing e = refl

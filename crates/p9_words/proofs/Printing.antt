@@ -6,7 +6,7 @@ use Rattle.std.proofs.lemmas.Option.{get_or_from_slice_get, slice_get_within}
 use Rattle.p9_words.specs.Words.{items_words, number_words}
 use Rattle.p9_words.specs.declared.form.Base.TheVariants.{Decimal}
 
--- one item more is printed, and those behind it are still to be
+-- one item more is printed, and those after it are still to be
 pub one_more : (f : List ℕ → List ℕ) (items : List (List ℕ)) (i : ℕ) (item out mid new : List ℕ)
     → slice_get items i ≡ Some item
     → mid ≡ out ++ (codes " " ++ number_words Decimal i ++ codes ":") → new ≡ mid ++ f item

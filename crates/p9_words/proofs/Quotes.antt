@@ -21,7 +21,7 @@ use Rattle.p9_words.specs.declared.class.Class.TheVariants.{Bare, Unquoted}
 use Rattle.p9_words.proofs.Fronts.{ends, starts, prefix_len-front, prefix_len-ends, starts-front}
 use Rattle.p9_words.proofs.Fronts.{skip-none}
 
--- a quote may not be behind a word
+-- a quote may not be after a word
 no-quote : (c : ℕ) (rest : List ℕ) → ends (c ∷ rest) ≡ true → eqb c 39 ≡ false
 no-quote c rest e =
     ne_eqb c 39
@@ -100,7 +100,7 @@ pairs-law s rest bytes =
       decode_of-encode_lower s (each_below s bytes),
     ) refl
 
--- the same behind its mark
+-- the same after its mark
 pub paired-law : (s rest : List ℕ) → IsBytes s
     → where_behind (behind (codes "'") (paired s ++ rest)) (unquoted_from false [])
     (where_behind (behind (codes "x'") (paired s ++ rest)) pairs_at bare_at) (paired s ++ rest)
@@ -155,7 +155,7 @@ bare-law s rest all some e =
     let no : eqb (length s) 0 ≡ false = ne_eqb _ _ (λ q. omega arith) in
     rw (len, no, take_at s rest (length s) refl, drop_at s rest (length s) refl) refl
 
--- the same where it is looked for behind the marks
+-- the same where it is looked for after the marks
 bare_word-law : (s rest : List ℕ) → list_all is_bare s ≡ true → 0 < length s → ends rest ≡ true
     → where_behind (behind (codes "'") (s ++ rest)) (unquoted_from false [])
     (where_behind (behind (codes "x'") (s ++ rest)) pairs_at bare_at) (s ++ rest)
@@ -204,7 +204,7 @@ name-starts s rest =
     let w = word-some s is in rw is (starts-front is_bare s rest refl refl w.1 w.0))
     (λ (is : is_word s ≡ false). rw is (shown-starts s rest)) (cases_Bool (is_word s))
 
--- a bare word, behind blanks
+-- a bare word, after blanks
 word-bare : (s text rest : List ℕ) → skip_blanks text ≡ s ++ rest → list_all is_bare s ≡ true
     → 0 < length s → ends rest ≡ true → word_at text ≡ Ok (s, rest)
 unfolding word_at

@@ -6,7 +6,7 @@ use Rattle.p9_wire.specs.Message.{StatFields}
 use Rattle.p9_wire.proofs.Lengths.{length-stat_bytes, length-stat_fields}
 use Rattle.p9_words.specs.Stat.{stat_numbers, stat_texts}
 
--- four parts, one put behind the other
+-- four parts, one put after the other
 pub four : (o p q r s a b c d : List ℕ) → p ≡ o ++ a → q ≡ p ++ b → r ≡ q ++ c → s ≡ r ++ d
     → s ≡ o ++ (a ++ (b ++ (c ++ d)))
 four o p q r s a b c d e f g h = h ∙ rw (g, f, e) (simp append_assoc)
@@ -15,7 +15,7 @@ four o p q r s a b c d e f g h = h ∙ rw (g, f, e) (simp append_assoc)
 fields-parts : (s : StatFields) → stat_fields s ≡ stat_numbers s ++ stat_texts s
 fields-parts s = simp append_assoc
 
--- a stat behind its length, part by part
+-- a stat after its length, part by part
 pub sized-parts : (s : StatFields) (size : ℕ) → size ≡ stat_len s
     → sized stat_bytes s ≡ number 2 size ++ (number 2 (size - 2) ++ (stat_numbers s ++
     stat_texts s))

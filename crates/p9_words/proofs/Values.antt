@@ -1,4 +1,4 @@
--- The value of a field that is printed is read back, and so is a field behind its word.
+-- The value of a field that is printed is read back, and so is a field after its word.
 use Rattle.std.proofs.Common.{◌≡◌, ℕ, ◌-◌, ◌<◌, ◌≤◌, ◌^◌, true, List}
 use Rattle.std.proofs.Common.{[], ◌∷◌, ◌++◌, length, map, Ok, refl, sym, ap, ◌∙◌, append_assoc}
 use Rattle.std.proofs.Common.{arith}
@@ -82,7 +82,7 @@ pub key-law : (key : Key) (words rest : List ℕ)
     → key_at key (keyed key words ++ rest) ≡ Ok (32 ∷ (words ++ rest))
 key-law key words rest = ap (key_at key) (keyed-parts key words rest) ∙ key-at key (words ++ rest)
 
--- a number behind its word
+-- a number after its word
 keyed_number-law : (key : Key) (n most : ℕ) (rest : List ℕ) → n < 2 ^ 64 → n ≤ most
     → ends rest ≡ true
     → keyed_at key Decimal most (keyed key (number_words Decimal n) ++ rest) ≡ Ok (n, rest)
@@ -99,7 +99,7 @@ next-octal n most rest small fits e =
     small
     (prefix_len-ends (is_in (Digit Octal)) rest refl refl e) fits
 
--- permissions and flags behind their word
+-- permissions and flags after their word
 keyed_octal-law : (key : Key) (n most : ℕ) (rest : List ℕ) → n < 2 ^ 64 → n ≤ most
     → ends rest ≡ true → keyed_at key Octal most (keyed key (octal_words n) ++ rest) ≡ Ok (n, rest)
 unfolding keyed_at
@@ -185,7 +185,7 @@ stat-bytes s bytes =
       muid = IsBytes-back (number 2 (length s.muid)) s.muid (IsBytes-back f3 (text s.muid) b2);
     }
 
--- a text behind a blank
+-- a text after a blank
 next-text : (s rest : List ℕ) → IsBytes s → ends rest ≡ true → FitsText s
     → text_at (32 ∷ (shown s ++ rest)) ≡ Ok (s, rest)
 next-text s rest bytes e fits =
@@ -389,7 +389,7 @@ fields_bytes fields = flat_map (λ f. value_bytes f.1) fields
 abbrev pub FieldsFit : List (Key × Value) → Type 0
 FieldsFit fields = AllByRecursion (λ f. Fits f.1) fields
 
--- one field, and those behind it
+-- one field, and those after it
 fields-step : (field : Key × Form) (bytes : List ℕ) (fields : List (Key × Form))
     (text x rest : List ℕ) → field_at field text ≡ Ok (x, rest)
     → fields_from bytes (field ∷ fields) text ≡ fields_from (bytes ++ x) fields rest

@@ -29,6 +29,6 @@ is_in Bare b = is_bare b
 is_in Unquoted b = not (b == 39)
 is_in Shown b = is_shown b
 
--- the text behind the blanks at its front
+-- the text after the blanks at its front
 unfoldable pub skip_blanks : List ℕ → List ℕ
 skip_blanks text = drop (prefix_len is_blank text) text

@@ -36,12 +36,12 @@ abbrev pub or_read : Option (List ℕ) → Key × Form → Reader (List ℕ)
 or_read None field text = field_at field text
 or_read (Some bytes) field text = Ok (bytes, text)
 
--- a field behind its word, or what stands for it where the word is not the next
+-- a field after its word, or what stands for it where the word is not the next
 unfoldable pub given_at : ℕ → Key × Form → Reader (List ℕ)
 given_at tag field text =
     if is_next field.0 text then field_at field text else or_read (omitted tag field.0) field text
 
--- the bytes of one field after the other, behind those before them
+-- the bytes of one field after the other, after those before them
 abbrev pub given_from : (tag : ℕ) (bytes : List ℕ) → List (Key × Form) → Reader (List ℕ)
 given_from tag bytes [] text = Ok (bytes, text)
 given_from tag bytes (field ∷ fields) text =

@@ -1,4 +1,4 @@
--- Words read from left to right: a word is a value and the text behind it, or the fault of the
+-- Words read from left to right: a word is a value and the text after it, or the fault of the
 -- place where it was expected.
 use Rattle.std.specs.Prelude.{◌≡◌, ℕ, zero, suc, ◌+◌, ◌-◌, ◌^◌, ◌==◌, ◌&&◌, ◌||◌, Bool, true, false}
 use Rattle.std.specs.Prelude.{List, [], ◌∷◌, ◌++◌, length, take, drop, codes, nat_lt}
@@ -68,7 +68,7 @@ unfoldable pub behind : (mark text : List ℕ) → Option (List ℕ)
 behind mark text =
     if bytes_eq (take (length mark) text) mark then Some (drop (length mark) text) else None
 
--- a mark, behind blanks
+-- a mark, after blanks
 unfoldable pub mark_at : (mark : List ℕ) → Expected → (text : List ℕ) → Result (List ℕ) Fault
 mark_at mark expected text =
     let here = skip_blanks text in found (behind mark here) expected here Ok
@@ -81,7 +81,7 @@ first_word text = take (prefix_len (is_in class.Filled) text) text
 abbrev pub behind_word : List ℕ → List ℕ
 behind_word text = drop (prefix_len (is_in class.Filled) text) text
 
--- a word that is before a field, behind blanks
+-- a word that is before a field, after blanks
 unfoldable pub key_at : Key → List ℕ → Result (List ℕ) Fault
 key_at key text =
     let here = skip_blanks text in
@@ -102,13 +102,13 @@ digits_at base most n text =
     if n == 0 || nat_lt most value then missing (expected.Number base most) text
     else Ok (value, drop n text)
 
--- a number in digits of a base, at most so great, behind blanks
+-- a number in digits of a base, at most so great, after blanks
 unfoldable pub number_at : Base → ℕ → Reader ℕ
 number_at base most text =
     let here = skip_blanks text in
     digits_at base most (prefix_len (is_in (class.Digit base)) here) here
 
--- the bytes behind a quote, up to the quote that ends them, where two quotes stand for one; and
+-- the bytes after a quote, up to the quote that ends them, where two quotes stand for one; and
 -- whether a quote was just read
 abbrev pub unquoted_from : Bool → (bytes : List ℕ) → Reader (List ℕ)
 unquoted_from true bytes [] = Ok (bytes, [])
@@ -137,7 +137,7 @@ abbrev pub where_behind : {A : Type 0} → Option (List ℕ) → Reader A → Re
 where_behind None there here text = here text
 where_behind (Some rest) there here text = there rest
 
--- bytes in quotes, in hexadecimal digits or as a bare word, behind blanks
+-- bytes in quotes, in hexadecimal digits or as a bare word, after blanks
 unfoldable pub word_at : Reader (List ℕ)
 word_at text =
     let here = skip_blanks text in
@@ -183,11 +183,11 @@ unfoldable pub item_at : Item → Reader (List ℕ)
 item_at item.Name rest = text_at rest >>= λ s. Ok (text s.0, s.1)
 item_at item.Qid rest = qid_at rest >>= λ q. Ok (qid_bytes q.0, q.1)
 
--- the same behind its index
+-- the same after its index
 unfoldable pub indexed_at : Item → ℕ → Reader (List ℕ)
 indexed_at item i text = index_at i text >>= λ rest. item_at item rest
 
--- the bytes of so many, from an index on, behind those before them
+-- the bytes of so many, from an index on, after those before them
 abbrev pub items_from : Item → (bytes : List ℕ) (index count : ℕ) → Reader (List ℕ)
 items_from item bytes i zero text = Ok (bytes, text)
 items_from item bytes i (suc n) text =
@@ -198,7 +198,7 @@ unfoldable pub several_at : Item → Reader (List ℕ)
 several_at item text =
     number_at Decimal 16 text >>= λ n. items_from item (number 2 n.0) 0 n.0 n.1
 
--- a number behind its word
+-- a number after its word
 unfoldable pub keyed_at : Key → Base → ℕ → Reader ℕ
 keyed_at key base most text = key_at key text >>= λ rest. number_at base most rest
 
@@ -254,11 +254,11 @@ value_at form.Names rest = several_at item.Name rest
 value_at form.Qids rest = several_at item.Qid rest
 value_at form.Stat rest = stat_at rest
 
--- a word and the field behind it
+-- a word and the field after it
 unfoldable pub field_at : Key × Form → Reader (List ℕ)
 field_at field text = key_at field.0 text >>= λ rest. value_at field.1 rest
 
--- the bytes of one field after the other, behind those before them
+-- the bytes of one field after the other, after those before them
 abbrev pub fields_from : (bytes : List ℕ) → List (Key × Form) → Reader (List ℕ)
 fields_from bytes [] text = Ok (bytes, text)
 fields_from bytes (field ∷ fields) text =
@@ -268,7 +268,7 @@ fields_from bytes (field ∷ fields) text =
 abbrev pub tag_field : Key × Form
 tag_field = (key.Tag, form.Number U16)
 
--- the frame of a message of this type, of which these are the bytes behind the type
+-- the frame of a message of this type, of which these are the bytes after the type
 abbrev pub framed : (kind : ℕ) (bytes : List ℕ) → List ℕ
 framed kind bytes = number 4 (5 + length bytes) ++ (number 1 kind ++ bytes)
 

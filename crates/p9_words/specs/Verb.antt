@@ -1,4 +1,4 @@
--- The words that begin a line, with the fields that are behind each.
+-- The words that begin a line, with the fields that are after each.
 use Rattle.std.specs.Prelude.{ℕ, List, [], ◌∷◌, codes}
 use Rattle.p9_words.specs.declared.form.Form.{Form}
 use Rattle.p9_words.specs.declared.form.Form.TheVariants as form

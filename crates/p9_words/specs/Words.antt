@@ -38,7 +38,7 @@ pub data Value : Type 0 where
 abbrev pub number_words : Base → ℕ → List ℕ
 number_words base n = digits (radix_of base) false n
 
--- permissions and flags, in octal digits behind a 0
+-- permissions and flags, in octal digits after a 0
 abbrev pub octal_words : ℕ → List ℕ
 octal_words n = codes "0" ++ number_words Octal n
 
@@ -80,7 +80,7 @@ qid_words q =
 abbrev pub item_words : {A : Type 0} → (A → List ℕ) → ℕ → A → List ℕ
 item_words f i x = codes " " ++ number_words Decimal i ++ codes ":" ++ f x
 
--- each behind its index
+-- each after its index
 abbrev pub items_words : {A : Type 0} → (A → List ℕ) → ℕ → List A → List ℕ
 items_words f i [] = []
 items_words f i (x ∷ xs) = item_words f i x ++ items_words f (i + 1) xs
@@ -99,7 +99,7 @@ stat_texts_words s =
     shown s.name ++ codes " " ++ shown s.uid ++ codes " " ++ shown s.gid ++ codes " "
     ++ shown s.muid
 
--- and its numbers, each behind its word
+-- and its numbers, each after its word
 abbrev pub stat_numbers_words : StatFields → List ℕ
 stat_numbers_words s =
     keyed key.StatQid (qid_words s.qid) ++ keyed key.StatMode (octal_words s.mode)
@@ -124,7 +124,7 @@ value_words (NamesOf names) = several_words name_words names
 value_words (QidsOf qids) = several_words qid_words qids
 value_words (StatOf s) = stat_words s
 
--- a field behind its word
+-- a field after its word
 abbrev pub field_words : Key × Value → List ℕ
 field_words field = keyed field.0 (value_words field.1)
 

@@ -1,4 +1,4 @@
-//! Fields put behind the bytes of a frame. Where an allocation fails, a part of a field may be
+//! Fields put after the bytes of a frame. Where an allocation fails, a part of a field may be
 //! there.
 
 ghost use Rattle.std.specs.Prelude.{◌≡◌, ◌≤◌, ◌<◌, ◌-◌, ◌^◌, ◌++◌, OnOk, length};
@@ -43,7 +43,7 @@ pub fn put_number<A: Allocator + Copy>(
     Ok(())
 }
 
-/// A text behind two bytes of its length.
+/// A text after two bytes of its length.
 pub fn put_text<A: Allocator + Copy>(s: &[u8], out: &mut Vec<u8, A>) -> Result<(), NoMemory>
     requires { length s.now < 2 ^ 16 }
     ensures { OnOk result (out.new.items ≡ out.old.items ++ text s.now) }
@@ -62,7 +62,7 @@ pub fn put_qid<A: Allocator + Copy>(qid: Qid, out: &mut Vec<u8, A>) -> Result<()
     put_number(Width::U64, qid.path, out)
 }
 
-/// Data behind four bytes of its count.
+/// Data after four bytes of its count.
 pub fn put_counted<A: Allocator + Copy>(data: &[u8], out: &mut Vec<u8, A>) -> Result<(), NoMemory>
     requires { length «data».now < 2 ^ 32 }
     ensures { OnOk result (out.new.items ≡ out.old.items ++ counted «data».now) }

@@ -54,7 +54,7 @@ pub fn prefix_len(class: Class, text: &[u8]) -> usize
     text.len()
 }
 
-/// The text behind the blanks at its front.
+/// The text after the blanks at its front.
 #[tactic(auto, unfolding(crate::specs::Class::skip_blanks))]
 pub fn skip_blanks(text: &[u8]) -> &[u8]
     ensures { result.now ≡ skip_blanks text.now }

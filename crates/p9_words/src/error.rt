@@ -33,7 +33,7 @@ pub enum Expected {
     Close,
     /// This index.
     Index(u64),
-    /// A colon behind an index.
+    /// A colon after an index.
     Colon,
     /// A stat of at most 65,535 bytes.
     ShortStat,
@@ -77,8 +77,8 @@ impl fmt::Display for Expected {
 /// Why a line of words is no message.
 #[derive(Clone, Copy, Debug, PartialEq, Eq, Error)]
 pub enum WordsError {
-    /// Something else was expected behind the first `at` bytes of the line.
-    #[error("{expected} expected behind byte {at}")]
+    /// Something else was expected after the first `at` bytes of the line.
+    #[error("{expected} expected after byte {at}")]
     Unexpected { at: usize, expected: Expected },
     /// An allocation failed.
     #[error("out of memory")]

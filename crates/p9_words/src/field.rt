@@ -82,7 +82,7 @@ pub fn number_bytes<A: Allocator + Copy>(
     Ok(bytes)
 }
 
-// The bytes of data, behind their count.
+// The bytes of data, after their count.
 fn counted_bytes<A: Allocator + Copy>(alloc: A, data: &[u8]) -> Result<Vec<u8, A>, NoMemory>
     requires { length «data».now < 2 ^ 32 }
     ensures { IfOk result (λ v. v.items ≡ counted «data».now) }
@@ -113,7 +113,7 @@ fn take_item<A: Allocator + Copy>(
     }
 }
 
-// The same behind its index.
+// The same after its index.
 #[tactic(auto, unfolding(crate::specs::Reading::indexed_at))]
 fn take_indexed<A: Allocator + Copy>(
     alloc: A,
@@ -127,7 +127,7 @@ fn take_indexed<A: Allocator + Copy>(
     take_item(alloc, item, rest)
 }
 
-// The bytes of so many, behind those before them.
+// The bytes of so many, after those before them.
 fn take_items<A: Allocator + Copy>(
     item: Item,
     mut bytes: Vec<u8, A>,
@@ -191,7 +191,7 @@ fn take_value<A: Allocator + Copy>(
     }
 }
 
-/// A word and the bytes of the field behind it.
+/// A word and the bytes of the field after it.
 #[tactic(auto, unfolding(crate::specs::Reading::field_at))]
 pub fn take_field<A: Allocator + Copy>(
     alloc: A,
@@ -204,7 +204,7 @@ pub fn take_field<A: Allocator + Copy>(
     take_value(alloc, field.1, rest)
 }
 
-/// The bytes of one field after the other, behind those before them.
+/// The bytes of one field after the other, after those before them.
 pub fn take_fields<'a, A: Allocator + Copy>(
     mut bytes: Vec<u8, A>,
     fields: &[(Key, Form)],

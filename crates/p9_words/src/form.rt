@@ -69,9 +69,9 @@ pub enum Form {
     Data,
     /// A qid: `(PATH VERS TYPE)`.
     Qid,
-    /// A number of names, and each name behind its index and a colon.
+    /// A number of names, and each name after its index and a colon.
     Names,
-    /// A number of qids, and each qid behind its index and a colon.
+    /// A number of qids, and each qid after its index and a colon.
     Qids,
     /// A stat, as dirread(2) prints it.
     Stat,

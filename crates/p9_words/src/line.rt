@@ -17,7 +17,7 @@ use p9_base::NoMemory;
 use std::alloc::Allocator;
 
 /// The frame of the message that a line says, in the words that [`crate::print_request`] and
-/// [`crate::print_reply`] print. Any number of blanks and tabs may be before and behind a word.
+/// [`crate::print_reply`] print. Any number of blanks and tabs may be before and after a word.
 /// docs/WORDS.md has the grammar.
 ///
 /// [`WordsError::Unexpected`] tells the first place where something else was expected, and
@@ -68,7 +68,7 @@ pub fn finish<A: Allocator + Copy>(
     Ok(frame(alloc, verb.kind(), bytes)?)
 }
 
-// The frame of a message of this type, of which these are the bytes behind the type.
+// The frame of a message of this type, of which these are the bytes after the type.
 fn frame<A: Allocator + Copy>(alloc: A, kind: u8, bytes: &[u8]) -> Result<Vec<u8, A>, NoMemory>
     requires { 5 + length bytes.now < 2 ^ 32 }
     ensures { IfOk result (λ frame. frame.items ≡ framed kind bytes.now) }

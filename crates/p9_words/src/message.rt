@@ -14,7 +14,7 @@ use p9_base::NoMemory;
 use p9_wire::{RMsg, TMsg};
 use std::alloc::Allocator;
 
-/// Prints a request with its tag behind what `out` has, in one line of words without a newline, as
+/// Prints a request with its tag after what `out` has, in one line of words without a newline, as
 /// fcall(2) does. docs/WORDS.md has the grammar. If an allocation fails, `out` is unchanged.
 pub fn print_request<A: Allocator + Copy>(
     message: &TMsg<'_>,
@@ -30,7 +30,7 @@ pub fn print_request<A: Allocator + Copy>(
     Ok(())
 }
 
-/// Prints a reply with its tag behind what `out` has, as [`print_request`] does a request.
+/// Prints a reply with its tag after what `out` has, as [`print_request`] does a request.
 pub fn print_reply<A: Allocator + Copy>(
     message: &RMsg<'_>,
     tag: u16,
@@ -45,7 +45,7 @@ pub fn print_reply<A: Allocator + Copy>(
     Ok(())
 }
 
-// A field behind its word.
+// A field after its word.
 fn print_field<A: Allocator + Copy>(
     key: Key,
     value: &Value<'_>,

@@ -92,7 +92,7 @@ fn take_given<A: Allocator + Copy>(
     }
 }
 
-// The bytes of one field after the other, behind those before them.
+// The bytes of one field after the other, after those before them.
 fn take_all_given<'a, A: Allocator + Copy>(
     mut bytes: Vec<u8, A>,
     tag: u16,

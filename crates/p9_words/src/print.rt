@@ -1,4 +1,4 @@
-//! Values in words, printed behind what is there. Where an allocation fails, a part of a word may
+//! Values in words, printed after what is there. Where an allocation fails, a part of a word may
 //! be there.
 
 ghost use Rattle.std.specs.Prelude.{◌≡◌, ◌==◌, ◌&&◌, ◌++◌, OnOk, codes, length, not};
@@ -22,7 +22,7 @@ use p9_wire::{Names, Qids, Stat};
 use std::alloc::Allocator;
 use std::str::from_utf8;
 
-/// Prints bytes as they are behind what `out` has.
+/// Prints bytes as they are after what `out` has.
 pub fn print<A: Allocator + Copy>(word: &[u8], out: &mut Vec<u8, A>) -> Result<(), NoMemory>
     ensures { OnOk result (out.new.items ≡ out.old.items ++ word.now) }
 {
@@ -89,7 +89,7 @@ fn print_byte<A: Allocator + Copy>(byte: u8, out: &mut Vec<u8, A>) -> Result<(),
     Ok(())
 }
 
-/// Prints bytes as pairs of hexadecimal digits in quotes behind an `x`.
+/// Prints bytes as pairs of hexadecimal digits in quotes after an `x`.
 pub fn print_paired<A: Allocator + Copy>(bytes: &[u8], out: &mut Vec<u8, A>) -> Result<(), NoMemory>
     ensures { OnOk result (out.new.items ≡ out.old.items ++ paired bytes.now) }
 {
@@ -153,7 +153,7 @@ pub fn print_qid<A: Allocator + Copy>(qid: Qid, out: &mut Vec<u8, A>) -> Result<
     print(b")", out)
 }
 
-// An index and a colon, behind a blank.
+// An index and a colon, after a blank.
 fn print_index<A: Allocator + Copy>(index: usize, out: &mut Vec<u8, A>) -> Result<(), NoMemory>
     ensures { OnOk result
         (out.new.items ≡ out.old.items ++ (codes " " ++ number_words Decimal index ++ codes ":")) }
@@ -163,7 +163,7 @@ fn print_index<A: Allocator + Copy>(index: usize, out: &mut Vec<u8, A>) -> Resul
     print(b":", out)
 }
 
-// Names, each behind its index.
+// Names, each after its index.
 fn print_indexed_names<A: Allocator + Copy>(
     names: &Names<'_>,
     out: &mut Vec<u8, A>,
@@ -178,7 +178,7 @@ fn print_indexed_names<A: Allocator + Copy>(
     Ok(())
 }
 
-// Qids, each behind its index.
+// Qids, each after its index.
 fn print_indexed_qids<A: Allocator + Copy>(
     qids: &[Qid],
     out: &mut Vec<u8, A>,
@@ -192,7 +192,7 @@ fn print_indexed_qids<A: Allocator + Copy>(
     Ok(())
 }
 
-/// A number of names, and each name behind its index.
+/// A number of names, and each name after its index.
 pub fn print_names<A: Allocator + Copy>(
     names: &Names<'_>,
     out: &mut Vec<u8, A>,
@@ -204,7 +204,7 @@ pub fn print_names<A: Allocator + Copy>(
     print_indexed_names(names, out)
 }
 
-/// A number of qids, and each qid behind its index.
+/// A number of qids, and each qid after its index.
 pub fn print_qids<A: Allocator + Copy>(qids: &Qids, out: &mut Vec<u8, A>) -> Result<(), NoMemory>
     ensures { OnOk result (out.new.items ≡ out.old.items ++ several_words qid_words qids.now) }
 {
@@ -213,7 +213,7 @@ pub fn print_qids<A: Allocator + Copy>(qids: &Qids, out: &mut Vec<u8, A>) -> Res
     print_indexed_qids(items, out)
 }
 
-/// A word and a blank behind a blank, before a field.
+/// A word and a blank after a blank, before a field.
 pub fn print_key<A: Allocator + Copy>(key: Key, out: &mut Vec<u8, A>) -> Result<(), NoMemory>
     ensures { OnOk result
         (out.new.items ≡ out.old.items ++ (codes " " ++ key_text key ++ codes " ")) }
@@ -223,7 +223,7 @@ pub fn print_key<A: Allocator + Copy>(key: Key, out: &mut Vec<u8, A>) -> Result<
     print(b" ", out)
 }
 
-/// Permissions and flags, in octal digits behind a 0.
+/// Permissions and flags, in octal digits after a 0.
 pub fn print_octal<A: Allocator + Copy>(n: u32, out: &mut Vec<u8, A>) -> Result<(), NoMemory>
     ensures { OnOk result (out.new.items ≡ out.old.items ++ octal_words n) }
 {
@@ -231,7 +231,7 @@ pub fn print_octal<A: Allocator + Copy>(n: u32, out: &mut Vec<u8, A>) -> Result<
     print_number(Base::Octal, u64::from(n), out)
 }
 
-// A number behind its word.
+// A number after its word.
 fn print_keyed<A: Allocator + Copy>(key: Key, n: u64, out: &mut Vec<u8, A>) -> Result<(), NoMemory>
     ensures { OnOk result (out.new.items ≡ out.old.items ++ keyed key (number_words Decimal n)) }
 {
@@ -239,7 +239,7 @@ fn print_keyed<A: Allocator + Copy>(key: Key, n: u64, out: &mut Vec<u8, A>) -> R
     print_number(Base::Decimal, n, out)
 }
 
-// A qid behind its word.
+// A qid after its word.
 fn print_keyed_qid<A: Allocator + Copy>(
     key: Key,
     qid: Qid,
@@ -251,7 +251,7 @@ fn print_keyed_qid<A: Allocator + Copy>(
     print_qid(qid, out)
 }
 
-// Permissions and flags behind their word.
+// Permissions and flags after their word.
 fn print_keyed_octal<A: Allocator + Copy>(
     key: Key,
     n: u32,
@@ -280,7 +280,7 @@ fn print_stat_texts<A: Allocator + Copy>(
     print_shown(stat.muid.as_bytes(), out)
 }
 
-// The numbers of a stat, each behind its word.
+// The numbers of a stat, each after its word.
 fn print_stat_numbers<A: Allocator + Copy>(
     stat: &Stat<'_>,
     out: &mut Vec<u8, A>,

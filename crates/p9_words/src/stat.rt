@@ -33,7 +33,7 @@ struct Parts<A: Allocator + Copy> {
     muid: Vec<u8, A>,
 }
 
-// A number behind its word.
+// A number after its word.
 #[tactic(auto, unfolding(crate::specs::Reading::keyed_at))]
 fn take_keyed(key: Key, base: Base, most: u64, text: &[u8]) -> Result<(u64, &[u8]), ReadError>
     ensures value { Gives (λ x. (x.0, x.1.now)) result (keyed_at key base most text.now) }
@@ -92,7 +92,7 @@ fn size_of<A: Allocator + Copy>(parts: &Parts<A>) -> Option<u64>
     }
 }
 
-// The bytes of the stat, behind their length.
+// The bytes of the stat, after their length.
 fn put_stat<A: Allocator + Copy>(
     parts: &Parts<A>,
     size: u64,
@@ -134,7 +134,7 @@ fn put_texts<A: Allocator + Copy>(parts: &Parts<A>, out: &mut Vec<u8, A>) -> Res
     put_text(parts.muid.as_slice(), out)
 }
 
-/// The bytes of a stat whose length two bytes hold, behind that length.
+/// The bytes of a stat whose length two bytes hold, after that length.
 #[tactic(auto, unfolding(crate::specs::Reading::stat_at))]
 pub fn take_stat<A: Allocator + Copy>(
     alloc: A,

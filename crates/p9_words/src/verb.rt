@@ -1,4 +1,4 @@
-//! The words that begin a line, with the fields that are behind each.
+//! The words that begin a line, with the fields that are after each.
 
 ghost use Rattle.std.specs.Prelude.{◌≡◌, codes};
 ghost use Rattle.p9_words.specs.Verb.{fields_of, type_of, verb_text};
@@ -144,7 +144,7 @@ impl Verb {
         }
     }
 
-    /// The message's fields behind its tag, in order: the word before each, and what it holds.
+    /// The message's fields after its tag, in order: the word before each, and what it holds.
     pub fn fields(self) -> &'static [(Key, Form)]
         ensures { result.now ≡ fields_of self }
     {

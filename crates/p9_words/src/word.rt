@@ -1,5 +1,5 @@
 //! Words at the front of a text: marks, numbers and bytes. Each function returns the value and the
-//! text behind it.
+//! text after it.
 
 ghost use Rattle.std.specs.Prelude.{◌≡◌, ◌+◌, ◌*◌, ◌<◌, ◌≤◌, ◌^◌, [], IfOk, false, length, take};
 ghost use Rattle.std.specs.Char.{digit_value};
@@ -32,7 +32,7 @@ pub fn behind<'a>(mark: &[u8], text: &'a [u8]) -> Option<&'a [u8]>
     text.strip_prefix(mark)
 }
 
-/// The text behind a mark.
+/// The text after a mark.
 #[tactic(auto, unfolding(crate::specs::Reading::mark_at))]
 pub fn take_mark<'a>(mark: &[u8], expected: Expected, text: &'a [u8]) -> Result<&'a [u8], ReadError>
     ensures { Gives (λ x. x.now) result (mark_at mark.now expected text.now) }
@@ -44,7 +44,7 @@ pub fn take_mark<'a>(mark: &[u8], expected: Expected, text: &'a [u8]) -> Result<
     }
 }
 
-/// The text behind the word of a field.
+/// The text after the word of a field.
 #[tactic(auto, unfolding(crate::specs::Reading::key_at))]
 pub fn take_key(key: Key, text: &[u8]) -> Result<&[u8], ReadError>
     ensures { Gives (λ x. x.now) result (key_at key text.now) }
@@ -138,7 +138,7 @@ fn with_digit(radix: u32, value: u64, digit: u8) -> Option<u64>
     }
 }
 
-/// The bytes behind a quote, and the text behind the quote that ends them.
+/// The bytes after a quote, and the text after the quote that ends them.
 pub fn take_quoted<A: Allocator + Copy>(
     alloc: A,
     text: &[u8],

@@ -153,7 +153,7 @@ fn an_error_says_what_was_expected(rt: HostRuntime) -> Result<(), Fail> {
     ] {
         let error = WordsError::Unexpected { at: 13, expected };
         let shown = format!(in rt.alloc(); "{error}")?;
-        let wanted = format!(in rt.alloc(); "{text} expected behind byte 13")?;
+        let wanted = format!(in rt.alloc(); "{text} expected after byte 13")?;
         assert_eq!(rt; shown.as_str(), wanted.as_str());
     }
     let shown = format!(in rt.alloc(); "{}", WordsError::NoMemory)?;

@@ -99,7 +99,7 @@ fn a_refusal_is_one_line(rt: HostRuntime) -> Result<(), Fail> {
                 at,
                 expected: Expected::Key(Key::Fid),
             },
-            "script:3: 'fid' expected behind byte 11",
+            "script:3: 'fid' expected after byte 11",
         ),
         (
             Refusal::BadLine {
@@ -107,7 +107,7 @@ fn a_refusal_is_one_line(rt: HostRuntime) -> Result<(), Fail> {
                 at: 0,
                 expected: Expected::Event,
             },
-            "script:3: 'open', 'close', 'msg' or the number of a session expected behind byte 0",
+            "script:3: 'open', 'close', 'msg' or the number of a session expected after byte 0",
         ),
         (
             Refusal::BadReply {

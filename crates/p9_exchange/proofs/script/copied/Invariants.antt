@@ -4,7 +4,7 @@ use Rattle.std.specs.String.{string_bytes}
 use Rattle.p9_exchange.specs.Script.{ended}
 use Rattle.p9_exchange.proofs.script.copied.Given as goal
 
--- the text so far, with the lines that are left behind it, has all lines
+-- the text so far, with the lines that are left after it, has all lines
 abbrev pub invariant-loop-line : goal.invariant-loop-line
 invariant-loop-line g l =
     string_bytes l.text
