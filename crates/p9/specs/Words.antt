@@ -12,7 +12,7 @@ use Rattle.clap.specs.declared.builder.action.ArgAction.TheVariants.{Set}
 use Rattle.clap.specs.declared.builder.command.Command.{Command as Subcommand}
 use Rattle.clap.specs.declared.builder.command.Command.TheViews.{out-Command}
 use Rattle.p9_base.specs.Decimal.{number_of}
-use Rattle.p9_commands.specs.Command.{command_of}
+use Rattle.p9_commands.specs.Word.{command_of}
 use Rattle.p9.specs.declared.words.Asked.{Asked}
 use Rattle.p9.specs.declared.words.Asked.TheVariants.{Command, Serve}
 

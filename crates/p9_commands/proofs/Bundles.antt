@@ -25,7 +25,7 @@ module _ (items : List (Bor (List ℕ))) (lines : List (List ℕ))
   numbered_same : map numbered_line (enumerate_from 1 items) ≡ enumerate_from 1 lines
   numbered_same = map-enumerate_from 1 items ∙ ap (enumerate_from 1) same
 
-  -- the line at a position has the number behind it
+  -- the line at a position has the number after it
   numbered_at : (d : Bor (List ℕ)) → i < length items
       → (i + 1, get_or items i d) ≡ get_or (enumerate_from 1 items) i (0, d)
   numbered_at d l =

@@ -7,7 +7,8 @@ mod Prints
 mod Paths
 mod NameSpaces
 mod Machines
-mod Tasks
 mod Judgements
+mod Ends
+mod Preparing
 mod Offers
 mod Alikes

@@ -52,7 +52,7 @@ map-reverse f (x ∷ xs) =
     ap (map f) (reverse-append (x ∷ []) xs) ∙ map-append f (reverse xs) (x ∷ [])
     ∙ ap (λ ys. ys ++ f x ∷ []) (map-reverse f xs) ∙ sym (reverse-append (f x ∷ []) (map f xs))
 
--- names that are printed each behind a slash
+-- names that are printed each after a slash
 flat_map-now : (names : List (Bor (List ℕ)))
     → flat_map (λ n. codes "/" ++ n.now) names
     ≡ flat_map (λ n. codes "/" ++ n) (map (λ n. n.now) names)

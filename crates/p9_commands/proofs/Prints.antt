@@ -27,7 +27,7 @@ module _ {X : Type 0} (text : X → List ℕ) (items : List X) (before : List �
   printed-all l kept =
       sym (append-nil out) ∙ ap (λ xs. out ++ flat_map text xs) (sym (drop_all i items l)) ∙ kept
 
--- the thing at a place, and those behind it
+-- the thing at a place, and those after it
 at-place : {X : Type 0} (text : X → List ℕ) (items : List X) (i : ℕ) (x : X)
     → slice_get items i ≡ Some x
     → flat_map text (drop i items) ≡ text x ++ flat_map text (drop (suc i) items)

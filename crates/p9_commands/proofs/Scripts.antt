@@ -8,7 +8,7 @@ use Rattle.p9_commands.specs.Script.{IsScriptFault, event_of, with_event, with_s
 use Rattle.p9_commands.specs.declared.script.ScriptError.{ScriptError}
 use Rattle.p9_commands.specs.declared.script.ScriptError.TheVariants.{BadScript, NoMemory}
 
--- a line that is bad by itself is bad behind any events
+-- a line that is bad by itself is bad after any events
 bad_behind : (events : List Event) (line n : ℕ) (event : Option Event)
     → with_event [] line event ≡ Err n → with_event events line event ≡ Err n
 bad_behind events line n None bad = bad

@@ -8,7 +8,8 @@ pub mod Report
 pub mod Path
 pub mod Listing
 pub mod Judgement
-pub mod Task
+pub mod Prepared
+pub mod Word
 pub mod Command
 pub mod Offer
 pub mod Laws

@@ -11,7 +11,7 @@ use Rattle.p9_commands.specs.Path.{node_path}
 abbrev pub first_flags : Bool → List ℕ
 first_flags create = if create then codes " -c" else codes ""
 
--- the others go behind those before them
+-- the others go after those before them
 abbrev pub later_flags : Bool → List ℕ
 later_flags create = if create then codes " -ac" else codes " -a"
 
@@ -22,7 +22,7 @@ module _ (world : World) where
       codes "bind" ++ flags ++ codes " " ++ node_path world node ++ codes " " ++ node_path world key
       ++ 10 ∷ []
 
-  -- the line of a member behind the first
+  -- the line of a member after the first
   abbrev pub later_line : NodeRef → Member → List ℕ
   later_line key m = bind_line key (later_flags m.create) m.node
 

@@ -46,14 +46,14 @@ play_text state (event ∷ events) [] =
 play_text state (event ∷ events) (refused ∷ marks) =
     let here = played state event refused in here.text ++ play_text here.state events marks
 
--- an event was played, with some mark: the state after it, and what was printed behind the text
+-- an event was played, with some mark: the state after it, and what was printed after the text
 -- before
 pub record Plays (event : Event) (old new : State) (before after : List ℕ) : Type 0 where
   pub refused : Bool
   pub state_is : new ≡ (played old event refused).state
   pub text_is : after ≡ before ++ (played old event refused).text
 
--- events were played, with some marks: what was printed behind the text before
+-- events were played, with some marks: what was printed after the text before
 pub record PlaysAll (events : List Event) (old : State) (before after : List ℕ) : Type 0 where
   pub marks : List Bool
   pub text_is : after ≡ before ++ play_text old events marks

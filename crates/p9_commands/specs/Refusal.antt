@@ -1,13 +1,12 @@
--- Why a command does nothing, and how it is told.
-use Rattle.std.specs.Prelude.{◌≡◌, ℕ, List, ◌++◌, Option, Some, Result, Ok, Err, codes}
+-- Why an input is refused, and how it is told.
+use Rattle.std.specs.Prelude.{◌≡◌, ℕ, List, [], ◌∷◌, ◌++◌, Option, Some, Result, Ok, Err, codes}
 use Rattle.std.specs.Fmt.{decimal}
 use Rattle.p9_world.specs.Error.{line_fault_text}
 use Rattle.p9_nsfile.specs.Text.{form_text}
 use Rattle.p9_cert.specs.Gap.{gap_text}
 use Rattle.p9_cert.specs.declared.gap.Gap.{Gap}
 use Rattle.p9_commands.specs.declared.refusal.Refusal.{Refusal}
-use Rattle.p9_commands.specs.declared.refusal.Refusal.TheVariants.{BadCommandLine, NotUtf8}
-use Rattle.p9_commands.specs.declared.refusal.Refusal.TheVariants.{BadSection}
+use Rattle.p9_commands.specs.declared.refusal.Refusal.TheVariants.{NotUtf8, BadSection}
 use Rattle.p9_commands.specs.declared.refusal.Refusal.TheVariants.{BadWorld, BadOperation, BadEvent}
 use Rattle.p9_commands.specs.declared.refusal.Refusal.TheVariants.{BadCertificate, NoCertificate}
 use Rattle.p9_commands.specs.declared.refusal.Refusal.TheVariants.{Unverified}
@@ -19,7 +18,7 @@ abbrev pub or_refused : {X E : Type 0} → (E → Refusal) → Result X E → Re
 or_refused refusal (Ok value) = Ok value
 or_refused refusal (Err bad) = Err (refusal bad)
 
--- an error says that an allocation failed, or why nothing is done
+-- an error says that an allocation failed, or why the input is refused
 abbrev pub IsStop : {X : Type 0} → Result X Refusal → Stop → Type 0
 IsStop asked NoMemory = Unit {0}
 IsStop asked (Refused refusal) = asked ≡ Err refusal
@@ -39,9 +38,8 @@ IsSilent before after (Refused refusal) = after ≡ before
 abbrev pub at_line : (section : List ℕ) (line : ℕ) (text : List ℕ) → List ℕ
 at_line section line text = section ++ codes ":" ++ decimal line ++ codes ": " ++ text
 
--- the line that tells a refusal
+-- the text that tells a refusal
 abbrev pub refusal_text : Refusal → List ℕ
-refusal_text BadCommandLine = codes "p9: bad command line"
 refusal_text NotUtf8 = codes "input: not UTF-8"
 refusal_text (BadSection line) = at_line (codes "bundle") line (codes "bad section")
 refusal_text (BadWorld line kind) = at_line (codes "world") line (line_fault_text kind)
@@ -51,7 +49,11 @@ refusal_text NoCertificate = codes "cert: missing"
 refusal_text (BadEvent line) = at_line (codes "script") line (codes "bad line")
 refusal_text (Unverified gap) = codes "cert: " ++ gap_text gap
 
--- the exit status that tells a refusal
-abbrev pub status_of : Refusal → ℕ
-status_of BadCommandLine = 2
-status_of other = 1
+-- the line that tells a refusal
+abbrev pub refusal_line : Refusal → List ℕ
+refusal_line refusal = refusal_text refusal ++ 10 ∷ []
+
+-- a refusal is told in one line more; a failed allocation never is
+abbrev pub TellsStop : Stop → (before after : List ℕ) → Type 0
+TellsStop NoMemory before after = ⊥
+TellsStop (Refused refusal) before after = after ≡ before ++ refusal_line refusal

@@ -1,4 +1,4 @@
-//! What an input holds: a text, its sections, the name space and the script that they describe.
+//! What an input holds: a text, its sections, and the certificate and the script that they describe.
 
 ghost use Rattle.std.specs.Prelude.{◌≡◌, IfErr, IfNone, IfOk, IfSome, Ok, false, map};
 ghost use Rattle.std.specs.Prelude.{true};
@@ -6,19 +6,16 @@ ghost use Rattle.std.specs.Option.{option_copied, option_map};
 ghost use Rattle.std.specs.Str.{is_utf8};
 ghost use Rattle.std.specs.String.{string_bytes};
 ghost use Rattle.p9_commands.specs.Bundle.{bundle_of, bundle_view};
-ghost use Rattle.p9_commands.specs.NameSpace.{space_in};
 ghost use Rattle.p9_commands.specs.Refusal.{IsStop, or_refused};
-ghost use Rattle.p9_commands.specs.Task.{certificate_in, script_in};
+ghost use Rattle.p9_commands.specs.Prepared.{certificate_in, script_in};
 ghost use Rattle.p9_export.specs.Event.{event_view};
 ghost use Rattle.p9_commands.specs.declared.refusal.Refusal.TheVariants.{BadSection};
 
 use crate::bundle::{Bundle, BundleError, split_bundle};
-use crate::name_space::NameSpace;
 use crate::refusal::{Refusal, Stop};
 use crate::script::{ScriptError, read_script};
 use p9_cert::{Certificate, ReadError, read_cert};
 use p9_export::Event;
-use p9_tree::Tree;
 use std::alloc::Allocator;
 
 /// The input as a text.
@@ -42,19 +39,6 @@ pub(crate) fn sections<A: Allocator + Copy>(alloc: A, text: &str) -> Result<Bund
         Err(BundleError::BadBundle { line }) => Err(Stop::Refused(Refusal::BadSection { line })),
         Err(BundleError::NoMemory) => Err(Stop::NoMemory),
     }
-}
-
-/// The name space of the sections, or the first bad line of the world, or of the namespace file.
-pub(crate) fn name_space<T: Tree>(
-    alloc: T::Alloc,
-    bundle: &Bundle<T::Alloc>,
-) -> Result<NameSpace<T>, Stop>
-    ensures ok { IfOk result (λ space.
-        space_in (bundle_view bundle.now).world (bundle_view bundle.now).ns ≡ Ok space) }
-    ensures stop { IfErr result
-        (IsStop (space_in (bundle_view bundle.now).world (bundle_view bundle.now).ns)) }
-{
-    NameSpace::read(alloc, text_of(&bundle.world), text_of(&bundle.ns))
 }
 
 /// The certificate of a bundle, where it has one, or its first bad line.
@@ -92,8 +76,8 @@ pub(crate) fn script<A: Allocator + Copy>(
     }
 }
 
-// The text of a section, if it is there.
-fn text_of<A: Allocator>(section: &Option<String<A>>) -> Option<&str>
+/// The text of a section, if it is there.
+pub(crate) fn text_of<A: Allocator>(section: &Option<String<A>>) -> Option<&str>
     ensures { option_copied result ≡ option_map string_bytes section.now }
 {
     match section {

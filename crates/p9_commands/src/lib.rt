@@ -1,6 +1,7 @@
-//! The program's commands over bytes in memory: an input is split into sections, its world is made
-//! and its namespace file is run over it. Then the events of its script are played, what is hidden
-//! is judged, a certificate is verified, or the mount table is printed.
+//! The program's commands over bytes in memory. An input is prepared once: it is split into
+//! sections, its world is made, its namespace file is run over that, and its certificate and its
+//! script are read. Then the script is played, what is hidden is judged, the certificate is
+//! verified, the mount table is printed, or a guard is made for a server.
 #![tactic(auto, unfolding(p9_base::specs::Results::need))]
 
 mod bundle;
@@ -15,13 +16,18 @@ mod name_space;
 mod offer;
 mod path;
 mod play;
+mod prepared;
+mod printed;
 mod refusal;
 mod report;
 mod script;
 mod small;
-mod task;
+pub mod status;
 
 pub use bundle::{Bundle, BundleError, split_bundle};
-pub use command::{run_command, run_command_over};
+pub use command::{BadCommandLine, Command, run, run_command, run_command_over};
+pub use name_space::NameSpace;
 pub use offer::served_guard;
+pub use prepared::{Needs, PrepareError, Prepared, prepare};
+pub use refusal::{Refusal, Stop};
 pub use script::{ScriptError, read_script};

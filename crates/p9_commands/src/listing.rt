@@ -54,7 +54,7 @@ fn first_flags(create: bool) -> &'static str
     if create { " -c" } else { "" }
 }
 
-// The flags of the others, each of which goes behind those before it.
+// The flags of the others, each of which goes after those before it.
 fn later_flags(create: bool) -> &'static str
     ensures { result.now ≡ later_flags create }
 {

@@ -6,21 +6,18 @@ ghost use Rattle.std.specs.Option.{option_copied};
 ghost use Rattle.p9_nsfile.specs.Given.{KeepsGiven};
 ghost use Rattle.p9_nsfile.specs.Line.{IsNsFault};
 ghost use Rattle.p9_nsfile.specs.Run.{run_of};
-ghost use Rattle.p9_commands.specs.Judgement.{IsTold, SaysNo, SaysYes, verified_status};
-ghost use Rattle.p9_commands.specs.Judgement.{verified_text};
+ghost use Rattle.p9_commands.specs.Judgement.{IsTold, SaysNo, SaysYes};
 ghost use Rattle.p9_commands.specs.Listing.{table_text};
 ghost use Rattle.p9_commands.specs.NameSpace.{environment_of, exported, gap_over, guard_over};
 ghost use Rattle.p9_commands.specs.NameSpace.{or_bad_operation, space_in, space_over, world_in};
 ghost use Rattle.p9_commands.specs.Refusal.{IsStop, IsUnverified};
-ghost use Rattle.p9_commands.specs.Report.{reports_text};
 
-use crate::judgement::{print_verdict, print_verified};
+use crate::judgement::print_verdict;
 use crate::listing::print_table;
 use crate::refusal::{Refusal, Stop};
-use crate::report::print_reports;
 use crate::small::small_world;
 use p9_base::NoMemory;
-use p9_cert::{Certificate, verify};
+use p9_cert::Certificate;
 use p9_export::Export;
 use p9_guard::{Cause, Guard};
 use p9_judge::judge;
@@ -28,16 +25,21 @@ use p9_nsfile::{NsError, OpFault, run_file};
 use p9_space::MountTable;
 use p9_tree::Tree;
 use p9_world::{World, WorldError, read_world};
-use std::alloc::Allocator;
 use std::marker::Model;
 
-/// A world, the mount table that a namespace file made over it, and what failed in its making: the
-/// line and the fault. The table names only nodes that were made.
+/// A world, the mount table that a namespace file made over it, and what failed in its making.
+///
+/// The mount table names only nodes that were made: each key and member lies below its server's
+/// next number. Contracts see the reports as a list.
 #[derive(Drop)]
-pub(crate) struct NameSpace<T: Tree> {
-    world: World<T>,
-    table: MountTable<T::Alloc>,
-    reports: Vec<(u64, OpFault), T::Alloc>,
+pub struct NameSpace<T: Tree> {
+    /// The world, with its hidden directories.
+    pub world: World<T>,
+    /// The mount table.
+    pub table: MountTable<T::Alloc>,
+    /// The operations of the namespace file that failed: the line of each in its section, from 1,
+    /// and why it did nothing.
+    pub reports: Vec<(u64, OpFault), T::Alloc>,
 }
 
 impl<T: Tree> Model for NameSpace<T> {
@@ -58,7 +60,7 @@ impl<T: Tree> NameSpace<T> {
     ///
     /// The first bad line of the world, then that of the namespace file, is the refusal; a failed
     /// allocation is the other reason.
-    pub fn read(
+    pub(crate) fn read(
         alloc: T::Alloc,
         world: Option<&str>,
         ns: Option<&str>,
@@ -88,16 +90,9 @@ impl<T: Tree> NameSpace<T> {
         })
     }
 
-    /// Prints what failed, a line each. Where an allocation fails, some of them may be there.
-    pub fn print_reports(&self, err: &mut Vec<u8, T::Alloc>) -> Result<(), NoMemory>
-        ensures { OnOk result (err.new.items ≡ err.old.items ++ reports_text self.now.reports) }
-    {
-        print_reports(self.reports.as_slice(), err)
-    }
-
     /// Prints the mount table, a line for each member of each row. Returns the exit status. Where
     /// an allocation fails, a part of it may be printed.
-    pub fn list(&self, out: &mut Vec<u8, T::Alloc>) -> Result<u8, NoMemory>
+    pub(crate) fn list(&self, out: &mut Vec<u8, T::Alloc>) -> Result<u8, NoMemory>
         ensures { IfOk result (IsTold 0 (table_text self.now.world self.now.table) out.old.items
             out.new.items) }
     {
@@ -107,7 +102,7 @@ impl<T: Tree> NameSpace<T> {
 
     /// Judges, and prints `yes` and a certificate, or `no` and a breach. Returns the exit status.
     /// Where an allocation fails, a part of it may be printed.
-    pub fn check(&self, out: &mut Vec<u8, T::Alloc>) -> Result<u8, NoMemory>
+    pub(crate) fn check(&self, out: &mut Vec<u8, T::Alloc>) -> Result<u8, NoMemory>
         ensures { IfOk result (λ status. SaysYes self.now out.old.items out.new.items status
             ⊎ SaysNo self.now out.old.items out.new.items status) }
     {
@@ -115,21 +110,8 @@ impl<T: Tree> NameSpace<T> {
         print_verdict(&verdict, out)
     }
 
-    /// Verifies a certificate, and prints `ok`, or the first gap. Returns the exit status. Where an
-    /// allocation fails, a part of it may be printed.
-    pub fn verify<A: Allocator>(
-        &self,
-        certificate: &Certificate<A>,
-        out: &mut Vec<u8, T::Alloc>,
-    ) -> Result<u8, NoMemory>
-        ensures { IfOk result (IsTold (verified_status (gap_over self.now certificate.now))
-            (verified_text (gap_over self.now certificate.now)) out.old.items out.new.items) }
-    {
-        print_verified(verify(&self.world, &self.table, certificate).err(), out)
-    }
-
     /// The guard of the name space by this certificate, without sessions. A gap is the refusal.
-    pub fn guard(self, certificate: Certificate<T::Alloc>) -> Result<Guard<T>, Stop>
+    pub(crate) fn guard(self, certificate: Certificate<T::Alloc>) -> Result<Guard<T>, Stop>
         ensures ok { IfOk result (λ guard. guard ≡ guard_over self certificate) }
         ensures closed { OnOk result (gap_over self certificate ≡ None) }
         ensures stop { IfErr result (IsUnverified (gap_over self certificate)) }
@@ -148,7 +130,7 @@ impl<T: Tree> NameSpace<T> {
 
     /// The exporter of the name space to the world's users and groups, without sessions. This takes
     /// no memory.
-    pub fn export(self) -> Export<T>
+    pub(crate) fn export(self) -> Export<T>
         ensures { result ≡ exported self }
     {
         let NameSpace {
@@ -163,6 +145,18 @@ impl<T: Tree> NameSpace<T> {
             ..
         } = world;
         Export::new(forest, users, groups, table)
+    }
+
+    /// What failed in its making.
+    pub(crate) fn into_reports(self) -> Vec<(u64, OpFault), T::Alloc>
+        ensures { result.items ≡ self.reports }
+    {
+        let NameSpace {
+            world: _,
+            table: _,
+            reports,
+        } = self;
+        reports
     }
 }
 

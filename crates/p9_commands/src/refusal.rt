@@ -1,8 +1,8 @@
-//! Why a command does nothing, and how it is told.
+//! Why an input is refused, and how it is told.
 
-ghost use Rattle.std.specs.Prelude.{◌≡◌, ◌++◌, ◌∷◌, [], IfOk, OnOk};
+ghost use Rattle.std.specs.Prelude.{◌≡◌, IfOk, OnOk};
 ghost use Rattle.std.specs.String.{string_bytes};
-ghost use Rattle.p9_commands.specs.Refusal.{at_line, refusal_text, status_of};
+ghost use Rattle.p9_commands.specs.Refusal.{TellsStop, at_line, refusal_text};
 
 use crate::line::print_line;
 use p9_base::NoMemory;
@@ -11,51 +11,43 @@ use p9_nsfile::BadForm;
 use p9_world::LineFault;
 use std::alloc::{AllocError, Allocator};
 
-/// Why a command does nothing. Lines count from 1.
-#[derive(Clone, Copy)]
-pub(crate) enum Refusal {
-    BadCommandLine,
+/// Why an input is refused. Lines count from 1.
+#[derive(Clone, Copy, Debug, PartialEq, Eq)]
+pub enum Refusal {
+    /// The input is no text: `input: not UTF-8`.
     NotUtf8,
-    /// A line of the whole input.
+    /// The input is no bundle, and this is its first bad line, of the whole input:
+    /// `bundle:L: bad section`.
     BadSection { line: u64 },
-    /// A line of the world; 0 for the whole of it.
+    /// A line of the world section, or 0 for the whole world: `world:L: TEXT`.
     BadWorld { line: u64, kind: LineFault },
-    /// A line of the namespace file.
+    /// A line of the namespace section: `ns:L: TEXT`.
     BadOperation { line: u64, kind: BadForm },
-    /// A line of the certificate.
+    /// A line of the certificate section: `cert:L: bad line`.
     BadCertificate { line: u64 },
-    /// The command needs a certificate, and there is none.
+    /// A certificate is needed, and there is none: `cert: missing`.
     NoCertificate,
-    /// A line of the script.
+    /// A line of the script section: `script:L: bad line`.
     BadEvent { line: u64 },
-    /// The certificate is not closed, so there is no guard to play over.
+    /// The certificate is not closed, so there is no guard, and this is its first gap: `cert: GAP`.
     Unverified(Gap),
 }
 
-/// What keeps a command from its work.
-#[derive(Clone, Copy)]
-pub(crate) enum Stop {
+/// What keeps an input from being used.
+#[derive(Clone, Copy, Debug, PartialEq, Eq)]
+pub enum Stop {
+    /// The input has a fault.
     Refused(Refusal),
+    /// An allocation failed.
     NoMemory,
 }
 
 impl Refusal {
-    /// The exit status that tells it.
-    pub fn status(self) -> u8
-        ensures { result ≡ status_of self }
-    {
-        match self {
-            Refusal::BadCommandLine => 2,
-            _ => 1,
-        }
-    }
-
-    /// The line that tells it.
+    /// The line that tells it, without a newline.
     pub fn text<A: Allocator + Copy>(self, alloc: A) -> Result<String<A>, AllocError>
         ensures { IfOk result (λ text. string_bytes text ≡ refusal_text self) }
     {
         match self {
-            Refusal::BadCommandLine => String::from_str(alloc, "p9: bad command line"),
             Refusal::NotUtf8 => String::from_str(alloc, "input: not UTF-8"),
             Refusal::BadSection { line } => at_line(alloc, "bundle", line, "bad section"),
             Refusal::BadWorld { line, kind } => at_line(alloc, "world", line, kind.text()),
@@ -68,15 +60,20 @@ impl Refusal {
     }
 }
 
-/// Tells why a command does nothing, in a line. Where an allocation fails, a part of it may be told.
-pub(crate) fn tell<A: Allocator + Copy>(
-    refusal: Refusal,
-    err: &mut Vec<u8, A>,
-) -> Result<(), NoMemory>
-    ensures { OnOk result (err.new.items ≡ err.old.items ++ (refusal_text refusal ++ 10 ∷ [])) }
-{
-    let text = refusal.text(*err.allocator())?;
-    print_line(text.as_str(), err)
+impl Stop {
+    /// Prints the line of a refusal. Where an allocation failed or fails, it returns [`NoMemory`],
+    /// and a part of the line may be there.
+    pub(crate) fn tell<A: Allocator + Copy>(self, err: &mut Vec<u8, A>) -> Result<(), NoMemory>
+        ensures { OnOk result (TellsStop self err.old.items err.new.items) }
+    {
+        match self {
+            Stop::Refused(refusal) => {
+                let text = refusal.text(*err.allocator())?;
+                print_line(text.as_str(), err)
+            }
+            Stop::NoMemory => Err(NoMemory),
+        }
+    }
 }
 
 /// What is told of a line of a section.

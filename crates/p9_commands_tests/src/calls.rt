@@ -74,7 +74,7 @@ fn errors_have_texts(rt: HostRuntime) -> Result<(), Fail> {
     Ok(())
 }
 
-// The name of a command with a blank behind it names none.
+// The name of a command with a blank after it names none.
 #[test]
 fn a_command_is_exact(rt: HostRuntime) -> Result<(), Fail> {
     let mut out = Vec::new(rt.alloc());

@@ -1,11 +1,13 @@
-//! Tests of the program's commands that no row of `p9_rows` has: failed allocations, calls that the
-//! commands don't make, a command of a name that no row can write, and frames that are too large
-//! for the data of a row.
+//! Tests of the program's commands that no row of `p9_rows` has: failed allocations, inputs that are
+//! prepared for other programs, calls that the commands don't make, a command of a name that no row
+//! can write, and frames that are too large for the data of a row.
 #![tactic(auto)]
 
 #[cfg(test)]
 mod calls;
 #[cfg(test)]
 mod large;
+#[cfg(test)]
+mod prepared;
 #[cfg(test)]
 mod refusals;

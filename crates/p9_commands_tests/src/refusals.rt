@@ -24,6 +24,8 @@ fn play_again<A: Allocator + Copy>(rt: &impl Abort, alloc: A, input: &str, told:
     let mut err = Vec::new(alloc);
     let outcome = run_command("play", input.as_bytes(), &mut out, &mut err);
     if outcome == Err(NoMemory) {
+        assert_eq!(rt; out.len(), 0);
+        assert_eq!(rt; err.len(), 0);
         let run = Run {
             word: "play",
             input,
@@ -94,7 +96,8 @@ struct Run<'a> {
 }
 
 // Runs a command with each request for memory refused in turn, and returns how many there are.
-// Where an allocation fails, the command says so, and run again it ends as it is to.
+// Where an allocation fails, the command says so and prints nothing, and run again it ends as it is
+// to.
 fn refusals_of(rt: &impl Abort, alloc: Global, run: Run<'_>) -> u64 {
     let memory = Refusing::new(alloc);
     refuse_each(&memory, || (), |()| run_again(rt, &memory, run))
@@ -105,8 +108,8 @@ fn run_again<A: Allocator + Copy>(rt: &impl Abort, alloc: A, run: Run<'_>) {
     let mut err = Vec::new(alloc);
     let mut outcome = run_command(run.word, run.input.as_bytes(), &mut out, &mut err);
     if outcome == Err(NoMemory) {
-        out.clear();
-        err.clear();
+        assert_eq!(rt; out.len(), 0);
+        assert_eq!(rt; err.len(), 0);
         outcome = run_command(run.word, run.input.as_bytes(), &mut out, &mut err);
     }
     assert_eq!(rt; outcome, Ok(run.status));

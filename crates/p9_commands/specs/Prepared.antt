@@ -1,0 +1,121 @@
+-- An input that is prepared: its name space, its certificate and its script.
+use Rattle.std.specs.Prelude.{◌≡◌, ℕ, List, [], ◌++◌, Option, Some, None, Result, Ok, Err, unwrap_or}
+use Rattle.std.specs.Option.{option_map_or}
+use Rattle.std.specs.Str.{is_utf8}
+use Rattle.p9_base.specs.declared.node_ref.NodeRef.{NodeRef}
+use Rattle.p9_base.specs.Results.{and_then, need}
+use Rattle.p9_cert.specs.Text.{certificate_of}
+use Rattle.p9_cert.specs.declared.gap.Gap.{Gap}
+use Rattle.p9_guard.specs.Guard.{Guarded}
+use Rattle.p9_nsfile.specs.Space.{Report}
+use Rattle.p9_step.specs.Event.{Event}
+use Rattle.p9_commands.specs.Bundle.{Texts, bundle_of}
+use Rattle.p9_commands.specs.NameSpace.{NameSpace, gap_over, guard_over, space_in}
+use Rattle.p9_commands.specs.Refusal.{TellsStop, or_refused, refusal_line}
+use Rattle.p9_commands.specs.Report.{reports_text}
+use Rattle.p9_commands.specs.Script.{script_of}
+use Rattle.p9_commands.specs.declared.prepared.Needs.{Needs}
+use Rattle.p9_commands.specs.declared.prepared.Needs.TheVariants.{Nothing, Certificate}
+use Rattle.p9_commands.specs.declared.prepared.PrepareError.{PrepareError}
+use Rattle.p9_commands.specs.declared.refusal.Refusal.{Refusal}
+use Rattle.p9_commands.specs.declared.refusal.Refusal.TheVariants.{BadCertificate, BadEvent}
+use Rattle.p9_commands.specs.declared.refusal.Refusal.TheVariants.{BadSection, NoCertificate}
+use Rattle.p9_commands.specs.declared.refusal.Refusal.TheVariants.{NotUtf8, Unverified}
+use Rattle.p9_commands.specs.declared.refusal.Stop.{Stop}
+use Rattle.p9_commands.specs.declared.refusal.Stop.TheVariants.{Refused, NoMemory}
+
+-- What an input comes to.
+
+-- its name space, the rows of its certificate, if it has one, and the events of its script
+pub record Prepared : Type 0 where
+  pub space : NameSpace
+  pub rows : Option (List NodeRef)
+  pub events : List Event
+
+-- its first fault, and what failed in its namespace file before that
+pub record Rejected : Type 0 where
+  pub reports : List Report
+  pub refusal : Refusal
+
+-- a value, or a refusal with these reports
+abbrev pub with_reports : {X : Type 0} → List Report → Result X Refusal → Result X Rejected
+with_reports reports (Ok value) = Ok value
+with_reports reports (Err refusal) = Err (record { reports = reports; refusal = refusal })
+
+-- Its parts, in the order of their faults.
+
+-- the sections of an input, and the name space that they describe
+abbrev pub opened : List ℕ → Result (Texts × NameSpace) Refusal
+opened input =
+    need (is_utf8 input) NotUtf8
+    (and_then (or_refused BadSection (bundle_of input))
+    (λ texts. and_then (space_in texts.world texts.ns) (λ space. Ok (texts, space))))
+
+-- the rows of a bundle's certificate, where it has one
+abbrev pub certificate_in : Texts → Result (Option (List NodeRef)) Refusal
+certificate_in texts =
+    option_map_or
+    (λ text. and_then (or_refused BadCertificate (certificate_of text)) (λ rows. Ok (Some rows)))
+    texts.cert (Ok None)
+
+-- a certificate that is needed is to be there
+abbrev pub needed : {X : Type 0} → Needs → Option X → Result (Option X) Refusal
+needed Nothing rows = Ok rows
+needed Certificate None = Err NoCertificate
+needed Certificate (Some rows) = Ok (Some rows)
+
+-- the events of a bundle's script; none where it has no script
+abbrev pub script_in : Texts → Result (List Event) Refusal
+script_in texts = or_refused BadEvent (script_of (unwrap_or texts.script []))
+
+-- the certificate and the script of a bundle
+abbrev pub rest_in : Needs → Texts → Result (Option (List NodeRef) × List Event) Refusal
+rest_in needs texts =
+    and_then (and_then (certificate_in texts) (needed needs))
+    (λ rows. and_then (script_in texts) (λ events. Ok (rows, events)))
+
+-- a name space with the certificate and the script of its bundle
+abbrev pub prepared_with : Needs → Texts → NameSpace → Result Prepared Rejected
+prepared_with needs texts space =
+    and_then (with_reports space.reports (rest_in needs texts))
+    (λ rest. Ok (record { space = space; rows = rest.0; events = rest.1 }))
+
+-- what an input comes to, or its first fault
+abbrev pub prepared_of : Needs → List ℕ → Result Prepared Rejected
+prepared_of needs input =
+    and_then (with_reports [] (opened input)) (λ found. prepared_with needs found.0 found.1)
+
+-- What can be made of it.
+
+-- the first gap of its certificate; none where it has no certificate
+abbrev pub gap_in : Prepared → Option Gap
+gap_in prepared = option_map_or (gap_over prepared.space) prepared.rows None
+
+-- the guard over a name space by a certificate without a gap
+abbrev pub guarded : NameSpace → List NodeRef → Result Guarded Refusal
+guarded space rows =
+    option_map_or (λ gap. Err (Unverified gap)) (gap_over space rows) (Ok (guard_over space rows))
+
+-- the guard over its name space by its certificate, which it is to have
+abbrev pub guard_in : Prepared → Result Guarded Refusal
+guard_in prepared = option_map_or (guarded prepared.space) prepared.rows (Err NoCertificate)
+
+-- How a refusal is told.
+
+-- what failed in the namespace file, and then the fault
+abbrev pub rejected_text : Rejected → List ℕ
+rejected_text rejected = reports_text rejected.reports ++ refusal_line rejected.refusal
+
+-- an error says that an allocation failed, or the first fault, with what failed before it
+abbrev pub IsPrepareErrorBy : {X : Type 0} → Result X Rejected → List Report → Stop → Type 0
+IsPrepareErrorBy asked reports NoMemory = Unit {0}
+IsPrepareErrorBy asked reports (Refused refusal) =
+    asked ≡ Err (record { reports = reports; refusal = refusal })
+
+abbrev pub IsPrepareError : {X A : Type 0} → Result X Rejected → PrepareError A → Type 0
+IsPrepareError asked error = IsPrepareErrorBy asked error.reports.items error.stop
+
+-- the reports of an error are told, and then what stopped
+abbrev pub TellsError : {A : Type 0} → PrepareError A → (before after : List ℕ) → Type 0
+TellsError error before after =
+    TellsStop error.stop (before ++ reports_text error.reports.items) after
