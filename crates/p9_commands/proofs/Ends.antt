@@ -1,20 +1,16 @@
 -- How a command ends: over an input that is refused, over one that is prepared, and by its word.
-use Rattle.std.proofs.Common.{◌≡◌, ◌⊎◌, inl, inr, ℕ, List, [], ◌++◌, Option, Some, None, Result, Ok, Err}
-use Rattle.std.proofs.Common.{refl, sym, ap, subst, ◌∙◌, append_assoc, append-nil}
+use Rattle.std.proofs.Common.{◌≡◌, ℕ, List, [], ◌++◌, Option, Result, Ok, Err}
+use Rattle.std.proofs.Common.{refl, sym, ap, subst, ◌∙◌, append_assoc}
 use Rattle.std.specs.Option.{option_map_or}
-use Rattle.p9_base.specs.Results.{and_then}
 use Rattle.p9_cert.specs.declared.gap.Gap.{Gap}
 use Rattle.p9_base.specs.declared.node_ref.NodeRef.{NodeRef}
-use Rattle.p9_nsfile.specs.Space.{Report}
 use Rattle.p9_step.specs.Event.{Event}
-use Rattle.p9_commands.specs.Command.{CommandEnds, Printed, Writes, admitted, gap_against}
-use Rattle.p9_commands.specs.Judgement.{IsTold}
+use Rattle.p9_commands.specs.Command.{CommandEnds, Printed, admitted, gap_against}
 use Rattle.p9_commands.specs.NameSpace.{NameSpace}
-use Rattle.p9_commands.specs.Prepared.{IsPrepareErrorBy, Prepared, Rejected}
+use Rattle.p9_commands.specs.Prepared.{Prepared, Rejected}
 use Rattle.p9_commands.specs.Refusal.{IsSilent, IsUnverified, TellsStop, refusal_line}
 use Rattle.p9_commands.specs.Report.{reports_text}
 use Rattle.p9_commands.specs.declared.command.Command.{Command}
-use Rattle.p9_commands.specs.declared.command.Command.TheVariants.{Play, Check, Verify, Ns}
 use Rattle.p9_commands.specs.declared.refusal.Refusal.TheVariants.{Unverified}
 use Rattle.p9_commands.specs.declared.refusal.Stop.{Stop}
 use Rattle.p9_commands.specs.declared.refusal.Stop.TheVariants.{Refused, NoMemory}

@@ -1,12 +1,11 @@
 -- What an input offers to a server.
-use Rattle.std.proofs.Common.{◌≡◌, ℕ, [], ◌++◌, List, Option, Some, None, Result, Ok, Err, refl}
+use Rattle.std.proofs.Common.{◌≡◌, ℕ, [], ◌++◌, List, Option, Some, None, Result, Ok, Err}
 use Rattle.std.proofs.Common.{append_assoc, sym, subst, ap, ◌∙◌}
 use Rattle.p9_base.specs.Results.{and_then}
 use Rattle.p9_guard.specs.Guard.{Guarded}
-use Rattle.p9_nsfile.specs.Space.{Report}
 use Rattle.p9_commands.proofs.Ends.{moved}
 use Rattle.p9_commands.specs.Offer.{Offer, Serves, offer_in}
-use Rattle.p9_commands.specs.Prepared.{IsPrepareErrorBy, Prepared, Rejected, guard_in}
+use Rattle.p9_commands.specs.Prepared.{Prepared, Rejected, guard_in}
 use Rattle.p9_commands.specs.Prepared.{with_reports}
 use Rattle.p9_commands.specs.Refusal.{IsStop, TellsStop, refusal_line}
 use Rattle.p9_commands.specs.Report.{reports_text}
