@@ -10,6 +10,7 @@ use Rattle.clap.specs.Kinds.{HasKind, Kinds}
 use Rattle.clap.specs.Words.{Row, Text, first_of, kind_of, subcommand_of, takes}
 use Rattle.clap.specs.declared.error.Error.{Error}
 use Rattle.clap.specs.declared.error.kind.ErrorKind.TheVariants.{OutOfMemory}
+use Rattle.p9_commands.specs.declared.command.Command.{Command as Named}
 use Rattle.p9.specs.declared.words.Asked.{Asked}
 use Rattle.p9.specs.declared.words.Asked.TheVariants.{Command, Serve}
 use Rattle.p9.specs.Words.{Asks, AsksToServe, IsAddress, IsAsked, IsAskedIn, IsCommand, IsRead}
@@ -85,24 +86,24 @@ module _ (words : List Text) where
   -- words that `clap` refuses ask for nothing
   pub asked-refused : (takes program_app words ≡ true → ⊥) → (fault_of program_app words ≡ [] → ⊥)
       → (asked : Asked) → Asks words asked → ⊥
-  asked-refused not_taken faulty (Command word) is =
+  asked-refused not_taken faulty (Command named) is =
       elim (taken_or_none words) [
         | inl taken ↦ not_taken taken
-        | inr none ↦ let no : None ≡ Some word.now = none ∙ is in absurd (cc)
+        | inr none ↦ let no : None ≡ Some named = none ∙ is in absurd (cc)
       ]
   asked-refused not_taken faulty (Serve address rounds) is = faulty is.taken
 
   -- a command that is read is what is asked for, where no server is
-  command : (command : Option Text) → command ≡ asked_by words
+  command : (command : Option Named) → command ≡ asked_by words
       → ((address : SocketAddr) (rounds : ℕ) → AsksToServe words address rounds → ⊥)
       → (asked : Option Asked) → IsCommand command asked → IsAsked words asked
   command text is other None read = none
     where
       none : (asked : Asked) → Asks words asked → ⊥
-      none (Command word) asks =
-          let no : None ≡ Some word.now = sym read ∙ is ∙ asks in absurd (cc)
+      none (Command named) asks =
+          let no : None ≡ Some named = sym read ∙ is ∙ asks in absurd (cc)
       none (Serve address rounds) asks = other address rounds asks
-  command text is other (Some (Command word)) read = sym is ∙ read
+  command text is other (Some (Command named)) read = sym is ∙ read
   command text is other (Some (Serve address rounds)) read = absurd read
 
   -- a server that is read is what is asked for, where no command is
@@ -113,14 +114,14 @@ module _ (words : List Text) where
   server at rt at_is rt_is other taken None read = none
     where
       none : (asked : Asked) → Asks words asked → ⊥
-      none (Command word) asks =
-          let no : None ≡ Some word.now = sym other ∙ asks in absurd (cc)
+      none (Command named) asks =
+          let no : None ≡ Some named = sym other ∙ asks in absurd (cc)
       none (Serve address rounds) asks = read address rounds (record {
         no_end = asks.options.no_end;
         address_is = subst (λ (t : Option Text). IsAddress t address) at_is asks.options.address_is;
         rounds_are = sym (ap rounds_in rt_is) ∙ asks.options.rounds_are;
       })
-  server at rt at_is rt_is other taken (Some (Command word)) read = absurd read
+  server at rt at_is rt_is other taken (Some (Command named)) read = absurd read
   server at rt at_is rt_is other taken (Some (Serve address rounds)) read = record {
     taken = taken;
     options = record {

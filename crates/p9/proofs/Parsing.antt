@@ -11,7 +11,8 @@ use Rattle.clap.specs.declared.parser.matches.ArgMatches.{ArgMatches}
 use Rattle.clap.specs.declared.parser.matches.ArgMatches.TheViews.{out-ArgMatches, out-SubCommand}
 use Rattle.clap.specs.declared.parser.matches.SubCommand.{SubCommand}
 use Rattle.clap.proofs.OnLiterals.{clap_on_literals}
-use Rattle.p9.specs.Words.{asked_by, asked_with, known, program_app}
+use Rattle.p9_commands.specs.Word.{command_of}
+use Rattle.p9.specs.Words.{asked_by, asked_with, program_app}
 
 -- the subcommand's name that a parse of the words finds
 abbrev pub name_read : List Text → Option Text
@@ -82,7 +83,7 @@ data Word (word : Text) : Type 0 where
   is_check : word ≡ codes "check" → Word word
   is_verify : word ≡ codes "verify" → Word word
   is_ns : word ≡ codes "ns" → Word word
-  is_other : known word ≡ None → Word word
+  is_other : command_of word ≡ None → Word word
 
 word_is : (word : Text) → Word word
 word_is word =
@@ -100,7 +101,7 @@ word_is word =
     go false play false check false verify false ns = is_other (rw (play, check, verify, ns) refl)
 
 -- a word that is no command is none, whatever name was read
-other_word : (name : Option Text) (p word : Text) → known word ≡ None → asked_with name (p ∷ word ∷ []) ≡ None
+other_word : (name : Option Text) (p word : Text) → command_of word ≡ None → asked_with name (p ∷ word ∷ []) ≡ None
 other_word None p word other = refl
 other_word (Some name) p word other = go (bytes_eq word name) refl where
   go : (same : Bool) → bytes_eq word name ≡ same → asked_with (Some name) (p ∷ word ∷ []) ≡ None

@@ -1,6 +1,6 @@
 -- What the words of the command line ask for, and how `clap` is told to read them.
 use Rattle.std.specs.Prelude.{◌≡◌, ℕ, zero, suc, Bool, MatchBool, List, [], ◌∷◌, Option, Some, None}
-use Rattle.std.specs.Prelude.{codes, false, is_some, option_and_then, true, if◌then◌else◌}
+use Rattle.std.specs.Prelude.{codes, false, option_and_then, true, if◌then◌else◌}
 use Rattle.std.specs.List.{list_any}
 use Rattle.std.specs.Net.Grammar.{IsSocketText}
 use Rattle.std.specs.Str.{bytes_eq}
@@ -13,32 +13,30 @@ use Rattle.clap.specs.declared.builder.command.Command.{Command as Subcommand}
 use Rattle.clap.specs.declared.builder.command.Command.TheViews.{out-Command}
 use Rattle.p9_base.specs.Decimal.{number_of}
 use Rattle.p9_commands.specs.Word.{command_of}
+use Rattle.p9_commands.specs.declared.command.Command.{Command as Named}
+use Rattle.p9_commands.specs.declared.command.Command.TheVariants.{Play}
 use Rattle.p9.specs.declared.words.Asked.{Asked}
 use Rattle.p9.specs.declared.words.Asked.TheVariants.{Command, Serve}
 
 -- Commands.
 
--- a word that is a known command asks for itself, and any other for nothing
-abbrev pub known : Text → Option Text
-known word = if is_some (command_of word) then Some word else None
-
 -- the command that the words ask for, of which the first is the program's name: `play` if no word
--- follows it; if one follows, that word where it is known; if more do, none
-abbrev pub asked_by : List Text → Option Text
-asked_by [] = Some (codes "play")
-asked_by (program ∷ []) = Some (codes "play")
-asked_by (program ∷ word ∷ []) = known word
+-- follows it; if one follows, the command of that word; if more do, none
+abbrev pub asked_by : List Text → Option Named
+asked_by [] = Some Play
+asked_by (program ∷ []) = Some Play
+asked_by (program ∷ word ∷ []) = command_of word
 asked_by (program ∷ word ∷ another ∷ more) = None
 
 -- the command that is asked for by a subcommand's name, as `clap` read it, and by the words: the
 -- only word has to be the name
-abbrev pub asked_with : Option Text → List Text → Option Text
-asked_with None [] = Some (codes "play")
-asked_with None (program ∷ []) = Some (codes "play")
+abbrev pub asked_with : Option Text → List Text → Option Named
+asked_with None [] = Some Play
+asked_with None (program ∷ []) = Some Play
 asked_with None (program ∷ word ∷ more) = None
 asked_with (Some name) [] = None
 asked_with (Some name) (program ∷ []) = None
-asked_with (Some name) (program ∷ word ∷ []) = if bytes_eq word name then known name else None
+asked_with (Some name) (program ∷ word ∷ []) = if bytes_eq word name then command_of name else None
 asked_with (Some name) (program ∷ word ∷ another ∷ more) = None
 
 -- What `clap` is told.
@@ -126,7 +124,7 @@ pub record AsksToServe (words : List Text) (address : SocketAddr) (rounds : ℕ)
 
 -- the words ask for a command, or to serve
 abbrev pub Asks : List Text → Asked → Type 0
-Asks words (Command command) = asked_by words ≡ Some command.now
+Asks words (Command command) = asked_by words ≡ Some command
 Asks words (Serve address rounds) = AsksToServe words address rounds
 
 -- what the words ask for; nothing only where they ask for nothing
@@ -137,9 +135,9 @@ IsAsked words (Some asked) = Asks words asked
 -- How it is read.
 
 -- a command, or none
-abbrev pub IsCommand : Option Text → Option Asked → Type 0
+abbrev pub IsCommand : Option Named → Option Asked → Type 0
 IsCommand command None = command ≡ None
-IsCommand command (Some (Command word)) = command ≡ Some word.now
+IsCommand command (Some (Command named)) = command ≡ Some named
 IsCommand command (Some (Serve address rounds)) = ⊥
 
 -- a server of an address and rounds of which this holds; none only where it holds of none

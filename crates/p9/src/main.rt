@@ -5,7 +5,8 @@
 mod words;
 
 use p9_base::NoMemory;
-use p9_commands::run_command;
+use p9_commands::status::BAD_COMMAND_LINE;
+use p9_commands::{BadCommandLine, Command};
 use p9_serve::{run_serve, tell_failure};
 use std::alloc::AllocError;
 use std::io::{ErrorKind, Read, Write};
@@ -13,9 +14,6 @@ use std::net::SocketAddr;
 use std::process::ExitCode;
 use std::{env, io};
 use words::{Asked, command_asked};
-
-// The exit status of a bad command line.
-const BAD_COMMAND_LINE: u8 = 2;
 
 fn main(rt: HostRuntime) -> ExitCode {
     ExitCode::from(status_of(&rt))
@@ -35,7 +33,7 @@ fn run(rt: &HostRuntime) -> io::Result<u8> {
         Some(Asked::Command(command)) => run_over_input(rt, command),
         Some(Asked::Serve { address, rounds }) => serve_input(rt, address, rounds),
         None => {
-            eprintln!(rt; "p9: bad command line")?;
+            eprintln!(rt; "{BadCommandLine}")?;
             Ok(BAD_COMMAND_LINE)
         }
     }
@@ -53,11 +51,11 @@ fn asked(rt: &HostRuntime) -> io::Result<Option<Asked>> {
 }
 
 // Runs a command over the standard input, and then prints what it gives.
-fn run_over_input(rt: &HostRuntime, command: &str) -> io::Result<u8> {
+fn run_over_input(rt: &HostRuntime, command: Command) -> io::Result<u8> {
     let input = input(rt)?;
     let mut out = Vec::new(rt.alloc());
     let mut err = Vec::new(rt.alloc());
-    let status = match run_command(command, input.as_slice(), &mut out, &mut err) {
+    let status = match p9_commands::run(command, input.as_slice(), &mut out, &mut err) {
         Ok(status) => status,
         Err(NoMemory) => return Err(io::Error::from(AllocError)),
     };

@@ -6,7 +6,7 @@ ghost use Rattle.std.specs.Str.{bytes_eq};
 ghost use Rattle.std.specs.String.{string_bytes};
 ghost use Rattle.clap.specs.Words.{app_of, first_of, found_of, rows_of, rule_of};
 ghost use Rattle.p9.specs.Words.{IsAddress, IsAsked, IsAskedIn, IsLocal, IsRead, WritesOptions};
-ghost use Rattle.p9.specs.Words.{asked_with, bare_program, known, option, program_app, rounds_in, serve_app};
+ghost use Rattle.p9.specs.Words.{asked_with, bare_program, option, program_app, rounds_in, serve_app};
 ghost use Rattle.p9.specs.Words.{with_command};
 
 use clap::error::ErrorKind;
@@ -21,15 +21,15 @@ const MOST_ROUNDS: u64 = 1_000_000_000;
 /// What the words ask for.
 #[derive(Clone, Copy, Debug, PartialEq, Eq)]
 pub enum Asked {
-    /// A command over the standard input, which [`p9_commands::run_command`] knows.
-    Command(&'static str),
+    /// A command over the standard input.
+    Command(p9_commands::Command),
     /// To serve the standard input at an address, for so many rounds.
     Serve { address: SocketAddr, rounds: u64 },
 }
 
 /// What the words ask for, or `None` where they are a bad command line. The first word is the
 /// program's name. Without another word the command is `play`. One other word is the command, where
-/// [`p9_commands::run_command`] knows it. To serve, the words are `serve` and the options `-a`, with
+/// it names a [`p9_commands::Command`]. To serve, the words are `serve` and the options `-a`, with
 /// an IP address and a port, and `-r`, with a number from 1 to 1,000,000,000, in either order and in
 /// any spelling that `clap` takes; `--` is no such word. The error is a failed allocation.
 pub fn command_asked(alloc: Global, words: &[String]) -> Result<Option<Asked>, AllocError>
@@ -57,26 +57,13 @@ fn asked_in(read: Option<(&str, &ArgMatches<'_>)>, words: &[String]) -> Option<A
 
 // The command that a subcommand's name and the words ask for. The name has to be the only word, so
 // that no `--` is among the words.
-fn command_read(name: Option<&str>, words: &[String]) -> Option<&'static str>
-    ensures { option_map (λ command. command.now) result
+fn command_read(name: Option<&str>, words: &[String]) -> Option<p9_commands::Command>
+    ensures { result
         ≡ asked_with (option_map (λ text. text.now) name.entry) (map string_bytes words.now) }
 {
     match (name, words) {
-        (None, [] | [_]) => Some("play"),
-        (Some(name), [_, word]) if word.as_str() == name => command_named(name),
-        _ => None,
-    }
-}
-
-// The command of a name.
-fn command_named(name: &str) -> Option<&'static str>
-    ensures { option_map (λ command. command.now) result ≡ known name.now }
-{
-    match name {
-        "play" => Some("play"),
-        "check" => Some("check"),
-        "verify" => Some("verify"),
-        "ns" => Some("ns"),
+        (None, [] | [_]) => Some(p9_commands::Command::Play),
+        (Some(name), [_, word]) if word.as_str() == name => name.parse().ok(),
         _ => None,
     }
 }
@@ -144,7 +131,7 @@ fn bare_program<'a>(alloc: Global) -> Command<'a>
         .disable_help_subcommand(true)
 }
 
-// Adds the command of a name, behind which nothing may follow.
+// Adds the command of a name, after which nothing may follow.
 fn with_command<'a>(
     alloc: Global,
     program: Command<'a>,

@@ -4,11 +4,11 @@ use super::{Asked, command_asked};
 use std::alloc::Global;
 use std::process::Abort;
 
-// The words behind the program's name, and what they ask for.
+// The words after the program's name, and what they ask for.
 const CASES: &str = "\
-: play
-play: play
-ns: ns
+: Play
+play: Play
+ns: Ns
 serve -a 127.0.0.1:564 -r 1: serve 127.0.0.1:564 1
 serve -r 1000000000 -a [::1]:0: serve [::1]:0 1000000000
 serve -a=127.0.0.1:564 -r2: serve 127.0.0.1:564 2
@@ -52,7 +52,7 @@ fn words_ask_for_what_is_written_behind_them(rt: HostRuntime) {
 fn asked(rt: &impl Abort, alloc: Global, words: &str) -> String {
     let all = words_of(rt, alloc, words);
     let text = match command_asked(alloc, all.as_slice()).expect(rt, "memory") {
-        Some(Asked::Command(command)) => String::from_str(alloc, command),
+        Some(Asked::Command(command)) => format!(in alloc; "{command:?}"),
         Some(Asked::Serve { address, rounds }) => format!(in alloc; "serve {address} {rounds}"),
         None => String::from_str(alloc, "none"),
     };
