@@ -1,12 +1,11 @@
 -- What an input offers to a server.
-use Rattle.std.proofs.Common.{◌≡◌, ℕ, [], ◌++◌, List, Option, Some, None, Result, Ok, Err, refl}
+use Rattle.std.proofs.Common.{◌≡◌, ℕ, [], ◌++◌, List, Option, Some, None, Result, Ok, Err}
 use Rattle.std.proofs.Common.{append_assoc, sym, subst, ap, ◌∙◌}
 use Rattle.p9_base.specs.Results.{and_then}
 use Rattle.p9_guard.specs.Guard.{Guarded}
-use Rattle.p9_nsfile.specs.Space.{Report}
 use Rattle.p9_commands.proofs.Ends.{moved}
 use Rattle.p9_commands.specs.Offer.{Offer, Serves, offer_in}
-use Rattle.p9_commands.specs.Prepared.{IsPrepareErrorBy, Prepared, Rejected, guard_in}
+use Rattle.p9_commands.specs.Prepared.{Prepared, Rejected, guard_in}
 use Rattle.p9_commands.specs.Prepared.{with_reports}
 use Rattle.p9_commands.specs.Refusal.{IsStop, TellsStop, refusal_line}
 use Rattle.p9_commands.specs.Report.{reports_text}
@@ -15,29 +14,12 @@ use Rattle.p9_commands.specs.declared.refusal.Stop.{Stop}
 use Rattle.p9_commands.specs.declared.refusal.Stop.TheVariants.{Refused, NoMemory}
 
 module _ (before after : List ℕ) where
-  -- an input that is refused
-  pub unprepared-offer : (found : Result Prepared Rejected) (reports : List Report) (stop : Stop)
-      → IsPrepareErrorBy found reports stop
-      → TellsStop stop (before ++ reports_text reports) after
-      → Serves (and_then found offer_in) before after None
-  unprepared-offer found reports NoMemory is told = absurd told
-  unprepared-offer found reports (Refused refusal) is told =
-      subst (λ (f : Result Prepared Rejected). Serves (and_then f offer_in) before after None)
-      (sym is) (told ∙ append_assoc before (reports_text reports) (refusal_line refusal))
-
   module _ (prepared : Prepared) where
     -- what is offered, where this is the guard
     abbrev by_guard : Result Guarded Refusal → Result Offer Rejected
     by_guard found =
         and_then (with_reports prepared.space.reports found)
         (λ guard. Ok (record { reports = prepared.space.reports; guard = guard }))
-
-    -- the guard is made
-    pub guard-offer : (guard : Guarded) → after ≡ before ++ reports_text prepared.space.reports
-        → guard_in prepared ≡ Ok guard → Serves (offer_in prepared) before after (Some guard)
-    guard-offer guard reported is =
-        subst (λ (found : Result Guarded Refusal). Serves (by_guard found) before after
-        (Some guard)) (sym is) (refl, reported)
 
     -- there is none
     pub refused-offer : (between : List ℕ) (stop : Stop)

@@ -1,9 +1,8 @@
 -- What an input comes to, by its parts.
-use Rattle.std.proofs.Common.{◌≡◌, List, Option, Some, None, Result, Ok, Err, refl, sym, ap, ◌∙◌}
+use Rattle.std.proofs.Common.{◌≡◌, List, None, Result, Ok, Err, refl}
 use Rattle.std.specs.Prelude.{IfErr, IfOk, OnOk}
 use Rattle.p9_base.specs.Results.{and_then}
 use Rattle.p9_base.specs.declared.node_ref.NodeRef.{NodeRef}
-use Rattle.p9_cert.specs.declared.gap.Gap.{Gap}
 use Rattle.p9_guard.specs.Guard.{Guarded}
 use Rattle.p9_nsfile.specs.Space.{Report}
 use Rattle.p9_commands.specs.NameSpace.{NameSpace, gap_over, guard_over}

@@ -1,8 +1,8 @@
-use Rattle.std.proofs.Common.{IfErr, IfOk, None, OnOk, ap, map, ◌∙◌, ◌≡◌}
+use Rattle.std.proofs.Common.{IfErr, IfOk, None, OnOk, ap, map, ◌≡◌}
 use Rattle.std.proofs.lemmas.Result.{err_from_is_err_and}
 use Rattle.p9_export.specs.Event.{event_view}
 use Rattle.p9_commands.specs.Command.{Writes}
-use Rattle.p9_commands.specs.Prepared.{Prepared, gap_in}
+use Rattle.p9_commands.specs.Prepared.{gap_in}
 use Rattle.p9_commands.specs.Refusal.{IsUnverified}
 use Rattle.p9_commands.specs.declared.command.Command.TheVariants.{Play}
 use Rattle.p9_commands.proofs.Ends.{of_parts}
