@@ -19,11 +19,11 @@ accept_each = 16
 
 -- behind so many quiet rounds a server rests before each further one
 abbrev pub rest_from : ℕ
-rest_from = 3_000
+rest_from = 5_000
 
 -- behind so many it rests longest
 abbrev pub most_quiet : ℕ
-most_quiet = 3_007
+most_quiet = 5_007
 
 -- before the first round
 abbrev pub new_pacing : Pacing

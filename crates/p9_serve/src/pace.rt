@@ -16,16 +16,16 @@ const LONGEST_WAIT: u64 = 63;
 const ACCEPT_EACH: u64 = 16;
 
 // Behind so many quiet rounds a server rests before each further one.
-const REST_FROM: u64 = 3_000;
+const REST_FROM: u64 = 5_000;
 
 // Behind so many it rests longest, so that no more are counted.
-const MOST_QUIET: u64 = 3_007;
+const MOST_QUIET: u64 = 5_007;
 
 /// What a server's rounds so far say of the next one: whether it accepts, and how long to rest
 /// before it. A round is quiet where nothing was taken in, moved or closed.
 ///
 /// A round accepts if it is the first, if none of the 63 before it did, if the quiet rounds just
-/// before it are 16 or a multiple of that, and behind each rest. There is a rest behind 3,000 quiet
+/// before it are 16 or a multiple of that, and behind each rest. There is a rest behind 5,000 quiet
 /// rounds and behind each further one: 50 microseconds at first, then each time twice as long, up
 /// to 4,000. A round that is not quiet ends the rests.
 #[derive(Drop)]
@@ -101,14 +101,14 @@ fn micros(quiet: u64) -> u64
     ensures { result ≡ rest_of quiet }
 {
     match quiet {
-        0..3_000 => 0,
-        3_000 => 50,
-        3_001 => 100,
-        3_002 => 200,
-        3_003 => 400,
-        3_004 => 800,
-        3_005 => 1_600,
-        3_006 => 3_200,
+        0..5_000 => 0,
+        5_000 => 50,
+        5_001 => 100,
+        5_002 => 200,
+        5_003 => 400,
+        5_004 => 800,
+        5_005 => 1_600,
+        5_006 => 3_200,
         _ => 4_000,
     }
 }

@@ -51,16 +51,16 @@ fn a_clock_that_fails_ends_the_serving(rt: HostRuntime) {
     assert_eq!(rt; serve(&rt, 1_000, 7), (4, 7));
 }
 
-// There is a rest before each round behind 3,000 quiet ones: 50, 100, 200, 400, 800, 1,600, 3,200,
+// There is a rest before each round behind 5,000 quiet ones: 50, 100, 200, 400, 800, 1,600, 3,200,
 // and then 4,000 microseconds each time.
 #[test]
 fn a_server_without_clients_rests(rt: HostRuntime) {
-    assert_eq!(rt; rests(&rt, 3_000), (0, Duration::ZERO));
-    assert_eq!(rt; rests(&rt, 3_001), (1, Duration::from_micros(50)));
-    assert_eq!(rt; rests(&rt, 3_007), (7, Duration::from_micros(6_350)));
-    assert_eq!(rt; rests(&rt, 3_010), (10, Duration::from_micros(18_350)));
+    assert_eq!(rt; rests(&rt, 5_000), (0, Duration::ZERO));
+    assert_eq!(rt; rests(&rt, 5_001), (1, Duration::from_micros(50)));
+    assert_eq!(rt; rests(&rt, 5_007), (7, Duration::from_micros(6_350)));
+    assert_eq!(rt; rests(&rt, 5_010), (10, Duration::from_micros(18_350)));
     assert_eq!(rt;
-        rests(&rt, 4_000),
+        rests(&rt, 6_000),
         (1_000, Duration::from_micros(3_978_350))
     );
 }

@@ -9,7 +9,7 @@ use std::time::Duration;
 #[test]
 fn whoever_comes_ends_the_rests(rt: HostRuntime) {
     let mut loopback = Loopback::new(&rt, SMALL);
-    loopback.wait(3_000);
+    loopback.wait(5_000);
     assert_eq!(rt; loopback.rest(), Duration::from_micros(50));
     loopback.wait(7);
     assert_eq!(rt; loopback.rest(), Duration::from_micros(4_000));
@@ -17,12 +17,12 @@ fn whoever_comes_ends_the_rests(rt: HostRuntime) {
     loopback.wait(1);
     assert_eq!(rt; loopback.accepted, 1);
     assert_eq!(rt; loopback.rest(), Duration::ZERO);
-    loopback.wait(3_000);
+    loopback.wait(5_000);
     assert_eq!(rt; loopback.rest(), Duration::from_micros(50));
     send(&rt, &mut client, bytes(&rt, VERSION.0).as_slice());
     loopback.reply(&rt, &mut client, VERSION.1);
     assert_eq!(rt; loopback.rest(), Duration::ZERO);
-    loopback.wait(3_003);
+    loopback.wait(5_003);
     assert!(rt; loopback.rest() > Duration::ZERO);
     drop(client);
     loopback.close(&rt, 1);
