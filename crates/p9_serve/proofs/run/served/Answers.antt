@@ -19,7 +19,7 @@ returns-in_err-write_text-clause-err g c =
     let told = c.served_guard.new.err.items in
     let serves : Serves (offer_of c.args.input.now) [] told c.in-Ok.guard =
     subst (λ (before : List ℕ). Serves (offer_of c.args.input.now) before told c.in-Ok.guard)
-    c.new-told.ensures.items c.in-Ok.ensures in
+    c.new-told.ensures.items c.in-Ok.ensures.ok in
     let written : Written = record {
       out_before = g.W.Write.contents c.args.out.now;
       out = g.W.Write.contents c.args.out.now;
