@@ -2,3 +2,4 @@ mod Sessions
 mod Keyed
 mod Lives
 mod Sends
+mod Holds

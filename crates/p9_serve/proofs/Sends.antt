@@ -24,12 +24,12 @@ pub record GoesOut (pending : List ℕ) (answered : List Answered) (written : Li
 
 module _ {S : Type 0} (remaining contents : S → Option (List ℕ)) (key : ℕ) where
   -- a change at another key changes nothing at this one
-  arrived : (other : ℕ) (a b : Serving S) → ArrivesAt remaining contents other a b
+  pub arrived : (other : ℕ) (a b : Serving S) → ArrivesAt remaining contents other a b
       → (other == key) ≡ false → slot_at b.slots key ≡ slot_at a.slots key
   arrived other a b t e =
       t.taken.others key (λ same. eqb-false other key e (sym (same ∙ t.key_is)))
 
-  acted : (k : ℕ) (slot : Option (Connection S)) (a b : Serving S)
+  pub acted : (k : ℕ) (slot : Option (Connection S)) (a b : Serving S)
       → b.slots ≡ slice_set a.slots k slot → (k == key) ≡ false
       → slot_at b.slots key ≡ slot_at a.slots key
   acted k slot a b is e =

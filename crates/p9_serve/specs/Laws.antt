@@ -1,17 +1,19 @@
 -- The laws of a server's life.
-use Rattle.std.specs.Prelude.{◌≡◌, ℕ, ◌<◌, ◌^◌, List, [], ◌∷◌, ◌++◌, Option}
+use Rattle.std.specs.Prelude.{◌≡◌, ℕ, ◌<◌, ◌^◌, List, [], ◌∷◌, ◌++◌, Option, Some}
 use Rattle.std.specs.List.{AllByRecursion, concat}
 use Rattle.p9_base.specs.declared.node_ref.NodeRef.{NodeRef}
 use Rattle.p9_step.specs.State.{State}
 use Rattle.p9_guard.specs.Guard.{Guarded}
 use Rattle.p9_guard.specs.Headline.{IsPromised}
 use Rattle.p9_guard_laws.specs.Guarded.{IsGuardedState}
+use Rattle.p9_conn.specs.Conn.{Connection}
 use Rattle.p9_conn.specs.History.{events_of, replies_of}
 use Rattle.p9_conn.specs.Laws.{IsRun}
-use Rattle.p9_serve.specs.Life.{Arrives, HasRounds, Moment, Pass, answered_at, history, stay}
+use Rattle.p9_serve.specs.Life.{Arrives, ArrivesAt, HasRounds, Moment, Pass, answered_at, history}
+use Rattle.p9_serve.specs.Life.{stay}
 use Rattle.p9_serve.specs.Life.{written_at}
 use Rattle.p9_serve.specs.Rounds.{Running, new_server}
-use Rattle.p9_serve.specs.Serving.{IsFinished, Serving}
+use Rattle.p9_serve.specs.Serving.{IsFinished, Serving, slot_at}
 
 -- the state and all replies are those of the run of the openings, messages and closings, in their
 -- order; nothing inside a hidden directory has changed, and no byte that any client was answered
@@ -27,6 +29,14 @@ pub record IsSent (key : ℕ) (moments : List Moment) : Type 0 where
   pub pending : List ℕ
   pub own : concat (replies_of (answered_at key (stay key moments)))
       ≡ written_at key (stay key moments) ++ pending
+
+-- a connection's stream holds what it held at first and then what was written at the key; that, with
+-- what is pending, is the replies of the key's turns
+pub record HoldsReplies {S : Type 0} (contents : S → Option (List ℕ)) (key : ℕ) (held : List ℕ)
+    (moments : List Moment) (conn : Connection S) : Type 0 where
+  pub holds : contents conn.stream ≡ Some (held ++ written_at key moments)
+  pub own : concat (replies_of (answered_at key moments))
+      ≡ written_at key moments ++ conn.link.pending
 
 module _ (S : Type 0) where
   -- a life from clients to clients
@@ -56,3 +66,13 @@ module _ (S : Type 0) where
       (remaining contents : S → Option (List ℕ)) (earlier later : List Moment)
       (old new : Serving S) (key : ℕ)
       → Pass remaining contents (earlier ++ Arrives key ∷ later) old new → IsSent key later
+
+  -- and so holds each client's stream that tells what it holds, as long as the client has the key
+  abbrev pub StreamsHoldTheReplies : Type 0
+  StreamsHoldTheReplies =
+      (remaining contents : S → Option (List ℕ)) (key : ℕ) (old first new : Serving S)
+      (arrives : ArrivesAt remaining contents key old first) (moments : List Moment)
+      (conn : Connection S) (held : List ℕ)
+      → Pass remaining contents moments first new → stay key moments ≡ moments
+      → slot_at new.slots key ≡ Some conn → contents arrives.stream ≡ Some held
+      → HoldsReplies contents key held moments conn

@@ -2,9 +2,11 @@
 //! are the laws.
 
 ghost use Rattle.p9_serve.specs.Laws.{ClientsAreSentTheirReplies, EveryLifeIsPromised};
+ghost use Rattle.p9_serve.specs.Laws.{StreamsHoldTheReplies};
 
 pub use p9_conn::laws::{
-    a_history_is_a_run, a_history_is_promised, frames_come_in_order, replies_go_out,
+    a_history_is_a_run, a_history_is_promised, bytes_become_replies, frames_come_in_order,
+    replies_go_out,
 };
 
 /// The theorem, of a server's whole life: from a new server over a guard, through any rounds in
@@ -23,4 +25,11 @@ pub fn every_life_is_promised<S>()
 /// order, until its key is given to another client; and so where another had the key before.
 pub fn clients_are_sent_their_replies<S>()
     ensures { ClientsAreSentTheirReplies S }
+{}
+
+/// A stream that tells what it holds: as long as a client has its key, its stream holds what it held
+/// when the client arrived, and then the replies to that client, up to what is pending; and so where
+/// another had the key before.
+pub fn streams_hold_the_replies<S>()
+    ensures { StreamsHoldTheReplies S }
 {}
