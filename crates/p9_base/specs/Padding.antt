@@ -17,7 +17,7 @@ length-take_padded n k bs le e =
       length-replicate {A = ℕ} (n - length (take k bs)) 0,
     ) in omega arith)
 
--- a list with zeros put behind is its own padding
+-- a list with zeros put after it is its own padding
 pub padded-take : (n : ℕ) (xs : List ℕ) → length xs ≤ n
     → xs ++ drop (length xs) (replicate n 0)
     ≡ padded n (take (length xs) (xs ++ drop (length xs) (replicate n 0)))

@@ -5,103 +5,74 @@ ghost use Rattle.p9_base.specs.Fault.{fault_text_max, fault_number, text_of};
 ghost use Rattle.p9_base.specs.Text.{is_text};
 
 use crate::memory::NoMemory;
-use thiserror::Error;
+use std::error::Error;
+use std::fmt;
 
 /// Why a request is refused. The text of each is what the reply of error(5) carries.
-#[derive(Clone, Copy, Debug, PartialEq, Eq, Error)]
+#[derive(Clone, Copy, Debug, PartialEq, Eq)]
 pub enum Fault {
     /// The bytes are no message, or more than the session's msize.
-    #[error("malformed message")]
     Malformed,
     /// A request other than a version, while the session has no msize.
-    #[error("version not set")]
     VersionNotSet,
     /// A version asks for an msize below 512.
-    #[error("msize too small")]
     SmallMsize,
     /// There is no authentication: an auth, or an attach with an afid.
-    #[error("authentication not required")]
     NoAuthentication,
     /// An attach by somebody who is no listed user.
-    #[error("unknown user")]
     UnknownUser,
     /// An attach by a name that is neither empty nor begins with a slash.
-    #[error("unknown attach name")]
     UnknownAttachName,
     /// The session has no such fid, or it may not be one.
-    #[error("unknown fid")]
     UnknownFid,
     /// A new fid that the session has already.
-    #[error("fid in use")]
     FidInUse,
     /// A walk, an open or a create of an open fid.
-    #[error("fid already open")]
     FidOpen,
     /// A read or write of a fid that is not open for it.
-    #[error("fid not open for this")]
     FidNotOpen,
     /// A file where a directory must be.
-    #[error("not a directory")]
     NotDirectory,
     /// A name that no member of the directory has.
-    #[error("file does not exist")]
     NotFound,
     /// The user lacks a permission.
-    #[error("permission denied")]
     PermissionDenied,
     /// A file that has to exist was removed: that of a fid, the root of the name space in an
     /// attach, each member of a place from which a walk or a create goes on, the member in which a
     /// create makes its file, or the file where a walk arrives.
-    #[error("phase error")]
     PhaseError,
     /// A mode to open or create with that means nothing.
-    #[error("bad open mode")]
     BadOpenMode,
     /// A directory where a file must be.
-    #[error("is a directory")]
     IsDirectory,
     /// An exclusive-use file that some fid has open.
-    #[error("exclusive use file already open")]
     ExclusiveUse,
     /// A name that no file may have.
-    #[error("bad file name")]
     BadFileName,
     /// A create or a rename to a name that the directory has.
-    #[error("file already exists")]
     FileExists,
     /// A create in a union of which no member permits it.
-    #[error("mounted directory forbids creation")]
     CreationForbidden,
     /// A directory read at an offset that is neither 0 nor where the last one ended.
-    #[error("bad directory offset")]
     BadDirectoryOffset,
     /// A directory read with no room for the next entry.
-    #[error("read count too small")]
     SmallReadCount,
     /// A file would have more bytes than files may have.
-    #[error("file too large")]
     FileTooLarge,
     /// A remove of a directory with entries.
-    #[error("directory not empty")]
     NotEmpty,
     /// A remove or a rename of a server's root.
-    #[error("root can't be removed or renamed")]
     IsRoot,
     /// A wstat of a field that never changes, or of a mode that means nothing or is of the other
     /// kind: a directory's for a file, or a file's for a directory.
-    #[error("wstat of a fixed field")]
     FixedField,
     /// A session has as many fids as it may have.
-    #[error("too many fids")]
     TooManyFids,
     /// A server has given all its qid numbers.
-    #[error("qid numbers used up")]
     QidsUsedUp,
     /// An allocation failed.
-    #[error("out of memory")]
     OutOfMemory,
     /// A fid is as far from its place of attachment as it may be.
-    #[error("path too deep")]
     PathTooDeep,
 }
 
@@ -157,6 +128,19 @@ impl Fault {
         }
     }
 }
+
+impl fmt::Display for Fault {
+    ghost use Rattle.std.specs.Prelude.{Some};
+    ghost use Rattle.p9_base.specs.Fault.{text_of};
+
+    ghost output = { λ fault. Some (text_of fault) };
+
+    fn fmt<W: fmt::Write>(&self, f: &mut fmt::Formatter<W>) -> fmt::Result {
+        f.write_str(self.text())
+    }
+}
+
+impl Error for Fault {}
 
 /// Every error that [`NoMemory`] is made from says that an allocation failed.
 impl<E: Drop> From<E> for Fault

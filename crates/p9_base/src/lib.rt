@@ -1,5 +1,5 @@
-//! The words that all layers share: names, users, groups, modes, rights, qids, faults and lines of
-//! text.
+//! The words that all layers share: names, users, groups, modes, rights, qids, faults, lines of text
+//! and what ends a call.
 //!
 //! Nothing here allocates but groups, and the splitting of a text into lines and words. Contracts
 //! see the name of a file or a user as a list of bytes, groups as a list of them by name, and every
@@ -18,6 +18,7 @@ mod node_ref;
 mod qid;
 mod rights;
 mod statement;
+mod stop;
 #[cfg(test)]
 mod tests;
 mod text;
@@ -35,5 +36,6 @@ pub use node_ref::{NodeRef, SERVERS_MAX};
 pub use qid::Qid;
 pub use rights::granted;
 pub use statement::{Statement, statements};
+pub use stop::Stop;
 pub use text::is_text;
 pub use user::User;

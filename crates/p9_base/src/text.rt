@@ -9,7 +9,7 @@ use std::hash::{Hash, Hasher};
 use std::marker::Model;
 use std::str::from_utf8_unchecked;
 
-/// A text of at most `N` bytes, UTF-8 without NUL. The bytes behind it are zero.
+/// A text of at most `N` bytes, UTF-8 without NUL. The bytes after it are zero.
 #[derive(Clone, Copy)]
 pub struct Text<const N: usize> {
     len: u8,

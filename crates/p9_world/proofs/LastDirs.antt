@@ -12,7 +12,7 @@ use Rattle.p9_world.specs.declared.last_dir.LastDir.{LastDir}
 use Rattle.p9_world.specs.LastDir.{dir_from}
 use Rattle.p9_world.specs.Path.{dir_number, dir_of, number_from}
 
--- names behind others lead on from where those lead
+-- names after others lead on from where those lead
 pub number_from-append : (k j : ℕ) (xs ys : List Component) (nodes : List Node)
     → number_from k xs nodes ≡ Some j → number_from k (xs ++ ys) nodes ≡ number_from j ys nodes
 number_from-append k j [] ys nodes led =

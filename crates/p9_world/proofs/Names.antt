@@ -9,11 +9,11 @@ use Rattle.p9_base.specs.Name.{is_name}
 use Rattle.p9_clean.specs.Path.{Component}
 use Rattle.p9_world.specs.Path.{last_and_rest}
 
--- the names that there are, with the components behind them if these may all name files
+-- the names that there are, with the components after them if these may all name files
 abbrev pub names_behind : List Component → List Component → Option (List Component)
 names_behind names others = if list_all is_name others then Some (names ++ others) else None
 
--- the last of some names, found behind the rest
+-- the last of some names, found after the rest
 last_and_rest-append : (rest : List Component) (name : Component)
     → last_and_rest (rest ++ name ∷ []) ≡ Some (name, rest)
 last_and_rest-append [] name = refl

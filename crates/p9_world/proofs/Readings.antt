@@ -39,7 +39,7 @@ world_of-err : (text : List ℕ) (e : ℕ × LineFault)
 unfolding world_of
 world_of-err text e bad = rw bad refl
 
--- what is told of a statement is told of the text, if that comes to it
+-- what is reported of a statement is reported of the text, if that comes to it
 pub Tells-world_of : (error : WorldError) (text : List ℕ) (step : Result World (ℕ × LineFault))
     → Tells error step
     → ((e : ℕ × LineFault) → step ≡ Err e

@@ -32,8 +32,8 @@ use Rattle.p9_world.specs.Meaning.{Makes}
 use Rattle.p9_world.specs.Path.{dir_number, dir_of, names_of, number_from}
 use Rattle.p9_world.specs.declared.last_dir.LastDir.{LastDir}
 use Rattle.p9_world.specs.declared.error.LineFault.{LineFault}
-use Rattle.p9_world.specs.declared.error.LineError.{LineError}
-use Rattle.p9_world.specs.declared.error.LineError.TheVariants.{Bad, NoMemory}
+use Rattle.p9_base.specs.declared.stop.Stop.{Stop}
+use Rattle.p9_base.specs.declared.stop.Stop.TheVariants.{Refused, NoMemory}
 
 -- where no server has the name, each has another
 other_names : (name : List ℕ) (servers : List (List ℕ)) (k : ℕ) (d : List ℕ)
@@ -121,14 +121,14 @@ same_server (suc k) (x ∷ xs) = ap (λ rest. x ∷ rest) (same_server k xs)
 
 -- a change of the last server, seen in the world
 pub Makes-in_last_server : {D : Type 0} (change : Server → Result Server LineFault) (w : World)
-    (s new : Server) (r : Result D LineError) → 0 < length w.forest
+    (s new : Server) (r : Result D (Stop LineFault)) → 0 < length w.forest
     → server_at (last_number w) w.forest ≡ s → Makes (change s) s new r
     → Makes (in_last_server change w) w (with_changed_server (last_number w) new w) r
 unfolding need
 Makes-in_last_server change w s new (Ok done) some at made =
     let test = lt-ltb 0 (length w.forest) some in
     rw (test, at, made) refl
-Makes-in_last_server change w s new (Err (Bad fault)) some at made =
+Makes-in_last_server change w s new (Err (Refused fault)) some at made =
     let test = lt-ltb 0 (length w.forest) some in (
       rw (test, at, made.0) refl,
       ap (λ forest. record w { forest = forest })
@@ -190,7 +190,7 @@ module _ {T : Type 0} (state : T → Server) (ts : List T) (t u : T) (n : ℕ) (
 
     -- and its line is that of the last server
     pub Makes-last : {D : Type 0} (change : Server → Result Server LineFault)
-        (r : Result D LineError) → Makes (change (state t)) (state t) (state u) r →
+        (r : Result D (Stop LineFault)) → Makes (change (state t)) (state t) (state u) r →
         Makes (in_last_server change (with_forest forest)) (with_forest forest)
         (with_forest (map state (set ts (n - 1) u))) r
     Makes-last change r made =

@@ -8,8 +8,8 @@ use Rattle.p9_base.specs.User.{is_user}
 use Rattle.p9_base.specs.Results.{need}
 use Rattle.p9_world.specs.declared.error.LineFault.{LineFault}
 use Rattle.p9_world.specs.declared.error.LineFault.TheVariants.{BadUser, Duplicate}
-use Rattle.p9_world.specs.declared.error.LineError.{LineError}
-use Rattle.p9_world.specs.declared.error.LineError.TheVariants.{Bad, NoMemory}
+use Rattle.p9_base.specs.declared.stop.Stop.{Stop}
+use Rattle.p9_base.specs.declared.stop.Stop.TheVariants.{Refused, NoMemory}
 use Rattle.p9_world.specs.World.{World}
 
 -- no text is there twice
@@ -30,6 +30,6 @@ group_line name leader members w =
     }))))
 
 -- an error of a reader of users: one of them is none, or an allocation fails
-abbrev pub IsBadUser : LineError → Bool → Type 0
-IsBadUser (Bad fault) valid = (fault ≡ BadUser) × (valid ≡ false)
+abbrev pub IsBadUser : Stop LineFault → Bool → Type 0
+IsBadUser (Refused fault) valid = (fault ≡ BadUser) × (valid ≡ false)
 IsBadUser NoMemory valid = Unit {0}

@@ -29,7 +29,7 @@ is_server_name name =
 abbrev pub server_number : List ℕ → List (List ℕ) → Option ℕ
 server_number name servers = position (λ other. bytes_eq other name) servers
 
--- a server of this name, with a root alone, joins behind the others
+-- a server of this name, with a root alone, joins after the others
 abbrev pub with_server : List ℕ → World → World
 with_server name w = record w { forest = w.forest ++ rooted ∷ []; servers = w.servers ++ name ∷ [] }
 

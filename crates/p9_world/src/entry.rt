@@ -10,7 +10,7 @@ ghost use Rattle.p9_world.specs.LastDir.{IsWhereNamesLead};
 ghost use Rattle.p9_world.specs.Meaning.{Makes};
 ghost use Rattle.p9_world.specs.Path.{last_and_rest};
 
-use crate::error::{LineError, LineFault};
+use crate::error::{LineFault, Stop};
 use crate::last_dir::LastDir;
 use crate::mode::{file_mode_in, permissions_in};
 use crate::path::{names_of, take_last};
@@ -19,7 +19,7 @@ use p9_base::{Kind, Mode, Name, NoMemory, Permissions, User};
 use p9_tree::{FILE_MAX, NEXT_MAX, New, Tree};
 use std::alloc::Allocator;
 
-/// The words behind `dir`, and behind `file` before the file's bytes.
+/// The words after `dir`, and after `file` up to the file's bytes.
 #[derive(Clone, Copy)]
 pub(crate) struct NodeWords<'a> {
     pub path: &'a str,
@@ -33,13 +33,13 @@ pub(crate) fn add_dir<T: Tree>(
     alloc: T::Alloc,
     world: &mut Reader<T>,
     words: NodeWords<'_>,
-) -> Result<(), LineError>
+) -> Result<(), Stop>
     ensures { Makes (in_last_server (dir_line words.entry.path.now words.entry.mode.now
         words.entry.uid.now words.entry.gid.now) world.old) world.old world.new result }
 {
     let forest = &mut world.forest;
     let Some(tree) = forest.trees.last_mut() else {
-        return Err(LineError::Bad(LineFault::NoServer));
+        return Err(Stop::Refused(LineFault::NoServer));
     };
     add_dir_to(alloc, tree, &mut world.last_dir, words)
 }
@@ -50,13 +50,13 @@ pub(crate) fn add_file<T: Tree>(
     world: &mut Reader<T>,
     words: NodeWords<'_>,
     hex: &str,
-) -> Result<(), LineError>
+) -> Result<(), Stop>
     ensures { Makes (in_last_server (file_line words.entry.path.now words.entry.mode.now
         words.entry.uid.now words.entry.gid.now hex.now) world.old) world.old world.new result }
 {
     let forest = &mut world.forest;
     let Some(tree) = forest.trees.last_mut() else {
-        return Err(LineError::Bad(LineFault::NoServer));
+        return Err(Stop::Refused(LineFault::NoServer));
     };
     add_file_to(alloc, tree, &mut world.last_dir, words, hex)
 }
@@ -67,7 +67,7 @@ fn add_dir_to<T: Tree>(
     tree: &mut T,
     last_dir: &mut LastDir<T::Alloc>,
     words: NodeWords<'_>,
-) -> Result<(), LineError>
+) -> Result<(), Stop>
     requires { IsWhereNamesLead last_dir.old (T.state tree.old) }
     ensures made { Makes (dir_line words.entry.path.now words.entry.mode.now words.entry.uid.now
         words.entry.gid.now (T.state tree.old)) (T.state tree.old) (T.state tree.new) result }
@@ -75,13 +75,13 @@ fn add_dir_to<T: Tree>(
     ensures led { IsWhereNamesLead last_dir.new (T.state tree.new) }
 {
     let Some(names) = names_of(alloc, words.path)? else {
-        return Err(LineError::Bad(LineFault::BadPath));
+        return Err(Stop::Refused(LineFault::BadPath));
     };
     let Some(permissions) = permissions_in(words.mode.as_bytes()) else {
-        return Err(LineError::Bad(LineFault::BadMode));
+        return Err(Stop::Refused(LineFault::BadMode));
     };
     let Some((uid, gid)) = owners(words.uid, words.gid) else {
-        return Err(LineError::Bad(LineFault::BadUser));
+        return Err(Stop::Refused(LineFault::BadUser));
     };
     make_dir(tree, last_dir, names, permissions, uid, gid)
 }
@@ -94,7 +94,7 @@ fn make_dir<T: Tree>(
     permissions: Permissions,
     uid: User,
     gid: User,
-) -> Result<(), LineError>
+) -> Result<(), Stop>
     requires { IsWhereNamesLead last_dir.old (T.state tree.old) }
     ensures made { Makes (with_dir (last_and_rest names.items) permissions uid gid (T.state tree.old))
         (T.state tree.old) (T.state tree.new) result }
@@ -124,7 +124,7 @@ fn add_file_to<T: Tree>(
     last_dir: &mut LastDir<T::Alloc>,
     words: NodeWords<'_>,
     hex: &str,
-) -> Result<(), LineError>
+) -> Result<(), Stop>
     requires { IsWhereNamesLead last_dir.old (T.state tree.old) }
     ensures made { Makes (file_line words.entry.path.now words.entry.mode.now words.entry.uid.now
         words.entry.gid.now hex.now (T.state tree.old)) (T.state tree.old) (T.state tree.new)
@@ -133,22 +133,22 @@ fn add_file_to<T: Tree>(
     ensures led { IsWhereNamesLead last_dir.new (T.state tree.new) }
 {
     let Some(mut names) = names_of(alloc, words.path)? else {
-        return Err(LineError::Bad(LineFault::BadPath));
+        return Err(Stop::Refused(LineFault::BadPath));
     };
     let Some(name) = take_last(&mut names) else {
-        return Err(LineError::Bad(LineFault::BadPath));
+        return Err(Stop::Refused(LineFault::BadPath));
     };
     let Some(mode) = file_mode_in(words.mode.as_bytes()) else {
-        return Err(LineError::Bad(LineFault::BadMode));
+        return Err(Stop::Refused(LineFault::BadMode));
     };
     let Some((uid, gid)) = owners(words.uid, words.gid) else {
-        return Err(LineError::Bad(LineFault::BadUser));
+        return Err(Stop::Refused(LineFault::BadUser));
     };
     let Some(bytes) = bytes_in(alloc, hex)? else {
-        return Err(LineError::Bad(LineFault::BadHex));
+        return Err(Stop::Refused(LineFault::BadHex));
     };
     if bytes.len() > FILE_MAX {
-        return Err(LineError::Bad(LineFault::TooLarge));
+        return Err(Stop::Refused(LineFault::TooLarge));
     }
     let entry = NodeLine {
         mode,
@@ -184,7 +184,7 @@ fn add_entry<T: Tree>(
     name: Name,
     names: Vec<Name, T::Alloc>,
     entry: &NodeLine<'_>,
-) -> Result<(), LineError>
+) -> Result<(), Stop>
     requires led { IsWhereNamesLead last_dir.old (T.state tree.old) }
     requires small { length entry.now.bytes.now ≤ file_max }
     requires empty_dir { IsTrue (is_dir entry.now.mode) → entry.now.bytes.now ≡ [] }
@@ -199,13 +199,13 @@ fn add_entry<T: Tree>(
     ensures led { IsWhereNamesLead last_dir.new (T.state tree.new) }
 {
     let Some(dir) = last_dir.dir_of(tree, names.as_slice()) else {
-        return Err(LineError::Bad(LineFault::NoParent));
+        return Err(Stop::Refused(LineFault::NoParent));
     };
     if tree.child(dir, &name).is_some() {
-        return Err(LineError::Bad(LineFault::Duplicate));
+        return Err(Stop::Refused(LineFault::Duplicate));
     }
     if tree.next() >= NEXT_MAX {
-        return Err(LineError::Bad(LineFault::TooMany));
+        return Err(Stop::Refused(LineFault::TooMany));
     }
     let new = New {
         name,

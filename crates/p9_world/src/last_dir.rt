@@ -30,7 +30,7 @@ impl<A: Allocator + Copy> LastDir<A> {
     }
 
     /// The number of the directory that the names lead to, from the root on. Where they begin with
-    /// the names of this directory, only those behind are looked up.
+    /// the names of this directory, only those after them are looked up.
     pub fn dir_of<T: Tree>(&self, tree: &T, names: &[Name]) -> Option<u64>
         requires { IsWhereNamesLead self.now (T.state tree.now) }
         ensures { result ≡ dir_of names.now (T.state tree.now) }

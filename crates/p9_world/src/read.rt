@@ -7,7 +7,7 @@ ghost use Rattle.p9_world.specs.Read.{Steps, Tells, line_meaning, operated, oper
 ghost use Rattle.p9_world.specs.Read.{read_statement, world_of};
 
 use crate::entry::{NodeWords, add_dir, add_file};
-use crate::error::{LineError, LineFault, WorldError};
+use crate::error::{LineFault, Stop, WorldError};
 use crate::group::add_group;
 use crate::hide::hide;
 use crate::reader::Reader;
@@ -56,11 +56,11 @@ fn read_statement<T: Tree, A: Allocator>(
 {
     match read_line(alloc, world, statement.words.as_slice()) {
         Ok(()) => Ok(()),
-        Err(LineError::Bad(kind)) => Err(WorldError::BadWorld {
+        Err(Stop::Refused(kind)) => Err(WorldError::BadWorld {
             line: statement.line,
             kind,
         }),
-        Err(LineError::NoMemory) => Err(WorldError::NoMemory),
+        Err(Stop::NoMemory) => Err(WorldError::NoMemory),
     }
 }
 
@@ -77,20 +77,14 @@ enum Operation {
 }
 
 // Makes the change of a line of these words.
-fn read_line<T: Tree>(
-    alloc: T::Alloc,
-    world: &mut Reader<T>,
-    words: &[&str],
-) -> Result<(), LineError>
+fn read_line<T: Tree>(alloc: T::Alloc, world: &mut Reader<T>, words: &[&str]) -> Result<(), Stop>
     ensures { Makes (line_meaning (map (λ w. w.now) words.now) world.old) world.old world.new
         result }
 {
     let [word, words @ ..] = words else {
-        return Err(LineError::Bad(LineFault::UnknownWord));
+        return Err(Stop::Refused(LineFault::UnknownWord));
     };
-    let Some(operation) = operation_of(word) else {
-        return Err(LineError::Bad(LineFault::UnknownWord));
-    };
+    let operation = operation_of(word).ok_or(Stop::Refused(LineFault::UnknownWord))?;
     operate(alloc, world, operation, words)
 }
 
@@ -98,22 +92,15 @@ fn read_line<T: Tree>(
 fn operation_of(word: &str) -> Option<Operation>
     ensures { result ≡ operation_of word.now }
 {
-    if word == "server" {
-        Some(Operation::Server)
-    } else if word == "dir" {
-        Some(Operation::Dir)
-    } else if word == "file" {
-        Some(Operation::File)
-    } else if word == "user" {
-        Some(Operation::User)
-    } else if word == "group" {
-        Some(Operation::Group)
-    } else if word == "hide" {
-        Some(Operation::Hide)
-    } else if word == "set" {
-        Some(Operation::Set)
-    } else {
-        None
+    match word {
+        "server" => Some(Operation::Server),
+        "dir" => Some(Operation::Dir),
+        "file" => Some(Operation::File),
+        "user" => Some(Operation::User),
+        "group" => Some(Operation::Group),
+        "hide" => Some(Operation::Hide),
+        "set" => Some(Operation::Set),
+        _ => None,
     }
 }
 
@@ -123,7 +110,7 @@ fn operate<T: Tree>(
     world: &mut Reader<T>,
     operation: Operation,
     words: &[&str],
-) -> Result<(), LineError>
+) -> Result<(), Stop>
     ensures { Makes (operated operation (map (λ w. w.now) words.now) world.old) world.old world.new
         result }
 {
@@ -153,6 +140,6 @@ fn operate<T: Tree>(
         }
         (Operation::Hide, [server, path]) => hide(alloc, world, server, path),
         (Operation::Set, [name, value]) => set_variable(alloc, world, name, value),
-        _ => Err(LineError::Bad(LineFault::WordCount)),
+        _ => Err(Stop::Refused(LineFault::WordCount)),
     }
 }

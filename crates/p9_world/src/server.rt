@@ -5,7 +5,7 @@ ghost use Rattle.std.specs.List.{list_any};
 ghost use Rattle.p9_world.specs.Meaning.{Makes};
 ghost use Rattle.p9_world.specs.Server.{is_reserved, is_server_name, server_line};
 
-use crate::error::{LineError, LineFault};
+use crate::error::{LineFault, Stop};
 use crate::last_dir::LastDir;
 use crate::reader::Reader;
 use p9_base::SERVERS_MAX;
@@ -14,22 +14,22 @@ use p9_tree::Tree;
 // The most bytes of a server's name.
 const SERVER_NAME_MAX: usize = 63;
 
-/// A server of this name, with a root of mode 755 that belongs to `sys`, joins behind the others.
+/// A server of this name, with a root of mode 755 that belongs to `sys`, joins after the others.
 pub(crate) fn add_server<T: Tree>(
     alloc: T::Alloc,
     world: &mut Reader<T>,
     name: &str,
-) -> Result<(), LineError>
+) -> Result<(), Stop>
     ensures { Makes (server_line name.now world.old) world.old world.new result }
 {
     if !is_server_name(name) {
-        return Err(LineError::Bad(LineFault::BadName));
+        return Err(Stop::Refused(LineFault::BadName));
     }
     if world.server_positions.has(name) {
-        return Err(LineError::Bad(LineFault::Duplicate));
+        return Err(Stop::Refused(LineFault::Duplicate));
     }
     if world.servers.len() >= SERVERS_MAX {
-        return Err(LineError::Bad(LineFault::TooMany));
+        return Err(Stop::Refused(LineFault::TooMany));
     }
     let tree = T::with_root(alloc)?;
     let owned = String::from_str(alloc, name)?;

@@ -5,7 +5,7 @@ ghost use Rattle.std.specs.List.{list_any};
 ghost use Rattle.p9_world.specs.Meaning.{Makes};
 ghost use Rattle.p9_world.specs.Variable.{is_variable_name, set_line};
 
-use crate::error::{LineError, LineFault};
+use crate::error::{LineFault, Stop};
 use crate::reader::Reader;
 use p9_tree::Tree;
 
@@ -15,14 +15,14 @@ pub(crate) fn set_variable<T: Tree>(
     world: &mut Reader<T>,
     name: &str,
     value: &str,
-) -> Result<(), LineError>
+) -> Result<(), Stop>
     ensures { Makes (set_line name.now value.now world.old) world.old world.new result }
 {
     if !is_variable_name(name) {
-        return Err(LineError::Bad(LineFault::BadName));
+        return Err(Stop::Refused(LineFault::BadName));
     }
     if world.variable_positions.has(name) {
-        return Err(LineError::Bad(LineFault::Duplicate));
+        return Err(Stop::Refused(LineFault::Duplicate));
     }
     let owned = String::from_str(alloc, name)?;
     let value = String::from_str(alloc, value)?;
