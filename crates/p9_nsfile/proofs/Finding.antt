@@ -16,14 +16,9 @@ use Rattle.p9_base.specs.declared.fault.Fault.TheVariants.{OutOfMemory}
 use Rattle.p9_base.specs.Name.{is_slash, slash}
 use Rattle.p9_base.proofs.Views.{position-map}
 use Rattle.p9_base.specs.Results.{and_then}
-use Rattle.p9_tree.specs.Server.{Server}
-use Rattle.p9_space.specs.Table.{MountRow}
-use Rattle.p9_space.specs.Walk.{walk}
-use Rattle.p9_clean.specs.Path.{cleaned, cleaned_elements, elements_of}
-use Rattle.p9_clean.proofs.ReadingBack.{elements_of-cleaned}
 use Rattle.p9_nsfile.specs.declared.fault.OpFault.{OpFault}
 use Rattle.p9_nsfile.specs.declared.fault.OpFault.TheVariants.{Path, UnknownServer}
-use Rattle.p9_nsfile.specs.declared.fault.Stop.TheVariants as stops
+use Rattle.p9_base.specs.declared.stop.Stop.TheVariants as stops
 use Rattle.p9_base.specs.declared.node_ref.TheConstants.{SERVERS_MAX}
 use Rattle.p9_nsfile.specs.Answer.{Gives, is_memory, walk_stop}
 use Rattle.p9_nsfile.specs.Find.{behind_hash, found_on_server, path_fault, server_root, walked_along}
@@ -41,7 +36,7 @@ Gives-walk_stop answer fault reason = ⊎_elim
     reason where
       by_test : (b : Bool) → path_fault answer ≡ Err (Path fault)
           → Gives {X = List NodeRef} (path_fault answer)
-          (Err (if b then stops.NoMemory else stops.Fault (Path fault)))
+          (Err (if b then stops.NoMemory else stops.Refused (Path fault)))
       by_test true walks = tt
       by_test false walks = walks
 

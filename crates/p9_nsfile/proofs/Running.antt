@@ -9,8 +9,8 @@ use Rattle.p9_tree.specs.Node.{Node, is_dir}
 use Rattle.p9_nsfile.specs.declared.fault.OpFault.TheVariants.{BadInclude, TooDeep}
 use Rattle.std.specs.Result.{IsErrAnd}
 use Rattle.p9_nsfile.specs.declared.fault.OpFault.{OpFault}
-use Rattle.p9_nsfile.specs.declared.fault.Stop.{Stop}
-use Rattle.p9_nsfile.specs.declared.fault.Stop.TheVariants as stops
+use Rattle.p9_base.specs.declared.stop.Stop.{Stop}
+use Rattle.p9_base.specs.declared.stop.Stop.TheVariants as stops
 use Rattle.p9_nsfile.specs.Answer.{Acts, GivesLines}
 use Rattle.p9_nsfile.specs.Line.{NumberedLine, lines_in}
 use Rattle.p9_nsfile.specs.Run.{file_lines, included, included_lines, lines_done, or_bad_include}
@@ -62,15 +62,15 @@ included-more environment (suc left) line space path some =
 
 -- a file whose lines aren't found: its fault, or a failed allocation
 pub Acts-no_lines : (A : Type 0) {U : Type 0} (answer : Result (List NumberedLine) OpFault)
-    (next : List NumberedLine → Result Space OpFault) (space : Space) (stop : Stop)
-    (r : Result U Stop) →
+    (next : List NumberedLine → Result Space OpFault) (space : Space) (stop : Stop OpFault)
+    (r : Result U (Stop OpFault)) →
     IsErrAnd r (λ e. e ≡ stop) → GivesLines {A = A} answer (Err stop)
     → Acts (and_then answer next) space space r
 Acts-no_lines A answer next space stop (Ok u) is gives = absurd is
 Acts-no_lines A {U} answer next space stop (Err e) is gives =
     subst (λ s. Acts {U = U} (and_then answer next) space space (Err s)) (sym is)
     (by_stop stop gives) where
-      by_stop : (s : Stop) → GivesLines {A = A} answer (Err s)
+      by_stop : (s : Stop OpFault) → GivesLines {A = A} answer (Err s)
           → Acts {U = U} (and_then answer next) space space (Err s)
-      by_stop (stops.Fault fault) gives = (ap (λ a. and_then a next) gives, refl)
+      by_stop (stops.Refused fault) gives = (ap (λ a. and_then a next) gives, refl)
       by_stop stops.NoMemory gives = tt

@@ -34,7 +34,7 @@ value_of-texts vars name (Some var) e =
 abbrev pub texts : List (Bor (List ℕ)) → List (List ℕ)
 texts words = map (λ w. w.now) words
 
--- a form of the flags in front and the words behind them, from the code's slices
+-- a form of the flags in front and the words after them, from the code's slices
 pub flagged_form : (form : Option Flags → List Word → Form) (words : List (Bor (List ℕ))) (n : ℕ)
     (said : Option Flags) (result : Form) →
     n ≡ prefix_len is_flag (texts words) → said ≡ flags_of (texts (take n words)) →

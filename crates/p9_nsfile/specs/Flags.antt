@@ -18,7 +18,7 @@ is_flag word = slice_index word 0 == 45
 abbrev pub is_flag_letter : ℕ → Bool
 is_flag_letter b = ((b == 97 || b == 98) || b == 99) || b == 67
 
--- behind its '-' there are letters, and nothing else
+-- after its '-' there are letters, and nothing else
 abbrev pub is_good : Word → Bool
 is_good flag = nat_lt 0 (length (drop 1 flag)) && list_all is_flag_letter (drop 1 flag)
 

@@ -45,7 +45,7 @@ abbrev pub with_flags : Option Flags → (Flags → Operation Word) → Form
 with_flags None operation = Err BadFlag
 with_flags (Some flags) operation = Ok (operation flags)
 
--- `mount [-abcC] server old [spec]`: the words behind the flags are counted before the flags are
+-- `mount [-abcC] server old [spec]`: the words after the flags are counted before the flags are
 -- looked at
 abbrev pub mount_form : Option Flags → List Word → Form
 mount_form flags (server ∷ old ∷ []) = with_flags flags (λ flags. Mount flags server old None)
@@ -53,7 +53,7 @@ mount_form flags (server ∷ old ∷ spec ∷ []) =
     with_flags flags (λ flags. Mount flags server old (Some spec))
 mount_form flags others = Err WordCount
 
--- the same of all words behind `mount`
+-- the form of all words after `mount`
 abbrev pub mount_of : List Word → Form
 mount_of words = mount_form (flags_of (leading_flags words)) (behind_flags words)
 
@@ -62,7 +62,7 @@ abbrev pub bind_form : Option Flags → List Word → Form
 bind_form flags (new ∷ old ∷ []) = with_flags flags (λ flags. Bind flags new old)
 bind_form flags others = Err WordCount
 
--- the same of all words behind `bind`
+-- the form of all words after `bind`
 abbrev pub bind_of : List Word → Form
 bind_of words = bind_form (flags_of (leading_flags words)) (behind_flags words)
 
@@ -87,7 +87,7 @@ abbrev pub include_of : List Word → Form
 include_of (path ∷ []) = Ok (Include path)
 include_of others = Err WordCount
 
--- the form of a line of this verb, by the words behind it; `import` takes any words
+-- the form of a line of this verb, by the words after it; `import` takes any words
 abbrev pub arguments_of : Verb → List Word → Form
 arguments_of v.Mount words = mount_of words
 arguments_of v.Bind words = bind_of words

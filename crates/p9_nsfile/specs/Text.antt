@@ -1,4 +1,4 @@
--- The texts of what is told of a namespace file.
+-- The texts of what is reported of a namespace file.
 use Rattle.std.specs.Prelude.{ℕ, List, codes}
 use Rattle.p9_base.specs.Fault.{text_of as walk_text}
 use Rattle.p9_nsfile.specs.declared.error.BadForm.{BadForm}

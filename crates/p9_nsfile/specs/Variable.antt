@@ -23,7 +23,7 @@ from_slash piece = drop (position_or_len is_slash piece) piece
 abbrev pub with_value : List Variable → Word → Word
 with_value vars piece = value_of vars (before_first is_slash piece) ++ from_slash piece
 
--- a word from its pieces, of which all but the first was behind a dollar
+-- a word from its pieces, of which all but the first was after a dollar
 abbrev pub joined_pieces : List Variable → List Word → Word
 joined_pieces vars [] = []
 joined_pieces vars (first ∷ pieces) = first ++ flat_map (with_value vars) pieces

@@ -31,10 +31,10 @@ pub(crate) fn mount<T: Tree>(
     let server = environment.expand(server)?;
     let root = match environment.server_root(server.as_str()) {
         Ok(root) => root,
-        Err(fault) => return Err(Stop::Fault(fault)),
+        Err(fault) => return Err(Stop::Refused(fault)),
     };
     if has_spec(environment, spec)? {
-        return Err(Stop::Fault(OpFault::SpecGiven));
+        return Err(Stop::Refused(OpFault::SpecGiven));
     }
     mount_root(environment, space, flags, root, old)
 }
@@ -93,7 +93,7 @@ fn put<T: Tree>(
     ensures { Acts (put_at environment.now space.old key nodes.now flags) space.old space.new result }
 {
     if !may_hold(environment, flags.order, key, nodes) {
-        return Err(Stop::Fault(OpFault::KindMismatch));
+        return Err(Stop::Refused(OpFault::KindMismatch));
     }
     space.bind(key, nodes, flags)?;
     Ok(())

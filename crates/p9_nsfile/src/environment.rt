@@ -120,7 +120,7 @@ fn walk_stop(fault: Fault) -> Stop
 {
     match fault {
         Fault::OutOfMemory => Stop::NoMemory,
-        _ => Stop::Fault(OpFault::Path(fault)),
+        _ => Stop::Refused(OpFault::Path(fault)),
     }
 }
 

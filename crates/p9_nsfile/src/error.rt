@@ -4,24 +4,22 @@ ghost use Rattle.std.specs.Prelude.{◌≡◌};
 ghost use Rattle.p9_nsfile.specs.Text.{form_text};
 
 use p9_base::NoMemory;
+use std::fmt;
 use thiserror::Error;
 
 /// What is wrong with the form of a line.
-#[derive(Clone, Copy, Debug, PartialEq, Eq, Error)]
+#[derive(Clone, Copy, Debug, PartialEq, Eq)]
 pub enum BadForm {
     /// The first word names no operation.
-    #[error("unknown word")]
     UnknownWord,
     /// The operation takes another number of words, flags not counted.
-    #[error("wrong number of words")]
     WordCount,
     /// A flag without a letter, with a letter that is none of `abcC`, or `a` together with `b`.
-    #[error("bad flag")]
     BadFlag,
 }
 
 impl BadForm {
-    /// The text that tells it.
+    /// The text that is printed for it.
     pub fn text(self) -> &'static str
         ensures { result.now ≡ form_text self }
     {
@@ -32,6 +30,19 @@ impl BadForm {
         }
     }
 }
+
+impl fmt::Display for BadForm {
+    ghost use Rattle.std.specs.Prelude.{Some};
+    ghost use Rattle.p9_nsfile.specs.Text.{form_text};
+
+    ghost output = { λ form. Some (form_text form) };
+
+    fn fmt<W: fmt::Write>(&self, f: &mut fmt::Formatter<W>) -> fmt::Result {
+        f.write_str(self.text())
+    }
+}
+
+impl std::error::Error for BadForm {}
 
 /// Why a namespace file isn't run. The mount table is as before.
 #[derive(Clone, Copy, Debug, PartialEq, Eq, Error)]

@@ -95,11 +95,11 @@ fn find_on_server<T: Tree>(
     let (name, rest) = split_name(path);
     match environment.server_root(name) {
         Ok(root) => walk_rooted(environment, space, root, rest),
-        Err(fault) => Err(Stop::Fault(fault)),
+        Err(fault) => Err(Stop::Refused(fault)),
     }
 }
 
-// What is before the first slash of a path, and what behind it.
+// What is before the first slash of a path, and what follows it.
 fn split_name(path: &str) -> (&str, &str)
     ensures name { result.0.now ≡ before_first is_slash path.now }
     ensures rest { result.1.now ≡ after_first is_slash path.now }

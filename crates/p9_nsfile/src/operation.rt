@@ -57,7 +57,7 @@ pub(crate) enum Verb {
 }
 
 /// The operation of a line of these words. A first word that names none is
-/// [`BadForm::UnknownWord`]; another number of words behind the flags than the operation takes is
+/// [`BadForm::UnknownWord`]; another number of words after the flags than the operation takes is
 /// [`BadForm::WordCount`]; and bad flags are [`BadForm::BadFlag`].
 pub(crate) fn read_operation<'a>(words: &[&'a str]) -> Result<Operation<&'a str>, BadForm>
     ensures { form_view result ≡ operation_of (map (λ w. w.now) words.now) }
@@ -65,35 +65,26 @@ pub(crate) fn read_operation<'a>(words: &[&'a str]) -> Result<Operation<&'a str>
     let [first, words @ ..] = words else {
         return Err(BadForm::UnknownWord);
     };
-    match read_verb(first) {
-        Some(verb) => arguments(verb, words),
-        None => Err(BadForm::UnknownWord),
-    }
+    let verb = read_verb(first).ok_or(BadForm::UnknownWord)?;
+    arguments(verb, words)
 }
 
 fn read_verb(word: &str) -> Option<Verb>
     ensures { result ≡ verb_of word.now }
 {
-    if word == "mount" {
-        Some(Verb::Mount)
-    } else if word == "bind" {
-        Some(Verb::Bind)
-    } else if word == "cd" {
-        Some(Verb::Cd)
-    } else if word == "unmount" {
-        Some(Verb::Unmount)
-    } else if word == "clear" {
-        Some(Verb::Clear)
-    } else if word == "." {
-        Some(Verb::Include)
-    } else if word == "import" {
-        Some(Verb::Import)
-    } else {
-        None
+    match word {
+        "mount" => Some(Verb::Mount),
+        "bind" => Some(Verb::Bind),
+        "cd" => Some(Verb::Cd),
+        "unmount" => Some(Verb::Unmount),
+        "clear" => Some(Verb::Clear),
+        "." => Some(Verb::Include),
+        "import" => Some(Verb::Import),
+        _ => None,
     }
 }
 
-// The operation of the verb, with the words behind it.
+// The operation of the verb, with the words after it.
 fn arguments<'a>(verb: Verb, words: &[&'a str]) -> Result<Operation<&'a str>, BadForm>
     ensures { form_view result ≡ arguments_of verb (map (λ w. w.now) words.now) }
 {
@@ -115,7 +106,7 @@ fn mount<'a>(words: &[&'a str]) -> Result<Operation<&'a str>, BadForm>
     mount_form(read_flags(&words[..count]), &words[count..])
 }
 
-// A mount of these words behind the flags, which are counted before the flags are looked at.
+// A mount of these words after the flags, which are counted before the flags are looked at.
 fn mount_form<'a>(flags: Option<Flags>, words: &[&'a str]) -> Result<Operation<&'a str>, BadForm>
     ensures { form_view result ≡ mount_form flags (map (λ w. w.now) words.now) }
 {
@@ -135,15 +126,13 @@ fn mounting<'a>(
     ensures { form_view result ≡ with_flags flags (λ flags. Mount flags server.now old.now
         (option_map (λ w. w.now) spec.entry)) }
 {
-    match flags {
-        Some(flags) => Ok(Operation::Mount {
-            flags,
-            server,
-            old,
-            spec,
-        }),
-        None => Err(BadForm::BadFlag),
-    }
+    let flags = flags.ok_or(BadForm::BadFlag)?;
+    Ok(Operation::Mount {
+        flags,
+        server,
+        old,
+        spec,
+    })
 }
 
 fn bind<'a>(words: &[&'a str]) -> Result<Operation<&'a str>, BadForm>
@@ -153,7 +142,7 @@ fn bind<'a>(words: &[&'a str]) -> Result<Operation<&'a str>, BadForm>
     bind_form(read_flags(&words[..count]), &words[count..])
 }
 
-// A bind of these words behind the flags, which are counted before the flags are looked at.
+// A bind of these words after the flags, which are counted before the flags are looked at.
 fn bind_form<'a>(flags: Option<Flags>, words: &[&'a str]) -> Result<Operation<&'a str>, BadForm>
     ensures { form_view result ≡ bind_form flags (map (λ w. w.now) words.now) }
 {
@@ -170,10 +159,8 @@ fn binding<'a>(
 ) -> Result<Operation<&'a str>, BadForm>
     ensures { form_view result ≡ with_flags flags (λ flags. Bind flags new.now old.now) }
 {
-    match flags {
-        Some(flags) => Ok(Operation::Bind { flags, new, old }),
-        None => Err(BadForm::BadFlag),
-    }
+    let flags = flags.ok_or(BadForm::BadFlag)?;
+    Ok(Operation::Bind { flags, new, old })
 }
 
 fn cd<'a>(words: &[&'a str]) -> Result<Operation<&'a str>, BadForm>

@@ -97,7 +97,7 @@ fn run_line<T: Tree>(
     let number = outer.unwrap_or(line.number);
     match act(environment, left, number, line.operation, space) {
         Ok(()) => Ok(()),
-        Err(Stop::Fault(fault)) => space.report(number, fault),
+        Err(Stop::Refused(fault)) => space.report(number, fault),
         Err(Stop::NoMemory) => Err(NoMemory),
     }
 }
@@ -129,7 +129,7 @@ fn act<T: Tree>(
             Ok(())
         }
         Operation::Include { path } => include(environment, left, line, path, space),
-        Operation::Import => Err(Stop::Fault(OpFault::NotOffered)),
+        Operation::Import => Err(Stop::Refused(OpFault::NotOffered)),
     }
 }
 
@@ -143,7 +143,7 @@ fn cd<T: Tree>(
 {
     let trail = find(environment, space, dir)?;
     if !environment.is_dir(space.file(trail.here())) {
-        return Err(Stop::Fault(OpFault::Path(Fault::NotDirectory)));
+        return Err(Stop::Refused(OpFault::Path(Fault::NotDirectory)));
     }
     space.enter(trail);
     Ok(())
@@ -161,7 +161,7 @@ fn include<T: Tree>(
     ensures { Acts (included environment.now left line space.old path.now) space.old space.new result }
 {
     if left == 0 {
-        return Err(Stop::Fault(OpFault::TooDeep));
+        return Err(Stop::Refused(OpFault::TooDeep));
     }
     let lines = find_lines(environment, space, path)?;
     run_lines(environment, left - 1, Some(line), &lines, space)?;
@@ -179,7 +179,7 @@ fn find_lines<'a, T: Tree>(
     let file = find_file(environment, space, path)?;
     match environment.node(file) {
         Some(node) => file_lines(environment.alloc(), node),
-        None => Err(Stop::Fault(OpFault::Path(Fault::PhaseError))),
+        None => Err(Stop::Refused(OpFault::Path(Fault::PhaseError))),
     }
 }
 
@@ -188,11 +188,11 @@ fn file_lines<A: Allocator + Copy>(alloc: A, node: &Node<A>) -> Result<Vec<Line<
     ensures { GivesLines (file_lines (Some node.now)) result }
 {
     if node.is_dir() {
-        return Err(Stop::Fault(OpFault::BadInclude));
+        return Err(Stop::Refused(OpFault::BadInclude));
     }
     match from_utf8(node.bytes()) {
         Ok(text) => text_lines(alloc, text),
-        Err(_) => Err(Stop::Fault(OpFault::BadInclude)),
+        Err(_) => Err(Stop::Refused(OpFault::BadInclude)),
     }
 }
 
@@ -201,7 +201,7 @@ fn text_lines<A: Allocator + Copy>(alloc: A, text: &str) -> Result<Vec<Line<'_>,
 {
     match read_lines(alloc, text) {
         Ok(lines) => Ok(lines),
-        Err(NsError::BadLine { .. }) => Err(Stop::Fault(OpFault::BadInclude)),
+        Err(NsError::BadLine { .. }) => Err(Stop::Refused(OpFault::BadInclude)),
         Err(NsError::NoMemory) => Err(Stop::NoMemory),
     }
 }

@@ -114,7 +114,7 @@ impl<A: Allocator + Copy> Space<A> {
     {
         match self.table.unmount(key, node) {
             Ok(()) => Ok(()),
-            Err(error) => Err(Stop::Fault(unmount_fault(error))),
+            Err(error) => Err(Stop::Refused(unmount_fault(error))),
         }
     }
 
