@@ -7,8 +7,8 @@ use Rattle.p9_base.specs.Results.{and_then, try_fold}
 use Rattle.p9_base.proofs.Results.{try_fold-ok, try_fold-err, try_fold-end}
 use Rattle.p9_exchange.specs.Refusal.{IsStop}
 use Rattle.p9_exchange.specs.declared.refusal.Refusal.{Refusal}
-use Rattle.p9_exchange.specs.declared.refusal.Stop.{Stop}
-use Rattle.p9_exchange.specs.declared.refusal.Stop.TheVariants.{Refused, NoMemory}
+use Rattle.p9_base.specs.declared.stop.Stop.{Stop}
+use Rattle.p9_base.specs.declared.stop.Stop.TheVariants.{Refused, NoMemory}
 
 -- what a numbered reference points to, with its number
 abbrev pub numbered_line : ℕ × Bor (List ℕ) → ℕ × List ℕ
@@ -46,7 +46,7 @@ module _ {S : Type 0} (step : S → ℕ × List ℕ → Result S Refusal) (items
       ∙ kept
 
   -- a line that stops
-  pub line-stops : {T : Type 0} (rest : S → Result T Refusal) (stop : Stop) (d : Bor (List ℕ))
+  pub line-stops : {T : Type 0} (rest : S → Result T Refusal) (stop : Stop Refusal) (d : Bor (List ℕ))
       (all : Result S Refusal) → i < length items
       → IsStop (step state (i + 1, (get_or items i d).now)) stop
       → try_fold step state (drop i lines) ≡ all → IsStop (and_then all rest) stop

@@ -9,10 +9,10 @@ use Rattle.p9_exchange.specs.Talk.{Talk, asking, telling, behind, with_told, is_
 use Rattle.p9_exchange.specs.Talk.{skipped}
 use Rattle.p9_exchange.specs.Talk.{opened, closed, sent}
 use Rattle.p9_exchange.specs.declared.refusal.Refusal.{Refusal}
-use Rattle.p9_exchange.specs.declared.refusal.Stop.{Stop}
+use Rattle.p9_base.specs.declared.stop.Stop.{Stop}
 
 -- what stops the one stops the other, where they are the same
-pub same-stop : (r : Result (Unit {0}) Stop) (made other : Result Talk Refusal) → made ≡ other
+pub same-stop : (r : Result (Unit {0}) (Stop Refusal)) (made other : Result Talk Refusal) → made ≡ other
     → IfErr r (IsStop made) → IfErr r (IsStop other)
 same-stop r made other same stops =
     let P : Result Talk Refusal → Type 0 = λ made. IfErr r (IsStop made) in subst P same stops

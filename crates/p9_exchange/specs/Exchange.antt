@@ -18,7 +18,7 @@ talked replies talk numbered =
     and_then (or_refused numbered (line_at talk.turn numbered.1))
     (λ said. with_said replies numbered.0 talk said)
 
--- the text, where each line of the replies is told
+-- the text, where each line of the replies is shown
 abbrev pub all_told : List (List ℕ) → Talk → Result (List ℕ) Refusal
 all_told replies talk =
     if talk.told == length replies then Ok talk.text else Err (BadReply (talk.told + 1) End)
@@ -35,6 +35,6 @@ exchange_in lines =
     if n == length lines then Err NoReplies
     else exchange_of_lines (drop (n + 1) lines) (script_lines (take n lines))
 
--- the same of an input
+-- the exchange of an input's bytes
 unfoldable pub exchange_of : List ℕ → Result (List ℕ) Refusal
 exchange_of input = if is_utf8 input then exchange_in (whole_lines input) else Err NotUtf8

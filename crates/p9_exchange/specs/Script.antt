@@ -60,7 +60,7 @@ written_behind text lines =
 unfoldable pub script_of_lines : List (List ℕ) → Result (List ℕ) Refusal
 script_of_lines lines = written_behind (flat_map ended (head_lines lines)) (script_lines lines)
 
--- the same of an input
+-- what is written of an input's bytes
 unfoldable pub script_of_words : List ℕ → Result (List ℕ) Refusal
 script_of_words input =
     if is_utf8 input then script_of_lines (whole_lines input) else Err NotUtf8

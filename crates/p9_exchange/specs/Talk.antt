@@ -16,7 +16,7 @@ use Rattle.p9_exchange.specs.declared.refusal.Refusal.TheVariants.{BadReply}
 use Rattle.p9_exchange.specs.declared.talk.Talk.{Talk as CodeTalk}
 
 -- an exchange so far: the tag whose turn is next, the sessions that are open, how many lines of the
--- replies are told, and the text
+-- replies are shown, and the text
 pub record Talk : Type 0 where
   pub turn : ℕ
   pub sessions : List ℕ
@@ -117,7 +117,7 @@ done replies line (Open session) talk = opened replies line session talk
 done replies line (Message session now frame) talk = sent replies line session frame talk
 done replies line (Close session now) talk = closed replies line session talk
 
--- the same, and the turn goes on
+-- what a line of the script says is done, and the turn goes on
 abbrev pub with_said : List (List ℕ) → ℕ → Talk → Line → Result Talk Refusal
 with_said replies line talk said =
     done replies line said (record talk { turn = turn_behind said talk.turn })

@@ -33,7 +33,7 @@ fn talk_of<A: Allocator + Copy>(
     talk.say(replies, number, &said)
 }
 
-// The text, where each line of the replies is told.
+// The text, where each line of the replies is shown.
 fn all_told<A: Allocator + Copy>(replies: &[&str], talk: Talk<A>) -> Result<Vec<u8, A>, Stop>
     requires { talk.told ≤ length replies.now }
     ensures { Makes (λ text. text.items) result
@@ -90,10 +90,15 @@ fn exchange_in<A: Allocator + Copy>(alloc: A, lines: &[&str]) -> Result<Vec<u8, 
 /// or a message. `L -S-> WORDS` is what came of it: a reply, or `skip:` and the reason. A frame
 /// that is no message is shown in hexadecimal digits.
 ///
-/// [`Refusal::NotUtf8`] is told of an input that is no text, [`Refusal::NoReplies`] of one without
-/// that line, and else [`Refusal::BadLine`] of the first bad line of the script, or
-/// [`Refusal::BadReply`] of the first line of the replies that the script does not call for,
-/// whichever of the two comes first. [`Stop::NoMemory`] says that an allocation failed.
+/// # Errors
+///
+/// The first that applies is returned.
+///
+/// 1. [`Refusal::NotUtf8`]: the input is no text.
+/// 2. [`Refusal::NoReplies`]: the input has no line `%% replies`.
+/// 3. [`Refusal::BadLine`], the first bad line of the script, or [`Refusal::BadReply`], the first line
+///    of the replies that the script does not call for, whichever of the two comes first.
+/// 4. [`Stop::NoMemory`]: an allocation failed.
 #[tactic(auto, unfolding(crate::specs::Exchange::exchange_of))]
 pub fn show_exchange<A: Allocator + Copy>(alloc: A, input: &[u8]) -> Result<Vec<u8, A>, Stop>
     ensures { Makes (λ text. text.items) result (exchange_of input.now) }

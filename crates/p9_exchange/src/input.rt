@@ -19,10 +19,7 @@ pub fn text_of(input: &[u8]) -> Option<&str>
     ensures some { IfSome result (λ text. (text.now ≡ input.now) × (is_utf8 input.now ≡ true)) }
     ensures none { IfNone result (is_utf8 input.now ≡ false) }
 {
-    match str::from_utf8(input) {
-        Ok(text) => Some(text),
-        Err(_) => None,
-    }
+    str::from_utf8(input).ok()
 }
 
 // Whether the last line is empty.

@@ -153,8 +153,8 @@ fn is_skipped(text: &[u8]) -> bool
     }
 }
 
-/// What a line says, where a message's turn is this tag. The error tells the first place where
-/// something else was expected, by how many bytes are left there, or that an allocation failed.
+/// What a line says, where a message's turn is this tag. The error is the first place where
+/// something else was expected, by how many bytes are left there, or a failed allocation.
 #[tactic(auto, unfolding(crate::specs::Line::line_at))]
 pub fn take_line<A: Allocator + Copy>(
     alloc: A,

@@ -1,6 +1,5 @@
-//! Why nothing is written, and how it is told.
+//! Why nothing is written, and how it is reported.
 
-use p9_base::NoMemory;
 use p9_words::Expected;
 use std::fmt;
 use thiserror::Error;
@@ -50,26 +49,5 @@ pub enum Refusal {
     },
 }
 
-/// What keeps from writing.
-#[derive(Clone, Copy, Debug, PartialEq, Eq)]
-pub enum Stop {
-    /// Something is wrong in the input.
-    Refused(Refusal),
-    /// An allocation failed.
-    NoMemory,
-}
-
-/// Every error that [`p9_base::NoMemory`] is made from says that an allocation failed.
-impl<E: Drop> From<E> for Stop
-where
-    NoMemory: From<E>,
-{
-    ghost use Rattle.std.specs.Prelude.{◌≡◌};
-    ghost use Rattle.p9_exchange.specs.declared.refusal.Stop.TheVariants.{NoMemory};
-
-    ghost from_gives = { λ _ stop. stop ≡ NoMemory };
-
-    fn from(_error: E) -> Stop {
-        Stop::NoMemory
-    }
-}
+/// Why nothing is written: something is wrong in the input, or an allocation failed.
+pub type Stop = p9_base::Stop<Refusal>;

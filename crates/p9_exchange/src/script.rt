@@ -28,7 +28,7 @@ pub fn read_line<A: Allocator + Copy>(
     match take_line(alloc, turn, line.as_bytes()) {
         Ok(said) => Ok(said),
         Err(ReadError::NoMemory) => Err(Stop::NoMemory),
-        Err(ReadError::Unexpected(fault)) => Err(Stop::Refused(Refusal::BadLine {
+        Err(ReadError::Refused(fault)) => Err(Stop::Refused(Refusal::BadLine {
             line: number,
             at: line.len().saturating_sub(fault.left),
             expected: fault.expected,
@@ -138,8 +138,8 @@ fn script_of_lines<A: Allocator + Copy>(alloc: A, lines: &[&str]) -> Result<Stri
 /// A tag that is left out counts the messages since the last `open`, from 0; for a version it is
 /// 65,535. The msize is 8,192 where it is left out.
 ///
-/// [`Refusal::NotUtf8`] is told of an input that is no text, and [`Refusal::BadLine`] of the first
-/// bad line of the script. [`Stop::NoMemory`] says that an allocation failed.
+/// [`Refusal::NotUtf8`] says that the input is no text, [`Refusal::BadLine`] is the first bad line of
+/// the script, and [`Stop::NoMemory`] says that an allocation failed.
 #[tactic(auto, unfolding(crate::specs::Script::script_of_words))]
 pub fn write_script<A: Allocator + Copy>(alloc: A, input: &[u8]) -> Result<String<A>, Stop>
     ensures { Makes string_bytes result (script_of_words input.now) }

@@ -28,13 +28,13 @@ pub struct Talk<A: Allocator> {
     pub turn: u16,
     /// The sessions that are open.
     pub sessions: Vec<u32, A>,
-    /// How many lines of the replies are told.
+    /// How many lines of the replies are shown.
     pub told: usize,
-    /// What is told.
+    /// The text that shows them.
     pub text: Vec<u8, A>,
 }
 
-// A line of what goes to the exporter.
+// The line that shows what goes to the exporter.
 fn asking<A: Allocator + Copy>(
     alloc: A,
     line: usize,
@@ -47,7 +47,7 @@ fn asking<A: Allocator + Copy>(
     ended(alloc, head.as_bytes(), words)
 }
 
-// A line of what comes from it.
+// The line that shows what comes from the exporter.
 fn telling<A: Allocator + Copy>(
     alloc: A,
     line: usize,
@@ -155,7 +155,7 @@ impl<A: Allocator + Copy> Talk<A> {
         Ok(())
     }
 
-    // Adds a line of what comes from it, which tells one line of the replies.
+    // Adds the line that shows what comes from the exporter, by one line of the replies.
     fn tell(&mut self, line: usize, session: u32, words: &[u8]) -> Result<(), NoMemory>
         requires { self.old.told + 1 < 2 ^ 64 }
         ensures { OnOk result (talk_view self.new

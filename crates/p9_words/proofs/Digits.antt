@@ -39,7 +39,7 @@ pub digits_value-more-le : (radix : ℕ) (ds : List ℕ) (i : ℕ) → 1 ≤ rad
 digits_value-more-le radix ds i some lt =
     omega (arith, digits_value_more radix ds i lt, digits_value-take-le radix ds (i + 1) some)
 
--- the same of the number so far, which is then too great
+-- the number so far with one digit more is less than 2^64, where the number of all digits is
 pub too_great : (radix n : ℕ) (ds : List ℕ) (i value : ℕ) → n ≡ radix → 1 ≤ radix → i < length ds
     → value ≡ digits_value n (take i ds)
     → digits_value radix ds < 2 ^ 64 → value * n + digit_value (get_or ds i 0) < 2 ^ 64

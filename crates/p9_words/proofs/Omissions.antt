@@ -11,9 +11,9 @@ use Rattle.p9_words.specs.Class.{skip_blanks}
 use Rattle.p9_words.specs.Key.{key_text}
 use Rattle.p9_words.specs.Laws.{ReadsTheSame}
 use Rattle.p9_words.specs.Omitted.{tag_for, is_next, given_at, given_from, message_of_words}
-use Rattle.p9_words.specs.Reading.{verb_at, key_at, field_at, fields_from, tag_field, frame_at}
+use Rattle.p9_words.specs.Reading.{verb_at, key_at, field_at, fields_from, put_after, tag_field}
 use Rattle.p9_words.specs.Reading.{frame_of_words, ◌>>=◌, value_at, first_word, behind_word}
-use Rattle.p9_words.specs.Reading.{missing}
+use Rattle.p9_words.specs.Reading.{frame_at, missing}
 use Rattle.p9_words.specs.Verb.{fields_of}
 
 -- a word that is read is next
@@ -47,7 +47,7 @@ one-read : (tag : ℕ) (field : Key × Form) (fields : List (Key × Form)) (byte
     (x : List ℕ × List ℕ) (r : Result (List ℕ × List ℕ) Fault) → field_at field text ≡ r
     → ((y : List ℕ × List ℕ) → fields_from (bytes ++ y.0) fields y.1 ≡ Ok x
     → given_from tag (bytes ++ y.0) fields y.1 ≡ Ok x)
-    → (r >>= λ y. fields_from (bytes ++ y.0) fields y.1) ≡ Ok x
+    → (put_after bytes r >>= λ y. fields_from y.0 fields y.1) ≡ Ok x
     → given_from tag bytes (field ∷ fields) text ≡ Ok x
 one-read tag field fields bytes text x (Ok y) is others same =
     rw (given-read tag field text y is) (others y same)

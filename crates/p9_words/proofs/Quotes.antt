@@ -100,7 +100,7 @@ pairs-law s rest bytes =
       decode_of-encode_lower s (each_below s bytes),
     ) refl
 
--- the same after its mark
+-- as they are read after their mark
 pub paired-law : (s rest : List ℕ) → IsBytes s
     → where_behind (behind (codes "'") (paired s ++ rest)) (unquoted_from false [])
     (where_behind (behind (codes "x'") (paired s ++ rest)) pairs_at bare_at) (paired s ++ rest)
@@ -155,7 +155,7 @@ bare-law s rest all some e =
     let no : eqb (length s) 0 ≡ false = ne_eqb _ _ (λ q. omega arith) in
     rw (len, no, take_at s rest (length s) refl, drop_at s rest (length s) refl) refl
 
--- the same where it is looked for after the marks
+-- a bare word, where a mark is looked for first
 bare_word-law : (s rest : List ℕ) → list_all is_bare s ≡ true → 0 < length s → ends rest ≡ true
     → where_behind (behind (codes "'") (s ++ rest)) (unquoted_from false [])
     (where_behind (behind (codes "x'") (s ++ rest)) pairs_at bare_at) (s ++ rest)

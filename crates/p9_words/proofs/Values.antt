@@ -191,7 +191,7 @@ next-text : (s rest : List ℕ) → IsBytes s → ends rest ≡ true → FitsTex
 next-text s rest bytes e fits =
     shown_text-law s (32 ∷ (shown s ++ rest)) rest (skip-one _ (shown-starts s rest)) bytes e fits
 
--- what is told of a file
+-- the fields of a stat
 stat_fields-law : (s : StatFields) (text rest : List ℕ) → skip_blanks text ≡ stat_words s ++ rest
     → FitsStat s → StatNumbersFit s → StatBytes s → ends rest ≡ true
     → stat_fields_at text ≡ Ok (s, rest)

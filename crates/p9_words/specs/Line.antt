@@ -4,7 +4,7 @@ use Rattle.p9_words.specs.declared.error.Fault.{Fault}
 use Rattle.p9_words.specs.declared.error.WordsError.{WordsError}
 use Rattle.p9_words.specs.declared.error.WordsError.TheVariants.{Unexpected, NoMemory}
 
--- what was read of a line is a fault at the place and with the expected word that an error tells,
+-- what was read of a line is a fault at the place and with the expected word that an error names,
 -- unless an allocation failed
 abbrev pub IsWordsError : List ℕ → Result (List ℕ) Fault → WordsError → Type 0
 IsWordsError line read NoMemory = Unit {0}

@@ -1,5 +1,5 @@
 -- Messages in words of which the tag and the msize may be left out.
-use Rattle.std.specs.Prelude.{ℕ, Bool, List, [], ◌∷◌, ◌++◌, Option, Some, None, Result, Ok}
+use Rattle.std.specs.Prelude.{ℕ, Bool, List, [], ◌∷◌, Option, Some, None, Result, Ok}
 use Rattle.std.specs.Prelude.{if◌then◌else◌}
 use Rattle.std.specs.Str.{bytes_eq}
 use Rattle.p9_wire.specs.Fields.{number}
@@ -12,7 +12,7 @@ use Rattle.p9_words.specs.declared.verb.Verb.TheVariants as verb
 use Rattle.p9_words.specs.Class.{skip_blanks}
 use Rattle.p9_words.specs.Key.{key_text}
 use Rattle.p9_words.specs.Reading.{◌>>=◌, Reader, first_word, verb_at, field_at, tag_field}
-use Rattle.p9_words.specs.Reading.{frame_at}
+use Rattle.p9_words.specs.Reading.{frame_at, put_after}
 use Rattle.p9_words.specs.Verb.{fields_of}
 
 -- a version has no tag, which is 65535, and any other message the tag that is its turn
@@ -45,7 +45,7 @@ given_at tag field text =
 abbrev pub given_from : (tag : ℕ) (bytes : List ℕ) → List (Key × Form) → Reader (List ℕ)
 given_from tag bytes [] text = Ok (bytes, text)
 given_from tag bytes (field ∷ fields) text =
-    given_at tag field text >>= λ x. given_from tag (bytes ++ x.0) fields x.1
+    put_after bytes (given_at tag field text) >>= λ x. given_from tag x.0 fields x.1
 
 -- the frame of the message that words say, whose turn is this tag
 unfoldable pub message_of_words : ℕ → List ℕ → Result (List ℕ) Fault

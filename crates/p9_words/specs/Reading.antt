@@ -16,8 +16,8 @@ use Rattle.p9_words.specs.declared.class.Class.TheVariants as class
 use Rattle.p9_words.specs.declared.error.Expected.{Expected}
 use Rattle.p9_words.specs.declared.error.Expected.TheVariants as expected
 use Rattle.p9_words.specs.declared.error.Fault.{Fault}
-use Rattle.p9_words.specs.declared.error.ReadError.{ReadError}
-use Rattle.p9_words.specs.declared.error.ReadError.TheVariants.{Unexpected, NoMemory}
+use Rattle.p9_base.specs.declared.stop.Stop.{Stop}
+use Rattle.p9_base.specs.declared.stop.Stop.TheVariants.{Refused, NoMemory}
 use Rattle.p9_words.specs.declared.form.Base.{Base}
 use Rattle.p9_words.specs.declared.form.Base.TheVariants.{Octal, Decimal, Hexadecimal}
 use Rattle.p9_words.specs.declared.form.Form.{Form}
@@ -40,12 +40,12 @@ abbrev pub ◌>>=◌ : {A B : Type 0} → Result A Fault → (A → Result B Fau
 (Err e) >>= f = Err e
 
 -- what the code says of an error is the fault, unless an allocation failed
-abbrev pub Fails : {Y : Type 0} → ReadError → Result Y Fault → Type 0
+abbrev pub Fails : {Y : Type 0} → Stop Fault → Result Y Fault → Type 0
 Fails NoMemory read = Unit {0}
-Fails (Unexpected fault) read = read ≡ Err fault
+Fails (Refused fault) read = read ≡ Err fault
 
 -- what a function returned, seen by view, is what reading gives, unless an allocation failed
-abbrev pub Gives : {X Y : Type 0} → (X → Y) → Result X ReadError → Result Y Fault → Type 0
+abbrev pub Gives : {X Y : Type 0} → (X → Y) → Result X (Stop Fault) → Result Y Fault → Type 0
 Gives view (Ok x) read = read ≡ Ok (view x)
 Gives view (Err e) read = Fails e read
 
@@ -183,7 +183,11 @@ unfoldable pub item_at : Item → Reader (List ℕ)
 item_at item.Name rest = text_at rest >>= λ s. Ok (text s.0, s.1)
 item_at item.Qid rest = qid_at rest >>= λ q. Ok (qid_bytes q.0, q.1)
 
--- the same after its index
+-- what is read, put after other bytes
+abbrev pub put_after : List ℕ → Result (List ℕ × List ℕ) Fault → Result (List ℕ × List ℕ) Fault
+put_after bytes read = read >>= λ x. Ok (bytes ++ x.0, x.1)
+
+-- the bytes of what follows this index
 unfoldable pub indexed_at : Item → ℕ → Reader (List ℕ)
 indexed_at item i text = index_at i text >>= λ rest. item_at item rest
 
@@ -191,7 +195,7 @@ indexed_at item i text = index_at i text >>= λ rest. item_at item rest
 abbrev pub items_from : Item → (bytes : List ℕ) (index count : ℕ) → Reader (List ℕ)
 items_from item bytes i zero text = Ok (bytes, text)
 items_from item bytes i (suc n) text =
-    indexed_at item i text >>= λ x. items_from item (bytes ++ x.0) (i + 1) n x.1
+    put_after bytes (indexed_at item i text) >>= λ x. items_from item x.0 (i + 1) n x.1
 
 -- how many there are, and each
 unfoldable pub several_at : Item → Reader (List ℕ)
@@ -202,7 +206,7 @@ several_at item text =
 unfoldable pub keyed_at : Key → Base → ℕ → Reader ℕ
 keyed_at key base most text = key_at key text >>= λ rest. number_at base most rest
 
--- what is told of a file, as dirread(2) prints it
+-- the fields of a stat, as dirread(2) prints them
 unfoldable pub stat_fields_at : Reader StatFields
 stat_fields_at text =
     text_at text >>= λ name.
@@ -262,7 +266,7 @@ field_at field text = key_at field.0 text >>= λ rest. value_at field.1 rest
 abbrev pub fields_from : (bytes : List ℕ) → List (Key × Form) → Reader (List ℕ)
 fields_from bytes [] text = Ok (bytes, text)
 fields_from bytes (field ∷ fields) text =
-    field_at field text >>= λ x. fields_from (bytes ++ x.0) fields x.1
+    put_after bytes (field_at field text) >>= λ x. fields_from x.0 fields x.1
 
 -- the tag
 abbrev pub tag_field : Key × Form

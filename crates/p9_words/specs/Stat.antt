@@ -4,7 +4,7 @@ use Rattle.p9_wire.specs.Fields.{number, text, qid_bytes}
 use Rattle.p9_wire.specs.Message.{StatFields}
 use Rattle.p9_words.specs.declared.stat.Parts.{Parts}
 
--- what is told of the file
+-- the fields of the stat
 abbrev pub parts_view : {A : Type 0} → Parts A → StatFields
 parts_view p = record {
   kind = p.kind;

@@ -1,10 +1,11 @@
 //! Why a line is no message.
 
 ghost use Rattle.std.specs.Prelude.{◌≡◌, length};
+ghost use Rattle.p9_base.specs.declared.stop.Stop.TheVariants.{Refused};
 
 use crate::form::Base;
 use crate::key::Key;
-use p9_base::NoMemory;
+use p9_base::Stop;
 use std::fmt;
 use thiserror::Error;
 
@@ -85,41 +86,22 @@ pub enum WordsError {
     NoMemory,
 }
 
-/// A place where something else was expected, told by how many bytes are left there.
+/// A place where something else was expected: how many bytes of the line are left there.
 #[derive(Clone, Copy, Debug, PartialEq, Eq)]
 pub struct Fault {
     pub left: usize,
     pub expected: Expected,
 }
 
-/// Why reading stopped.
-#[derive(Clone, Copy, Debug, PartialEq, Eq)]
-pub enum ReadError {
-    Unexpected(Fault),
-    NoMemory,
-}
+/// Why reading stopped: something else was expected, or an allocation failed.
+pub type ReadError = Stop<Fault>;
 
 /// Something else was expected where these bytes are left.
 pub fn unexpected(expected: Expected, text: &[u8]) -> ReadError
-    ensures { result ≡ ReadError.Unexpected (record { left = length text.now; expected = expected }) }
+    ensures { result ≡ Refused (record { left = length text.now; expected = expected }) }
 {
-    ReadError::Unexpected(Fault {
+    Stop::Refused(Fault {
         left: text.len(),
         expected,
     })
-}
-
-/// Every error that [`p9_base::NoMemory`] is made from says that an allocation failed.
-impl<E: Drop> From<E> for ReadError
-where
-    NoMemory: From<E>,
-{
-    ghost use Rattle.std.specs.Prelude.{◌≡◌};
-    ghost use Rattle.p9_words.specs.declared.error.ReadError.TheVariants.{NoMemory};
-
-    ghost from_gives = { λ _ error. error ≡ NoMemory };
-
-    fn from(_error: E) -> ReadError {
-        ReadError::NoMemory
-    }
 }

@@ -1,10 +1,7 @@
 //! The fields of a message: from words at the front of a text, the bytes that a frame has for them.
 
-ghost use Rattle.std.specs.Prelude.{◌≡◌, ◌≤◌, ◌<◌, ◌-◌, ◌^◌, ◌++◌, OnOk, IfOk, length};
-ghost use Rattle.p9_wire.specs.Fields.{number, text, counted, qid_bytes as qid_spelling};
-ghost use Rattle.p9_words.specs.Form.{bytes_of};
 ghost use Rattle.p9_words.specs.Reading.{Gives, qid_at, index_at, item_at, indexed_at, items_from};
-ghost use Rattle.p9_words.specs.Reading.{several_at, value_at, field_at, fields_from};
+ghost use Rattle.p9_words.specs.Reading.{several_at, value_at, field_at, fields_from, put_after};
 
 use crate::bytes::{put_counted, put_number, put_qid, put_text};
 use crate::class::skip_blanks;
@@ -13,11 +10,11 @@ use crate::form::{Base, Form, Item, Width};
 use crate::key::Key;
 use crate::stat::take_stat;
 use crate::word::{take_data, take_key, take_mark, take_number, take_text};
-use p9_base::{NoMemory, Qid};
+use p9_base::Qid;
 use p9_wire::MAXWELEM;
 use std::alloc::Allocator;
 
-/// `(PATH VERS TYPE)`.
+/// A qid: `(PATH VERS TYPE)`.
 #[tactic(auto, unfolding(crate::specs::Reading::qid_at))]
 pub fn take_qid(text: &[u8]) -> Result<(Qid, &[u8]), ReadError>
     ensures { Gives (λ x. (x.0, x.1.now)) result (qid_at text.now) }
@@ -49,176 +46,139 @@ fn take_index(index: u64, text: &[u8]) -> Result<&[u8], ReadError>
     }
 }
 
-// The bytes of a text.
-fn text_bytes<A: Allocator + Copy>(alloc: A, s: &[u8]) -> Result<Vec<u8, A>, NoMemory>
-    requires { length s.now < 2 ^ 16 }
-    ensures { IfOk result (λ v. v.items ≡ text s.now) }
-{
-    let mut bytes = Vec::new(alloc);
-    put_text(s, &mut bytes)?;
-    Ok(bytes)
-}
-
-// The bytes of a qid.
-fn qid_bytes<A: Allocator + Copy>(alloc: A, qid: Qid) -> Result<Vec<u8, A>, NoMemory>
-    ensures { IfOk result (λ v. v.items ≡ qid_spelling qid) }
-{
-    let mut bytes = Vec::new(alloc);
-    put_qid(qid, &mut bytes)?;
-    Ok(bytes)
-}
-
-/// The bytes of a number.
-pub fn number_bytes<A: Allocator + Copy>(
-    alloc: A,
-    width: Width,
-    n: u64,
-) -> Result<Vec<u8, A>, NoMemory>
-    requires { n ≤ 256 ^ bytes_of width - 1 }
-    ensures { IfOk result (λ v. v.items ≡ number (bytes_of width) n) }
-{
-    let mut bytes = Vec::new(alloc);
-    put_number(width, n, &mut bytes)?;
-    Ok(bytes)
-}
-
-// The bytes of data, after their count.
-fn counted_bytes<A: Allocator + Copy>(alloc: A, data: &[u8]) -> Result<Vec<u8, A>, NoMemory>
-    requires { length «data».now < 2 ^ 32 }
-    ensures { IfOk result (λ v. v.items ≡ counted «data».now) }
-{
-    let mut bytes = Vec::new(alloc);
-    put_counted(data, &mut bytes)?;
-    Ok(bytes)
-}
-
-// The bytes of what follows an index.
+// Puts the bytes of what follows an index after those of `out`.
 #[tactic(auto, unfolding(crate::specs::Reading::item_at))]
-fn take_item<A: Allocator + Copy>(
-    alloc: A,
+fn take_item<'a, A: Allocator + Copy>(
     item: Item,
-    text: &[u8],
-) -> Result<(Vec<u8, A>, &[u8]), ReadError>
-    ensures { Gives (λ x. (x.0.items, x.1.now)) result (item_at item text.now) }
+    text: &'a [u8],
+    out: &mut Vec<u8, A>,
+) -> Result<&'a [u8], ReadError>
+    ensures { Gives (λ rest. (out.new.items, rest.now)) result
+        (put_after out.old.items (item_at item text.now)) }
 {
     match item {
         Item::Name => {
-            let (name, rest) = take_text(alloc, text)?;
-            Ok((text_bytes(alloc, name.as_slice())?, rest))
+            let (name, rest) = take_text(*out.allocator(), text)?;
+            put_text(name.as_slice(), out)?;
+            Ok(rest)
         }
         Item::Qid => {
             let (qid, rest) = take_qid(text)?;
-            Ok((qid_bytes(alloc, qid)?, rest))
+            put_qid(qid, out)?;
+            Ok(rest)
         }
     }
 }
 
-// The same after its index.
+// Puts the bytes of what follows this index after those of `out`.
 #[tactic(auto, unfolding(crate::specs::Reading::indexed_at))]
-fn take_indexed<A: Allocator + Copy>(
-    alloc: A,
+fn take_indexed<'a, A: Allocator + Copy>(
     item: Item,
     index: u64,
-    text: &[u8],
-) -> Result<(Vec<u8, A>, &[u8]), ReadError>
-    ensures { Gives (λ x. (x.0.items, x.1.now)) result (indexed_at item index text.now) }
+    text: &'a [u8],
+    out: &mut Vec<u8, A>,
+) -> Result<&'a [u8], ReadError>
+    ensures { Gives (λ rest. (out.new.items, rest.now)) result
+        (put_after out.old.items (indexed_at item index text.now)) }
 {
     let rest = take_index(index, text)?;
-    take_item(alloc, item, rest)
+    take_item(item, rest, out)
 }
 
-// The bytes of so many, after those before them.
-fn take_items<A: Allocator + Copy>(
+// Puts the bytes of so many, each after its index, after those of `out`.
+fn take_items<'a, A: Allocator + Copy>(
     item: Item,
-    mut bytes: Vec<u8, A>,
     count: u64,
-    text: &[u8],
-) -> Result<(Vec<u8, A>, &[u8]), ReadError>
-    ensures { Gives (λ x. (x.0.items, x.1.now)) result
-        (items_from item bytes.items 0 count text.now) }
+    text: &'a [u8],
+    out: &mut Vec<u8, A>,
+) -> Result<&'a [u8], ReadError>
+    ensures { Gives (λ rest. (out.new.items, rest.now)) result
+        (items_from item out.old.items 0 count text.now) }
 {
-    let alloc = *bytes.allocator();
     let mut rest = text;
     for i in 0..count {
-        let (more, after) = take_indexed(alloc, item, i, rest)?;
-        bytes.extend_from_slice(more.as_slice())?;
-        rest = after;
+        rest = take_indexed(item, i, rest, out)?;
     }
-    Ok((bytes, rest))
+    Ok(rest)
 }
 
-/// How many there are, and each.
+// Puts the bytes of a count, and of so many, after those of `out`.
 #[tactic(auto, unfolding(crate::specs::Reading::several_at))]
-fn take_several<A: Allocator + Copy>(
-    alloc: A,
+fn take_several<'a, A: Allocator + Copy>(
     item: Item,
-    text: &[u8],
-) -> Result<(Vec<u8, A>, &[u8]), ReadError>
-    ensures { Gives (λ x. (x.0.items, x.1.now)) result (several_at item text.now) }
+    text: &'a [u8],
+    out: &mut Vec<u8, A>,
+) -> Result<&'a [u8], ReadError>
+    ensures { Gives (λ rest. (out.new.items, rest.now)) result
+        (put_after out.old.items (several_at item text.now)) }
 {
     let (count, rest) = take_number(Base::Decimal, MAXWELEM as u64, text)?;
-    let bytes = number_bytes(alloc, Width::U16, count)?;
-    take_items(item, bytes, count, rest)
+    put_number(Width::U16, count, out)?;
+    take_items(item, count, rest, out)
 }
 
-/// The bytes of a field of this form.
+// Puts the bytes of a field of this form after those of `out`.
 #[tactic(auto, unfolding(crate::specs::Reading::value_at))]
-fn take_value<A: Allocator + Copy>(
-    alloc: A,
+fn take_value<'a, A: Allocator + Copy>(
     form: Form,
-    text: &[u8],
-) -> Result<(Vec<u8, A>, &[u8]), ReadError>
-    ensures { Gives (λ x. (x.0.items, x.1.now)) result (value_at form text.now) }
+    text: &'a [u8],
+    out: &mut Vec<u8, A>,
+) -> Result<&'a [u8], ReadError>
+    ensures { Gives (λ rest. (out.new.items, rest.now)) result
+        (put_after out.old.items (value_at form text.now)) }
 {
     match form {
         Form::Number(width) => {
             let (n, rest) = take_number(Base::Decimal, width.max(), text)?;
-            Ok((number_bytes(alloc, width, n)?, rest))
+            put_number(width, n, out)?;
+            Ok(rest)
         }
         Form::Octal => {
             let (n, rest) = take_number(Base::Octal, u32::MAX as u64, text)?;
-            Ok((number_bytes(alloc, Width::U32, n)?, rest))
+            put_number(Width::U32, n, out)?;
+            Ok(rest)
         }
-        Form::Text => take_item(alloc, Item::Name, text),
+        Form::Text => take_item(Item::Name, text, out),
         Form::Data => {
-            let (data, rest) = take_data(alloc, text)?;
-            Ok((counted_bytes(alloc, data.as_slice())?, rest))
+            let (data, rest) = take_data(*out.allocator(), text)?;
+            put_counted(data.as_slice(), out)?;
+            Ok(rest)
         }
-        Form::Qid => take_item(alloc, Item::Qid, text),
-        Form::Names => take_several(alloc, Item::Name, text),
-        Form::Qids => take_several(alloc, Item::Qid, text),
-        Form::Stat => take_stat(alloc, text),
+        Form::Qid => take_item(Item::Qid, text, out),
+        Form::Names => take_several(Item::Name, text, out),
+        Form::Qids => take_several(Item::Qid, text, out),
+        Form::Stat => take_stat(text, out),
     }
 }
 
-/// A word and the bytes of the field after it.
+/// Puts the bytes of a field, which follows its word, after those of `out`, and returns the text
+/// after it. After an error a part of the field may be there.
 #[tactic(auto, unfolding(crate::specs::Reading::field_at))]
-pub fn take_field<A: Allocator + Copy>(
-    alloc: A,
+pub fn take_field<'a, A: Allocator + Copy>(
     field: (Key, Form),
-    text: &[u8],
-) -> Result<(Vec<u8, A>, &[u8]), ReadError>
-    ensures { Gives (λ x. (x.0.items, x.1.now)) result (field_at field text.now) }
+    text: &'a [u8],
+    out: &mut Vec<u8, A>,
+) -> Result<&'a [u8], ReadError>
+    ensures { Gives (λ rest. (out.new.items, rest.now)) result
+        (put_after out.old.items (field_at field text.now)) }
 {
     let rest = take_key(field.0, text)?;
-    take_value(alloc, field.1, rest)
+    take_value(field.1, rest, out)
 }
 
-/// The bytes of one field after the other, after those before them.
+/// Puts the bytes of one field after the other after those of `out`, and returns the text after
+/// the last. After an error the fields before it may be there.
 pub fn take_fields<'a, A: Allocator + Copy>(
-    mut bytes: Vec<u8, A>,
     fields: &[(Key, Form)],
     text: &'a [u8],
-) -> Result<(Vec<u8, A>, &'a [u8]), ReadError>
-    ensures { Gives (λ x. (x.0.items, x.1.now)) result
-        (fields_from bytes.items fields.now text.now) }
+    out: &mut Vec<u8, A>,
+) -> Result<&'a [u8], ReadError>
+    ensures { Gives (λ rest. (out.new.items, rest.now)) result
+        (fields_from out.old.items fields.now text.now) }
 {
-    let alloc = *bytes.allocator();
     let mut rest = text;
     for field in fields {
-        let (more, after) = take_field(alloc, *field, rest)?;
-        bytes.extend_from_slice(more.as_slice())?;
-        rest = after;
+        rest = take_field(*field, rest, out)?;
     }
-    Ok((bytes, rest))
+    Ok(rest)
 }

@@ -20,8 +20,8 @@ use std::alloc::Allocator;
 /// [`crate::print_reply`] print. Any number of blanks and tabs may be before and after a word.
 /// docs/WORDS.md has the grammar.
 ///
-/// [`WordsError::Unexpected`] tells the first place where something else was expected, and
-/// [`WordsError::NoMemory`] that an allocation failed.
+/// [`WordsError::Unexpected`] is the first place where something else was expected, and
+/// [`WordsError::NoMemory`] a failed allocation.
 pub fn read_words<A: Allocator + Copy>(alloc: A, line: &str) -> Result<Vec<u8, A>, WordsError>
     ensures frame { IfOk result (λ frame. frame_of_words line.now ≡ Ok frame.items) }
     ensures error { IfErr result (IsWordsError line.now (frame_of_words line.now)) }
@@ -30,7 +30,7 @@ pub fn read_words<A: Allocator + Copy>(alloc: A, line: &str) -> Result<Vec<u8, A
     match read_frame(alloc, text) {
         Ok(frame) => Ok(frame),
         Err(ReadError::NoMemory) => Err(WordsError::NoMemory),
-        Err(ReadError::Unexpected(fault)) => Err(WordsError::Unexpected {
+        Err(ReadError::Refused(fault)) => Err(WordsError::Unexpected {
             at: line.len().saturating_sub(fault.left),
             expected: fault.expected,
         }),
@@ -43,8 +43,9 @@ fn read_frame<A: Allocator + Copy>(alloc: A, text: &[u8]) -> Result<Vec<u8, A>, 
     ensures { Gives (λ frame. frame.items) result (frame_of_words text.now) }
 {
     let (verb, rest) = take_verb(text)?;
-    let (bytes, rest) = take_field(alloc, (Key::Tag, Form::Number(Width::U16)), rest)?;
-    let (bytes, rest) = take_fields(bytes, verb.fields(), rest)?;
+    let mut bytes = Vec::new(alloc);
+    let rest = take_field((Key::Tag, Form::Number(Width::U16)), rest, &mut bytes)?;
+    let rest = take_fields(verb.fields(), rest, &mut bytes)?;
     finish(alloc, verb, bytes.as_slice(), rest)
 }
 

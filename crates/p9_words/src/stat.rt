@@ -3,7 +3,7 @@
 ghost use Rattle.std.specs.Prelude.{◌≡◌, ◌≤◌, ◌<◌, ◌^◌, ◌++◌, OnOk, IfOk};
 ghost use Rattle.std.specs.Option.{SomeIff};
 ghost use Rattle.p9_wire.specs.Fields.{sized, stat_bytes, stat_len};
-ghost use Rattle.p9_words.specs.Reading.{Gives, keyed_at, stat_fields_at, stat_at};
+ghost use Rattle.p9_words.specs.Reading.{Gives, keyed_at, put_after, stat_fields_at, stat_at};
 ghost use Rattle.p9_words.specs.Stat.{parts_view, stat_numbers, stat_texts};
 
 use crate::bytes::{put_number, put_qid, put_text};
@@ -17,7 +17,7 @@ use p9_base::{NoMemory, Qid};
 use p9_wire::STAT_FIXED;
 use std::alloc::Allocator;
 
-/// What is told of a file, with its texts in memory of their own.
+/// The fields of a stat, with its texts in memory of their own.
 #[derive(Drop)]
 struct Parts<A: Allocator + Copy> {
     kind: u16,
@@ -43,7 +43,7 @@ fn take_keyed(key: Key, base: Base, most: u64, text: &[u8]) -> Result<(u64, &[u8
     take_number(base, most, rest)
 }
 
-// What is told of a file.
+// The fields of a stat.
 #[tactic(auto, unfolding(crate::specs::Reading::stat_fields_at))]
 fn take_parts<A: Allocator + Copy>(alloc: A, text: &[u8]) -> Result<(Parts<A>, &[u8]), ReadError>
     ensures value { Gives (λ x. (parts_view x.0, x.1.now)) result (stat_fields_at text.now) }
@@ -134,22 +134,21 @@ fn put_texts<A: Allocator + Copy>(parts: &Parts<A>, out: &mut Vec<u8, A>) -> Res
     put_text(parts.muid.as_slice(), out)
 }
 
-/// The bytes of a stat whose length two bytes hold, after that length.
+/// Puts the bytes of a stat whose length two bytes hold, after that length, after those of `out`,
+/// and returns the text after it. After an error a part of them may be there.
 #[tactic(auto, unfolding(crate::specs::Reading::stat_at))]
-pub fn take_stat<A: Allocator + Copy>(
-    alloc: A,
-    text: &[u8],
-) -> Result<(Vec<u8, A>, &[u8]), ReadError>
-    ensures { Gives (λ x. (x.0.items, x.1.now)) result (stat_at text.now) }
+pub fn take_stat<'a, A: Allocator + Copy>(
+    text: &'a [u8],
+    out: &mut Vec<u8, A>,
+) -> Result<&'a [u8], ReadError>
+    ensures { Gives (λ rest. (out.new.items, rest.now)) result
+        (put_after out.old.items (stat_at text.now)) }
 {
     let here = skip_blanks(text);
-    let (parts, rest) = take_parts(alloc, here)?;
-    match size_of(&parts) {
-        Some(size) => {
-            let mut bytes = Vec::new(alloc);
-            put_stat(&parts, size, &mut bytes)?;
-            Ok((bytes, rest))
-        }
-        None => Err(unexpected(Expected::ShortStat, here)),
-    }
+    let (parts, rest) = take_parts(*out.allocator(), here)?;
+    let Some(size) = size_of(&parts) else {
+        return Err(unexpected(Expected::ShortStat, here));
+    };
+    put_stat(&parts, size, out)?;
+    Ok(rest)
 }

@@ -115,10 +115,7 @@ fn value_of(base: Base, digits: &[u8]) -> Option<u64>
     let radix = base.radix();
     let mut value = 0;
     for digit in digits {
-        match with_digit(radix, value, *digit) {
-            Some(more) => value = more,
-            None => return None,
-        }
+        value = with_digit(radix, value, *digit)?;
     }
     Some(value)
 }
@@ -132,10 +129,9 @@ fn with_digit(radix: u32, value: u64, digit: u8) -> Option<u64>
         (value * radix + digit_value digit) }
 {
     let last = char::from(digit).to_digit(radix).unwrap();
-    match value.checked_mul(u64::from(radix)) {
-        Some(tens) => tens.checked_add(u64::from(last)),
-        None => None,
-    }
+    value
+        .checked_mul(u64::from(radix))?
+        .checked_add(u64::from(last))
 }
 
 /// The bytes after a quote, and the text after the quote that ends them.

@@ -4,5 +4,5 @@ use Rattle.p9_words.proofs.field.take_items.Given as goal
 
 abbrev pub invariant-loop-i : goal.invariant-loop-i
 invariant-loop-i g l =
-    items_from l.item l.bytes.items l.i (l.count - l.i) l.rest
-    ≡ items_from l.item l.fn.bytes.items 0 l.count l.text
+    items_from l.item l.out.items l.i (l.count - l.i) l.rest
+    ≡ items_from l.item l.fn.out.items 0 l.count l.text

@@ -4,5 +4,5 @@ use Rattle.p9_words.proofs.omitted.take_all_given.Given as goal
 
 abbrev pub invariant-loop-field : goal.invariant-loop-field
 invariant-loop-field g l =
-    given_from l.tag l.bytes.items (drop l.field-index l.fields) l.rest
-    ≡ given_from l.tag l.fn.bytes.items l.fields l.text
+    given_from l.tag l.out.items (drop l.field-index l.fields) l.rest
+    ≡ given_from l.tag l.fn.out.items l.fields l.text

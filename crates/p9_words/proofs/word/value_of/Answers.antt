@@ -12,12 +12,13 @@ with_digit-requires-clause-digit c =
     (AllDigits-at (radix_of c.args.base) c.args.digits.now c.loop-digit.digit-index c.requires
     c.loop-digit-test.true)
 
-pub returns-in-None : goal.returns-in-None
-returns-in-None c =
-    λ small. c.in-None.ensures
+pub returns-in_err-value : goal.returns-in_err-value
+returns-in_err-value c =
+    rw c.from_residual.ensures
+    (λ small. c.in_err-value.ensures
     (too_great (radix_of c.args.base) c.radix-radix.result c.args.digits.now
     c.loop-digit.digit-index c.loop-digit.value c.radix-radix.ensures (radix-some c.args.base)
-    c.loop-digit-test.true c.loop-digit.invariant.value small)
+    c.loop-digit-test.true c.loop-digit.invariant.value small))
 
 pub loop-digit-preserved : goal.loop-digit-preserved
 loop-digit-preserved c =
@@ -25,8 +26,8 @@ loop-digit-preserved c =
     digits_value_more c.radix-radix.result c.args.digits.now c.loop-digit.digit-index
     c.loop-digit-test.true in
     record {
-      value = c.in-Some.ensures.1 ∙ rw c.loop-digit.invariant.value (sym more);
-      small = omega (arith, c.in-Some.ensures.0, c.in-Some.ensures.1);
+      value = c.in_ok-value.ensures.1 ∙ rw c.loop-digit.invariant.value (sym more);
+      small = omega (arith, c.in_ok-value.ensures.0, c.in_ok-value.ensures.1);
     }
 
 pub returns : goal.returns
