@@ -2,6 +2,8 @@ mod Among
 mod Attaches
 mod Creates
 mod DirectoryReads
+mod Entries
+mod Fillings
 mod Listings
 mod Places
 mod Removals

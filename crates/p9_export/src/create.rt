@@ -68,16 +68,25 @@ struct Plan<A: Allocator + Copy> {
 /// goes on to it: the fid is then open for what the mode's bits ask. It returns the new qid and the
 /// session's iounit ([`Session::room`]).
 ///
-/// The first that applies refuses, and nothing changes: there is no such fid,
-/// [`Fault::UnknownFid`]; it is open, [`Fault::FidOpen`]; the name isn't valid,
-/// [`Fault::BadFileName`]; the mode or `perm` means nothing, [`Fault::BadOpenMode`]; a directory is
-/// asked for anything but to be read, [`Fault::IsDirectory`]; no member exists,
-/// [`Fault::PhaseError`]; none is a directory, [`Fault::NotDirectory`]; none permits creation,
-/// [`Fault::CreationForbidden`]; the first that does doesn't exist, [`Fault::PhaseError`], or is no
-/// directory, [`Fault::NotDirectory`]; the user may not write it, [`Fault::PermissionDenied`]; it
-/// has that name, [`Fault::FileExists`]; the server's numbers are used up, [`Fault::QidsUsedUp`];
-/// the fid's trail has [`PLACES_MAX`] places, [`Fault::PathTooDeep`]. Else an allocation may fail,
-/// [`Fault::OutOfMemory`].
+/// # Errors
+///
+/// The first that applies is returned. The trees and the session are then unchanged.
+///
+/// 1. [`Fault::UnknownFid`]: the session has no such fid.
+/// 2. [`Fault::FidOpen`]: the fid is open.
+/// 3. [`Fault::BadFileName`]: the name isn't valid.
+/// 4. [`Fault::BadOpenMode`]: the mode or `perm` means nothing.
+/// 5. [`Fault::IsDirectory`]: a directory is asked for anything but to be read.
+/// 6. [`Fault::PhaseError`]: no member of the fid's place exists.
+/// 7. [`Fault::NotDirectory`]: no member that exists is a directory.
+/// 8. [`Fault::CreationForbidden`]: no member permits creation.
+/// 9. [`Fault::PhaseError`]: the first member that permits creation doesn't exist.
+/// 10. [`Fault::NotDirectory`]: that member is no directory.
+/// 11. [`Fault::PermissionDenied`]: the user may not write that member.
+/// 12. [`Fault::FileExists`]: that member has an entry of the name.
+/// 13. [`Fault::QidsUsedUp`]: the member's server has given all its numbers.
+/// 14. [`Fault::PathTooDeep`]: the fid's trail has [`PLACES_MAX`] places.
+/// 15. [`Fault::OutOfMemory`]: an allocation failed.
 pub fn create<T: Tree>(
     setting: &Setting<T::Alloc>,
     forest: &mut Forest<T>,

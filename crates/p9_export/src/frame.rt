@@ -2,6 +2,7 @@
 
 ghost use Rattle.std.specs.Prelude.{◌≡◌, ◌≤◌, ◌+◌, length, take, drop};
 ghost use Rattle.p9_base.specs.Fault.{text_of};
+ghost use Rattle.p9_wire.specs.Frame.{header};
 ghost use Rattle.p9_wire.specs.Message.{Rerror};
 ghost use Rattle.p9_wire.specs.Spelling.{r_len, read_header};
 ghost use Rattle.p9_wire.specs.Reply.{r_spelling};
@@ -18,6 +19,9 @@ use p9_base::{Fault, NodeRef};
 use p9_tree::{Forest, Tree};
 use p9_wire::{RMsg, TMsg, finish_read, read_t, write_r};
 use std::alloc::Allocator;
+
+// Where the tag is in a frame: after its size and its type.
+const TAG_START: usize = 5;
 
 /// The request of a frame: a frame that is longer than the session's msize, or no request, is
 /// [`Fault::Malformed`]; before a version, any other request is [`Fault::VersionNotSet`].
@@ -44,10 +48,10 @@ pub fn request_of<'a, A: Allocator + Copy>(
 
 /// The tag of a frame, also where it is no request.
 pub fn tag_of(frame: &[u8]) -> u16
-    requires { 7 ≤ length frame.now }
+    requires { header ≤ length frame.now }
     ensures { result ≡ tag_of frame.now }
 {
-    LittleEndian::read_u16(&frame[5..])
+    LittleEndian::read_u16(&frame[TAG_START..])
 }
 
 /// Writes the reply to a frame with this tag at the front of the buffer, also where it is a
@@ -74,7 +78,7 @@ pub fn write_reply<T: Tree>(
 
 // Writes the refusal.
 fn write_fault(fault: Fault, tag: u16, out: &mut [u8]) -> usize
-    requires { 7 + r_len (Rerror (text_of fault)) ≤ length out.old }
+    requires { header + r_len (Rerror (text_of fault)) ≤ length out.old }
     ensures bytes { take result out.new ≡ r_spelling tag (Rerror (text_of fault)) }
     ensures within { result ≤ length out.old }
 {
@@ -89,7 +93,7 @@ fn write_fault(fault: Fault, tag: u16, out: &mut [u8]) -> usize
 
 // Writes the stat of a node, or, where there is none, that it is gone.
 fn write_stat_of<T: Tree>(forest: &Forest<T>, at: NodeRef, tag: u16, out: &mut [u8]) -> usize
-    requires room { 7 + r_len (stat_reply forest.now at) ≤ length out.old }
+    requires room { header + r_len (stat_reply forest.now at) ≤ length out.old }
     ensures bytes { take result out.new ≡ r_spelling tag (stat_reply forest.now at) }
     ensures within { result ≤ length out.old }
 {

@@ -38,19 +38,31 @@ struct Touched<'a> {
 }
 
 /// Changes what is told of a fid's file, all at once, and marks the directory that it is in.
-/// A field is untouched that holds its greatest number, or is empty, or holds what is there;
-/// where all are, nothing changes.
+/// A field is untouched that holds its greatest number, or is empty, or holds what is there.
+/// Where all are untouched, nothing changes.
 ///
-/// The first that applies refuses, by the file as it is, and nothing changes: there is no such fid,
-/// [`Fault::UnknownFid`]; its file doesn't exist, [`Fault::PhaseError`]; a field is touched that
-/// no wstat changes, or the mode means nothing, or is a directory's for a file or a file's for a
-/// directory, [`Fault::FixedField`]; a name is for a server's root, [`Fault::IsRoot`], or not
-/// valid, [`Fault::BadFileName`], or the user may not write the directory,
-/// [`Fault::PermissionDenied`], or that has the name, [`Fault::FileExists`]; a length is for a
-/// directory, [`Fault::IsDirectory`], or the user may not write the file,
-/// [`Fault::PermissionDenied`], or it is more than [`FILE_MAX`], [`Fault::FileTooLarge`]; the
-/// mode or the mtime is touched and the user doesn't rule the file, or the user may not give it
-/// to the group, [`Fault::PermissionDenied`]. Else an allocation may fail, [`Fault::OutOfMemory`].
+/// # Errors
+///
+/// The tests are of the file as it is, and the first that applies is returned. The trees are then
+/// unchanged.
+///
+/// 1. [`Fault::UnknownFid`]: the session has no such fid.
+/// 2. [`Fault::PhaseError`]: the fid's file doesn't exist.
+/// 3. [`Fault::FixedField`]: a field is touched that no wstat changes.
+/// 4. [`Fault::FixedField`]: the mode means nothing, or is a directory's for a file or a file's for a
+///    directory.
+/// 5. [`Fault::IsRoot`]: a name is for a server's root.
+/// 6. [`Fault::BadFileName`]: the name isn't valid.
+/// 7. [`Fault::PermissionDenied`]: a name is touched, and the user may not write the directory that
+///    the file is in.
+/// 8. [`Fault::FileExists`]: that directory has an entry of the name.
+/// 9. [`Fault::IsDirectory`]: a length is for a directory.
+/// 10. [`Fault::PermissionDenied`]: a length is touched, and the user may not write the file.
+/// 11. [`Fault::FileTooLarge`]: the length is more than [`FILE_MAX`].
+/// 12. [`Fault::PermissionDenied`]: the mode or the mtime is touched, and the user doesn't rule the
+///     file.
+/// 13. [`Fault::PermissionDenied`]: the user may not give the file to the group.
+/// 14. [`Fault::OutOfMemory`]: an allocation failed.
 pub fn wstat<T: Tree>(
     setting: &Setting<T::Alloc>,
     forest: &mut Forest<T>,

@@ -1,8 +1,9 @@
 use Rattle.p9_space.specs.Rights.{who_view}
 use Rattle.std.proofs.Common.{length, refl, subst}
 use Rattle.p9_step.specs.Listing.{left_of}
-use Rattle.p9_export.proofs.Listings.{Filling, filling-start, left_reached, members-full}
-use Rattle.p9_export.proofs.Listings.{members-next, members-reached, reached-start}
+use Rattle.p9_export.proofs.Entries.{left_reached}
+use Rattle.p9_export.proofs.Fillings.{Filling, filling-start}
+use Rattle.p9_export.proofs.Listings.{members-full, members-next, members-reached, reached-start}
 use Rattle.p9_export.proofs.listing.fill.Goals as goal
 
 pub loop-position-init : goal.loop-position-init

@@ -2,7 +2,8 @@ use Rattle.p9_space.specs.Rights.{who_view}
 use Rattle.std.proofs.Common.{◌≡◌, false, length, drop}
 use Rattle.std.specs.Prelude.{filter}
 use Rattle.p9_step.specs.Listing.{entries_from, is_behind, left_of}
-use Rattle.p9_export.proofs.Listings.{Filling, IsAtMost}
+use Rattle.p9_export.proofs.Fillings.{Filling}
+use Rattle.p9_export.proofs.Listings.{IsAtMost}
 use Rattle.p9_export.proofs.listing.fill.Given as goal
 
 abbrev pub invariant-loop-position : goal.invariant-loop-position

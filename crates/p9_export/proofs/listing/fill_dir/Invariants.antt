@@ -1,7 +1,9 @@
 use Rattle.std.proofs.Common.{◌≡◌, ◌-◌, false, length}
 use Rattle.std.specs.Prelude.{filter}
 use Rattle.p9_step.specs.Listing.{is_behind}
-use Rattle.p9_export.proofs.Listings.{Filling, IsAtMost, entries_in}
+use Rattle.p9_export.proofs.Entries.{entries_in}
+use Rattle.p9_export.proofs.Fillings.{Filling}
+use Rattle.p9_export.proofs.Listings.{IsAtMost}
 use Rattle.p9_export.proofs.listing.fill_dir.Given as goal
 
 abbrev pub invariant-loop-node : goal.invariant-loop-node
