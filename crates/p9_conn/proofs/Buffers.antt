@@ -26,7 +26,7 @@ part-shorter bytes from to count fits =
     ∙ sym (drop-take count (to - (from + count)) (drop from bytes))
     ∙ ap (λ (n : ℕ). drop count (take n (drop from bytes))) (sym left)
 
--- the first bytes of a buffer, to whose room behind them something was written
+-- the first bytes of a buffer, to whose room after them something was written
 behind-front : (front bytes rest : List ℕ) (filled count : ℕ) → length front ≡ filled
     → count ≤ length bytes
     → drop filled (take (filled + count) (front ++ (bytes ++ rest))) ≡ take count bytes
@@ -39,7 +39,7 @@ behind-front front bytes rest filled count long within =
     ∙ ap (λ (zs : List ℕ). front ++ zs) (take-append-le count bytes rest within))
     ∙ drop_at front (take count bytes) filled long
 
--- the same in a vector, whose part behind the first bytes was lent
+-- the same in a vector, whose part after the first bytes was lent
 pub behind-lent : (items old bytes rest : List ℕ) (len filled count : ℕ)
     → length (take filled old ++ (bytes ++ rest)) ≡ len → filled ≤ length old
     → count ≤ length bytes

@@ -136,7 +136,7 @@ pub common : (session now : ℕ) (old new : Scene) (deeds : Deeds)
 common session now old new deeds t =
     by-phase old.link.closed (nat_eq (length old.link.pending) 0) session now old new deeds refl t
 
--- the same of one turn among many
+-- what turns have in common, of one turn among many
 pub turned : (h : Happening) (links links' : Links) (state state' : State)
     → Happens h links state links' state'
     → Common (record { link = links h.session; state = state })

@@ -13,7 +13,7 @@ use Rattle.p9_conn.specs.History.{Happening, Links, Runs, events_of, history, re
 use Rattle.p9_conn.specs.Laws.{HistoryIsPromised, HistoryIsRun, IsRun}
 use Rattle.p9_conn.proofs.Facts.{turned}
 
--- a run, and another behind it
+-- a run, and another after it
 pub both : (old mid new : State) (answered others : List Answered) → IsRun old answered mid
     → IsRun mid others new → IsRun old (answered ++ others) new
 both old mid new answered others first later =

@@ -29,7 +29,7 @@ frames_in-append (entry ∷ answered) others =
     ap (λ (zs : List (List ℕ)). frame_in entry.event.0 ++ zs) (frames_in-append answered others)
     ∙ sym (append_assoc (frame_in entry.event.0) (frames_in answered) (frames_in others))
 
--- One turn, and frames behind it.
+-- One turn, and frames after it.
 
 -- nothing was taken out
 gathered : (buffer more left end : List ℕ) (deeds : Deeds) (others : List Answered)
@@ -84,7 +84,7 @@ one buffer more left end deeds others (inl t) later =
 one buffer more left end deeds others (inr t) later =
     taken buffer more left end deeds others t later
 
--- the same of a turn that may be another session's
+-- frames after a turn that may be another session's
 one-of : (mine : Bool) (buffer more left end : List ℕ) (deeds : Deeds) (others : List Answered)
     → (mine ≡ true → (IsGathered buffer deeds left ⊎ IsTaken buffer deeds left))
     → (mine ≡ false → left ≡ buffer)
@@ -115,7 +115,7 @@ frames-come-in-order (h ∷ hs) links links' state state' runs session =
 
 -- Replies.
 
--- a turn, and replies behind it
+-- a turn, and replies after it
 pub goes-out : (pending left end later : List ℕ) (deeds : Deeds) (others : List Answered)
     → pending ++ concat (replies_of deeds.answered) ≡ deeds.written ++ left
     → left ++ concat (replies_of others) ≡ later ++ end

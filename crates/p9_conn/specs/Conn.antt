@@ -60,7 +60,7 @@ turn_of deeds closed =
     else (if nat_lt 0 (length deeds.read + length deeds.written + length deeds.answered) then Moved
     else Idle)
 
--- a connection has had a turn in this phase; its stream may tell what is left to read of it and
+-- a connection has had a turn in this phase; its stream may show what is left to read of it and
 -- what was written to it
 pub record HasTurned {S : Type 0} (remaining contents : S → Option (List ℕ)) (phase : Phase)
     (now : ℕ) (old : Connection S) (before : Guarded) (new : Connection S) (after : Guarded)

@@ -3,7 +3,7 @@ use Rattle.std.specs.Prelude.{◌≡◌, ◌≤◌, ℕ, List, ◌++◌, Option,
 use Rattle.std.specs.Prelude.{take}
 use Rattle.std.specs.Io.KnownBytes.{Appends, Consumes, Keeps}
 
--- bytes came, so many, behind those that were there before
+-- bytes came, as many as counted, after those that were there before
 pub record CameBehind (remaining remaining' : Option (List ℕ)) (count : ℕ) (old new : List ℕ)
     : Type 0 where
   pub read : List ℕ
@@ -18,7 +18,7 @@ HasRead remaining remaining' result old new =
     MatchResult result (λ count. CameBehind remaining remaining' count old new)
     (λ error. (new ≡ old) × Keeps remaining remaining')
 
--- so many bytes went out at the front
+-- as many bytes as counted went out at the front
 pub record WentOut (contents contents' : Option (List ℕ)) (count : ℕ) (old new : List ℕ)
     : Type 0 where
   pub within : count ≤ length old

@@ -33,7 +33,7 @@ AreFirst (frame ∷ more) (Rest bytes) = ⊥
 AreFirst (frame ∷ more) BrokenSize = ⊥
 
 -- the frames of a connection that were answered are the first frames of the bytes that it had and
--- those that it read, and what is behind them is in its buffer
+-- those that it read, and what is after them is in its buffer
 pub record ComeInOrder (frames_answered : List (List ℕ)) (bytes left : List ℕ) : Type 0 where
   pub first : AreFirst frames_answered (frames bytes)
   pub rest : bytes ≡ concat frames_answered ++ left

@@ -1,4 +1,4 @@
--- The turns of one connection, over a stream that tells its bytes.
+-- The turns of one connection, over a stream whose bytes are known.
 use Rattle.std.specs.Prelude.{◌≡◌, ℕ, List, [], ◌∷◌, ◌++◌, Option, Some}
 use Rattle.std.specs.List.{concat}
 use Rattle.p9_guard.specs.Guard.{Guarded}
@@ -24,7 +24,7 @@ module _ {S : Type 0} (remaining contents : S → Option (List ℕ)) where
       (mid : Connection S) × (between : Guarded) × HasDone h old before mid between
       × HasDoneAll hs mid between new after
 
-  -- of the bytes that were given these were read, and behind the bytes that were held these were
+  -- of the bytes that were given these were read, and after the bytes that were held these were
   -- written: the frames are those of the bytes read, the guard makes the run of their events, and
   -- what was written, with what is pending, is the replies of that run
   pub record AreExchanged (hs : List Happening) (given held : List ℕ) (before : Guarded)

@@ -90,7 +90,7 @@ pub record Sends (old new : Scene) (deeds : Deeds) : Type 0 where
   pub no_read : deeds.read ≡ []
   pub no_entry : deeds.answered ≡ []
 
--- bytes are read, and are behind those in the buffer
+-- bytes are read, and are after those in the buffer
 pub record Receives (old new : Scene) (deeds : Deeds) : Type 0 where
   pub some : 0 < length deeds.read
   pub link_is : new.link ≡ record old.link { buffer = old.link.buffer ++ deeds.read }

@@ -6,9 +6,8 @@ ghost use Rattle.p9_conn.specs.Turn.{Answering, Ending, Receiving, Sending, phas
 ghost use Rattle.p9_wire.specs.Frame.{first_frame};
 ghost use Rattle.p9_wire.specs.declared.frame.Frame.TheVariants.{Need, Whole};
 
-use crate::input::Input;
-use crate::output::Output;
 use crate::stream::Stream;
+use crate::window::Window;
 use p9_base::NoMemory;
 use p9_guard::Guard;
 use p9_tree::Tree;
@@ -37,8 +36,10 @@ pub enum Turn {
 pub struct Conn<S, A: Allocator + Copy> {
     stream: S,
     session: u32,
-    input: Input<A>,
-    output: Output<A>,
+    // What it has read and is in no frame yet.
+    input: Window<A>,
+    // What is left to write of a reply.
+    output: Window<A>,
     closed: bool,
 }
 
@@ -192,8 +193,8 @@ impl<S: Stream + Drop, A: Allocator + Copy> Conn<S, A> {
 }
 
 // The two buffers of a connection.
-fn buffers<A: Allocator + Copy>(alloc: A) -> Result<(Input<A>, Output<A>), NoMemory>
+fn buffers<A: Allocator + Copy>(alloc: A) -> Result<(Window<A>, Window<A>), NoMemory>
     ensures { IfOk result (λ both. (both.0 ≡ []) × (both.1 ≡ [])) }
 {
-    Ok((Input::new(alloc)?, Output::new(alloc)?))
+    Ok((Window::new(alloc)?, Window::new(alloc)?))
 }

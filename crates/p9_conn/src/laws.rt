@@ -31,8 +31,8 @@ pub fn a_history_is_promised()
     ensures { HistoryIsPromised }
 {}
 
-/// From the bytes that are read to those that are written, of a connection alone over a stream that
-/// tells both: the frames are the first ones of the bytes that it gave, and what it holds is what
+/// From the bytes that are read to those that are written, of a connection alone over a stream whose
+/// bytes are known: the frames are the first ones of the bytes that it gave, and what it holds is what
 /// it held, followed by the replies of the run of these frames, up to what is pending.
 pub fn bytes_become_replies<S>()
     ensures { BytesBecomeReplies S }

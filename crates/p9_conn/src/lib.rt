@@ -7,11 +7,10 @@
 #![tactic(auto)]
 
 mod conn;
-mod input;
 pub mod laws;
-mod output;
 mod room;
 mod stream;
+mod window;
 
 pub use conn::{Conn, Turn};
 pub use stream::Stream;

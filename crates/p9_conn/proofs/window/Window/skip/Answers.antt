@@ -1,9 +1,9 @@
 use Rattle.std.proofs.Common.{◌≤◌, ◌∙◌, List, ℕ, ap, arith, drop, length, subst, sym}
 use Rattle.p9_conn.proofs.Buffers.{part, part-length, part-shorter}
-use Rattle.p9_conn.proofs.input.Input.skip.Goals as goal
+use Rattle.p9_conn.proofs.window.Window.skip.Goals as goal
 
-pub returns-else-self : goal.returns-else-self
-returns-else-self g c =
+pub returns : goal.returns
+returns g c =
     let b = c.self.inside in
     let held : c.args.count ≤ length (part b.start b.end b.bytes.items) =
     subst (λ (zs : List ℕ). c.args.count ≤ length zs) (sym c.self.view_is) c.requires in

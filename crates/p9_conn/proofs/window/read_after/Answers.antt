@@ -1,7 +1,7 @@
 use Rattle.std.proofs.Common.{arith, rules}
 use Rattle.std.proofs.lemmas.Grind.{common_steps}
 use Rattle.p9_conn.proofs.Buffers.{behind-lent, read-there}
-use Rattle.p9_conn.proofs.input.read_behind.Goals as goal
+use Rattle.p9_conn.proofs.window.read_after.Goals as goal
 
 pub returns-clause-read : goal.returns-clause-read
 returns-clause-read g c =

@@ -1,37 +1,40 @@
-//! The bytes that a connection has read.
+//! The bytes of a connection that wait: those that it has read, and those that it is to write.
 
-ghost use Rattle.std.specs.Prelude.{◌≡◌, ◌<◌, ◌≤◌, ◌+◌, ◌-◌, [], IfOk, OnErr, drop, length, take};
-ghost use Rattle.std.specs.Prelude.{vec_capacity, vec_len};
+ghost use Rattle.std.specs.Prelude.{◌≡◌, ◌<◌, ◌≤◌, ◌+◌, ◌-◌, [], IfOk, IsTrue, OnErr, drop, length};
+ghost use Rattle.std.specs.Prelude.{nat_eq, take, vec_capacity, vec_len};
 ghost use Rattle.std.specs.Io.KnownBytes.{Consumes, Keeps};
-ghost use Rattle.p9_conn.specs.Device.{HasRead};
-ghost use Rattle.p9_wire.specs.Frame.{first_frame, msize_max};
+ghost use Rattle.p9_conn.specs.Conn.{FrameIsAnswered};
+ghost use Rattle.p9_conn.specs.Device.{HasRead, HasWritten};
+ghost use Rattle.p9_wire.specs.Frame.{first_frame, is_frame, msize_max};
 
 use crate::room::{lengthen, with_room};
 use crate::stream::Stream;
 use p9_base::NoMemory;
+use p9_guard::Guard;
+use p9_tree::Tree;
 use p9_wire::{Frame, MSIZE_MAX, frame_of};
 use std::alloc::Allocator;
 use std::io;
 use std::marker::Model;
 
-// How long the buffer is when it is first written to.
+// How long the buffer is when it is first read into.
 const FIRST: usize = 16_384;
 
-/// Bytes that were read from a stream and are in no frame yet, at most as many as the greatest
-/// frame has.
+/// Bytes that wait in a buffer, at most as many as the greatest frame has: those that were read and
+/// are in no frame yet, or what is left to write of a reply.
 ///
-/// Bytes are not moved when a frame before them is taken out, but before the next read at the
-/// latest.
+/// Bytes come in after the others and are taken out at the front. They are not moved when others
+/// are taken out before them, but before the next read at the latest.
 #[derive(Drop)]
-pub(crate) struct Input<A: Allocator + Copy> {
+pub(crate) struct Window<A: Allocator + Copy> {
     // As long as it was ever filled; its room is taken from the beginning on.
     bytes: Vec<u8, A>,
-    // Where the bytes begin and end.
+    // Where the bytes that wait begin and end.
     start: usize,
     end: usize,
 }
 
-impl<A: Allocator + Copy> Model for Input<A> {
+impl<A: Allocator + Copy> Model for Window<A> {
     ghost use Rattle.std.specs.Prelude.{◌≤◌, ◌-◌, List, drop, length, take};
     ghost use Rattle.std.specs.Prelude.{vec_capacity, vec_len, ℕ};
     ghost use Rattle.p9_wire.specs.Frame.{msize_max};
@@ -44,12 +47,12 @@ impl<A: Allocator + Copy> Model for Input<A> {
         × (vec_len b.bytes ≤ msize_max) × (msize_max ≤ vec_capacity b.bytes) };
 }
 
-impl<A: Allocator + Copy> Input<A> {
-    /// An empty buffer with room for the greatest frame.
-    pub fn new(alloc: A) -> Result<Input<A>, NoMemory>
-        ensures { IfOk result (λ input. input ≡ []) }
+impl<A: Allocator + Copy> Window<A> {
+    /// No bytes, with room for the greatest frame.
+    pub fn new(alloc: A) -> Result<Window<A>, NoMemory>
+        ensures { IfOk result (λ window. window ≡ []) }
     {
-        Ok(Input {
+        Ok(Window {
             bytes: with_room(alloc)?,
             start: 0,
             end: 0,
@@ -61,6 +64,13 @@ impl<A: Allocator + Copy> Input<A> {
         ensures { result.now ≡ self.now }
     {
         &self.bytes[self.start..self.end]
+    }
+
+    /// Whether there are none.
+    pub fn is_empty(&self) -> bool
+        ensures { result ≡ nat_eq (length self.now) 0 }
+    {
+        self.start == self.end
     }
 
     /// What is at the front of the bytes.
@@ -76,13 +86,9 @@ impl<A: Allocator + Copy> Input<A> {
         ensures { self.new ≡ drop count self.old }
     {
         self.start += count;
-        if self.start == self.end {
-            self.start = 0;
-            self.end = 0;
-        }
     }
 
-    /// Reads once, behind the bytes, and returns how many came. An error of the stream changes no
+    /// Reads once, after the bytes, and returns how many came. An error of the stream changes no
     /// byte.
     pub fn receive<S: Stream>(&mut self, stream: &mut S) -> io::Result<usize>
         requires { length self.old < msize_max }
@@ -95,9 +101,37 @@ impl<A: Allocator + Copy> Input<A> {
         self.start = 0;
         self.end = filled;
         make_room(&mut self.bytes, filled);
-        let count = read_behind(stream, &mut self.bytes, filled)?;
+        let count = read_after(stream, &mut self.bytes, filled)?;
         self.end = filled + count;
         Ok(count)
+    }
+
+    /// Writes the bytes once, takes out those that went out, and returns how many these are. An error
+    /// of the stream changes no byte. `more` says that other bytes will be written after these.
+    pub fn send<S: Stream>(&mut self, stream: &mut S, more: bool) -> io::Result<usize>
+        ensures went { HasWritten (S.contents stream.old) (S.contents stream.new) result self.old
+            self.new }
+        ensures left { Keeps (S.remaining stream.old) (S.remaining stream.new) }
+    {
+        let count = stream.send(self.bytes(), more)?;
+        self.skip(count);
+        Ok(count)
+    }
+
+    /// Has a frame answered by the guard. The bytes are then its reply, where the guard wrote it: none
+    /// for a session that is not open.
+    pub fn answer<T: Tree>(&mut self, guard: &mut Guard<T>, session: u32, frame: &[u8], now: u32)
+        requires { IsTrue (is_frame frame.now) }
+        ensures { FrameIsAnswered session frame.now now guard.old guard.new self.new }
+    {
+        let Some(room) = guard.reply_max(session) else {
+            self.start = 0;
+            self.end = 0;
+            return;
+        };
+        lengthen(&mut self.bytes, room);
+        self.start = 0;
+        self.end = guard.answer(session, frame, now, self.bytes.as_mut_slice());
     }
 }
 
@@ -132,8 +166,8 @@ fn make_room<A: Allocator>(bytes: &mut Vec<u8, A>, filled: usize)
     }
 }
 
-// Reads behind the first bytes of a buffer.
-fn read_behind<S: Stream, A: Allocator>(
+// Reads once, after the first bytes of a buffer.
+fn read_after<S: Stream, A: Allocator>(
     stream: &mut S,
     bytes: &mut Vec<u8, A>,
     filled: usize,

@@ -4,7 +4,7 @@ use Rattle.p9_step.specs.Memory.{is_no_memory_reply}
 use Rattle.p9_guard.proofs.Promises.{are_bytes}
 use Rattle.p9_conn.specs.Conn.{FrameIsAnswered}
 use Rattle.p9_conn.proofs.Outcomes.{guarded-answer}
-use Rattle.p9_conn.proofs.output.Output.answer.Goals as goal
+use Rattle.p9_conn.proofs.window.Window.answer.Goals as goal
 
 pub returns : goal.returns
 returns g c =
