@@ -128,7 +128,7 @@ left-all dir forest =
     and_true true = refl
     and_true false = refl
 
--- how many numbers are behind
+-- how many numbers are after
 abbrev pub passed : Option ℕ → ℕ
 passed floor = option_map_or (λ k. k + 1) floor 0
 
@@ -155,14 +155,14 @@ module _ {Y : Type 0} (f : Node → Option Y) (dir : NodeRef) (floor : Option �
       (server_ordered forest sound dir.server).rising e)
       ∙ ap (λ p. option_or p (first_of f (left_of dir (Some m.number) forest))) some) ∙ kept
 
-  -- or behind the last
+  -- or after the last
   pub children-end : (o : Option Y) → child_in_after dir floor forest ≡ None
       → first_of f (left_of dir floor forest) ≡ o → None ≡ o
   children-end o e kept =
       sym (ap (first_of f)
       (none_kept (is_left dir.number floor) (server_at dir.server forest).nodes e)) ∙ kept
 
--- a child above a floor is behind what has passed
+-- a child above a floor is after what has passed
 pub above-passed : (dir : ℕ) (floor : Option ℕ) (x : Node) → is_left dir floor x ≡ true
     → passed floor ≤ x.number
 above-passed dir None x t = omega arith

@@ -62,7 +62,7 @@ module _ {X Y : Type 0} (f : X → Option Y) where
       → None ≡ o
   first-end xs i o l kept = sym (ap (first_of f) (drop_all i xs l)) ∙ kept
 
-  -- the same, of a thing that is asked for by its place
+  -- what it begins with, of a thing that is asked for by its place
   pub first-at : (xs : List X) (i : ℕ) (x : X) → slice_get xs i ≡ Some x
       → first_of f (drop i xs) ≡ option_or (f x) (first_of f (drop (i + 1) xs))
   first-at [] i x e = let none : None ≡ Some x = e in absurd (cc)

@@ -44,7 +44,7 @@ inside_under hidden forest at parent =
     option_map_or (λ p. is_barred (beside at p) hidden forest) parent false
 
 module _ (hidden : List NodeRef) (forest : List Server) (at : NodeRef) where
-  -- so is the node
+  -- a node is inside where what is under its parent is
   pub inside-under : (parent : Option ℕ) → parent ≡ option_and_then (λ n. n.parent) (node_of at forest)
       → inside_under hidden forest at parent ≡ is_inside at hidden forest
   inside-under parent e =
@@ -54,7 +54,7 @@ module _ (hidden : List NodeRef) (forest : List Server) (at : NodeRef) where
   pub inside-absent : node_of at forest ≡ None → is_inside at hidden forest ≡ false
   inside-absent e = sym (inside-under None (sym (ap (option_and_then (λ n. n.parent)) e)))
 
--- so nothing is wrong with it
+-- nothing is wrong with a node that doesn't exist
 pub fault-absent : (policy : Policy) (forest : List Server) (rows : List NodeRef) (at : NodeRef)
     → node_of at forest ≡ None → member_fault policy forest rows at ≡ None
 fault-absent policy forest rows at e = rw (inside-absent policy.hidden forest at e, e)

@@ -1,4 +1,4 @@
--- What is told of a line is told of the text.
+-- What is reported of a line is reported of the text.
 use Rattle.std.proofs.Common.{◌≡◌, ℕ, List, Result, Err}
 use Rattle.p9_base.specs.declared.node_ref.NodeRef.{NodeRef}
 use Rattle.p9_cert.specs.Text.{IsReadError}

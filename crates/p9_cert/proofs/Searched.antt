@@ -17,7 +17,7 @@ use Rattle.p9_base.specs.declared.node_ref.NodeRef.{NodeRef}
 use Rattle.p9_base.specs.NodeRef.{same_node}
 use Rattle.p9_cert.specs.Rows.{IsCertificate, IsRow, is_below, is_row, may_follow}
 
--- a node that comes before another comes before those behind that
+-- a node that comes before another comes before those after that
 pub below-below : (a b c : NodeRef) → is_below a b ≡ true → is_below b c ≡ true
     → is_below a c ≡ true
 below-below a b c p q = grind (arith, nat_tests)
@@ -26,7 +26,7 @@ below-below a b c p q = grind (arith, nat_tests)
 below-other : (a b : NodeRef) → is_below a b ≡ true → same_node a b ≡ false
 below-other a b p = grind (arith, nat_tests)
 
--- what comes behind a node that does not come before another is another too
+-- what comes after a node that does not come before another is another too
 behind-other : (a b c : NodeRef) → is_below a c ≡ false → is_below a b ≡ true
     → same_node b c ≡ false
 behind-other a b c p q = grind (arith, nat_tests)
@@ -92,7 +92,7 @@ module _ (rows : List NodeRef) (at : NodeRef) (rising : Rising rows) (i : ℕ)
 
 -- One row more.
 
--- it comes behind all
+-- it comes after all
 follows : (rows : List NodeRef) (row : NodeRef) → Rising rows → may_follow rows row ≡ true
     → (k : ℕ) (d : NodeRef) → k < length rows → is_below (get_or rows k d) row ≡ true
 follows rows row rising follow k d l =

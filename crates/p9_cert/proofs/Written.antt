@@ -127,7 +127,7 @@ module _ (row : NodeRef) (sound : IsRow row) where
         number-decimal next_max row.number number-small sound.1,
       ) refl
 
--- the lines of all rows, and the empty one behind the last newline
+-- the lines of all rows, and the empty one after the last newline
 lines-written : (rows : List NodeRef) → AllByRecursion IsRow rows
     → lines_of (flat_map row_text rows) ≡ map line_of rows ++ [] ∷ []
 unfolding line_of

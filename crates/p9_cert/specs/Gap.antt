@@ -1,4 +1,4 @@
--- The first reason why a certificate is not closed, and the line that tells it.
+-- The first reason why a certificate is not closed, and the line that is printed for it.
 use Rattle.std.specs.Prelude.{ℕ, ◌+◌, ◌&&◌, Bool, false, not, List, [], ◌∷◌, ◌++◌, Option, Some}
 use Rattle.std.specs.Prelude.{None}
 use Rattle.std.specs.Prelude.{codes, option_and_then, if◌then◌else◌}
@@ -32,7 +32,7 @@ abbrev pub first_of : {X Y : Type 0} → (X → Option Y) → List X → Option 
 first_of f [] = None
 first_of f (x ∷ xs) = option_or (f x) (first_of f xs)
 
--- the same of things that are counted from a number on
+-- the first that there is, of things that are counted from a number on
 abbrev pub first_counted : {X Y : Type 0} → (ℕ → X → Option Y) → ℕ → List X → Option Y
 first_counted f k [] = None
 first_counted f k (x ∷ xs) = option_or (f k x) (first_counted f (k + 1) xs)
@@ -64,7 +64,7 @@ module _ (policy : Policy) (forest : List Server) where
       else if is_hidden at policy.hidden then Some HiddenRow
       else where_true (is_inside at policy.hidden forest) InsideRow
 
-  -- the same of the row of a number
+  -- the gap at the row of a number
   abbrev pub row_gap : ℕ → NodeRef → Option Gap
   row_gap number row = option_map (Row number) (row_fault row)
 
@@ -81,7 +81,7 @@ module _ (policy : Policy) (forest : List Server) where
         if is_inside at policy.hidden forest then Some Inside
         else option_and_then (node_fault at) (node_of at forest)
 
-    -- the same, with the member
+    -- the member, with what is wrong with it
     abbrev pub faulty : Member → Option (NodeRef × MemberFault)
     faulty m = option_map (λ kind. (m.node, kind)) (member_fault m.node)
 
@@ -117,7 +117,7 @@ module _ (policy : Policy) (forest : List Server) (table : List MountRow)
   place_gap number place =
       option_map (λ fault. Child number place fault.0 fault.1) (place_fault place)
 
-  -- the same of the child as a node
+  -- the gap at a node that is a child of the row of a number
   abbrev pub child_gap : ℕ → NodeRef → Node → Option Gap
   child_gap number row n = place_gap number (beside row n.number)
 

@@ -21,7 +21,7 @@ may_follow rows row =
 abbrev pub IsRow : NodeRef → Type 0
 IsRow row = (row.server < servers_max) × (row.number < next_max)
 
--- each row is a node's, and comes before those behind it
+-- each row is a node's, and comes before those after it
 pub record IsCertificate (rows : List NodeRef) : Type 0 where
   pub rising : AllPairs (λ a b. IsTrue (is_below a b)) rows
   pub sound : All IsRow rows

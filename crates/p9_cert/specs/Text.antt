@@ -37,7 +37,7 @@ abbrev pub with_next_row : List NodeRef → ℕ → Option NodeRef → Result (L
 with_next_row rows line (Some row) = if may_follow rows row then Ok (rows ++ row ∷ []) else Err line
 with_next_row rows line None = Err line
 
--- the same of a statement: its line and its words
+-- the rows with that of a statement, which is its line and its words
 abbrev pub with_statement : List NodeRef → ℕ × List (List ℕ) → Result (List NodeRef) ℕ
 with_statement rows statement = with_next_row rows statement.0 (row_in statement.1)
 

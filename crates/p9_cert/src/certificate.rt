@@ -40,7 +40,7 @@ impl<A: Allocator> Certificate<A> {
         }
     }
 
-    /// Adds a row behind the others: a node that is greater than the last row, and whose number is
+    /// Adds a row after the others: a node that is greater than the last row, and whose number is
     /// one that a server may give. The only error is that an allocation fails; the certificate is
     /// then unchanged.
     pub fn push(&mut self, row: NodeRef) -> Result<(), NoMemory>

@@ -78,7 +78,7 @@ fn check_table<T: Tree, A: Allocator + Copy>(
     Ok(())
 }
 
-// So are the key and the members of one row.
+// The key and the members of one row of the table are nodes that were made.
 fn check_mount<T: Tree>(forest: &Forest<T>, key: NodeRef, members: &[Member]) -> Result<(), Gap>
     ensures { result_err result ≡ mount_gap forest.now (key, members.now) }
 {
@@ -86,7 +86,7 @@ fn check_mount<T: Tree>(forest: &Forest<T>, key: NodeRef, members: &[Member]) ->
     check_members(forest, members)
 }
 
-// So are members.
+// The members of a row of the table are nodes that were made.
 fn check_members<T: Tree>(forest: &Forest<T>, members: &[Member]) -> Result<(), Gap>
     ensures { result_err result ≡ members_gap forest.now members.now }
 {
@@ -120,7 +120,8 @@ fn check_rows<T: Tree>(world: &World<T>, rows: &[NodeRef]) -> Result<(), Gap>
     Ok(())
 }
 
-// So is one row, behind those that are shown.
+// A row is a directory that exists, neither hidden nor inside a hidden one. `shown` are the rows
+// before it.
 fn check_row<T: Tree>(
     world: &World<T>,
     shown: &[NodeRef],
@@ -140,7 +141,7 @@ fn check_row<T: Tree>(
     }
 }
 
-// What is wrong with a row, behind those that are shown.
+// What is wrong with a row. `shown` are the rows before it, with which nothing is.
 fn row_fault<T: Tree>(world: &World<T>, shown: &[NodeRef], row: NodeRef) -> Option<RowFault>
     requires rising { AllPairs (λ a b. IsTrue (is_below a b)) shown.now }
     requires shown { AreNotBarred world.now.hidden world.now.forest shown.now }
@@ -178,7 +179,7 @@ fn check_root<T: Tree, A: Allocator + Copy>(
     }
 }
 
-// So is each child of each row, taken as a place.
+// Each child of each row is safe, taken as a place.
 fn check_children<T: Tree, A: Allocator + Copy>(
     world: &World<T>,
     table: &MountTable<A>,
@@ -195,7 +196,7 @@ fn check_children<T: Tree, A: Allocator + Copy>(
     Ok(())
 }
 
-// So is each child of one row, which has this number.
+// Each child of the row of this number is safe, taken as a place.
 fn check_children_of<T: Tree, A: Allocator + Copy>(
     world: &World<T>,
     table: &MountTable<A>,
@@ -218,7 +219,7 @@ fn check_children_of<T: Tree, A: Allocator + Copy>(
     Ok(())
 }
 
-// So is one child.
+// A child of a row is safe, taken as a place.
 fn check_child<T: Tree, A: Allocator + Copy>(
     world: &World<T>,
     table: &MountTable<A>,

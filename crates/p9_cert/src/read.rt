@@ -60,7 +60,7 @@ pub fn read_cert<A: Allocator + Copy>(alloc: A, text: &str) -> Result<Certificat
     read_rows(alloc, others)
 }
 
-// The certificate of the statements behind the first.
+// The certificate of the statements after the first.
 fn read_rows<A: Allocator + Copy>(
     alloc: A,
     statements: &[Statement<'_, A>],

@@ -1,4 +1,4 @@
-//! What is told of a certificate over a world and a mount table.
+//! What is printed of a certificate over a world and a mount table.
 
 use crate::tables::table_of;
 use p9_base::{Group, Groups, NoMemory, User, words};
@@ -19,8 +19,8 @@ fn lines_of<A: Allocator + Copy>(alloc: A, head: &str, parts: &str) -> Result<St
 
 /// Tells what `verify` returns of a row: the lines of a world whose server is `main` and whose
 /// first user is `glenda`, the rows of a mount table, the groups, and the lines of a certificate
-/// behind `cert 1`. Bars are between the four, and semicolons between lines. Over a tree of each
-/// kind the same is told.
+/// after `cert 1`. Bars are between the four, and semicolons between lines. Over a tree of each
+/// kind the same is printed.
 pub fn told(rt: &impl Abort, alloc: Global, row: &str) -> Result<String, NoMemory> {
     let plain = told_over::<PlainTree<Global>>(rt, alloc, alloc, row)?;
     let index = told_over::<IndexTree<Global>>(rt, alloc, alloc, row)?;

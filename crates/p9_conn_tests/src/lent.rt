@@ -20,7 +20,7 @@ const CLUNKED: [Row; 4] = [
     ("0b000000 78 0300 01000000", "07000000 79 0300"),
 ];
 
-// The same, but fid 1 is opened to read, and left so.
+// A version, an attach, a walk that makes fid 1, and an open of it to read. It is left open.
 const LEFT_OPEN: [Row; 4] = [
     VERSION,
     ATTACH,
@@ -36,7 +36,7 @@ const LEFT_OPEN: [Row; 4] = [
 enum End {
     // Its caller closes the session.
     Caller,
-    // The stream ends behind the last frame.
+    // The stream ends after the last frame.
     Stream,
     // The stream ends within a frame.
     WithinFrame,
@@ -46,7 +46,7 @@ enum End {
 
 const ENDS: [End; 4] = [End::Caller, End::Stream, End::WithinFrame, End::BrokenSize];
 
-// What comes behind the last frame.
+// What comes after the last frame.
 fn rest_of(end: End) -> &'static str {
     match end {
         End::Caller | End::Stream => "",
@@ -108,8 +108,8 @@ fn serve_and_drop<T: Tree>(
     assert!(rt; !guard.live(1));
 }
 
-// The same again and again on one guard: what is lent behind each is what was lent before. At the
-// first time a collection may keep room.
+// Serves the rows again and again on one guard: what is lent after each time is what was lent before
+// it. At the first time a collection may keep room.
 fn repeat<T: Tree>(
     rt: &impl Abort,
     alloc: Global,

@@ -86,7 +86,7 @@ pub fn add(rt: &impl Abort, alloc: Global, front: &mut Vec<u8, Global>, digits: 
     assert!(rt; front.extend_from_slice(behind.as_slice()).is_ok());
 }
 
-/// The requests of rows, one behind the other.
+/// The requests of rows, one after the other.
 pub fn requests(rt: &impl Abort, alloc: Global, rows: &[Row]) -> Vec<u8, Global> {
     let mut all = Vec::new(alloc);
     for row in rows {
@@ -95,7 +95,7 @@ pub fn requests(rt: &impl Abort, alloc: Global, rows: &[Row]) -> Vec<u8, Global>
     all
 }
 
-/// The replies of rows, one behind the other.
+/// The replies of rows, one after the other.
 pub fn replies(rt: &impl Abort, alloc: Global, rows: &[Row]) -> Vec<u8, Global> {
     let mut all = Vec::new(alloc);
     for row in rows {

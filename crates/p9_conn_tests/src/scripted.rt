@@ -176,7 +176,7 @@ impl Scripted {
         }
     }
 
-    // The same of a read.
+    // How many bytes a read may move, by the front of the list.
     fn room_to_read(&mut self) -> io::Result<usize>
         ensures { self.new.memory ≡ self.old.memory }
     {

@@ -36,7 +36,7 @@ pub fn new_guard(rt: &impl Abort, alloc: Global) -> Served {
     guard_over(rt, alloc)
 }
 
-/// The same, over trees of any kind.
+/// A guard without sessions, over trees of any kind.
 pub fn guard_over<T: Tree>(rt: &impl Abort, alloc: T::Alloc) -> Guard<T> {
     let world: World<T> = read_world(alloc, VAULT).expect(rt, "a world");
     let certificate = read_cert(alloc, CERTIFICATE).expect(rt, "a certificate");

@@ -26,7 +26,7 @@ fn main(rt: HostRuntime) -> ExitCode {
     ExitCode::from(status_of(&rt))
 }
 
-// Runs the program, and tells on standard error what kept it from its work.
+// Runs the program, and reports on standard error what kept it from its work.
 fn status_of(rt: &HostRuntime) -> u8 {
     match run(rt) {
         Ok(status) => status,

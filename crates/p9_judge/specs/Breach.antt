@@ -39,7 +39,7 @@ module _ (policy : Policy) where
   first_passer n = if is_dir n then find (may_be_passed_by n) policy.users else None
 
   module _ (forest : List Server) where
-    -- the same of a member, if it is a directory that exists
+    -- the first listed user who may pass a member, if it is a directory that exists
     abbrev pub passer_of : NodeRef → Option (List ℕ)
     passer_of at = option_and_then first_passer (node_of at forest)
 
@@ -63,7 +63,7 @@ module _ (policy : Policy) where
         then option_and_then (hidden_kind at) (node_of at forest)
         else None
 
-    -- the same, with the member
+    -- the member, with what is wrong with it
     abbrev pub breaching : Member → Option (NodeRef × BreachKind)
     breaching m = option_map (λ kind. (m.node, kind)) (breach_kind m.node)
 

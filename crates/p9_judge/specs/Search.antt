@@ -51,7 +51,7 @@ module _ (policy : Policy) (forest : List Server) where
       × (p.origin ≡ Some origin) × (origin.from ≡ first) × IsStepFrom origin step
       × IsWay places next steps last
 
-  -- the same, from a place that was discovered from nowhere
+  -- these are the steps to a place, from one that was discovered from nowhere
   abbrev pub IsWayTo : List Place → List Step → ℕ → Type 0
   IsWayTo places steps last =
       (first : ℕ) × (p : Place) × (slice_get places first ≡ Some p) × (p.origin ≡ None)

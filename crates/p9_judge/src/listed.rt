@@ -79,7 +79,7 @@ impl<A: Allocator + Copy> Listed<A> {
         self.has_of_a_class(world, classes, node.uid(), node.gid())
     }
 
-    // The same, class by class, of a node of this owner and this group.
+    // Whether some listed user is of one of the classes of a node of this owner and this group.
     fn has_of_a_class<T: Tree>(
         &self,
         world: &World<T>,

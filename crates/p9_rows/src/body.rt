@@ -26,7 +26,7 @@ impl Body {
         }
     }
 
-    /// Adds another body behind this one. A status that isn't 0 becomes that of this one.
+    /// Adds another body after this one. A status that isn't 0 becomes that of this one.
     pub fn add(&mut self, other: &Body) -> Result<(), AllocError> {
         self.input.extend_from_slice(other.input.as_slice())?;
         self.wanted

@@ -60,7 +60,7 @@ pub fn played<T: Tree<Alloc = Global>>(
     }
 }
 
-// What is told of an input that is refused.
+// What is printed of an input that is refused.
 fn refused(alloc: Global, stop: Stop) -> Result<Ending, AllocError> {
     match stop {
         Stop::Refused(refusal) => Ok(Ending {

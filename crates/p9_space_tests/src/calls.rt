@@ -14,7 +14,7 @@ use std::alloc::{AllocError, Allocator, Global};
 use std::process::Abort;
 
 /// Over the world of a text, in a tree of each kind, makes the call of each line, and compares what
-/// it tells with the text behind `=`.
+/// it prints with the text after `=`.
 pub fn plays(rt: &impl Abort, alloc: Global, text: &str, lines: &str) -> Result<(), NoMemory> {
     plays_on::<PlainTree<Global>>(rt, alloc, &mut space_of(rt, alloc, text)?, lines);
     plays_on::<IndexTree<Global>>(rt, alloc, &mut space_of(rt, alloc, text)?, lines);
@@ -108,7 +108,7 @@ fn walk<T: Tree>(
     Ok(told)
 }
 
-// The same walk by channels. The last place's file is told by its row.
+// Walks the names by channels. The last place's file is printed by its row.
 fn walk_by_channels<T: Tree>(
     alloc: Global,
     space: &Space<T>,

@@ -12,7 +12,7 @@ use std::alloc::Global;
 use std::process::Abort;
 
 // Nodes 1 to 6: /a, /a/b and /a/f, and three files. One includes itself, one acts and has an
-// operation that fails, and one has a line of bad form behind one that would act.
+// operation that fails, and one has a line of bad form after one that would act.
 const INCLUDES: &str = "\
 server main
 dir /a 755 glenda glenda

@@ -1,7 +1,7 @@
 //! Tests of p9_space, p9_fids and p9_nsfile: mount tables, walks, fids, and what they do where
 //! an allocation fails.
 //!
-//! A test is a text with a call in each line, and its expected result behind `=`. So a proof loads
+//! A test is a text with a call in each line, and its expected result after `=`. So a proof loads
 //! one literal, whatever a test has in it, which costs much less than a table of values. The
 //! sample worlds are texts, which p9_world reads.
 #![tactic(auto)]

@@ -140,7 +140,7 @@ fn walk_again<T: Tree>(rt: &impl Abort, alloc: Global, space: &Space<T>) {
     assert_eq!(rt; told.as_str(), "0 1 2 ");
 }
 
-// The same walk by channels.
+// Walks the names `a` and `b` by channels.
 fn walk_by_channels<T: Tree>(space: &Space<T>) -> Result<Channels<T::Alloc>, Fault> {
     let names = ["a", "b"];
     let mut channels = Channels::of(&space.table, &space.trail)?;

@@ -21,7 +21,8 @@ pub fn trail<A: Allocator + Copy>(
     Ok(told)
 }
 
-/// The same of channels that fit the table. The last file is found by the row of its place.
+/// The numbers of the files of the places of channels that fit the table, each before a blank. The
+/// last file is found by the row of its place.
 pub fn channels_told<A: Allocator + Copy>(
     alloc: Global,
     table: &MountTable<A>,

@@ -21,7 +21,7 @@ file /u/n 644 glenda glenda -
 dir /x 755 glenda glenda
 file /x/n 644 glenda glenda -";
 
-/// The same, where glenda may not search the first directory.
+/// Nodes 1 to 4: /u, /u/n, /x and /x/n, where glenda may not search the first directory.
 pub const SHUT: &str = "\
 server main
 dir /u 700 sys sys

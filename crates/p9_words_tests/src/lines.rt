@@ -1,6 +1,6 @@
 //! Messages in words and their frames, by hand from the manual: each line, and its bytes.
 
-/// A line of words, and the frame that it says in hexadecimal digits.
+/// Requests: a line of words, and the frame that it says in hexadecimal digits.
 pub const REQUESTS: [(&str, &str); 16] = [
     (
         "Tversion tag 65535 msize 8192 version '9P2000'",
@@ -54,7 +54,7 @@ pub const REQUESTS: [(&str, &str); 16] = [
     ),
 ];
 
-/// The same for replies.
+/// Replies: a line of words, and the frame that it says in hexadecimal digits.
 pub const REPLIES: [(&str, &str); 19] = [
     (
         "Rversion tag 65535 msize 8192 version '9P2000'",

@@ -22,7 +22,7 @@ fn reads<A: Allocator + Copy>(rt: &impl Abort, alloc: A, line: &str, frame: &[u8
     }
 }
 
-// Prints the message of a frame behind a letter; where an allocation fails, the letter is all there
+// Prints the message of a frame after a letter; where an allocation fails, the letter is all there
 // is.
 fn prints<A: Allocator + Copy>(rt: &impl Abort, alloc: A, line: &str, frame: &[u8]) -> bool {
     let mut out = Vec::new(alloc);

@@ -7,8 +7,8 @@ use std::alloc::{AllocError, Global};
 use std::process::Abort;
 use std::test::Fail;
 
-// What is told of the first bad line, and the text, whose lines end at `;`. Behind the faults that
-// are alone come lines to which two apply, of which the first is told.
+// What is reported of the first bad line, and the text, whose lines end at `;`. After the faults that
+// are alone come lines to which two apply, of which the first is reported.
 
 const WORDS: &str = "\
 line 1: unknown word = serve m
@@ -173,7 +173,7 @@ line 0: no server = group g u v
 no fault = group g u v;group h u v;server m
 no fault = group g g g;group u v;server m;user g;user u";
 
-/// What is told of the text: the same over a tree of each kind, or both.
+/// What is reported of the text: one text where trees of both kinds agree, or both texts.
 pub fn told(alloc: Global, text: &str) -> Result<String, AllocError> {
     let plain = told_over::<PlainTree<Global>>(alloc, alloc, text)?;
     let index = told_over::<IndexTree<Global>>(alloc, alloc, text)?;

@@ -139,7 +139,7 @@ fn groups_are_read_after_each_refusal(rt: HostRuntime) {
     read_refused::<IndexTree<&Refusing<Global>>>(&rt, rt.alloc(), &memory, &memory);
 }
 
-// A world with a group of 10,000 members, and more words behind them.
+// A world with a group of 10,000 members, and more words after them.
 fn many_members(alloc: Global, more: &str) -> Result<String, AllocError> {
     let mut text = String::from_str(alloc, "server main\ngroup many u1")?;
     for number in 0..10_000 {

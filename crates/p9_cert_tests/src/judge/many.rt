@@ -116,7 +116,8 @@ fn is_certified<T: Tree>(
     }
 }
 
-// The same over a tree of each kind.
+// Whether the judge's certificate is closed, and no row of it can be left out, over a tree of each
+// kind.
 fn is_certified_over_both(
     rt: &impl Abort,
     alloc: Global,

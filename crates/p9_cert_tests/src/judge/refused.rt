@@ -22,7 +22,7 @@ step 0 2 glenda e
 step 0 5 glenda v
 breach owned 0 6";
 
-// The same, where the hidden directory is guarded.
+// A chain of directories, with a guarded hidden one at its end.
 const GUARDED: &str = "\
 dir /a 755 sys sys;dir /a/b 755 sys sys;dir /a/c 755 sys sys;dir /a/d 755 sys sys;\
 dir /a/b/e 755 sys sys;dir /a/b/e/v 000 sys sys;hide main /a/b/e/v | 0 4 0 4 0 3 |";

@@ -1,4 +1,4 @@
-//! Inputs that are refused, and what is told of each.
+//! Inputs that are refused, and what is printed of each.
 
 use p9_exchange::{Awaited, Refusal, Stop, show_exchange, write_script};
 use p9_words::{Base, Expected, Key};
