@@ -5,6 +5,7 @@ use Rattle.byteorder.specs.Endian.{little_number}
 use Rattle.p9_base.specs.declared.qid.Qid.{Qid}
 use Rattle.p9_base.specs.Text.{is_text}
 use Rattle.p9_wire.specs.Message.{StatFields}
+use Rattle.p9_wire.specs.Limits.{elements_max}
 
 -- goes on with the value, where there is one
 infixl 10 ◌and_then◌
@@ -73,7 +74,7 @@ times r (suc n) bytes = r bytes and_then λ x. times r n x.1 and_then λ xs. Som
 
 -- a number of at most sixteen, and so many
 unfoldable pub several_at : {A : Type 0} → Reader A → Reader (List A)
-several_at r bytes = number_at 2 bytes and_then λ n. if nat_lt 16 n.0 then None else times r n.0 n.1
+several_at r bytes = number_at 2 bytes and_then λ n. if nat_lt elements_max n.0 then None else times r n.0 n.1
 
 -- a length, and what takes up all of so many bytes
 unfoldable pub sized_at : {A : Type 0} → Reader A → Reader A

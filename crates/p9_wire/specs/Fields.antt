@@ -5,6 +5,7 @@ use Rattle.byteorder.specs.Endian.{little_bytes}
 use Rattle.p9_base.specs.declared.qid.Qid.{Qid}
 use Rattle.p9_base.specs.Text.{is_text}
 use Rattle.p9_wire.specs.Message.{StatFields}
+use Rattle.p9_wire.specs.Limits.{elements_max}
 
 -- a number in so many bytes, the lowest first
 unfoldable pub number : (bytes value : ℕ) → List ℕ
@@ -56,7 +57,7 @@ pub record FitsText (s : List ℕ) : Type 0 where
 
 -- at most sixteen texts
 pub record FitsNames (names : List (List ℕ)) : Type 0 where
-  pub few : length names ≤ 16
+  pub few : length names ≤ elements_max
   pub each : AllByRecursion FitsText names
 
 -- the texts fit, and two bytes hold the length of it all

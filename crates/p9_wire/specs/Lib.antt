@@ -1,3 +1,4 @@
+pub mod Limits
 pub mod Message
 pub mod Fields
 pub mod Reply

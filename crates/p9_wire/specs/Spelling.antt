@@ -1,13 +1,14 @@
 -- The grammar of messages: the one spelling of each, and what has a spelling.
-use Rattle.std.specs.Prelude.{◌≡◌, ℕ, ◌+◌, ◌*◌, ◌<◌, ◌≤◌, ◌^◌, List, [], ◌++◌, length, sum_by}
+use Rattle.std.specs.Prelude.{◌≡◌, ℕ, ◌+◌, ◌*◌, ◌<◌, ◌≤◌, ◌^◌, List, ◌++◌, length, sum_by}
 use Rattle.std.specs.List.{AllByRecursion}
 use Rattle.p9_wire.specs.Message.{TMessage, Tversion, Tauth, Tattach, Tflush, Twalk, Topen, Tcreate}
 use Rattle.p9_wire.specs.Message.{Tread, Twrite, Tclunk, Tremove, Tstat, Twstat, RMessage, Rversion}
 use Rattle.p9_wire.specs.Message.{Rattach, Rerror, Rflush, Rwalk, Ropen, Rcreate, Rread, Rwrite}
 use Rattle.p9_wire.specs.Message.{Rclunk, Rremove, Rstat, Rwstat}
-use Rattle.p9_wire.specs.Fields.{number, text, counted, several, sized, qid_bytes, stat_bytes}
+use Rattle.p9_wire.specs.Fields.{number, text, counted, several, sized, stat_bytes}
 use Rattle.p9_wire.specs.Fields.{stat_len, FitsText, FitsNames, FitsStat, QidNumbersFit}
 use Rattle.p9_wire.specs.Fields.{StatNumbersFit}
+use Rattle.p9_wire.specs.Limits.{elements_max}
 use Rattle.p9_wire.specs.Reply.{frame, r_spelling}
 
 -- requests. Terror is none of them, so 106 spells nothing
@@ -151,7 +152,7 @@ RFits (Rversion msize version) = FitsText version
 RFits (Rattach qid) = Unit {0}
 RFits (Rerror ename) = FitsText ename
 RFits Rflush = Unit {0}
-RFits (Rwalk qids) = length qids ≤ 16
+RFits (Rwalk qids) = length qids ≤ elements_max
 RFits (Ropen qid iounit) = Unit {0}
 RFits (Rcreate qid iounit) = Unit {0}
 RFits (Rread bytes) = read_header + length bytes < 2 ^ 32

@@ -3,6 +3,7 @@
 
 ghost use Rattle.std.specs.Prelude.{◌≡◌, ◌≤◌, ◌==◌, Some, None, nat_lt, if◌then◌else◌};
 ghost use Rattle.p9_base.specs.Text.{is_text as text_test};
+ghost use Rattle.p9_wire.specs.Limits.{elements_max};
 ghost use Rattle.p9_wire.specs.Message.{stat_view};
 ghost use Rattle.p9_wire.specs.FieldReading.{◌and_then◌, Gives, number_at, bytes_at, text_at};
 ghost use Rattle.p9_wire.specs.FieldReading.{sized_bytes_at, qid_at, counted_at, times};
@@ -120,7 +121,7 @@ pub fn take_counted(bytes: &[u8]) -> Option<(&[u8], &[u8])>
 /// The number of at most sixteen names or qids, in two bytes.
 fn take_count(bytes: &[u8]) -> Option<(usize, &[u8])>
     ensures { Gives (λ x. (x.0, x.1.now)) result
-        (number_at 2 bytes.now and_then λ n. if nat_lt MAXWELEM n.0 then None else Some n) }
+        (number_at 2 bytes.now and_then λ n. if nat_lt elements_max n.0 then None else Some n) }
 {
     let (count, rest) = take_u16(bytes)?;
     let count = count as usize;
@@ -132,7 +133,7 @@ fn take_count(bytes: &[u8]) -> Option<(usize, &[u8])>
 
 /// So many texts, one behind another.
 fn some_names(count: usize, bytes: &[u8]) -> Option<(Names<'_>, &[u8])>
-    requires { count ≤ 16 }
+    requires { count ≤ elements_max }
     ensures { Gives (λ x. (x.0, x.1.now)) result (times text_at count bytes.now) }
 {
     let mut names = Names::new();
@@ -156,7 +157,7 @@ pub fn take_names(bytes: &[u8]) -> Option<(Names<'_>, &[u8])>
 
 /// So many qids, one behind another.
 fn some_qids(count: usize, bytes: &[u8]) -> Option<(Qids, &[u8])>
-    requires { count ≤ 16 }
+    requires { count ≤ elements_max }
     ensures { Gives (λ x. (x.0, x.1.now)) result (times qid_at count bytes.now) }
 {
     let mut qids = Qids::new();

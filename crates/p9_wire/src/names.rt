@@ -2,6 +2,7 @@
 
 ghost use Rattle.std.specs.Prelude.{◌≡◌, ◌==◌, ◌<◌, ◌≤◌, ◌++◌, ◌∷◌, [], ℕ, List, Some, map};
 ghost use Rattle.std.specs.Prelude.{length, slice_get};
+ghost use Rattle.p9_wire.specs.Limits.{elements_max};
 
 use crate::constants::MAXWELEM;
 use arrayvec::ArrayVec;
@@ -33,7 +34,7 @@ impl<'a> Names<'a> {
     /// How many names there are, at most `MAXWELEM`.
     pub fn len(&self) -> usize
         ensures len { result ≡ length self.now }
-        ensures few { result ≤ MAXWELEM }
+        ensures few { result ≤ elements_max }
     {
         self.names.len()
     }
@@ -56,14 +57,14 @@ impl<'a> Names<'a> {
     /// The names in order.
     pub fn as_slice(&self) -> &[&'a str]
         ensures names { map (λ s. s.now) result.now ≡ self.now }
-        ensures few { length result.now ≤ MAXWELEM }
+        ensures few { length result.now ≤ elements_max }
     {
         self.names.as_slice()
     }
 
     /// Adds a name behind the others.
     pub fn push(&mut self, name: &'a str)
-        requires { length self.old < MAXWELEM }
+        requires { length self.old < elements_max }
         ensures { self.new ≡ self.old ++ name.now ∷ [] }
     {
         self.names.push(name);

@@ -2,6 +2,7 @@
 
 ghost use Rattle.std.specs.Prelude.{◌≡◌, ◌==◌, ◌<◌, ◌≤◌, ◌++◌, ◌∷◌, [], List, length};
 ghost use Rattle.p9_base.specs.declared.qid.Qid.{Qid};
+ghost use Rattle.p9_wire.specs.Limits.{elements_max};
 
 use crate::constants::MAXWELEM;
 use arrayvec::ArrayVec;
@@ -33,7 +34,7 @@ impl Qids {
     /// How many qids there are, at most `MAXWELEM`.
     pub fn len(&self) -> usize
         ensures len { result ≡ length self.now }
-        ensures few { result ≤ MAXWELEM }
+        ensures few { result ≤ elements_max }
     {
         self.qids.len()
     }
@@ -48,14 +49,14 @@ impl Qids {
     /// The qids in order.
     pub fn as_slice(&self) -> &[Qid]
         ensures qids { result.now ≡ self.now }
-        ensures few { length result.now ≤ MAXWELEM }
+        ensures few { length result.now ≤ elements_max }
     {
         self.qids.as_slice()
     }
 
     /// Adds a qid behind the others.
     pub fn push(&mut self, qid: Qid)
-        requires { length self.old < MAXWELEM }
+        requires { length self.old < elements_max }
         ensures { self.new ≡ self.old ++ qid ∷ [] }
     {
         self.qids.push(qid);
