@@ -7,11 +7,11 @@ use Rattle.p9_base.specs.declared.fault.Fault.{Fault}
 use Rattle.p9_tree.specs.Server.{Server}
 use Rattle.p9_wire.specs.Frame.{msize_max}
 use Rattle.p9_wire.specs.Message.{RMessage, TMessage}
-use Rattle.p9_step.specs.State.{Setting, Session, SessionRow, changed_session, io_header, room_of}
+use Rattle.p9_step.specs.State.{Setting, Session, SessionRow, changed_session, io_header, iounit_of}
 use Rattle.p9_step.specs.State.{session_at}
 use Rattle.p9_step.specs.Answer.{Answer}
 use Rattle.p9_export.specs.Answers.{Answers, AnswersAmong, changes_of, frame_among, session_of}
-use Rattle.p9_export.specs.Taken.{finds_taken}
+use Rattle.p9_export.specs.Taken.{wants_taken_file}
 use Rattle.p9_step.specs.Sound.{IsMsize}
 use Rattle.p9_step.specs.Request.{request_of}
 use Rattle.p9_step.specs.Memory.{may_run_out, frame_may_fail}
@@ -20,10 +20,10 @@ use Rattle.p9_base.proofs.Rows.{set_value-same}
 use Rattle.p9_step.proofs.Requests.{frame_may_fail-is}
 
 -- what a read of a session may carry is less than a frame
-pub room_of-small : (session : Session) → IsMsize session.msize → io_header + room_of session ≤ msize_max
-room_of-small session is = go session.msize refl is
+pub iounit_of-small : (session : Session) → IsMsize session.msize → io_header + iounit_of session ≤ msize_max
+iounit_of-small session is = go session.msize refl is
   where
-    go : (o : Option ℕ) → session.msize ≡ o → IsMsize o → io_header + room_of session ≤ msize_max
+    go : (o : Option ℕ) → session.msize ≡ o → IsMsize o → io_header + iounit_of session ≤ msize_max
     go None e small = rw e (omega arith)
     go (Some msize) e small = let low = small.0 in let high = small.1 in rw e (omega arith)
 
@@ -53,9 +53,9 @@ pub among-request : (setting : Setting) (forest forest' : List Server)
     (rows rows' : List SessionRow) (name now : ℕ) (session other new : Session) (frame : List ℕ)
     (m : TMessage) (taken : Bool) (result : Result RMessage Fault) →
     session_at name rows ≡ Some session → session_at name rows ≡ Some other
-    → Ok m ≡ request_of session frame → taken ≡ finds_taken setting forest rows session m →
+    → Ok m ≡ request_of session frame → taken ≡ wants_taken_file setting forest rows session m →
     rows' ≡ changed_session name new rows →
-    (finds_taken setting forest rows other m ≡ taken
+    (wants_taken_file setting forest rows other m ≡ taken
     → Answers (message_answer setting forest rows other now m)
     (may_run_out m (message_answer setting forest rows other now m)) forest forest' other new
     result) →
@@ -69,7 +69,7 @@ among-request setting forest forest' rows rows' name now session other new frame
     let same : other ≡ session = cc in
     let a = message_answer setting forest rows session now m in
     let its : Answers a (may_run_out m a) forest forest' session new result =
-    rw same at (did (ap (λ s. finds_taken setting forest rows s m) same ∙ sym takes)) in
+    rw same at (did (ap (λ s. wants_taken_file setting forest rows s m) same ∙ sym takes)) in
     let answer : frame_among setting forest rows name now frame ≡ a = rw (there, sym is) refl in
     let may : frame_may_fail frame a ≡ may_run_out m a =
     frame_may_fail-is session frame m a (sym is) in

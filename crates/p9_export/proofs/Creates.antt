@@ -30,7 +30,7 @@ use Rattle.p9_space.specs.Walk.{is_alive, is_alive_dir}
 use Rattle.p9_wire.specs.Message.{Rcreate}
 use Rattle.p9_fids.specs.Fid.{Fid, fid_at}
 use Rattle.p9_step.specs.declared.opening.Opening.{Opening}
-use Rattle.p9_step.specs.State.{Setting, Session, room_of, who_of}
+use Rattle.p9_step.specs.State.{Setting, Session, iounit_of, who_of}
 use Rattle.p9_step.specs.Answer.{Answer}
 use Rattle.p9_step.specs.Create.{create_answer, created, creation, entered, permitting}
 use Rattle.p9_step.specs.ForestChange.{AddNode, EditNode, Mark, applied, edited}
@@ -137,7 +137,7 @@ module _ (setting : Setting) (forest : List Server) (v : Fid) (now : ℕ) (asked
       let empty : new.bytes.now ≡ [] = ap (λ (n : Node). n.bytes) made in
       let none : length new.bytes.now ≡ 0 = ap length empty in
       record {
-        room = may.room;
+        number_left = may.room;
         into = rw found may.is_directory;
         free = rw named may.free;
         small = omega (arith, none);
@@ -162,7 +162,7 @@ module _ (setting : Setting) (forest : List Server) (v : Fid) (now : ℕ) (asked
       ap (λ (n : Node). Ok (record {
         changes = AddNode target.server n ∷ EditNode target (Mark n.muid n.mtime) ∷ [];
         session = entered fid (v.trail ++ beside target next ∷ []) asked.opening session;
-        reply = Rcreate (qid_of (beside target next) n) (room_of session);
+        reply = Rcreate (qid_of (beside target next) n) (iounit_of session);
       })) (sym (node_is next)) in
       its ∙ as_made
       ∙ ap (λ t. plan_answer forest session fid target new t asked.opening) (sym way)
@@ -282,14 +282,14 @@ pub plan-did : (answer : Answer) (forest forest' : List Server) (session session
     → session' ≡ entered fid trail o session
     → qid ≡ qid_of (beside target (next_of target.server forest))
     (new_node (next_of target.server forest) target.number new)
-    → room ≡ room_of session'
+    → room ≡ iounit_of session'
     → Answers answer (is_done answer) forest forest' session session'
     (Ok (create_reply (qid, room)))
 unfolding applied edited
 plan-did answer forest forest' session session' fid target new trail o qid room is changed went
     qid_is room_is =
     let next = next_of target.server forest in
-    let r : room ≡ room_of session = room_is ∙ ap room_of went in
+    let r : room ≡ iounit_of session = room_is ∙ ap iounit_of went in
     let changed' : forest' ≡ forest_changed_at target (marked new.muid new.mtime)
     (tree_changed_at target.server (λ s. added s (new_node next target.number new)) forest) =
     changed in

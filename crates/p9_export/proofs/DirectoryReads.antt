@@ -16,7 +16,7 @@ use Rattle.p9_tree.specs.Server.{Server}
 use Rattle.p9_wire.specs.Message.{Rread}
 use Rattle.p9_fids.specs.declared.opened.Opened.{Opened}
 use Rattle.p9_fids.specs.Fid.{Fid, changed_fid, fid_at, opened_as}
-use Rattle.p9_step.specs.State.{Setting, Session, fid_file, fid_ref, room_of}
+use Rattle.p9_step.specs.State.{Setting, Session, fid_file, fid_ref, iounit_of}
 use Rattle.p9_step.specs.Answer.{Answer}
 use Rattle.p9_export.specs.Answers.{Answers, data_reply, replied}
 use Rattle.p9_export.specs.Listing.{list_answer}
@@ -34,8 +34,8 @@ module _ (setting : Setting) (forest : List Server) (session : Session) (now fid
     (v : Fid) (o : Opened) (n : Node) (r : IsReadable setting forest session fid v o n) where
   abbrev by_kind : Bool → Answer
   by_kind dir =
-      if dir then read_dir setting forest session fid v o offset (min count (room_of session))
-      else read_file session now (fid_ref setting.table v) n offset (min count (room_of session))
+      if dir then read_dir setting forest session fid v o offset (min count (iounit_of session))
+      else read_file session now (fid_ref setting.table v) n offset (min count (iounit_of session))
 
   reads_by_kind : read_answer setting forest session now fid offset count ≡ by_kind (is_dir n)
   unfolding obtain need
@@ -44,23 +44,23 @@ module _ (setting : Setting) (forest : List Server) (session : Session) (now fid
       (λ v. obtain (readable v.opened) FidNotOpen
       (λ o. obtain (fid_file setting.table forest v) PhaseError
       (λ n. if is_dir n
-      then read_dir setting forest session fid v o offset (min count (room_of session))
+      then read_dir setting forest session fid v o offset (min count (iounit_of session))
       else read_file session now (fid_ref setting.table v) n offset
-      (min count (room_of session)))))) r.there
+      (min count (iounit_of session)))))) r.there
       ∙ ap (λ w. obtain w FidNotOpen
       (λ o. obtain (fid_file setting.table forest v) PhaseError
       (λ n. if is_dir n
-      then read_dir setting forest session fid v o offset (min count (room_of session))
+      then read_dir setting forest session fid v o offset (min count (iounit_of session))
       else read_file session now (fid_ref setting.table v) n offset
-      (min count (room_of session))))) r.open_as
+      (min count (iounit_of session))))) r.open_as
       ∙ ap (λ w. obtain w PhaseError
       (λ n. if is_dir n
-      then read_dir setting forest session fid v o offset (min count (room_of session))
+      then read_dir setting forest session fid v o offset (min count (iounit_of session))
       else read_file session now (fid_ref setting.table v) n offset
-      (min count (room_of session)))) r.alive
+      (min count (iounit_of session)))) r.alive
 
   -- a directory
-  reads_dir : (room : ℕ) → is_dir n ≡ true → room ≡ min count (room_of session)
+  reads_dir : (room : ℕ) → is_dir n ≡ true → room ≡ min count (iounit_of session)
       → read_answer setting forest session now fid offset count
       ≡ read_dir setting forest session fid v o offset room
   reads_dir room dir room_is =
@@ -68,7 +68,7 @@ module _ (setting : Setting) (forest : List Server) (session : Session) (now fid
       ∙ ap (λ k. read_dir setting forest session fid v o offset k) (sym room_is)
 
   pub dir_read : (room size : ℕ) (opened : Opened) (sub rest : List ℕ) (session' : Session)
-      → is_dir n ≡ true → room ≡ min count (room_of session) → size ≤ length sub
+      → is_dir n ≡ true → room ≡ min count (iounit_of session) → size ≤ length sub
       → read_dir setting forest session fid v o offset room
       ≡ list_answer session fid opened (take size sub)
       → session' ≡ record session { fids = changed_fid fid (opened_as opened) session.fids }
@@ -78,7 +78,7 @@ module _ (setting : Setting) (forest : List Server) (session : Session) (now fid
       rw (reads_dir room dir room_is ∙ is, went, take-append-le size sub rest within) (refl, refl)
 
   pub dir_refused : (room : ℕ) (fault : Fault) (result : Result ℕ Fault) (buffer : List ℕ)
-      → is_dir n ≡ true → room ≡ min count (room_of session)
+      → is_dir n ≡ true → room ≡ min count (iounit_of session)
       → read_dir setting forest session fid v o offset room ≡ Err fault → result ≡ Err fault
       → Answers (read_answer setting forest session now fid offset count) false forest forest
       session session (replied (data_reply buffer) result)
@@ -87,7 +87,7 @@ module _ (setting : Setting) (forest : List Server) (session : Session) (now fid
 
   -- a file
   pub reads_file : (room size : ℕ) (buffer : List ℕ) (forest' : List Server) → is_dir n ≡ false
-      → room ≡ min count (room_of session)
+      → room ≡ min count (iounit_of session)
       → take size buffer ≡ read_from offset room n.bytes
       → forest' ≡ forest_changed_at (fid_ref setting.table v) (touched now) forest
       → Answers (read_answer setting forest session now fid offset count) false forest forest'

@@ -14,7 +14,7 @@ use Rattle.p9_step.specs.Laws.{refusal_max, reply_max}
 use Rattle.p9_step.specs.Memory.{is_no_memory_reply, frame_may_fail}
 use Rattle.p9_step.specs.Request.{tag_of}
 use Rattle.p9_step.specs.Sound.{IsMsize, IsSession, IsState}
-use Rattle.p9_step.specs.State.{Session, SessionRow, Setting, State, io_header, room_of, session_at}
+use Rattle.p9_step.specs.State.{Session, SessionRow, Setting, State, io_header, iounit_of, session_at}
 use Rattle.p9_step.proofs.Answering.{every-frame-is-answered, length-spelling}
 use Rattle.p9_step.proofs.Sounds.{session-served}
 use Rattle.p9_export.specs.declared.reply.Reply.{Reply}
@@ -26,7 +26,7 @@ use Rattle.p9_export.proofs.Steps.{among-makes}
 
 -- what a read may carry has room behind its header
 pub data-room : (session : Session) → IsMsize session.msize
-    → read_header + room_of session ≤ reply_max session
+    → read_header + iounit_of session ≤ reply_max session
 data-room session is = go session.msize is
   where
     go : (msize : Option ℕ) → IsMsize msize
@@ -80,7 +80,7 @@ module _ (old : State) (name now : ℕ) (session : Session) (frame : List ℕ) (
   -- of every reply
   reply-room : (forest : List Server) (rows : List SessionRow) (buffer : List ℕ)
       (result : Result Reply Fault) → IsMsize session.msize
-      → IsDataWithin (room_of session) result →
+      → IsDataWithin (iounit_of session) result →
       AnswersAmong name (frame_among old.setting old.forest old.sessions name now frame)
       (frame_may_fail frame (frame_among old.setting old.forest old.sessions name now frame))
       old.forest forest old.sessions rows (replied (reply_view forest buffer) result) →
@@ -99,7 +99,7 @@ pub among-room : (old : State) (name now : ℕ) (frame : List ℕ) (room : ℕ) 
     (rows : List SessionRow) (buffer : List ℕ) (result : Result Reply Fault) → IsState old
     → IsBytes frame → is_frame frame ≡ true → IsSome (session_at name old.sessions)
     → IfSome (session_at name old.sessions) (λ s. reply_max s ≤ room)
-    → IfSome (session_at name old.sessions) (λ s. IsDataWithin (room_of s) result) →
+    → IfSome (session_at name old.sessions) (λ s. IsDataWithin (iounit_of s) result) →
     AnswersAmong name (frame_among old.setting old.forest old.sessions name now frame)
     (frame_may_fail frame (frame_among old.setting old.forest old.sessions name now frame))
     old.forest forest old.sessions rows (replied (reply_view forest buffer) result) →

@@ -220,7 +220,7 @@ change_of name mode gid length mtime user now = record {
   length = length;
   mtime = mtime;
   user = user;
-  now = now;
+  clock = now;
 }
 
 pub same-change : (name name' : Option (List ℕ)) (mode mode' : Option Mode)

@@ -102,10 +102,10 @@ pub record ReplyFits (reply : RMessage) : Type 0 where
   pub short : 7 + r_len reply ≤ msize_max
 
 -- the answer to a frame of the session of this name
-abbrev pub frame_among : Setting → List Server → List SessionRow → (name now : ℕ) (frame : List ℕ)
+abbrev pub frame_among : Setting → List Server → List SessionRow → (name clock : ℕ) (frame : List ℕ)
     → Answer
-frame_among setting forest sessions name now frame =
-    option_map_or (λ session. frame_answer setting forest sessions session now frame)
+frame_among setting forest sessions name clock frame =
+    option_map_or (λ session. frame_answer setting forest sessions session clock frame)
     (session_at name sessions) (Err PhaseError)
 
 -- a reply that can be written: its message has a spelling that is no longer than a frame, its data

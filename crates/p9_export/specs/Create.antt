@@ -27,7 +27,7 @@ use Rattle.p9_wire.specs.Message.{Rcreate}
 use Rattle.p9_fids.specs.Fid.{Fid, fid_at}
 use Rattle.p9_export.specs.declared.create.Asked.{Asked}
 use Rattle.p9_step.specs.declared.opening.Opening.{Opening}
-use Rattle.p9_step.specs.State.{Setting, Session, room_of, who_of}
+use Rattle.p9_step.specs.State.{Setting, Session, iounit_of, who_of}
 use Rattle.p9_step.specs.Answer.{Answer}
 use Rattle.p9_step.specs.Create.{creation, entered, permitting}
 use Rattle.p9_step.specs.ForestChange.{AddNode, EditNode, Mark}
@@ -62,22 +62,22 @@ place_in setting forest v name target dir =
     Ok (beside target (next_of target.server forest)))))))
 
 -- the node is made in this directory, if nothing there refuses it
-abbrev pub created_in : Setting → List Server → Session → (now fid : ℕ) → Fid → Asked → NodeRef
+abbrev pub created_in : Setting → List Server → Session → (clock fid : ℕ) → Fid → Asked → NodeRef
     → Answer
-created_in setting forest session now fid v asked target =
+created_in setting forest session clock fid v asked target =
     obtain (node_of target forest) PhaseError (λ dir.
     and_then (place_in setting forest v asked.name target dir) (λ at.
-    creation forest session now fid v target dir asked.name asked.mode asked.opening))
+    creation forest session clock fid v target dir asked.name asked.mode asked.opening))
 
 -- the tests in their order
 abbrev pub create_steps : Setting → List Server → Session
-    → (now fid : ℕ) (name : List ℕ) (perm bits : ℕ) → Answer
-create_steps setting forest session now fid name perm bits =
+    → (clock fid : ℕ) (name : List ℕ) (perm bits : ℕ) → Answer
+create_steps setting forest session clock fid name perm bits =
     obtain (fid_at fid session.fids) UnknownFid (λ v.
     need (is_none v.opened) FidOpen (
     and_then (asked_of name perm bits) (λ asked.
     and_then (target_among forest (members_of (here v.trail) setting.table)) (
-    created_in setting forest session now fid v asked))))
+    created_in setting forest session clock fid v asked))))
 
 -- the node is made as planned, and the fid goes on to it along the trail
 abbrev pub plan_answer : List Server → Session → (fid : ℕ) → NodeRef → New → List NodeRef → Opening
@@ -88,5 +88,5 @@ plan_answer forest session fid target new trail opening =
     Ok (record {
       changes = AddNode target.server n ∷ EditNode target (Mark new.muid new.mtime) ∷ [];
       session = entered fid trail opening session;
-      reply = Rcreate (qid_of at n) (room_of session);
+      reply = Rcreate (qid_of at n) (iounit_of session);
     })

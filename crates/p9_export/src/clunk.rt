@@ -21,19 +21,19 @@ pub fn clunk<T: Tree>(
     setting: &Setting<T::Alloc>,
     forest: &mut Forest<T>,
     session: &mut Session<T::Alloc>,
-    now: u32,
+    clock: u32,
     fid: u32,
 ) -> Result<(), Fault>
     requires opened { AreWellOpen setting.now.table forest.old session.old.session.fids }
     requires channels { SessionFits setting.now.table session.old }
     ensures channels { SessionFits setting.now.table session.new }
-    ensures answer { Answers (clunk_answer setting.now forest.old session.old.session now fid) false
+    ensures answer { Answers (clunk_answer setting.now forest.old session.old.session clock fid) false
         forest.old forest.new session.old.session session.new.session
         (replied (λ _. Rclunk) result) }
 {
     let Some(ended) = session.fids.take(fid) else {
         return Err(Fault::UnknownFid);
     };
-    end_fid(setting, forest, &ended, now);
+    end_fid(setting, forest, &ended, clock);
     Ok(())
 }

@@ -66,7 +66,7 @@ struct Plan<A: Allocator + Copy> {
 
 /// Makes a file or directory where the fid is, in the first member that permits creation, and
 /// goes on to it: the fid is then open for what the mode's bits ask. It returns the new qid and the
-/// session's iounit ([`Session::room`]).
+/// session's iounit ([`Session::iounit`]).
 ///
 /// # Errors
 ///
@@ -91,12 +91,12 @@ pub fn create<T: Tree>(
     setting: &Setting<T::Alloc>,
     forest: &mut Forest<T>,
     session: &mut Session<T::Alloc>,
-    now: u32,
+    clock: u32,
     wanted: NewFile<'_>,
 ) -> Result<(Qid, u32), Fault>
     requires channels { SessionFits setting.now.table session.old }
     ensures channels { SessionFits setting.now.table session.new }
-    ensures answer { let answer = create_answer setting.now forest.old session.old.session now
+    ensures answer { let answer = create_answer setting.now forest.old session.old.session clock
         wanted.entry.fid wanted.entry.name.now wanted.entry.perm wanted.entry.mode in
         Answers answer (is_done answer) forest.old forest.new session.old.session
         session.new.session (replied create_reply result) }
@@ -106,10 +106,10 @@ pub fn create<T: Tree>(
         new,
         channels,
         opening,
-    } = planned(setting, forest, session, now, wanted)?;
+    } = planned(setting, forest, session, clock, wanted)?;
     let qid = add_to(forest, target, &new)?;
     enter(session, wanted.fid, channels, opening);
-    Ok((qid, session.room()))
+    Ok((qid, session.iounit()))
 }
 
 // What the create does, or why it is refused.
@@ -117,7 +117,7 @@ fn planned<T: Tree>(
     setting: &Setting<T::Alloc>,
     forest: &Forest<T>,
     session: &Session<T::Alloc>,
-    now: u32,
+    clock: u32,
     wanted: NewFile<'_>,
 ) -> Result<Plan<T::Alloc>, Fault>
     requires { SessionFits setting.now.table session.now }
@@ -125,11 +125,11 @@ fn planned<T: Tree>(
     ensures fits { IfOk result (λ plan. Fits setting.now.table plan.channels) }
     ensures adds { IfOk result (λ plan. let server = server_at plan.target.server forest.now in
         CanAdd server plan.target.number (new_node server.next plan.target.number plan.new)) }
-    ensures ok { let answer = create_steps setting.now forest.now session.now.session now
+    ensures ok { let answer = create_steps setting.now forest.now session.now.session clock
         wanted.entry.fid wanted.entry.name.now wanted.entry.perm wanted.entry.mode in
         IfOk result (λ plan. answer ≡ plan_answer forest.now session.now.session wanted.entry.fid
         plan.target plan.new (trail_of plan.channels) plan.opening) }
-    ensures err { let answer = create_steps setting.now forest.now session.now.session now
+    ensures err { let answer = create_steps setting.now forest.now session.now.session clock
         wanted.entry.fid wanted.entry.name.now wanted.entry.perm wanted.entry.mode in
         IfErr result (λ fault. IsRefusal answer (is_done answer) fault) }
 {
@@ -142,7 +142,7 @@ fn planned<T: Tree>(
     let asked = asked_of(wanted)?;
     let members = held.channels.members(&setting.table);
     let target = target_among(forest, members.as_slice())?;
-    plan_in(setting, forest, held, now, asked, target)
+    plan_in(setting, forest, held, clock, asked, target)
 }
 
 // What is asked for, or why that means nothing.
@@ -192,7 +192,7 @@ fn plan_in<T: Tree>(
     setting: &Setting<T::Alloc>,
     forest: &Forest<T>,
     held: &Fid<T::Alloc>,
-    now: u32,
+    clock: u32,
     asked: Asked,
     target: NodeRef,
 ) -> Result<Plan<T::Alloc>, Fault>
@@ -201,11 +201,11 @@ fn plan_in<T: Tree>(
     ensures adds { IfOk result (λ plan. let server = server_at plan.target.server forest.now in
         CanAdd server plan.target.number (new_node server.next plan.target.number plan.new)) }
     ensures ok { (session : SessionOf) (fid : ℕ) → IfOk result
-        (λ plan. created_in setting.now forest.now session now fid held.now.fid asked target
+        (λ plan. created_in setting.now forest.now session clock fid held.now.fid asked target
         ≡ plan_answer forest.now session fid plan.target plan.new (trail_of plan.channels)
         plan.opening) }
     ensures err { (session : SessionOf) (fid : ℕ) → IfErr result
-        (λ fault. let answer = created_in setting.now forest.now session now fid held.now.fid asked
+        (λ fault. let answer = created_in setting.now forest.now session clock fid held.now.fid asked
         target in IsRefusal answer (is_done answer) fault) }
 {
     let Some(dir) = forest.node(target) else {
@@ -215,7 +215,7 @@ fn plan_in<T: Tree>(
     let channels = channels_to(&setting.table, &held.channels, place)?;
     Ok(Plan {
         target,
-        new: new_in(dir, asked, held.user, now),
+        new: new_in(dir, asked, held.user, clock),
         channels,
         opening: asked.opening,
     })
@@ -250,9 +250,9 @@ fn place_in<T: Tree>(
 }
 
 // What the user's new node in the directory is made of: it is of the directory's group.
-fn new_in<A: Allocator>(dir: &Node<A>, asked: Asked, user: User, now: u32) -> New<'static>
+fn new_in<A: Allocator>(dir: &Node<A>, asked: Asked, user: User, clock: u32) -> New<'static>
     ensures { new_node 0 dir.now.number result
-        ≡ created user now 0 dir.now asked.name asked.mode }
+        ≡ created user clock 0 dir.now asked.name asked.mode }
 {
     New {
         name: asked.name,
@@ -260,8 +260,8 @@ fn new_in<A: Allocator>(dir: &Node<A>, asked: Asked, user: User, now: u32) -> Ne
         uid: user,
         gid: *dir.gid(),
         muid: user,
-        atime: now,
-        mtime: now,
+        atime: clock,
+        mtime: clock,
         bytes: &[],
     }
 }
@@ -273,7 +273,7 @@ fn channels_to<A: Allocator + Copy>(
     place: NodeRef,
 ) -> Result<Channels<A>, NoMemory>
     requires fits { Fits table.now channels.now }
-    requires room { length (trail_of channels.now) < places_max }
+    requires places { length (trail_of channels.now) < places_max }
     ensures trail { IfOk result (λ longer. trail_of longer ≡ trail_of channels.now ++ place ∷ []) }
     ensures fits { IfOk result (λ longer. Fits table.now longer) }
 {

@@ -20,11 +20,11 @@ pub fn end_fid<T: Tree>(
     setting: &Setting<T::Alloc>,
     forest: &mut Forest<T>,
     fid: &Fid<T::Alloc>,
-    now: u32,
+    clock: u32,
 )
     requires opened { IsWellOpen setting.now.table forest.old fid.now.fid }
     requires channels { HeldFits setting.now.table fid.now }
-    ensures { forest.new ≡ all_applied (on_end setting.now.table now forest.old fid.now.fid)
+    ensures { forest.new ≡ all_applied (on_end setting.now.table clock forest.old fid.now.fid)
         forest.old }
 {
     if !removes_on_close(fid) {
@@ -37,7 +37,7 @@ pub fn end_fid<T: Tree>(
     forest.well_formed();
     let parent = file.parent();
     forest.drop_leaf(at);
-    mark_parent(forest, at, parent, fid.user, now);
+    mark_parent(forest, at, parent, fid.user, clock);
 }
 
 fn removes_on_close<A: Allocator + Copy>(fid: &Fid<A>) -> bool
@@ -54,12 +54,12 @@ pub fn mark_parent<T: Tree>(
     at: NodeRef,
     parent: Option<u64>,
     user: User,
-    now: u32,
+    clock: u32,
 )
-    ensures { forest.new ≡ all_applied (parent_marked user now at parent) forest.old }
+    ensures { forest.new ≡ all_applied (parent_marked user clock at parent) forest.old }
 {
     if let Some(number) = parent {
-        forest.bump(at.beside(number), user, now);
+        forest.bump(at.beside(number), user, clock);
     }
 }
 
@@ -68,17 +68,17 @@ pub fn end_fids<T: Tree>(
     setting: &Setting<T::Alloc>,
     forest: &mut Forest<T>,
     fids: &mut FidTable<T::Alloc>,
-    now: u32,
+    clock: u32,
 )
     requires opened { AreWellOpen setting.now.table forest.old fids.old.fids }
     requires channels { AllFit setting.now.table fids.old }
     ensures forest { forest.new ≡ all_applied
-        (on_ends setting.now.table now forest.old fids.old.fids) forest.old }
+        (on_ends setting.now.table clock forest.old fids.old.fids) forest.old }
     ensures fids { fids.new.fids ≡ [] }
     ensures channels { AllFit setting.now.table fids.new }
 {
     while let Some((_, fid)) = fids.take_first() {
         forest.well_formed();
-        end_fid(setting, forest, &fid, now);
+        end_fid(setting, forest, &fid, clock);
     }
 }

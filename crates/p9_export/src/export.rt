@@ -81,7 +81,7 @@ impl<T: Tree> Export<T> {
         } }
     {
         forest.well_formed();
-        each_is_a_user(users.as_slice());
+        prove_users_valid(users.as_slice());
         groups.well_formed();
         table.well_formed();
         let alloc = *users.allocator();
@@ -142,38 +142,38 @@ impl<T: Tree> Export<T> {
     }
 
     /// Closes a session: its fids end, by rising number, as clunk(5). A file that one holds open
-    /// with remove-on-close is removed, and its directory is marked at `now`, which is in seconds
+    /// with remove-on-close is removed, and its directory is marked at `clock`, which is in seconds
     /// since 1970, modulo 2^32. This takes no memory.
-    pub fn close(&mut self, name: u32, now: u32)
+    pub fn close(&mut self, name: u32, clock: u32)
         requires { IsSome (session_at name self.old.sessions) }
-        ensures { self.new ≡ (step self.old (Close name now) false).state }
+        ensures { self.new ≡ (step self.old (Close name clock) false).state }
     {
         self.forest.well_formed();
         if let Some(mut session) = self.sessions.remove(&name) {
-            end_fids(&self.setting, &mut self.forest, &mut session.fids, now);
+            end_fids(&self.setting, &mut self.forest, &mut session.fids, clock);
         }
     }
 
     /// Answers one frame of an open session: writes the reply at the front of the buffer, and
     /// returns its length, which is no more than the session's msize, and before a version than 43.
     /// What the buffer holds behind the reply is undefined, and is not to be handed on. The buffer
-    /// has at least as many bytes as [`Export::reply_max`] says. `now` is in seconds since 1970,
+    /// has at least as many bytes as [`Export::reply_max`] says. `clock` is in seconds since 1970,
     /// modulo 2^32.
     ///
     /// Every frame gets exactly one reply. Where that is [`p9_base::Fault::OutOfMemory`], the
     /// exporter is unchanged. Only an attach or a walk is answered so, or a create, a write or a
     /// wstat that nothing else refuses.
-    pub fn message(&mut self, name: u32, frame: &[u8], now: u32, reply: &mut [u8]) -> usize
+    pub fn message(&mut self, name: u32, frame: &[u8], clock: u32, reply: &mut [u8]) -> usize
         requires live { IsSome (session_at name self.old.sessions) }
         requires whole { IsTrue (is_frame frame.now) }
         requires room { unwrap_or (reply_room name self.old) 0 ≤ length reply.old }
         ensures within { result ≤ length reply.old }
         ensures short { IfSome (session_at name self.old.sessions) (λ session. result
             ≤ reply_max session) }
-        ensures state { self.new ≡ (step self.old (Message name frame.now now)
+        ensures state { self.new ≡ (step self.old (Message name frame.now clock)
             (is_no_memory_reply frame.now (take result reply.new))).state }
         ensures bytes { take result reply.new
-            ≡ (step self.old (Message name frame.now now) (is_no_memory_reply frame.now
+            ≡ (step self.old (Message name frame.now clock) (is_no_memory_reply frame.now
             (take result reply.new))).reply }
     {
         self.forest.well_formed();
@@ -183,7 +183,7 @@ impl<T: Tree> Export<T> {
             &mut self.forest,
             &mut self.sessions,
             name,
-            now,
+            clock,
             frame,
             reply,
         );
@@ -191,8 +191,9 @@ impl<T: Tree> Export<T> {
     }
 }
 
-// The type of a user keeps that its name is one. This goes over the users to say so of the list, and changes nothing.
-fn each_is_a_user(users: &[User])
+// Proves that each name of the list is a user's, since the type of a user keeps that. It changes
+// nothing.
+fn prove_users_valid(users: &[User])
     ensures { IsTrue (list_all is_user users.now) }
 {
     for user in users {

@@ -6,9 +6,9 @@ ghost use Rattle.p9_wire.specs.Message.{t_view};
 ghost use Rattle.p9_export.specs.Held.{SessionFits};
 ghost use Rattle.p9_export.specs.Answers.{Answers, CanWrite, replied, reply_view};
 ghost use Rattle.p9_export.specs.Room.{IsDataWithin};
-ghost use Rattle.p9_export.specs.Taken.{finds_taken};
+ghost use Rattle.p9_export.specs.Taken.{wants_taken_file};
 ghost use Rattle.p9_step.specs.Sound.{AreWellOpen};
-ghost use Rattle.p9_step.specs.State.{SessionRow, io_header, room_of};
+ghost use Rattle.p9_step.specs.State.{SessionRow, io_header, iounit_of};
 ghost use Rattle.p9_step.specs.Memory.{may_run_out};
 ghost use Rattle.p9_step.specs.Step.{message_answer};
 
@@ -31,7 +31,7 @@ use p9_tree::{Forest, Tree};
 use p9_wire::{RMsg, TMsg};
 
 /// Answers a request of a session. `taken` says whether the file that an open asks for is taken
-/// ([`crate::open::exclusive_file`]). What a read gives is put at the front of `buffer`.
+/// ([`crate::open::exclusive_file_of`]). What a read gives is put at the front of `buffer`.
 ///
 /// An auth is [`Fault::NoAuthentication`]. A flush has nothing to do, since each request is
 /// answered before the next one. Where it is an `Err`, the forest and the session are unchanged.
@@ -40,21 +40,21 @@ pub fn message<T: Tree>(
     forest: &mut Forest<T>,
     session: &mut Session<T::Alloc>,
     taken: bool,
-    now: u32,
+    clock: u32,
     request: &TMsg<'_>,
     buffer: &mut [u8],
 ) -> Result<Reply, Fault>
     requires channels { SessionFits setting.now.table session.old }
     requires fids { AreWellOpen setting.now.table forest.old session.old.session.fids }
-    requires buffer { room_of session.old.session ≤ length buffer.old }
-    requires room { io_header + room_of session.old.session ≤ msize_max }
+    requires buffer { iounit_of session.old.session ≤ length buffer.old }
+    requires room { io_header + iounit_of session.old.session ≤ msize_max }
     ensures channels { SessionFits setting.now.table session.new }
     ensures reply { CanWrite result }
-    ensures data { IsDataWithin (room_of session.old.session) result }
+    ensures data { IsDataWithin (iounit_of session.old.session) result }
     ensures answer { (sessions : List SessionRow)
-        → finds_taken setting.now forest.old sessions session.old.session (t_view request.now)
+        → wants_taken_file setting.now forest.old sessions session.old.session (t_view request.now)
         ≡ taken
-        → let answer = message_answer setting.now forest.old sessions session.old.session now
+        → let answer = message_answer setting.now forest.old sessions session.old.session clock
         (t_view request.now) in Answers answer (may_run_out (t_view request.now) answer)
         forest.old forest.new session.old.session session.new.session
         (replied (reply_view forest.new buffer.new) result) }
@@ -63,7 +63,7 @@ pub fn message<T: Tree>(
         TMsg::Version {
             msize,
             version: dialect,
-        } => Ok(Reply::Message(version(setting, forest, session, now, *msize, dialect)?)),
+        } => Ok(Reply::Message(version(setting, forest, session, clock, *msize, dialect)?)),
         TMsg::Auth { .. } => Err(Fault::NoAuthentication),
         TMsg::Attach {
             fid,
@@ -80,7 +80,7 @@ pub fn message<T: Tree>(
             Ok(Reply::Message(RMsg::Walk { qids }))
         }
         TMsg::Open { fid, mode } => {
-            let (qid, iounit) = open(setting, forest, session, taken, now, *fid, *mode)?;
+            let (qid, iounit) = open(setting, forest, session, taken, clock, *fid, *mode)?;
             Ok(Reply::Message(RMsg::Open { qid, iounit }))
         }
         TMsg::Create {
@@ -95,7 +95,7 @@ pub fn message<T: Tree>(
                 perm: *perm,
                 mode: *mode,
             };
-            let (qid, iounit) = create(setting, forest, session, now, wanted)?;
+            let (qid, iounit) = create(setting, forest, session, clock, wanted)?;
             Ok(Reply::Message(RMsg::Create { qid, iounit }))
         }
         TMsg::Read { fid, offset, count } => {
@@ -104,21 +104,21 @@ pub fn message<T: Tree>(
                 offset: *offset,
                 count: *count,
             };
-            let size = read(setting, forest, session, now, wanted, buffer)?;
+            let size = read(setting, forest, session, clock, wanted, buffer)?;
             Ok(Reply::Data(size))
         }
         TMsg::Write { fid, offset, bytes } => {
-            let count = write(setting, forest, session, now, *fid, *offset, bytes)?;
+            let count = write(setting, forest, session, clock, *fid, *offset, bytes)?;
             Ok(Reply::Message(RMsg::Write { count }))
         }
         TMsg::Clunk { fid } => {
-            clunk(setting, forest, session, now, *fid)?;
+            clunk(setting, forest, session, clock, *fid)?;
             Ok(Reply::Message(RMsg::Clunk))
         }
-        TMsg::Remove { fid } => Ok(Reply::Message(remove(setting, forest, session, now, *fid)?)),
+        TMsg::Remove { fid } => Ok(Reply::Message(remove(setting, forest, session, clock, *fid)?)),
         TMsg::Stat { fid } => Ok(Reply::StatOf(stat(setting, forest, session, *fid)?)),
         TMsg::Wstat { fid, stat: wanted } => {
-            wstat(setting, forest, session, now, *fid, wanted)?;
+            wstat(setting, forest, session, clock, *fid, wanted)?;
             Ok(Reply::Message(RMsg::Wstat))
         }
     }

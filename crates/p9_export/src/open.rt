@@ -10,7 +10,7 @@ ghost use Rattle.p9_export.specs.Held.{SessionFits, SessionsFit, sessions_in};
 ghost use Rattle.p9_export.specs.Answers.{Answers, open_reply, replied};
 ghost use Rattle.p9_space.specs.Rights.{who_view};
 ghost use Rattle.p9_step.specs.ForestChange.{Cut, EditNode, Mark, all_applied, edited};
-ghost use Rattle.p9_export.specs.Taken.{is_fid_taken};
+ghost use Rattle.p9_export.specs.Taken.{has_taken_file};
 ghost use Rattle.p9_step.specs.Open.{is_append_only, is_cut, is_exclusive, is_in_use};
 ghost use Rattle.p9_step.specs.Open.{may_open, open_answer};
 ghost use Rattle.p9_step.specs.Qid.{qid_of};
@@ -28,8 +28,8 @@ use std::alloc::Allocator;
 use std::collections::BTreeMap;
 
 /// Opens a fid for what the mode's bits ask, and returns the qid of its file and the session's
-/// iounit ([`Session::room`]). Truncation cuts the file to nothing and marks it, but an
-/// append-only file is unchanged. `taken` says whether the file is taken ([`exclusive_file`]).
+/// iounit ([`Session::iounit`]). Truncation cuts the file to nothing and marks it, but an
+/// append-only file is unchanged. `taken` says whether the file is taken ([`exclusive_file_of`]).
 ///
 /// The first that applies refuses, and nothing changes: there is no such fid,
 /// [`Fault::UnknownFid`]; it is open, [`Fault::FidOpen`]; its file doesn't exist,
@@ -41,15 +41,15 @@ pub fn open<T: Tree>(
     forest: &mut Forest<T>,
     session: &mut Session<T::Alloc>,
     taken: bool,
-    now: u32,
+    clock: u32,
     fid: u32,
     bits: u8,
 ) -> Result<(Qid, u32), Fault>
     requires channels { SessionFits setting.now.table session.old }
     ensures channels { SessionFits setting.now.table session.new }
     ensures answer { (sessions : List SessionRow)
-        → is_fid_taken setting.now forest.old sessions session.old.session fid ≡ taken
-        → Answers (open_answer setting.now forest.old sessions session.old.session now fid bits)
+        → has_taken_file setting.now forest.old sessions session.old.session fid ≡ taken
+        → Answers (open_answer setting.now forest.old sessions session.old.session clock fid bits)
         false forest.old forest.new session.old.session session.new.session
         (replied open_reply result) }
 {
@@ -78,12 +78,12 @@ pub fn open<T: Tree>(
     }
     forest.well_formed();
     let qid = if is_cut(file, opening) {
-        cut_file(forest, at, user, now)
+        cut_file(forest, at, user, clock)
     } else {
         qid_of(at, file)
     };
     session.fids.set_opened(fid, opening.opened());
-    Ok((qid, session.room()))
+    Ok((qid, session.iounit()))
 }
 
 // Whether the user has each right that the mode asks for, and to remove on close, to change the
@@ -109,15 +109,15 @@ fn is_cut<A: Allocator>(file: &Node<A>, opening: Opening) -> bool
 }
 
 // Cuts a file to nothing and marks it, and returns its qid after that.
-fn cut_file<T: Tree>(forest: &mut Forest<T>, at: NodeRef, user: User, now: u32) -> Qid
+fn cut_file<T: Tree>(forest: &mut Forest<T>, at: NodeRef, user: User, clock: u32) -> Qid
     requires { IsSome (node_of at forest.old) }
-    ensures forest { forest.new ≡ all_applied (EditNode at (Cut 0) ∷ EditNode at (Mark user now)
+    ensures forest { forest.new ≡ all_applied (EditNode at (Cut 0) ∷ EditNode at (Mark user clock)
         ∷ []) forest.old }
     ensures qid { IfSome (node_of at forest.old)
-        (λ n. result ≡ qid_of at (edited (Mark user now) (edited (Cut 0) n))) }
+        (λ n. result ≡ qid_of at (edited (Mark user clock) (edited (Cut 0) n))) }
 {
     forest.cut(at, 0);
-    forest.bump(at, user, now);
+    forest.bump(at, user, clock);
     forest.well_formed();
     qid_of(at, forest.node(at).unwrap())
 }
@@ -132,7 +132,7 @@ pub fn is_append_only<A: Allocator>(file: &Node<A>) -> bool
     }
 }
 
-// Whether one fid at a time may have the file open.
+// Whether the file is exclusive: one fid at a time may have it open.
 fn is_exclusive<A: Allocator>(file: &Node<A>) -> bool
     ensures { result ≡ is_exclusive file.now }
 {
@@ -168,16 +168,15 @@ fn any_has_open<A: Allocator + Copy>(
         .any(|session| session.fids.has_open_by_rows(table, at))
 }
 
-/// The file of the fid, if it is for one fid at a time: it is taken where a fid of some session has
-/// it open.
-pub fn exclusive_file<T: Tree>(
+/// The file of the fid, if it is exclusive. It is taken where a fid of some session has it open.
+pub fn exclusive_file_of<T: Tree>(
     setting: &Setting<T::Alloc>,
     forest: &Forest<T>,
     session: &Session<T::Alloc>,
     fid: u32,
 ) -> Option<NodeRef>
     requires { SessionFits setting.now.table session.now }
-    ensures { (sessions : List SessionRow) → is_fid_taken setting.now forest.now sessions
+    ensures { (sessions : List SessionRow) → has_taken_file setting.now forest.now sessions
         session.now.session fid ≡ option_map_or (λ at. is_in_use setting.now.table at sessions)
         result false }
 {

@@ -6,7 +6,7 @@ ghost use Rattle.p9_fids.specs.Held.{HeldFits};
 ghost use Rattle.p9_export.specs.Held.{SessionFits};
 ghost use Rattle.p9_export.specs.Answers.{Answers, data_reply, replied};
 ghost use Rattle.p9_export.specs.Listing.{list_answer};
-ghost use Rattle.p9_step.specs.State.{Session as SessionOf, room_of};
+ghost use Rattle.p9_step.specs.State.{Session as SessionOf, iounit_of};
 ghost use Rattle.p9_step.specs.Read.{cursor_at, read_answer, read_dir, readable};
 
 use crate::listing::list;
@@ -35,7 +35,7 @@ struct Listed {
 }
 
 /// Puts what a fid reads at the front of the buffer, and returns how many bytes that is: at most
-/// the count that is asked for, and at most [`Session::room`].
+/// the count that is asked for, and at most [`Session::iounit`].
 ///
 /// A file gives its bytes from the offset on, and the reading of the clock becomes the time when it
 /// was last read (its atime). A directory gives whole stats of the entries of its union that are
@@ -50,15 +50,15 @@ pub fn read<T: Tree>(
     setting: &Setting<T::Alloc>,
     forest: &mut Forest<T>,
     session: &mut Session<T::Alloc>,
-    now: u32,
+    clock: u32,
     wanted: ReadRequest,
     buffer: &mut [u8],
 ) -> Result<u32, Fault>
     requires channels { SessionFits setting.now.table session.old }
-    requires room { room_of session.old.session ≤ length buffer.old }
+    requires room { iounit_of session.old.session ≤ length buffer.old }
     ensures channels { SessionFits setting.now.table session.new }
-    ensures size { IfOk result (λ count. count ≤ room_of session.old.session) }
-    ensures answer { Answers (read_answer setting.now forest.old session.old.session now wanted.fid
+    ensures size { IfOk result (λ count. count ≤ iounit_of session.old.session) }
+    ensures answer { Answers (read_answer setting.now forest.old session.old.session clock wanted.fid
         wanted.offset wanted.count) false forest.old forest.new session.old.session
         session.new.session (replied (data_reply buffer.new) result) }
 {
@@ -72,7 +72,7 @@ pub fn read<T: Tree>(
     let Some(file) = forest.node(at) else {
         return Err(Fault::PhaseError);
     };
-    let room = wanted.count.min(session.room()) as usize;
+    let room = wanted.count.min(session.iounit()) as usize;
     if file.is_dir() {
         let listed = list_of(
             setting,
@@ -86,7 +86,7 @@ pub fn read<T: Tree>(
         Ok(listed.size)
     } else {
         let size = file.read_into(wanted.offset, &mut buffer[..room]);
-        forest.touch(at, now);
+        forest.touch(at, clock);
         Ok(size as u32)
     }
 }

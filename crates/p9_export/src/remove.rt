@@ -28,20 +28,20 @@ pub fn remove<T: Tree>(
     setting: &Setting<T::Alloc>,
     forest: &mut Forest<T>,
     session: &mut Session<T::Alloc>,
-    now: u32,
+    clock: u32,
     fid: u32,
 ) -> Result<RMsg<'static>, Fault>
     requires channels { SessionFits setting.now.table session.old }
     ensures channels { SessionFits setting.now.table session.new }
     ensures reply { IfOk result (λ reply. ReplyFits (r_view reply)) }
-    ensures answer { Answers (remove_answer setting.now forest.old session.old.session now fid)
+    ensures answer { Answers (remove_answer setting.now forest.old session.old.session clock fid)
         false forest.old forest.new session.old.session session.new.session
         (replied r_view result) }
 {
     let Some(ended) = session.fids.take(fid) else {
         return Err(Fault::UnknownFid);
     };
-    match remove_file(setting, forest, &ended, now) {
+    match remove_file(setting, forest, &ended, clock) {
         Ok(()) => Ok(RMsg::Remove),
         Err(fault) => Ok(RMsg::Error {
             ename: fault.text(),
@@ -54,10 +54,10 @@ fn remove_file<T: Tree>(
     setting: &Setting<T::Alloc>,
     forest: &mut Forest<T>,
     fid: &Fid<T::Alloc>,
-    now: u32,
+    clock: u32,
 ) -> Result<(), Fault>
     requires { HeldFits setting.now.table fid.now }
-    ensures { (left : SessionOf) → Answers (removal setting.now forest.old left now fid.now.fid)
+    ensures { (left : SessionOf) → Answers (removal setting.now forest.old left clock fid.now.fid)
         false forest.old forest.new left left (replied (λ _. Rremove) result) }
 {
     let at = setting.file(fid);
@@ -76,6 +76,6 @@ fn remove_file<T: Tree>(
     }
     forest.well_formed();
     forest.drop_leaf(at);
-    mark_parent(forest, at, parent, fid.user, now);
+    mark_parent(forest, at, parent, fid.user, clock);
     Ok(())
 }

@@ -2,7 +2,7 @@
 
 ghost use Rattle.std.specs.Prelude.{◌≡◌};
 ghost use Rattle.p9_step.specs.Laws.{reply_max};
-ghost use Rattle.p9_step.specs.State.{room_of};
+ghost use Rattle.p9_step.specs.State.{iounit_of};
 ghost use Rattle.p9_export.specs.Held.{fresh_held};
 
 use p9_base::FAULT_TEXT_MAX;
@@ -46,8 +46,8 @@ impl<A: Allocator + Copy> Session<A> {
     }
 
     /// How many bytes a read or a write of the session may carry: its iounit, as open(5).
-    pub fn room(&self) -> u32
-        ensures { result ≡ room_of self.now.session }
+    pub fn iounit(&self) -> u32
+        ensures { result ≡ iounit_of self.now.session }
     {
         match self.msize {
             Some(msize) => msize.saturating_sub(IOHDRSZ),

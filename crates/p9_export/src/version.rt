@@ -26,7 +26,7 @@ pub fn version<T: Tree>(
     setting: &Setting<T::Alloc>,
     forest: &mut Forest<T>,
     session: &mut Session<T::Alloc>,
-    now: u32,
+    clock: u32,
     msize: u32,
     version: &str,
 ) -> Result<RMsg<'static>, Fault>
@@ -34,7 +34,7 @@ pub fn version<T: Tree>(
     requires opened { AreWellOpen setting.now.table forest.old session.old.session.fids }
     ensures channels { SessionFits setting.now.table session.new }
     ensures reply { IfOk result (λ reply. ReplyFits (r_view reply)) }
-    ensures answer { Answers (version_answer setting.now forest.old session.old.session now msize
+    ensures answer { Answers (version_answer setting.now forest.old session.old.session clock msize
         version.now) false forest.old forest.new session.old.session session.new.session
         (replied r_view result) }
 {
@@ -48,7 +48,7 @@ pub fn version<T: Tree>(
             version: "unknown",
         });
     }
-    end_fids(setting, forest, &mut session.fids, now);
+    end_fids(setting, forest, &mut session.fids, clock);
     session.msize = Some(msize);
     Ok(RMsg::Version {
         msize,

@@ -145,7 +145,7 @@ fn arrive<T: Tree>(
     channels: &mut Channels<T::Alloc>,
     arrival: Arrival<'_, T::Alloc>,
 ) -> Result<Qid, NoMemory>
-    requires room { length (stepped (trail_of channels.old) arrival.step) ≤ places_max }
+    requires places { length (stepped (trail_of channels.old) arrival.step) ≤ places_max }
     requires row { arrival.row
         ≡ row_position (here (stepped (trail_of channels.old) arrival.step)) setting.now.table }
     requires file { node_of arrival.at forest.now ≡ Some arrival.file.now }

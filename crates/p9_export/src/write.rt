@@ -29,14 +29,14 @@ pub fn write<T: Tree>(
     setting: &Setting<T::Alloc>,
     forest: &mut Forest<T>,
     session: &Session<T::Alloc>,
-    now: u32,
+    clock: u32,
     fid: u32,
     offset: u64,
     bytes: &[u8],
 ) -> Result<u32, Fault>
     requires channels { SessionFits setting.now.table session.now }
     requires opened { AreWellOpen setting.now.table forest.old session.now.session.fids }
-    ensures { let answer = write_answer setting.now forest.old session.now.session now fid offset
+    ensures { let answer = write_answer setting.now forest.old session.now.session clock fid offset
         bytes.now in Answers answer (is_done answer) forest.old forest.new session.now.session
         session.now.session (replied Rwrite result) }
 {
@@ -58,7 +58,7 @@ pub fn write<T: Tree>(
         return Err(Fault::FileTooLarge);
     }
     forest.write(at, place, bytes)?;
-    forest.bump(at, held.user, now);
+    forest.bump(at, held.user, clock);
     Ok(bytes.len() as u32)
 }
 

@@ -67,12 +67,12 @@ pub fn wstat<T: Tree>(
     setting: &Setting<T::Alloc>,
     forest: &mut Forest<T>,
     session: &Session<T::Alloc>,
-    now: u32,
+    clock: u32,
     fid: u32,
     wanted: &Stat<'_>,
 ) -> Result<(), Fault>
     requires channels { SessionFits setting.now.table session.now }
-    ensures { let answer = wstat_answer setting.now forest.old session.now.session now fid
+    ensures { let answer = wstat_answer setting.now forest.old session.now.session clock fid
         (stat_view wanted.now) in Answers answer (is_done answer) forest.old forest.new
         session.now.session session.now.session (replied (λ _. Rwstat) result) }
 {
@@ -89,13 +89,13 @@ pub fn wstat<T: Tree>(
         return Err(Fault::FixedField);
     }
     let touched = touched_of(&there, wanted);
-    let change = change_wanted(setting.who(&held.user), forest, at, file, now, &touched)?;
+    let change = change_wanted(setting.who(&held.user), forest, at, file, clock, &touched)?;
     if !is_any(&touched) {
         return Ok(());
     }
     let parent = file.parent();
     forest.change(at, &change)?;
-    mark_parent(forest, at, parent, held.user, now);
+    mark_parent(forest, at, parent, held.user, clock);
     Ok(())
 }
 
@@ -185,12 +185,12 @@ fn change_wanted<T: Tree>(
     forest: &Forest<T>,
     at: NodeRef,
     file: &Node<T::Alloc>,
-    now: u32,
+    clock: u32,
     touched: &Touched<'_>,
 ) -> Result<Change, Fault>
     ensures { let who = who_view who.entry in let touched = touched_view touched.now in result
         ≡ unless (wstat_fault who forest.now at file.now touched)
-        (Ok (node_change who.user now touched)) }
+        (Ok (node_change who.user clock touched)) }
 {
     let mode = wanted_mode(file, touched.mode)?;
     let name = wanted_name(who, forest, at, file, touched.name)?;
@@ -206,7 +206,7 @@ fn change_wanted<T: Tree>(
         length,
         mtime: touched.mtime,
         user: *who.user,
-        now,
+        clock,
     })
 }
 

@@ -13,18 +13,18 @@ use Rattle.p9_export.specs.declared.export.OpenError.TheVariants.{Live, NoMemory
 -- an event has a reply: it is a whole frame of a session that is open
 abbrev pub is_answered : State → Event → Bool
 is_answered state (Open name) = false
-is_answered state (Message name frame now) =
+is_answered state (Message name frame clock) =
     is_frame frame && is_some (session_at name state.sessions)
-is_answered state (Close name now) = false
+is_answered state (Close name clock) = false
 
 -- memory may be refused to an opening that fits, and to a request that may be answered so
 abbrev pub may_be_refused : State → Event → Bool
 may_be_refused state (Open name) = not (is_some (session_at name state.sessions))
-may_be_refused state (Message name frame now) =
+may_be_refused state (Message name frame clock) =
     is_frame frame
-    && option_map_or (λ session. runs_out state session frame now true)
+    && option_map_or (λ session. runs_out state session frame clock true)
     (session_at name state.sessions) false
-may_be_refused state (Close name now) = false
+may_be_refused state (Close name clock) = false
 
 -- each mark is of an event that memory may be refused to, at the state where it happens
 abbrev pub are_permitted : State → List Marked → Bool

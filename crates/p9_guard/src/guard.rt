@@ -153,13 +153,13 @@ impl<T: Tree> Guard<T> {
     /// Answers one frame of an open session: writes the reply at the front of the buffer, and
     /// returns its length, which is no more than the session's msize, and before a version than 43.
     /// What the buffer holds behind the reply is undefined, and is not to be handed on. The buffer
-    /// has as many bytes as [`Guard::reply_max`] says. `now` is the reading of the clock, in seconds
+    /// has as many bytes as [`Guard::reply_max`] says. `clock` is the reading of the clock, in seconds
     /// since 1970, modulo 2^32.
     ///
     /// Every frame gets exactly one reply. Where that is [`p9_base::Fault::OutOfMemory`], the guard
     /// is unchanged. Only an attach or a walk is answered so, or a create, a write or a wstat that
     /// nothing else refuses.
-    pub fn answer(&mut self, name: u32, frame: &[u8], now: u32, reply: &mut [u8]) -> usize
+    pub fn answer(&mut self, name: u32, frame: &[u8], clock: u32, reply: &mut [u8]) -> usize
         requires live { IsSome (session_at name self.old.state.sessions) }
         requires whole { IsTrue (is_frame frame.now) }
         requires room { unwrap_or (reply_room name self.old.state) 0 ≤ length reply.old }
@@ -169,26 +169,26 @@ impl<T: Tree> Guard<T> {
         ensures hidden { self.new.hidden ≡ self.old.hidden }
         ensures start { self.new.start ≡ self.old.start }
         ensures promised { IsPromised self.old.hidden self.old.state
-            ((Message name frame.now now, is_no_memory_reply frame.now (take result reply.new))
+            ((Message name frame.now clock, is_no_memory_reply frame.now (take result reply.new))
             ∷ []) self.new.state (take result reply.new) }
         ensures unchanged { IsTrue (is_no_memory_reply frame.now (take result reply.new))
             → self.new ≡ self.old }
     {
-        self.export.message(name, frame, now, reply)
+        self.export.message(name, frame, clock, reply)
     }
 
-    /// Closes a session. `now` is the reading of the clock, in seconds since 1970, modulo 2^32.
+    /// Closes a session. `clock` is the reading of the clock, in seconds since 1970, modulo 2^32.
     ///
     /// The session's fids end by rising number. A file that one of them has open with
-    /// remove-on-close is removed, and its directory is marked at `now`, as clunk(5).
-    pub fn close(&mut self, name: u32, now: u32)
+    /// remove-on-close is removed, and its directory is marked at `clock`, as clunk(5).
+    pub fn close(&mut self, name: u32, clock: u32)
         requires { IsSome (session_at name self.old.state.sessions) }
         ensures hidden { self.new.hidden ≡ self.old.hidden }
         ensures start { self.new.start ≡ self.old.start }
         ensures promised { IsPromised self.old.hidden self.old.state
-            ((Close name now, false) ∷ []) self.new.state [] }
+            ((Close name clock, false) ∷ []) self.new.state [] }
     {
-        self.export.close(name, now)
+        self.export.close(name, clock)
     }
 }
 

@@ -91,11 +91,11 @@ impl<T: Tree> Guard<T> {
                 let _opened = self.open(*name);
                 Ok(0)
             }
-            Event::Message(name, frame, now) => {
-                self.run_message(*name, frame.as_slice(), *now, used, bytes)
+            Event::Message(name, frame, clock) => {
+                self.run_message(*name, frame.as_slice(), *clock, used, bytes)
             }
-            Event::Close(name, now) => {
-                self.run_close(*name, *now);
+            Event::Close(name, clock) => {
+                self.run_close(*name, *clock);
                 Ok(0)
             }
         }
@@ -106,23 +106,23 @@ impl<T: Tree> Guard<T> {
         &mut self,
         name: u32,
         frame: &[u8],
-        now: u32,
+        clock: u32,
         used: usize,
         bytes: &mut Vec<u8, T::Alloc>,
     ) -> Result<usize, NoMemory>
         requires { used ≤ length bytes.old.items }
-        ensures event { IsEvent (Message name frame.now now) }
+        ensures event { IsEvent (Message name frame.now clock) }
         ensures hidden { self.new.hidden ≡ self.old.hidden }
         ensures start { self.new.start ≡ self.old.start }
         ensures kept { take used bytes.new.items ≡ take used bytes.old.items }
         ensures within { IfOk result (λ size. used + size ≤ length bytes.new.items) }
         ensures ok { IfOk result (λ size. (refused : Bool) × (reply : List ℕ)
             × (take (used + size) bytes.new.items ≡ take used bytes.old.items ++ reply)
-            × IsPromised self.old.hidden self.old.state ((Message name frame.now now, refused) ∷ [])
+            × IsPromised self.old.hidden self.old.state ((Message name frame.now clock, refused) ∷ [])
             self.new.state reply) }
         ensures err { OnErr result (self.new ≡ self.old) }
         ensures answered { OnErr result
-            (IsTrue (is_answered self.old.state (Message name frame.now now))) }
+            (IsTrue (is_answered self.old.state (Message name frame.now clock))) }
     {
         let Some(room) = self.reply_max(name) else {
             return Ok(0);
@@ -132,19 +132,19 @@ impl<T: Tree> Guard<T> {
         }
         bytes.resize(used + room, 0)?;
         let reply = &mut bytes.as_mut_slice()[used..];
-        Ok(self.answer(name, frame, now, reply))
+        Ok(self.answer(name, frame, clock, reply))
     }
 
     // Closes a session that is open.
-    fn run_close(&mut self, name: u32, now: u32)
-        ensures event { IsEvent (Close name now) }
+    fn run_close(&mut self, name: u32, clock: u32)
+        ensures event { IsEvent (Close name clock) }
         ensures hidden { self.new.hidden ≡ self.old.hidden }
         ensures start { self.new.start ≡ self.old.start }
-        ensures promised { IsPromised self.old.hidden self.old.state ((Close name now, false) ∷ [])
+        ensures promised { IsPromised self.old.hidden self.old.state ((Close name clock, false) ∷ [])
             self.new.state [] }
     {
         if self.live(name) {
-            self.close(name, now);
+            self.close(name, clock);
         }
     }
 }

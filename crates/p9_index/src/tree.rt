@@ -106,15 +106,15 @@ impl<A: Allocator + Copy> Tree for IndexTree<A> {
         Ok(())
     }
 
-    fn bump(&mut self, number: u64, user: User, now: u32) {
+    fn bump(&mut self, number: u64, user: User, clock: u32) {
         if let Some(node) = self.nodes.get_mut(&number) {
-            node.mark(user, now);
+            node.mark(user, clock);
         }
     }
 
-    fn touch(&mut self, number: u64, now: u32) {
+    fn touch(&mut self, number: u64, clock: u32) {
         if let Some(node) = self.nodes.get_mut(&number) {
-            node.touch(now);
+            node.touch(clock);
         }
     }
 

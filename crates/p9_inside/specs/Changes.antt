@@ -51,14 +51,14 @@ ChangeSpares = (hidden : List NodeRef) (forest : List Server) (r : NodeRef) (f :
 -- The changes by their names.
 
 abbrev pub MarkSpares : Type 0
-MarkSpares = (hidden : List NodeRef) (forest : List Server) (r : NodeRef) (user : List ℕ) (now : ℕ)
+MarkSpares = (hidden : List NodeRef) (forest : List Server) (r : NodeRef) (user : List ℕ) (clock : ℕ)
     → IsFalse (is_inside r hidden forest)
-    → Spares hidden (forest_changed_at r (marked user now)) forest
+    → Spares hidden (forest_changed_at r (marked user clock)) forest
 
 abbrev pub TouchSpares : Type 0
-TouchSpares = (hidden : List NodeRef) (forest : List Server) (r : NodeRef) (now : ℕ)
+TouchSpares = (hidden : List NodeRef) (forest : List Server) (r : NodeRef) (clock : ℕ)
     → IsFalse (is_inside r hidden forest)
-    → Spares hidden (forest_changed_at r (touched now)) forest
+    → Spares hidden (forest_changed_at r (touched clock)) forest
 
 abbrev pub OwnerSpares : Type 0
 OwnerSpares = (hidden : List NodeRef) (forest : List Server) (r : NodeRef)

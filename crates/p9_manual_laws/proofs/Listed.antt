@@ -29,7 +29,7 @@ use Rattle.p9_step.specs.Qid.{stat_of}
 use Rattle.p9_step.specs.Read.{cursor_after, cursor_at, entries_answer, entries_or_fault}
 use Rattle.p9_step.specs.Read.{entry_bytes, fitting}
 use Rattle.p9_step.specs.Read.{listed_session, read_answer, readable}
-use Rattle.p9_step.specs.State.{Session, SessionRow, Setting, State, changed_session, fid_file, room_of}
+use Rattle.p9_step.specs.State.{Session, SessionRow, Setting, State, changed_session, fid_file, iounit_of}
 use Rattle.p9_step.specs.State.{session_at, who_of}
 use Rattle.p9_manual_laws.specs.Asked.{Asked, after_outcome, asked}
 use Rattle.p9_manual_laws.specs.Listings.{ReadAt, ReadsGiveAll, data_before, reads_from}
@@ -158,7 +158,7 @@ module _ (setting : Setting) (forest : List Server) (name fid : ℕ) (v : Fid) (
   goes rows offset now count left bytes s told = by_opened (readable s.w.opened) refl
     where
       room : ℕ
-      room = min count (room_of s.session)
+      room = min count (iounit_of s.session)
 
       answer : Answer
       answer = read_answer setting forest s.session now fid offset count
@@ -288,11 +288,11 @@ module _ (setting : Setting) (forest : List Server) (name fid : ℕ) (v : Fid) (
   gives_all [] rows offset left [] s is = absurd (cc)
   gives_all [] rows offset left (p ∷ ps) s is = absurd (cc)
   gives_all (read ∷ reads) rows offset left parts s is =
-      by (asked (at rows) name read.now (Tread fid offset read.count)).reply refl
+      by (asked (at rows) name read.clock (Tread fid offset read.count)).reply refl
       (λ after next others. gives_all reads after next others)
     where
       after : Asked
-      after = asked (at rows) name read.now (Tread fid offset read.count)
+      after = asked (at rows) name read.clock (Tread fid offset read.count)
 
       by_rest : (bytes : List ℕ) (r : Option (List (List ℕ)))
           → option_map (λ ps. bytes ∷ ps) r ≡ Some (parts ++ [] ∷ [])
@@ -310,10 +310,10 @@ module _ (setting : Setting) (forest : List Server) (name fid : ℕ) (v : Fid) (
           let one = answered_with r _ _ (ap (λ x. data_before x (λ bytes. reads_from after.state name
           fid (offset + length bytes) reads)) (sym e) ∙ is) in
           let bytes : List ℕ = one.0 in
-          let g = goes rows offset read.now read.count left bytes s (e ∙ one.1) in
+          let g = goes rows offset read.clock read.count left bytes s (e ∙ one.1) in
           let rest = by_rest bytes
           (reads_from after.state name fid (offset + length bytes) reads) one.2 in
-          gives_further offset read.now read.count rows left bytes rest.0 parts g rest.2 (λ ps same.
+          gives_further offset read.clock read.count rows left bytes rest.0 parts g rest.2 (λ ps same.
           later g.after (offset + length bytes) g.others ps g.stands
           (ap (λ st. reads_from st name fid (offset + length bytes) reads) (sym g.state_is)
           ∙ rest.1 ∙ ap (λ x. Some x) same))

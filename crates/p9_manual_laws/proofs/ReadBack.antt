@@ -19,7 +19,7 @@ use Rattle.p9_step.specs.Answer.{Outcome, outcome_of}
 use Rattle.p9_step.specs.ForestChange.{all_applied, applied, edited}
 use Rattle.p9_step.specs.Open.{is_append_only}
 use Rattle.p9_step.specs.Read.{readable}
-use Rattle.p9_step.specs.State.{Session, Setting, State, changed_session, fid_file, fid_ref, room_of}
+use Rattle.p9_step.specs.State.{Session, Setting, State, changed_session, fid_file, fid_ref, iounit_of}
 use Rattle.p9_step.specs.State.{session_at}
 use Rattle.p9_step.specs.Write.{is_writable, write_answer, write_file}
 use Rattle.p9_step.proofs.Found.{node_of-changed}
@@ -112,7 +112,7 @@ pub read_gives : (state : State) (name : ℕ) (session : Session) (fid now offse
     (opened : Opened) (n : Node) → Has state name session fid v → readable v.opened ≡ Some opened
     → fid_file state.setting.table state.forest v ≡ Some n → is_dir n ≡ false
     → (asked state name now (Tread fid offset count)).reply
-    ≡ Some (Rread (read_from offset (min count (room_of session)) n.bytes))
+    ≡ Some (Rread (read_from offset (min count (iounit_of session)) n.bytes))
 unfolding obtain
 read_gives state name session fid now offset count v opened n has held there file =
     rw (has.session_is, has.fid_is, held, there, file) refl
@@ -142,7 +142,7 @@ written_is_read_back state writer reader writer_session reader_session fid other
     } in
     let there_now : fid_file after.setting.table after.forest w ≡ Some lands.node =
     ap (λ at. node_of at after.forest) same ∙ lands.found in
-    let whole : min (length bytes) (room_of reader_session) ≡ length bytes = omega (arith, short) in
+    let whole : min (length bytes) (iounit_of reader_session) ≡ length bytes = omega (arith, short) in
     read_gives after reader reader_session other_fid later offset (length bytes) w opened lands.node
     has held there_now (lands.kind ∙ file)
     ∙ ap (λ k. Some (Rread (read_from offset k lands.node.bytes))) whole

@@ -30,16 +30,16 @@ after_outcome state name outcome = record {
 }
 
 -- a message of an open session
-abbrev pub asked_in : State → (name now : ℕ) → TMessage → Session → Asked
-asked_in state name now m session =
+abbrev pub asked_in : State → (name clock : ℕ) → TMessage → Session → Asked
+asked_in state name clock m session =
     after_outcome state name
     (outcome_of session
-    (message_answer state.setting state.forest state.sessions session now m))
+    (message_answer state.setting state.forest state.sessions session clock m))
 
 -- a message of the session of the name, at a reading of the clock
-abbrev pub asked : State → (name now : ℕ) → TMessage → Asked
-asked state name now m =
-    option_map_or (asked_in state name now m) (session_at name state.sessions)
+abbrev pub asked : State → (name clock : ℕ) → TMessage → Asked
+asked state name clock m =
+    option_map_or (asked_in state name clock m) (session_at name state.sessions)
     (record { state = state; reply = None })
 
 -- the session of the name is open, and the frame spells the message with the tag; the frame is no
@@ -56,19 +56,19 @@ pub record IsSent (state : State) (name : ℕ) (frame : List ℕ) (tag : ℕ) (m
 
 -- the step of a frame is what the message makes of the state, and its bytes are the reply with the
 -- tag; in a state that the exporter can come to, they spell it by the grammar
-pub record IsAskedBy (state : State) (name : ℕ) (frame : List ℕ) (now tag : ℕ) (m : TMessage)
+pub record IsAskedBy (state : State) (name : ℕ) (frame : List ℕ) (clock tag : ℕ) (m : TMessage)
     : Type 0 where
   pub reply : RMessage
-  pub reply_is : (asked state name now m).reply ≡ Some reply
-  pub state_is : (step state (Message name frame now) false).state ≡ (asked state name now m).state
-  pub bytes_are : (step state (Message name frame now) false).reply ≡ r_spelling tag reply
-  pub spelled : IsState state → RSpells (step state (Message name frame now) false).reply tag reply
+  pub reply_is : (asked state name clock m).reply ≡ Some reply
+  pub state_is : (step state (Message name frame clock) false).state ≡ (asked state name clock m).state
+  pub bytes_are : (step state (Message name frame clock) false).reply ≡ r_spelling tag reply
+  pub spelled : IsState state → RSpells (step state (Message name frame clock) false).reply tag reply
 
 -- a frame of an open session is answered as the message that it spells, with the same tag
 abbrev pub FrameIsAsked : Type 0
 FrameIsAsked =
-    (state : State) (name : ℕ) (frame : List ℕ) (now tag : ℕ) (m : TMessage)
-    → IsSent state name frame tag m → IsAskedBy state name frame now tag m
+    (state : State) (name : ℕ) (frame : List ℕ) (clock tag : ℕ) (m : TMessage)
+    → IsSent state name frame tag m → IsAskedBy state name frame clock tag m
 
 -- the session of the name is open, and has the fid
 pub record Has (state : State) (name : ℕ) (session : Session) (fid : ℕ) (v : Fid) : Type 0 where

@@ -16,7 +16,7 @@ pub record IsFree (state : State) (name fid : ℕ) : Type 0 where
 -- a clunk frees its fid for a new one
 abbrev pub ClunkFreesFid : Type 0
 ClunkFreesFid =
-    (state : State) (name : ℕ) (session : Session) (fid now : ℕ) (v : Fid) → IsState state
+    (state : State) (name : ℕ) (session : Session) (fid clock : ℕ) (v : Fid) → IsState state
     → Has state name session fid v
-    → let after = asked state name now (Tclunk fid) in
+    → let after = asked state name clock (Tclunk fid) in
     (after.reply ≡ Some Rclunk) × IsFree after.state name fid

@@ -78,8 +78,8 @@ pub record IsMade (before after : State) (v : Fid) (name : List ℕ) (perm : ℕ
 -- a file that was created has the mode that the formula gives, is found by a walk, and listed
 abbrev pub CreatedIsFound : Type 0
 CreatedIsFound =
-    (state : State) (name : ℕ) (session : Session) (fid now : ℕ) (v : Fid) (new : List ℕ)
+    (state : State) (name : ℕ) (session : Session) (fid clock : ℕ) (v : Fid) (new : List ℕ)
     (perm mode : ℕ) (qid : Qid) (iounit : ℕ)
     → IsState state → Has state name session fid v
-    → let after = asked state name now (Tcreate fid new perm mode) in
+    → let after = asked state name clock (Tcreate fid new perm mode) in
     after.reply ≡ Some (Rcreate qid iounit) → IsMade state after.state v new perm

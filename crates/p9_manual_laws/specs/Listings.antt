@@ -20,14 +20,14 @@ data_before other rest = None
 
 -- a read, at a reading of the clock, of so many bytes at most
 pub record ReadAt : Type 0 where
-  pub now : ℕ
+  pub clock : ℕ
   pub count : ℕ
 
 -- the data of reads of a fid: the first is at the offset, and each other where the one before ended
 abbrev pub reads_from : State → (name fid offset : ℕ) → List ReadAt → Option (List (List ℕ))
 reads_from state name fid offset [] = Some []
 reads_from state name fid offset (read ∷ reads) =
-    let after = asked state name read.now (Tread fid offset read.count) in
+    let after = asked state name read.clock (Tread fid offset read.count) in
     data_before after.reply (λ bytes.
     reads_from after.state name fid (offset + length bytes) reads)
 

@@ -65,14 +65,14 @@ NoneElse state at v =
     (members_of (here v.trail) state.setting.table)
 
 -- a message is answered 'phase error', and changes nothing
-abbrev pub IsPhaseError : State → (name now : ℕ) → TMessage → Type 0
-IsPhaseError state name now m =
-    asked state name now m ≡ record { state = state; reply = Some (Rerror (text_of PhaseError)) }
+abbrev pub IsPhaseError : State → (name clock : ℕ) → TMessage → Type 0
+IsPhaseError state name clock m =
+    asked state name clock m ≡ record { state = state; reply = Some (Rerror (text_of PhaseError)) }
 
 -- a message ends the fid, with this reply, and changes nothing else
-abbrev pub EndsFid : State → (name now : ℕ) → Session → (fid : ℕ) → TMessage → RMessage → Type 0
-EndsFid state name now session fid m reply =
-    asked state name now m
+abbrev pub EndsFid : State → (name clock : ℕ) → Session → (fid : ℕ) → TMessage → RMessage → Type 0
+EndsFid state name clock session fid m reply =
+    asked state name clock m
     ≡ record { state = without_fid_of name session fid state; reply = Some reply }
 
 -- Of a node that was removed: it doesn't exist, and no walk arrives at it.
@@ -85,33 +85,33 @@ pub record IsGone (state : State) (at : NodeRef) : Type 0 where
       (names : List (List ℕ))
       → walk state.forest state.setting.table who trail (file_name ∷ names) ≡ Ok reached
       → file_ref (here reached) state.setting.table ≡ at → ⊥
-  pub stale : (name : ℕ) (session : Session) (fid now : ℕ) (v : Fid) (m : TMessage)
+  pub stale : (name : ℕ) (session : Session) (fid clock : ℕ) (v : Fid) (m : TMessage)
       → Has state name session fid v → fid_ref state.setting.table v ≡ at → AsksFile fid v m
-      → IsPhaseError state name now m
-  pub removed : (name : ℕ) (session : Session) (fid now : ℕ) (v : Fid)
+      → IsPhaseError state name clock m
+  pub removed : (name : ℕ) (session : Session) (fid clock : ℕ) (v : Fid)
       → Has state name session fid v → fid_ref state.setting.table v ≡ at
-      → EndsFid state name now session fid (Tremove fid) (Rerror (text_of PhaseError))
-  pub clunked : (name : ℕ) (session : Session) (fid now : ℕ) (v : Fid)
+      → EndsFid state name clock session fid (Tremove fid) (Rerror (text_of PhaseError))
+  pub clunked : (name : ℕ) (session : Session) (fid clock : ℕ) (v : Fid)
       → Has state name session fid v → fid_ref state.setting.table v ≡ at
-      → EndsFid state name now session fid (Tclunk fid) Rclunk
-  pub no_way : (name : ℕ) (session : Session) (fid now : ℕ) (v : Fid) (m : TMessage)
+      → EndsFid state name clock session fid (Tclunk fid) Rclunk
+  pub no_way : (name : ℕ) (session : Session) (fid clock : ℕ) (v : Fid) (m : TMessage)
       → Has state name session fid v → NoneElse state at v → GoesOn session fid v m
-      → IsPhaseError state name now m
+      → IsPhaseError state name clock m
 
 -- a file that was removed is gone
 abbrev pub RemovedIsGone : Type 0
 RemovedIsGone =
-    (state : State) (name : ℕ) (session : Session) (fid now : ℕ) (v : Fid) → IsState state
+    (state : State) (name : ℕ) (session : Session) (fid clock : ℕ) (v : Fid) → IsState state
     → Has state name session fid v
-    → let after = asked state name now (Tremove fid) in
+    → let after = asked state name clock (Tremove fid) in
     after.reply ≡ Some Rremove → IsGone after.state (fid_ref state.setting.table v)
 
 -- and stays so, whatever happens later
 abbrev pub RemovedStaysGone : Type 0
 RemovedStaysGone =
-    (state : State) (name : ℕ) (session : Session) (fid now : ℕ) (v : Fid) (events : List Marked)
-    → IsState state → Has state name session fid v → now < 2 ^ 32
+    (state : State) (name : ℕ) (session : Session) (fid clock : ℕ) (v : Fid) (events : List Marked)
+    → IsState state → Has state name session fid v → clock < 2 ^ 32
     → AllByRecursion (λ event. IsEvent event.0) events
-    → let after = asked state name now (Tremove fid) in
+    → let after = asked state name clock (Tremove fid) in
     after.reply ≡ Some Rremove
     → IsGone (run after.state events).state (fid_ref state.setting.table v)

@@ -66,10 +66,10 @@ pub record Stops (state : State) (v : Fid) (names : List (List ℕ)) (fault : Fa
 -- a walk of a fid leads where a walk in the mount table leads, for the fid's user from its trail
 abbrev pub WalkLeadsByTable : Type 0
 WalkLeadsByTable =
-    (state : State) (name : ℕ) (session : Session) (fid newfid now : ℕ) (v : Fid)
+    (state : State) (name : ℕ) (session : Session) (fid newfid clock : ℕ) (v : Fid)
     (names : List (List ℕ))
     → Has state name session fid v → v.opened ≡ None → newfid_fault fid newfid session.fids ≡ None
-    → let after = asked state name now (Twalk fid newfid names) in
+    → let after = asked state name clock (Twalk fid newfid names) in
     ((trail : List NodeRef) → walk_of state v names ≡ Ok trail
     → Arrives state name newfid v names trail after)
     × ((fault : Fault) → walk_of state v names ≡ Err fault → Stops state v names fault after)

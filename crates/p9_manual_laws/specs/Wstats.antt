@@ -39,9 +39,9 @@ pub record IsUntouched (there wanted : StatFields) : Type 0 where
 -- a wstat with every field untouched changes nothing
 abbrev pub UntouchedStatChangesNothing : Type 0
 UntouchedStatChangesNothing =
-    (state : State) (name : ℕ) (session : Session) (fid now : ℕ) (v : Fid) (n : Node)
+    (state : State) (name : ℕ) (session : Session) (fid clock : ℕ) (v : Fid) (n : Node)
     (wanted : StatFields)
     → Has state name session fid v → fid_file state.setting.table state.forest v ≡ Some n
     → IsUntouched (stat_of (fid_ref state.setting.table v) n) wanted
-    → asked state name now (Twstat fid wanted)
+    → asked state name clock (Twstat fid wanted)
     ≡ record { state = state; reply = Some Rwstat }

@@ -174,7 +174,7 @@ pub fn find_arrival_from<'a, T: Tree, A: Allocator + Copy, B: Allocator + Copy>(
     ensures at { IfOk result (λ arrival. arrival.at
         ≡ file_ref (here (stepped (trail_of channels.now) arrival.step)) table.now) }
     ensures file { IfOk result (λ arrival. node_of arrival.at forest.now ≡ Some arrival.file.now) }
-    ensures room { IfOk result (λ arrival. length (stepped (trail_of channels.now) arrival.step)
+    ensures places { IfOk result (λ arrival. length (stepped (trail_of channels.now) arrival.step)
         ≤ places_max) }
 {
     let trail = channels.trail();

@@ -184,7 +184,7 @@ fn find_child<'a, T: Tree, A: Allocator + Copy>(
     ensures err { IfErr result (λ fault. step_among forest.now (option_map who_view who.entry)
         trail.now name.now members.now ≡ Err fault) }
     ensures node { IfOk result (IsThere forest.now) }
-    ensures room { OnOk result (length trail.now < places_max) }
+    ensures places { OnOk result (length trail.now < places_max) }
 {
     let found = find_by(forest, members, name, who);
     if !found.alive {
@@ -267,7 +267,7 @@ pub fn find_arrival<'a, T: Tree, A: Allocator + Copy, B: Allocator + Copy>(
     ensures at { IfOk result (λ arrival. arrival.at
         ≡ file_ref (here (stepped trail.now arrival.step)) table.now) }
     ensures file { IfOk result (λ arrival. node_of arrival.at forest.now ≡ Some arrival.file.now) }
-    ensures room { IfOk result (λ arrival. length (stepped trail.now arrival.step) ≤ places_max) }
+    ensures places { IfOk result (λ arrival. length (stepped trail.now arrival.step) ≤ places_max) }
 {
     let row = table.position(trail.here());
     find_arrival_at(forest, table, trail, row, name, who)
@@ -292,7 +292,7 @@ fn find_arrival_at<'a, T: Tree, A: Allocator + Copy, B: Allocator + Copy>(
     ensures at { IfOk result (λ arrival. arrival.at
         ≡ file_ref (here (stepped trail.now arrival.step)) table.now) }
     ensures file { IfOk result (λ arrival. node_of arrival.at forest.now ≡ Some arrival.file.now) }
-    ensures room { IfOk result (λ arrival. length (stepped trail.now arrival.step) ≤ places_max) }
+    ensures places { IfOk result (λ arrival. length (stepped trail.now arrival.step) ≤ places_max) }
 {
     let members = table.members_at(row, trail.here());
     if name == ".." {
@@ -322,7 +322,7 @@ pub(crate) fn arrive_up<'a, T: Tree, A: Allocator + Copy, B: Allocator + Copy>(
     ensures at { IfOk result (λ arrival. arrival.at
         ≡ file_ref (here (stepped trail.now arrival.step)) table.now) }
     ensures file { IfOk result (λ arrival. node_of arrival.at forest.now ≡ Some arrival.file.now) }
-    ensures room { IfOk result (λ arrival. length (stepped trail.now arrival.step) ≤ places_max) }
+    ensures places { IfOk result (λ arrival. length (stepped trail.now arrival.step) ≤ places_max) }
 {
     trail.well_formed();
     if let Some(fault) = dir_fault(forest, members) {
@@ -352,7 +352,7 @@ pub(crate) fn arrive_down<'a, T: Tree, A: Allocator + Copy, B: Allocator + Copy>
     ensures at { IfOk result (λ arrival. arrival.at
         ≡ file_ref (here (stepped trail.now arrival.step)) table.now) }
     ensures file { IfOk result (λ arrival. node_of arrival.at forest.now ≡ Some arrival.file.now) }
-    ensures room { IfOk result (λ arrival. length (stepped trail.now arrival.step) ≤ places_max) }
+    ensures places { IfOk result (λ arrival. length (stepped trail.now arrival.step) ≤ places_max) }
 {
     let Child { place, node } = find_child(forest, trail, members, name, who)?;
     match table.position(place) {

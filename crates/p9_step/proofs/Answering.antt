@@ -49,7 +49,7 @@ use Rattle.p9_step.specs.Memory.{no_memory_reply, frame_may_fail}
 use Rattle.p9_step.specs.Remove.{removal, remove_answer}
 use Rattle.p9_step.specs.Request.{is_version, request_of, tag_of}
 use Rattle.p9_step.specs.Sound.{IsMsize, IsState}
-use Rattle.p9_step.specs.State.{Session, State, changed_session, io_header, room_of, session_at}
+use Rattle.p9_step.specs.State.{Session, State, changed_session, io_header, iounit_of, session_at}
 use Rattle.p9_step.specs.Version.{msize_min}
 use Rattle.p9_step.specs.Step.{Stepped, answered, message_answer, with_outcome}
 use Rattle.p9_step.proofs.Done.{IsOfTest, OnDone, done-err, done-is, done-map, done-ok, refused-is}
@@ -141,7 +141,7 @@ length-spelling tag m =
 -- what a session has whose version is set: room for every reply of the machine
 pub record IsWide (session : Session) : Type 0 where
   pub wide : msize_min ≤ reply_max session
-  pub room : io_header + room_of session ≤ reply_max session
+  pub room : io_header + iounit_of session ≤ reply_max session
   pub frames : reply_max session ≤ msize_max
 
 wide_msize : (msize : Option ℕ) → is_some msize ≡ true → IsMsize msize

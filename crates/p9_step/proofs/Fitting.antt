@@ -36,7 +36,7 @@ use Rattle.p9_step.specs.Open.{is_cut, truncated}
 use Rattle.p9_step.specs.Qid.{qid_of}
 use Rattle.p9_step.specs.Read.{entry_bytes, fitting}
 use Rattle.p9_step.specs.Laws.{refusal_max}
-use Rattle.p9_step.specs.State.{Session, Setting, fid_ref, io_header, room_of}
+use Rattle.p9_step.specs.State.{Session, Setting, fid_ref, io_header, iounit_of}
 use Rattle.p9_step.specs.Version.{msize_min}
 use Rattle.p9_step.specs.Walk.{Arrival, arrival, arrived_by, step_and_rest, trail_after, walked}
 use Rattle.p9_step.proofs.Lawful.{node-sound}
@@ -248,7 +248,7 @@ module _ (most : ℕ) (setting : Setting) (forest : List Server) (session : Sess
       })
     ]
 
-    module _ (room : io_header + room_of session ≤ most) (frames : most ≤ msize_max) where
+    module _ (room : io_header + iounit_of session ≤ most) (frames : most ≤ msize_max) where
       pub replies-open : (now fid : ℕ) (o : Outcome) → OpenDone setting forest session now fid o
           → Replies most o
       unfolding edited
@@ -296,7 +296,7 @@ module _ (most : ℕ) (setting : Setting) (forest : List Server) (session : Sess
           outcome = record {
             changes = AddNode target.server node ∷ EditNode target (Mark done.v.user now) ∷ [];
             session = entered fid (done.v.trail ++ place ∷ []) done.opening session;
-            reply = Rcreate (qid_of place node) (room_of session);
+            reply = Rcreate (qid_of place node) (iounit_of session);
           }
 
           same : outcome ≡ o
@@ -311,7 +311,7 @@ module _ (most : ℕ) (setting : Setting) (forest : List Server) (session : Sess
           qid : QidNumbersFit (qid_of place node)
           qid = qid-small place node small (omega arith)
 
-      reads-fit : (bytes : List ℕ) (count : ℕ) → length bytes ≤ min count (room_of session)
+      reads-fit : (bytes : List ℕ) (count : ℕ) → length bytes ≤ min count (iounit_of session)
           → (RFits (Rread bytes)) × (7 + r_len (Rread bytes) ≤ most)
       reads-fit bytes count le = (omega (arith, le, room, frames), omega (arith, le, room))
 
@@ -319,8 +319,8 @@ module _ (most : ℕ) (setting : Setting) (forest : List Server) (session : Sess
           → ReadDone setting forest session now fid offset count o → Replies most o
       replies-read now fid offset count o done = elim done.is [
         | inl file ↦ (let bytes =
-            read_from offset (min count (room_of session)) done.n.bytes in
-            let le : length bytes ≤ min count (room_of session) =
+            read_from offset (min count (iounit_of session)) done.n.bytes in
+            let le : length bytes ≤ min count (iounit_of session) =
             simp (length-take) (omega arith) in
             let fit = reads-fit bytes count le in
             subst (Replies most) (sym file.1) (record {
@@ -330,9 +330,9 @@ module _ (most : ℕ) (setting : Setting) (forest : List Server) (session : Sess
               plain = refl;
             }))
         | inr dir ↦ (let bytes =
-            flat_map entry_bytes (fitting (min count (room_of session)) dir.0) in
+            flat_map entry_bytes (fitting (min count (iounit_of session)) dir.0) in
             let fit =
-            reads-fit bytes count (length-fitting (min count (room_of session)) dir.0) in
+            reads-fit bytes count (length-fitting (min count (iounit_of session)) dir.0) in
             subst (Replies most) (sym dir.1) (record {
               numbers = tt;
               fits = fit.0;

@@ -34,7 +34,7 @@ use Rattle.p9_step.specs.Opening.{is_plain_read, is_read, newly_opened}
 use Rattle.p9_step.specs.Qid.{qid_of}
 use Rattle.p9_step.specs.Read.{cursor_at, fitting, listed_session, readable}
 use Rattle.p9_step.specs.Sound.{IsWellOpen, IsFid, IsOpenOn, IsSession}
-use Rattle.p9_step.specs.State.{Session, Setting, fid_file, fid_ref, room_of}
+use Rattle.p9_step.specs.State.{Session, Setting, fid_file, fid_ref, iounit_of}
 use Rattle.p9_step.specs.Write.{is_writable, write_offset}
 use Rattle.p9_step.specs.declared.opening.Opening.{Opening}
 use Rattle.p9_step.proofs.Changes.{evolves-all, keeps-mark}
@@ -243,9 +243,9 @@ module _ (setting : Setting) (forest : List Server) (session : Session) (now : â
     | inr dir â†¦ subst (Kept setting forest) (sym dir.1)
         (kept-quiet setting forest session now ready
         (listed_session fid done.opened offset (cursor_at offset done.opened)
-        (fitting (min count (room_of session)) dir.0) session) _
+        (fitting (min count (iounit_of session)) dir.0) session) _
         (listed-kept fid done.v done.opened offset (cursor_at offset done.opened)
-        (fitting (min count (room_of session)) dir.0) done.found
+        (fitting (min count (iounit_of session)) dir.0) done.found
         (readable-is done.v.opened done.opened done.held)))
   ]
 
@@ -331,7 +331,7 @@ module _ (setting : Setting) (forest : List Server) (session : Session) (now : â
       outcome = record {
         changes = changes;
         session = entered fid (v.trail ++ place âˆ· []) done.opening session;
-        reply = Rcreate (qid_of place node) (room_of session);
+        reply = Rcreate (qid_of place node) (iounit_of session);
       }
 
       same : outcome â‰¡ o
@@ -350,7 +350,7 @@ module _ (setting : Setting) (forest : List Server) (session : Session) (now : â
       add = record {
         dir = target.number;
         can = record {
-          room = can.room;
+          number_left = can.room;
           into = ap (Î» q. option_map_or is_dir q false) done.there âˆ™ can.into;
           free = can.free;
           small = omega arith;

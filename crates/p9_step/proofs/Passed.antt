@@ -46,7 +46,7 @@ use Rattle.p9_step.specs.Read.{read_answer, read_dir, read_file, readable}
 use Rattle.p9_step.specs.Remove.{removal, remove_answer}
 use Rattle.p9_step.specs.Rights.{may_write_parent}
 use Rattle.p9_step.specs.Stat.{stat_answer}
-use Rattle.p9_step.specs.State.{Session, SessionRow, Setting, fid_file, fid_ref, room_of}
+use Rattle.p9_step.specs.State.{Session, SessionRow, Setting, fid_file, fid_ref, iounit_of}
 use Rattle.p9_step.specs.Version.{begun, is_known, msize_min, not_spoken, version_answer}
 use Rattle.p9_step.specs.Walk.{ended_walk, moved, newfid_fault, walk_answer, walked}
 use Rattle.p9_step.specs.Write.{is_writable, write_answer, write_file, write_offset}
@@ -123,7 +123,7 @@ pub record OpenDone (setting : Setting) (forest : List Server) (session : Sessio
     changes = truncation v.user now (fid_ref setting.table v) n opening;
     session = opened_session fid opening session;
     reply =
-        Ropen (qid_of (fid_ref setting.table v) (truncated v.user now n opening)) (room_of session);
+        Ropen (qid_of (fid_ref setting.table v) (truncated v.user now n opening)) (iounit_of session);
   }
 
 -- what holds of a create that no test of its directory refuses
@@ -165,15 +165,15 @@ pub record ReadDone (setting : Setting) (forest : List Server) (session : Sessio
   pub is : ((is_dir n ≡ false) × (o ≡ record {
     changes = EditNode (fid_ref setting.table v) (Touch now) ∷ [];
     session = session;
-    reply = Rread (read_from offset (min count (room_of session)) n.bytes);
+    reply = Rread (read_from offset (min count (iounit_of session)) n.bytes);
   }))
       ⊎ ((left : List UnionEntry)
       × (o ≡ record {
         changes = [];
         session =
             listed_session fid opened offset (cursor_at offset opened)
-            (fitting (min count (room_of session)) left) session;
-        reply = Rread (flat_map entry_bytes (fitting (min count (room_of session)) left));
+            (fitting (min count (iounit_of session)) left) session;
+        reply = Rread (flat_map entry_bytes (fitting (min count (iounit_of session)) left));
       }))
 
 -- a write, of no bytes or of some
@@ -425,8 +425,8 @@ module _ (setting : Setting) (forest : List Server) (session : Session) where
       (λ v found. done-given (ReadDone setting forest session now fid offset count) _ _ _ refl
       (λ opened held. done-given (ReadDone setting forest session now fid offset count) _ _ _ refl
       (λ n there. done-if (ReadDone setting forest session now fid offset count) (is_dir n)
-      (read_dir setting forest session fid v opened offset (min count (room_of session)))
-      (read_file session now (fid_ref setting.table v) n offset (min count (room_of session)))
+      (read_dir setting forest session fid v opened offset (min count (iounit_of session)))
+      (read_file session now (fid_ref setting.table v) n offset (min count (iounit_of session)))
       (λ dir. done-need (ReadDone setting forest session now fid offset count) _ _ _ refl
       (λ begins. listed v opened n found held there
       (listing_behind (cursor_at offset opened) setting.table forest (who_of setting v.user) (here v.trail)) _
@@ -443,7 +443,7 @@ module _ (setting : Setting) (forest : List Server) (session : Session) where
     where
       done : (v : Fid) (opened : Opened) (n : Node) → fid_at fid session.fids ≡ Some v
           → readable v.opened ≡ Some opened → fid_file setting.table forest v ≡ Some n
-          → (left given : List UnionEntry) → fitting (min count (room_of session)) left ≡ given
+          → (left given : List UnionEntry) → fitting (min count (iounit_of session)) left ≡ given
           → ReadDone setting forest session now fid offset count (record {
             changes = [];
             session =
@@ -462,7 +462,7 @@ module _ (setting : Setting) (forest : List Server) (session : Session) where
 
       listed : (v : Fid) (opened : Opened) (n : Node) → fid_at fid session.fids ≡ Some v
           → readable v.opened ≡ Some opened → fid_file setting.table forest v ≡ Some n
-          → (left given : List UnionEntry) → fitting (min count (room_of session)) left ≡ given
+          → (left given : List UnionEntry) → fitting (min count (iounit_of session)) left ≡ given
           → OnDone (ReadDone setting forest session now fid offset count)
           (entries_or_fault session fid opened offset (cursor_at offset opened) left given)
       listed v opened n found held there [] given same =

@@ -14,11 +14,11 @@ abbrev pub without : ℕ → Session → Session
 without fid session = record session { fids = without_fid fid session.fids }
 
 -- the fid goes, with what its end changes
-abbrev pub clunk_answer : Setting → List Server → Session → (now fid : ℕ) → Answer
-clunk_answer setting forest session now fid =
+abbrev pub clunk_answer : Setting → List Server → Session → (clock fid : ℕ) → Answer
+clunk_answer setting forest session clock fid =
     obtain (fid_at fid session.fids) UnknownFid (λ v.
     Ok (record {
-      changes = on_end setting.table now forest v;
+      changes = on_end setting.table clock forest v;
       session = without fid session;
       reply = Rclunk;
     }))

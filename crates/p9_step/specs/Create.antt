@@ -24,7 +24,7 @@ use Rattle.p9_space.specs.Walk.{is_alive, is_alive_dir}
 use Rattle.p9_wire.specs.Message.{Rcreate}
 use Rattle.p9_fids.specs.Fid.{Fid, changed_fid, fid_at}
 use Rattle.p9_step.specs.declared.opening.Opening.{Opening}
-use Rattle.p9_step.specs.State.{Setting, Session, room_of, who_of}
+use Rattle.p9_step.specs.State.{Setting, Session, iounit_of, who_of}
 use Rattle.p9_step.specs.Answer.{Answer}
 use Rattle.p9_step.specs.ForestChange.{AddNode, EditNode, Mark}
 use Rattle.p9_step.specs.Inherit.{inherited}
@@ -32,8 +32,8 @@ use Rattle.p9_step.specs.Opening.{is_plain_read, newly_opened, opening_of}
 use Rattle.p9_step.specs.Qid.{qid_of}
 
 -- the node that is made: the user's, of the group of its directory
-abbrev pub created : (user : List ℕ) (now number : ℕ) → Node → (name : List ℕ) → Mode → Node
-created user now number dir name asked = record {
+abbrev pub created : (user : List ℕ) (clock number : ℕ) → Node → (name : List ℕ) → Mode → Node
+created user clock number dir name asked = record {
   number = number;
   parent = Some dir.number;
   name = name;
@@ -42,8 +42,8 @@ created user now number dir name asked = record {
   gid = dir.gid;
   muid = user;
   version = 0;
-  atime = now;
-  mtime = now;
+  atime = clock;
+  mtime = clock;
   bytes = [];
 }
 
@@ -60,22 +60,22 @@ entered fid trail opening session = record session {
 }
 
 -- the node is made in the directory, which is marked, and the fid goes on to it
-abbrev pub creation : List Server → Session → (now fid : ℕ) → Fid → NodeRef → Node
+abbrev pub creation : List Server → Session → (clock fid : ℕ) → Fid → NodeRef → Node
     → (name : List ℕ) → Mode → Opening → Answer
-creation forest session now fid v target dir name asked opening =
+creation forest session clock fid v target dir name asked opening =
     let at = beside target (next_of target.server forest) in
-    let n = created v.user now at.number dir name asked in
+    let n = created v.user clock at.number dir name asked in
     Ok (record {
-      changes = AddNode target.server n ∷ EditNode target (Mark v.user now) ∷ [];
+      changes = AddNode target.server n ∷ EditNode target (Mark v.user clock) ∷ [];
       session = entered fid (v.trail ++ at ∷ []) opening session;
-      reply = Rcreate (qid_of at n) (room_of session);
+      reply = Rcreate (qid_of at n) (iounit_of session);
     })
 
 -- the tests in their order: of the request, of the union where the fid is, and of the directory of
 -- the first member that permits creation
 abbrev pub create_answer : Setting → List Server → Session
-    → (now fid : ℕ) (name : List ℕ) (perm bits : ℕ) → Answer
-create_answer setting forest session now fid name perm bits =
+    → (clock fid : ℕ) (name : List ℕ) (perm bits : ℕ) → Answer
+create_answer setting forest session clock fid name perm bits =
     obtain (fid_at fid session.fids) UnknownFid (λ v.
     need (is_none v.opened) FidOpen (
     need (is_name name) BadFileName (
@@ -93,4 +93,4 @@ create_answer setting forest session now fid name perm bits =
     need (is_none (child_in target name forest)) FileExists (
     need (nat_lt (next_of target.server forest) next_max) QidsUsedUp (
     need (nat_lt (length v.trail) places_max) PathTooDeep (
-    creation forest session now fid v target dir name asked opening)))))))))))))))
+    creation forest session clock fid v target dir name asked opening)))))))))))))))

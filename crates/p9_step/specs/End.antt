@@ -13,12 +13,12 @@ use Rattle.p9_step.specs.ForestChange.{ForestChange, EditNode, DropNode, Mark, a
 
 -- the directory that a node is in is marked, where there is one
 abbrev pub parent_marked : List ℕ → ℕ → NodeRef → Option ℕ → List ForestChange
-parent_marked user now at parent =
-    option_map_or (λ number. EditNode (beside at number) (Mark user now) ∷ []) parent []
+parent_marked user clock at parent =
+    option_map_or (λ number. EditNode (beside at number) (Mark user clock) ∷ []) parent []
 
 -- a node is taken out, and its directory marked
 abbrev pub taken_out : List ℕ → ℕ → NodeRef → Node → List ForestChange
-taken_out user now at n = DropNode at ∷ parent_marked user now at n.parent
+taken_out user clock at n = DropNode at ∷ parent_marked user clock at n.parent
 
 -- the fid is open, with remove-on-close
 abbrev pub removes_on_close : Fid → Bool
@@ -27,15 +27,15 @@ removes_on_close v = option_map_or (λ opened. opened.remove_on_close) v.opened 
 -- what the end of a fid changes: a file that is open with remove-on-close goes, without a further
 -- test
 abbrev pub on_end : List MountRow → ℕ → List Server → Fid → List ForestChange
-on_end table now forest v =
+on_end table clock forest v =
     if removes_on_close v
-    then option_map_or (taken_out v.user now (fid_ref table v)) (fid_file table forest v) []
+    then option_map_or (taken_out v.user clock (fid_ref table v)) (fid_file table forest v) []
     else []
 
 -- what the end of all of them changes, by rising number, each in the forest that the one before
 -- left
 abbrev pub on_ends : List MountRow → ℕ → List Server → List FidRow → List ForestChange
-on_ends table now forest [] = []
-on_ends table now forest (row ∷ rows) =
-    let changes = on_end table now forest row.1 in
-    changes ++ on_ends table now (all_applied changes forest) rows
+on_ends table clock forest [] = []
+on_ends table clock forest (row ∷ rows) =
+    let changes = on_end table clock forest row.1 in
+    changes ++ on_ends table clock (all_applied changes forest) rows

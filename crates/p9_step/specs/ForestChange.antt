@@ -10,16 +10,16 @@ use Rattle.p9_tree.specs.Forest.{forest_changed_at, tree_changed_at}
 
 -- what is changed in one node
 pub data Edit : Type 0 where
-  Mark : (user : List ℕ) (now : ℕ) → Edit
-  Touch : (now : ℕ) → Edit
+  Mark : (user : List ℕ) (clock : ℕ) → Edit
+  Touch : (clock : ℕ) → Edit
   Overwrite : (offset : ℕ) (bytes : List ℕ) → Edit
   Cut : (size : ℕ) → Edit
   Rewrite : (change : Change) → Edit
 
 -- the node after an edit
 unfoldable pub edited : Edit → Node → Node
-edited (Mark user now) = marked user now
-edited (Touch now) = touched now
+edited (Mark user clock) = marked user clock
+edited (Touch clock) = touched clock
 edited (Overwrite offset bytes) = with_bytes (overwritten offset bytes)
 edited (Cut size) = with_bytes (cut_to size)
 edited (Rewrite change) = changed change

@@ -75,9 +75,9 @@ pub record IsAnswered (state : State) (name : ℕ) (session : Session) (frame : 
 -- every frame of a session that is open gets one reply
 abbrev pub EveryFrameIsAnswered : Type 0
 EveryFrameIsAnswered =
-    (state : State) (name : ℕ) (session : Session) (frame : List ℕ) (now : ℕ) (refused : Bool)
+    (state : State) (name : ℕ) (session : Session) (frame : List ℕ) (clock : ℕ) (refused : Bool)
     → IsState state → session_at name state.sessions ≡ Some session → IsTrue (is_frame frame)
     → IsBytes frame
     → (reply : RMessage)
-    × IsAnswered state name session frame (runs_out state session frame now refused)
-    (step state (Message name frame now) refused) reply
+    × IsAnswered state name session frame (runs_out state session frame clock refused)
+    (step state (Message name frame clock) refused) reply

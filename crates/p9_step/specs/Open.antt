@@ -17,7 +17,7 @@ use Rattle.p9_space.specs.Table.{MountRow}
 use Rattle.p9_wire.specs.Message.{Ropen}
 use Rattle.p9_fids.specs.Fid.{changed_fid, fid_at, open_count, opened_as}
 use Rattle.p9_step.specs.declared.opening.Opening.{Opening}
-use Rattle.p9_step.specs.State.{Setting, Session, SessionRow, fid_file, fid_ref, room_of, who_of}
+use Rattle.p9_step.specs.State.{Setting, Session, SessionRow, fid_file, fid_ref, iounit_of, who_of}
 use Rattle.p9_step.specs.Answer.{Answer}
 use Rattle.p9_step.specs.ForestChange.{ForestChange, Cut, EditNode, Mark, edited}
 use Rattle.p9_step.specs.Opening.{is_plain_read, newly_opened, opening_of, wanted_by}
@@ -38,7 +38,7 @@ abbrev pub is_exclusive_kind : Kind → Bool
 is_exclusive_kind Directory = false
 is_exclusive_kind (File flags) = flags.exclusive
 
--- one fid at a time may have it open
+-- exclusive: one fid at a time may have it open
 abbrev pub is_exclusive : Node → Bool
 is_exclusive n = is_exclusive_kind n.mode.kind
 
@@ -47,7 +47,7 @@ abbrev pub is_in_use : List MountRow → NodeRef → List SessionRow → Bool
 is_in_use table at sessions =
     list_any (λ session. nat_lt 0 (open_count table at session.fids)) (values_of sessions)
 
--- the file is for one fid at a time, and a fid of some session has it open
+-- the file is taken: it is exclusive, and a fid of some session has it open
 abbrev pub is_taken : List MountRow → List SessionRow → NodeRef → Node → Bool
 is_taken table sessions at n = is_exclusive n && is_in_use table at sessions
 
@@ -63,13 +63,13 @@ is_cut n opening = opening.truncates && not (is_append_only n)
 
 -- truncation cuts the file to nothing, and marks it
 abbrev pub truncation : List ℕ → ℕ → NodeRef → Node → Opening → List ForestChange
-truncation user now at n opening =
-    if is_cut n opening then EditNode at (Cut 0) ∷ EditNode at (Mark user now) ∷ [] else []
+truncation user clock at n opening =
+    if is_cut n opening then EditNode at (Cut 0) ∷ EditNode at (Mark user clock) ∷ [] else []
 
 -- the file after it
 abbrev pub truncated : List ℕ → ℕ → Node → Opening → Node
-truncated user now n opening =
-    if is_cut n opening then edited (Mark user now) (edited (Cut 0) n) else n
+truncated user clock n opening =
+    if is_cut n opening then edited (Mark user clock) (edited (Cut 0) n) else n
 
 -- the fid is open
 abbrev pub opened_session : ℕ → Opening → Session → Session
@@ -78,9 +78,9 @@ opened_session fid opening session = record session {
 }
 
 -- the tests in their order
-abbrev pub open_answer : Setting → List Server → List SessionRow → Session → (now fid bits : ℕ)
+abbrev pub open_answer : Setting → List Server → List SessionRow → Session → (clock fid bits : ℕ)
     → Answer
-open_answer setting forest sessions session now fid bits =
+open_answer setting forest sessions session clock fid bits =
     obtain (fid_at fid session.fids) UnknownFid (λ v.
     need (is_none v.opened) FidOpen (
     obtain (fid_file setting.table forest v) PhaseError (λ n.
@@ -90,7 +90,7 @@ open_answer setting forest sessions session now fid bits =
     need (may_open (who_of setting v.user) forest at n opening) PermissionDenied (
     need (not (is_taken setting.table sessions at n)) ExclusiveUse (
     Ok (record {
-      changes = truncation v.user now at n opening;
+      changes = truncation v.user clock at n opening;
       session = opened_session fid opening session;
-      reply = Ropen (qid_of at (truncated v.user now n opening)) (room_of session);
+      reply = Ropen (qid_of at (truncated v.user clock n opening)) (iounit_of session);
     }))))))))

@@ -17,7 +17,7 @@ use Rattle.p9_fids.specs.declared.opened.Cursor.{Cursor}
 use Rattle.p9_fids.specs.declared.opened.Opened.{Opened}
 use Rattle.p9_fids.specs.Fid.{Fid, changed_fid, fid_at, opened_as}
 use Rattle.p9_fids.specs.Opened.{reads}
-use Rattle.p9_step.specs.State.{Setting, Session, fid_file, fid_ref, room_of, who_of}
+use Rattle.p9_step.specs.State.{Setting, Session, fid_file, fid_ref, iounit_of, who_of}
 use Rattle.p9_step.specs.Answer.{Answer}
 use Rattle.p9_step.specs.ForestChange.{EditNode, Touch}
 use Rattle.p9_step.specs.Listing.{UnionEntry, cursor_of, listing_behind}
@@ -26,10 +26,10 @@ use Rattle.p9_step.specs.Qid.{stat_of}
 -- A file.
 
 -- the bytes from the offset on that are there and have room; the time of the last read moves
-abbrev pub read_file : Session → (now : ℕ) → NodeRef → Node → (offset room : ℕ) → Answer
-read_file session now at n offset room =
+abbrev pub read_file : Session → (clock : ℕ) → NodeRef → Node → (offset room : ℕ) → Answer
+read_file session clock at n offset room =
     Ok (record {
-      changes = EditNode at (Touch now) ∷ [];
+      changes = EditNode at (Touch clock) ∷ [];
       session = session;
       reply = Rread (read_from offset room n.bytes);
     })
@@ -99,11 +99,11 @@ readable None = None
 readable (Some opened) = if reads opened.mode then Some opened else None
 
 -- the tests in their order
-abbrev pub read_answer : Setting → List Server → Session → (now fid offset count : ℕ) → Answer
-read_answer setting forest session now fid offset count =
+abbrev pub read_answer : Setting → List Server → Session → (clock fid offset count : ℕ) → Answer
+read_answer setting forest session clock fid offset count =
     obtain (fid_at fid session.fids) UnknownFid (λ v.
     obtain (readable v.opened) FidNotOpen (λ opened.
     obtain (fid_file setting.table forest v) PhaseError (λ n.
-    let room = min count (room_of session) in
+    let room = min count (iounit_of session) in
     if is_dir n then read_dir setting forest session fid v opened offset room
-    else read_file session now (fid_ref setting.table v) n offset room)))
+    else read_file session clock (fid_ref setting.table v) n offset room)))

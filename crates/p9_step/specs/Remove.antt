@@ -15,17 +15,17 @@ use Rattle.p9_step.specs.Rights.{may_write_parent}
 
 -- the removal, in a session that the fid has left
 abbrev pub removal : Setting → List Server → Session → ℕ → Fid → Answer
-removal setting forest left now v =
+removal setting forest left clock v =
     obtain (fid_file setting.table forest v) PhaseError (λ n.
     let at = fid_ref setting.table v in
     need (is_some n.parent) IsRoot (
     need (may_write_parent (who_of setting v.user) forest at n) PermissionDenied (
     need (not (has_children_of at forest)) NotEmpty (
-    Ok (record { changes = taken_out v.user now at n; session = left; reply = Rremove })))))
+    Ok (record { changes = taken_out v.user clock at n; session = left; reply = Rremove })))))
 
 -- a refused removal is answered too, since its fid ends
-abbrev pub remove_answer : Setting → List Server → Session → (now fid : ℕ) → Answer
-remove_answer setting forest session now fid =
+abbrev pub remove_answer : Setting → List Server → Session → (clock fid : ℕ) → Answer
+remove_answer setting forest session clock fid =
     obtain (fid_at fid session.fids) UnknownFid (λ v.
     let left = without fid session in
-    Ok (outcome_of left (removal setting forest left now v)))
+    Ok (outcome_of left (removal setting forest left clock v)))

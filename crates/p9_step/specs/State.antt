@@ -64,8 +64,8 @@ abbrev pub io_header : ℕ
 io_header = 24
 
 -- what a read or a write of a session may carry, its iounit; nothing before a version
-abbrev pub room_of : Session → ℕ
-room_of session = option_map_or (λ msize. msize - io_header) session.msize 0
+abbrev pub iounit_of : Session → ℕ
+iounit_of session = option_map_or (λ msize. msize - io_header) session.msize 0
 
 -- the file of a fid, whether it exists or not: the first member of the place where its trail ends
 abbrev pub fid_ref : List MountRow → Fid → NodeRef

@@ -32,42 +32,42 @@ use Rattle.p9_step.specs.Event.{Event, Open, Message, Close}
 -- each message, in the manual's order
 abbrev pub message_answer : Setting → List Server → List SessionRow → Session → ℕ → TMessage
     → Answer
-message_answer setting forest sessions session now (Tversion msize version) =
-    version_answer setting forest session now msize version
-message_answer setting forest sessions session now (Tauth afid uname aname) = Err NoAuthentication
-message_answer setting forest sessions session now (Tattach fid afid uname aname) =
+message_answer setting forest sessions session clock (Tversion msize version) =
+    version_answer setting forest session clock msize version
+message_answer setting forest sessions session clock (Tauth afid uname aname) = Err NoAuthentication
+message_answer setting forest sessions session clock (Tattach fid afid uname aname) =
     attach_answer setting forest session fid afid uname aname
-message_answer setting forest sessions session now (Tflush oldtag) =
+message_answer setting forest sessions session clock (Tflush oldtag) =
     Ok (record { changes = []; session = session; reply = Rflush })
-message_answer setting forest sessions session now (Twalk fid newfid names) =
+message_answer setting forest sessions session clock (Twalk fid newfid names) =
     walk_answer setting forest session fid newfid names
-message_answer setting forest sessions session now (Topen fid mode) =
-    open_answer setting forest sessions session now fid mode
-message_answer setting forest sessions session now (Tcreate fid name perm mode) =
-    create_answer setting forest session now fid name perm mode
-message_answer setting forest sessions session now (Tread fid offset count) =
-    read_answer setting forest session now fid offset count
-message_answer setting forest sessions session now (Twrite fid offset bytes) =
-    write_answer setting forest session now fid offset bytes
-message_answer setting forest sessions session now (Tclunk fid) =
-    clunk_answer setting forest session now fid
-message_answer setting forest sessions session now (Tremove fid) =
-    remove_answer setting forest session now fid
-message_answer setting forest sessions session now (Tstat fid) = stat_answer setting forest session fid
-message_answer setting forest sessions session now (Twstat fid stat) =
-    wstat_answer setting forest session now fid stat
+message_answer setting forest sessions session clock (Topen fid mode) =
+    open_answer setting forest sessions session clock fid mode
+message_answer setting forest sessions session clock (Tcreate fid name perm mode) =
+    create_answer setting forest session clock fid name perm mode
+message_answer setting forest sessions session clock (Tread fid offset count) =
+    read_answer setting forest session clock fid offset count
+message_answer setting forest sessions session clock (Twrite fid offset bytes) =
+    write_answer setting forest session clock fid offset bytes
+message_answer setting forest sessions session clock (Tclunk fid) =
+    clunk_answer setting forest session clock fid
+message_answer setting forest sessions session clock (Tremove fid) =
+    remove_answer setting forest session clock fid
+message_answer setting forest sessions session clock (Tstat fid) = stat_answer setting forest session fid
+message_answer setting forest sessions session clock (Twstat fid stat) =
+    wstat_answer setting forest session clock fid stat
 
 -- the same of a frame, which may have no request
 abbrev pub frame_answer : Setting → List Server → List SessionRow → Session → ℕ → List ℕ → Answer
-frame_answer setting forest sessions session now frame =
-    and_then (request_of session frame) (message_answer setting forest sessions session now)
+frame_answer setting forest sessions session clock frame =
+    and_then (request_of session frame) (message_answer setting forest sessions session clock)
 
 -- an allocation failed in a request of a session that may be answered so
 abbrev pub runs_out : State → Session → List ℕ → ℕ → Bool → Bool
-runs_out state session frame now refused =
+runs_out state session frame clock refused =
     refused
     && frame_may_fail frame
-    (frame_answer state.setting state.forest state.sessions session now frame)
+    (frame_answer state.setting state.forest state.sessions session clock frame)
 
 -- the state after an event, and the bytes that answer it
 pub record Stepped : Type 0 where
@@ -96,10 +96,10 @@ answered state name session frame refused answer =
     else with_outcome state name frame (outcome_of session answer)
 
 -- a session ends, and its fids by rising number
-abbrev pub closed : State → (name now : ℕ) → Session → Stepped
-closed state name now session = record {
+abbrev pub closed : State → (name clock : ℕ) → Session → Stepped
+closed state name clock session = record {
   state = record state {
-    forest = all_applied (on_ends state.setting.table now state.forest session.fids) state.forest;
+    forest = all_applied (on_ends state.setting.table clock state.forest session.fids) state.forest;
     sessions = without_session name state.sessions;
   };
   reply = [];
@@ -113,15 +113,15 @@ step state (Open name) refused =
       state = record state { sessions = with_session name fresh state.sessions };
       reply = [];
     }
-step state (Message name frame now) refused =
+step state (Message name frame clock) refused =
     if is_frame frame
     then option_map_or
     (λ session. answered state name session frame refused
-    (frame_answer state.setting state.forest state.sessions session now frame))
+    (frame_answer state.setting state.forest state.sessions session clock frame))
     (session_at name state.sessions) (unchanged state)
     else unchanged state
-step state (Close name now) refused =
-    option_map_or (closed state name now) (session_at name state.sessions) (unchanged state)
+step state (Close name clock) refused =
+    option_map_or (closed state name clock) (session_at name state.sessions) (unchanged state)
 
 -- an event, and its mark: whether an allocation failed
 abbrev pub Marked : Type 0

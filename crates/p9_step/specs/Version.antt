@@ -21,9 +21,9 @@ abbrev pub is_known : List ℕ → Bool
 is_known version = bytes_eq version (codes "9P2000") || starts_with nat_eq version (codes "9P2000.")
 
 -- all fids end, and frames have at most so many bytes from now on
-abbrev pub begun : Setting → List Server → Session → (now msize : ℕ) → Answer
-begun setting forest session now msize = Ok (record {
-  changes = on_ends setting.table now forest session.fids;
+abbrev pub begun : Setting → List Server → Session → (clock msize : ℕ) → Answer
+begun setting forest session clock msize = Ok (record {
+  changes = on_ends setting.table clock forest session.fids;
   session = record { msize = Some msize; fids = [] };
   reply = Rversion msize (codes "9P2000");
 })
@@ -34,9 +34,9 @@ not_spoken session msize =
     Ok (record { changes = []; session = session; reply = Rversion msize (codes "unknown") })
 
 -- the tests in their order
-abbrev pub version_answer : Setting → List Server → Session → (now msize : ℕ) (version : List ℕ)
+abbrev pub version_answer : Setting → List Server → Session → (clock msize : ℕ) (version : List ℕ)
     → Answer
-version_answer setting forest session now msize version =
+version_answer setting forest session clock msize version =
     need (nat_le msize_min msize) SmallMsize (
-    if is_known version then begun setting forest session now (min msize msize_max)
+    if is_known version then begun setting forest session clock (min msize msize_max)
     else not_spoken session (min msize msize_max))

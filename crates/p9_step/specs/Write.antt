@@ -25,30 +25,30 @@ abbrev pub write_offset : (offset : ℕ) → Node → ℕ
 write_offset offset n = if is_append_only n then length n.bytes else offset
 
 -- the bytes are in the file from the start on, and it is marked
-abbrev pub written : Session → (now : ℕ) → Fid → NodeRef → (start : ℕ) (bytes : List ℕ) → Answer
-written session now v at start bytes =
+abbrev pub written : Session → (clock : ℕ) → Fid → NodeRef → (start : ℕ) (bytes : List ℕ) → Answer
+written session clock v at start bytes =
     Ok (record {
-      changes = EditNode at (Overwrite start bytes) ∷ EditNode at (Mark v.user now) ∷ [];
+      changes = EditNode at (Overwrite start bytes) ∷ EditNode at (Mark v.user clock) ∷ [];
       session = session;
       reply = Rwrite (length bytes);
     })
 
 -- no bytes change nothing, at any offset
-abbrev pub write_file : Session → (now : ℕ) → Fid → NodeRef → Node
+abbrev pub write_file : Session → (clock : ℕ) → Fid → NodeRef → Node
     → (offset : ℕ) (bytes : List ℕ) → Answer
-write_file session now v at n offset [] =
+write_file session clock v at n offset [] =
     Ok (record { changes = []; session = session; reply = Rwrite 0 })
-write_file session now v at n offset (b ∷ bs) =
+write_file session clock v at n offset (b ∷ bs) =
     let bytes = b ∷ bs in
     let start = write_offset offset n in
     need (nat_le (start + length bytes) file_max) FileTooLarge (
-    written session now v at start bytes)
+    written session clock v at start bytes)
 
 -- the tests in their order
-abbrev pub write_answer : Setting → List Server → Session → (now fid offset : ℕ) (bytes : List ℕ)
+abbrev pub write_answer : Setting → List Server → Session → (clock fid offset : ℕ) (bytes : List ℕ)
     → Answer
-write_answer setting forest session now fid offset bytes =
+write_answer setting forest session clock fid offset bytes =
     obtain (fid_at fid session.fids) UnknownFid (λ v.
     need (is_writable v) FidNotOpen (
     obtain (fid_file setting.table forest v) PhaseError (λ n.
-    write_file session now v (fid_ref setting.table v) n offset bytes)))
+    write_file session clock v (fid_ref setting.table v) n offset bytes)))

@@ -151,26 +151,26 @@ wstat_fault who forest at n t =
 
 -- the change of the node
 abbrev pub node_change : List ℕ → ℕ → Touched → Change
-node_change user now t = record {
+node_change user clock t = record {
   name = t.name;
   mode = option_and_then mode_of t.mode;
   gid = t.gid;
   length = t.length;
   mtime = t.mtime;
   user = user;
-  now = now;
+  clock = clock;
 }
 
 -- if anything is touched, the directory that the file is in is marked
 abbrev pub rewriting : List ℕ → ℕ → NodeRef → Node → Touched → List ForestChange
-rewriting user now at n t =
+rewriting user clock at n t =
     if is_any t
-    then EditNode at (Rewrite (node_change user now t)) ∷ parent_marked user now at n.parent
+    then EditNode at (Rewrite (node_change user clock t)) ∷ parent_marked user clock at n.parent
     else []
 
 -- the tests in their order
-abbrev pub wstat_answer : Setting → List Server → Session → (now fid : ℕ) → StatFields → Answer
-wstat_answer setting forest session now fid wanted =
+abbrev pub wstat_answer : Setting → List Server → Session → (clock fid : ℕ) → StatFields → Answer
+wstat_answer setting forest session clock fid wanted =
     obtain (fid_at fid session.fids) UnknownFid (λ v.
     obtain (fid_file setting.table forest v) PhaseError (λ n.
     let at = fid_ref setting.table v in
@@ -178,4 +178,4 @@ wstat_answer setting forest session now fid wanted =
     let t = touched_of there wanted in
     need (not (touches_fixed there wanted)) FixedField (
     unless (wstat_fault (who_of setting v.user) forest at n t) (
-    Ok (record { changes = rewriting v.user now at n t; session = session; reply = Rwstat })))))
+    Ok (record { changes = rewriting v.user clock at n t; session = session; reply = Rwstat })))))

@@ -68,7 +68,7 @@ module _ (s : Server) (dir : ℕ) (n : Node) (w : WellFormed s) (can : CanAdd s 
 
   pub WellFormed-added : WellFormed (added s n)
   WellFormed-added = record {
-    few = omega (arith, can.room);
+    few = omega (arith, can.number_left);
     rising =
         all_pairs_push (λ m n. m.number < n.number) s.nodes n w.rising
         (λ k d lt. omega

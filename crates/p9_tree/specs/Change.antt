@@ -10,7 +10,7 @@ use Rattle.p9_tree.specs.Server.{Server, node_at, child_of}
 -- a new length cuts the file or adds zeros to it, and marks it
 abbrev pub with_length : Change → Node → Node
 with_length change n =
-    option_map_or (λ size. marked change.user change.now (with_bytes (resized size) n))
+    option_map_or (λ size. marked change.user change.clock (with_bytes (resized size) n))
     change.length n
 
 -- a new mtime is the user's

@@ -65,16 +65,16 @@ IsTellable n = HasUsers n × HasNumbers n
 
 -- marked as changed by the user now, a file's bytes or a directory's entries
 abbrev pub marked : List ℕ → ℕ → Node → Node
-marked user now n = record n {
+marked user clock n = record n {
   muid = user;
   version = (n.version + 1) % 2 ^ 32;
-  atime = now;
-  mtime = now;
+  atime = clock;
+  mtime = clock;
 }
 
 -- after the file was read
 abbrev pub touched : ℕ → Node → Node
-touched now n = record n { atime = now }
+touched clock n = record n { atime = clock }
 
 -- a directory with these permissions, owner and group, changed last by the owner
 abbrev pub with_owner : Permissions → (uid gid : List ℕ) → Node → Node

@@ -80,7 +80,7 @@ pub record WellFormed (s : Server) : Type 0 where
 
 -- the node may join the server, in the directory
 pub record CanAdd (s : Server) (dir : ℕ) (n : Node) : Type 0 where
-  pub room : s.next < next_max
+  pub number_left : s.next < next_max
   pub into : IsTrue (is_dir_at dir s.nodes)
   pub free : child_of dir n.name s.nodes ≡ None
   pub small : length n.bytes ≤ file_max

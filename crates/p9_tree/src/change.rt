@@ -15,5 +15,5 @@ pub struct Change {
     /// The user who changes it.
     pub user: User,
     /// The clock reading, in seconds since 1970, modulo 2^32.
-    pub now: u32,
+    pub clock: u32,
 }

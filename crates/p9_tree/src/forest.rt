@@ -131,20 +131,20 @@ impl<T: Tree> Forest<T> {
     }
 
     /// Marks the node, as [`Tree::bump`].
-    pub fn bump(&mut self, at: NodeRef, user: User, now: u32)
-        ensures { self.new ≡ forest_changed_at at (marked user now) self.old }
+    pub fn bump(&mut self, at: NodeRef, user: User, clock: u32)
+        ensures { self.new ≡ forest_changed_at at (marked user clock) self.old }
     {
         if let Some(tree) = self.trees.get_mut(at.server as usize) {
-            tree.bump(at.number, user, now);
+            tree.bump(at.number, user, clock);
         }
     }
 
     /// Makes the clock reading the time when the file was last read.
-    pub fn touch(&mut self, at: NodeRef, now: u32)
-        ensures { self.new ≡ forest_changed_at at (touched now) self.old }
+    pub fn touch(&mut self, at: NodeRef, clock: u32)
+        ensures { self.new ≡ forest_changed_at at (touched clock) self.old }
     {
         if let Some(tree) = self.trees.get_mut(at.server as usize) {
-            tree.touch(at.number, now);
+            tree.touch(at.number, clock);
         }
     }
 

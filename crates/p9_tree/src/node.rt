@@ -237,23 +237,23 @@ impl<A: Allocator> Node<A> {
     }
 
     /// Marks it, as changed by the user now: see [`Tree`](crate::Tree).
-    pub fn mark(&mut self, user: User, now: u32)
-        ensures node { self.new ≡ marked user now self.old }
+    pub fn mark(&mut self, user: User, clock: u32)
+        ensures node { self.new ≡ marked user clock self.old }
         ensures tellable { IsTellable self.new }
     {
         self.muid = user;
         self.version = self.version.wrapping_add(1);
-        self.atime = now;
-        self.mtime = now;
+        self.atime = clock;
+        self.mtime = clock;
         self.tellable();
     }
 
     /// Notes that the file was read now.
-    pub fn touch(&mut self, now: u32)
-        ensures node { self.new ≡ touched now self.old }
+    pub fn touch(&mut self, clock: u32)
+        ensures node { self.new ≡ touched clock self.old }
         ensures tellable { IsTellable self.new }
     {
-        self.atime = now;
+        self.atime = clock;
         self.tellable();
     }
 
@@ -337,7 +337,7 @@ impl<A: Allocator> Node<A> {
     {
         if let Some(size) = change.length {
             self.bytes.resize(size)?;
-            self.mark(change.user, change.now);
+            self.mark(change.user, change.clock);
         }
         Ok(())
     }

@@ -83,15 +83,15 @@ impl<A: Allocator + Copy> Tree for PlainTree<A> {
         Ok(())
     }
 
-    fn bump(&mut self, number: u64, user: User, now: u32) {
+    fn bump(&mut self, number: u64, user: User, clock: u32) {
         if let Some(at) = self.position(number) {
-            self.nodes[at].mark(user, now);
+            self.nodes[at].mark(user, clock);
         }
     }
 
-    fn touch(&mut self, number: u64, now: u32) {
+    fn touch(&mut self, number: u64, clock: u32) {
         if let Some(at) = self.position(number) {
-            self.nodes[at].touch(now);
+            self.nodes[at].touch(clock);
         }
     }
 

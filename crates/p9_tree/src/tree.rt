@@ -90,13 +90,13 @@ pub trait Tree: Sized + Drop {
         ensures err { OnErr result (state self.new ≡ state self.old) }
         ensures there { OnErr result (IsTrue (exists_at number (state self.old).nodes)) };
 
-    /// Marks the node, as changed by the user when the clock reads `now`.
-    fn bump(&mut self, number: u64, user: User, now: u32)
-        ensures { state self.new ≡ with_changed number (marked user now) (state self.old) };
+    /// Marks the node, as changed by the user when the clock reads `clock`.
+    fn bump(&mut self, number: u64, user: User, clock: u32)
+        ensures { state self.new ≡ with_changed number (marked user clock) (state self.old) };
 
     /// Makes the clock reading the time when the file was last read.
-    fn touch(&mut self, number: u64, now: u32)
-        ensures { state self.new ≡ with_changed number (touched now) (state self.old) };
+    fn touch(&mut self, number: u64, clock: u32)
+        ensures { state self.new ≡ with_changed number (touched clock) (state self.old) };
 
     /// Writes into a file at the offset, and fills a gap before it with zeros. It isn't marked.
     /// An allocation may fail only where there is a node.

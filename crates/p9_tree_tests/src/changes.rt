@@ -24,7 +24,7 @@ pub fn take_change(rt: &impl Abort, line: &mut &str) -> Change {
         length: take_word(line).parse::<u64>().ok(),
         mtime: take_word(line).parse::<u32>().ok(),
         user: user(rt, "rob"),
-        now: 7,
+        clock: 7,
     }
 }
 

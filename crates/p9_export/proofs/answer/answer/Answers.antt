@@ -15,8 +15,8 @@ use Rattle.p9_step.specs.Open.{is_in_use}
 use Rattle.p9_step.specs.Request.{request_of}
 use Rattle.p9_step.specs.State.{session_at}
 use Rattle.p9_export.specs.Answers.{request_view}
-use Rattle.p9_export.specs.Taken.{finds_taken}
-use Rattle.p9_export.proofs.Among.{among-none, among-request, room_of-small}
+use Rattle.p9_export.specs.Taken.{wants_taken_file}
+use Rattle.p9_export.proofs.Among.{among-none, among-request, iounit_of-small}
 use Rattle.p9_export.proofs.Rooms.{data-room}
 use Rattle.p9_step.proofs.Settled.{fits-of}
 use Rattle.p9_export.proofs.answer.answer.Goals as goal
@@ -37,7 +37,7 @@ returns-in_err-request-clause-answer g c =
     let p = err_from_is_err_and c.from_residual.result c.from_residual.ensures.1 in
     rw (p.1, p.2, unchanged)
     (among-none c.args.setting.now c.args.forest.now
-    (sessions_in rows) c.args.name c.args.now its.session c.args.frame.now
+    (sessions_in rows) c.args.name c.args.clock its.session c.args.frame.now
     c.in_err-request.field-0.0 there is)
 
 pub returns-in_err-request-clause-channels : goal.returns-in_err-request-clause-channels
@@ -51,8 +51,8 @@ returns-in_err-request-clause-channels g c =
     (c.get_mut.follows.holds its).0 ∙ set_value-same test rows its found in
     subst (SessionsFit c.args.setting.now.table) (sym unchanged) c.requires.channels
 
-pub wanted_alone-requires : goal.wanted_alone-requires
-wanted_alone-requires g c =
+pub exclusive_file_wanted-requires : goal.exclusive_file_wanted-requires
+exclusive_file_wanted-requires g c =
     let test = is_at (nat_cmp c.args.name) in
     let rows = c.args.sessions.now.entries in
     let its = c.unwrap-session.result.now in
@@ -106,9 +106,9 @@ returns-in_default-clause-answer g c =
     let is : Ok (t_view c.in_ok-request.request) ≡ request_of its.session c.args.frame.now =
     sym (ap request_view c.in_ok-request.was) ∙ c.request_of.ensures in
     let takes : false
-    ≡ finds_taken c.args.setting.now c.args.forest.now
+    ≡ wants_taken_file c.args.setting.now c.args.forest.now
     (sessions_in rows) its.session (t_view c.in_ok-request.request) =
-    sym (c.wanted_alone.ensures (sessions_in rows)
+    sym (c.exclusive_file_wanted.ensures (sessions_in rows)
     ∙ ap (λ o. option_map_or
     (λ at. is_in_use c.args.setting.now.table at (sessions_in rows)) o false)
     c.in_default.is) in
@@ -120,7 +120,7 @@ returns-in_default-clause-answer g c =
     rw behind
     (among-request c.args.setting.now c.args.forest.now
     c.message.new.forest (sessions_in rows)
-    (sessions_in (c.get_mut.follows.lender c.message.new.session).entries) c.args.name c.args.now
+    (sessions_in (c.get_mut.follows.lender c.message.new.session).entries) c.args.name c.args.clock
     its.session its.session c.message.new.session.session
     c.args.frame.now (t_view c.in_ok-request.request) false _ there there is takes
     (ap sessions_in (c.get_mut.follows.holds c.message.new.session).0
@@ -209,10 +209,10 @@ returns-clause-answer g c =
     (c.is_in_use-taken.ensures
     ∙ ap (λ rs. is_in_use c.setting.inside.table c.in-Some.at (sessions_in rs)) unchanged) in
     let takes : c.is_in_use-taken.result
-    ≡ finds_taken c.args.setting.now c.args.forest.now
+    ≡ wants_taken_file c.args.setting.now c.args.forest.now
     (sessions_in rows) its.session (t_view c.in_ok-request.request) =
     used
-    ∙ sym (c.wanted_alone.ensures (sessions_in rows)
+    ∙ sym (c.exclusive_file_wanted.ensures (sessions_in rows)
     ∙ ap (λ o. option_map_or
     (λ at. is_in_use c.args.setting.now.table at (sessions_in rows)) o false)
     c.in-Some.is) in
@@ -225,7 +225,7 @@ returns-clause-answer g c =
     (among-request c.args.setting.now c.args.forest.now
     c.message-2.new.forest (sessions_in rows)
     (sessions_in (c.get_mut-2.follows.lender c.message-2.new.session).entries) c.args.name
-    c.args.now its.session same.session c.message-2.new.session.session
+    c.args.clock its.session same.session c.message-2.new.session.session
     c.args.frame.now (t_view c.in_ok-request.request) c.is_in_use-taken.result _ there again is
     takes
     (ap sessions_in ((c.get_mut-2.follows.holds c.message-2.new.session).0
@@ -263,7 +263,7 @@ message-requires-clause-room g c =
     let there : session_at c.args.name (sessions_in rows) ≡ Some its.session =
     session-there c.args.name rows its found in
     let sound = rw there at c.requires.sound in
-    room_of-small its.session sound.msize
+    iounit_of-small its.session sound.msize
 
 pub returns-in_default-clause-data : goal.returns-in_default-clause-data
 returns-in_default-clause-data g c =
@@ -311,7 +311,7 @@ message-requires-2-clause-room g c =
     let again : session_at c.args.name (sessions_in rows) ≡ Some same.session =
     session-there c.args.name rows same found_again in
     let sound = rw again at c.requires.sound in
-    room_of-small same.session sound.msize
+    iounit_of-small same.session sound.msize
 
 pub returns-clause-data : goal.returns-clause-data
 returns-clause-data g c =

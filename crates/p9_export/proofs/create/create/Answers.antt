@@ -11,7 +11,7 @@ returns-in_err-target-clause-answer g c =
     let forest = c.args.forest.now in
     let s = c.args.session.now.session in
     let is =
-    steps-are c.args.setting.now forest s c.args.now c.args.wanted.fid c.args.wanted.name.now
+    steps-are c.args.setting.now forest s c.args.clock c.args.wanted.fid c.args.wanted.name.now
     c.args.wanted.perm c.args.wanted.mode in
     let p = err_from_is_err_and c.from_residual.result c.from_residual.ensures.1 in
     refused _ _ forest s c.from_residual.result p.0 is p.1 (rw p.2 c.in_err-target.ensures.err)
@@ -21,7 +21,7 @@ returns-in_err-qid-clause-answer g c =
     let forest = c.args.forest.now in
     let s = c.args.session.now.session in
     let is =
-    steps-are c.args.setting.now forest s c.args.now c.args.wanted.fid c.args.wanted.name.now
+    steps-are c.args.setting.now forest s c.args.clock c.args.wanted.fid c.args.wanted.name.now
     c.args.wanted.perm c.args.wanted.mode in
     let refused =
     err_from_is_err_and c.from_residual-in_err-qid.result
@@ -35,11 +35,11 @@ returns-clause-answer g c =
     let forest = c.args.forest.now in
     let s = c.args.session.now.session in
     let is =
-    steps-are c.args.setting.now forest s c.args.now c.args.wanted.fid c.args.wanted.name.now
+    steps-are c.args.setting.now forest s c.args.clock c.args.wanted.fid c.args.wanted.name.now
     c.args.wanted.perm c.args.wanted.mode in
     plan-did _ forest c.add_to.new.forest s
     c.enter.new.session.session c.args.wanted.fid c.in_ok-target.field-0.target
     c.in_ok-target.field-0.new (trail_of c.in_ok-target.field-0.channels)
-    c.in_ok-target.field-0.opening c.in_ok-qid.qid c.room.result
+    c.in_ok-target.field-0.opening c.in_ok-qid.qid c.iounit.result
     (sym is ∙ c.in_ok-target.ensures.ok) c.in_ok-qid.ensures.ok c.enter.ensures.entered
-    c.in_ok-qid.ensures.qid c.room.ensures
+    c.in_ok-qid.ensures.qid c.iounit.ensures

@@ -25,11 +25,11 @@ returns-clause-ok g c =
     rw (← c.held.view_is, ← c.setting.view_is)
     (ap (target_among forest) (sym (c.as_slice.ensures ∙ c.members-members.ensures.members))
     ∙ sym c.in_ok-target.ensures) in
-    let is : create_steps c.args.setting.now forest s c.args.now c.args.wanted.fid
+    let is : create_steps c.args.setting.now forest s c.args.clock c.args.wanted.fid
     c.args.wanted.name.now c.args.wanted.perm c.args.wanted.mode
-    ≡ created_in c.args.setting.now forest s c.args.now c.args.wanted.fid v c.in_ok-asked.asked
+    ≡ created_in c.args.setting.now forest s c.args.clock c.args.wanted.fid v c.in_ok-asked.asked
     c.in_ok-target.target =
-    steps-found c.args.setting.now forest s c.args.now c.args.wanted.fid c.args.wanted.name.now
+    steps-found c.args.setting.now forest s c.args.clock c.args.wanted.fid c.args.wanted.name.now
     c.args.wanted.perm c.args.wanted.mode v c.in_ok-asked.asked c.in_ok-target.target found shut
     (sym c.in_ok-asked.ensures) chosen in
     rw is (c.plan_in.ensures.ok s c.args.wanted.fid)
@@ -50,11 +50,11 @@ returns-clause-err g c =
     rw (← c.held.view_is, ← c.setting.view_is)
     (ap (target_among forest) (sym (c.as_slice.ensures ∙ c.members-members.ensures.members))
     ∙ sym c.in_ok-target.ensures) in
-    let is : create_steps c.args.setting.now forest s c.args.now c.args.wanted.fid
+    let is : create_steps c.args.setting.now forest s c.args.clock c.args.wanted.fid
     c.args.wanted.name.now c.args.wanted.perm c.args.wanted.mode
-    ≡ created_in c.args.setting.now forest s c.args.now c.args.wanted.fid v c.in_ok-asked.asked
+    ≡ created_in c.args.setting.now forest s c.args.clock c.args.wanted.fid v c.in_ok-asked.asked
     c.in_ok-target.target =
-    steps-found c.args.setting.now forest s c.args.now c.args.wanted.fid c.args.wanted.name.now
+    steps-found c.args.setting.now forest s c.args.clock c.args.wanted.fid c.args.wanted.name.now
     c.args.wanted.perm c.args.wanted.mode v c.in_ok-asked.asked c.in_ok-target.target found shut
     (sym c.in_ok-asked.ensures) chosen in
     rw is (c.plan_in.ensures.err s c.args.wanted.fid)
@@ -78,6 +78,6 @@ returns-in_err-target-clause-err g c =
     let r = c.from_residual-in_err-target in
     let p = err_from_is_err_and r.result r.ensures.1 in
     rw (p.1, p.2)
-    (inl (steps-refused c.args.setting.now forest s c.args.now c.args.wanted.fid
+    (inl (steps-refused c.args.setting.now forest s c.args.clock c.args.wanted.fid
     c.args.wanted.name.now c.args.wanted.perm c.args.wanted.mode v c.in_ok-asked.asked fault found
     shut (sym c.in_ok-asked.ensures) chosen))

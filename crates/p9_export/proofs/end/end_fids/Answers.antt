@@ -22,7 +22,7 @@ after-first table now f f' fids rest row sound fit is ended =
 pub loop-fid-preserved : goal.loop-fid-preserved
 loop-fid-preserved g c =
     let first =
-    after-first c.args.setting.now.table c.args.now c.loop-fid.forest c.end_fid.new.forest
+    after-first c.args.setting.now.table c.args.clock c.loop-fid.forest c.end_fid.new.forest
     c.loop-fid.fids.fids c.take_first.new.self.fids (c.in-Some.field-0-0, c.in-Some.fid.fid)
     c.well_formed-in-Some.ensures c.loop-fid.invariant.0 c.in-Some.ensures.some c.end_fid.ensures in (
       first.0,

@@ -7,7 +7,7 @@ use Rattle.p9_tree.specs.Bytes.{put_front, read_from}
 use Rattle.p9_tree.specs.Forest.{forest_changed_at, node_of}
 use Rattle.p9_tree.specs.Node.{touched}
 use Rattle.p9_fids.specs.Fid.{changed_fid, fid_at, opened_as}
-use Rattle.p9_step.specs.State.{room_of}
+use Rattle.p9_step.specs.State.{iounit_of}
 use Rattle.p9_step.specs.Read.{readable}
 use Rattle.p9_export.proofs.DirectoryReads.{IsReadable, dir_read, dir_refused, reads_file}
 use Rattle.p9_export.proofs.read.read.Goals as goal
@@ -30,15 +30,15 @@ returns-in_err-listed-clause-answer g c =
           sym (ap (λ (at : NodeRef). node_of at forest) c.file-at.ensures)
           ∙ sym c.in-Some-node.ensures;
     } in
-    let room_is : c.min-room.result ≡ min c.args.wanted.count (room_of s) =
-    c.min-room.ensures ∙ ap (min c.args.wanted.count) c.room.ensures in
+    let room_is : c.min-room.result ≡ min c.args.wanted.count (iounit_of s) =
+    c.min-room.ensures ∙ ap (min c.args.wanted.count) c.iounit.ensures in
     let enough = c.requires.room in
     let fits : c.min-room.result ≤ length c.args.buffer.now = omega (arith, room_is, enough) in
     let long : length (take c.min-room.result c.args.buffer.now) ≡ c.min-room.result =
     length-take-le c.min-room.result c.args.buffer.now fits in
     let size = length (take c.min-room.result c.args.buffer.now) in
     let p = err_from_is_err_and c.from_residual.result c.from_residual.ensures.1 in
-    dir_refused c.args.setting.now forest s c.args.now c.args.wanted.fid c.args.wanted.offset
+    dir_refused c.args.setting.now forest s c.args.clock c.args.wanted.fid c.args.wanted.offset
     c.args.wanted.count c.in-Some.held.now.fid c.in-Some-readable.opened c.in-Some-node.file.now r
     size p.0 c.from_residual.result
     (c.list_of.new.buffer ++ drop c.min-room.result c.args.buffer.now)
@@ -57,8 +57,8 @@ returns-in_ok-listed-clause-answer g c =
           sym (ap (λ (at : NodeRef). node_of at forest) c.file-at.ensures)
           ∙ sym c.in-Some-node.ensures;
     } in
-    let room_is : c.min-room.result ≡ min c.args.wanted.count (room_of s) =
-    c.min-room.ensures ∙ ap (min c.args.wanted.count) c.room.ensures in
+    let room_is : c.min-room.result ≡ min c.args.wanted.count (iounit_of s) =
+    c.min-room.ensures ∙ ap (min c.args.wanted.count) c.iounit.ensures in
     let enough = c.requires.room in
     let fits : c.min-room.result ≤ length c.args.buffer.now = omega (arith, room_is, enough) in
     let long : length (take c.min-room.result c.args.buffer.now) ≡ c.min-room.result =
@@ -73,7 +73,7 @@ returns-in_ok-listed-clause-answer g c =
     let went : record { msize = c.session.inside.msize; fids = c.set_opened.new.self.fids }
     ≡ record s { fids = changed_fid c.args.wanted.fid (opened_as c.in_ok-listed.listed.opened) s.fids } =
     rw (← c.session.view_is, fids_are) refl in
-    dir_read c.args.setting.now forest s c.args.now c.args.wanted.fid c.args.wanted.offset
+    dir_read c.args.setting.now forest s c.args.clock c.args.wanted.fid c.args.wanted.offset
     c.args.wanted.count c.in-Some.held.now.fid c.in-Some-readable.opened c.in-Some-node.file.now r
     size c.in_ok-listed.listed.size c.in_ok-listed.listed.opened c.list_of.new.buffer
     (drop c.min-room.result c.args.buffer.now) _
@@ -91,15 +91,15 @@ returns-else-is_dir-clause-answer g c =
           sym (ap (λ (at : NodeRef). node_of at forest) c.file-at.ensures)
           ∙ sym c.in-Some-node.ensures;
     } in
-    let room_is : c.min-room.result ≡ min c.args.wanted.count (room_of c.args.session.now.session) =
-    c.min-room.ensures ∙ ap (min c.args.wanted.count) c.room.ensures in
+    let room_is : c.min-room.result ≡ min c.args.wanted.count (iounit_of c.args.session.now.session) =
+    c.min-room.ensures ∙ ap (min c.args.wanted.count) c.iounit.ensures in
     let enough = c.requires.room in
     let fits : c.min-room.result ≤ length c.args.buffer.now = omega (arith, room_is, enough) in
     let long : length (take c.min-room.result c.args.buffer.now) ≡ c.min-room.result =
     length-take-le c.min-room.result c.args.buffer.now fits in
     let given = read_from c.args.wanted.offset (length (take c.min-room.result c.args.buffer.now))
     c.in-Some-node.file.now.bytes in
-    reads_file c.args.setting.now forest c.args.session.now.session c.args.now c.args.wanted.fid c.args.wanted.offset
+    reads_file c.args.setting.now forest c.args.session.now.session c.args.clock c.args.wanted.fid c.args.wanted.offset
     c.args.wanted.count c.in-Some.held.now.fid c.in-Some-readable.opened c.in-Some-node.file.now r
     (length (take c.min-room.result c.args.buffer.now)) c.read_into-size.result
     (c.read_into-size.new.buffer ++ drop c.min-room.result c.args.buffer.now)
@@ -108,4 +108,4 @@ returns-else-is_dir-clause-answer g c =
     (front-read given (take c.min-room.result c.args.buffer.now) _ _ _
     c.read_into-size.ensures.count c.read_into-size.ensures.filled)
     (c.touch.ensures
-    ∙ ap (λ (at : NodeRef). forest_changed_at at (touched c.args.now) forest) c.file-at.ensures)
+    ∙ ap (λ (at : NodeRef). forest_changed_at at (touched c.args.clock) forest) c.file-at.ensures)

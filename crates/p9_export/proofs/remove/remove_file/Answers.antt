@@ -36,7 +36,7 @@ returns g c = λ left.
     let gone : c.after.result ≡ None = absent _ (sym c.is_some.ensures ∙ c.if-is_some.false) in
     let none = rw gone at c.after.ensures in
     let empty : has_children_of c.file-at.result forest ≡ false = rw (← none) refl in
-    removal-made c.args.setting.now forest _ _ left c.args.now c.args.fid.now.fid c.file-at.result
+    removal-made c.args.setting.now forest _ _ left c.args.clock c.args.fid.now.fid c.file-at.result
     c.in-Some.file.now c.file-at.ensures found (rw (← c.parent-parent.ensures) inner) permitted
     empty c.drop_leaf.ensures
     (rw (← c.parent-parent.ensures, ← c.fid.view_is) c.mark_parent.ensures)

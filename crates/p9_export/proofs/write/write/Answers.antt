@@ -33,7 +33,7 @@ returns-in_err-write g c =
     rw (← c.session.view_is) (sym c.in-Some.ensures.fid) in
     let opens : is_writable v ≡ true = sym c.is_writable.ensures ∙ c.if-not-is_writable.false in
     let done =
-    write_answer-done c.args.setting.now forest c.args.session.now.session c.args.now c.args.fid
+    write_answer-done c.args.setting.now forest c.args.session.now.session c.args.clock c.args.fid
     c.args.offset c.args.bytes.now v c.in-Some-node.file.now c.file-at.result
     c.write_offset-place.result c.file-at.ensures c.write_offset-place.ensures found opens
     (sym c.in-Some-node.ensures) (sym c.is_empty.ensures ∙ c.if-is_empty.false)
@@ -51,7 +51,7 @@ returns g c =
     rw (← c.session.view_is) (sym c.in-Some.ensures.fid) in
     let opens : is_writable v ≡ true = sym c.is_writable.ensures ∙ c.if-not-is_writable.false in
     let done =
-    write_answer-done c.args.setting.now forest c.args.session.now.session c.args.now c.args.fid
+    write_answer-done c.args.setting.now forest c.args.session.now.session c.args.clock c.args.fid
     c.args.offset c.args.bytes.now v c.in-Some-node.file.now c.file-at.result
     c.write_offset-place.result c.file-at.ensures c.write_offset-place.ensures found opens
     (sym c.in-Some-node.ensures) (sym c.is_empty.ensures ∙ c.if-is_empty.false)
@@ -59,11 +59,11 @@ returns g c =
     let new = c.bump.new.self in
     let bumped =
     c.bump.ensures
-    ∙ ap (forest_changed_at c.file-at.result (marked c.held.inside.user c.args.now))
+    ∙ ap (forest_changed_at c.file-at.result (marked c.held.inside.user c.args.clock))
     c.in_ok-write.ensures.ok in
-    let changed : new ≡ forest_changed_at c.file-at.result (marked v.user c.args.now)
+    let changed : new ≡ forest_changed_at c.file-at.result (marked v.user c.args.clock)
     (forest_changed_at c.file-at.result
     (with_bytes (overwritten c.write_offset-place.result c.args.bytes.now)) forest) = rw
     (← c.held.view_is) bumped in
-    write-did _ forest new c.args.session.now.session c.args.now c.args.bytes.now v c.file-at.result
+    write-did _ forest new c.args.session.now.session c.args.clock c.args.bytes.now v c.file-at.result
     c.write_offset-place.result done changed

@@ -33,12 +33,12 @@ change-requires g c =
     let at = c.file-at.result in
     let t : Touched = touched_view c.touched_of-touched.result in
     let told = subst (λ (w : Who). Ok c.in_ok-change.change ≡ unless (wstat_fault w forest at n t)
-    (Ok (node_change w.user c.args.now t))) c.who.ensures c.in_ok-change.ensures in
+    (Ok (node_change w.user c.args.clock t))) c.who.ensures c.in_ok-change.ensures in
     let let_through = passes _ _ _ told in
     let permits =
     nothing_refuses (who_of c.args.setting.now c.held.inside.user) forest at n t let_through.0 in
     rw let_through.1
-    (can_change (who_of c.args.setting.now c.held.inside.user) forest at n t permits c.args.now c.well_formed-2.ensures
+    (can_change (who_of c.args.setting.now c.held.inside.user) forest at n t permits c.args.clock c.well_formed-2.ensures
     (sym c.in-Some-node.ensures))
 
 pub returns-in_err-change : goal.returns-in_err-change
@@ -48,7 +48,7 @@ returns-in_err-change g c =
     let at = c.file-at.result in
     let t : Touched = touched_view c.touched_of-touched.result in
     let told = subst (λ (w : Who). Err c.in_err-change.field-0.0 ≡ unless (wstat_fault w forest at n t)
-    (Ok (node_change w.user c.args.now t))) c.who.ensures c.in_err-change.ensures in
+    (Ok (node_change w.user c.args.clock t))) c.who.ensures c.in_err-change.ensures in
     let v = c.in-Some.held.now.fid in
     let wanted : StatFields = stat_view c.args.wanted.now in
     let held : fid_at c.args.fid c.args.session.now.session.fids ≡ Some v =
@@ -60,7 +60,7 @@ returns-in_err-change g c =
     c.touched_of-touched.ensures
     ∙ ap (λ (s : StatFields). touched_of s wanted) c.stat_of-there.ensures.value in
     let tested =
-    wstat_answer-tested c.args.setting.now forest c.args.session.now.session c.args.now c.args.fid wanted
+    wstat_answer-tested c.args.setting.now forest c.args.session.now.session c.args.clock c.args.fid wanted
     v n at t c.file-at.ensures held (sym c.in-Some-node.ensures) fixed t_is in
     let some : wstat_fault (who_of c.args.setting.now v.user) forest at n t
     ≡ Some c.in_err-change.field-0.0 = rw (← c.held.view_is) (refuses _ _ _ told) in
@@ -75,7 +75,7 @@ returns-then-not-is_any g c =
     let at = c.file-at.result in
     let t : Touched = touched_view c.touched_of-touched.result in
     let told = subst (λ (w : Who). Ok c.in_ok-change.change ≡ unless (wstat_fault w forest at n t)
-    (Ok (node_change w.user c.args.now t))) c.who.ensures c.in_ok-change.ensures in
+    (Ok (node_change w.user c.args.clock t))) c.who.ensures c.in_ok-change.ensures in
     let v = c.in-Some.held.now.fid in
     let wanted : StatFields = stat_view c.args.wanted.now in
     let held : fid_at c.args.fid c.args.session.now.session.fids ≡ Some v =
@@ -87,12 +87,12 @@ returns-then-not-is_any g c =
     c.touched_of-touched.ensures
     ∙ ap (λ (s : StatFields). touched_of s wanted) c.stat_of-there.ensures.value in
     let tested =
-    wstat_answer-tested c.args.setting.now forest c.args.session.now.session c.args.now c.args.fid wanted
+    wstat_answer-tested c.args.setting.now forest c.args.session.now.session c.args.clock c.args.fid wanted
     v n at t c.file-at.ensures held (sym c.in-Some-node.ensures) fixed t_is in
     let free : wstat_fault (who_of c.args.setting.now v.user) forest at n t ≡ None =
     rw (← c.held.view_is) (passes _ _ _ told).0 in
     let done = not_refused _ _ _ tested free in
-    wstat-idle _ forest c.args.session.now.session v.user c.args.now at n t done
+    wstat-idle _ forest c.args.session.now.session v.user c.args.clock at n t done
     (sym c.is_any.ensures ∙ c.if-not-is_any.true)
 
 pub returns-in_err-change-2 : goal.returns-in_err-change-2
@@ -102,7 +102,7 @@ returns-in_err-change-2 g c =
     let at = c.file-at.result in
     let t : Touched = touched_view c.touched_of-touched.result in
     let told = subst (λ (w : Who). Ok c.in_ok-change.change ≡ unless (wstat_fault w forest at n t)
-    (Ok (node_change w.user c.args.now t))) c.who.ensures c.in_ok-change.ensures in
+    (Ok (node_change w.user c.args.clock t))) c.who.ensures c.in_ok-change.ensures in
     let v = c.in-Some.held.now.fid in
     let wanted : StatFields = stat_view c.args.wanted.now in
     let held : fid_at c.args.fid c.args.session.now.session.fids ≡ Some v =
@@ -114,7 +114,7 @@ returns-in_err-change-2 g c =
     c.touched_of-touched.ensures
     ∙ ap (λ (s : StatFields). touched_of s wanted) c.stat_of-there.ensures.value in
     let tested =
-    wstat_answer-tested c.args.setting.now forest c.args.session.now.session c.args.now c.args.fid wanted
+    wstat_answer-tested c.args.setting.now forest c.args.session.now.session c.args.clock c.args.fid wanted
     v n at t c.file-at.ensures held (sym c.in-Some-node.ensures) fixed t_is in
     let free : wstat_fault (who_of c.args.setting.now v.user) forest at n t ≡ None =
     rw (← c.held.view_is) (passes _ _ _ told).0 in
@@ -132,7 +132,7 @@ returns g c =
     let at = c.file-at.result in
     let t : Touched = touched_view c.touched_of-touched.result in
     let told = subst (λ (w : Who). Ok c.in_ok-change.change ≡ unless (wstat_fault w forest at n t)
-    (Ok (node_change w.user c.args.now t))) c.who.ensures c.in_ok-change.ensures in
+    (Ok (node_change w.user c.args.clock t))) c.who.ensures c.in_ok-change.ensures in
     let v = c.in-Some.held.now.fid in
     let wanted : StatFields = stat_view c.args.wanted.now in
     let held : fid_at c.args.fid c.args.session.now.session.fids ≡ Some v =
@@ -144,7 +144,7 @@ returns g c =
     c.touched_of-touched.ensures
     ∙ ap (λ (s : StatFields). touched_of s wanted) c.stat_of-there.ensures.value in
     let tested =
-    wstat_answer-tested c.args.setting.now forest c.args.session.now.session c.args.now c.args.fid wanted
+    wstat_answer-tested c.args.setting.now forest c.args.session.now.session c.args.clock c.args.fid wanted
     v n at t c.file-at.ensures held (sym c.in-Some-node.ensures) fixed t_is in
     let free : wstat_fault (who_of c.args.setting.now v.user) forest at n t ≡ None =
     rw (← c.held.view_is) (passes _ _ _ told).0 in
@@ -153,14 +153,14 @@ returns g c =
     let middle = c.change.new.self in
     let new = c.mark_parent.new.forest in
     let made : middle ≡ forest_changed_at at
-    (changed (node_change c.held.inside.user c.args.now t)) forest = c.in_ok-change-2.ensures.ok
+    (changed (node_change c.held.inside.user c.args.clock t)) forest = c.in_ok-change-2.ensures.ok
     ∙ ap (λ (d : Change). forest_changed_at at (changed d) forest) (passes _ _ _ told).1 in
-    let change : middle ≡ forest_changed_at at (changed (node_change v.user c.args.now t)) forest =
+    let change : middle ≡ forest_changed_at at (changed (node_change v.user c.args.clock t)) forest =
     rw (← c.held.view_is) made in
-    let marked : new ≡ all_applied (parent_marked c.held.inside.user c.args.now at n.parent)
+    let marked : new ≡ all_applied (parent_marked c.held.inside.user c.args.clock at n.parent)
     middle = c.mark_parent.ensures
-    ∙ ap (λ p. all_applied (parent_marked c.held.inside.user c.args.now at p) middle)
+    ∙ ap (λ p. all_applied (parent_marked c.held.inside.user c.args.clock at p) middle)
     c.parent-parent.ensures in
-    let mark : new ≡ all_applied (parent_marked v.user c.args.now at n.parent) middle =
+    let mark : new ≡ all_applied (parent_marked v.user c.args.clock at n.parent) middle =
     rw (← c.held.view_is) marked in
-    wstat-did _ forest middle new c.args.session.now.session v.user c.args.now at n t done some change mark
+    wstat-did _ forest middle new c.args.session.now.session v.user c.args.clock at n t done some change mark

@@ -34,7 +34,7 @@ write_reply-requires-clause-room g c =
       forest = c.well_formed-2.ensures;
       served = c.self.invariant.served;
     } in
-    among-room old c.args.name c.args.now c.args.frame.now (length c.answer-answered.new.reply)
+    among-room old c.args.name c.args.clock c.args.frame.now (length c.answer-answered.new.reply)
     c.answer-answered.new.forest
     (sessions_in c.answer-answered.new.sessions.entries) (drop read_header c.answer-answered.new.reply)
     c.answer-answered.result its
@@ -55,7 +55,7 @@ invariant_of-self g c =
     record {
       served = served-among c.self.inside.setting c.self.inside.forest
           c.answer-answered.new.forest (sessions_in c.self.inside.sessions.entries)
-          (sessions_in c.answer-answered.new.sessions.entries) c.args.name c.args.now c.args.frame.now _
+          (sessions_in c.answer-answered.new.sessions.entries) c.args.name c.args.clock c.args.frame.now _
           c.well_formed-2.ensures c.self.invariant.served live
           (All-from_get_or (λ b. b < 256) c.args.frame.now 0 (λ i lt. omega (arith, c.type_inv.frame i)))
           c.ranges.now.fits
@@ -73,7 +73,7 @@ returns-clause-state g c =
     let live = rw (← c.self.view_is) at c.requires.live in
     let written = rw c.tag_of-tag.ensures at c.write_reply.ensures.bytes in
     let made =
-    among-makes old c.args.name c.args.now
+    among-makes old c.args.name c.args.clock
     c.answer-answered.new.forest
     (sessions_in c.answer-answered.new.sessions.entries) c.args.frame.now
     (take c.write_reply.result c.write_reply.new.out) _ live c.requires.whole
@@ -90,7 +90,7 @@ returns-clause-bytes g c =
     let live = rw (← c.self.view_is) at c.requires.live in
     let written = rw c.tag_of-tag.ensures at c.write_reply.ensures.bytes in
     let made =
-    among-makes old c.args.name c.args.now
+    among-makes old c.args.name c.args.clock
     c.answer-answered.new.forest
     (sessions_in c.answer-answered.new.sessions.entries) c.args.frame.now
     (take c.write_reply.result c.write_reply.new.out) _ live c.requires.whole
@@ -111,7 +111,7 @@ returns-clause-short g c =
     let live = rw (← c.self.view_is) at c.requires.live in
     let written = rw c.tag_of-tag.ensures at c.write_reply.ensures.bytes in
     let made =
-    among-makes old c.args.name c.args.now
+    among-makes old c.args.name c.args.clock
     c.answer-answered.new.forest
     (sessions_in c.answer-answered.new.sessions.entries) c.args.frame.now
     (take c.write_reply.result c.write_reply.new.out) _ live c.requires.whole
@@ -119,7 +119,7 @@ returns-clause-short g c =
     let bytes : IsBytes c.args.frame.now =
     All-from_get_or (λ b. b < 256) c.args.frame.now 0 (λ i lt. omega (arith, c.type_inv.frame i)) in
     rw (← c.self.view_is)
-    (reply-short old c.args.name c.args.now c.args.frame.now c.write_reply.result
+    (reply-short old c.args.name c.args.clock c.args.frame.now c.write_reply.result
     c.write_reply.new.out _ its bytes c.requires.whole (omega (
       arith,
       c.write_reply.ensures.within,

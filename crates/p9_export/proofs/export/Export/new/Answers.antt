@@ -10,7 +10,7 @@ invariant_of-result g c = record {
   served = record {
     fixed = record {
       users = subst (λ users. list_all is_user users ≡ true) c.as_slice.ensures.value
-          c.each_is_a_user.ensures;
+          c.prove_users_valid.ensures;
       groups = c.well_formed-3.ensures;
       table = c.well_formed-4.ensures;
     };

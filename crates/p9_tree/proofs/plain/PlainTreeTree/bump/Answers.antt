@@ -10,7 +10,7 @@ invariant_of-self g c =
     let s : Server = record { nodes = c.args.self.now.nodes.items; next = c.args.self.now.next } in
     record {
       well_formed =
-          WellFormed-set c.args.number (marked c.args.user c.args.now) s _ _ _
+          WellFormed-set c.args.number (marked c.args.user c.args.clock) s _ _ _
           (sym c.position.ensures ∙ c.in-Some.is) c.index_mut.ensures.value c.mark.ensures.node
           (keeps-marked _ _)
           (sound-marked _ _ _ (subst IsTellable c.mark.ensures.node c.mark.ensures.tellable))
@@ -21,12 +21,12 @@ pub returns-in-Some : goal.returns-in-Some
 returns-in-Some g c =
     let s : Server = record { nodes = c.args.self.now.nodes.items; next = c.args.self.now.next } in
     ap (with_nodes s)
-    (set-changed_at c.args.number (marked c.args.user c.args.now) _ _ _ _
+    (set-changed_at c.args.number (marked c.args.user c.args.clock) _ _ _ _
     (sym c.position.ensures ∙ c.in-Some.is) c.index_mut.ensures.value c.mark.ensures.node)
 
 pub returns-in_default : goal.returns-in_default
 returns-in_default g c =
     let s : Server = record { nodes = c.args.self.now.nodes.items; next = c.args.self.now.next } in
     ap (with_nodes s)
-    (absent-changed_at c.args.number (marked c.args.user c.args.now) _
+    (absent-changed_at c.args.number (marked c.args.user c.args.clock) _
     (sym c.position.ensures ∙ c.in_default.is))
