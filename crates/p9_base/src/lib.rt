@@ -19,8 +19,6 @@ mod qid;
 mod rights;
 mod statement;
 mod stop;
-#[cfg(test)]
-mod tests;
 mod text;
 mod user;
 

@@ -3,7 +3,5 @@
 
 pub mod laws;
 mod path;
-#[cfg(test)]
-mod tests;
 
 pub use path::{clean, cleaned_elements, elements};

@@ -5,8 +5,6 @@
 mod allocator;
 mod count;
 mod digits;
-#[cfg(test)]
-mod tests;
 mod turns;
 
 pub use allocator::Refusing;

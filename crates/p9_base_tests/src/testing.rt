@@ -1,7 +1,7 @@
 //! What no clause can say, since nothing is known of what a cell holds: which request is refused,
 //! and how many there were.
 
-use crate::{Refusing, refuse_each};
+use p9_testing::{Refusing, refuse_each};
 use std::alloc::{AllocError, Global};
 use std::collections::BTreeMap;
 use std::process::Abort;

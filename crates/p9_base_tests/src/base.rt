@@ -1,6 +1,6 @@
 //! Texts, bounds and bits, with values from the manual's tables.
 
-use crate::{
+use p9_base::{
     DMAPPEND, DMDIR, DMEXCL, DMTMP, Fault, FileFlags, Group, Groups, Kind, Mode, Name, NoMemory,
     NodeRef, Permissions, Rights, User, granted, valid_name,
 };
@@ -8,50 +8,81 @@ use std::alloc::{AllocError, Global};
 use std::process::Abort;
 use std::test::Fail;
 
-const FAULTS: [(Fault, &str); 30] = [
-    (Fault::Malformed, "malformed message"),
-    (Fault::VersionNotSet, "version not set"),
-    (Fault::SmallMsize, "msize too small"),
-    (Fault::NoAuthentication, "authentication not required"),
-    (Fault::UnknownUser, "unknown user"),
-    (Fault::UnknownAttachName, "unknown attach name"),
-    (Fault::UnknownFid, "unknown fid"),
-    (Fault::FidInUse, "fid in use"),
-    (Fault::FidOpen, "fid already open"),
-    (Fault::FidNotOpen, "fid not open for this"),
-    (Fault::NotDirectory, "not a directory"),
-    (Fault::NotFound, "file does not exist"),
-    (Fault::PermissionDenied, "permission denied"),
-    (Fault::PhaseError, "phase error"),
-    (Fault::BadOpenMode, "bad open mode"),
-    (Fault::IsDirectory, "is a directory"),
-    (Fault::ExclusiveUse, "exclusive use file already open"),
-    (Fault::BadFileName, "bad file name"),
-    (Fault::FileExists, "file already exists"),
-    (
-        Fault::CreationForbidden,
-        "mounted directory forbids creation",
-    ),
-    (Fault::BadDirectoryOffset, "bad directory offset"),
-    (Fault::SmallReadCount, "read count too small"),
-    (Fault::FileTooLarge, "file too large"),
-    (Fault::NotEmpty, "directory not empty"),
-    (Fault::IsRoot, "root can't be removed or renamed"),
-    (Fault::FixedField, "wstat of a fixed field"),
-    (Fault::TooManyFids, "too many fids"),
-    (Fault::QidsUsedUp, "qid numbers used up"),
-    (Fault::OutOfMemory, "out of memory"),
-    (Fault::PathTooDeep, "path too deep"),
+// The faults by their numbers, from 1, and the text of each.
+const FAULTS: [Fault; 30] = [
+    Fault::Malformed,
+    Fault::VersionNotSet,
+    Fault::SmallMsize,
+    Fault::NoAuthentication,
+    Fault::UnknownUser,
+    Fault::UnknownAttachName,
+    Fault::UnknownFid,
+    Fault::FidInUse,
+    Fault::FidOpen,
+    Fault::FidNotOpen,
+    Fault::NotDirectory,
+    Fault::NotFound,
+    Fault::PermissionDenied,
+    Fault::PhaseError,
+    Fault::BadOpenMode,
+    Fault::IsDirectory,
+    Fault::ExclusiveUse,
+    Fault::BadFileName,
+    Fault::FileExists,
+    Fault::CreationForbidden,
+    Fault::BadDirectoryOffset,
+    Fault::SmallReadCount,
+    Fault::FileTooLarge,
+    Fault::NotEmpty,
+    Fault::IsRoot,
+    Fault::FixedField,
+    Fault::TooManyFids,
+    Fault::QidsUsedUp,
+    Fault::OutOfMemory,
+    Fault::PathTooDeep,
 ];
+
+const TEXTS: &str = "\
+malformed message
+version not set
+msize too small
+authentication not required
+unknown user
+unknown attach name
+unknown fid
+fid in use
+fid already open
+fid not open for this
+not a directory
+file does not exist
+permission denied
+phase error
+bad open mode
+is a directory
+exclusive use file already open
+bad file name
+file already exists
+mounted directory forbids creation
+bad directory offset
+read count too small
+file too large
+directory not empty
+root can't be removed or renamed
+wstat of a fixed field
+too many fids
+qid numbers used up
+out of memory
+path too deep";
 
 #[test]
 fn faults_have_their_numbers_and_texts(rt: HostRuntime) -> Result<(), Fail> {
-    for (i, (fault, text)) in FAULTS.iter().enumerate() {
+    for (i, (fault, text)) in FAULTS.iter().zip(TEXTS.lines()).enumerate() {
         assert_eq!(rt; usize::from(fault.number()), i + 1);
-        assert_eq!(rt; fault.text(), *text);
+        assert_eq!(rt; fault.text(), text);
         let shown = format!(in rt.alloc(); "{fault}")?;
-        assert_eq!(rt; shown.as_str(), *text);
+        assert_eq!(rt; shown.as_str(), text);
     }
+    assert_eq!(rt; TEXTS.lines().count(), FAULTS.len());
     Ok(())
 }
 
@@ -181,10 +212,17 @@ fn group(rt: &impl Abort, alloc: Global, leader: &str, members: &[&str]) -> Grou
     group
 }
 
-// Whether the user is a member of the group, and whether he leads it.
-fn asked(rt: &impl Abort, groups: &Groups<Global>, name: &str, member: &str) -> (bool, bool) {
-    let (name, member) = (user(rt, name), user(rt, member));
-    (groups.member(&member, &name), groups.leads(&member, &name))
+// Requires whether the user is a member of the group, and whether he leads it.
+fn belongs(
+    rt: &impl Abort,
+    groups: &Groups<Global>,
+    name: &str,
+    member: &str,
+    wanted: (bool, bool),
+) {
+    let (group, user) = (user(rt, name), user(rt, member));
+    let got = (groups.member(&user, &group), groups.leads(&user, &group));
+    assert_eq!(rt; got, wanted, "{member} of {name}");
 }
 
 #[test]
@@ -194,12 +232,12 @@ fn groups_have_members_and_a_leader(rt: HostRuntime) -> Result<(), Fail> {
     groups.insert(user(&rt, "staff"), staff)?;
     let wheel = group(&rt, rt.alloc(), "ken", &["ken", "glenda"]);
     groups.insert(user(&rt, "wheel"), wheel)?;
-    assert_eq!(rt; asked(&rt, &groups, "staff", "rob"), (false, true));
-    assert_eq!(rt; asked(&rt, &groups, "staff", "glenda"), (true, false));
-    assert_eq!(rt; asked(&rt, &groups, "staff", "staff"), (false, false));
-    assert_eq!(rt; asked(&rt, &groups, "wheel", "ken"), (true, true));
-    assert_eq!(rt; asked(&rt, &groups, "wheel", "glenda"), (true, false));
-    assert_eq!(rt; asked(&rt, &groups, "wheel", "rob"), (false, false));
+    belongs(&rt, &groups, "staff", "rob", (false, true));
+    belongs(&rt, &groups, "staff", "glenda", (true, false));
+    belongs(&rt, &groups, "staff", "staff", (false, false));
+    belongs(&rt, &groups, "wheel", "ken", (true, true));
+    belongs(&rt, &groups, "wheel", "glenda", (true, false));
+    belongs(&rt, &groups, "wheel", "rob", (false, false));
     assert!(rt; groups.contains(&user(&rt, "staff")));
     assert!(rt; !groups.contains(&user(&rt, "rob")));
     Ok(())
@@ -234,16 +272,16 @@ fn the_groups_that_are_listed_can_be_read(rt: HostRuntime) -> Result<(), Fail> {
 #[test]
 fn a_name_that_is_not_listed_is_a_group(rt: HostRuntime) -> Result<(), Fail> {
     let mut groups = Groups::new(rt.alloc());
-    assert_eq!(rt; asked(&rt, &groups, "glenda", "glenda"), (true, true));
-    assert_eq!(rt; asked(&rt, &groups, "glenda", "rob"), (false, false));
+    belongs(&rt, &groups, "glenda", "glenda", (true, true));
+    belongs(&rt, &groups, "glenda", "rob", (false, false));
     let led_by_rob = group(&rt, rt.alloc(), "rob", &[]);
     groups.insert(user(&rt, "glenda"), led_by_rob)?;
-    assert_eq!(rt; asked(&rt, &groups, "glenda", "glenda"), (false, false));
-    assert_eq!(rt; asked(&rt, &groups, "glenda", "rob"), (false, true));
-    assert_eq!(rt; asked(&rt, &groups, "rob", "rob"), (true, true));
+    belongs(&rt, &groups, "glenda", "glenda", (false, false));
+    belongs(&rt, &groups, "glenda", "rob", (false, true));
+    belongs(&rt, &groups, "rob", "rob", (true, true));
     let her_own = group(&rt, rt.alloc(), "rob", &["glenda"]);
     groups.insert(user(&rt, "glenda"), her_own)?;
-    assert_eq!(rt; asked(&rt, &groups, "glenda", "glenda"), (true, false));
+    belongs(&rt, &groups, "glenda", "glenda", (true, false));
     Ok(())
 }
 
@@ -254,8 +292,8 @@ fn a_member_is_added_once(rt: HostRuntime) -> Result<(), Fail> {
     assert_eq!(rt; staff.add_member(user(&rt, "rob")), Ok(true));
     let mut groups = Groups::new(rt.alloc());
     groups.insert(user(&rt, "staff"), staff)?;
-    assert_eq!(rt; asked(&rt, &groups, "staff", "glenda"), (true, false));
-    assert_eq!(rt; asked(&rt, &groups, "staff", "rob"), (true, true));
+    belongs(&rt, &groups, "staff", "glenda", (true, false));
+    belongs(&rt, &groups, "staff", "rob", (true, true));
     Ok(())
 }
 
@@ -270,11 +308,8 @@ fn a_group_may_have_many_members(rt: HostRuntime) -> Result<(), Fail> {
     groups.insert(user(&rt, "many"), many)?;
     for number in 0..10_000 {
         let name = format!(in rt.alloc(); "u{number}")?;
-        assert_eq!(rt;
-            asked(&rt, &groups, "many", name.as_str()),
-            (true, number == 0)
-        );
+        belongs(&rt, &groups, "many", name.as_str(), (true, number == 0));
     }
-    assert_eq!(rt; asked(&rt, &groups, "many", "u10000"), (false, false));
+    belongs(&rt, &groups, "many", "u10000", (false, false));
     Ok(())
 }

@@ -1,0 +1,9 @@
+//! Tests of the crates that have no others below them: p9_base, p9_clean and p9_testing.
+#![tactic(auto)]
+
+#[cfg(test)]
+mod base;
+#[cfg(test)]
+mod clean;
+#[cfg(test)]
+mod testing;
