@@ -55,7 +55,7 @@ module _ (s : Server) (n : Node) (c : Change) (can : CanChangeNode s n c)
     where
       go : (o : Option ℕ) → c.length ≡ o
           → length
-          (option_map_or (λ size. marked c.user c.now (with_bytes (resized size) n)) o n).bytes
+          (option_map_or (λ size. marked c.user c.clock (with_bytes (resized size) n)) o n).bytes
           ≤ file_max
       go None e = old
       go (Some size) e = length-resized size n.bytes file_max (can.small size e)
@@ -64,7 +64,7 @@ module _ (s : Server) (n : Node) (c : Change) (can : CanChangeNode s n c)
   empty dir old = go c.length refl
     where
       go : (o : Option ℕ) → c.length ≡ o
-          → (option_map_or (λ size. marked c.user c.now (with_bytes (resized size) n)) o n).bytes
+          → (option_map_or (λ size. marked c.user c.clock (with_bytes (resized size) n)) o n).bytes
           ≡ []
       go None e = old
       go (Some size) e = let file : IsFalse (is_dir n) = can.file size e in absurd (cc)

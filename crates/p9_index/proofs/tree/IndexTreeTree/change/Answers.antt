@@ -23,25 +23,25 @@ returns-in_default-clause-ok g c =
     let t = c.args.self.now in
     ap (λ (m : BTreeMap _ _). server_of m.entries t.next) c.get_mut.follows.holds-at-none
     ∙ ap (with_nodes (server_of t.nodes.entries t.next))
-    (absent-changed c.args.number (changed c.args.change.clock) _ t.index.keyed
+    (absent-changed c.args.number (changed c.args.change.now) _ t.index.keyed
     c.in_default.ensures.value)
 
 pub renaming_of-requires : goal.renaming_of-requires
 renaming_of-requires g c =
     let t = c.args.self.now in
-    in-dir t.nodes.entries t.next c.args.number c.in-Some.node.now c.args.change.clock t.index.keyed
+    in-dir t.nodes.entries t.next c.args.number c.in-Some.node.now c.args.change.now t.index.keyed
     t.well_formed c.in-Some.ensures.value c.requires
 
 pub change-requires-clause-named : goal.change-requires-clause-named
 change-requires-clause-named g c =
     let t = c.args.self.now in
-    in-dir t.nodes.entries t.next c.args.number c.in-Some.node.now c.args.change.clock t.index.keyed
+    in-dir t.nodes.entries t.next c.args.number c.in-Some.node.now c.args.change.now t.index.keyed
     t.well_formed c.in-Some.ensures.value c.requires
 
 pub change-requires-clause-small : goal.change-requires-clause-small
 change-requires-clause-small g c =
     let t = c.args.self.now in
-    (can-node t.nodes.entries t.next c.args.number c.in-Some.node.now c.args.change.clock
+    (can-node t.nodes.entries t.next c.args.number c.in-Some.node.now c.args.change.now
     t.index.keyed t.well_formed c.in-Some.ensures.value c.requires).small
 
 pub invariant_of-self-in_default-renaming_of : goal.invariant_of-self-in_default-renaming_of
@@ -54,13 +54,13 @@ invariant_of-self-in_default-renaming_of g c =
     c.change.ensures.err) [
       | inl new ↦ record {
         well_formed =
-            well-made t.nodes.entries _ t.next c.args.number t.entries n _ c.args.change.clock t.index
+            well-made t.nodes.entries _ t.next c.args.number t.entries n _ c.args.change.now t.index
             t.well_formed c.in-Some.ensures.value c.requires written new.0 new.1.0
             (subst IsTellable new.0 new.1.1);
         index =
             index-changed t.nodes.entries _ t.next c.args.number t.entries
-            (changed c.args.change.clock) n _ t.index t.well_formed c.in-Some.ensures.value written
-            new.0 (keeps-changed c.args.change.clock) c.in_default-renaming_of.ensures.none;
+            (changed c.args.change.now) n _ t.index t.well_formed c.in-Some.ensures.value written
+            new.0 (keeps-changed c.args.change.now) c.in_default-renaming_of.ensures.none;
       }
       | inr same ↦
           (let kept = tree-same t.nodes.entries _ t.next c.args.number t.entries n _
@@ -73,8 +73,8 @@ returns-in_default-renaming_of-clause-ok g c =
     let t = c.args.self.now in
     ok_then c.change.result c.change.ensures.ok
     (λ new. state-changed t.nodes.entries _ t.next c.args.number t.entries
-    (changed c.args.change.clock) c.in-Some.node.now _ t.index t.well_formed c.in-Some.ensures.value
-    (c.get_mut.follows.holds c.change.new.self).0 new (keeps-changed c.args.change.clock))
+    (changed c.args.change.now) c.in-Some.node.now _ t.index t.well_formed c.in-Some.ensures.value
+    (c.get_mut.follows.holds c.change.new.self).0 new (keeps-changed c.args.change.now))
 
 pub returns-in_default-renaming_of-clause-err : goal.returns-in_default-renaming_of-clause-err
 returns-in_default-renaming_of-clause-err g c =
@@ -118,7 +118,7 @@ returns-in_err-name-clause-there g c =
 pub change-requires-2-clause-small : goal.change-requires-2-clause-small
 change-requires-2-clause-small g c =
     let t = c.args.self.now in
-    (can-node t.nodes.entries t.next c.args.number c.in-Some.node.now c.args.change.clock
+    (can-node t.nodes.entries t.next c.args.number c.in-Some.node.now c.args.change.now
     t.index.keyed t.well_formed c.in-Some.ensures.value c.requires).small
 
 pub invariant_of-self-then-is_err : goal.invariant_of-self-then-is_err
@@ -127,11 +127,11 @@ invariant_of-self-then-is_err g c =
     let n : Node = c.in-Some.node.now in
     let from = c.in-Some-renaming_of.field-0.from in
     let to = c.in-Some-renaming_of.field-0.to in
-    let it : Renames from to c.args.change.clock n = c.in-Some-renaming_of.ensures.some in
-    let at = at-key t.nodes.entries t.next c.args.number n c.args.change.clock t.index.keyed
+    let it : Renames from to c.args.change.now n = c.in-Some-renaming_of.ensures.some in
+    let at = at-key t.nodes.entries t.next c.args.number n c.args.change.now t.index.keyed
     t.well_formed c.in-Some.ensures.value c.requires in
     let free : number_at t.entries to ≡ None =
-    free-name t.nodes.entries t.next c.args.number t.entries n from to c.args.change.clock t.index
+    free-name t.nodes.entries t.next c.args.number t.entries n from to c.args.change.now t.index
     t.well_formed at (number-node_at c.args.number _ n at) it
     (c.requires n at) in
     let same : c.change-2.new.self ≡ n =
@@ -170,26 +170,26 @@ invariant_of-self-2 g c =
     let n : Node = c.in-Some.node.now in
     let from = c.in-Some-renaming_of.field-0.from in
     let to = c.in-Some-renaming_of.field-0.to in
-    let it : Renames from to c.args.change.clock n = c.in-Some-renaming_of.ensures.some in
-    let at = at-key t.nodes.entries t.next c.args.number n c.args.change.clock t.index.keyed
+    let it : Renames from to c.args.change.now n = c.in-Some-renaming_of.ensures.some in
+    let at = at-key t.nodes.entries t.next c.args.number n c.args.change.now t.index.keyed
     t.well_formed c.in-Some.ensures.value c.requires in
     let free : number_at t.entries to ≡ None =
-    free-name t.nodes.entries t.next c.args.number t.entries n from to c.args.change.clock t.index
+    free-name t.nodes.entries t.next c.args.number t.entries n from to c.args.change.now t.index
     t.well_formed at (number-node_at c.args.number _ n at) it
     (c.requires n at) in
     let written = (c.get_mut.follows.holds c.change-2.new.self).0 in
     let no_err = sym c.is_err.ensures.value ∙ c.if-is_err.false in
-    let new : c.change-2.new.self ≡ changed c.args.change.clock n =
+    let new : c.change-2.new.self ≡ changed c.args.change.now n =
     ok_from c.change-2.result c.change-2.ensures.ok no_err in
     record {
       well_formed =
           well-made t.nodes.entries _ t.next c.args.number t.entries n c.change-2.new.self
-          c.args.change.clock t.index t.well_formed c.in-Some.ensures.value c.requires written new
+          c.args.change.now t.index t.well_formed c.in-Some.ensures.value c.requires written new
           (ok_from c.change-2.result c.change-2.ensures.name no_err)
           (subst IsTellable new (ok_from c.change-2.result c.change-2.ensures.tellable no_err));
       index =
           IsIndex-renamed t.nodes.entries _ t.next c.args.number t.entries c.name.new.self
-          c.unname-2.new.self n c.change-2.new.self from to c.args.change.clock t.index t.well_formed
+          c.unname-2.new.self n c.change-2.new.self from to c.args.change.now t.index t.well_formed
           c.in-Some.ensures.value written new it free
           c.in_ok-name.ensures.listed c.in_ok-name.ensures.named c.unname-2.ensures.listed
           c.unname-2.ensures.named;
@@ -198,9 +198,9 @@ invariant_of-self-2 g c =
 pub returns-clause-ok : goal.returns-clause-ok
 returns-clause-ok g c =
     let t = c.args.self.now in
-    let new : c.change-2.new.self ≡ changed c.args.change.clock c.in-Some.node.now =
+    let new : c.change-2.new.self ≡ changed c.args.change.now c.in-Some.node.now =
     ok_from c.change-2.result c.change-2.ensures.ok
     (sym c.is_err.ensures.value ∙ c.if-is_err.false) in
-    state-changed t.nodes.entries _ t.next c.args.number t.entries (changed c.args.change.clock)
+    state-changed t.nodes.entries _ t.next c.args.number t.entries (changed c.args.change.now)
     c.in-Some.node.now c.change-2.new.self t.index t.well_formed c.in-Some.ensures.value
-    (c.get_mut.follows.holds c.change-2.new.self).0 new (keeps-changed c.args.change.clock)
+    (c.get_mut.follows.holds c.change-2.new.self).0 new (keeps-changed c.args.change.now)

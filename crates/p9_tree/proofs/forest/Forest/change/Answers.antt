@@ -34,12 +34,12 @@ returns-clause-ok g c = elim c.match-get_mut.branch [
       let within : c.args.at.server < length c.self.inside.trees.items =
       omega (arith, w.in-Some.ensures.variant.0 refl, c.self.inside.trees.ok.0) in
       rw (w.self-inside-is, ← c.self.view_is)
-      (map-tree_changed_at g.T.Tree.state (with_changed c.args.at.number (changed c.args.change.clock)) _
+      (map-tree_changed_at g.T.Tree.state (with_changed c.args.at.number (changed c.args.change.now)) _
       c.args.at.server w.in-Some.tree.now w.change.new.self within w.in-Some.ensures.value
       w.in_ok-change.ensures.ok)
   | in_default w ↦
       rw (w.self-inside-is, ← c.self.view_is)
-      (map-tree_absent g.T.Tree.state (with_changed c.args.at.number (changed c.args.change.clock)) _
+      (map-tree_absent g.T.Tree.state (with_changed c.args.at.number (changed c.args.change.now)) _
       c.args.at.server
       (λ lt. w.in_default.ensures.variant.1 (omega (arith, lt, c.self.inside.trees.ok.0))))
 ]

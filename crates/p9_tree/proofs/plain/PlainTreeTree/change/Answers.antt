@@ -13,7 +13,7 @@ use Rattle.p9_tree.proofs.plain.PlainTreeTree.change.Goals as goal
 pub change-requires-clause-named : goal.change-requires-clause-named
 change-requires-clause-named g c =
     let s : Server = record { nodes = c.args.self.now.nodes.items; next = c.args.self.now.next } in
-    named s c.args.number c.args.change.clock c.index_mut.result.now c.args.self.now.well_formed
+    named s c.args.number c.args.change.now c.index_mut.result.now c.args.self.now.well_formed
     c.requires
     (node_at-position c.args.number s.nodes _ _ (sym c.position.ensures ∙ c.in-Some.is)
     c.index_mut.ensures.value)
@@ -37,13 +37,13 @@ invariant_of-self g c =
     c.change.ensures.err) [
       | inl new ↦ record {
         well_formed =
-            WellFormed-set_apart c.args.number (changed c.args.change.clock) s _ _ _
+            WellFormed-set_apart c.args.number (changed c.args.change.now) s _ _ _
             (sym c.position.ensures ∙ c.in-Some.is) c.index_mut.ensures.value new.0
-            (keeps-changed c.args.change.clock)
-            (sound-changed s n c.args.change.clock (c.requires n found) new.1.0
-            (named s c.args.number c.args.change.clock n c.args.self.now.well_formed c.requires found)
+            (keeps-changed c.args.change.now)
+            (sound-changed s n c.args.change.now (c.requires n found) new.1.0
+            (named s c.args.number c.args.change.now n c.args.self.now.well_formed c.requires found)
             (subst IsTellable new.0 new.1.1))
-            (apart-changed s c.args.number c.args.change.clock c.args.self.now.well_formed c.requires)
+            (apart-changed s c.args.number c.args.change.now c.args.self.now.well_formed c.requires)
             c.args.self.now.well_formed;
       }
       | inr same ↦ record {
@@ -57,14 +57,14 @@ pub returns-in_ok-change-clause-ok : goal.returns-in_ok-change-clause-ok
 returns-in_ok-change-clause-ok g c =
     let s : Server = record { nodes = c.args.self.now.nodes.items; next = c.args.self.now.next } in
     ap (with_nodes s)
-    (set-changed_at c.args.number (changed c.args.change.clock) _ _ _ _
+    (set-changed_at c.args.number (changed c.args.change.now) _ _ _ _
     (sym c.position.ensures ∙ c.in-Some.is) c.index_mut.ensures.value c.in_ok-change.ensures.ok)
 
 pub returns-in_default-clause-ok : goal.returns-in_default-clause-ok
 returns-in_default-clause-ok g c =
     let s : Server = record { nodes = c.args.self.now.nodes.items; next = c.args.self.now.next } in
     ap (with_nodes s)
-    (absent-changed_at c.args.number (changed c.args.change.clock) _
+    (absent-changed_at c.args.number (changed c.args.change.now) _
     (sym c.position.ensures ∙ c.in_default.is))
 
 pub returns-in_err-change-clause-there : goal.returns-in_err-change-clause-there
