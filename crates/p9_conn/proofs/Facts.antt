@@ -142,5 +142,5 @@ pub turned : (h : Happening) (links links' : Links) (state state' : State)
     → Common (record { link = links h.session; state = state })
     (record { link = links' h.session; state = state' }) h.deeds
 turned h links links' state state' t =
-    common h.session h.now (record { link = links h.session; state = state })
+    common h.session h.clock (record { link = links h.session; state = state })
     (record { link = links' h.session; state = state' }) h.deeds t.turn

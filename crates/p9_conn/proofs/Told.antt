@@ -91,7 +91,7 @@ module _ {S : Type 0} (remaining contents : S → Option (List ℕ)) where
       → Moves old.stream new.stream h.deeds.read h.deeds.written
   moves h old before new after t =
       subst (λ (d : Deeds). Moves old.stream new.stream d.read d.written) t.deeds_are
-      (moves-by (phase_of old.link) old.session h.now (scene old before) (scene new after)
+      (moves-by (phase_of old.link) old.session h.clock (scene old before) (scene new after)
       old.stream new.stream t.had.deeds t.had.turn t.had.stream)
 
   -- all that turns come to
@@ -119,7 +119,7 @@ module _ {S : Type 0} (remaining contents : S → Option (List ℕ)) where
       let done = t.2 in
       let first = moves h old before mid between done in
       let its = subst (λ (d : Deeds). Common (scene old before) (scene mid between) d)
-      done.deeds_are (common old.session h.now (scene old before) (scene mid between)
+      done.deeds_are (common old.session h.clock (scene old before) (scene mid between)
       done.had.deeds done.had.turn) in
       let later = exchanged hs mid between new after t.3 in
       record {

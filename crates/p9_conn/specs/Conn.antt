@@ -63,28 +63,28 @@ turn_of deeds closed =
 -- a connection has had a turn in this phase; its stream may show what is left to read of it and
 -- what was written to it
 pub record HasTurned {S : Type 0} (remaining contents : S → Option (List ℕ)) (phase : Phase)
-    (now : ℕ) (old : Connection S) (before : Guarded) (new : Connection S) (after : Guarded)
+    (clock : ℕ) (old : Connection S) (before : Guarded) (new : Connection S) (after : Guarded)
     (result : Turn) : Type 0 where
   pub deeds : Deeds
-  pub turn : TurnBy phase old.session now (scene old before) (scene new after) deeds
+  pub turn : TurnBy phase old.session clock (scene old before) (scene new after) deeds
   pub stream : UsesStream remaining contents phase old.stream new.stream deeds
   pub session_is : new.session ≡ old.session
   pub guard_is : after ≡ record before { state = after.state }
   pub result_is : result ≡ turn_of deeds new.link.closed
 
 -- a connection and its session are closed
-pub record IsEnded {S : Type 0} (now : ℕ) (old : Connection S) (before : Guarded)
+pub record IsEnded {S : Type 0} (clock : ℕ) (old : Connection S) (before : Guarded)
     (new : Connection S) (after : Guarded) (result : Turn) : Type 0 where
   pub conn_is : new ≡ record old { link = record old.link { closed = true } }
-  pub stepped : IsStep (closing old.session now) before.state after.state
+  pub stepped : IsStep (closing old.session clock) before.state after.state
   pub guard_is : after ≡ record before { state = after.state }
   pub result_is : result ≡ Closed
 
 -- a frame of a session was answered, with some mark, and this is the reply
-pub record FrameIsAnswered (session : ℕ) (frame : List ℕ) (now : ℕ) (before after : Guarded)
+pub record FrameIsAnswered (session : ℕ) (frame : List ℕ) (clock : ℕ) (before after : Guarded)
     (reply : List ℕ) : Type 0 where
   pub refused : Bool
-  pub stepped : IsStep (answering session frame now refused reply) before.state after.state
+  pub stepped : IsStep (answering session frame clock refused reply) before.state after.state
   pub guard_is : after ≡ record before { state = after.state }
 
 -- an error says that the stream is to be waited for
@@ -100,10 +100,10 @@ pub record IsUnchanged {S : Type 0} (turn : Turn) (old : Connection S) (before :
 
 -- what a call of the stream comes to: bytes moved; none did, and the connection ends; it is to be
 -- waited for, or failed otherwise, and the connection ends
-abbrev pub ComesTo : {S : Type 0} → Result ℕ Error → (now : ℕ) (old : Connection S)
+abbrev pub ComesTo : {S : Type 0} → Result ℕ Error → (clock : ℕ) (old : Connection S)
     (before : Guarded) (new : Connection S) (after : Guarded) → Turn → Type 0
-ComesTo (Ok zero) now old before new after result = IsEnded now old before new after result
-ComesTo (Ok (suc n)) now old before new after result = IsUnchanged Moved old before new after result
-ComesTo (Err error) now old before new after result =
+ComesTo (Ok zero) clock old before new after result = IsEnded clock old before new after result
+ComesTo (Ok (suc n)) clock old before new after result = IsUnchanged Moved old before new after result
+ComesTo (Err error) clock old before new after result =
     (IsToWait (error_kind error) × IsUnchanged Idle old before new after result)
-    ⊎ ((IsToWait (error_kind error) → ⊥) × IsEnded now old before new after result)
+    ⊎ ((IsToWait (error_kind error) → ⊥) × IsEnded clock old before new after result)

@@ -8,7 +8,7 @@ use Rattle.p9_conn.specs.Turn.{Deeds, Answered, IsTurn, Link}
 -- a turn of the connection of a session, at a reading of the clock, and what it did
 pub record Happening : Type 0 where
   pub session : ℕ
-  pub now : ℕ
+  pub clock : ℕ
   pub deeds : Deeds
 
 -- the connection of each session
@@ -18,7 +18,7 @@ Links = ℕ → Link
 -- one turn: it is of one connection, and the others are as they were
 pub record Happens (h : Happening) (links : Links) (state : State) (links' : Links)
     (state' : State) : Type 0 where
-  pub turn : IsTurn h.session h.now (record { link = links h.session; state = state })
+  pub turn : IsTurn h.session h.clock (record { link = links h.session; state = state })
       (record { link = links' h.session; state = state' }) h.deeds
   pub others : (session : ℕ) → session ≢ h.session → links' session ≡ links session
 
@@ -61,8 +61,8 @@ written_by session (h ∷ hs) =
 -- the frame of an event that has one
 abbrev pub frame_in : Event → List (List ℕ)
 frame_in (Open name) = []
-frame_in (Message name frame now) = frame ∷ []
-frame_in (Close name now) = []
+frame_in (Message name frame clock) = frame ∷ []
+frame_in (Close name clock) = []
 
 -- the frames that were answered
 abbrev pub frames_in : List Answered → List (List ℕ)

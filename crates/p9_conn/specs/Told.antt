@@ -13,7 +13,7 @@ module _ {S : Type 0} (remaining contents : S → Option (List ℕ)) where
   pub record HasDone (h : Happening) (old : Connection S) (before : Guarded) (new : Connection S)
       (after : Guarded) : Type 0 where
     pub turn : Turn
-    pub had : HasTurned remaining contents (phase_of old.link) h.now old before new after turn
+    pub had : HasTurned remaining contents (phase_of old.link) h.clock old before new after turn
     pub deeds_are : had.deeds ≡ h.deeds
 
   -- and turns, one after another

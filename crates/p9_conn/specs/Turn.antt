@@ -46,14 +46,14 @@ pub record IsStep (entry : Answered) (old new : State) : Type 0 where
   pub reply_is : entry.reply ≡ (step old entry.event.0 entry.event.1).reply
 
 -- a session gets a frame, and this reply
-abbrev pub answering : (session : ℕ) (frame : List ℕ) (now : ℕ) → Bool → (reply : List ℕ)
+abbrev pub answering : (session : ℕ) (frame : List ℕ) (clock : ℕ) → Bool → (reply : List ℕ)
     → Answered
-answering session frame now refused reply =
-    record { event = (Message session frame now, refused); reply = reply }
+answering session frame clock refused reply =
+    record { event = (Message session frame clock, refused); reply = reply }
 
 -- a session is closed
-abbrev pub closing : (session now : ℕ) → Answered
-closing session now = record { event = (Close session now, false); reply = [] }
+abbrev pub closing : (session clock : ℕ) → Answered
+closing session clock = record { event = (Close session clock, false); reply = [] }
 
 -- what a turn is to do
 pub data Phase : Type 0 where
@@ -99,33 +99,33 @@ pub record Receives (old new : Scene) (deeds : Deeds) : Type 0 where
   pub no_entry : deeds.answered ≡ []
 
 -- the frame of this size leaves the buffer, the guard makes the step, and its reply is pending
-pub record AnswersFrame (size session now : ℕ) (old new : Scene) (deeds : Deeds) : Type 0 where
+pub record AnswersFrame (size session clock : ℕ) (old new : Scene) (deeds : Deeds) : Type 0 where
   pub refused : Bool
   pub link_is : new.link
       ≡ record old.link { buffer = drop size old.link.buffer; pending = new.link.pending }
   pub stepped : IsStep
-      (answering session (take size old.link.buffer) now refused new.link.pending) old.state
+      (answering session (take size old.link.buffer) clock refused new.link.pending) old.state
       new.state
   pub deeds_are : deeds
-      ≡ deeds_of (answering session (take size old.link.buffer) now refused new.link.pending)
+      ≡ deeds_of (answering session (take size old.link.buffer) clock refused new.link.pending)
 
 -- session and connection are closed
-pub record Ends (session now : ℕ) (old new : Scene) (deeds : Deeds) : Type 0 where
+pub record Ends (session clock : ℕ) (old new : Scene) (deeds : Deeds) : Type 0 where
   pub link_is : new.link ≡ record old.link { closed = true }
-  pub stepped : IsStep (closing session now) old.state new.state
-  pub deeds_are : deeds ≡ deeds_of (closing session now)
+  pub stepped : IsStep (closing session clock) old.state new.state
+  pub deeds_are : deeds ≡ deeds_of (closing session clock)
 
 -- a turn in a phase. A stream that is to be waited for changes nothing; one that fails or moves
 -- nothing ends its connection
-abbrev pub TurnBy : Phase → (session now : ℕ) → Scene → Scene → Deeds → Type 0
-TurnBy Over session now old new deeds = IsIdle old new deeds
-TurnBy Sending session now old new deeds =
-    Sends old new deeds ⊎ (IsIdle old new deeds ⊎ Ends session now old new deeds)
-TurnBy (Answering size) session now old new deeds = AnswersFrame size session now old new deeds
-TurnBy Ending session now old new deeds = Ends session now old new deeds
-TurnBy Receiving session now old new deeds =
-    Receives old new deeds ⊎ (IsIdle old new deeds ⊎ Ends session now old new deeds)
+abbrev pub TurnBy : Phase → (session clock : ℕ) → Scene → Scene → Deeds → Type 0
+TurnBy Over session clock old new deeds = IsIdle old new deeds
+TurnBy Sending session clock old new deeds =
+    Sends old new deeds ⊎ (IsIdle old new deeds ⊎ Ends session clock old new deeds)
+TurnBy (Answering size) session clock old new deeds = AnswersFrame size session clock old new deeds
+TurnBy Ending session clock old new deeds = Ends session clock old new deeds
+TurnBy Receiving session clock old new deeds =
+    Receives old new deeds ⊎ (IsIdle old new deeds ⊎ Ends session clock old new deeds)
 
 -- a turn
-abbrev pub IsTurn : (session now : ℕ) → Scene → Scene → Deeds → Type 0
-IsTurn session now old new deeds = TurnBy (phase_of old.link) session now old new deeds
+abbrev pub IsTurn : (session clock : ℕ) → Scene → Scene → Deeds → Type 0
+IsTurn session clock old new deeds = TurnBy (phase_of old.link) session clock old new deeds

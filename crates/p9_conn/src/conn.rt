@@ -97,11 +97,11 @@ impl<S: Stream + Drop, A: Allocator + Copy> Conn<S, A> {
         &self.stream
     }
 
-    /// Does the first of these that can be done, and returns what it came to. `now` is the reading of
+    /// Does the first of these that can be done, and returns what it came to. `clock` is the reading of
     /// the clock, in seconds since 1970, modulo 2^32.
     ///
     /// A closed connection does nothing. A reply that is pending is written, in one write. A whole
-    /// frame is taken out of the buffer and answered at `now`; its reply is pending then. Where a
+    /// frame is taken out of the buffer and answered at `clock`; its reply is pending then. Where a
     /// size comes that no frame has, session and connection are closed. Else one read puts bytes into
     /// the buffer.
     ///
@@ -110,82 +110,82 @@ impl<S: Stream + Drop, A: Allocator + Copy> Conn<S, A> {
     /// except for what an answer may take.
     ///
     /// When a session is closed, its fids end by rising number. A file that one of them has open with
-    /// remove-on-close is removed, and its directory is marked at `now`, as clunk(5).
-    pub fn turn<T: Tree>(&mut self, guard: &mut Guard<T>, now: u32) -> Turn
-        ensures { HasTurned S.remaining S.contents (phase_of self.old.link) now self.old guard.old
+    /// remove-on-close is removed, and its directory is marked at `clock`, as clunk(5).
+    pub fn turn<T: Tree>(&mut self, guard: &mut Guard<T>, clock: u32) -> Turn
+        ensures { HasTurned S.remaining S.contents (phase_of self.old.link) clock self.old guard.old
             self.new guard.new result }
     {
         if self.closed {
             return Turn::Closed;
         }
         if !self.output.is_empty() {
-            return self.send(guard, now);
+            return self.send(guard, clock);
         }
         match self.input.front() {
-            Frame::Need => self.receive(guard, now),
-            Frame::Whole(size) => self.answer(guard, now, size),
-            Frame::Broken => self.end(guard, now),
+            Frame::Need => self.receive(guard, clock),
+            Frame::Whole(size) => self.answer(guard, clock, size),
+            Frame::Broken => self.end(guard, clock),
         }
     }
 
     // Writes of what is pending. Another reply follows where another whole frame is there.
-    fn send<T: Tree>(&mut self, guard: &mut Guard<T>, now: u32) -> Turn
+    fn send<T: Tree>(&mut self, guard: &mut Guard<T>, clock: u32) -> Turn
         requires open { self.old.link.closed ≡ false }
         requires pending { 0 < length self.old.link.pending }
-        ensures { HasTurned S.remaining S.contents Sending now self.old guard.old self.new guard.new
+        ensures { HasTurned S.remaining S.contents Sending clock self.old guard.old self.new guard.new
             result }
     {
         let more = matches!(self.input.front(), Frame::Whole(_));
         let written = self.output.send(&mut self.stream, more);
-        self.after(written, guard, now)
+        self.after(written, guard, clock)
     }
 
     // Answers the frame at the front of the buffer.
-    fn answer<T: Tree>(&mut self, guard: &mut Guard<T>, now: u32, size: usize) -> Turn
+    fn answer<T: Tree>(&mut self, guard: &mut Guard<T>, clock: u32, size: usize) -> Turn
         requires open { self.old.link.closed ≡ false }
         requires none { length self.old.link.pending ≡ 0 }
         requires whole { first_frame self.old.link.buffer ≡ Whole size }
-        ensures { HasTurned S.remaining S.contents (Answering size) now self.old guard.old self.new
+        ensures { HasTurned S.remaining S.contents (Answering size) clock self.old guard.old self.new
             guard.new result }
     {
         let frame = &self.input.bytes()[..size];
-        self.output.answer(guard, self.session, frame, now);
+        self.output.answer(guard, self.session, frame, clock);
         self.input.skip(size);
         Turn::Moved
     }
 
     // Reads.
-    fn receive<T: Tree>(&mut self, guard: &mut Guard<T>, now: u32) -> Turn
+    fn receive<T: Tree>(&mut self, guard: &mut Guard<T>, clock: u32) -> Turn
         requires open { self.old.link.closed ≡ false }
         requires need { first_frame self.old.link.buffer ≡ Need }
-        ensures { HasTurned S.remaining S.contents Receiving now self.old guard.old self.new
+        ensures { HasTurned S.remaining S.contents Receiving clock self.old guard.old self.new
             guard.new result }
     {
         let read = self.input.receive(&mut self.stream);
-        self.after(read, guard, now)
+        self.after(read, guard, clock)
     }
 
     // What a call of the stream comes to.
-    fn after<T: Tree>(&mut self, moved: io::Result<usize>, guard: &mut Guard<T>, now: u32) -> Turn
+    fn after<T: Tree>(&mut self, moved: io::Result<usize>, guard: &mut Guard<T>, clock: u32) -> Turn
         requires { self.old.link.closed ≡ false }
-        ensures { ComesTo moved now self.old guard.old self.new guard.new result }
+        ensures { ComesTo moved clock self.old guard.old self.new guard.new result }
     {
         match moved {
-            Ok(0) => self.end(guard, now),
+            Ok(0) => self.end(guard, clock),
             Ok(_) => Turn::Moved,
             Err(error) => match error.kind() {
                 ErrorKind::WouldBlock | ErrorKind::Interrupted => Turn::Idle,
-                _ => self.end(guard, now),
+                _ => self.end(guard, clock),
             },
         }
     }
 
     // Closes the session, if it is open, and the connection.
-    fn end<T: Tree>(&mut self, guard: &mut Guard<T>, now: u32) -> Turn
-        ensures ended { IsEnded now self.old guard.old self.new guard.new result }
+    fn end<T: Tree>(&mut self, guard: &mut Guard<T>, clock: u32) -> Turn
+        ensures ended { IsEnded clock self.old guard.old self.new guard.new result }
     {
         if guard.live(self.session) {
-            guard.close(self.session, now);
+            guard.close(self.session, clock);
         }
         self.closed = true;
         Turn::Closed

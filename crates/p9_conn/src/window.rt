@@ -120,9 +120,9 @@ impl<A: Allocator + Copy> Window<A> {
 
     /// Has a frame answered by the guard. The bytes are then its reply, where the guard wrote it: none
     /// for a session that is not open.
-    pub fn answer<T: Tree>(&mut self, guard: &mut Guard<T>, session: u32, frame: &[u8], now: u32)
+    pub fn answer<T: Tree>(&mut self, guard: &mut Guard<T>, session: u32, frame: &[u8], clock: u32)
         requires { IsTrue (is_frame frame.now) }
-        ensures { FrameIsAnswered session frame.now now guard.old guard.new self.new }
+        ensures { FrameIsAnswered session frame.now clock guard.old guard.new self.new }
     {
         let Some(room) = guard.reply_max(session) else {
             self.start = 0;
@@ -131,7 +131,7 @@ impl<A: Allocator + Copy> Window<A> {
         };
         lengthen(&mut self.bytes, room);
         self.start = 0;
-        self.end = guard.answer(session, frame, now, self.bytes.as_mut_slice());
+        self.end = guard.answer(session, frame, clock, self.bytes.as_mut_slice());
     }
 }
 

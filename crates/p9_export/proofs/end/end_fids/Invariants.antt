@@ -10,8 +10,8 @@ invariant-loop-fid g l =
     let here = l.forest in
     let start = l.fn.forest in
     AreWellOpen l.setting.table here l.fids.fids
-    × (all_applied (on_ends l.setting.table l.now here l.fids.fids) here
-    ≡ all_applied (on_ends l.fn.setting.table l.fn.now start l.fn.fids.fids) start)
+    × (all_applied (on_ends l.setting.table l.clock here l.fids.fids) here
+    ≡ all_applied (on_ends l.fn.setting.table l.fn.clock start l.fn.fids.fids) start)
     × AllFit l.setting.table l.fids
 
 abbrev pub decreases-loop-fid : goal.decreases-loop-fid

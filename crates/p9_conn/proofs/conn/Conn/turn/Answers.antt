@@ -8,7 +8,7 @@ pub returns-then-self : goal.returns-then-self
 returns-then-self g c =
     let b = c.self.inside in
     rw (← c.self.view_is)
-    (over g.S.Read.remaining g.S.Write.contents c.args.now c.args.guard.now b.stream b.session
+    (over g.S.Read.remaining g.S.Write.contents c.args.clock c.args.guard.now b.stream b.session
     b.closed b.input b.output c.if-self.true)
 
 pub returns-in-Broken : goal.returns-in-Broken
@@ -19,5 +19,5 @@ returns-in-Broken g c =
     (broken-phase b.input b.output b.closed c.if-self.false
     (sym c.is_empty.ensures ∙ c.if-not-is_empty.false) (sym c.front.ensures ∙ c.in-Broken.is)) in
     rw phase
-    (broken g.S.Read.remaining g.S.Write.contents c.args.now c.args.guard.now c.args.self.now
+    (broken g.S.Read.remaining g.S.Write.contents c.args.clock c.args.guard.now c.args.self.now
     c.end.new.self c.end.new.guard c.end.result c.end.ensures.ended)

@@ -41,7 +41,7 @@ invariant_of-self g c =
     rw (c.end_fids.ensures.forest, c.remove.ensures.entries) (record {
       served = rw (remove-mapped session_in test rows) (served-closed c.self.inside.setting forest
           (sessions_in rows) c.well_formed-2.ensures c.self.invariant.served c.args.name c.args.clock
-          its there c.ranges.now.fits);
+          its there c.ranges.clock.fits);
       channels = fits-remove c.self.inside.setting.table test rows c.self.invariant.channels;
     })
 

@@ -58,7 +58,7 @@ invariant_of-self g c =
           (sessions_in c.answer-answered.new.sessions.entries) c.args.name c.args.clock c.args.frame.now _
           c.well_formed-2.ensures c.self.invariant.served live
           (All-from_get_or (λ b. b < 256) c.args.frame.now 0 (λ i lt. omega (arith, c.type_inv.frame i)))
-          c.ranges.now.fits
+          c.ranges.clock.fits
           c.answer-answered.ensures.answer;
       channels = c.answer-answered.ensures.channels;
     }
