@@ -11,7 +11,7 @@ returns g c =
     let count = c.answer-self-inside.result in
     let reply = take count c.answer-self-inside.new.reply in
     let fine : IsEvent (Message c.args.session c.args.frame.now c.args.clock) =
-    (are_bytes c.args.frame.now (λ i. omega (arith, c.type_inv.frame i)), c.ranges.now.fits) in
+    (are_bytes c.args.frame.now (λ i. omega (arith, c.type_inv.frame i)), c.ranges.clock.fits) in
     let long : length c.answer-self-inside.new.reply ≡ c.lengthen.new.bytes.len =
     omega (arith, c.answer-self-inside.auto.reply, c.as_mut_slice.ensures.len) in
     let all : count - 0 ≡ count = omega arith in

@@ -14,7 +14,7 @@ invariant_of-self g c =
     subst (λ guard. IsSome (session_at c.args.name guard.state.sessions)) (sym c.self.view_is)
     c.requires.live in
     let fine : IsEvent (Message c.args.name c.args.frame.now c.args.clock) =
-    (are_bytes c.args.frame.now (λ i. omega (arith, c.type_inv.frame i)), c.ranges.now.fits) in
+    (are_bytes c.args.frame.now (λ i. omega (arith, c.type_inv.frame i)), c.ranges.clock.fits) in
     one_stays c.self.inside.hidden.items _ c.self.inside.export c.message.new.self
     (Message c.args.name c.args.frame.now c.args.clock) (is_no_memory_reply c.args.frame.now reply)
     reply c.self.invariant fine c.message.ensures.state c.message.ensures.bytes
@@ -29,7 +29,7 @@ returns-clause-promised g c =
     subst (λ guard. IsSome (session_at c.args.name guard.state.sessions)) (sym c.self.view_is)
     c.requires.live in
     let fine : IsEvent (Message c.args.name c.args.frame.now c.args.clock) =
-    (are_bytes c.args.frame.now (λ i. omega (arith, c.type_inv.frame i)), c.ranges.now.fits) in
+    (are_bytes c.args.frame.now (λ i. omega (arith, c.type_inv.frame i)), c.ranges.clock.fits) in
     rw (← c.self.view_is)
     (one_promised c.self.inside.hidden.items _ c.self.inside.export c.message.new.self
     (Message c.args.name c.args.frame.now c.args.clock) (is_no_memory_reply c.args.frame.now reply)
@@ -45,7 +45,7 @@ returns-clause-unchanged g c = λ none.
     subst (λ guard. IsSome (session_at c.args.name guard.state.sessions)) (sym c.self.view_is)
     c.requires.live in
     let fine : IsEvent (Message c.args.name c.args.frame.now c.args.clock) =
-    (are_bytes c.args.frame.now (λ i. omega (arith, c.type_inv.frame i)), c.ranges.now.fits) in
+    (are_bytes c.args.frame.now (λ i. omega (arith, c.type_inv.frame i)), c.ranges.clock.fits) in
     let same : c.message.new.self ≡ c.self.inside.export =
     message_unchanged c.self.inside.export c.args.name c.args.frame.now c.args.clock
     c.self.invariant.sound c.requires.whole fine.0 c.message.new.self reply live
