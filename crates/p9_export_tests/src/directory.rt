@@ -84,15 +84,18 @@ pub fn list_on<T: Tree>(
 }
 
 /// Adds the entry of glenda's empty file of this number and name, of mode 644 and at the time 0, as
-/// stat(5) has it.
-pub fn push_entry(rt: &impl Abort, number: u32, name: [u8; 4], listing: &mut Vec<u8, Global>) {
+/// stat(5) has it. The name has at most 190 bytes.
+pub fn push_entry(rt: &impl Abort, number: u32, name: &[u8], listing: &mut Vec<u8, Global>) {
+    let length = u8::try_from(name.len()).expect(rt, "a length");
     // The size, the server's type and number, and the qid's kind and version.
-    push(rt, b"\x45\0\0\0\0\0\0\0\0\0\0\0\0", listing);
+    push(rt, &[length.saturating_add(65)], listing);
+    push(rt, b"\0\0\0\0\0\0\0\0\0\0\0\0", listing);
     push(rt, &u64::from(number).to_le_bytes(), listing);
     // The mode, both times, the length of the bytes and of the name.
     push(rt, b"\xa4\x01\0\0\0\0\0\0\0\0\0\0", listing);
-    push(rt, b"\0\0\0\0\0\0\0\0\x04\0", listing);
-    push(rt, &name, listing);
+    push(rt, b"\0\0\0\0\0\0\0\0", listing);
+    push(rt, &[length, 0], listing);
+    push(rt, name, listing);
     push(rt, b"\x06\0glenda\x06\0glenda\x06\0glenda", listing);
 }
 

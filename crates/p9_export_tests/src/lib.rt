@@ -30,4 +30,6 @@ mod renamed;
 #[cfg(test)]
 mod sessions;
 #[cfg(test)]
+mod unions;
+#[cfg(test)]
 mod worlds;

@@ -75,7 +75,7 @@ fn listed<T: Tree>(
 // Adds the entries of a range of numbers.
 fn push_range(rt: &impl Abort, from: u32, to: u32, listing: &mut Vec<u8, Global>) {
     for number in from..to {
-        push_entry(rt, number, name_of(number), listing);
+        push_entry(rt, number, &name_of(number), listing);
     }
 }
 

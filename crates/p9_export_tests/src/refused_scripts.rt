@@ -185,6 +185,59 @@ fn a_bound_directory_is_walked_at_each_refusal(rt: HostRuntime) {
     assert!(rt; play_refused(&rt, rt.alloc(), script) > 4);
 }
 
+// A directory is bound in the place of a file, and a file is made in it, found by both ways and
+// removed.
+#[test]
+fn a_directory_is_walked_for_a_file_at_each_refusal(rt: HostRuntime) {
+    let script = Script {
+        world: SMALL,
+        binds: &[Bind {
+            key: 3,
+            node: 2,
+            order: Order::Replace,
+            create: true,
+        }],
+        sessions: 1,
+        now: 0,
+        rows: &[
+            (
+                1,
+                "17000000 6e 0200 00000000 01000000 0200 0100 61 0100 66",
+                "23000000 6f 0200 0200 80 00000000 0100000000000000 80 00000000 0200000000000000",
+            ),
+            (
+                1,
+                "13000000 72 0300 01000000 0100 6e a4010000 01",
+                "18000000 73 0300 00 00000000 0400000000000000 e81f0000",
+            ),
+            (
+                1,
+                "1a000000 6e 0400 00000000 02000000 0300 0100 61 0100 66 0100 6e",
+                "30000000 6f 0400 0300 80 00000000 0100000000000000 80 01000000 0200000000000000 \
+                00 00000000 0400000000000000",
+            ),
+            (
+                1,
+                "1a000000 6e 0500 00000000 03000000 0300 0100 61 0100 62 0100 6e",
+                "30000000 6f 0500 0300 80 00000000 0100000000000000 80 01000000 0200000000000000 \
+                00 00000000 0400000000000000",
+            ),
+            (1, "0b000000 7a 0600 02000000", "07000000 7b 0600"),
+            (
+                1,
+                "14000000 6e 0700 00000000 04000000 0100 0100 61",
+                "16000000 6f 0700 0100 80 00000000 0100000000000000",
+            ),
+            (
+                1,
+                "17000000 6e 0800 04000000 05000000 0200 0100 66 0100 6e",
+                "16000000 6f 0800 0100 80 02000000 0200000000000000",
+            ),
+        ],
+    };
+    assert!(rt; play_refused(&rt, rt.alloc(), script) > 4);
+}
+
 // A file that is only appended to is made, written and read.
 #[test]
 fn a_file_is_appended_to_at_each_refusal(rt: HostRuntime) {

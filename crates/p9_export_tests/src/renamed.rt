@@ -85,7 +85,7 @@ fn listed<T: Tree>(
 fn entries(rt: &impl Abort, alloc: Global) -> Vec<u8, Global> {
     let mut entries = Vec::new(alloc);
     for number in 2..END {
-        push_entry(rt, number, new_name_of(number), &mut entries);
+        push_entry(rt, number, &new_name_of(number), &mut entries);
     }
     entries
 }

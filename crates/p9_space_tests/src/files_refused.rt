@@ -1,11 +1,12 @@
 //! A run of a namespace file in which an allocation fails does not change the table.
 
 use crate::telling::row;
+use crate::words::node;
 use crate::worlds::forest;
 use p9_base::{Fault, NoMemory};
 use p9_index::IndexTree;
 use p9_nsfile::{NsError, OpFault, run_file};
-use p9_space::MountTable;
+use p9_space::{MountTable, Order};
 use p9_testing::{Refusing, refuse_each};
 use p9_tree::{Forest, PlainTree, Tree};
 use std::alloc::Global;
@@ -28,12 +29,13 @@ bind /a $home/a/b
 mount -a main /a $home
 unmount /a/b";
 
-// What a file is run over.
+// What a file is run over, and the table, which has a row: /acts is bound at /a/f.
 #[derive(Drop)]
 struct Given<T: Tree> {
     vars: Vec<(String<T::Alloc>, String<T::Alloc>), T::Alloc>,
     servers: Vec<String<T::Alloc>, T::Alloc>,
     forest: Forest<T>,
+    table: MountTable<T::Alloc>,
 }
 
 fn make_given<T: Tree>(rt: &impl Abort, alloc: T::Alloc) -> Result<Given<T>, NoMemory> {
@@ -42,36 +44,46 @@ fn make_given<T: Tree>(rt: &impl Abort, alloc: T::Alloc) -> Result<Given<T>, NoM
     let mut vars = Vec::new(alloc);
     vars.push((String::from_str(alloc, "home")?, String::new(alloc)))?;
     let forest = forest(rt, alloc, INCLUDES);
+    let mut table = MountTable::new(alloc);
+    table.bind(node(3), &[node(5)], Order::Replace, false)?;
     Ok(Given {
         vars,
         servers,
         forest,
+        table,
     })
+}
+
+// The table has the row that it had, and one more where there is another text.
+fn has_rows<T: Tree>(rt: &impl Abort, telling: Global, given: &Given<T>, made: &str) {
+    let first = row(telling, &given.table, 0).expect(rt, "memory");
+    assert_eq!(rt; first.as_str(), "3 in 0 is 5");
+    let second = row(telling, &given.table, 1).expect(rt, "memory");
+    assert_eq!(rt; second.as_str(), made);
+    let third = row(telling, &given.table, 2).expect(rt, "memory");
+    assert_eq!(rt; third.as_str(), "none");
 }
 
 // Runs the text, which reports that `cd /none` failed and makes a row; or an allocation fails, and
 // the table is as before.
-fn run<T: Tree>(rt: &impl Abort, telling: Global, given: &Given<T>) {
+fn run<T: Tree>(rt: &impl Abort, telling: Global, mut given: Given<T>) {
     let memory = *given.vars.allocator();
-    let mut table = MountTable::new(memory);
     match run_file(
         memory,
         TEXT,
         &given.vars,
         &given.servers,
         &given.forest,
-        &mut table,
+        &mut given.table,
     ) {
         Ok(reports) => {
             let expected = [(2, OpFault::Path(Fault::NotFound))];
             assert_eq!(rt; reports.as_slice(), expected.as_slice());
-            let told = row(telling, &table, 0).expect(rt, "memory");
-            assert_eq!(rt; told.as_str(), "1 in 0 is 1 0");
-            assert_eq!(rt; table.len(), 1);
+            has_rows(rt, telling, &given, "1 in 0 is 1 0");
         }
         Err(error) => {
             assert_eq!(rt; error, NsError::NoMemory);
-            assert!(rt; table.is_empty());
+            has_rows(rt, telling, &given, "none");
         }
     }
 }
@@ -81,7 +93,7 @@ fn run_refused<T: Tree>(rt: &impl Abort, alloc: Global, memory: &Refusing<Global
     let refusals = refuse_each(
         memory,
         || make_given::<T>(rt, lent).expect(rt, "ample memory"),
-        |given| run(rt, alloc, &given),
+        |given| run(rt, alloc, given),
     );
     assert!(rt; refusals > 20);
 }
