@@ -1,4 +1,4 @@
--- What the words of the command line ask for, and how `clap` is told to read them.
+-- What the words of the command line ask for, and how `clap` is set up to read them.
 use Rattle.std.specs.Prelude.{◌≡◌, ℕ, zero, suc, Bool, MatchBool, List, [], ◌∷◌, Option, Some, None}
 use Rattle.std.specs.Prelude.{codes, false, option_and_then, true, if◌then◌else◌}
 use Rattle.std.specs.List.{list_any}
@@ -39,7 +39,7 @@ asked_with (Some name) (program ∷ []) = None
 asked_with (Some name) (program ∷ word ∷ []) = if bytes_eq word name then command_of name else None
 asked_with (Some name) (program ∷ word ∷ another ∷ more) = None
 
--- What `clap` is told.
+-- How `clap` is set up.
 
 -- a command without a help flag
 abbrev pub without_help : Text → App

@@ -7,7 +7,7 @@ mod words;
 use p9_base::NoMemory;
 use p9_commands::status::BAD_COMMAND_LINE;
 use p9_commands::{BadCommandLine, Command};
-use p9_serve::{run_serve, tell_failure};
+use p9_serve::{report_failure, run_serve};
 use std::alloc::AllocError;
 use std::io::{ErrorKind, Read, Write};
 use std::net::SocketAddr;
@@ -19,11 +19,11 @@ fn main(rt: HostRuntime) -> ExitCode {
     ExitCode::from(status_of(&rt))
 }
 
-// Runs the program, and tells on standard error what kept it from its work.
+// Runs the program, and reports on standard error what kept it from its work.
 fn status_of(rt: &HostRuntime) -> u8 {
     match run(rt) {
         Ok(status) => status,
-        Err(error) => tell_failure(&error, &mut rt.stderr()),
+        Err(error) => report_failure(&error, &mut rt.stderr()),
     }
 }
 

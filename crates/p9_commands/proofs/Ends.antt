@@ -1,19 +1,30 @@
--- How a command ends: over an input that is refused, over one that is prepared, and by its word.
-use Rattle.std.proofs.Common.{◌≡◌, ℕ, List, [], ◌++◌, Option, Result, Ok, Err}
+-- What comes of an input, by what its preparation came to.
+use Rattle.std.proofs.Common.{◌≡◌, ℕ, List, [], ◌++◌, Option, Some, None, Result, Ok, Err}
 use Rattle.std.proofs.Common.{refl, sym, ap, subst, ◌∙◌, append_assoc}
+use Rattle.std.specs.Prelude.{IfErr, IsErrAnd}
 use Rattle.std.specs.Option.{option_map_or}
-use Rattle.p9_cert.specs.declared.gap.Gap.{Gap}
+use Rattle.std.proofs.lemmas.Result.{err_from_is_err_and}
+use Rattle.p9_base.specs.Results.{and_then}
 use Rattle.p9_base.specs.declared.node_ref.NodeRef.{NodeRef}
+use Rattle.p9_cert.specs.declared.gap.Gap.{Gap}
+use Rattle.p9_nsfile.specs.Space.{Report}
 use Rattle.p9_step.specs.Event.{Event}
-use Rattle.p9_commands.specs.Command.{CommandEnds, Printed, admitted, gap_against}
+use Rattle.p9_commands.specs.Command.{CommandEnds, Printed, Writes, admitted, gap_against}
 use Rattle.p9_commands.specs.NameSpace.{NameSpace}
-use Rattle.p9_commands.specs.Prepared.{Prepared, Rejected}
-use Rattle.p9_commands.specs.Refusal.{IsSilent, IsUnverified, TellsStop, refusal_line}
+use Rattle.p9_commands.specs.Prepared.{IsPrepareErrorBy, IsReported, Prepared, Rejected}
+use Rattle.p9_commands.specs.Prepared.{rejected_text}
+use Rattle.p9_commands.specs.Refusal.{IsSilent, IsUnverified, ReportsStop, refusal_line}
 use Rattle.p9_commands.specs.Report.{reports_text}
 use Rattle.p9_commands.specs.declared.command.Command.{Command}
+use Rattle.p9_commands.specs.declared.refusal.Refusal.{Refusal}
 use Rattle.p9_commands.specs.declared.refusal.Refusal.TheVariants.{Unverified}
 use Rattle.p9_commands.specs.declared.refusal.Stop.{Stop}
 use Rattle.p9_commands.specs.declared.refusal.Stop.TheVariants.{Refused, NoMemory}
+
+-- a failed allocation
+pub failed : {V : Type 0} (P : Stop → Type 0) (r : Result V Stop)
+    → IsErrAnd r (λ stop. stop ≡ NoMemory) → P NoMemory → IfErr r P
+failed P r is holds = let error = err_from_is_err_and r is in rw (error.1, error.2) holds
 
 -- A text that was printed after an empty one is appended to another.
 module _ (none printed before after : List ℕ) (empty : none ≡ [])
@@ -22,30 +33,71 @@ module _ (none printed before after : List ℕ) (empty : none ≡ [])
   moved text is =
       appended ∙ ap (λ t. before ++ t) (is ∙ ap (λ n. n ++ text) empty)
 
-module _ (command : Command) (p : Printed) where
-  module _ (prepared : Prepared) (between : List ℕ)
-      (reported : between ≡ p.err_before ++ reports_text prepared.space.reports) where
-    -- what is asked, where this is the gap against it
-    abbrev by_gap : Option Gap → Result Prepared Rejected
-    by_gap gap =
-        option_map_or
-        (λ g. Err (record { reports = prepared.space.reports; refusal = Unverified g }))
-        gap (Ok prepared)
+module _ (before between after : List ℕ) (reports : List Report)
+    (reported : between ≡ before ++ reports_text reports) where
+  -- a fault is reported after the reports
+  pub joined : (refusal : Refusal) → after ≡ between ++ refusal_line refusal
+      → after ≡ before ++ rejected_text (record { reports = reports; refusal = refusal })
+  joined refusal is =
+      is ∙ ap (λ b. b ++ refusal_line refusal) reported
+      ∙ append_assoc before (reports_text reports) (refusal_line refusal)
 
-    -- a gap is against it
-    pub gap-ends : (stop : Stop) → IsUnverified (gap_against command prepared) stop
-        → IsSilent p.out_before p.out stop → TellsStop stop between p.err
-        → CommandEnds command (admitted command prepared) 1 p
-    gap-ends NoMemory is same told = absurd told
-    gap-ends (Refused refusal) is same told =
-        subst (λ (gap : Option Gap). CommandEnds command (by_gap gap) 1 p) (sym is.1) (
-          refl,
-          told ∙ ap (λ r. between ++ refusal_line r) is.2
-              ∙ ap (λ b. b ++ refusal_line (Unverified is.0)) reported
-              ∙ append_assoc p.err_before (reports_text prepared.space.reports)
-              (refusal_line (Unverified is.0)),
-          same,
-        )
+  -- an input with a fault
+  pub not-prepared : (asked : Result Prepared Rejected) (stop : Stop)
+      → IsPrepareErrorBy asked reports stop → ReportsStop stop between after
+      → IsReported asked before after None
+  not-prepared asked NoMemory is printed = absurd printed
+  not-prepared asked (Refused refusal) is printed =
+      subst (λ (a : Result Prepared Rejected). IsReported a before after None) (sym is)
+      (joined refusal printed)
+
+-- What follows the preparation.
+module _ {X : Type 0} (Q : Result X Rejected → Type 0) (next : Prepared → Result X Rejected)
+    (before after : List ℕ) where
+  pub after-fault : (asked : Result Prepared Rejected) → IsReported asked before after None
+      → ((rejected : Rejected) → after ≡ before ++ rejected_text rejected → Q (Err rejected))
+      → Q (and_then asked next)
+  after-fault (Ok found) reported holds = absurd reported
+  after-fault (Err rejected) reported holds = holds rejected reported
+
+  pub after-prepared : (asked : Result Prepared Rejected) (prepared : Prepared)
+      → IsReported asked before after (Some prepared)
+      → (after ≡ before ++ reports_text prepared.space.reports → Q (next prepared))
+      → Q (and_then asked next)
+  after-prepared (Ok found) prepared reported holds =
+      subst (λ (p : Prepared). Q (next p)) reported.0 (holds reported.1)
+  after-prepared (Err rejected) prepared reported holds = absurd reported
+
+-- A command over a prepared input.
+module _ (command : Command) (p : Printed) (prepared : Prepared) (between : List ℕ)
+    (reported : between ≡ p.err_before ++ reports_text prepared.space.reports) where
+  -- what is asked, where this is the gap against it
+  abbrev by_gap : Option Gap → Result Prepared Rejected
+  by_gap gap =
+      option_map_or
+      (λ g. Err (record { reports = prepared.space.reports; refusal = Unverified g }))
+      gap (Ok prepared)
+
+  -- no gap is against it
+  pub work-ends : (status : ℕ) → gap_against command prepared ≡ None
+      → Writes command prepared status p.out_before p.out → p.err ≡ between
+      → CommandEnds command (admitted command prepared) status p
+  work-ends status none writes same =
+      subst (λ (gap : Option Gap). CommandEnds command (by_gap gap) status p) (sym none)
+      (same ∙ reported, writes)
+
+  -- a gap is against it
+  pub gap-ends : (stop : Stop) → IsUnverified (gap_against command prepared) stop
+      → IsSilent p.out_before p.out stop → ReportsStop stop between p.err
+      → CommandEnds command (admitted command prepared) 1 p
+  gap-ends NoMemory is same printed = absurd printed
+  gap-ends (Refused refusal) is same printed =
+      subst (λ (gap : Option Gap). CommandEnds command (by_gap gap) 1 p) (sym is.1) (
+        refl,
+        joined p.err_before between p.err prepared.space.reports reported (Unverified is.0)
+            (printed ∙ ap (λ r. between ++ refusal_line r) is.2),
+        same,
+      )
 
 -- what holds of the parts of a prepared input holds of it
 pub of_parts : (P : Prepared → Type 0) (space : NameSpace) (rows : Option (List NodeRef))

@@ -1,4 +1,4 @@
--- What a guard promises of one event, told as an exporter tells it.
+-- What a guard promises of one event, in an exporter's words.
 use Rattle.std.proofs.Common.{◌≡◌, ℕ, Bool, false, List, [], ◌∷◌, Option, Some, None, Result}
 use Rattle.std.proofs.Common.{Ok, Err, IsSome, refl, sym, ◌∙◌, append-nil}
 use Rattle.std.proofs.Common.{true≢false}
@@ -53,6 +53,6 @@ module _ (hidden : List NodeRef) (before after : State) where
     pub state_is : after ≡ (step before event refused).state
     state_is = promised.state_is
 
-    -- and so is the reply
+    -- the reply is that of the step
     pub reply_is : reply ≡ (step before event refused).reply
     reply_is = promised.bytes_are ∙ append-nil (step before event refused).reply

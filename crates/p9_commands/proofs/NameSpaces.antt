@@ -40,7 +40,3 @@ module _ (world ns : Option (List ℕ)) (text : List ℕ) (w : World) (made : wo
       → IfOk result (λ space. space_in world ns ≡ Ok space)
   read-ok result =
       subst (λ asked. IfOk result (λ space. asked ≡ Ok space)) (sym over_it)
-
-  pub read-stop : (result : Result NameSpace Stop) → IfErr result (IsStop (space_over text w))
-      → IfErr result (IsStop (space_in world ns))
-  read-stop result = subst (λ asked. IfErr result (IsStop asked)) (sym over_it)

@@ -1,39 +1,41 @@
 -- What an input offers to a server.
 use Rattle.std.proofs.Common.{◌≡◌, ℕ, [], ◌++◌, List, Option, Some, None, Result, Ok, Err}
-use Rattle.std.proofs.Common.{append_assoc, sym, subst, ap, ◌∙◌}
+use Rattle.std.proofs.Common.{refl, sym, subst}
 use Rattle.p9_base.specs.Results.{and_then}
 use Rattle.p9_guard.specs.Guard.{Guarded}
-use Rattle.p9_commands.proofs.Ends.{moved}
+use Rattle.p9_commands.proofs.Ends.{joined, moved}
 use Rattle.p9_commands.specs.Offer.{Offer, Serves, offer_in}
-use Rattle.p9_commands.specs.Prepared.{Prepared, Rejected, guard_in}
-use Rattle.p9_commands.specs.Prepared.{with_reports}
-use Rattle.p9_commands.specs.Refusal.{IsStop, TellsStop, refusal_line}
+use Rattle.p9_commands.specs.Prepared.{Prepared, Rejected, guard_in, with_reports}
+use Rattle.p9_commands.specs.Refusal.{IsStop, ReportsStop}
 use Rattle.p9_commands.specs.Report.{reports_text}
 use Rattle.p9_commands.specs.declared.refusal.Refusal.{Refusal}
 use Rattle.p9_commands.specs.declared.refusal.Stop.{Stop}
 use Rattle.p9_commands.specs.declared.refusal.Stop.TheVariants.{Refused, NoMemory}
 
-module _ (before after : List ℕ) where
-  module _ (prepared : Prepared) where
-    -- what is offered, where this is the guard
-    abbrev by_guard : Result Guarded Refusal → Result Offer Rejected
-    by_guard found =
-        and_then (with_reports prepared.space.reports found)
-        (λ guard. Ok (record { reports = prepared.space.reports; guard = guard }))
+module _ (before between after : List ℕ) (prepared : Prepared)
+    (reported : between ≡ before ++ reports_text prepared.space.reports) where
+  -- what is offered, where this is the guard
+  abbrev by_guard : Result Guarded Refusal → Result Offer Rejected
+  by_guard found =
+      and_then (with_reports prepared.space.reports found)
+      (λ guard. Ok (record { reports = prepared.space.reports; guard = guard }))
 
-    -- there is none
-    pub refused-offer : (between : List ℕ) (stop : Stop)
-        → between ≡ before ++ reports_text prepared.space.reports
-        → IsStop (guard_in prepared) stop → TellsStop stop between after
-        → Serves (offer_in prepared) before after None
-    refused-offer between NoMemory reported is told = absurd told
-    refused-offer between (Refused refusal) reported is told =
-        subst (λ (found : Result Guarded Refusal). Serves (by_guard found) before after None)
-        (sym is)
-        (told ∙ ap (λ b. b ++ refusal_line refusal) reported
-        ∙ append_assoc before (reports_text prepared.space.reports) (refusal_line refusal))
+  -- a guard
+  pub guard-offered : (guard : Guarded) → guard_in prepared ≡ Ok guard
+      → Serves (offer_in prepared) before between (Some guard)
+  guard-offered guard is =
+      subst (λ (found : Result Guarded Refusal). Serves (by_guard found) before between (Some guard))
+      (sym is) (refl, reported)
 
--- what is told of an offer after nothing may be appended to another text
+  -- no guard
+  pub none-offered : (stop : Stop) → IsStop (guard_in prepared) stop
+      → ReportsStop stop between after → Serves (offer_in prepared) before after None
+  none-offered NoMemory is printed = absurd printed
+  none-offered (Refused refusal) is printed =
+      subst (λ (found : Result Guarded Refusal). Serves (by_guard found) before after None)
+      (sym is) (joined before between after prepared.space.reports reported refusal printed)
+
+-- what is reported of an offer after nothing may be appended to another text
 pub offer-moved : (offered : Result Offer Rejected) (none printed before after : List ℕ)
     (guard : Option Guarded) → none ≡ [] → after ≡ before ++ printed
     → Serves offered none printed guard → Serves offered before after guard

@@ -5,6 +5,7 @@ use Rattle.std.specs.Prelude.{codes}
 use Rattle.std.specs.List.{flat_map}
 use Rattle.std.specs.Option.{option_map, option_map_or}
 use Rattle.std.proofs.lemmas.List.{map_push, map-append, reverse-append}
+use Rattle.std.proofs.lemmas.List.Folds.{flat_map-map}
 use Rattle.p9_tree.specs.Node.{Node}
 use Rattle.p9_commands.specs.Path.{entry_at, names_below, rooted_path}
 
@@ -52,20 +53,8 @@ map-reverse f (x ∷ xs) =
     ap (map f) (reverse-append (x ∷ []) xs) ∙ map-append f (reverse xs) (x ∷ [])
     ∙ ap (λ ys. ys ++ f x ∷ []) (map-reverse f xs) ∙ sym (reverse-append (f x ∷ []) (map f xs))
 
--- names that are printed each after a slash
-flat_map-now : (names : List (Bor (List ℕ)))
-    → flat_map (λ n. codes "/" ++ n.now) names
-    ≡ flat_map (λ n. codes "/" ++ n) (map (λ n. n.now) names)
-flat_map-now [] = refl
-flat_map-now (n ∷ ns) = ap (λ rest. (codes "/" ++ n.now) ++ rest) (flat_map-now ns)
-
 -- one name or more
 pub rooted_path-names : (names : List (Bor (List ℕ))) → 0 < length names
     → rooted_path (map (λ n. n.now) names) ≡ flat_map (λ n. codes "/" ++ n.now) names
 rooted_path-names [] some = absurd (omega arith)
-rooted_path-names (n ∷ ns) some = sym (flat_map-now (n ∷ ns))
-
--- no name
-pub rooted_path-none : (names : List (Bor (List ℕ))) → names ≡ []
-    → rooted_path (map (λ n. n.now) names) ≡ codes "/"
-rooted_path-none names none = ap (λ ns. rooted_path (map (λ n. n.now) ns)) none
+rooted_path-names (n ∷ ns) some = flat_map-map (λ n. codes "/" ++ n) (λ n. n.now) (n ∷ ns)

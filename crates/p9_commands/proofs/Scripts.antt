@@ -9,10 +9,10 @@ use Rattle.p9_commands.specs.declared.script.ScriptError.{ScriptError}
 use Rattle.p9_commands.specs.declared.script.ScriptError.TheVariants.{BadScript, NoMemory}
 
 -- a line that is bad by itself is bad after any events
-bad_behind : (events : List Event) (line n : ℕ) (event : Option Event)
+bad_after : (events : List Event) (line n : ℕ) (event : Option Event)
     → with_event [] line event ≡ Err n → with_event events line event ≡ Err n
-bad_behind events line n None bad = bad
-bad_behind events line n (Some event) bad = cc
+bad_after events line n None bad = bad
+bad_after events line n (Some event) bad = cc
 
 module _ {X : Type 0} (view : X → ℕ × List (List ℕ)) (items : List X)
     (statements : List (ℕ × List (List ℕ))) (same : map view items ≡ statements)
@@ -35,4 +35,4 @@ module _ {X : Type 0} (view : X → ℕ × List (List ℕ)) (items : List X)
   script-fault (BadScript n) script fault kept =
       sym kept
       ∙ try_fold-err with_statement view items statements same events i n x d l at
-      (bad_behind events (view x).0 n (event_of (view x).1) fault)
+      (bad_after events (view x).0 n (event_of (view x).1) fault)

@@ -29,7 +29,7 @@ made-some (Ok made) world is = by (nat_lt 0 (length made.servers)) refl is
         subst (λ w. 0 < length w.servers) one some
     by false there none = absurd (cc)
 
--- so has the world of a text
+-- the world of a text has a server
 pub world_of-some : (text : List ℕ) (world : World) → world_of text ≡ Ok world
     → 0 < length world.servers
 unfolding world_of

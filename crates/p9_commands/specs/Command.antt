@@ -1,9 +1,10 @@
 -- The program's commands: what each makes of an input that is prepared, and how it ends.
-use Rattle.std.specs.Prelude.{◌≡◌, ◌⊎◌, ℕ, List, ◌++◌, Option, Some, None, Result, Ok, Err, codes}
+use Rattle.std.specs.Prelude.{◌≡◌, ◌⊎◌, ℕ, List, ◌++◌, Option, Some, None, Result, Ok, Err, Vec}
+use Rattle.std.specs.Prelude.{codes}
 use Rattle.std.specs.Option.{option_map_or}
 use Rattle.p9_base.specs.Results.{and_then}
 use Rattle.p9_cert.specs.declared.gap.Gap.{Gap}
-use Rattle.p9_commands.specs.Judgement.{IsTold, SaysNo, SaysYes, verified_status, verified_text}
+use Rattle.p9_commands.specs.Judgement.{IsPrinted, SaysNo, SaysYes, verified_status, verified_text}
 use Rattle.p9_commands.specs.Listing.{table_text}
 use Rattle.p9_commands.specs.NameSpace.{exported}
 use Rattle.p9_commands.specs.Play.{PlaysAll}
@@ -52,6 +53,15 @@ pub record Printed : Type 0 where
   pub err_before : List ℕ
   pub err : List ℕ
 
+-- what two vectors hold, before and after
+abbrev pub printed : {A : Type 0} → (out_before out err_before err : Vec ℕ A) → Printed
+printed out_before out err_before err = record {
+  out_before = out_before.items;
+  out = out.items;
+  err_before = err_before.items;
+  err = err.items;
+}
+
 -- both are as before
 abbrev pub IsUnchanged : Printed → Type 0
 IsUnchanged p = (p.out ≡ p.out_before) × (p.err ≡ p.err_before)
@@ -64,9 +74,9 @@ Writes Play prepared status before after =
 Writes Check prepared status before after =
     SaysYes prepared.space before after status ⊎ SaysNo prepared.space before after status
 Writes Verify prepared status before after =
-    IsTold (verified_status (gap_in prepared)) (verified_text (gap_in prepared)) before after status
+    IsPrinted (verified_status (gap_in prepared)) (verified_text (gap_in prepared)) before after status
 Writes Ns prepared status before after =
-    IsTold 0 (table_text prepared.space.world prepared.space.table) before after status
+    IsPrinted 0 (table_text prepared.space.world prepared.space.table) before after status
 
 -- how a command ends: the exit status, and what it printed. What failed in the making of the name
 -- space is reported, and its work is printed; or its input is refused.

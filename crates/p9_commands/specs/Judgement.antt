@@ -16,8 +16,8 @@ use Rattle.p9_judge.specs.declared.verdict.Verdict.TheVariants.{Yes, No}
 use Rattle.p9_commands.specs.NameSpace.{NameSpace, gap_over}
 
 -- this text is printed, and the exit status is this one
-abbrev pub IsTold : (status : ℕ) (text before after : List ℕ) (result : ℕ) → Type 0
-IsTold status text before after result = (result ≡ status) × (after ≡ before ++ text)
+abbrev pub IsPrinted : (status : ℕ) (text before after : List ℕ) (result : ℕ) → Type 0
+IsPrinted status text before after result = (result ≡ status) × (after ≡ before ++ text)
 
 -- What the judge says.
 
@@ -40,7 +40,7 @@ verdict_status (No breach) = 1
 -- it says yes: the certificate has no gap, and its rows are in every closed one
 pub record SaysYes (space : NameSpace) (before after : List ℕ) (status : ℕ) : Type 0 where
   pub rows : List NodeRef
-  pub told : IsTold 0 (yes_text rows) before after status
+  pub printed : IsPrinted 0 (yes_text rows) before after status
   pub closed : gap_over space rows ≡ None
   pub least : IsLeast (policy_of space.world) space.world.forest space.table rows
 
@@ -49,7 +49,7 @@ pub record SaysNo (space : NameSpace) (before after : List ℕ) (status : ℕ) :
   pub steps : List Step
   pub member : NodeRef
   pub kind : BreachKind
-  pub told : IsTold 1 (no_text steps member kind) before after status
+  pub printed : IsPrinted 1 (no_text steps member kind) before after status
   pub breach : IsBreach (policy_of space.world) space.world.forest space.table steps member kind
   pub by_first : AllByRecursion (IsByFirst (policy_of space.world) space.world.forest) steps
 

@@ -1,4 +1,4 @@
--- The mount table, told as binds.
+-- The mount table, printed as binds.
 use Rattle.std.specs.Prelude.{ℕ, Bool, List, [], ◌∷◌, ◌++◌, codes, if◌then◌else◌}
 use Rattle.std.specs.List.{flat_map}
 use Rattle.p9_base.specs.declared.node_ref.NodeRef.{NodeRef}
@@ -32,7 +32,7 @@ module _ (world : World) where
   members_text key (m ∷ ms) =
       bind_line key (first_flags m.create) m.node ++ flat_map (later_line key) ms
 
-  -- the same of a row, as the table has it
+  -- a line for each member of a row, as the table has it
   abbrev pub row_text : MountRow → List ℕ
   row_text row = members_text row.0 row.1
 

@@ -27,7 +27,7 @@ offer_in prepared =
 abbrev pub offer_of : List ℕ → Result Offer Rejected
 offer_of input = and_then (prepared_of Certificate input) offer_in
 
--- the guard is this one, and what failed is told; or the fault is told, and there is none
+-- the guard is this one, and what failed is reported; or the fault is reported, and there is none
 abbrev pub Serves : Result Offer Rejected → (before after : List ℕ) → Option Guarded → Type 0
 Serves (Ok offer) before after (Some guard) =
     (guard ≡ offer.guard) × (after ≡ before ++ reports_text offer.reports)

@@ -1,4 +1,4 @@
--- The path by which a node is told: its server, and the names from the root on.
+-- The path by which a node is printed: its server, and the names from the root on.
 use Rattle.std.specs.Prelude.{ℕ, zero, suc, List, [], ◌∷◌, ◌++◌, Option, codes, slice_get}
 use Rattle.std.specs.Prelude.{unwrap_or}
 use Rattle.std.specs.List.{flat_map}

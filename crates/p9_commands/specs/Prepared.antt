@@ -11,7 +11,7 @@ use Rattle.p9_nsfile.specs.Space.{Report}
 use Rattle.p9_step.specs.Event.{Event}
 use Rattle.p9_commands.specs.Bundle.{Texts, bundle_of}
 use Rattle.p9_commands.specs.NameSpace.{NameSpace, gap_over, guard_over, space_in}
-use Rattle.p9_commands.specs.Refusal.{TellsStop, or_refused, refusal_line}
+use Rattle.p9_commands.specs.Refusal.{or_refused, refusal_line}
 use Rattle.p9_commands.specs.Report.{reports_text}
 use Rattle.p9_commands.specs.Script.{script_of}
 use Rattle.p9_commands.specs.declared.prepared.Needs.{Needs}
@@ -51,18 +51,12 @@ opened input =
     (and_then (or_refused BadSection (bundle_of input))
     (λ texts. and_then (space_in texts.world texts.ns) (λ space. Ok (texts, space))))
 
--- the rows of a bundle's certificate, where it has one
-abbrev pub certificate_in : Texts → Result (Option (List NodeRef)) Refusal
-certificate_in texts =
-    option_map_or
-    (λ text. and_then (or_refused BadCertificate (certificate_of text)) (λ rows. Ok (Some rows)))
-    texts.cert (Ok None)
-
--- a certificate that is needed is to be there
-abbrev pub needed : {X : Type 0} → Needs → Option X → Result (Option X) Refusal
-needed Nothing rows = Ok rows
-needed Certificate None = Err NoCertificate
-needed Certificate (Some rows) = Ok (Some rows)
+-- the rows of a certificate's text; one that is needed is to be there
+abbrev pub certificate_in : Needs → Option (List ℕ) → Result (Option (List NodeRef)) Refusal
+certificate_in needs (Some text) =
+    and_then (or_refused BadCertificate (certificate_of text)) (λ rows. Ok (Some rows))
+certificate_in Nothing None = Ok None
+certificate_in Certificate None = Err NoCertificate
 
 -- the events of a bundle's script; none where it has no script
 abbrev pub script_in : Texts → Result (List Event) Refusal
@@ -71,7 +65,7 @@ script_in texts = or_refused BadEvent (script_of (unwrap_or texts.script []))
 -- the certificate and the script of a bundle
 abbrev pub rest_in : Needs → Texts → Result (Option (List NodeRef) × List Event) Refusal
 rest_in needs texts =
-    and_then (and_then (certificate_in texts) (needed needs))
+    and_then (certificate_in needs texts.cert)
     (λ rows. and_then (script_in texts) (λ events. Ok (rows, events)))
 
 -- a name space with the certificate and the script of its bundle
@@ -100,7 +94,7 @@ guarded space rows =
 abbrev pub guard_in : Prepared → Result Guarded Refusal
 guard_in prepared = option_map_or (guarded prepared.space) prepared.rows (Err NoCertificate)
 
--- How a refusal is told.
+-- How a refusal is reported.
 
 -- what failed in the namespace file, and then the fault
 abbrev pub rejected_text : Rejected → List ℕ
@@ -115,7 +109,12 @@ IsPrepareErrorBy asked reports (Refused refusal) =
 abbrev pub IsPrepareError : {X A : Type 0} → Result X Rejected → PrepareError A → Type 0
 IsPrepareError asked error = IsPrepareErrorBy asked error.reports.items error.stop
 
--- the reports of an error are told, and then what stopped
-abbrev pub TellsError : {A : Type 0} → PrepareError A → (before after : List ℕ) → Type 0
-TellsError error before after =
-    TellsStop error.stop (before ++ reports_text error.reports.items) after
+-- an input is prepared, and what failed in its namespace file is reported; or its first fault is
+-- reported, and there is nothing
+abbrev pub IsReported : Result Prepared Rejected → (before after : List ℕ) → Option Prepared
+    → Type 0
+IsReported (Ok found) before after (Some prepared) =
+    (prepared ≡ found) × (after ≡ before ++ reports_text prepared.space.reports)
+IsReported (Ok found) before after None = ⊥
+IsReported (Err rejected) before after (Some prepared) = ⊥
+IsReported (Err rejected) before after None = after ≡ before ++ rejected_text rejected

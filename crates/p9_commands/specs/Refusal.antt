@@ -1,4 +1,4 @@
--- Why an input is refused, and how it is told.
+-- Why an input is refused, and how that is reported.
 use Rattle.std.specs.Prelude.{◌≡◌, ℕ, List, [], ◌∷◌, ◌++◌, Option, Some, Result, Ok, Err, codes}
 use Rattle.std.specs.Fmt.{decimal}
 use Rattle.p9_world.specs.Error.{line_fault_text}
@@ -34,11 +34,11 @@ abbrev pub IsSilent : (before after : List ℕ) → Stop → Type 0
 IsSilent before after NoMemory = Unit {0}
 IsSilent before after (Refused refusal) = after ≡ before
 
--- what is told of a line of a section
+-- what is reported of a line of a section
 abbrev pub at_line : (section : List ℕ) (line : ℕ) (text : List ℕ) → List ℕ
 at_line section line text = section ++ codes ":" ++ decimal line ++ codes ": " ++ text
 
--- the text that tells a refusal
+-- the text that reports a refusal
 abbrev pub refusal_text : Refusal → List ℕ
 refusal_text NotUtf8 = codes "input: not UTF-8"
 refusal_text (BadSection line) = at_line (codes "bundle") line (codes "bad section")
@@ -49,11 +49,11 @@ refusal_text NoCertificate = codes "cert: missing"
 refusal_text (BadEvent line) = at_line (codes "script") line (codes "bad line")
 refusal_text (Unverified gap) = codes "cert: " ++ gap_text gap
 
--- the line that tells a refusal
+-- the line that reports a refusal
 abbrev pub refusal_line : Refusal → List ℕ
 refusal_line refusal = refusal_text refusal ++ 10 ∷ []
 
--- a refusal is told in one line more; a failed allocation never is
-abbrev pub TellsStop : Stop → (before after : List ℕ) → Type 0
-TellsStop NoMemory before after = ⊥
-TellsStop (Refused refusal) before after = after ≡ before ++ refusal_line refusal
+-- a refusal is reported in one line more; a failed allocation never is
+abbrev pub ReportsStop : Stop → (before after : List ℕ) → Type 0
+ReportsStop NoMemory before after = ⊥
+ReportsStop (Refused refusal) before after = after ≡ before ++ refusal_line refusal

@@ -1,4 +1,4 @@
--- What failed in the making of a name space, as it is told.
+-- What failed in the making of a name space, as it is reported.
 use Rattle.std.specs.Prelude.{ℕ, List, [], ◌∷◌, ◌++◌, codes}
 use Rattle.std.specs.List.{flat_map}
 use Rattle.p9_nsfile.specs.Space.{Report}

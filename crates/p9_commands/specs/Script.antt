@@ -21,40 +21,33 @@ abbrev pub frame_of_hex : List ℕ → Option (List ℕ)
 frame_of_hex [] = None
 frame_of_hex (digit ∷ digits) = result_ok (decode_of (digit ∷ digits))
 
--- `open S`
-abbrev pub open_event_of : (verb name : List ℕ) → Option Event
-open_event_of verb name =
-    if bytes_eq verb (codes "open") then option_map Open (short_number name) else None
-
 -- a message, where all three of its parts are good
-abbrev pub message_event_at : (name : Option ℕ) (frame : Option (List ℕ)) (now : Option ℕ)
+abbrev pub message_event_at : (name : Option ℕ) (frame : Option (List ℕ)) (clock : Option ℕ)
     → Option Event
-message_event_at (Some name) (Some frame) (Some now) = Some (Message name frame now)
-message_event_at name frame now = None
+message_event_at (Some name) (Some frame) (Some clock) = Some (Message name frame clock)
+message_event_at name frame clock = None
 
--- `msg S NOW HEX`
-abbrev pub message_event_of : (verb name now hex : List ℕ) → Option Event
-message_event_of verb name now hex =
-    if bytes_eq verb (codes "msg")
-    then message_event_at (short_number name) (frame_of_hex hex) (short_number now)
-    else None
+abbrev pub message_event_of : (name clock hex : List ℕ) → Option Event
+message_event_of name clock hex =
+    message_event_at (short_number name) (frame_of_hex hex) (short_number clock)
 
 -- a closing, where both of its parts are good
-abbrev pub close_event_at : (name now : Option ℕ) → Option Event
-close_event_at (Some name) (Some now) = Some (Close name now)
-close_event_at name now = None
+abbrev pub close_event_at : (name clock : Option ℕ) → Option Event
+close_event_at (Some name) (Some clock) = Some (Close name clock)
+close_event_at name clock = None
 
+abbrev pub close_event_of : (name clock : List ℕ) → Option Event
+close_event_of name clock = close_event_at (short_number name) (short_number clock)
+
+-- the event that the words of a line say, if they say one: `open S`, `msg S NOW HEX` or
 -- `close S NOW`
-abbrev pub close_event_of : (verb name now : List ℕ) → Option Event
-close_event_of verb name now =
-    if bytes_eq verb (codes "close") then close_event_at (short_number name) (short_number now)
-    else None
-
--- the event that the words of a line say, if they say one
 abbrev pub event_of : List (List ℕ) → Option Event
-event_of (verb ∷ name ∷ []) = open_event_of verb name
-event_of (verb ∷ name ∷ now ∷ hex ∷ []) = message_event_of verb name now hex
-event_of (verb ∷ name ∷ now ∷ []) = close_event_of verb name now
+event_of (verb ∷ name ∷ []) =
+    if bytes_eq verb (codes "open") then option_map Open (short_number name) else None
+event_of (verb ∷ name ∷ clock ∷ hex ∷ []) =
+    if bytes_eq verb (codes "msg") then message_event_of name clock hex else None
+event_of (verb ∷ name ∷ clock ∷ []) =
+    if bytes_eq verb (codes "close") then close_event_of name clock else None
 event_of words = None
 
 -- the event joins the others; a line that says none is bad
@@ -62,7 +55,7 @@ abbrev pub with_event : List Event → ℕ → Option Event → Result (List Eve
 with_event events line (Some event) = Ok (events ++ event ∷ [])
 with_event events line None = Err line
 
--- the same of a statement: its line and its words
+-- the event of a statement, which is its line and its words, joins the others
 abbrev pub with_statement : List Event → ℕ × List (List ℕ) → Result (List Event) ℕ
 with_statement events statement = with_event events statement.0 (event_of statement.1)
 

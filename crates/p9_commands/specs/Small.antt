@@ -34,7 +34,7 @@ glendas number parent name mode bytes = record {
   bytes = bytes;
 }
 
--- its one server
+-- the one server of the world
 abbrev pub small : Server
 small = record {
   nodes =

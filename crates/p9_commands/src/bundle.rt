@@ -57,7 +57,7 @@ impl Section {
         }
     }
 
-    // Its place among all.
+    // The section's place among all.
     fn place(self) -> u8
         ensures { result ≡ place_of self }
     {
@@ -69,7 +69,7 @@ impl Section {
         }
     }
 
-    // Whether it may follow the section before, if there is one.
+    // Whether the section may follow the one before, if there is one.
     fn may_follow(self, last: Option<Section>) -> bool
         ensures { result ≡ may_follow last self }
     {

@@ -2,8 +2,8 @@
 
 ghost use Rattle.std.specs.Prelude.{◌≡◌, IfErr, IfOk, None, OnErr, OnOk, map};
 ghost use Rattle.std.specs.Option.{option_map_or};
-ghost use Rattle.p9_commands.specs.Command.{CommandEnds, IsUnchanged, WordEnds, Writes, admitted};
-ghost use Rattle.p9_commands.specs.Command.{asked, gap_against, needs_of};
+ghost use Rattle.p9_commands.specs.Command.{CommandEnds, IsUnchanged, WordEnds, Writes};
+ghost use Rattle.p9_commands.specs.Command.{asked, gap_against, needs_of, printed};
 ghost use Rattle.p9_commands.specs.NameSpace.{gap_over};
 ghost use Rattle.p9_commands.specs.Refusal.{IsSilent, IsUnverified};
 ghost use Rattle.p9_export.specs.Event.{event_view};
@@ -11,8 +11,7 @@ ghost use Rattle.p9_export.specs.Event.{event_view};
 use crate::judgement::print_verified;
 use crate::name_space::NameSpace;
 use crate::play::play_events;
-use crate::prepared::{Needs, Prepared, prepare};
-use crate::printed::append_both;
+use crate::prepared::{Needs, Prepared, prepare_and_report};
 use crate::refusal::Stop;
 use crate::status::{BAD_COMMAND_LINE, DONE, REFUSED};
 use p9_base::NoMemory;
@@ -87,18 +86,9 @@ pub fn run_command<A: Allocator + Copy>(
     out: &mut Vec<u8, A>,
     err: &mut Vec<u8, A>,
 ) -> Result<u8, NoMemory>
-    ensures ok { IfOk result (λ status. WordEnds word.now input.now status (record {
-      out_before = out.old.items;
-      out = out.new.items;
-      err_before = err.old.items;
-      err = err.new.items;
-    })) }
-    ensures no_memory { OnErr result (IsUnchanged (record {
-      out_before = out.old.items;
-      out = out.new.items;
-      err_before = err.old.items;
-      err = err.new.items;
-    })) }
+    ensures ok { IfOk result (λ status. WordEnds word.now input.now status
+        (printed out.old out.new err.old err.new)) }
+    ensures no_memory { OnErr result (IsUnchanged (printed out.old out.new err.old err.new)) }
 {
     run_command_over::<IndexTree<A>>(word, input, out, err)
 }
@@ -110,18 +100,9 @@ pub fn run_command_over<T: Tree>(
     out: &mut Vec<u8, T::Alloc>,
     err: &mut Vec<u8, T::Alloc>,
 ) -> Result<u8, NoMemory>
-    ensures ok { IfOk result (λ status. WordEnds word.now input.now status (record {
-      out_before = out.old.items;
-      out = out.new.items;
-      err_before = err.old.items;
-      err = err.new.items;
-    })) }
-    ensures no_memory { OnErr result (IsUnchanged (record {
-      out_before = out.old.items;
-      out = out.new.items;
-      err_before = err.old.items;
-      err = err.new.items;
-    })) }
+    ensures ok { IfOk result (λ status. WordEnds word.now input.now status
+        (printed out.old out.new err.old err.new)) }
+    ensures no_memory { OnErr result (IsUnchanged (printed out.old out.new err.old err.new)) }
 {
     match word.parse::<Command>() {
         Ok(command) => run_over::<T>(command, input, out, err),
@@ -135,11 +116,11 @@ pub fn run_command_over<T: Tree>(
 /// Runs a command over its input, and returns the exit status. What it prints is appended to `out`,
 /// and what it reports is appended to `err`, each report as a line.
 ///
-/// The input is prepared as [`prepare`] says. What failed in its namespace file is reported as
-/// `ns:L: TEXT`, where `L` is the number of a line of that section, before any other report but a
-/// fault that is found earlier. The first fault is reported as [`Refusal::text`] says; the status is
-/// 1 then, and `out` is unchanged. `verify` refuses an input without a certificate, and `play` one
-/// whose certificate has a gap. Where there is no fault, the command does its work:
+/// The input is prepared as [`prepare`](crate::prepare) says. What failed in its namespace file is
+/// reported as `ns:L: TEXT`, where `L` is the number of a line of that section, before any other
+/// report but a fault that is found earlier. The first fault is reported as [`Refusal::text`] says;
+/// the status is 1 then, and `out` is unchanged. `verify` refuses an input without a certificate,
+/// and `play` one whose certificate has a gap. Where there is no fault, the command does its work:
 ///
 /// - `play` plays the script over the name space, on a [`Guard`](p9_guard::Guard) where the input
 ///   has a certificate. For each frame it prints a line, the reply in lower case hexadecimal
@@ -160,18 +141,8 @@ pub fn run<A: Allocator + Copy>(
     err: &mut Vec<u8, A>,
 ) -> Result<u8, NoMemory>
     ensures ok { IfOk result (λ status. CommandEnds command (asked command input.now) status
-        (record {
-          out_before = out.old.items;
-          out = out.new.items;
-          err_before = err.old.items;
-          err = err.new.items;
-        })) }
-    ensures no_memory { OnErr result (IsUnchanged (record {
-      out_before = out.old.items;
-      out = out.new.items;
-      err_before = err.old.items;
-      err = err.new.items;
-    })) }
+        (printed out.old out.new err.old err.new)) }
+    ensures no_memory { OnErr result (IsUnchanged (printed out.old out.new err.old err.new)) }
 {
     run_over::<IndexTree<A>>(command, input, out, err)
 }
@@ -185,23 +156,15 @@ fn run_over<T: Tree>(
     err: &mut Vec<u8, T::Alloc>,
 ) -> Result<u8, NoMemory>
     ensures ok { IfOk result (λ status. CommandEnds command (asked command input.now) status
-        (record {
-          out_before = out.old.items;
-          out = out.new.items;
-          err_before = err.old.items;
-          err = err.new.items;
-        })) }
-    ensures no_memory { OnErr result (IsUnchanged (record {
-      out_before = out.old.items;
-      out = out.new.items;
-      err_before = err.old.items;
-      err = err.new.items;
-    })) }
+        (printed out.old out.new err.old err.new)) }
+    ensures no_memory { OnErr result (IsUnchanged (printed out.old out.new err.old err.new)) }
 {
     let mut printed = Vec::new(*out.allocator());
     let mut reported = Vec::new(*err.allocator());
     let status = end::<T>(command, input, &mut printed, &mut reported)?;
-    append_both(printed.as_slice(), out, reported.as_slice(), err)?;
+    err.reserve(reported.len())?;
+    out.extend_from_slice(printed.as_slice())?;
+    err.extend_from_slice(reported.as_slice())?;
     Ok(status)
 }
 
@@ -214,43 +177,15 @@ fn end<T: Tree>(
     err: &mut Vec<u8, T::Alloc>,
 ) -> Result<u8, NoMemory>
     ensures { IfOk result (λ status. CommandEnds command (asked command input.now) status
-        (record {
-          out_before = out.old.items;
-          out = out.new.items;
-          err_before = err.old.items;
-          err = err.new.items;
-        })) }
+        (printed out.old out.new err.old err.new)) }
 {
-    match prepare::<T>(*out.allocator(), input, command.needs()) {
-        Ok(prepared) => end_prepared(command, prepared, out, err),
-        Err(error) => {
-            error.tell(err)?;
-            Ok(REFUSED)
-        }
-    }
-}
-
-// Does what a command asks for over an input that is prepared, and reports first what failed in its
-// namespace file.
-fn end_prepared<T: Tree>(
-    command: Command,
-    prepared: Prepared<T>,
-    out: &mut Vec<u8, T::Alloc>,
-    err: &mut Vec<u8, T::Alloc>,
-) -> Result<u8, NoMemory>
-    ensures { IfOk result (λ status. CommandEnds command (admitted command prepared) status
-        (record {
-          out_before = out.old.items;
-          out = out.new.items;
-          err_before = err.old.items;
-          err = err.new.items;
-        })) }
-{
-    prepared.print_reports(err)?;
+    let Some(prepared) = prepare_and_report::<T>(input, command.needs(), err)? else {
+        return Ok(REFUSED);
+    };
     match work(command, prepared, out) {
         Ok(status) => Ok(status),
         Err(stop) => {
-            stop.tell(err)?;
+            stop.report(err)?;
             Ok(REFUSED)
         }
     }

@@ -12,6 +12,7 @@ ghost use Rattle.p9_export.specs.Event.{event_view};
 ghost use Rattle.p9_commands.specs.declared.refusal.Refusal.TheVariants.{BadSection};
 
 use crate::bundle::{Bundle, BundleError, split_bundle};
+use crate::prepared::Needs;
 use crate::refusal::{Refusal, Stop};
 use crate::script::{ScriptError, read_script};
 use p9_cert::{Certificate, ReadError, read_cert};
@@ -41,22 +42,26 @@ pub(crate) fn sections<A: Allocator + Copy>(alloc: A, text: &str) -> Result<Bund
     }
 }
 
-/// The certificate of a bundle, where it has one, or its first bad line.
+/// The certificate of a bundle, or its first bad line. It may be missing where it isn't needed.
 pub(crate) fn certificate<A: Allocator + Copy>(
     alloc: A,
+    needs: Needs,
     bundle: &Bundle<A>,
 ) -> Result<Option<Certificate<A>>, Stop>
     ensures ok { IfOk result (λ certificate.
-        certificate_in (bundle_view bundle.now) ≡ Ok certificate) }
-    ensures stop { IfErr result (IsStop (certificate_in (bundle_view bundle.now))) }
+        certificate_in needs (bundle_view bundle.now).cert ≡ Ok certificate) }
+    ensures stop { IfErr result (IsStop (certificate_in needs (bundle_view bundle.now).cert)) }
 {
-    let Some(text) = text_of(&bundle.cert) else {
-        return Ok(None);
-    };
-    match read_cert(alloc, text) {
-        Ok(certificate) => Ok(Some(certificate)),
-        Err(ReadError::BadCert { line }) => Err(Stop::Refused(Refusal::BadCertificate { line })),
-        Err(ReadError::NoMemory) => Err(Stop::NoMemory),
+    match (needs, text_of(&bundle.cert)) {
+        (Needs::Nothing, None) => Ok(None),
+        (Needs::Certificate, None) => Err(Stop::Refused(Refusal::NoCertificate)),
+        (_, Some(text)) => match read_cert(alloc, text) {
+            Ok(certificate) => Ok(Some(certificate)),
+            Err(ReadError::BadCert { line }) => {
+                Err(Stop::Refused(Refusal::BadCertificate { line }))
+            }
+            Err(ReadError::NoMemory) => Err(Stop::NoMemory),
+        },
     }
 }
 

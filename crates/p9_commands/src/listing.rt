@@ -1,8 +1,8 @@
-//! The mount table, told as binds.
+//! The mount table, printed as binds.
 
 ghost use Rattle.std.specs.Prelude.{◌≡◌, ◌++◌, OnOk};
-ghost use Rattle.p9_commands.specs.Listing.{bind_line, first_flags, later_flags, later_line};
-ghost use Rattle.p9_commands.specs.Listing.{members_text, row_text, table_text};
+ghost use Rattle.p9_commands.specs.Listing.{bind_line, first_flags, later_flags, members_text};
+ghost use Rattle.p9_commands.specs.Listing.{table_text};
 
 use crate::path::print_path;
 use p9_base::{NoMemory, NodeRef};

@@ -1,21 +1,19 @@
 //! The name space of an input: its world, and the mount table that its namespace file makes.
 
-ghost use Rattle.std.specs.Prelude.{◌≡◌, ◌⊎◌, ◌++◌, ◌<◌, IfErr, IfOk, None, Ok, OnOk, Some};
+ghost use Rattle.std.specs.Prelude.{◌≡◌, ◌⊎◌, ◌<◌, IfErr, IfOk, None, Ok, OnOk, Some};
 ghost use Rattle.std.specs.Prelude.{length};
 ghost use Rattle.std.specs.Option.{option_copied};
-ghost use Rattle.p9_nsfile.specs.Given.{KeepsGiven};
-ghost use Rattle.p9_nsfile.specs.Line.{IsNsFault};
-ghost use Rattle.p9_nsfile.specs.Run.{run_of};
-ghost use Rattle.p9_commands.specs.Judgement.{IsTold, SaysNo, SaysYes};
+ghost use Rattle.p9_commands.specs.Judgement.{IsPrinted, SaysNo, SaysYes};
 ghost use Rattle.p9_commands.specs.Listing.{table_text};
-ghost use Rattle.p9_commands.specs.NameSpace.{environment_of, exported, gap_over, guard_over};
-ghost use Rattle.p9_commands.specs.NameSpace.{or_bad_operation, space_in, space_over, world_in};
+ghost use Rattle.p9_commands.specs.NameSpace.{exported, gap_over, guard_over, space_in};
+ghost use Rattle.p9_commands.specs.NameSpace.{space_over, world_in};
 ghost use Rattle.p9_commands.specs.Refusal.{IsStop, IsUnverified};
 
 use crate::judgement::print_verdict;
 use crate::listing::print_table;
 use crate::refusal::{Refusal, Stop};
 use crate::small::small_world;
+use crate::status::DONE;
 use p9_base::NoMemory;
 use p9_cert::Certificate;
 use p9_export::Export;
@@ -82,22 +80,34 @@ impl<T: Tree> NameSpace<T> {
     {
         world.well_formed();
         let mut table = MountTable::new(alloc);
-        let reports = run(alloc, text, &world, &mut table)?;
-        Ok(NameSpace {
-            world,
-            table,
-            reports,
-        })
+        match run_file(
+            alloc,
+            text,
+            &world.vars,
+            &world.servers,
+            &world.forest,
+            &mut table,
+        ) {
+            Ok(reports) => Ok(NameSpace {
+                world,
+                table,
+                reports,
+            }),
+            Err(NsError::BadLine { line, kind }) => {
+                Err(Stop::Refused(Refusal::BadOperation { line, kind }))
+            }
+            Err(NsError::NoMemory) => Err(Stop::NoMemory),
+        }
     }
 
     /// Prints the mount table, a line for each member of each row. Returns the exit status. Where
     /// an allocation fails, a part of it may be printed.
     pub(crate) fn list(&self, out: &mut Vec<u8, T::Alloc>) -> Result<u8, NoMemory>
-        ensures { IfOk result (IsTold 0 (table_text self.now.world self.now.table) out.old.items
+        ensures { IfOk result (IsPrinted 0 (table_text self.now.world self.now.table) out.old.items
             out.new.items) }
     {
         print_table(&self.world, &self.table, out)?;
-        Ok(0)
+        Ok(DONE)
     }
 
     /// Judges, and prints `yes` and a certificate, or `no` and a breach. Returns the exit status.
@@ -146,18 +156,6 @@ impl<T: Tree> NameSpace<T> {
         } = world;
         Export::new(forest, users, groups, table)
     }
-
-    /// What failed in its making.
-    pub(crate) fn into_reports(self) -> Vec<(u64, OpFault), T::Alloc>
-        ensures { result.items ≡ self.reports }
-    {
-        let NameSpace {
-            world: _,
-            table: _,
-            reports,
-        } = self;
-        reports
-    }
 }
 
 // The world of a section; where it isn't there the sample world.
@@ -175,34 +173,5 @@ fn world_in<T: Tree>(alloc: T::Alloc, text: Option<&str>) -> Result<World<T>, St
             Err(Stop::Refused(Refusal::BadWorld { line, kind }))
         }
         Err(WorldError::NoMemory) => Err(Stop::NoMemory),
-    }
-}
-
-// Runs a namespace file over a world, and returns what failed.
-fn run<T: Tree>(
-    alloc: T::Alloc,
-    text: &str,
-    world: &World<T>,
-    table: &mut MountTable<T::Alloc>,
-) -> Result<Vec<(u64, OpFault), T::Alloc>, Stop>
-    ensures ok { IfOk result (λ reports.
-        run_of (environment_of world.now) text.now table.old ≡ Ok (table.new, reports.items)) }
-    ensures stop { IfErr result (IsStop (or_bad_operation (run_of
-        (environment_of world.now) text.now table.old))) }
-    ensures given { OnOk result (KeepsGiven (environment_of world.now) table.old table.new) }
-{
-    match run_file(
-        alloc,
-        text,
-        &world.vars,
-        &world.servers,
-        &world.forest,
-        table,
-    ) {
-        Ok(reports) => Ok(reports),
-        Err(NsError::BadLine { line, kind }) => {
-            Err(Stop::Refused(Refusal::BadOperation { line, kind }))
-        }
-        Err(NsError::NoMemory) => Err(Stop::NoMemory),
     }
 }

@@ -1,9 +1,9 @@
 //! What an input offers to a server: a guard over its name space.
 
 ghost use Rattle.std.specs.Prelude.{◌≡◌, IfOk, OnErr};
-ghost use Rattle.p9_commands.specs.Offer.{Serves, offer_in, offer_of};
+ghost use Rattle.p9_commands.specs.Offer.{Serves, offer_of};
 
-use crate::prepared::{Needs, Prepared, prepare};
+use crate::prepared::{Needs, prepare_and_report};
 use p9_base::NoMemory;
 use p9_guard::Guard;
 use p9_index::IndexTree;
@@ -13,10 +13,10 @@ use std::alloc::Allocator;
 /// server: that which [`Guard::new`] makes of the world, the mount table and the certificate. What
 /// is reported is appended to `err`, each report as a line.
 ///
-/// The input is prepared as [`prepare`] says, with a certificate. What failed in its namespace file
-/// is reported as `ns:L: TEXT`, where `L` is the number of a line of that section. The first fault
-/// is reported as [`Refusal::text`] says, and the result is `None` then. The script is read, and not
-/// played. The last fault is a gap of the certificate: `cert: GAP`.
+/// The input is prepared as [`prepare`](crate::prepare) says, with a certificate. What failed in its
+/// namespace file is reported as `ns:L: TEXT`, where `L` is the number of a line of that section.
+/// The first fault is reported as [`Refusal::text`] says, and the result is `None` then. The script
+/// is read, and not played. The last fault is a gap of the certificate: `cert: GAP`.
 ///
 /// Where an allocation fails, it returns [`NoMemory`], and `err` is as before.
 ///
@@ -43,28 +43,13 @@ fn offer<A: Allocator + Copy>(
     ensures { IfOk result (λ guard. Serves (offer_of input.now) err.old.items err.new.items
         guard) }
 {
-    match prepare(*err.allocator(), input, Needs::Certificate) {
-        Ok(prepared) => offer_prepared(prepared, err),
-        Err(error) => {
-            error.tell(err)?;
-            Ok(None)
-        }
-    }
-}
-
-// The guard that an input offers that is prepared. What failed in its namespace file is reported
-// first.
-fn offer_prepared<A: Allocator + Copy>(
-    prepared: Prepared<IndexTree<A>>,
-    err: &mut Vec<u8, A>,
-) -> Result<Option<Guard<IndexTree<A>>>, NoMemory>
-    ensures { IfOk result (λ guard. Serves (offer_in prepared) err.old.items err.new.items guard) }
-{
-    prepared.print_reports(err)?;
+    let Some(prepared) = prepare_and_report(input, Needs::Certificate, err)? else {
+        return Ok(None);
+    };
     match prepared.guard() {
         Ok(guard) => Ok(Some(guard)),
         Err(stop) => {
-            stop.tell(err)?;
+            stop.report(err)?;
             Ok(None)
         }
     }

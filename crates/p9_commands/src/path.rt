@@ -1,4 +1,4 @@
-//! The path by which a node is told.
+//! The path by which a node is printed.
 
 ghost use Rattle.std.specs.Prelude.{◌≡◌, ◌++◌, IfOk, OnOk, map, reverse};
 ghost use Rattle.std.specs.Option.{option_map};
@@ -49,7 +49,7 @@ fn names_to<'a, T: Tree>(
     Ok(names)
 }
 
-// The same, from the node's own name on.
+// The names from a node's own up to that below its server's root.
 fn names_from<'a, T: Tree>(
     alloc: T::Alloc,
     forest: &'a Forest<T>,

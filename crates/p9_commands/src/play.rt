@@ -1,6 +1,6 @@
 //! Playing events.
 
-ghost use Rattle.std.specs.Prelude.{◌≡◌, ◌≤◌, ◌*◌, ◌++◌, IfOk, OnOk, codes, length, map};
+ghost use Rattle.std.specs.Prelude.{◌≡◌, ◌*◌, IfOk, OnOk, length, map};
 ghost use Rattle.p9_step.specs.Event.{Open, Message, Close};
 ghost use Rattle.p9_commands.specs.Play.{Plays, PlaysAll};
 ghost use Rattle.p9_export.specs.Event.{event_view};
@@ -83,7 +83,7 @@ fn open<M: Machine, A: Allocator + Copy>(
 {
     match machine.open(name) {
         Ok(()) => Ok(()),
-        Err(OpenError::Live) => skip(out),
+        Err(OpenError::Live) => print_line("skip", out),
         Err(OpenError::NoMemory) => Err(NoMemory),
     }
 }
@@ -105,11 +105,11 @@ fn answer<M: Machine, A: Allocator + Copy>(
         out.old.items out.new.items) }
 {
     if !is_frame(frame) {
-        return skip(out);
+        return print_line("skip", out);
     }
     match machine.answer(name, frame, now, reply) {
         Some(size) => print_hex(&reply[..size], digits, out),
-        None => skip(out),
+        None => print_line("skip", out),
     }
 }
 
@@ -125,15 +125,8 @@ fn close<M: Machine, A: Allocator + Copy>(
         out.new.items) }
 {
     if !machine.live(name) {
-        return skip(out);
+        return print_line("skip", out);
     }
     machine.close(name, now);
     Ok(())
-}
-
-// Prints that an event doesn't fit.
-fn skip<A: Allocator + Copy>(out: &mut Vec<u8, A>) -> Result<(), NoMemory>
-    ensures { OnOk result (out.new.items ≡ out.old.items ++ codes "skip\n") }
-{
-    print_line("skip", out)
 }

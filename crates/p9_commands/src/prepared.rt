@@ -1,12 +1,11 @@
 //! An input that is prepared: all that the commands and the server take from it.
 
-ghost use Rattle.std.specs.Prelude.{◌≡◌, ◌++◌, IfErr, IfOk, Ok, OnOk, map};
+ghost use Rattle.std.specs.Prelude.{◌≡◌, IfErr, IfOk, Ok, map};
 ghost use Rattle.p9_cert.specs.declared.gap.Gap.{Gap};
 ghost use Rattle.p9_commands.specs.Bundle.{bundle_view};
-ghost use Rattle.p9_commands.specs.Prepared.{IsPrepareError, TellsError, gap_in, guard_in, needed};
-ghost use Rattle.p9_commands.specs.Prepared.{opened, prepared_of, prepared_with, rest_in};
+ghost use Rattle.p9_commands.specs.Prepared.{IsPrepareError, IsReported, gap_in, guard_in, opened};
+ghost use Rattle.p9_commands.specs.Prepared.{prepared_of, prepared_with, rest_in};
 ghost use Rattle.p9_commands.specs.Refusal.{IsStop};
-ghost use Rattle.p9_commands.specs.Report.{reports_text};
 ghost use Rattle.p9_export.specs.Event.{event_view};
 
 use crate::bundle::Bundle;
@@ -104,6 +103,29 @@ pub fn prepare<T: Tree>(
     }
 }
 
+/// Prepares an input as [`prepare`] does, and reports what failed in its namespace file, and then its
+/// first fault, a line each. It returns `None` where there is a fault. Where an allocation fails, a
+/// part of the lines may be there.
+pub(crate) fn prepare_and_report<T: Tree>(
+    input: &[u8],
+    needs: Needs,
+    err: &mut Vec<u8, T::Alloc>,
+) -> Result<Option<Prepared<T>>, NoMemory>
+    ensures { IfOk result (IsReported (prepared_of needs input.now) err.old.items err.new.items) }
+{
+    match prepare::<T>(*err.allocator(), input, needs) {
+        Ok(prepared) => {
+            print_reports(prepared.space.reports.as_slice(), err)?;
+            Ok(Some(prepared))
+        }
+        Err(PrepareError { reports, stop }) => {
+            print_reports(reports.as_slice(), err)?;
+            stop.report(err)?;
+            Ok(None)
+        }
+    }
+}
+
 // The sections of an input, and the name space that they describe.
 fn opened<T: Tree>(alloc: T::Alloc, input: &[u8]) -> Result<(Bundle<T::Alloc>, NameSpace<T>), Stop>
     ensures ok { IfOk result (λ found. opened input.now ≡ Ok (bundle_view found.0, found.1)) }
@@ -135,10 +157,10 @@ fn prepare_with<T: Tree>(
             certificate,
             events,
         }),
-        Err(stop) => Err(PrepareError {
-            reports: space.into_reports(),
-            stop,
-        }),
+        Err(stop) => {
+            let NameSpace { reports, .. } = space;
+            Err(PrepareError { reports, stop })
+        }
     }
 }
 
@@ -152,35 +174,12 @@ fn rest<A: Allocator + Copy>(
         ≡ Ok (found.0, map event_view found.1.items)) }
     ensures stop { IfErr result (IsStop (rest_in needs (bundle_view bundle.now))) }
 {
-    let certificate = needed(needs, certificate(alloc, bundle)?)?;
+    let certificate = certificate(alloc, needs, bundle)?;
     let events = script(alloc, bundle)?;
     Ok((certificate, events))
 }
 
-// A certificate, which is to be there if it is needed.
-fn needed<A: Allocator>(
-    needs: Needs,
-    certificate: Option<Certificate<A>>,
-) -> Result<Option<Certificate<A>>, Stop>
-    ensures ok { IfOk result (λ given. needed needs certificate ≡ Ok given) }
-    ensures stop { IfErr result (IsStop (needed needs certificate)) }
-{
-    match (needs, certificate) {
-        (Needs::Certificate, None) => Err(Stop::Refused(Refusal::NoCertificate)),
-        (_, certificate) => Ok(certificate),
-    }
-}
-
 impl<T: Tree> Prepared<T> {
-    /// Prints what failed in the namespace file, a line each. Where an allocation fails, some of
-    /// them may be there.
-    pub(crate) fn print_reports(&self, err: &mut Vec<u8, T::Alloc>) -> Result<(), NoMemory>
-        ensures { OnOk result
-            (err.new.items ≡ err.old.items ++ reports_text self.now.space.reports) }
-    {
-        print_reports(self.space.reports.as_slice(), err)
-    }
-
     /// The first gap of the certificate, as [`verify`] returns it; none where there is no
     /// certificate.
     pub fn gap(&self) -> Option<Gap>
@@ -210,16 +209,5 @@ impl<T: Tree> Prepared<T> {
             Some(certificate) => space.guard(certificate),
             None => Err(Stop::Refused(Refusal::NoCertificate)),
         }
-    }
-}
-
-impl<A: Allocator + Copy> PrepareError<A> {
-    /// Prints the reports, and then the fault, a line each. Where an allocation failed or fails, it
-    /// returns [`NoMemory`], and a part of them may be there.
-    pub(crate) fn tell(&self, err: &mut Vec<u8, A>) -> Result<(), NoMemory>
-        ensures { OnOk result (TellsError self.now err.old.items err.new.items) }
-    {
-        print_reports(self.reports.as_slice(), err)?;
-        self.stop.tell(err)
     }
 }

@@ -1,8 +1,8 @@
-//! Why an input is refused, and how it is told.
+//! Why an input is refused, and how that is reported.
 
 ghost use Rattle.std.specs.Prelude.{◌≡◌, IfOk, OnOk};
 ghost use Rattle.std.specs.String.{string_bytes};
-ghost use Rattle.p9_commands.specs.Refusal.{TellsStop, at_line, refusal_text};
+ghost use Rattle.p9_commands.specs.Refusal.{ReportsStop, at_line, refusal_text};
 
 use crate::line::print_line;
 use p9_base::NoMemory;
@@ -43,7 +43,7 @@ pub enum Stop {
 }
 
 impl Refusal {
-    /// The line that tells it, without a newline.
+    /// The line that reports it, without a newline.
     pub fn text<A: Allocator + Copy>(self, alloc: A) -> Result<String<A>, AllocError>
         ensures { IfOk result (λ text. string_bytes text ≡ refusal_text self) }
     {
@@ -63,8 +63,8 @@ impl Refusal {
 impl Stop {
     /// Prints the line of a refusal. Where an allocation failed or fails, it returns [`NoMemory`],
     /// and a part of the line may be there.
-    pub(crate) fn tell<A: Allocator + Copy>(self, err: &mut Vec<u8, A>) -> Result<(), NoMemory>
-        ensures { OnOk result (TellsStop self err.old.items err.new.items) }
+    pub(crate) fn report<A: Allocator + Copy>(self, err: &mut Vec<u8, A>) -> Result<(), NoMemory>
+        ensures { OnOk result (ReportsStop self err.old.items err.new.items) }
     {
         match self {
             Stop::Refused(refusal) => {
@@ -76,20 +76,21 @@ impl Stop {
     }
 }
 
-/// What is told of a line of a section.
+/// What is reported of a line of a section.
 pub(crate) fn at_line<A: Allocator + Copy>(
     alloc: A,
     section: &str,
     line: u64,
     text: &str,
 ) -> Result<String<A>, AllocError>
-    ensures { IfOk result (λ told. string_bytes told ≡ at_line section.now line text.now) }
+    ensures { IfOk result (λ report.
+        string_bytes report ≡ at_line section.now line text.now) }
 {
     let number = format!(in alloc; ":{line}: ")?;
-    let mut told = String::from_str(alloc, section)?;
-    told.push_str(number.as_str())?;
-    told.push_str(text)?;
-    Ok(told)
+    let mut report = String::from_str(alloc, section)?;
+    report.push_str(number.as_str())?;
+    report.push_str(text)?;
+    Ok(report)
 }
 
 impl From<NoMemory> for Stop {

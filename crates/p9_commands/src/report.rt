@@ -1,7 +1,7 @@
-//! What failed in the making of a name space, as it is told.
+//! What failed in the making of a name space, as it is reported.
 
 ghost use Rattle.std.specs.Prelude.{◌≡◌, ◌++◌, OnOk};
-ghost use Rattle.p9_commands.specs.Report.{report_line, reports_text};
+ghost use Rattle.p9_commands.specs.Report.{reports_text};
 
 use crate::line::print_line;
 use crate::refusal::at_line;
@@ -9,7 +9,8 @@ use p9_base::NoMemory;
 use p9_nsfile::OpFault;
 use std::alloc::Allocator;
 
-/// Prints reports, a line each. Where an allocation fails, some of them may be there.
+/// Prints reports, a line each: the line of the namespace section, and why its operation did nothing.
+/// Where an allocation fails, some of them may be there.
 pub(crate) fn print_reports<A: Allocator + Copy>(
     reports: &[(u64, OpFault)],
     err: &mut Vec<u8, A>,
@@ -17,19 +18,8 @@ pub(crate) fn print_reports<A: Allocator + Copy>(
     ensures { OnOk result (err.new.items ≡ err.old.items ++ reports_text reports.now) }
 {
     for (line, fault) in reports {
-        print_report(*line, *fault, err)?;
+        let text = at_line(*err.allocator(), "ns", *line, fault.text())?;
+        print_line(text.as_str(), err)?;
     }
     Ok(())
-}
-
-// The line of the namespace section, and why its operation did nothing.
-fn print_report<A: Allocator + Copy>(
-    line: u64,
-    fault: OpFault,
-    err: &mut Vec<u8, A>,
-) -> Result<(), NoMemory>
-    ensures { OnOk result (err.new.items ≡ err.old.items ++ report_line (line, fault)) }
-{
-    let text = at_line(*err.allocator(), "ns", line, fault.text())?;
-    print_line(text.as_str(), err)
 }

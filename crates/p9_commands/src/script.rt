@@ -4,7 +4,7 @@ ghost use Rattle.std.specs.Prelude.{◌≡◌, [], IfErr, IfOk, Ok, Some, map};
 ghost use Rattle.std.specs.Option.{option_map};
 ghost use Rattle.p9_export.specs.Event.{event_view};
 ghost use Rattle.p9_commands.specs.Script.{IsScriptFault, close_event_of, event_of};
-ghost use Rattle.p9_commands.specs.Script.{frame_of_hex, message_event_of, open_event_of};
+ghost use Rattle.p9_commands.specs.Script.{frame_of_hex, message_event_of};
 ghost use Rattle.p9_commands.specs.Script.{with_event};
 ghost use Rattle.p9_commands.specs.Script.{script_of, short_number};
 ghost use Rattle.p9_base.specs.Statement.{statement_view};
@@ -70,60 +70,38 @@ fn event<A: Allocator + Copy>(alloc: A, words: &[&str]) -> Result<Option<Event<A
     ensures { IfOk result (λ event.
         option_map event_view event ≡ event_of (map (λ word. word.now) words.now)) }
 {
-    let [verb, rest @ ..] = words else {
-        return Ok(None);
-    };
-    match rest {
-        [name] => Ok(open_event(verb, name)),
-        [name, now, hex] => message_event(alloc, verb, name, now, hex),
-        [name, now] => Ok(close_event(verb, name, now)),
+    match words {
+        [verb, name] if *verb == "open" => Ok(short_number(name).map(Event::Open)),
+        [verb, name, clock, hex] if *verb == "msg" => message_event(alloc, name, clock, hex),
+        [verb, name, clock] if *verb == "close" => Ok(close_event(name, clock)),
         _ => Ok(None),
     }
 }
 
-// `open S`.
-fn open_event<A: Allocator + Copy>(verb: &str, name: &str) -> Option<Event<A>>
-    ensures { option_map event_view result ≡ open_event_of verb.now name.now }
-{
-    if verb != "open" {
-        return None;
-    }
-    Some(Event::Open(short_number(name)?))
-}
-
-// `msg S NOW HEX`.
+// A message, where its three parts are good.
 fn message_event<A: Allocator + Copy>(
     alloc: A,
-    verb: &str,
     name: &str,
-    now: &str,
+    clock: &str,
     hex: &str,
 ) -> Result<Option<Event<A>>, NoMemory>
     ensures { IfOk result (λ event.
-        option_map event_view event ≡ message_event_of verb.now name.now now.now hex.now) }
+        option_map event_view event ≡ message_event_of name.now clock.now hex.now) }
 {
-    if verb != "msg" {
-        return Ok(None);
-    }
-    let (Some(name), Some(now)) = (short_number(name), short_number(now)) else {
+    let (Some(name), Some(clock)) = (short_number(name), short_number(clock)) else {
         return Ok(None);
     };
     match frame_of_hex(alloc, hex)? {
-        Some(frame) => Ok(Some(Event::Message(name, frame, now))),
+        Some(frame) => Ok(Some(Event::Message(name, frame, clock))),
         None => Ok(None),
     }
 }
 
-// `close S NOW`.
-fn close_event<A: Allocator + Copy>(verb: &str, name: &str, now: &str) -> Option<Event<A>>
-    ensures { option_map event_view result ≡ close_event_of verb.now name.now now.now }
+// A closing, where both of its parts are good.
+fn close_event<A: Allocator + Copy>(name: &str, clock: &str) -> Option<Event<A>>
+    ensures { option_map event_view result ≡ close_event_of name.now clock.now }
 {
-    if verb != "close" {
-        return None;
-    }
-    let name = short_number(name)?;
-    let now = short_number(now)?;
-    Some(Event::Close(name, now))
+    Some(Event::Close(short_number(name)?, short_number(clock)?))
 }
 
 // A session's name or a reading of the clock: a decimal number below 2^32.

@@ -30,7 +30,7 @@ pub(crate) fn small_world<T: Tree>(alloc: T::Alloc) -> Result<World<T>, NoMemory
     })
 }
 
-// Its one server.
+// The one server of the world `small`.
 fn small<T: Tree>(alloc: T::Alloc) -> Result<T, NoMemory>
     ensures { IfOk result (λ tree. T.state tree ≡ small) }
 {

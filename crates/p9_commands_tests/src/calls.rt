@@ -82,7 +82,7 @@ fn a_command_is_exact(rt: HostRuntime) -> Result<(), Fail> {
     let status = run_command("play ", b"\xff", &mut out, &mut err)?;
     assert_eq!(rt; status, 2);
     assert_eq!(rt; out.len(), 0);
-    let told = str::from_utf8(err.as_slice());
-    assert_eq!(rt; told, Ok("p9: bad command line\n"));
+    let reported = str::from_utf8(err.as_slice());
+    assert_eq!(rt; reported, Ok("p9: bad command line\n"));
     Ok(())
 }

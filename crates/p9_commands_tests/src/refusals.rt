@@ -17,9 +17,9 @@ const ATTACH_OUT: &str = "1300000065ffff002000000600395032303030
 1400000069010080000000000000000000000000
 ";
 
-// Plays an input whose script is the first attach, with what is told of its namespace file. Where
+// Plays an input whose script is the first attach, with what is reported of its namespace file. Where
 // an allocation fails, the command says so, or the attach's reply does.
-fn play_again<A: Allocator + Copy>(rt: &impl Abort, alloc: A, input: &str, told: &str) {
+fn play_again<A: Allocator + Copy>(rt: &impl Abort, alloc: A, input: &str, reported: &str) {
     let mut out = Vec::new(alloc);
     let mut err = Vec::new(alloc);
     let outcome = run_command("play", input.as_bytes(), &mut out, &mut err);
@@ -30,14 +30,14 @@ fn play_again<A: Allocator + Copy>(rt: &impl Abort, alloc: A, input: &str, told:
             word: "play",
             input,
             out: ATTACH_OUT,
-            err: told,
+            err: reported,
             status: 0,
         };
         run_again(rt, alloc, run);
         return;
     }
     assert_eq!(rt; outcome, Ok(0));
-    assert_eq!(rt; str::from_utf8(err.as_slice()), Ok(told));
+    assert_eq!(rt; str::from_utf8(err.as_slice()), Ok(reported));
     let refused = "1300000065ffff002000000600395032303030
 160000006b01000d006f7574206f66206d656d6f7279
 ";
@@ -145,7 +145,8 @@ fn a_yes_is_said_again_at_each_refusal(rt: HostRuntime) {
     assert!(rt; refusals_of(&rt, rt.alloc(), run) > 30);
 }
 
-// The same, and a bind leads into the vault.
+// A vault, with a namespace file that fails at its first line, and binds a part of the vault at its
+// second.
 const LEAK: &str = "%% world
 server main
 dir / 755 sys sys
@@ -204,7 +205,7 @@ fn a_certificate_is_verified_again_at_each_refusal(rt: HostRuntime) {
     assert!(rt; refusals_of(&rt, rt.alloc(), run) > 30);
 }
 
-// The same with a certificate that has a gap.
+// The vault with a certificate that has a gap, and a script.
 const GAP: &str = "%% world
 server main
 dir / 755 sys sys
@@ -224,7 +225,7 @@ msg 1 0 1300000064ffff002000000600395032303030
 ";
 
 #[test]
-fn a_gap_is_told_again_at_each_refusal(rt: HostRuntime) {
+fn a_gap_is_printed_again_at_each_refusal(rt: HostRuntime) {
     let run = Run {
         word: "verify",
         input: GAP,

@@ -142,7 +142,7 @@ keyed-open slots n conn after old new is keyed same left stays =
     (ap (λ x. x.session) (sym here) ∙ same ∙ its.0, stays'.own left its.2))
     stays'.others
 
--- and after one that closed it
+-- after a turn that closed it
 pub keyed-closed : {S : Type 0} (slots : List (Option (Connection S))) (n : ℕ)
     (conn after : Connection S) (old new : Scene) → slot_at slots n ≡ Some conn
     → AreKeyed slots old.state.sessions → StaysOpen conn.session old new

@@ -62,7 +62,7 @@ insert-here n (row ∷ rows) s = go (nat_cmp n row.0) refl (insert-here n rows s
     go Equal e behind = rw (e, e) refl
     go Greater e behind = rw (e, e) behind
 
--- and the others stay there
+-- the others stay there
 insert-there : (n : ℕ) (at : ℕ → Bool) (rows : List SessionRow) (s : Session)
     → IsSome (lookup at rows) → IsSome (lookup at (insert_entry nat_cmp rows n s))
 insert-there n at [] s there = absurd (cc)
@@ -143,7 +143,7 @@ module _ (state : State) (k : ℕ) (there : IsSome (session_at k state.sessions)
       by_frame true = by_session (session_at n state.sessions)
       by_frame false = there
 
-  -- and when another is closed
+  -- another is closed
   pub close-there : (n now : ℕ) → k ≢ n
       → IsSome (session_at k (step state (Close n now) false).state.sessions)
   close-there n now other = go (session_at n state.sessions)
@@ -154,7 +154,7 @@ module _ (state : State) (k : ℕ) (there : IsSome (session_at k state.sessions)
       go None = there
       go (Some session) = remove-there n k state.sessions other there
 
-  -- and when another is opened
+  -- another is opened
   pub open-there : (n : ℕ) → session_at n state.sessions ≡ None
       → IsSome (session_at k (step state (Open n) false).state.sessions)
   open-there n free =

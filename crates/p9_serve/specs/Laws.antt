@@ -67,7 +67,7 @@ module _ (S : Type 0) where
       (old new : Serving S) (key : ℕ)
       → Pass remaining contents (earlier ++ Arrives key ∷ later) old new → IsSent key later
 
-  -- and so holds each client's stream that tells what it holds, as long as the client has the key
+  -- a stream whose content is known holds the replies to its client, as long as that has the key
   abbrev pub StreamsHoldTheReplies : Type 0
   StreamsHoldTheReplies =
       (remaining contents : S → Option (List ℕ)) (key : ℕ) (old first new : Serving S)

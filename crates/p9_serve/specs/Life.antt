@@ -82,7 +82,7 @@ module _ {S : Type 0} (remaining contents : S → Option (List ℕ)) where
   Passes (Acts h) old new = HasActed h old new
   Passes (Leaves key now) old new = LeavesAt key now old new
 
-  -- and so do moments, one after another
+  -- moments lead from clients to clients, one after another
   abbrev pub Pass : List Moment → Serving S → Serving S → Type 0
   Pass [] old new = new ≡ old
   Pass (moment ∷ moments) old new =

@@ -9,19 +9,19 @@ pub record Pacing : Type 0 where
   pub quiet : ℕ
   pub left : ℕ
 
--- so many rounds pass at most without an accept
+-- how many rounds pass at most without an accept
 abbrev pub longest_wait : ℕ
 longest_wait = 63
 
--- so many quiet rounds come between two accepts
+-- how many quiet rounds come between two accepts
 abbrev pub accept_each : ℕ
 accept_each = 16
 
--- behind so many quiet rounds a server rests before each further one
+-- after this many quiet rounds a server rests before each further one
 abbrev pub rest_from : ℕ
 rest_from = 5_000
 
--- behind so many it rests longest
+-- after this many quiet rounds a server rests longest
 abbrev pub most_quiet : ℕ
 most_quiet = 5_007
 

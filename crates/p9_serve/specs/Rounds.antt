@@ -20,7 +20,7 @@ Accepts old new zero = new ≡ old
 Accepts {S} old new (suc zero) = (stream : S) × IsTakenIn stream old new
 Accepts {S} old new (suc (suc more)) = ⊥
 
--- the same where an accept is due; else nobody is taken in
+-- an accept where one is due; else nobody is taken in
 abbrev pub AcceptsIf : {S : Type 0} → (due : Bool) → Serving S → Serving S → (accepted : ℕ)
     → Type 0
 AcceptsIf true old new accepted = Accepts old new accepted
@@ -30,7 +30,7 @@ AcceptsIf false old new accepted = (new ≡ old) × (accepted ≡ 0)
 abbrev pub tally_of : Round → Tally
 tally_of round = record { moved = round.moved; closed = round.closed }
 
--- a round at this reading of the clock, over streams that may tell of their bytes: an accept, if
+-- a round at this reading of the clock, over streams whose bytes may be known: an accept, if
 -- one is due, and then a turn of each connection
 pub record HasRound {S : Type 0} (remaining contents : S → Option (List ℕ)) (now : ℕ)
     (old new : Running S) (round : Round) : Type 0 where
@@ -39,6 +39,6 @@ pub record HasRound {S : Type 0} (remaining contents : S → Option (List ℕ)) 
   pub turned : HasTurns remaining contents now between new.serving (tally_of round)
   pub pace_is : new.pace ≡ pacing_after old.pace round
 
--- a socket tells nothing of its bytes
+-- of a socket no bytes are known
 abbrev pub untold : {S : Type 0} → S → Option (List ℕ)
 untold socket = None

@@ -13,7 +13,7 @@ use Rattle.p9_commands.specs.Offer.{Offered, Serves}
 abbrev pub reading : (nanoseconds : ℕ) → ℕ
 reading nanoseconds = nanoseconds / 1_000_000_000 % 2 ^ 32
 
--- the line that tells which address is served
+-- the line with the address that is served
 abbrev pub listening : SocketAddr → List ℕ
 listening address = codes "listening " ++ socket_text address ++ codes "\n"
 
@@ -24,20 +24,21 @@ pub record Written : Type 0 where
   pub err_before : Option (List ℕ)
   pub err : Option (List ℕ)
 
--- a guard of what the input offers was served at some address, and both were told
+-- a guard of what the input offers was served at some address: the address is printed, and what
+-- failed in the namespace file is reported
 pub record WasServed (offered : Offered) (w : Written) : Type 0 where
   pub guard : Guarded
-  pub told : List ℕ
-  pub serves : Serves offered [] told (Some guard)
+  pub reports : List ℕ
+  pub serves : Serves offered [] reports (Some guard)
   pub address : SocketAddr
-  pub errors : Appends w.err_before w.err told
+  pub errors : Appends w.err_before w.err reports
   pub output : Appends w.out_before w.out (listening address)
 
--- there is a reason against that, and it was told
+-- there is a reason against that, and it is reported
 pub record IsRefused (offered : Offered) (w : Written) : Type 0 where
-  pub told : List ℕ
-  pub serves : Serves offered [] told None
-  pub errors : Appends w.err_before w.err told
+  pub reports : List ℕ
+  pub serves : Serves offered [] reports None
+  pub errors : Appends w.err_before w.err reports
   pub output : w.out ≡ w.out_before
 
 -- the exit status of serving and of a refusal
@@ -67,18 +68,18 @@ abbrev pub failure_status : ErrorKind → ℕ
 failure_status OutOfMemory = 3
 failure_status kind = 4
 
--- the text that tells of it
+-- the text that reports it
 abbrev pub failure_text : ErrorKind → List ℕ
 failure_text OutOfMemory = codes "out of memory\n"
 failure_text kind = codes "input or output failed\n"
 
--- serving broke off for a failure, and a front of its text is behind what was reported
+-- serving broke off for a failure, and a front of its text is after what was reported
 pub record HasFailed (offered : Offered) (w : Written) (status : ℕ) : Type 0 where
   pub kind : ErrorKind
   pub status_is : status ≡ failure_status kind
   pub between : Option (List ℕ)
   pub broken : BreaksOff offered (record w { err = between })
-  pub told : AppendsFront between w.err (failure_text kind)
+  pub text : AppendsFront between w.err (failure_text kind)
 
 -- a serving of what an input offers, a refusal of it, or a failure
 abbrev pub Ends : Offered → Written → ℕ → Type 0

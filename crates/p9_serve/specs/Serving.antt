@@ -57,7 +57,7 @@ pub record HasTurnAt {S : Type 0} (remaining contents : S → Option (List ℕ))
   pub slots_are : new.slots
       ≡ slice_set old.slots key (if after.link.closed then None else Some after)
 
--- the same of the connection at a key, if there is one
+-- the turn of the connection at a key, if there is one
 abbrev pub TurnAt : {S : Type 0} → (remaining contents : S → Option (List ℕ)) (now key : ℕ)
     → Option (Connection S) → (old new : Serving S) → Option Turn → Type 0
 TurnAt remaining contents now key None old new turn = (new ≡ old) × (turn ≡ None)
@@ -107,20 +107,20 @@ pub record HasEndedAt {S : Type 0} (now key : ℕ) (old new : Serving S) : Type 
   pub guard_is : new.guard ≡ in_state old.guard (step old.guard.state (Close key now) false).state
   pub slots_are : new.slots ≡ slice_set old.slots key None
 
--- that at a key, if there is one
+-- the connection at a key is ended, if there is one
 abbrev pub EndAt : {S : Type 0} → (now key : ℕ) → Option (Connection S) → Serving S → Serving S
     → Type 0
 EndAt now key None old new = new ≡ old
 EndAt now key (Some conn) old new = HasEndedAt now key old new
 
--- those of so many keys, from 0 on, one after another
+-- the connections of so many keys, from 0 on, are ended one after another
 abbrev pub Ended : {S : Type 0} → (now keys : ℕ) → Serving S → Serving S → Type 0
 Ended now zero old new = new ≡ old
 Ended {S} now (suc key) old new =
     (between : Serving S) × Ended now key old between
     × EndAt now key (slot_at between.slots key) between new
 
--- each connection was ended so, and this guard is left
+-- each connection was ended, by rising key, and this guard is left
 pub record IsFinished {S : Type 0} (now : ℕ) (old : Serving S) (guard : Guarded) : Type 0 where
   pub bound : ℕ
   pub all : length old.slots ≤ bound

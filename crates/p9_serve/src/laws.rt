@@ -22,13 +22,13 @@ pub fn every_life_is_promised<S>()
 {}
 
 /// What a client's connection has written, with what is pending, is the replies to it, in their
-/// order, until its key is given to another client; and so where another had the key before.
+/// order, until its key is given to another client, also where another had the key before.
 pub fn clients_are_sent_their_replies<S>()
     ensures { ClientsAreSentTheirReplies S }
 {}
 
-/// A stream that tells what it holds: as long as a client has its key, its stream holds what it held
-/// when the client arrived, and then the replies to that client, up to what is pending; and so where
+/// A stream whose content is known: as long as a client has its key, its stream holds what it held
+/// when the client arrived, and then the replies to that client, up to what is pending, also where
 /// another had the key before.
 pub fn streams_hold_the_replies<S>()
     ensures { StreamsHoldTheReplies S }

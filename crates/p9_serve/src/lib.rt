@@ -4,20 +4,18 @@
 
 mod clients;
 mod clock;
+mod failure;
 pub mod laws;
 mod pace;
 mod run;
 mod server;
 mod socket;
-mod tell;
 
 pub use clients::{Clients, Tally};
-pub use p9_commands::{
-    Bundle, BundleError, ScriptError, read_script, run_command, served_guard, split_bundle,
-};
+pub use failure::report_failure;
+pub use p9_commands::{read_script, run_command, served_guard, split_bundle};
 pub use p9_conn::{Conn, Stream, Turn};
 pub use pace::Pace;
 pub use run::run_serve;
 pub use server::{Round, Server};
 pub use socket::Socket;
-pub use tell::tell_failure;

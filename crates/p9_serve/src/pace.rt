@@ -9,24 +9,24 @@ use crate::server::Round;
 use std::marker::Model;
 use std::time::Duration;
 
-// So many rounds pass at most without an accept.
+// How many rounds pass at most without an accept.
 const LONGEST_WAIT: u64 = 63;
 
-// So many quiet rounds come between two accepts.
+// How many quiet rounds come between two accepts.
 const ACCEPT_EACH: u64 = 16;
 
-// Behind so many quiet rounds a server rests before each further one.
+// After this many quiet rounds a server rests before each further one.
 const REST_FROM: u64 = 5_000;
 
-// Behind so many it rests longest, so that no more are counted.
+// After this many quiet rounds a server rests longest. No more are counted.
 const MOST_QUIET: u64 = 5_007;
 
 /// What a server's rounds so far say of the next one: whether it accepts, and how long to rest
 /// before it. A round is quiet where nothing was taken in, moved or closed.
 ///
 /// A round accepts if it is the first, if none of the 63 before it did, if the quiet rounds just
-/// before it are 16 or a multiple of that, and behind each rest. There is a rest behind 5,000 quiet
-/// rounds and behind each further one: 50 microseconds at first, then each time twice as long, up
+/// before it are 16 or a multiple of that, and after each rest. There is a rest after 5,000 quiet
+/// rounds and after each further one: 50 microseconds at first, then each time twice as long, up
 /// to 4,000. A round that is not quiet ends the rests.
 #[derive(Drop)]
 pub struct Pace {
@@ -48,7 +48,7 @@ impl Model for Pace {
 }
 
 impl Pace {
-    /// That of a server before its first round.
+    /// The pace of a server before its first round.
     pub fn new() -> Pace
         ensures { result ≡ new_pacing }
     {
@@ -95,7 +95,7 @@ fn is_quiet(round: Round) -> bool
     round.accepted == 0 && round.moved == 0 && round.closed == 0
 }
 
-// The microseconds of the rest behind so many quiet rounds.
+// The microseconds of the rest after so many quiet rounds.
 fn micros(quiet: u64) -> u64
     requires { quiet ≤ most_quiet }
     ensures { result ≡ rest_of quiet }

@@ -6,11 +6,12 @@ ghost use Rattle.p9_commands.specs.Offer.{offer_of};
 ghost use Rattle.p9_serve.specs.Run.{AppendsFront, BreaksOff, Ends, Served, listening};
 
 use crate::clock::{rest, seconds};
+use crate::failure::{report_failure, write_text};
 use crate::server::Server;
-use crate::tell::{tell_failure, write_text};
 use mio::net::TcpListener;
 use p9_base::NoMemory;
 use p9_commands::served_guard;
+use p9_commands::status::{DONE, REFUSED};
 use p9_guard::Guard;
 use p9_index::IndexTree;
 use std::alloc::{AllocError, Global};
@@ -19,22 +20,16 @@ use std::io::Write;
 use std::net::{Net, SocketAddr};
 use std::rt::Clock;
 
-// The exit statuses of what is no failure.
-const SERVED: u8 = 0;
-
-const REFUSED: u8 = 1;
-
 /// Serves an input at an address for a number of rounds, and returns the exit status.
 ///
 /// What the input offers is that of [`served_guard`], and so is what is reported on `err`; where
 /// there is nothing to serve the status is 1. Else a listener is made, `out` gets the line
 /// `listening ADDR` with the address that it has, and is flushed; then come the rounds, each at the
 /// machine's clock in whole seconds since 1970, modulo 2^32, which is read once a round. Before a
-/// round comes the rest that [`Server::rest`] gives, at that clock. Behind the last round all
-/// sessions are closed, at its time, and the status is 0. Where an allocation fails
-/// the status is 3, and where a listener can't be made, or input or output fails otherwise, it is
-/// 4; that is reported on `err`, behind what was reported of the input. No more than the line was
-/// written to `out` then.
+/// round comes the rest that [`Server::rest`] gives, at that clock. After the last round all
+/// sessions are closed, at its time, and the status is 0. Where an allocation fails the status is 3,
+/// and where a listener can't be made, or input or output fails otherwise, it is 4; that is reported
+/// on `err`, after what was reported of the input. No more than the line was written to `out` then.
 pub fn run_serve<R: Net + Clock + AllocGlobal, W: Write, E: Write>(
     rt: &R,
     address: SocketAddr,
@@ -52,11 +47,11 @@ pub fn run_serve<R: Net + Clock + AllocGlobal, W: Write, E: Write>(
 {
     match served(rt, address, rounds, input, out, err) {
         Ok(status) => status,
-        Err(error) => tell_failure(&error, err),
+        Err(error) => report_failure(&error, err),
     }
 }
 
-// The same as `run_serve`, up to a failure.
+// Serves an input at an address for a number of rounds, up to a failure, which is not reported here.
 fn served<R: Net + Clock + AllocGlobal, W: Write, E: Write>(
     rt: &R,
     address: SocketAddr,
@@ -78,22 +73,22 @@ fn served<R: Net + Clock + AllocGlobal, W: Write, E: Write>(
       err = E.contents err.new;
     })) }
 {
-    let mut told = Vec::new(rt.alloc());
-    let guard = match served_guard(input, &mut told) {
+    let mut reported = Vec::new(rt.alloc());
+    let guard = match served_guard(input, &mut reported) {
         Ok(guard) => guard,
         Err(NoMemory) => return Err(io::Error::from(AllocError)),
     };
-    write_text(err, told.as_slice())?;
+    write_text(err, reported.as_slice())?;
     match guard {
         Some(guard) => {
             serve(rt, address, rounds, guard, out)?;
-            Ok(SERVED)
+            Ok(DONE)
         }
         None => Ok(REFUSED),
     }
 }
 
-// Serves a guard: makes the listener, tells its address, and runs the rounds.
+// Serves a guard: makes the listener, prints its address, and runs the rounds.
 fn serve<R: Net + Clock + AllocGlobal, W: Write>(
     rt: &R,
     address: SocketAddr,
@@ -108,12 +103,12 @@ fn serve<R: Net + Clock + AllocGlobal, W: Write>(
 {
     let listener = TcpListener::bind(rt, address)?;
     let server = Server::new(rt.alloc(), listener, guard);
-    tell_address(rt, server.local_addr()?, out)?;
+    print_address(rt, server.local_addr()?, out)?;
     run_rounds(rt, server, rounds)
 }
 
 // Prints the line with an address, and flushes.
-fn tell_address<R: AllocGlobal, W: Write>(
+fn print_address<R: AllocGlobal, W: Write>(
     rt: &R,
     address: SocketAddr,
     out: &mut W,

@@ -73,7 +73,7 @@ impl<T: Tree> Server<T> {
         self.clients.well_formed();
     }
 
-    /// How long to rest before the next round: not at all, but behind many rounds in which nothing
+    /// How long to rest before the next round: not at all, but after many rounds in which nothing
     /// was taken in, moved or closed, as [`Pace`] has it. A request that comes meanwhile is read
     /// when the rest is over.
     pub fn rest(&self) -> Duration
@@ -84,7 +84,7 @@ impl<T: Tree> Server<T> {
 
     /// Accepts, if that is due: in the first round, if none of the 63 rounds before this one did, if
     /// nothing was taken in, moved or closed in the 16 rounds before it or in a multiple of 16, and
-    /// behind each rest ([`Pace`]). So one client is taken in, if one is waiting. Then each client's
+    /// after each rest ([`Pace`]). One client is taken in then, if one is waiting. Then each client's
     /// connection has a turn, by rising key, at the clock reading `now`, in seconds since 1970,
     /// modulo 2^32. Returns what came of it.
     ///

@@ -51,7 +51,7 @@ fn a_clock_that_fails_ends_the_serving(rt: HostRuntime) {
     assert_eq!(rt; serve(&rt, 1_000, 7), (4, 7));
 }
 
-// There is a rest before each round behind 5,000 quiet ones: 50, 100, 200, 400, 800, 1,600, 3,200,
+// There is a rest before each round after 5,000 quiet ones: 50, 100, 200, 400, 800, 1,600, 3,200,
 // and then 4,000 microseconds each time.
 #[test]
 fn a_server_without_clients_rests(rt: HostRuntime) {

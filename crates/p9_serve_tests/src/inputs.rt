@@ -24,7 +24,7 @@ fn text(rt: &impl Abort, bytes: Vec<u8, Global>) -> String {
     String::from_utf8(bytes).ok().expect(rt, "a text")
 }
 
-// The vault with its certificate, and further lines behind it.
+// The vault with these further sections.
 fn vault(rt: &(impl Abort + AllocGlobal), certificate: &str) -> String {
     let mut input = String::from_str(rt.alloc(), VAULT).expect(rt, "memory");
     assert!(rt; input.push_str(certificate).is_ok());
@@ -46,7 +46,7 @@ fn the_vault_is_served_with_its_certificate(rt: HostRuntime) {
     assert!(rt; port.parse::<u16>().is_ok_and(|port| port > 0));
 }
 
-// What is behind a certificate, and what is told of it.
+// Sections after the vault's, and what is reported of the input.
 const REFUSED: [(&str, &str); 5] = [
     ("", "cert: missing\n"),
     ("%% cert\n", "cert:1: bad line\n"),
@@ -67,11 +67,11 @@ const REFUSED: [(&str, &str); 5] = [
 
 #[test]
 fn an_input_is_refused_for_the_first_reason(rt: HostRuntime) {
-    for (certificate, told) in REFUSED {
+    for (certificate, reported) in REFUSED {
         let (status, out, err) = serve(&rt, any_port(), vault(&rt, certificate).as_str());
         assert_eq!(rt; status, 1, "at {certificate}");
         assert_eq!(rt; out.as_str(), "");
-        assert_eq!(rt; err.as_str(), told);
+        assert_eq!(rt; err.as_str(), reported);
     }
 }
 

@@ -7,6 +7,8 @@ mod clients;
 #[cfg(test)]
 mod clock;
 #[cfg(test)]
+mod failures;
+#[cfg(test)]
 mod inputs;
 #[cfg(test)]
 mod loopback;
@@ -22,5 +24,3 @@ mod rows;
 mod served;
 #[cfg(test)]
 mod soak;
-#[cfg(test)]
-mod told;

@@ -32,8 +32,8 @@ pub struct Loopback {
 impl Loopback {
     /// A server of an input.
     pub fn new(rt: &(impl Abort + AllocGlobal + Net), input: &str) -> Loopback {
-        let mut told = Vec::new(rt.alloc());
-        let guard = served_guard(input.as_bytes(), &mut told)
+        let mut reported = Vec::new(rt.alloc());
+        let guard = served_guard(input.as_bytes(), &mut reported)
             .expect(rt, "memory")
             .expect(rt, "a guard");
         let listener = TcpListener::bind(rt, any_port()).expect(rt, "a listener");
@@ -106,7 +106,7 @@ impl Loopback {
         got
     }
 
-    /// Sends requests, one behind the other, each when the reply to the one before is there.
+    /// Sends requests, one after the other, each when the reply to the one before is there.
     pub fn ask(&mut self, rt: &(impl Abort + AllocGlobal), client: &mut TcpStream, rows: &[Row]) {
         for row in rows {
             send(rt, client, bytes(rt, row.0).as_slice());

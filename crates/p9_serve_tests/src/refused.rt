@@ -44,8 +44,8 @@ type EndedClients<'a> = Clients<Ended, IndexTree<&'a Refusing<Global>>>;
 
 // No clients of a guard without sessions.
 fn no_clients<'a>(rt: &impl Abort, memory: &'a Refusing<Global>) -> EndedClients<'a> {
-    let mut told = Vec::new(memory);
-    let guard = served_guard(SMALL.as_bytes(), &mut told)
+    let mut reported = Vec::new(memory);
+    let guard = served_guard(SMALL.as_bytes(), &mut reported)
         .expect(rt, "memory")
         .expect(rt, "a guard");
     Clients::new(memory, guard)
@@ -62,7 +62,7 @@ fn take_in_again(rt: &impl Abort, mut clients: EndedClients<'_>) {
     assert!(rt; !clients.finish(0).live(0));
 }
 
-// So many connections were closed, and nothing moved.
+// The tally of a round in which connections were closed, and nothing moved.
 fn closings(closed: u64) -> Tally {
     Tally { moved: 0, closed }
 }

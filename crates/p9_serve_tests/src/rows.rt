@@ -133,7 +133,7 @@ pub const TO_HOME: Row = (
 pub const STAT: &str = "0b000000 7c 0800 00000000";
 
 /// A file `n` is made in glenda's directory as fid 2. Five bytes are written and read, and its stat
-/// is told. It is found as fid 3, which is clunked. It is removed, and isn't found. Where a reply
+/// is shown. It is found as fid 3, which is clunked. It is removed, and isn't found. Where a reply
 /// has the file's number, there is a `#`.
 pub const WORK: [Row; 9] = [
     (
@@ -170,7 +170,7 @@ pub const WORK: [Row; 9] = [
 ];
 
 /// Glenda makes a file `n` in her directory as fid 2, writes five bytes and reads them, and asks for
-/// its stat behind each. It is made at the time 2^32 - 1, written four seconds later, and read four
+/// its stat after each. It is made at the time 2^32 - 1, written four seconds later, and read four
 /// seconds after that.
 pub const TIMED: [Row; 10] = [
     VERSION,

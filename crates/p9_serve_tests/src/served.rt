@@ -1,5 +1,5 @@
 //! A client of an input that is served: it is the server's output, and connects when the address is
-//! told.
+//! printed.
 
 use crate::loopback::{any_port, bytes};
 use crate::machine::Machine;
@@ -29,17 +29,17 @@ const HANDING_ON: u64 = 200;
 struct Client<'a, R> {
     host: &'a R,
     requests: &'a [u8],
-    told: Vec<u8, Global>,
+    printed: Vec<u8, Global>,
     stream: Option<TcpStream>,
 }
 
 impl<R: Clock + Net<Stream = TcpStream>> Write for Client<'_, R> {
     fn write(&mut self, buf: &[u8]) -> io::Result<usize> {
-        self.told.write(buf)
+        self.printed.write(buf)
     }
 
     fn flush(&mut self) -> io::Result<()> {
-        let Some(address) = address_in(self.told.as_slice()) else {
+        let Some(address) = address_in(self.printed.as_slice()) else {
             return Err(io::Error::from(ErrorKind::InvalidData));
         };
         let mut stream = TcpStream::connect(self.host, address)?;
@@ -50,7 +50,7 @@ impl<R: Clock + Net<Stream = TcpStream>> Write for Client<'_, R> {
     }
 }
 
-// The address in the line that tells it.
+// The address in the line that is printed of it.
 fn address_in(line: &[u8]) -> Option<SocketAddr> {
     let line = str::from_utf8(line).ok()?;
     let address = line.strip_prefix("listening ")?.strip_suffix("\n")?;
@@ -66,7 +66,7 @@ fn replies_to(
     let mut client = Client {
         host: rt,
         requests,
-        told: Vec::new(rt.alloc()),
+        printed: Vec::new(rt.alloc()),
         stream: None,
     };
     let mut err = Vec::new(rt.alloc());

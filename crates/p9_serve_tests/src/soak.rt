@@ -173,7 +173,7 @@ fn reply_of(rt: &(impl Abort + AllocGlobal), row: Row, number: u64) -> String {
     reply
 }
 
-// A frame of any type, any tag and a low fid, with up to 39 bytes of anything behind.
+// A frame of any type, any tag and a low fid, with up to 39 bytes of anything after them.
 fn random_frame(rt: &(impl Abort + AllocGlobal), dice: &mut Dice) -> Vec<u8> {
     let count = dice.below(40);
     let kind = dice.below(28).wrapping_add(100);
@@ -192,10 +192,10 @@ fn random_frame(rt: &(impl Abort + AllocGlobal), dice: &mut Dice) -> Vec<u8> {
 // error is that there is none.
 fn is_reply(frame: &[u8], reply: &[u8]) -> bool {
     match (frame, reply) {
-        ([_, _, _, _, asked, low, high, ..], [_, _, _, _, told, first, second, rest @ ..]) => {
+        ([_, _, _, _, asked, low, high, ..], [_, _, _, _, answered, first, second, rest @ ..]) => {
             (first, second) == (low, high)
-                && (*told == ERROR || asked.wrapping_add(1) == *told)
-                && !(*told == ERROR && rest == NO_MEMORY)
+                && (*answered == ERROR || asked.wrapping_add(1) == *answered)
+                && !(*answered == ERROR && rest == NO_MEMORY)
         }
         _ => false,
     }

@@ -37,7 +37,7 @@ serve help: none
 ";
 
 #[test]
-fn words_ask_for_what_is_written_behind_them(rt: HostRuntime) {
+fn words_ask_for_what_is_written_after_them(rt: HostRuntime) {
     for line in CASES.lines() {
         let (words, wanted) = line.rsplit_once(": ").expect(&rt, "two parts");
         assert_eq!(rt;

@@ -1,4 +1,5 @@
 use Rattle.std.proofs.lemmas.Result.{err_from_is_err_and}
+use Rattle.p9_commands.proofs.Ends.{failed}
 use Rattle.p9_commands.proofs.command.play.Goals as goal
 
 pub returns-in_err-guard-in-Some-clause-stop : goal.returns-in_err-guard-in-Some-clause-stop
@@ -9,13 +10,9 @@ returns-in_err-guard-in-Some-clause-stop g c =
 pub returns-in_err-play_events-in-None-clause-stop :
     goal.returns-in_err-play_events-in-None-clause-stop
 returns-in_err-play_events-in-None-clause-stop g c =
-    let failed = err_from_is_err_and c.from_residual-in_err-play_events-in-None.result
-    c.from_residual-in_err-play_events-in-None.ensures.1 in
-    rw (failed.1, failed.2) tt
+    failed _ _ c.from_residual-in_err-play_events-in-None.ensures.1 tt
 
 pub returns-in_err-play_events-in-None-clause-silent :
     goal.returns-in_err-play_events-in-None-clause-silent
 returns-in_err-play_events-in-None-clause-silent g c =
-    let failed = err_from_is_err_and c.from_residual-in_err-play_events-in-None.result
-    c.from_residual-in_err-play_events-in-None.ensures.1 in
-    rw (failed.1, failed.2) tt
+    failed _ _ c.from_residual-in_err-play_events-in-None.ensures.1 tt

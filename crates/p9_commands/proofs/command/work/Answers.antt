@@ -1,11 +1,10 @@
 use Rattle.std.proofs.Common.{IfErr, IfOk, None, OnOk, ap, map, ◌≡◌}
-use Rattle.std.proofs.lemmas.Result.{err_from_is_err_and}
 use Rattle.p9_export.specs.Event.{event_view}
 use Rattle.p9_commands.specs.Command.{Writes}
 use Rattle.p9_commands.specs.Prepared.{gap_in}
 use Rattle.p9_commands.specs.Refusal.{IsUnverified}
 use Rattle.p9_commands.specs.declared.command.Command.TheVariants.{Play}
-use Rattle.p9_commands.proofs.Ends.{of_parts}
+use Rattle.p9_commands.proofs.Ends.{failed, of_parts}
 use Rattle.p9_commands.proofs.command.work.Goals as goal
 
 pub returns-in-Play-clause-ok : goal.returns-in-Play-clause-ok
@@ -35,36 +34,26 @@ returns-in-Play-clause-stop g c =
 
 pub returns-in_err-check-in-Check-clause-stop : goal.returns-in_err-check-in-Check-clause-stop
 returns-in_err-check-in-Check-clause-stop g c =
-    let failed = err_from_is_err_and c.from_residual.result c.from_residual.ensures.1 in
-    rw (failed.1, failed.2) tt
+    failed _ _ c.from_residual.ensures.1 tt
 
 pub returns-in_err-check-in-Check-clause-silent : goal.returns-in_err-check-in-Check-clause-silent
 returns-in_err-check-in-Check-clause-silent g c =
-    let failed = err_from_is_err_and c.from_residual.result c.from_residual.ensures.1 in
-    rw (failed.1, failed.2) tt
+    failed _ _ c.from_residual.ensures.1 tt
 
 pub returns-in_err-print_verified-in-Verify-clause-stop :
     goal.returns-in_err-print_verified-in-Verify-clause-stop
 returns-in_err-print_verified-in-Verify-clause-stop g c =
-    let failed = err_from_is_err_and c.from_residual-in_err-print_verified-in-Verify.result
-    c.from_residual-in_err-print_verified-in-Verify.ensures.1 in
-    rw (failed.1, failed.2) tt
+    failed _ _ c.from_residual-in_err-print_verified-in-Verify.ensures.1 tt
 
 pub returns-in_err-print_verified-in-Verify-clause-silent :
     goal.returns-in_err-print_verified-in-Verify-clause-silent
 returns-in_err-print_verified-in-Verify-clause-silent g c =
-    let failed = err_from_is_err_and c.from_residual-in_err-print_verified-in-Verify.result
-    c.from_residual-in_err-print_verified-in-Verify.ensures.1 in
-    rw (failed.1, failed.2) tt
+    failed _ _ c.from_residual-in_err-print_verified-in-Verify.ensures.1 tt
 
 pub returns-in_err-list-in-Ns-clause-stop : goal.returns-in_err-list-in-Ns-clause-stop
 returns-in_err-list-in-Ns-clause-stop g c =
-    let failed = err_from_is_err_and c.from_residual-in_err-list-in-Ns.result
-    c.from_residual-in_err-list-in-Ns.ensures.1 in
-    rw (failed.1, failed.2) tt
+    failed _ _ c.from_residual-in_err-list-in-Ns.ensures.1 tt
 
 pub returns-in_err-list-in-Ns-clause-silent : goal.returns-in_err-list-in-Ns-clause-silent
 returns-in_err-list-in-Ns-clause-silent g c =
-    let failed = err_from_is_err_and c.from_residual-in_err-list-in-Ns.result
-    c.from_residual-in_err-list-in-Ns.ensures.1 in
-    rw (failed.1, failed.2) tt
+    failed _ _ c.from_residual-in_err-list-in-Ns.ensures.1 tt

@@ -16,10 +16,10 @@ returns-in-Err-clause-err g c = record {
 
 pub returns-in_err-write_text-clause-err : goal.returns-in_err-write_text-clause-err
 returns-in_err-write_text-clause-err g c =
-    let told = c.served_guard.new.err.items in
-    let serves : Serves (offer_of c.args.input.now) [] told c.in-Ok.guard =
-    subst (λ (before : List ℕ). Serves (offer_of c.args.input.now) before told c.in-Ok.guard)
-    c.new-told.ensures.items c.in-Ok.ensures.ok in
+    let reports = c.served_guard.new.err.items in
+    let serves : Serves (offer_of c.args.input.now) [] reports c.in-Ok.guard =
+    subst (λ (before : List ℕ). Serves (offer_of c.args.input.now) before reports c.in-Ok.guard)
+    c.new-reported.ensures.items c.in-Ok.ensures.ok in
     let written : Written = record {
       out_before = g.W.Write.contents c.args.out.now;
       out = g.W.Write.contents c.args.out.now;
@@ -27,7 +27,7 @@ returns-in_err-write_text-clause-err g c =
       err = g.E.Write.contents c.write_text.new.out;
     } in
     let broken : BreaksOff (offer_of c.args.input.now) written = record {
-      reports = told;
+      reports = reports;
       are_reports = inr (c.in-Ok.guard, serves);
       address = c.args.address;
       errors = rw c.as_slice.ensures.value at c.write_text.ensures.front;

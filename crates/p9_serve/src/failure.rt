@@ -1,23 +1,19 @@
-//! Texts that are written as far as a writer takes them.
+//! How a failure is reported, and texts that are written as far as a writer takes them.
 
 ghost use Rattle.std.specs.Prelude.{◌≡◌, ◌≤◌, IfOk, OnOk, length};
 ghost use Rattle.std.specs.Io.KnownBytes.{Appends, WriteAppends};
 ghost use Rattle.std.specs.IoError.{error_kind};
 ghost use Rattle.p9_serve.specs.Run.{AppendsFront, failure_status, failure_text};
 
+use p9_commands::status::{INPUT_OR_OUTPUT_FAILED, OUT_OF_MEMORY};
 use std::io;
 use std::io::{ErrorKind, Write};
 
-// The exit statuses of failures.
-const OUT_OF_MEMORY: u8 = 3;
-
-const INPUT_OR_OUTPUT_FAILED: u8 = 4;
-
-/// Tells on `err` that an allocation failed, or else that input or output did, and returns the exit
-/// status: 3, or 4. `err` gets the text as far as it takes it, and that it may fail changes nothing.
-pub fn tell_failure<E: Write>(error: &io::Error, err: &mut E) -> u8
+/// Reports on `err` that an allocation failed, or else that input or output did, and returns the
+/// exit status: 3, or 4. `err` gets the text as far as it takes it. That it may fail changes nothing.
+pub fn report_failure<E: Write>(error: &io::Error, err: &mut E) -> u8
     ensures status { result ≡ failure_status (error_kind error.now) }
-    ensures told { AppendsFront (E.contents err.old) (E.contents err.new)
+    ensures text { AppendsFront (E.contents err.old) (E.contents err.new)
         (failure_text (error_kind error.now)) }
 {
     let (status, text) = failure_of(error.kind());
@@ -25,7 +21,7 @@ pub fn tell_failure<E: Write>(error: &io::Error, err: &mut E) -> u8
     status
 }
 
-// The exit status of a failure, and the text that tells of it.
+// The exit status of a failure, and the text that reports it.
 fn failure_of(kind: ErrorKind) -> (u8, &'static [u8])
     ensures status { result.0 ≡ failure_status kind }
     ensures text { result.1.now ≡ failure_text kind }

@@ -1,8 +1,8 @@
 use Rattle.std.proofs.Common.{◌≤◌, length, take}
 use Rattle.std.specs.Io.KnownBytes.{Appends}
-use Rattle.p9_serve.proofs.tell.write_text.Given as goal
+use Rattle.p9_serve.proofs.failure.write_text.Given as goal
 
--- so many bytes of the text were written
+-- the bytes of the text that were written
 abbrev pub invariant-loop : goal.invariant-loop
 invariant-loop g l =
     (l.count ≤ length l.text)

@@ -1,6 +1,6 @@
-//! What is told of a failure, to writers that take all of it or fail.
+//! What is reported of a failure, to writers that take all of it or fail.
 
-use p9_serve::tell_failure;
+use p9_serve::report_failure;
 use std::alloc::Global;
 use std::io;
 use std::io::{ErrorKind, Write};
@@ -32,13 +32,13 @@ impl Write for Narrow {
 }
 
 // The status of a failure, and what a writer of so much room got.
-fn told(alloc: Global, kind: ErrorKind, room: usize) -> (u8, Vec<u8, Global>) {
+fn reported(alloc: Global, kind: ErrorKind, room: usize) -> (u8, Vec<u8, Global>) {
     let mut narrow = Narrow {
         taken: Vec::new(alloc),
         room,
         is_interrupted: false,
     };
-    let status = tell_failure(&io::Error::from(kind), &mut narrow);
+    let status = report_failure(&io::Error::from(kind), &mut narrow);
     (status, narrow.taken)
 }
 
@@ -50,17 +50,17 @@ const FAILURES: [(ErrorKind, u8, &str); 4] = [
 ];
 
 #[test]
-fn a_failure_is_told_by_its_text(rt: HostRuntime) {
+fn a_failure_is_reported_by_its_text(rt: HostRuntime) {
     for (kind, status, text) in FAILURES {
-        let (got, taken) = told(rt.alloc(), kind, 100);
+        let (got, taken) = reported(rt.alloc(), kind, 100);
         assert_eq!(rt; got, status);
         assert_eq!(rt; taken.as_slice(), text.as_bytes());
     }
 }
 
 #[test]
-fn a_failure_is_told_as_far_as_the_writer_takes_it(rt: HostRuntime) {
-    let (status, taken) = told(rt.alloc(), ErrorKind::OutOfMemory, 6);
+fn a_failure_is_reported_as_far_as_the_writer_takes_it(rt: HostRuntime) {
+    let (status, taken) = reported(rt.alloc(), ErrorKind::OutOfMemory, 6);
     assert_eq!(rt; status, 3);
     assert_eq!(rt; taken.as_slice(), b"out of".as_slice());
 }

@@ -3,7 +3,7 @@ use Rattle.std.proofs.Common.{subst, sym, take, take_all}
 use Rattle.std.proofs.KnownBytes.{Appends-trans}
 use Rattle.std.proofs.Math.Seq.{take-add}
 use Rattle.std.specs.Io.KnownBytes.{Appends}
-use Rattle.p9_serve.proofs.tell.write_text.Goals as goal
+use Rattle.p9_serve.proofs.failure.write_text.Goals as goal
 
 pub loop-preserved : goal.loop-preserved
 loop-preserved g c =
