@@ -30,12 +30,12 @@ abbrev pub played : State → Event → Bool → Played
 played state (Open name) refused =
     if is_some (session_at name state.sessions) then skipped state
     else silent (step state (Open name) false)
-played state (Message name frame now) refused =
+played state (Message name frame clock) refused =
     if is_frame frame && is_some (session_at name state.sessions)
-    then replied (step state (Message name frame now) refused)
+    then replied (step state (Message name frame clock) refused)
     else skipped state
-played state (Close name now) refused =
-    if is_some (session_at name state.sessions) then silent (step state (Close name now) false)
+played state (Close name clock) refused =
+    if is_some (session_at name state.sessions) then silent (step state (Close name clock) false)
     else skipped state
 
 -- one event after another, with their marks; the texts are joined

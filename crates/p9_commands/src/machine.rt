@@ -31,23 +31,23 @@ pub(crate) trait Machine {
     /// Answers one frame of a session at this reading of the clock: writes the reply at the front of
     /// the buffer, and returns its length. It is `None` where no session of this name is open;
     /// nothing changes then.
-    fn answer(&mut self, name: u32, frame: &[u8], now: u32, reply: &mut [u8]) -> Option<usize>
+    fn answer(&mut self, name: u32, frame: &[u8], clock: u32, reply: &mut [u8]) -> Option<usize>
         requires whole { IsTrue (is_frame frame.now) }
         requires room { msize_max ≤ length reply.old }
         ensures live { IsSome result ↔ IsSome (session_at name (state self.old).sessions) }
         ensures unchanged { IfNone result (state self.new ≡ state self.old) }
         ensures within { IfSome result (λ size. size ≤ length reply.new) }
         ensures state { IfSome result (λ size. state self.new
-            ≡ (step (state self.old) (Message name frame.now now)
+            ≡ (step (state self.old) (Message name frame.now clock)
             (is_no_memory_reply frame.now (take size reply.new))).state) }
         ensures bytes { IfSome result (λ size. take size reply.new
-            ≡ (step (state self.old) (Message name frame.now now) (is_no_memory_reply frame.now
+            ≡ (step (state self.old) (Message name frame.now clock) (is_no_memory_reply frame.now
             (take size reply.new))).reply) };
 
     /// Closes a session at this reading of the clock, and ends its fids.
-    fn close(&mut self, name: u32, now: u32)
+    fn close(&mut self, name: u32, clock: u32)
         requires { IsSome (session_at name (state self.old).sessions) }
-        ensures { state self.new ≡ (step (state self.old) (Close name now) false).state };
+        ensures { state self.new ≡ (step (state self.old) (Close name clock) false).state };
 }
 
 impl<T: Tree> Machine for Export<T> {
@@ -61,13 +61,13 @@ impl<T: Tree> Machine for Export<T> {
         Export::open(self, name)
     }
 
-    fn answer(&mut self, name: u32, frame: &[u8], now: u32, reply: &mut [u8]) -> Option<usize> {
+    fn answer(&mut self, name: u32, frame: &[u8], clock: u32, reply: &mut [u8]) -> Option<usize> {
         self.reply_max(name)?;
-        Some(self.message(name, frame, now, reply))
+        Some(self.message(name, frame, clock, reply))
     }
 
-    fn close(&mut self, name: u32, now: u32) {
-        Export::close(self, name, now);
+    fn close(&mut self, name: u32, clock: u32) {
+        Export::close(self, name, clock);
     }
 }
 
@@ -82,12 +82,12 @@ impl<T: Tree> Machine for Guard<T> {
         Guard::open(self, name)
     }
 
-    fn answer(&mut self, name: u32, frame: &[u8], now: u32, reply: &mut [u8]) -> Option<usize> {
+    fn answer(&mut self, name: u32, frame: &[u8], clock: u32, reply: &mut [u8]) -> Option<usize> {
         self.reply_max(name)?;
-        Some(Guard::answer(self, name, frame, now, reply))
+        Some(Guard::answer(self, name, frame, clock, reply))
     }
 
-    fn close(&mut self, name: u32, now: u32) {
-        Guard::close(self, name, now);
+    fn close(&mut self, name: u32, clock: u32) {
+        Guard::close(self, name, clock);
     }
 }

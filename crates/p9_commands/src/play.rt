@@ -58,16 +58,16 @@ fn play_event<M: Machine, A: Allocator + Copy>(
 {
     match event {
         Event::Open(name) => open(machine, *name, out),
-        Event::Message(name, frame, now) => answer(
+        Event::Message(name, frame, clock) => answer(
             machine,
             *name,
             frame.as_slice(),
-            *now,
+            *clock,
             reply,
             digits,
             out,
         ),
-        Event::Close(name, now) => close(machine, *name, *now, out),
+        Event::Close(name, clock) => close(machine, *name, *clock, out),
     }
 }
 
@@ -93,7 +93,7 @@ fn answer<M: Machine, A: Allocator + Copy>(
     machine: &mut M,
     name: u32,
     frame: &[u8],
-    now: u32,
+    clock: u32,
     reply: &mut [u8],
     digits: &mut [u8],
     out: &mut Vec<u8, A>,
@@ -101,13 +101,13 @@ fn answer<M: Machine, A: Allocator + Copy>(
     requires reply { length reply.old ≡ msize_max }
     requires digits { length digits.old ≡ 2 * msize_max }
     ensures { OnOk result
-        (Plays (Message name frame.now now) (M.state machine.old) (M.state machine.new)
+        (Plays (Message name frame.now clock) (M.state machine.old) (M.state machine.new)
         out.old.items out.new.items) }
 {
     if !is_frame(frame) {
         return print_line("skip", out);
     }
-    match machine.answer(name, frame, now, reply) {
+    match machine.answer(name, frame, clock, reply) {
         Some(size) => print_hex(&reply[..size], digits, out),
         None => print_line("skip", out),
     }
@@ -117,16 +117,16 @@ fn answer<M: Machine, A: Allocator + Copy>(
 fn close<M: Machine, A: Allocator + Copy>(
     machine: &mut M,
     name: u32,
-    now: u32,
+    clock: u32,
     out: &mut Vec<u8, A>,
 ) -> Result<(), NoMemory>
     ensures { OnOk result
-        (Plays (Close name now) (M.state machine.old) (M.state machine.new) out.old.items
+        (Plays (Close name clock) (M.state machine.old) (M.state machine.new) out.old.items
         out.new.items) }
 {
     if !machine.live(name) {
         return print_line("skip", out);
     }
-    machine.close(name, now);
+    machine.close(name, clock);
     Ok(())
 }

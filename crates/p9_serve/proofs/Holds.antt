@@ -196,10 +196,10 @@ module _ {S : Type 0} (remaining contents : S → Option (List ℕ)) where
             let some : Some first ≡ Some t.1.conn =
             sym here ∙ ap (slot_at a.slots) (sym same) ∙ t.1.there in
             let first-is : first ≡ t.1.conn = cc in
-            let scenes = common t.1.conn.session h.now (scene t.1.conn a.guard)
+            let scenes = common t.1.conn.session h.clock (scene t.1.conn a.guard)
             (scene after t.0.guard) turned.deeds turned.turn in
             let told : contents after.stream ≡ Some (held ++ turned.deeds.written) =
-            uses (phase_of t.1.conn.link) t.1.conn.session h.now (scene t.1.conn a.guard)
+            uses (phase_of t.1.conn.link) t.1.conn.session h.clock (scene t.1.conn a.guard)
             (scene after t.0.guard) t.1.conn.stream after.stream turned.deeds held turned.turn
             turned.stream
             (subst (λ (conn : Connection S). contents conn.stream ≡ Some held) first-is is) in

@@ -62,7 +62,7 @@ module _ {S : Type 0} (remaining contents : S → Option (List ℕ)) where
   turn-leads now key None a b turn e t = nothing a b t.0
   turn-leads now key (Some conn) a b None e t = absurd t
   turn-leads now key (Some conn) a b (Some turn) e t =
-      let h : Happening = record { session = key; now = now; deeds = t.turned.deeds } in
+      let h : Happening = record { session = key; clock = now; deeds = t.turned.deeds } in
       let acted : HasActed remaining contents h a b =
       record { conn = conn; there = e; turn = turn; had = t; deeds_are = refl } in
       record { moments = Acts h ∷ []; passed = (b, acted, refl); timely = (tt, tt) }
@@ -141,7 +141,7 @@ module _ {S : Type 0} (remaining contents : S → Option (List ℕ)) where
       → HasDone a b h.deeds.answered
   act h a b t =
       let turned = t.had.turned in
-      let its = common t.conn.session h.now (scene t.conn a.guard) (scene t.had.after b.guard)
+      let its = common t.conn.session h.clock (scene t.conn a.guard) (scene t.had.after b.guard)
       turned.deeds turned.turn in
       subst (λ (d : Deeds). HasDone a b d.answered) t.deeds_are
       (record { is_run = its.is_run; fine = its.fine; guard_is = turned.guard_is })

@@ -153,7 +153,7 @@ module _ {S : Type 0} (remaining contents : S → Option (List ℕ)) (key : ℕ)
           sym there ∙ ap (slot_at a.slots) (sym same) ∙ t.1.there in
           let pending-is : conn.link.pending ≡ t.1.conn.link.pending = cc in
           let turned = t.1.had.turned in
-          let its = common t.1.conn.session h.now (scene t.1.conn a.guard) (scene after t.0.guard)
+          let its = common t.1.conn.session h.clock (scene t.1.conn a.guard) (scene after t.0.guard)
           turned.deeds turned.turn in
           let out = subst (λ (d : Deeds). t.1.conn.link.pending ++ concat (replies_of d.answered)
           ≡ d.written ++ after.link.pending) t.1.deeds_are its.out in

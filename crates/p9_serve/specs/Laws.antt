@@ -52,7 +52,7 @@ module _ (S : Type 0) where
       (remaining contents : S → Option (List ℕ)) (guard after : Guarded)
       (nows : List ℕ) (last : ℕ) (running : Running S)
       → IsGuardedState guard.hidden guard.start guard.state
-      → AllByRecursion (λ now. now < 2 ^ 32) nows → last < 2 ^ 32
+      → AllByRecursion (λ clock. clock < 2 ^ 32) nows → last < 2 ^ 32
       → HasRounds remaining contents nows
       (new_server (record { guard = guard; slots = [] })) running
       → IsFinished last running.serving after

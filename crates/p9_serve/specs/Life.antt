@@ -15,7 +15,7 @@ use Rattle.p9_serve.specs.declared.server.Round.{Round}
 pub data Moment : Type 0 where
   Arrives : (key : ℕ) → Moment
   Acts : Happening → Moment
-  Leaves : (key now : ℕ) → Moment
+  Leaves : (key clock : ℕ) → Moment
 
 -- the opening of the session of a key
 abbrev pub opening : (key : ℕ) → Answered
@@ -25,7 +25,7 @@ opening key = record { event = (Open key, false); reply = [] }
 abbrev pub events_in : Moment → List Answered
 events_in (Arrives key) = opening key ∷ []
 events_in (Acts h) = h.deeds.answered
-events_in (Leaves key now) = closing key now ∷ []
+events_in (Leaves key clock) = closing key clock ∷ []
 
 -- all openings, messages and closings, in their order
 abbrev pub history : List Moment → List Answered
@@ -38,7 +38,7 @@ stay key [] = []
 stay key (Arrives other ∷ moments) =
     if other == key then [] else Arrives other ∷ stay key moments
 stay key (Acts h ∷ moments) = Acts h ∷ stay key moments
-stay key (Leaves other now ∷ moments) = Leaves other now ∷ stay key moments
+stay key (Leaves other clock ∷ moments) = Leaves other clock ∷ stay key moments
 
 -- what the turns at a key answered, and what they wrote
 abbrev pub answered_at : (key : ℕ) → List Moment → List Answered
@@ -46,14 +46,14 @@ answered_at key [] = []
 answered_at key (Arrives other ∷ moments) = answered_at key moments
 answered_at key (Acts h ∷ moments) =
     (if h.session == key then h.deeds.answered else []) ++ answered_at key moments
-answered_at key (Leaves other now ∷ moments) = answered_at key moments
+answered_at key (Leaves other clock ∷ moments) = answered_at key moments
 
 abbrev pub written_at : (key : ℕ) → List Moment → List ℕ
 written_at key [] = []
 written_at key (Arrives other ∷ moments) = written_at key moments
 written_at key (Acts h ∷ moments) =
     (if h.session == key then h.deeds.written else []) ++ written_at key moments
-written_at key (Leaves other now ∷ moments) = written_at key moments
+written_at key (Leaves other clock ∷ moments) = written_at key moments
 
 module _ {S : Type 0} (remaining contents : S → Option (List ℕ)) where
   -- a client with this stream is taken in at this key
@@ -67,20 +67,20 @@ module _ {S : Type 0} (remaining contents : S → Option (List ℕ)) where
     pub conn : Connection S
     pub there : slot_at old.slots h.session ≡ Some conn
     pub turn : Turn
-    pub had : HasTurnAt remaining contents h.now h.session conn old new turn
+    pub had : HasTurnAt remaining contents h.clock h.session conn old new turn
     pub deeds_are : had.turned.deeds ≡ h.deeds
 
   -- the connection at a key is ended
-  pub record LeavesAt (key now : ℕ) (old new : Serving S) : Type 0 where
+  pub record LeavesAt (key clock : ℕ) (old new : Serving S) : Type 0 where
     pub conn : Connection S
     pub there : slot_at old.slots key ≡ Some conn
-    pub ended : HasEndedAt now key old new
+    pub ended : HasEndedAt clock key old new
 
   -- a moment leads from clients to clients
   abbrev pub Passes : Moment → Serving S → Serving S → Type 0
   Passes (Arrives key) old new = ArrivesAt key old new
   Passes (Acts h) old new = HasActed h old new
-  Passes (Leaves key now) old new = LeavesAt key now old new
+  Passes (Leaves key clock) old new = LeavesAt key clock old new
 
   -- moments lead from clients to clients, one after another
   abbrev pub Pass : List Moment → Serving S → Serving S → Type 0
@@ -91,6 +91,6 @@ module _ {S : Type 0} (remaining contents : S → Option (List ℕ)) where
   -- rounds at these readings of the clock, one after another
   abbrev pub HasRounds : List ℕ → Running S → Running S → Type 0
   HasRounds [] old new = new ≡ old
-  HasRounds (now ∷ nows) old new =
+  HasRounds (clock ∷ nows) old new =
       (between : Running S) × (round : Round)
-      × HasRound remaining contents now old between round × HasRounds nows between new
+      × HasRound remaining contents clock old between round × HasRounds nows between new

@@ -32,11 +32,11 @@ tally_of round = record { moved = round.moved; closed = round.closed }
 
 -- a round at this reading of the clock, over streams whose bytes may be known: an accept, if
 -- one is due, and then a turn of each connection
-pub record HasRound {S : Type 0} (remaining contents : S → Option (List ℕ)) (now : ℕ)
+pub record HasRound {S : Type 0} (remaining contents : S → Option (List ℕ)) (clock : ℕ)
     (old new : Running S) (round : Round) : Type 0 where
   pub between : Serving S
   pub accepted : AcceptsIf (is_due old.pace) old.serving between round.accepted
-  pub turned : HasTurns remaining contents now between new.serving (tally_of round)
+  pub turned : HasTurns remaining contents clock between new.serving (tally_of round)
   pub pace_is : new.pace ≡ pacing_after old.pace round
 
 -- of a socket no bytes are known

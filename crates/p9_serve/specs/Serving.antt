@@ -49,34 +49,34 @@ TakesIn stream old new false = new ≡ old
 -- Turns.
 
 -- a connection had its turn; it is dropped where it is closed now
-pub record HasTurnAt {S : Type 0} (remaining contents : S → Option (List ℕ)) (now key : ℕ)
+pub record HasTurnAt {S : Type 0} (remaining contents : S → Option (List ℕ)) (clock key : ℕ)
     (conn : Connection S) (old new : Serving S) (turn : Turn) : Type 0 where
   pub after : Connection S
-  pub turned : HasTurned remaining contents (phase_of conn.link) now conn old.guard after new.guard
+  pub turned : HasTurned remaining contents (phase_of conn.link) clock conn old.guard after new.guard
       turn
   pub slots_are : new.slots
       ≡ slice_set old.slots key (if after.link.closed then None else Some after)
 
 -- the turn of the connection at a key, if there is one
-abbrev pub TurnAt : {S : Type 0} → (remaining contents : S → Option (List ℕ)) (now key : ℕ)
+abbrev pub TurnAt : {S : Type 0} → (remaining contents : S → Option (List ℕ)) (clock key : ℕ)
     → Option (Connection S) → (old new : Serving S) → Option Turn → Type 0
-TurnAt remaining contents now key None old new turn = (new ≡ old) × (turn ≡ None)
-TurnAt {S} remaining contents now key (Some conn) old new None = ⊥
-TurnAt remaining contents now key (Some conn) old new (Some turn) =
-    HasTurnAt remaining contents now key conn old new turn
+TurnAt remaining contents clock key None old new turn = (new ≡ old) × (turn ≡ None)
+TurnAt {S} remaining contents clock key (Some conn) old new None = ⊥
+TurnAt remaining contents clock key (Some conn) old new (Some turn) =
+    HasTurnAt remaining contents clock key conn old new turn
 
 abbrev pub turns_of : Option Turn → List Turn
 turns_of None = []
 turns_of (Some turn) = turn ∷ []
 
 -- so many keys, from 0 on, had their turns, one after another; these are what they came to
-abbrev pub Turned : {S : Type 0} → (remaining contents : S → Option (List ℕ)) (now keys : ℕ)
+abbrev pub Turned : {S : Type 0} → (remaining contents : S → Option (List ℕ)) (clock keys : ℕ)
     (old new : Serving S) → List Turn → Type 0
-Turned remaining contents now zero old new turns = (new ≡ old) × (turns ≡ [])
-Turned {S} remaining contents now (suc key) old new turns =
+Turned remaining contents clock zero old new turns = (new ≡ old) × (turns ≡ [])
+Turned {S} remaining contents clock (suc key) old new turns =
     (between : Serving S) × (first : List Turn) × (turn : Option Turn)
-    × Turned remaining contents now key old between first
-    × TurnAt remaining contents now key (slot_at between.slots key) between new turn
+    × Turned remaining contents clock key old between first
+    × TurnAt remaining contents clock key (slot_at between.slots key) between new turn
     × (turns ≡ first ++ turns_of turn)
 
 -- whether a turn moved something, and whether it closed its connection
@@ -91,39 +91,39 @@ is_closed Moved = false
 is_closed Closed = true
 
 -- each connection had a turn, by rising key, and the tally counts what they came to
-pub record HasTurns {S : Type 0} (remaining contents : S → Option (List ℕ)) (now : ℕ)
+pub record HasTurns {S : Type 0} (remaining contents : S → Option (List ℕ)) (clock : ℕ)
     (old new : Serving S) (tally : Tally) : Type 0 where
   pub bound : ℕ
   pub all : length old.slots ≤ bound
   pub turns : List Turn
-  pub turned : Turned remaining contents now bound old new turns
+  pub turned : Turned remaining contents clock bound old new turns
   pub moved : tally.moved ≡ count_by is_moved turns
   pub closed : tally.closed ≡ count_by is_closed turns
 
 -- The end.
 
 -- a connection's session is closed, and it is dropped
-pub record HasEndedAt {S : Type 0} (now key : ℕ) (old new : Serving S) : Type 0 where
-  pub guard_is : new.guard ≡ in_state old.guard (step old.guard.state (Close key now) false).state
+pub record HasEndedAt {S : Type 0} (clock key : ℕ) (old new : Serving S) : Type 0 where
+  pub guard_is : new.guard ≡ in_state old.guard (step old.guard.state (Close key clock) false).state
   pub slots_are : new.slots ≡ slice_set old.slots key None
 
 -- the connection at a key is ended, if there is one
-abbrev pub EndAt : {S : Type 0} → (now key : ℕ) → Option (Connection S) → Serving S → Serving S
+abbrev pub EndAt : {S : Type 0} → (clock key : ℕ) → Option (Connection S) → Serving S → Serving S
     → Type 0
-EndAt now key None old new = new ≡ old
-EndAt now key (Some conn) old new = HasEndedAt now key old new
+EndAt clock key None old new = new ≡ old
+EndAt clock key (Some conn) old new = HasEndedAt clock key old new
 
 -- the connections of so many keys, from 0 on, are ended one after another
-abbrev pub Ended : {S : Type 0} → (now keys : ℕ) → Serving S → Serving S → Type 0
-Ended now zero old new = new ≡ old
-Ended {S} now (suc key) old new =
-    (between : Serving S) × Ended now key old between
-    × EndAt now key (slot_at between.slots key) between new
+abbrev pub Ended : {S : Type 0} → (clock keys : ℕ) → Serving S → Serving S → Type 0
+Ended clock zero old new = new ≡ old
+Ended {S} clock (suc key) old new =
+    (between : Serving S) × Ended clock key old between
+    × EndAt clock key (slot_at between.slots key) between new
 
 -- each connection was ended, by rising key, and this guard is left
-pub record IsFinished {S : Type 0} (now : ℕ) (old : Serving S) (guard : Guarded) : Type 0 where
+pub record IsFinished {S : Type 0} (clock : ℕ) (old : Serving S) (guard : Guarded) : Type 0 where
   pub bound : ℕ
   pub all : length old.slots ≤ bound
   pub last : Serving S
-  pub ended : Ended now bound old last
+  pub ended : Ended clock bound old last
   pub guard_is : guard ≡ last.guard

@@ -107,43 +107,43 @@ impl<S: Stream + Drop, T: Tree> Clients<S, T> {
         true
     }
 
-    /// Gives each client's connection a turn, by rising key, at the clock reading `now`, in seconds
+    /// Gives each client's connection a turn, by rising key, at the clock reading `clock`, in seconds
     /// since 1970, modulo 2^32. A connection that is closed then is dropped. Returns how many turns
     /// moved something, and how many closed their connection.
-    pub fn turns(&mut self, now: u32) -> Tally
-        ensures { HasTurns S.remaining S.contents now self.old self.new result }
+    pub fn turns(&mut self, clock: u32) -> Tally
+        ensures { HasTurns S.remaining S.contents clock self.old self.new result }
     {
         let mut tally = Tally {
             moved: 0,
             closed: 0,
         };
         for key in 0..bound(&self.conns) {
-            tally = tally.with(self.turn_at(key, now));
+            tally = tally.with(self.turn_at(key, clock));
         }
         tally
     }
 
-    /// Closes each client's session by rising key, at the clock reading `now`, in seconds since 1970,
+    /// Closes each client's session by rising key, at the clock reading `clock`, in seconds since 1970,
     /// modulo 2^32. Drops the connections, and returns the guard.
     ///
     /// The fids of a session end by rising number. A file that one of them has open with
-    /// remove-on-close is removed, and its directory is marked at `now`, as clunk(5).
-    pub fn finish(mut self, now: u32) -> Guard<T>
-        ensures { IsFinished now self result }
+    /// remove-on-close is removed, and its directory is marked at `clock`, as clunk(5).
+    pub fn finish(mut self, clock: u32) -> Guard<T>
+        ensures { IsFinished clock self result }
     {
         for key in 0..bound(&self.conns) {
-            self.end_at(key, now);
+            self.end_at(key, clock);
         }
         self.guard
     }
 
     // A turn of the connection of this key, if there is one.
-    fn turn_at(&mut self, key: usize, now: u32) -> Option<Turn>
-        ensures { TurnAt S.remaining S.contents now key (slot_at self.old.slots key) self.old
+    fn turn_at(&mut self, key: usize, clock: u32) -> Option<Turn>
+        ensures { TurnAt S.remaining S.contents clock key (slot_at self.old.slots key) self.old
             self.new result }
     {
         let conn = self.conns.get_mut(key)?;
-        let turn = conn.turn(&mut self.guard, now);
+        let turn = conn.turn(&mut self.guard, clock);
         if turn == Turn::Closed {
             drop_at(&mut self.conns, key);
         }
@@ -151,11 +151,11 @@ impl<S: Stream + Drop, T: Tree> Clients<S, T> {
     }
 
     // Closes the session of this key, if there is a connection, and drops that.
-    fn end_at(&mut self, key: usize, now: u32)
-        ensures { EndAt now key (slot_at self.old.slots key) self.old self.new }
+    fn end_at(&mut self, key: usize, clock: u32)
+        ensures { EndAt clock key (slot_at self.old.slots key) self.old self.new }
     {
         if let Some(conn) = self.conns.try_remove(key) {
-            self.guard.close(conn.session(), now);
+            self.guard.close(conn.session(), clock);
         }
     }
 }

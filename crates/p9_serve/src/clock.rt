@@ -10,8 +10,8 @@ use std::{io, thread};
 
 /// The whole seconds since 1970, modulo 2^32. A clock that is before 1970 reads 0.
 pub(crate) fn seconds(rt: &impl Clock) -> io::Result<u32> {
-    let now = SystemTime::now(rt)?;
-    Ok(now.duration_since(UNIX_EPOCH).map_or(0, reading))
+    let clock = SystemTime::now(rt)?;
+    Ok(clock.duration_since(UNIX_EPOCH).map_or(0, reading))
 }
 
 /// Rests so long, where that is any time.

@@ -129,12 +129,12 @@ fn run_rounds<R: Clock>(
     mut server: Server<IndexTree<Global>>,
     rounds: u64,
 ) -> io::Result<()> {
-    let mut now = 0;
+    let mut clock = 0;
     for _ in 0..rounds {
         rest(rt, server.rest());
-        now = seconds(rt)?;
-        let _round = server.round(now);
+        clock = seconds(rt)?;
+        let _round = server.round(clock);
     }
-    let _guard = server.finish(now);
+    let _guard = server.finish(clock);
     Ok(())
 }

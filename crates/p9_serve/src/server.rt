@@ -85,16 +85,16 @@ impl<T: Tree> Server<T> {
     /// Accepts, if that is due: in the first round, if none of the 63 rounds before this one did, if
     /// nothing was taken in, moved or closed in the 16 rounds before it or in a multiple of 16, and
     /// after each rest ([`Pace`]). One client is taken in then, if one is waiting. Then each client's
-    /// connection has a turn, by rising key, at the clock reading `now`, in seconds since 1970,
+    /// connection has a turn, by rising key, at the clock reading `clock`, in seconds since 1970,
     /// modulo 2^32. Returns what came of it.
     ///
     /// A client is dropped, and not counted, where [`Clients::take_in`] drops it. An accept that
     /// fails takes in nobody, as one does that finds nobody waiting.
-    pub fn round(&mut self, now: u32) -> Round
-        ensures { HasRound untold untold now self.old self.new result }
+    pub fn round(&mut self, clock: u32) -> Round
+        ensures { HasRound untold untold clock self.old self.new result }
     {
         let accepted = self.accept();
-        let tally = self.clients.turns(now);
+        let tally = self.clients.turns(clock);
         let round = Round {
             accepted,
             moved: tally.moved,
@@ -104,20 +104,20 @@ impl<T: Tree> Server<T> {
         round
     }
 
-    /// Closes each client's session by rising key, at the clock reading `now`, in seconds since 1970,
+    /// Closes each client's session by rising key, at the clock reading `clock`, in seconds since 1970,
     /// modulo 2^32. Drops the connections and the listener, and returns the guard.
     ///
     /// The fids of a session end by rising number. A file that one of them has open with
-    /// remove-on-close is removed, and its directory is marked at `now`, as clunk(5).
-    pub fn finish(self, now: u32) -> Guard<T>
-        ensures { IsFinished now self.serving result }
+    /// remove-on-close is removed, and its directory is marked at `clock`, as clunk(5).
+    pub fn finish(self, clock: u32) -> Guard<T>
+        ensures { IsFinished clock self.serving result }
     {
         let Server {
             listener: _,
             clients,
             pace: _,
         } = self;
-        clients.finish(now)
+        clients.finish(clock)
     }
 
     // Takes in a client that waits, if an accept is due; returns how many.

@@ -14,5 +14,5 @@ invariant_of-self g c =
     (λ conn is. absurd (cc))
     (λ k other there.
     rw (c.close.ensures.promised.state_is)
-    (close-there b.guard.state k there c.session.result c.args.now
+    (close-there b.guard.state k there c.session.result c.args.clock
     (λ same. other (same ∙ name))))

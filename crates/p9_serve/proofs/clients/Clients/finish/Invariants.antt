@@ -3,4 +3,4 @@ use Rattle.p9_serve.proofs.clients.Clients.finish.Given as goal
 
 -- the connections of the keys so far are closed
 abbrev pub invariant-loop-key : goal.invariant-loop-key
-invariant-loop-key g l = Ended l.fn.now l.key l.fn.self l.self
+invariant-loop-key g l = Ended l.fn.clock l.key l.fn.self l.self

@@ -21,7 +21,7 @@ invariant_of-self-else-eq g c =
     keyed-open b.conns.slots c.args.key conn after old new there c.self.invariant its.session_is
     (is-open its.deeds after.link.closed c.turn-turn.result its.result_is
     (λ same. let no = rw same at (sym c.eq.ensures ∙ c.if-eq.false) in absurd (cc)))
-    (stays-open conn.session c.args.now old new its.deeds its.turn)
+    (stays-open conn.session c.args.clock old new its.deeds its.turn)
 
 pub invariant_of-self-then-eq : goal.invariant_of-self-then-eq
 invariant_of-self-then-eq g c =
@@ -35,7 +35,7 @@ invariant_of-self-then-eq g c =
     let new : Scene = record { link = after.link; state = c.turn-turn.new.guard.state } in
     rw c.drop_at.ensures
     (keyed-closed b.conns.slots c.args.key conn after old new there c.self.invariant
-    (stays-open conn.session c.args.now old new its.deeds its.turn))
+    (stays-open conn.session c.args.clock old new its.deeds its.turn))
 
 pub returns-else-eq : goal.returns-else-eq
 returns-else-eq g c =
@@ -46,7 +46,7 @@ returns-else-eq g c =
     sym c.get_mut.ensures.value ∙ ap option_copied_mut c.in_ok-conn.was in
     let its = c.turn-turn.ensures in
     rw (← c.self.view_is)
-    (turn-left-open g.S.Read.remaining g.S.Write.contents c.args.now c.args.key conn after
+    (turn-left-open g.S.Read.remaining g.S.Write.contents c.args.clock c.args.key conn after
     (record { guard = b.guard; slots = b.conns.slots })
     (record {
       guard = c.turn-turn.new.guard;
@@ -65,7 +65,7 @@ returns-then-eq g c =
     let its = c.turn-turn.ensures in
     let closed : c.turn-turn.result ≡ Closed = search (rules, c.eq.ensures, c.if-eq.true) in
     rw (← c.self.view_is)
-    (turn-closed g.S.Read.remaining g.S.Write.contents c.args.now c.args.key conn after
+    (turn-closed g.S.Read.remaining g.S.Write.contents c.args.clock c.args.key conn after
     (record { guard = b.guard; slots = b.conns.slots })
     (record { guard = c.turn-turn.new.guard; slots = c.drop_at.new.values.slots })
     c.turn-turn.result there its

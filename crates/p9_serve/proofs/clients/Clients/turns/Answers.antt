@@ -11,7 +11,7 @@ loop-key-preserved g c =
     let more = turns_of c.turn_at.result in
     let next : c.loop-key.key + 1 ≡ suc c.loop-key.key = omega arith in (
       first ++ more,
-      subst (λ (n : ℕ). Turned g.S.Read.remaining g.S.Write.contents c.args.now n c.args.self.now
+      subst (λ (n : ℕ). Turned g.S.Read.remaining g.S.Write.contents c.args.clock n c.args.self.now
           c.turn_at.new.self (first ++ more)) (sym next)
           (c.loop-key.self, first, c.turn_at.result, so_far.1, c.turn_at.ensures, refl),
       c.with-tally.ensures.moved ∙ ap (λ (n : ℕ). n + count_by is_moved more) so_far.2

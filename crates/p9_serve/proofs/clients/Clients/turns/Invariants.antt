@@ -8,6 +8,6 @@ use Rattle.p9_serve.proofs.clients.Clients.turns.Given as goal
 abbrev pub invariant-loop-key : goal.invariant-loop-key
 invariant-loop-key g l =
     (turns : List Turn)
-    × Turned g.S.Read.remaining g.S.Write.contents l.fn.now l.key l.fn.self l.self turns
+    × Turned g.S.Read.remaining g.S.Write.contents l.fn.clock l.key l.fn.self l.self turns
     × (l.tally.moved ≡ count_by is_moved turns) × (l.tally.closed ≡ count_by is_closed turns)
     × (l.tally.moved ≤ l.key) × (l.tally.closed ≤ l.key)
