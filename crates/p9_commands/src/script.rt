@@ -2,6 +2,7 @@
 
 ghost use Rattle.std.specs.Prelude.{◌≡◌, [], IfErr, IfOk, Ok, Some, map};
 ghost use Rattle.std.specs.Option.{option_map};
+ghost use Rattle.p9_step.specs.Event.{Open};
 ghost use Rattle.p9_export.specs.Event.{event_view};
 ghost use Rattle.p9_commands.specs.Script.{IsScriptFault, close_event_of, event_of};
 ghost use Rattle.p9_commands.specs.Script.{frame_of_hex, message_event_of};
@@ -71,11 +72,18 @@ fn event<A: Allocator + Copy>(alloc: A, words: &[&str]) -> Result<Option<Event<A
         option_map event_view event ≡ event_of (map (λ word. word.now) words.now)) }
 {
     match words {
-        [verb, name] if *verb == "open" => Ok(short_number(name).map(Event::Open)),
+        [verb, name] if *verb == "open" => Ok(open_event(name)),
         [verb, name, clock, hex] if *verb == "msg" => message_event(alloc, name, clock, hex),
         [verb, name, clock] if *verb == "close" => Ok(close_event(name, clock)),
         _ => Ok(None),
     }
+}
+
+// An opening, where its name is good.
+fn open_event<A: Allocator + Copy>(name: &str) -> Option<Event<A>>
+    ensures { option_map event_view result ≡ option_map Open (short_number name.now) }
+{
+    Some(Event::Open(short_number(name)?))
 }
 
 // A message, where its three parts are good.

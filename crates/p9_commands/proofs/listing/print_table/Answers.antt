@@ -1,6 +1,7 @@
 use Rattle.std.proofs.Common.{◌≡◌, ◌<◌, Some, None, ◌∙◌, ◌++◌, length, sym, ap, subst, arith}
 use Rattle.std.specs.Prelude.{slice_get}
 use Rattle.std.proofs.lemmas.Option.{get_or_from_slice_get, slice_get_cases, slice_get_within}
+use Rattle.p9_space.specs.Table.{MountRow}
 use Rattle.p9_commands.specs.Listing.{members_text, row_text}
 use Rattle.p9_commands.proofs.Prints.{printed-more}
 use Rattle.p9_commands.proofs.listing.print_table.Goals as goal
@@ -12,7 +13,7 @@ loop-position-preserved g c =
     let i = c.loop-position.position in
     elim c.match-row.branch [
       | in-Some+in_ok-print_row w ↦
-          let row = (w.in-Some.key, w.in-Some.members) in
+          let row : MountRow = (w.in-Some.key, w.in-Some.members) in
           let found : slice_get table i ≡ Some row = sym c.row.ensures ∙ w.in-Some.is in
           printed-more (row_text c.args.world.now) table c.args.out.now.items i
           c.loop-position.out.items row row c.match-row.out.items
