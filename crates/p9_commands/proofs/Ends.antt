@@ -11,11 +11,11 @@ use Rattle.p9_nsfile.specs.Space.{Report}
 use Rattle.p9_step.specs.Event.{Event}
 use Rattle.p9_commands.specs.Command.{CommandEnds, Printed, Writes, admitted, gap_against}
 use Rattle.p9_commands.specs.NameSpace.{NameSpace}
-use Rattle.p9_commands.specs.Prepared.{IsPrepareErrorBy, IsReported, Prepared, Rejected}
-use Rattle.p9_commands.specs.Prepared.{rejected_text}
+use Rattle.p9_commands.specs.Prepared.{IsReported, Prepared, Rejected, prepared_of, rejected_text}
 use Rattle.p9_commands.specs.Refusal.{IsSilent, IsUnverified, ReportsStop, refusal_line}
 use Rattle.p9_commands.specs.Report.{reports_text}
 use Rattle.p9_commands.specs.declared.command.Command.{Command}
+use Rattle.p9_commands.specs.declared.prepared.Needs.{Needs}
 use Rattle.p9_commands.specs.declared.refusal.Refusal.{Refusal}
 use Rattle.p9_commands.specs.declared.refusal.Refusal.TheVariants.{Unverified}
 use Rattle.p9_commands.specs.declared.refusal.Stop.{Stop}
@@ -42,31 +42,24 @@ module _ (before between after : List ℕ) (reports : List Report)
       is ∙ ap (λ b. b ++ refusal_line refusal) reported
       ∙ append_assoc before (reports_text reports) (refusal_line refusal)
 
-  -- an input with a fault
-  pub not-prepared : (asked : Result Prepared Rejected) (stop : Stop)
-      → IsPrepareErrorBy asked reports stop → ReportsStop stop between after
-      → IsReported asked before after None
-  not-prepared asked NoMemory is printed = absurd printed
-  not-prepared asked (Refused refusal) is printed =
-      subst (λ (a : Result Prepared Rejected). IsReported a before after None) (sym is)
-      (joined refusal printed)
-
 -- What follows the preparation.
 module _ {X : Type 0} (Q : Result X Rejected → Type 0) (next : Prepared → Result X Rejected)
     (before after : List ℕ) where
-  pub after-fault : (asked : Result Prepared Rejected) → IsReported asked before after None
-      → ((rejected : Rejected) → after ≡ before ++ rejected_text rejected → Q (Err rejected))
-      → Q (and_then asked next)
-  after-fault (Ok found) reported holds = absurd reported
-  after-fault (Err rejected) reported holds = holds rejected reported
-
-  pub after-prepared : (asked : Result Prepared Rejected) (prepared : Prepared)
-      → IsReported asked before after (Some prepared)
+  pub after-prepared : (needs wanted : Needs) → needs ≡ wanted → (input : List ℕ)
+      (found : Option Prepared) (prepared : Prepared) → found ≡ Some prepared
+      → IsReported (prepared_of needs input) before after found
       → (after ≡ before ++ reports_text prepared.space.reports → Q (next prepared))
-      → Q (and_then asked next)
-  after-prepared (Ok found) prepared reported holds =
-      subst (λ (p : Prepared). Q (next p)) reported.0 (holds reported.1)
-  after-prepared (Err rejected) prepared reported holds = absurd reported
+      → Q (and_then (prepared_of wanted input) next)
+  after-prepared needs wanted same input found prepared is reported holds =
+      go (prepared_of wanted input)
+      (subst (λ (n : Needs). IsReported (prepared_of n input) before after (Some prepared)) same
+      (subst (λ (o : Option Prepared). IsReported (prepared_of needs input) before after o) is
+      reported))
+    where
+      go : (asked : Result Prepared Rejected) → IsReported asked before after (Some prepared)
+          → Q (and_then asked next)
+      go (Ok p) told = subst (λ (p : Prepared). Q (next p)) told.0 (holds told.1)
+      go (Err rejected) told = absurd told
 
 -- A command over a prepared input.
 module _ (command : Command) (p : Printed) (prepared : Prepared) (between : List ℕ)

@@ -12,6 +12,7 @@ use crate::judgement::print_verified;
 use crate::name_space::NameSpace;
 use crate::play::play_events;
 use crate::prepared::{Needs, Prepared, prepare_and_report};
+use crate::printed::append_both;
 use crate::refusal::Stop;
 use crate::status::{BAD_COMMAND_LINE, DONE, REFUSED};
 use p9_base::NoMemory;
@@ -149,6 +150,7 @@ pub fn run<A: Allocator + Copy>(
 
 // Runs a command as `run` does, with a tree of this type for each server. What it prints is
 // appended only at its end, so that nothing is appended where an allocation fails.
+#[tactic(auto, unfolding(crate::specs::Command::printed))]
 fn run_over<T: Tree>(
     command: Command,
     input: &[u8],
@@ -162,9 +164,7 @@ fn run_over<T: Tree>(
     let mut printed = Vec::new(*out.allocator());
     let mut reported = Vec::new(*err.allocator());
     let status = end::<T>(command, input, &mut printed, &mut reported)?;
-    err.reserve(reported.len())?;
-    out.extend_from_slice(printed.as_slice())?;
-    err.extend_from_slice(reported.as_slice())?;
+    append_both(printed.as_slice(), out, reported.as_slice(), err)?;
     Ok(status)
 }
 

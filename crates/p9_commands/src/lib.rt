@@ -17,6 +17,7 @@ mod offer;
 mod path;
 mod play;
 mod prepared;
+mod printed;
 mod refusal;
 mod report;
 mod script;

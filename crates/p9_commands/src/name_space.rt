@@ -3,10 +3,12 @@
 ghost use Rattle.std.specs.Prelude.{◌≡◌, ◌⊎◌, ◌<◌, IfErr, IfOk, None, Ok, OnOk, Some};
 ghost use Rattle.std.specs.Prelude.{length};
 ghost use Rattle.std.specs.Option.{option_copied};
+ghost use Rattle.p9_nsfile.specs.Given.{KeepsGiven};
+ghost use Rattle.p9_nsfile.specs.Run.{run_of};
 ghost use Rattle.p9_commands.specs.Judgement.{IsPrinted, SaysNo, SaysYes};
 ghost use Rattle.p9_commands.specs.Listing.{table_text};
-ghost use Rattle.p9_commands.specs.NameSpace.{exported, gap_over, guard_over, space_in};
-ghost use Rattle.p9_commands.specs.NameSpace.{space_over, world_in};
+ghost use Rattle.p9_commands.specs.NameSpace.{environment_of, exported, gap_over, guard_over};
+ghost use Rattle.p9_commands.specs.NameSpace.{or_bad_operation, space_in, space_over, world_in};
 ghost use Rattle.p9_commands.specs.Refusal.{IsStop, IsUnverified};
 
 use crate::judgement::print_verdict;
@@ -80,24 +82,12 @@ impl<T: Tree> NameSpace<T> {
     {
         world.well_formed();
         let mut table = MountTable::new(alloc);
-        match run_file(
-            alloc,
-            text,
-            &world.vars,
-            &world.servers,
-            &world.forest,
-            &mut table,
-        ) {
-            Ok(reports) => Ok(NameSpace {
-                world,
-                table,
-                reports,
-            }),
-            Err(NsError::BadLine { line, kind }) => {
-                Err(Stop::Refused(Refusal::BadOperation { line, kind }))
-            }
-            Err(NsError::NoMemory) => Err(Stop::NoMemory),
-        }
+        let reports = run(alloc, text, &world, &mut table)?;
+        Ok(NameSpace {
+            world,
+            table,
+            reports,
+        })
     }
 
     /// Prints the mount table, a line for each member of each row. Returns the exit status. Where
@@ -173,5 +163,34 @@ fn world_in<T: Tree>(alloc: T::Alloc, text: Option<&str>) -> Result<World<T>, St
             Err(Stop::Refused(Refusal::BadWorld { line, kind }))
         }
         Err(WorldError::NoMemory) => Err(Stop::NoMemory),
+    }
+}
+
+// Runs a namespace file over a world, and returns what failed.
+fn run<T: Tree>(
+    alloc: T::Alloc,
+    text: &str,
+    world: &World<T>,
+    table: &mut MountTable<T::Alloc>,
+) -> Result<Vec<(u64, OpFault), T::Alloc>, Stop>
+    ensures ok { IfOk result (λ reports.
+        run_of (environment_of world.now) text.now table.old ≡ Ok (table.new, reports.items)) }
+    ensures stop { IfErr result (IsStop (or_bad_operation (run_of
+        (environment_of world.now) text.now table.old))) }
+    ensures given { OnOk result (KeepsGiven (environment_of world.now) table.old table.new) }
+{
+    match run_file(
+        alloc,
+        text,
+        &world.vars,
+        &world.servers,
+        &world.forest,
+        table,
+    ) {
+        Ok(reports) => Ok(reports),
+        Err(NsError::BadLine { line, kind }) => {
+            Err(Stop::Refused(Refusal::BadOperation { line, kind }))
+        }
+        Err(NsError::NoMemory) => Err(Stop::NoMemory),
     }
 }
