@@ -18,11 +18,11 @@ use Rattle.p9_commands.specs.declared.command.Command.{Command}
 use Rattle.p9_commands.specs.declared.prepared.Needs.{Needs}
 use Rattle.p9_commands.specs.declared.refusal.Refusal.{Refusal}
 use Rattle.p9_commands.specs.declared.refusal.Refusal.TheVariants.{Unverified}
-use Rattle.p9_commands.specs.declared.refusal.Stop.{Stop}
-use Rattle.p9_commands.specs.declared.refusal.Stop.TheVariants.{Refused, NoMemory}
+use Rattle.p9_base.specs.declared.stop.Stop.{Stop}
+use Rattle.p9_base.specs.declared.stop.Stop.TheVariants.{Refused, NoMemory}
 
 -- a failed allocation
-pub failed : {V : Type 0} (P : Stop → Type 0) (r : Result V Stop)
+pub failed : {V : Type 0} (P : Stop Refusal → Type 0) (r : Result V (Stop Refusal))
     → IsErrAnd r (λ stop. stop ≡ NoMemory) → P NoMemory → IfErr r P
 failed P r is holds = let error = err_from_is_err_and r is in rw (error.1, error.2) holds
 
@@ -80,7 +80,7 @@ module _ (command : Command) (p : Printed) (prepared : Prepared) (between : List
       (same ∙ reported, writes)
 
   -- a gap is against it
-  pub gap-ends : (stop : Stop) → IsUnverified (gap_against command prepared) stop
+  pub gap-ends : (stop : Stop Refusal) → IsUnverified (gap_against command prepared) stop
       → IsSilent p.out_before p.out stop → ReportsStop stop between p.err
       → CommandEnds command (admitted command prepared) 1 p
   gap-ends NoMemory is same printed = absurd printed

@@ -9,8 +9,9 @@ use Rattle.p9_world.specs.World.{World}
 use Rattle.p9_commands.specs.NameSpace.{NameSpace, environment_of, or_bad_operation, space_in}
 use Rattle.p9_commands.specs.NameSpace.{space_over, world_in}
 use Rattle.p9_commands.specs.Refusal.{IsStop}
-use Rattle.p9_commands.specs.declared.refusal.Stop.{Stop}
-use Rattle.p9_commands.specs.declared.refusal.Stop.TheVariants.{Refused, NoMemory}
+use Rattle.p9_commands.specs.declared.refusal.Refusal.{Refusal}
+use Rattle.p9_base.specs.declared.stop.Stop.{Stop}
+use Rattle.p9_base.specs.declared.stop.Stop.TheVariants.{Refused, NoMemory}
 
 -- a section, or the text of none
 pub section : (text : Option (Bor (List ℕ))) (none : Bor (List ℕ))
@@ -19,7 +20,7 @@ section None none = refl
 section (Some text) none = refl
 
 -- what stops the run of a namespace file over an empty table stops the making of the name space
-pub over-stop : (text : List ℕ) (world : World) (table : List MountRow) (stop : Stop)
+pub over-stop : (text : List ℕ) (world : World) (table : List MountRow) (stop : Stop Refusal)
     → table ≡ [] → IsStop (or_bad_operation (run_of (environment_of world) text table)) stop
     → IsStop (space_over text world) stop
 over-stop text world table NoMemory empty stopped = tt
@@ -35,7 +36,7 @@ module _ (world ns : Option (List ℕ)) (text : List ℕ) (w : World) (made : wo
   over_it : space_in world ns ≡ space_over text w
   over_it = rw (made, given) refl
 
-  pub read-ok : (result : Result NameSpace Stop)
+  pub read-ok : (result : Result NameSpace (Stop Refusal))
       → IfOk result (λ space. space_over text w ≡ Ok space)
       → IfOk result (λ space. space_in world ns ≡ Ok space)
   read-ok result =

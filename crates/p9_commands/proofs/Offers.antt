@@ -9,8 +9,8 @@ use Rattle.p9_commands.specs.Prepared.{Prepared, Rejected, guard_in, with_report
 use Rattle.p9_commands.specs.Refusal.{IsStop, ReportsStop}
 use Rattle.p9_commands.specs.Report.{reports_text}
 use Rattle.p9_commands.specs.declared.refusal.Refusal.{Refusal}
-use Rattle.p9_commands.specs.declared.refusal.Stop.{Stop}
-use Rattle.p9_commands.specs.declared.refusal.Stop.TheVariants.{Refused, NoMemory}
+use Rattle.p9_base.specs.declared.stop.Stop.{Stop}
+use Rattle.p9_base.specs.declared.stop.Stop.TheVariants.{Refused, NoMemory}
 
 module _ (before between after : List ℕ) (prepared : Prepared)
     (reported : between ≡ before ++ reports_text prepared.space.reports) where
@@ -28,7 +28,7 @@ module _ (before between after : List ℕ) (prepared : Prepared)
       (sym is) (refl, reported)
 
   -- no guard
-  pub none-offered : (stop : Stop) → IsStop (guard_in prepared) stop
+  pub none-offered : (stop : Stop Refusal) → IsStop (guard_in prepared) stop
       → ReportsStop stop between after → Serves (offer_in prepared) before after None
   none-offered NoMemory is printed = absurd printed
   none-offered (Refused refusal) is printed =

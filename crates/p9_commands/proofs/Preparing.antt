@@ -9,8 +9,8 @@ use Rattle.p9_commands.specs.NameSpace.{NameSpace, gap_over, guard_over}
 use Rattle.p9_commands.specs.Prepared.{Rejected, guarded, with_reports}
 use Rattle.p9_commands.specs.Refusal.{IsStop, IsUnverified}
 use Rattle.p9_commands.specs.declared.refusal.Refusal.{Refusal}
-use Rattle.p9_commands.specs.declared.refusal.Stop.{Stop}
-use Rattle.p9_commands.specs.declared.refusal.Stop.TheVariants.{Refused, NoMemory}
+use Rattle.p9_base.specs.declared.stop.Stop.{Stop}
+use Rattle.p9_base.specs.declared.stop.Stop.TheVariants.{Refused, NoMemory}
 
 -- a part that is found is followed by the rest
 pub part-found : {X Y : Type 0} (reports : List Report) (found : Result X Refusal)
@@ -20,14 +20,14 @@ part-found reports found rest value is = rw is refl
 
 -- a certificate without a gap gives the guard, and one with a gap none
 module _ (space : NameSpace) (rows : List NodeRef) where
-  pub guard-ok : (result : Result Guarded Stop)
+  pub guard-ok : (result : Result Guarded (Stop Refusal))
       → IfOk result (λ guard. guard ≡ guard_over space rows)
       → OnOk result (gap_over space rows ≡ None)
       → IfOk result (λ guard. guarded space rows ≡ Ok guard)
   guard-ok (Ok guard) made none = rw (none, made) refl
   guard-ok (Err stop) made none = tt
 
-  pub guard-stop : (result : Result Guarded Stop)
+  pub guard-stop : (result : Result Guarded (Stop Refusal))
       → IfErr result (IsUnverified (gap_over space rows))
       → IfErr result (IsStop (guarded space rows))
   guard-stop (Ok guard) is = tt

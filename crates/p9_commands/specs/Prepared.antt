@@ -21,8 +21,8 @@ use Rattle.p9_commands.specs.declared.refusal.Refusal.{Refusal}
 use Rattle.p9_commands.specs.declared.refusal.Refusal.TheVariants.{BadCertificate, BadEvent}
 use Rattle.p9_commands.specs.declared.refusal.Refusal.TheVariants.{BadSection, NoCertificate}
 use Rattle.p9_commands.specs.declared.refusal.Refusal.TheVariants.{NotUtf8, Unverified}
-use Rattle.p9_commands.specs.declared.refusal.Stop.{Stop}
-use Rattle.p9_commands.specs.declared.refusal.Stop.TheVariants.{Refused, NoMemory}
+use Rattle.p9_base.specs.declared.stop.Stop.{Stop}
+use Rattle.p9_base.specs.declared.stop.Stop.TheVariants.{Refused, NoMemory}
 
 -- What an input comes to.
 
@@ -101,7 +101,7 @@ abbrev pub rejected_text : Rejected → List ℕ
 rejected_text rejected = reports_text rejected.reports ++ refusal_line rejected.refusal
 
 -- an error says that an allocation failed, or the first fault, with what failed before it
-abbrev pub IsPrepareErrorBy : {X : Type 0} → Result X Rejected → List Report → Stop → Type 0
+abbrev pub IsPrepareErrorBy : {X : Type 0} → Result X Rejected → List Report → Stop Refusal → Type 0
 IsPrepareErrorBy asked reports NoMemory = Unit {0}
 IsPrepareErrorBy asked reports (Refused refusal) =
     asked ≡ Err (record { reports = reports; refusal = refusal })

@@ -10,8 +10,8 @@ use Rattle.p9_commands.specs.declared.refusal.Refusal.TheVariants.{NotUtf8, BadS
 use Rattle.p9_commands.specs.declared.refusal.Refusal.TheVariants.{BadWorld, BadOperation, BadEvent}
 use Rattle.p9_commands.specs.declared.refusal.Refusal.TheVariants.{BadCertificate, NoCertificate}
 use Rattle.p9_commands.specs.declared.refusal.Refusal.TheVariants.{Unverified}
-use Rattle.p9_commands.specs.declared.refusal.Stop.{Stop}
-use Rattle.p9_commands.specs.declared.refusal.Stop.TheVariants.{Refused, NoMemory}
+use Rattle.p9_base.specs.declared.stop.Stop.{Stop}
+use Rattle.p9_base.specs.declared.stop.Stop.TheVariants.{Refused, NoMemory}
 
 -- what is bad is refused under this name
 abbrev pub or_refused : {X E : Type 0} → (E → Refusal) → Result X E → Result X Refusal
@@ -19,18 +19,18 @@ or_refused refusal (Ok value) = Ok value
 or_refused refusal (Err bad) = Err (refusal bad)
 
 -- an error says that an allocation failed, or why the input is refused
-abbrev pub IsStop : {X : Type 0} → Result X Refusal → Stop → Type 0
+abbrev pub IsStop : {X : Type 0} → Result X Refusal → Stop Refusal → Type 0
 IsStop asked NoMemory = Unit {0}
 IsStop asked (Refused refusal) = asked ≡ Err refusal
 
 -- an error says that an allocation failed, or that this is the certificate's first gap
-abbrev pub IsUnverified : Option Gap → Stop → Type 0
+abbrev pub IsUnverified : Option Gap → Stop Refusal → Type 0
 IsUnverified gap NoMemory = Unit {0}
 IsUnverified gap (Refused refusal) =
     (found : Gap) × (gap ≡ Some found) × (refusal ≡ Unverified found)
 
 -- a refusal has printed nothing
-abbrev pub IsSilent : (before after : List ℕ) → Stop → Type 0
+abbrev pub IsSilent : (before after : List ℕ) → Stop Refusal → Type 0
 IsSilent before after NoMemory = Unit {0}
 IsSilent before after (Refused refusal) = after ≡ before
 
@@ -54,6 +54,6 @@ abbrev pub refusal_line : Refusal → List ℕ
 refusal_line refusal = refusal_text refusal ++ 10 ∷ []
 
 -- a refusal is reported in one line more; a failed allocation never is
-abbrev pub ReportsStop : Stop → (before after : List ℕ) → Type 0
+abbrev pub ReportsStop : Stop Refusal → (before after : List ℕ) → Type 0
 ReportsStop NoMemory before after = ⊥
 ReportsStop (Refused refusal) before after = after ≡ before ++ refusal_line refusal

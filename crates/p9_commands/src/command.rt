@@ -12,8 +12,7 @@ use crate::judgement::print_verified;
 use crate::name_space::NameSpace;
 use crate::play::play_events;
 use crate::prepared::{Needs, Prepared, prepare_and_report};
-use crate::printed::append_both;
-use crate::refusal::Stop;
+use crate::refusal::{Stop, report};
 use crate::status::{BAD_COMMAND_LINE, DONE, REFUSED};
 use p9_base::NoMemory;
 use p9_cert::Certificate;
@@ -164,7 +163,9 @@ fn run_over<T: Tree>(
     let mut printed = Vec::new(*out.allocator());
     let mut reported = Vec::new(*err.allocator());
     let status = end::<T>(command, input, &mut printed, &mut reported)?;
-    append_both(printed.as_slice(), out, reported.as_slice(), err)?;
+    err.reserve(reported.len())?;
+    out.extend_from_slice(printed.as_slice())?;
+    err.extend_from_slice(reported.as_slice())?;
     Ok(status)
 }
 
@@ -185,7 +186,7 @@ fn end<T: Tree>(
     match work(command, prepared, out) {
         Ok(status) => Ok(status),
         Err(stop) => {
-            stop.report(err)?;
+            report(stop, err)?;
             Ok(REFUSED)
         }
     }

@@ -17,7 +17,6 @@ mod offer;
 mod path;
 mod play;
 mod prepared;
-mod printed;
 mod refusal;
 mod report;
 mod script;

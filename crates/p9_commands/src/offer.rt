@@ -4,6 +4,7 @@ ghost use Rattle.std.specs.Prelude.{◌≡◌, IfOk, OnErr};
 ghost use Rattle.p9_commands.specs.Offer.{Serves, offer_of};
 
 use crate::prepared::{Needs, prepare_and_report};
+use crate::refusal::report;
 use p9_base::NoMemory;
 use p9_guard::Guard;
 use p9_index::IndexTree;
@@ -49,7 +50,7 @@ fn offer<A: Allocator + Copy>(
     match prepared.guard() {
         Ok(guard) => Ok(Some(guard)),
         Err(stop) => {
-            stop.report(err)?;
+            report(stop, err)?;
             Ok(None)
         }
     }

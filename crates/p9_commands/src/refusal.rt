@@ -33,14 +33,8 @@ pub enum Refusal {
     Unverified(Gap),
 }
 
-/// What keeps an input from being used.
-#[derive(Clone, Copy, Debug, PartialEq, Eq)]
-pub enum Stop {
-    /// The input has a fault.
-    Refused(Refusal),
-    /// An allocation failed.
-    NoMemory,
-}
+/// Why an input is not used: it is refused, or an allocation failed.
+pub type Stop = p9_base::Stop<Refusal>;
 
 impl Refusal {
     /// The line that reports it, without a newline.
@@ -60,19 +54,17 @@ impl Refusal {
     }
 }
 
-impl Stop {
-    /// Prints the line of a refusal. Where an allocation failed or fails, it returns [`NoMemory`],
-    /// and a part of the line may be there.
-    pub(crate) fn report<A: Allocator + Copy>(self, err: &mut Vec<u8, A>) -> Result<(), NoMemory>
-        ensures { OnOk result (ReportsStop self err.old.items err.new.items) }
-    {
-        match self {
-            Stop::Refused(refusal) => {
-                let text = refusal.text(*err.allocator())?;
-                print_line(text.as_str(), err)
-            }
-            Stop::NoMemory => Err(NoMemory),
+/// Prints the line of a refusal. Where an allocation failed or fails, it returns [`NoMemory`], and a
+/// part of the line may be there.
+pub(crate) fn report<A: Allocator + Copy>(stop: Stop, err: &mut Vec<u8, A>) -> Result<(), NoMemory>
+    ensures { OnOk result (ReportsStop stop err.old.items err.new.items) }
+{
+    match stop {
+        Stop::Refused(refusal) => {
+            let text = refusal.text(*err.allocator())?;
+            print_line(text.as_str(), err)
         }
+        Stop::NoMemory => Err(NoMemory),
     }
 }
 
@@ -91,15 +83,4 @@ pub(crate) fn at_line<A: Allocator + Copy>(
     report.push_str(number.as_str())?;
     report.push_str(text)?;
     Ok(report)
-}
-
-impl From<NoMemory> for Stop {
-    ghost use Rattle.std.specs.Prelude.{◌≡◌};
-    ghost use Rattle.p9_commands.specs.declared.refusal.Stop.TheVariants.{NoMemory};
-
-    ghost from_gives = { λ _ stop. stop ≡ NoMemory };
-
-    fn from(_error: NoMemory) -> Stop {
-        Stop::NoMemory
-    }
 }
