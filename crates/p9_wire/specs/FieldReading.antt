@@ -4,8 +4,8 @@ use Rattle.std.specs.Prelude.{Some, None, nat_lt, if◌then◌else◌}
 use Rattle.byteorder.specs.Endian.{little_number}
 use Rattle.p9_base.specs.declared.qid.Qid.{Qid}
 use Rattle.p9_base.specs.Text.{is_text}
+use Rattle.p9_wire.specs.Frame.{elements_max}
 use Rattle.p9_wire.specs.Message.{StatFields}
-use Rattle.p9_wire.specs.Limits.{elements_max}
 
 -- goes on with the value, where there is one
 infixl 10 ◌and_then◌

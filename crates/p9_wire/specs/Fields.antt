@@ -4,8 +4,8 @@ use Rattle.std.specs.List.{flat_map, AllByRecursion}
 use Rattle.byteorder.specs.Endian.{little_bytes}
 use Rattle.p9_base.specs.declared.qid.Qid.{Qid}
 use Rattle.p9_base.specs.Text.{is_text}
+use Rattle.p9_wire.specs.Frame.{elements_max}
 use Rattle.p9_wire.specs.Message.{StatFields}
-use Rattle.p9_wire.specs.Limits.{elements_max}
 
 -- a number in so many bytes, the lowest first
 unfoldable pub number : (bytes value : ℕ) → List ℕ

@@ -1,4 +1,3 @@
-pub mod Limits
 pub mod Message
 pub mod Fields
 pub mod Reply

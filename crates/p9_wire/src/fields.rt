@@ -3,7 +3,7 @@
 
 ghost use Rattle.std.specs.Prelude.{◌≡◌, ◌≤◌, ◌==◌, Some, None, nat_lt, if◌then◌else◌};
 ghost use Rattle.p9_base.specs.Text.{is_text as text_test};
-ghost use Rattle.p9_wire.specs.Limits.{elements_max};
+ghost use Rattle.p9_wire.specs.Frame.{elements_max};
 ghost use Rattle.p9_wire.specs.Message.{stat_view};
 ghost use Rattle.p9_wire.specs.FieldReading.{◌and_then◌, Gives, number_at, bytes_at, text_at};
 ghost use Rattle.p9_wire.specs.FieldReading.{sized_bytes_at, qid_at, counted_at, times};

@@ -2,7 +2,7 @@
 
 ghost use Rattle.std.specs.Prelude.{◌≡◌, ◌==◌, ◌<◌, ◌≤◌, ◌++◌, ◌∷◌, [], ℕ, List, Some, map};
 ghost use Rattle.std.specs.Prelude.{length, slice_get};
-ghost use Rattle.p9_wire.specs.Limits.{elements_max};
+ghost use Rattle.p9_wire.specs.Frame.{elements_max};
 
 use crate::constants::MAXWELEM;
 use arrayvec::ArrayVec;

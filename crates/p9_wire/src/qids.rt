@@ -2,7 +2,7 @@
 
 ghost use Rattle.std.specs.Prelude.{◌≡◌, ◌==◌, ◌<◌, ◌≤◌, ◌++◌, ◌∷◌, [], List, length};
 ghost use Rattle.p9_base.specs.declared.qid.Qid.{Qid};
-ghost use Rattle.p9_wire.specs.Limits.{elements_max};
+ghost use Rattle.p9_wire.specs.Frame.{elements_max};
 
 use crate::constants::MAXWELEM;
 use arrayvec::ArrayVec;
