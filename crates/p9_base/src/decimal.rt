@@ -23,38 +23,3 @@ fn is_decimal(word: &str) -> bool
 {
     !word.is_empty() && word.bytes().all(|byte| byte.is_ascii_digit())
 }
-
-#[cfg(test)]
-mod tests {
-    use super::*;
-
-    #[test]
-    fn reads_numbers(rt: HostRuntime) {
-        for (word, limit, want) in [
-            ("007", 8, Some(7)),
-            ("007", 7, None),
-            ("0", 1, Some(0)),
-            ("0", 0, None),
-            ("0000000000000000000000000000001", 1 << 32, Some(1)),
-            ("4294967295", 1 << 32, Some(4_294_967_295)),
-            ("4294967296", 1 << 32, None),
-            (
-                "18446744073709551614",
-                u64::MAX,
-                Some(18_446_744_073_709_551_614),
-            ),
-            ("18446744073709551615", u64::MAX, None),
-            ("18446744073709551616", u64::MAX, None),
-            ("100000000000000000000000000000000", u64::MAX, None),
-            ("", 8, None),
-            ("+5", 8, None),
-            ("-0", 8, None),
-            ("5 ", 8, None),
-            ("5\r", 8, None),
-            ("0x5", 8, None),
-            ("\u{665}", 8, None),
-        ] {
-            assert_eq!(rt; number(word, limit), want, "{word:?} below {limit}");
-        }
-    }
-}

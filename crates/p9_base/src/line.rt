@@ -35,32 +35,3 @@ pub fn is_skipped(words: &[&str]) -> bool
         [first, ..] => first.starts_with('#'),
     }
 }
-
-#[cfg(test)]
-mod tests {
-    use super::*;
-    use std::test::Fail;
-
-    #[test]
-    fn cuts_a_text_into_lines(rt: HostRuntime) -> Result<(), Fail> {
-        let alloc = rt.alloc();
-        let found = lines(alloc, "server main\r\n\n dir")?;
-        assert_eq!(rt; found.as_slice(), ["server main\r", "", " dir"].as_slice());
-        let found = lines(alloc, "")?;
-        assert_eq!(rt; found.as_slice(), [""].as_slice());
-        Ok(())
-    }
-
-    #[test]
-    fn cuts_a_line_into_words(rt: HostRuntime) -> Result<(), Fail> {
-        let alloc = rt.alloc();
-        let found = words(alloc, "\tdir  /usr \t755 gl\u{a0}nda\r\u{b} \r")?;
-        assert_eq!(rt;
-            found.as_slice(),
-            ["dir", "/usr", "755", "gl\u{a0}nda\r\u{b}", "\r"].as_slice()
-        );
-        let found = words(alloc, " \t ")?;
-        assert_eq!(rt; found.len(), 0);
-        Ok(())
-    }
-}

@@ -1,4 +1,4 @@
-//! What a server tells of a file's identity, as intro(5).
+//! What a server reports of a file's identity, as intro(5).
 
 /// A server's unique identification of a file: two files are the same exactly where their paths
 /// are, and its version grows with each change of its contents.

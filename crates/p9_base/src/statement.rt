@@ -33,25 +33,3 @@ pub fn statements<A: Allocator + Copy>(
     }
     Ok(statements)
 }
-
-#[cfg(test)]
-mod tests {
-    use super::*;
-    use std::test::Fail;
-
-    #[test]
-    fn counts_the_lines_that_it_passes_over(rt: HostRuntime) -> Result<(), Fail> {
-        let text = "\n# a world\nserver main\n \t\n\t#dir /\n dir  /a\t755 sys sys # root\n#";
-        let found = statements(rt.alloc(), text)?;
-        let mut seen = found.iter();
-        let server = seen.next().ok_or("no statement")?;
-        assert_eq!(rt; server.line, 3);
-        assert_eq!(rt; server.words.as_slice(), ["server", "main"].as_slice());
-        let dir = seen.next().ok_or("one statement")?;
-        assert_eq!(rt; dir.line, 6);
-        let words = ["dir", "/a", "755", "sys", "sys", "#", "root"];
-        assert_eq!(rt; dir.words.as_slice(), words.as_slice());
-        assert_eq!(rt; found.len(), 2);
-        Ok(())
-    }
-}

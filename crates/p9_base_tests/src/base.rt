@@ -87,7 +87,7 @@ fn faults_have_their_numbers_and_texts(rt: HostRuntime) -> Result<(), Fail> {
 }
 
 #[test]
-fn want_of_memory_is_a_fault(rt: HostRuntime) {
+fn a_failed_allocation_is_a_fault(rt: HostRuntime) {
     assert_eq!(rt; Fault::from(NoMemory), Fault::OutOfMemory);
     assert_eq!(rt; Fault::from(AllocError), Fault::OutOfMemory);
     assert_eq!(rt; NoMemory::from(AllocError), NoMemory);

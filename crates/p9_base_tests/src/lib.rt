@@ -6,4 +6,8 @@ mod base;
 #[cfg(test)]
 mod clean;
 #[cfg(test)]
+mod digits;
+#[cfg(test)]
 mod testing;
+#[cfg(test)]
+mod text;

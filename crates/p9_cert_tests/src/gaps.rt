@@ -1,12 +1,12 @@
 //! The first gap of a certificate, if it has one.
 
-use crate::telling::told;
+use crate::printing::told;
 use p9_base::NoMemory;
 use std::alloc::Global;
 use std::process::Abort;
 use std::test::Fail;
 
-// What is told, with `_` for blanks, and of which world, mount table, groups and certificate.
+// What is found, with `_` for blanks, and of which world, mount table, groups and certificate.
 
 // A hidden directory beside a public one, with its certificate and with others.
 const VAULT: &str = "\
@@ -27,7 +27,7 @@ dir /vault 000 sys sys;file /vault/key 600 sys sys 01;hide main /vault | | | dir
 
 #[test]
 fn a_vault_has_its_first_gap(rt: HostRuntime) -> Result<(), Fail> {
-    are_told(&rt, rt.alloc(), VAULT)?;
+    are_reported(&rt, rt.alloc(), VAULT)?;
     Ok(())
 }
 
@@ -52,7 +52,7 @@ ok = dir /a 700 bob bob | | | dir 0 0";
 
 #[test]
 fn groups_and_users_count(rt: HostRuntime) -> Result<(), Fail> {
-    are_told(&rt, rt.alloc(), GROUPS)?;
+    are_reported(&rt, rt.alloc(), GROUPS)?;
     Ok(())
 }
 
@@ -77,7 +77,7 @@ ok = dir /a 755 sys sys;dir /b 755 sys sys | | | dir 0 0;dir 0 1;dir 0 2";
 
 #[test]
 fn tables_and_rows_are_tested_first(rt: HostRuntime) -> Result<(), Fail> {
-    are_told(&rt, rt.alloc(), ROWS)?;
+    are_reported(&rt, rt.alloc(), ROWS)?;
     Ok(())
 }
 
@@ -111,11 +111,11 @@ ok = file /f 777 glenda glenda - | | | dir 0 0";
 
 #[test]
 fn places_are_tested_by_their_members(rt: HostRuntime) -> Result<(), Fail> {
-    are_told(&rt, rt.alloc(), PLACES)?;
+    are_reported(&rt, rt.alloc(), PLACES)?;
     Ok(())
 }
 
-fn are_told(rt: &impl Abort, alloc: Global, rows: &str) -> Result<(), NoMemory> {
+fn are_reported(rt: &impl Abort, alloc: Global, rows: &str) -> Result<(), NoMemory> {
     for row in rows.lines() {
         let (want, row) = row.split_once(" = ").expect(rt, "a row");
         let want = want.replace(alloc, '_', " ")?;

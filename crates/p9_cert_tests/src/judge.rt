@@ -3,6 +3,6 @@
 
 mod dice;
 mod many;
+mod printing;
 mod refused;
-mod telling;
 mod verdicts;

@@ -12,10 +12,10 @@ mod gaps;
 #[cfg(test)]
 mod judge;
 #[cfg(test)]
+mod printing;
+#[cfg(test)]
 mod refused;
 #[cfg(test)]
 mod tables;
-#[cfg(test)]
-mod telling;
 #[cfg(test)]
 mod texts;

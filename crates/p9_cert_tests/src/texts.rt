@@ -6,7 +6,7 @@ use std::alloc::Global;
 use std::process::Abort;
 use std::test::Fail;
 
-// What is told of a text whose lines end at semicolons: the lines that are written of it, or why it
+// What is returned for a text whose lines end at semicolons: the lines that are written of it, or why it
 // is no certificate.
 const TEXTS: &str = "\
 line 1 is bad =
@@ -50,7 +50,7 @@ fn told(alloc: Global, text: &str) -> Result<String, NoMemory> {
     }
 }
 
-fn are_told(rt: &impl Abort, alloc: Global, rows: &str) -> Result<(), NoMemory> {
+fn are_reported(rt: &impl Abort, alloc: Global, rows: &str) -> Result<(), NoMemory> {
     for row in rows.lines() {
         let (want, text) = row.split_once(" =").expect(rt, "a row");
         let text = text.replace(alloc, ';', "\n")?;
@@ -62,7 +62,7 @@ fn are_told(rt: &impl Abort, alloc: Global, rows: &str) -> Result<(), NoMemory> 
 
 #[test]
 fn texts_are_read_and_written(rt: HostRuntime) -> Result<(), Fail> {
-    are_told(&rt, rt.alloc(), TEXTS)?;
+    are_reported(&rt, rt.alloc(), TEXTS)?;
     Ok(())
 }
 

@@ -2,7 +2,7 @@
 use Rattle.std.specs.Prelude.{◌≡◌, ◌≢◌, Bool, IsTrue, List, [], ◌∷◌, ◌++◌, codes}
 use Rattle.p9_clean.specs.Path.{Component}
 
--- One rule, applied once: the empty component goes, '.' goes, any other goes with the '..' behind
+-- One rule, applied once: the empty component goes, '.' goes, any other goes with the '..' after
 -- it, and '..' goes at the start of a rooted path.
 pub data Shortens (rooted : Bool) : List Component → List Component → Type 0 where
   empty_goes : (before after : List Component) →

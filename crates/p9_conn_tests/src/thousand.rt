@@ -6,7 +6,7 @@ use crate::serving::{connect, is_answered, new_guard, serve, stream_of};
 // A version and a flush.
 const SMALL: [Row; 2] = [VERSION, ("09000000 6c 0200 0100", "07000000 6d 0200")];
 
-// What this takes of real memory is told in docs/COSTS.md.
+// What this takes of real memory is in docs/COSTS.md.
 #[test]
 fn a_thousand_connections_are_served(rt: HostRuntime) {
     let alloc = rt.alloc();

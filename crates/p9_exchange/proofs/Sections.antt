@@ -48,15 +48,15 @@ pub with-replies : (lines before script replies : List (Bor (List ℕ))) (n : �
     → script ≡ drop (lines_before script_head (pointed before) + 1) before
     → exchange_of_lines (pointed replies) (pointed script) ≡ exchange_in (pointed lines)
 unfolding exchange_in
-with-replies lines before script replies n is others front back behind =
+with-replies lines before script replies n is others front back followed_by =
     let now = λ (line : Bor (List ℕ)). line.now in
     let m = lines_before replies_head (pointed lines) in
-    let told : pointed replies ≡ drop (m + 1) (pointed lines) =
+    let printed : pointed replies ≡ drop (m + 1) (pointed lines) =
     ap pointed back ∙ sym (drop-map now (m + 1) lines) in
     let head : pointed before ≡ take m (pointed lines) =
     ap pointed front ∙ sym (take-map now n lines) ∙ ap (λ k. take k (pointed lines)) is in
     let asked : pointed script ≡ script_lines (take m (pointed lines)) =
-    back-is before script behind ∙ ap script_lines head in
+    back-is before script followed_by ∙ ap script_lines head in
     rw (ne_eqb m (length (pointed lines)) (λ all. others (is ∙ all ∙ length-map lines now)))
-    (ap (λ xs. exchange_of_lines xs (pointed script)) told
+    (ap (λ xs. exchange_of_lines xs (pointed script)) printed
     ∙ ap (exchange_of_lines (drop (m + 1) (pointed lines))) asked)

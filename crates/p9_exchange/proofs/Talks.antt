@@ -5,7 +5,7 @@ use Rattle.std.proofs.Common.{◌++◌}
 use Rattle.p9_wire.specs.Frame.{is_frame}
 use Rattle.p9_exchange.specs.Message.{message_words}
 use Rattle.p9_exchange.specs.Refusal.{IsStop}
-use Rattle.p9_exchange.specs.Talk.{Talk, asking, telling, behind, with_told, is_open, is_skip}
+use Rattle.p9_exchange.specs.Talk.{Talk, asking, printing, followed_by, with_printed, is_open, is_skip}
 use Rattle.p9_exchange.specs.Talk.{skipped}
 use Rattle.p9_exchange.specs.Talk.{opened, closed, sent}
 use Rattle.p9_exchange.specs.declared.refusal.Refusal.{Refusal}
@@ -19,14 +19,14 @@ same-stop r made other same stops =
 
 module _ (replies : List (List ℕ)) (line session : ℕ) (talk asked : Talk) where
   -- a line of the replies says so
-  pub skip-told : (reason : List ℕ) → is_skip (slice_get replies talk.told) ≡ true
-      → asked ≡ with_told talk (telling line session (codes "skip: " ++ reason))
+  pub skip-printed : (reason : List ℕ) → is_skip (slice_get replies talk.printed) ≡ true
+      → asked ≡ with_printed talk (printing line session (codes "skip: " ++ reason))
       → skipped replies line session reason talk ≡ Ok asked
   unfolding skipped
-  skip-told reason is same = rw is (ap Ok (sym same))
+  skip-printed reason is same = rw is (ap Ok (sym same))
 
   -- a session is not opened
-  pub open-skips : asked ≡ behind talk (asking line session (codes "open"))
+  pub open-skips : asked ≡ followed_by talk (asking line session (codes "open"))
       → is_open session asked ≡ true
       → skipped replies line session (codes "session open already") asked
       ≡ opened replies line session talk
@@ -36,7 +36,7 @@ module _ (replies : List (List ℕ)) (line session : ℕ) (talk asked : Talk) wh
       rw q (ap (skipped replies line session (codes "session open already")) same)
 
   -- a session is not closed
-  pub close-skips : asked ≡ behind talk (asking line session (codes "close"))
+  pub close-skips : asked ≡ followed_by talk (asking line session (codes "close"))
       → is_open session asked ≡ false
       → skipped replies line session (codes "no such session") asked
       ≡ closed replies line session talk
@@ -47,7 +47,7 @@ module _ (replies : List (List ℕ)) (line session : ℕ) (talk asked : Talk) wh
 
   -- a session gets no frame
   pub send-skips : (frame : List ℕ)
-      → asked ≡ behind talk (asking line session (message_words frame))
+      → asked ≡ followed_by talk (asking line session (message_words frame))
       → is_frame frame ≡ true → is_open session asked ≡ false
       → skipped replies line session (codes "no such session") asked
       ≡ sent replies line session frame talk

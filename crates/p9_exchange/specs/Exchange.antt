@@ -19,14 +19,14 @@ talked replies talk numbered =
     (λ said. with_said replies numbered.0 talk said)
 
 -- the text, where each line of the replies is shown
-abbrev pub all_told : List (List ℕ) → Talk → Result (List ℕ) Refusal
-all_told replies talk =
-    if talk.told == length replies then Ok talk.text else Err (BadReply (talk.told + 1) End)
+abbrev pub all_printed : List (List ℕ) → Talk → Result (List ℕ) Refusal
+all_printed replies talk =
+    if talk.printed == length replies then Ok talk.text else Err (BadReply (talk.printed + 1) End)
 
 -- the exchange of the lines of a script and of the replies
 unfoldable pub exchange_of_lines : (replies script : List (List ℕ)) → Result (List ℕ) Refusal
 exchange_of_lines replies script =
-    and_then (try_fold (talked replies) nothing_said (enumerate_from 1 script)) (all_told replies)
+    and_then (try_fold (talked replies) nothing_said (enumerate_from 1 script)) (all_printed replies)
 
 -- the exchange of the lines of an input: the script, and the replies after their head
 unfoldable pub exchange_in : List (List ℕ) → Result (List ℕ) Refusal

@@ -20,7 +20,7 @@ use Rattle.p9_exchange.specs.declared.talk.Talk.{Talk as CodeTalk}
 pub record Talk : Type 0 where
   pub turn : ℕ
   pub sessions : List ℕ
-  pub told : ℕ
+  pub printed : ℕ
   pub text : List ℕ
 
 -- what the code has so far
@@ -28,13 +28,13 @@ abbrev pub talk_view : {A : Type 0} → CodeTalk A → Talk
 talk_view talk = record {
   turn = talk.turn;
   sessions = talk.sessions.items;
-  told = talk.told;
+  printed = talk.printed;
   text = talk.text.items;
 }
 
 -- nothing was asked yet
 abbrev pub nothing_said : Talk
-nothing_said = record { turn = 0; sessions = []; told = 0; text = [] }
+nothing_said = record { turn = 0; sessions = []; printed = 0; text = [] }
 
 -- what goes to the exporter: the line of the script, the session, and words
 abbrev pub asking : (line session : ℕ) (words : List ℕ) → List ℕ
@@ -42,17 +42,17 @@ asking line session words =
     (decimal line ++ (codes " <-" ++ (decimal session ++ codes "- "))) ++ words ++ 10 ∷ []
 
 -- what comes from it
-abbrev pub telling : (line session : ℕ) (words : List ℕ) → List ℕ
-telling line session words =
+abbrev pub printing : (line session : ℕ) (words : List ℕ) → List ℕ
+printing line session words =
     (decimal line ++ (codes " -" ++ (decimal session ++ codes "-> "))) ++ words ++ 10 ∷ []
 
 -- the exchange with a text after it
-abbrev pub behind : Talk → List ℕ → Talk
-behind talk text = record talk { text = talk.text ++ text }
+abbrev pub followed_by : Talk → List ℕ → Talk
+followed_by talk text = record talk { text = talk.text ++ text }
 
 -- the exchange with one line of the replies more
-abbrev pub with_told : Talk → List ℕ → Talk
-with_told talk text = record talk { told = talk.told + 1; text = talk.text ++ text }
+abbrev pub with_printed : Talk → List ℕ → Talk
+with_printed talk text = record talk { printed = talk.printed + 1; text = talk.text ++ text }
 
 -- whether a session is open
 abbrev pub is_open : ℕ → Talk → Bool
@@ -67,9 +67,9 @@ is_skip (Some line) = bytes_eq (codes "skip") line
 unfoldable pub skipped : List (List ℕ) → (line session : ℕ) (reason : List ℕ) → Talk
     → Result Talk Refusal
 skipped replies line session reason talk =
-    if is_skip (slice_get replies talk.told)
-    then Ok (with_told talk (telling line session (codes "skip: " ++ reason)))
-    else Err (BadReply (talk.told + 1) (Skip line))
+    if is_skip (slice_get replies talk.printed)
+    then Ok (with_printed talk (printing line session (codes "skip: " ++ reason)))
+    else Err (BadReply (talk.printed + 1) (Skip line))
 
 -- the bytes that a line of the replies writes: one or more
 abbrev pub reply_in : List ℕ → Option (List ℕ)
@@ -77,26 +77,26 @@ reply_in line = if length line == 0 then None else result_ok (decode_of line)
 
 -- a message gets these bytes
 abbrev pub with_reply : (line session : ℕ) → Talk → Option (List ℕ) → Result Talk Refusal
-with_reply line session talk None = Err (BadReply (talk.told + 1) (Reply line))
+with_reply line session talk None = Err (BadReply (talk.printed + 1) (Reply line))
 with_reply line session talk (Some bytes) =
-    Ok (with_told talk (telling line session (message_words bytes)))
+    Ok (with_printed talk (printing line session (message_words bytes)))
 
 -- a message gets the next reply
 unfoldable pub replied : List (List ℕ) → (line session : ℕ) → Talk → Result Talk Refusal
 replied replies line session talk =
-    with_reply line session talk (option_and_then reply_in (slice_get replies talk.told))
+    with_reply line session talk (option_and_then reply_in (slice_get replies talk.printed))
 
 -- a session is opened
 unfoldable pub opened : List (List ℕ) → (line session : ℕ) → Talk → Result Talk Refusal
 opened replies line session talk =
-    let asked = behind talk (asking line session (codes "open")) in
+    let asked = followed_by talk (asking line session (codes "open")) in
     if is_open session talk then skipped replies line session (codes "session open already") asked
     else Ok (record asked { sessions = talk.sessions ++ session ∷ [] })
 
 -- a session is closed
 unfoldable pub closed : List (List ℕ) → (line session : ℕ) → Talk → Result Talk Refusal
 closed replies line session talk =
-    let asked = behind talk (asking line session (codes "close")) in
+    let asked = followed_by talk (asking line session (codes "close")) in
     if is_open session talk
     then Ok (record asked { sessions = filter (λ name. not (name == session)) talk.sessions })
     else skipped replies line session (codes "no such session") asked
@@ -105,7 +105,7 @@ closed replies line session talk =
 unfoldable pub sent : List (List ℕ) → (line session : ℕ) (frame : List ℕ) → Talk
     → Result Talk Refusal
 sent replies line session frame talk =
-    let asked = behind talk (asking line session (message_words frame)) in
+    let asked = followed_by talk (asking line session (message_words frame)) in
     if not (is_frame frame) then skipped replies line session (frame_fault frame) asked
     else if is_open session talk then replied replies line session asked
     else skipped replies line session (codes "no such session") asked

@@ -1,7 +1,7 @@
 //! The exchange of a script in words and of what was printed for it.
 
 ghost use Rattle.std.specs.Prelude.{◌≡◌, ◌≤◌, IfErr, OnOk, Ok, length, map};
-ghost use Rattle.p9_exchange.specs.Exchange.{talked, all_told, exchange_of_lines, exchange_in};
+ghost use Rattle.p9_exchange.specs.Exchange.{talked, all_printed, exchange_of_lines, exchange_in};
 ghost use Rattle.p9_exchange.specs.Exchange.{exchange_of};
 ghost use Rattle.p9_exchange.specs.Refusal.{IsStop, Makes};
 ghost use Rattle.p9_exchange.specs.Talk.{talk_view};
@@ -20,31 +20,31 @@ fn talk_of<A: Allocator + Copy>(
     line: &str,
     talk: &mut Talk<A>,
 ) -> Result<(), Stop>
-    requires { talk.old.told ≤ length replies.now }
+    requires { talk.old.printed ≤ length replies.now }
     ensures ok { OnOk result
         (talked (map (λ reply. reply.now) replies.now) (talk_view talk.old) (number, line.now)
         ≡ Ok (talk_view talk.new)) }
     ensures stop { IfErr result (IsStop
         (talked (map (λ reply. reply.now) replies.now) (talk_view talk.old)
         (number, line.now))) }
-    ensures within { OnOk result (talk.new.told ≤ length replies.now) }
+    ensures within { OnOk result (talk.new.printed ≤ length replies.now) }
 {
     let said = read_line(alloc, number, talk.turn, line)?;
     talk.say(replies, number, &said)
 }
 
 // The text, where each line of the replies is shown.
-fn all_told<A: Allocator + Copy>(replies: &[&str], talk: Talk<A>) -> Result<Vec<u8, A>, Stop>
-    requires { talk.told ≤ length replies.now }
+fn all_printed<A: Allocator + Copy>(replies: &[&str], talk: Talk<A>) -> Result<Vec<u8, A>, Stop>
+    requires { talk.printed ≤ length replies.now }
     ensures { Makes (λ text. text.items) result
-        (all_told (map (λ reply. reply.now) replies.now) (talk_view talk)) }
+        (all_printed (map (λ reply. reply.now) replies.now) (talk_view talk)) }
 {
-    if talk.told == replies.len() {
+    if talk.printed == replies.len() {
         let Talk { text, .. } = talk;
         return Ok(text);
     }
     Err(Stop::Refused(Refusal::BadReply {
-        line: talk.told + 1,
+        line: talk.printed + 1,
         awaited: Awaited::End,
     }))
 }
@@ -64,7 +64,7 @@ fn exchange_of_lines<A: Allocator + Copy>(
     for (position, line) in script.iter().enumerate() {
         talk_of(alloc, replies, position + 1, line, &mut talk)?;
     }
-    all_told(replies, talk)
+    all_printed(replies, talk)
 }
 
 // The exchange of the lines of an input: the script, and the replies after their head.

@@ -7,8 +7,8 @@ ghost use Rattle.std.specs.String.{string_bytes};
 ghost use Rattle.p9_exchange.specs.Line.{line_view};
 ghost use Rattle.p9_exchange.specs.Message.{message_words};
 ghost use Rattle.p9_exchange.specs.Refusal.{IsStop};
-ghost use Rattle.p9_exchange.specs.Talk.{talk_view, nothing_said, asking, telling, behind};
-ghost use Rattle.p9_exchange.specs.Talk.{with_told, is_open, is_skip, reply_in, skipped, replied};
+ghost use Rattle.p9_exchange.specs.Talk.{talk_view, nothing_said, asking, printing, followed_by};
+ghost use Rattle.p9_exchange.specs.Talk.{with_printed, is_open, is_skip, reply_in, skipped, replied};
 ghost use Rattle.p9_exchange.specs.Talk.{opened};
 ghost use Rattle.p9_exchange.specs.Talk.{closed, sent, done, with_said};
 
@@ -29,7 +29,7 @@ pub struct Talk<A: Allocator> {
     /// The sessions that are open.
     pub sessions: Vec<u32, A>,
     /// How many lines of the replies are shown.
-    pub told: usize,
+    pub printed: usize,
     /// The text that shows them.
     pub text: Vec<u8, A>,
 }
@@ -48,13 +48,13 @@ fn asking<A: Allocator + Copy>(
 }
 
 // The line that shows what comes from the exporter.
-fn telling<A: Allocator + Copy>(
+fn printing<A: Allocator + Copy>(
     alloc: A,
     line: usize,
     session: u32,
     words: &[u8],
 ) -> Result<Vec<u8, A>, NoMemory>
-    ensures { IfOk result (λ text. text.items ≡ telling line session words.now) }
+    ensures { IfOk result (λ text. text.items ≡ printing line session words.now) }
 {
     let head = format!(in alloc; "{line} -{session}-> ")?;
     ended(alloc, head.as_bytes(), words)
@@ -128,12 +128,12 @@ impl<A: Allocator + Copy> Talk<A> {
     /// Nothing was asked yet.
     pub fn new(alloc: A) -> Talk<A>
         ensures view { talk_view result ≡ nothing_said }
-        ensures told { result.told ≡ 0 }
+        ensures printed { result.printed ≡ 0 }
     {
         Talk {
             turn: 0,
             sessions: Vec::new(alloc),
-            told: 0,
+            printed: 0,
             text: Vec::new(alloc),
         }
     }
@@ -148,7 +148,7 @@ impl<A: Allocator + Copy> Talk<A> {
     // Adds a line of what goes to the exporter.
     fn ask(&mut self, line: usize, session: u32, words: &[u8]) -> Result<(), NoMemory>
         ensures { OnOk result
-            (talk_view self.new ≡ behind (talk_view self.old) (asking line session words.now)) }
+            (talk_view self.new ≡ followed_by (talk_view self.old) (asking line session words.now)) }
     {
         let text = asking(*self.text.allocator(), line, session, words)?;
         self.text.extend_from_slice(text.as_slice())?;
@@ -157,13 +157,13 @@ impl<A: Allocator + Copy> Talk<A> {
 
     // Adds the line that shows what comes from the exporter, by one line of the replies.
     fn tell(&mut self, line: usize, session: u32, words: &[u8]) -> Result<(), NoMemory>
-        requires { self.old.told + 1 < 2 ^ 64 }
+        requires { self.old.printed + 1 < 2 ^ 64 }
         ensures { OnOk result (talk_view self.new
-            ≡ with_told (talk_view self.old) (telling line session words.now)) }
+            ≡ with_printed (talk_view self.old) (printing line session words.now)) }
     {
-        let text = telling(*self.text.allocator(), line, session, words)?;
+        let text = printing(*self.text.allocator(), line, session, words)?;
         self.text.extend_from_slice(text.as_slice())?;
-        self.told += 1;
+        self.printed += 1;
         Ok(())
     }
 
@@ -176,19 +176,19 @@ impl<A: Allocator + Copy> Talk<A> {
         session: u32,
         reason: &str,
     ) -> Result<(), Stop>
-        requires { self.old.told ≤ length replies.now }
+        requires { self.old.printed ≤ length replies.now }
         ensures ok { OnOk result
             (skipped (map (λ reply. reply.now) replies.now) line session reason.now
             (talk_view self.old) ≡ Ok (talk_view self.new)) }
         ensures stop { IfErr result (IsStop
             (skipped (map (λ reply. reply.now) replies.now) line session reason.now
             (talk_view self.old))) }
-        ensures within { OnOk result (self.new.told ≤ length replies.now) }
+        ensures within { OnOk result (self.new.printed ≤ length replies.now) }
     {
-        let reply = replies.get(self.told);
+        let reply = replies.get(self.printed);
         if !is_skip(reply) {
             return Err(Stop::Refused(Refusal::BadReply {
-                line: self.told + 1,
+                line: self.printed + 1,
                 awaited: Awaited::Skip(line),
             }));
         }
@@ -200,18 +200,18 @@ impl<A: Allocator + Copy> Talk<A> {
     // A message gets the next reply.
     #[tactic(auto, unfolding(crate::specs::Talk::replied))]
     fn reply(&mut self, replies: &[&str], line: usize, session: u32) -> Result<(), Stop>
-        requires { self.old.told ≤ length replies.now }
+        requires { self.old.printed ≤ length replies.now }
         ensures ok { OnOk result
             (replied (map (λ reply. reply.now) replies.now) line session
             (talk_view self.old) ≡ Ok (talk_view self.new)) }
         ensures stop { IfErr result (IsStop
             (replied (map (λ reply. reply.now) replies.now) line session (talk_view self.old))) }
-        ensures within { OnOk result (self.new.told ≤ length replies.now) }
+        ensures within { OnOk result (self.new.printed ≤ length replies.now) }
     {
         let alloc = *self.text.allocator();
-        let Some(bytes) = reply_in(alloc, replies.get(self.told))? else {
+        let Some(bytes) = reply_in(alloc, replies.get(self.printed))? else {
             return Err(Stop::Refused(Refusal::BadReply {
-                line: self.told + 1,
+                line: self.printed + 1,
                 awaited: Awaited::Reply(line),
             }));
         };
@@ -223,13 +223,13 @@ impl<A: Allocator + Copy> Talk<A> {
     // A session is opened.
     #[tactic(auto, unfolding(crate::specs::Talk::opened))]
     fn open(&mut self, replies: &[&str], line: usize, session: u32) -> Result<(), Stop>
-        requires { self.old.told ≤ length replies.now }
+        requires { self.old.printed ≤ length replies.now }
         ensures ok { OnOk result
             (opened (map (λ reply. reply.now) replies.now) line session
             (talk_view self.old) ≡ Ok (talk_view self.new)) }
         ensures stop { IfErr result (IsStop
             (opened (map (λ reply. reply.now) replies.now) line session (talk_view self.old))) }
-        ensures within { OnOk result (self.new.told ≤ length replies.now) }
+        ensures within { OnOk result (self.new.printed ≤ length replies.now) }
     {
         self.ask(line, session, b"open")?;
         if self.is_open(session) {
@@ -242,13 +242,13 @@ impl<A: Allocator + Copy> Talk<A> {
     // A session is closed.
     #[tactic(auto, unfolding(crate::specs::Talk::closed))]
     fn close(&mut self, replies: &[&str], line: usize, session: u32) -> Result<(), Stop>
-        requires { self.old.told ≤ length replies.now }
+        requires { self.old.printed ≤ length replies.now }
         ensures ok { OnOk result
             (closed (map (λ reply. reply.now) replies.now) line session
             (talk_view self.old) ≡ Ok (talk_view self.new)) }
         ensures stop { IfErr result (IsStop
             (closed (map (λ reply. reply.now) replies.now) line session (talk_view self.old))) }
-        ensures within { OnOk result (self.new.told ≤ length replies.now) }
+        ensures within { OnOk result (self.new.printed ≤ length replies.now) }
     {
         self.ask(line, session, b"close")?;
         if !self.is_open(session) {
@@ -267,14 +267,14 @@ impl<A: Allocator + Copy> Talk<A> {
         session: u32,
         frame: &[u8],
     ) -> Result<(), Stop>
-        requires { self.old.told ≤ length replies.now }
+        requires { self.old.printed ≤ length replies.now }
         ensures ok { OnOk result
             (sent (map (λ reply. reply.now) replies.now) line session frame.now
             (talk_view self.old) ≡ Ok (talk_view self.new)) }
         ensures stop { IfErr result (IsStop
             (sent (map (λ reply. reply.now) replies.now) line session frame.now
             (talk_view self.old))) }
-        ensures within { OnOk result (self.new.told ≤ length replies.now) }
+        ensures within { OnOk result (self.new.printed ≤ length replies.now) }
     {
         let alloc = *self.text.allocator();
         let words = message_text(alloc, frame)?;
@@ -291,14 +291,14 @@ impl<A: Allocator + Copy> Talk<A> {
 
     // What a line of the script says is done.
     fn act(&mut self, replies: &[&str], line: usize, said: &Line<A>) -> Result<(), Stop>
-        requires { self.old.told ≤ length replies.now }
+        requires { self.old.printed ≤ length replies.now }
         ensures ok { OnOk result
             (done (map (λ reply. reply.now) replies.now) line (line_view said.now)
             (talk_view self.old) ≡ Ok (talk_view self.new)) }
         ensures stop { IfErr result (IsStop
             (done (map (λ reply. reply.now) replies.now) line (line_view said.now)
             (talk_view self.old))) }
-        ensures within { OnOk result (self.new.told ≤ length replies.now) }
+        ensures within { OnOk result (self.new.printed ≤ length replies.now) }
     {
         match said {
             Line::Skipped => Ok(()),
@@ -312,14 +312,14 @@ impl<A: Allocator + Copy> Talk<A> {
 
     /// What a line of the script says is done, and the turn goes on.
     pub fn say(&mut self, replies: &[&str], line: usize, said: &Line<A>) -> Result<(), Stop>
-        requires { self.old.told ≤ length replies.now }
+        requires { self.old.printed ≤ length replies.now }
         ensures ok { OnOk result
             (with_said (map (λ reply. reply.now) replies.now) line (talk_view self.old)
             (line_view said.now) ≡ Ok (talk_view self.new)) }
         ensures stop { IfErr result (IsStop
             (with_said (map (λ reply. reply.now) replies.now) line (talk_view self.old)
             (line_view said.now))) }
-        ensures within { OnOk result (self.new.told ≤ length replies.now) }
+        ensures within { OnOk result (self.new.printed ≤ length replies.now) }
     {
         self.turn = said.turn_behind(self.turn);
         self.act(replies, line, said)

@@ -28,7 +28,7 @@ abbrev pub IsReached : Option Cursor → ℕ → Type 0
 IsReached None position = position ≡ 0
 IsReached (Some last) position = position ≡ last.member
 
--- of a node in the member at the position: it is above the floor where its entry is behind the
+-- of a node in the member at the position: it is above the floor where its entry is after the
 -- cursor
 abbrev pub IsFloor : Option Cursor → ℕ → Option ℕ → Type 0
 IsFloor cursor position floor =

@@ -16,7 +16,7 @@ use Rattle.p9_export.specs.declared.reply.Reply.TheVariants.{Message, Data, Stat
 abbrev pub reply_room : ℕ → State → Option ℕ
 reply_room name state = option_map reply_max (session_at name state.sessions)
 
--- there is room for a reply: for its message, or for its data behind the header of a read
+-- there is room for a reply: for its message, or for its data after the header of a read
 abbrev pub IsRoom : List Server → ℕ → Result Reply Fault → Type 0
 IsRoom forest room (Ok (Message m)) = 7 + r_len (r_view m) ≤ room
 IsRoom forest room (Ok (Data count)) = read_header + count ≤ room

@@ -25,7 +25,7 @@ use p9_tree::{Forest, Tree};
 use p9_wire::{READ_HEADER, TMsg};
 use std::collections::BTreeMap;
 
-/// Answers a frame of the session of this name. What a read gives is put behind the first
+/// Answers a frame of the session of this name. What a read gives is put after the first
 /// [`READ_HEADER`] bytes of the reply.
 ///
 /// A frame that is no request is refused as by [`request_of`], a request by the first test of its

@@ -33,7 +33,7 @@ pub struct Filled {
     pub is_full: bool,
 }
 
-/// Puts as many whole entries behind the cursor as have room at the front of the buffer.
+/// Puts as many whole entries after the cursor as have room at the front of the buffer.
 ///
 /// Where entries are left and the first has no room it is [`Fault::SmallReadCount`].
 pub fn list<T: Tree>(
@@ -63,7 +63,7 @@ pub fn list<T: Tree>(
     Ok(filled)
 }
 
-// As many whole entries behind the cursor as have room, of its member and those behind that.
+// As many whole entries after the cursor as have room, of its member and those after that.
 fn fill<T: Tree>(
     forest: &Forest<T>,
     members: &[Member],
@@ -111,7 +111,7 @@ fn first_position(cursor: Option<Cursor>) -> usize
     }
 }
 
-// As many whole entries of the member behind the cursor as have room, if it is listed.
+// As many whole entries of the member after the cursor as have room, if it is listed.
 fn fill_member<T: Tree>(
     forest: &Forest<T>,
     position: usize,
@@ -135,7 +135,7 @@ fn fill_member<T: Tree>(
     }
 }
 
-// As many whole entries of the directory behind the cursor as have room.
+// As many whole entries of the directory after the cursor as have room.
 fn fill_dir<T: Tree>(
     forest: &Forest<T>,
     position: usize,
@@ -169,7 +169,7 @@ fn fill_dir<T: Tree>(
     filled
 }
 
-// The number above which the entries of the member at the position are behind the cursor.
+// The number above which the entries of the member at the position are after the cursor.
 fn floor_in(cursor: Option<Cursor>, position: usize) -> Option<u64>
     requires { IfSome cursor (λ last. last.member ≤ position) }
     ensures { IsFloor cursor position result }

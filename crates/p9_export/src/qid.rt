@@ -1,4 +1,4 @@
-//! The qids of files, and what is told of them, as intro(5) and stat(5).
+//! The qids of files, and their stats, as intro(5) and stat(5).
 
 ghost use Rattle.std.specs.Prelude.{◌≡◌, ◌+◌, ◌*◌, ◌<◌, ◌≤◌, ◌^◌};
 ghost use Rattle.p9_base.specs.Mode.{qid_kind};
@@ -48,7 +48,7 @@ fn path_of(at: NodeRef) -> u64
     (u64::from(at.server) << 48) + at.number
 }
 
-/// What is told of a file, as stat(5). A directory has no bytes.
+/// The stat of a file, as stat(5). A directory has no bytes.
 pub fn stat_of<A: Allocator>(at: NodeRef, file: &Node<A>) -> Stat<'_>
     requires { at.number < 2 ^ 48 }
     ensures fits { FitsStat (stat_view result) }

@@ -18,10 +18,10 @@ use p9_tree::{Forest, Tree};
 use p9_wire::RMsg;
 
 /// Removes the file of a fid, and marks the directory that it was in. The fid ends in every case,
-/// and removes nothing on its close: so why the file stays is told in the answer, and a fault is
+/// and removes nothing on its close: so why the file stays is part of the answer, and a fault is
 /// only that the fid isn't there, [`Fault::UnknownFid`], and then nothing changes.
 ///
-/// The first that applies is told: the file doesn't exist, [`Fault::PhaseError`]; it is a server's
+/// The first that applies is returned: the file doesn't exist, [`Fault::PhaseError`]; it is a server's
 /// root, [`Fault::IsRoot`]; the user may not write its directory, [`Fault::PermissionDenied`]; it
 /// is a directory with entries, [`Fault::NotEmpty`]. It takes no memory.
 pub fn remove<T: Tree>(
@@ -49,7 +49,7 @@ pub fn remove<T: Tree>(
     }
 }
 
-// Removes the file of a fid that has left its session, or tells why it stays.
+// Removes the file of a fid that has left its session, or returns why it stays.
 fn remove_file<T: Tree>(
     setting: &Setting<T::Alloc>,
     forest: &mut Forest<T>,

@@ -8,7 +8,7 @@ use p9_wire::RMsg;
 pub enum Reply {
     /// This message.
     Message(RMsg<'static>),
-    /// So many bytes of data, which are in the reply's buffer, behind what comes before them.
+    /// So many bytes of data, which are in the reply's buffer, after what comes before them.
     Data(u32),
     /// The stat of this node.
     StatOf(NodeRef),

@@ -37,7 +37,7 @@ struct Touched<'a> {
     gid: Option<&'a str>,
 }
 
-/// Changes what is told of a fid's file, all at once, and marks the directory that it is in.
+/// Changes the stat of a fid's file, all at once, and marks the directory that it is in.
 /// A field is untouched that holds its greatest number, or is empty, or holds what is there.
 /// Where all are untouched, nothing changes.
 ///

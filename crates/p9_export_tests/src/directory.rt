@@ -57,7 +57,7 @@ pub fn make<T: Tree>(
     clunk(rt, export, session, reply);
 }
 
-// Whether an Rcreate tells of the file of this number.
+// Whether an Rcreate has the qid of the file of this number.
 fn is_numbered(reply: &[u8], number: u32) -> bool {
     reply.get(12..16) == Some(number.to_le_bytes().as_slice())
 }
@@ -68,7 +68,7 @@ pub fn clunk<T: Tree>(rt: &impl Abort, export: &mut Export<T>, session: u32, rep
     assert_eq!(rt; send(rt, export, session, 0, &clunk, reply), 7);
 }
 
-/// Reads fid 2 of session 1 on, behind what is listed of it. Returns whether there was more.
+/// Reads fid 2 of session 1 on, after what is listed of it. Returns whether there was more.
 pub fn list_on<T: Tree>(
     rt: &impl Abort,
     export: &mut Export<T>,

@@ -376,7 +376,7 @@ const GROWN_AGAIN: [Exchange; 4] = [
     ),
 ];
 
-// A write behind the end makes the file half as long as it may be.
+// A write after the end makes the file half as long as it may be.
 const WRITE: Exchange = (
     1,
     "18000000 76 0400 01000000 ffff7f0000000000 01000000 78",

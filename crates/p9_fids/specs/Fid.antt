@@ -21,7 +21,7 @@ pub record Fid : Type 0 where
   pub trail : List NodeRef
   pub opened : Option Opened
 
--- a fid, behind its number
+-- a fid, after its number
 abbrev pub FidRow : Type 0
 FidRow = ℕ × Fid
 

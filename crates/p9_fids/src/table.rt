@@ -107,7 +107,7 @@ impl<A: Allocator + Copy> FidTable<A> {
         }
     }
 
-    /// Adds a fid, unless [`FidTable::put_fault`] tells why not, or an allocation fails, which is
+    /// Adds a fid, unless [`FidTable::put_fault`] returns why not, or an allocation fails, which is
     /// [`Fault::OutOfMemory`]. At a refusal the fids are unchanged, and the new one is
     /// dropped.
     pub fn put(&mut self, fid: u32, held: Fid<A>) -> Result<(), Fault>
@@ -126,7 +126,7 @@ impl<A: Allocator + Copy> FidTable<A> {
         Ok(())
     }
 
-    /// Adds a fid of which [`FidTable::put_fault`] tells no fault, unless an allocation fails. The
+    /// Adds a fid of which [`FidTable::put_fault`] returns no fault, unless an allocation fails. The
     /// fids are unchanged then, and the new one is dropped.
     pub fn add(&mut self, fid: u32, held: Fid<A>) -> Result<(), NoMemory>
         requires { put_fault fid self.old.fids ≡ None }
@@ -202,7 +202,7 @@ impl<A: Allocator + Copy> FidTable<A> {
     }
 
     /// Whether an open fid has the node as its file, by the rows that the fids keep of the table.
-    /// This looks no place up, and asks no fid behind the first that has.
+    /// This looks no place up, and asks no fid after the first that has.
     pub fn has_open_by_rows(&self, table: &MountTable<A>, node: NodeRef) -> bool
         requires { AllFit table.now self.now }
         ensures { result ≡ nat_lt 0 (open_count table.now node self.now.fids) }

@@ -152,7 +152,7 @@ impl<T: Tree> Guard<T> {
 
     /// Answers one frame of an open session: writes the reply at the front of the buffer, and
     /// returns its length, which is no more than the session's msize, and before a version than 43.
-    /// What the buffer holds behind the reply is undefined, and is not to be handed on. The buffer
+    /// What the buffer holds after the reply is undefined, and is not to be handed on. The buffer
     /// has as many bytes as [`Guard::reply_max`] says. `clock` is the reading of the clock, in seconds
     /// since 1970, modulo 2^32.
     ///

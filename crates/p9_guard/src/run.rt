@@ -65,7 +65,7 @@ impl<T: Tree> Guard<T> {
         Ok(())
     }
 
-    // Does one event: writes its reply behind the bytes that are used, and returns its length.
+    // Does one event: writes its reply after the bytes that are used, and returns its length.
     fn run_event<B: Allocator>(
         &mut self,
         event: &Event<B>,

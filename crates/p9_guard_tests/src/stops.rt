@@ -16,7 +16,7 @@ use p9_tree::{PlainTree, Tree};
 use std::alloc::Global;
 use std::process::Abort;
 
-// The first of the replies, and those behind it.
+// The first of the replies, and those after it.
 fn split_reply<'a>(rt: &impl Abort, replies: &'a [u8]) -> (&'a [u8], &'a [u8]) {
     assert!(rt; replies.len() >= 4);
     let size = LittleEndian::read_u32(replies) as usize;

@@ -5,7 +5,7 @@ use p9_cert::{Gap, MemberFault, RowFault};
 use p9_guard::{Cause, Stopped};
 use std::test::Fail;
 
-// A gap as the cause of a refusal is told as the gap alone.
+// A gap as the cause of a refusal is printed as the gap alone.
 #[test]
 fn gaps_have_their_texts(rt: HostRuntime) -> Result<(), Fail> {
     let at = NodeRef {

@@ -21,7 +21,7 @@ use Rattle.p9_step.specs.State.{Session, State}
 use Rattle.p9_manual_laws.specs.Asked.{Has, asked}
 use Rattle.p9_manual_laws.specs.Modes.{IsMasked}
 
--- the node is mounted at the place, behind these members
+-- the node is mounted at the place, after these members
 pub record IsMounted (table : List MountRow) (place node : NodeRef) (earlier : List Member)
     : Type 0 where
   pub member : Member
@@ -34,7 +34,7 @@ abbrev pub IsPassedBy : List Server → Option Who → List ℕ → Member → T
 IsPassedBy forest who name m =
     is_searched forest who m ≡ true → child_in m.node name forest ≡ None
 
--- a listing has the entries of these files of the directory, one behind another
+-- a listing has the entries of these files of the directory, one after another
 pub record Lists (entries : List UnionEntry) (position : ℕ) (dir : NodeRef) (files : List Node)
     : Type 0 where
   pub earlier : List UnionEntry
@@ -45,7 +45,7 @@ pub record Lists (entries : List UnionEntry) (position : ℕ) (dir : NodeRef) (f
 -- are mounted where the fid was:
 -- its mode is by the formula, of the asked one and of the directory's, its owner is the fid's user,
 -- its group is the directory's, and it is empty;
--- it is found in the directory by its name, behind the files that were there; a listing of each
+-- it is found in the directory by its name, after the files that were there; a listing of each
 -- place where the directory is mounted has these files and then this one, for whoever may read the
 -- directory, and for all where it is mounted first;
 -- and a walk by the name leads to it from each place where the directory is mounted, for whoever

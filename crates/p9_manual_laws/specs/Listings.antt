@@ -12,7 +12,7 @@ use Rattle.p9_step.specs.Sound.{IsState}
 use Rattle.p9_step.specs.State.{Session, State, fid_file, who_of}
 use Rattle.p9_manual_laws.specs.Asked.{Has, asked}
 
--- the data of a read, before those of the reads behind it; none where it is refused
+-- the data of a read, before those of the reads after it; none where it is refused
 abbrev pub data_before : Option RMessage → (List ℕ → Option (List (List ℕ)))
     → Option (List (List ℕ))
 data_before (Some (Rread bytes)) rest = option_map (λ parts. bytes ∷ parts) (rest bytes)

@@ -44,7 +44,7 @@ pub fn reads_do_not_disturb_each_other()
 
 /// A file that was created has the mode that the octal formula of open(5) gives for the one that was
 /// asked for, the fid's user as its owner and its directory's group. It is found by a walk, and is
-/// listed behind the files that were in its directory.
+/// listed after the files that were in its directory.
 pub fn a_created_file_is_found()
     ensures { CreatedIsFound }
 {}

@@ -34,7 +34,7 @@ members_of key table = unwrap_or (row_of key table) (member true key ∷ [])
 abbrev pub with_row : NodeRef → List Member → List MountRow → List MountRow
 with_row key members table = insert_entry same_node table key members
 
--- the table without the key's row; those behind it close up
+-- the table without the key's row; those after it close up
 abbrev pub without_row : NodeRef → List MountRow → List MountRow
 without_row key table = remove_entry (same_node key) table
 

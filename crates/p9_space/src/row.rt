@@ -59,7 +59,7 @@ impl<A: Allocator + Copy> Row<A> {
         self.members.as_slice()
     }
 
-    /// Adds a member behind the others. Where an allocation fails, the row is unchanged.
+    /// Adds a member after the others. Where an allocation fails, the row is unchanged.
     pub fn push(&mut self, member: Member) -> Result<(), NoMemory>
         ensures ok { OnOk result (self.new ≡ self.old ++ member ∷ []) }
         ensures err { OnErr result (self.new ≡ self.old) }
@@ -68,7 +68,7 @@ impl<A: Allocator + Copy> Row<A> {
         Ok(())
     }
 
-    /// Adds members behind the others. Where an allocation fails, the row is unchanged.
+    /// Adds members after the others. Where an allocation fails, the row is unchanged.
     pub fn extend(&mut self, members: &[Member]) -> Result<(), NoMemory>
         ensures ok { OnOk result (self.new ≡ self.old ++ members.now) }
         ensures err { OnErr result (self.new ≡ self.old) }
@@ -77,7 +77,7 @@ impl<A: Allocator + Copy> Row<A> {
         Ok(())
     }
 
-    /// Adds what a bind brings behind the others: the nodes, of which the first permits creation
+    /// Adds what a bind brings after the others: the nodes, of which the first permits creation
     /// where `create` says so, and the others don't. Where an allocation fails, the row is
     /// unfinished.
     pub fn push_brought(&mut self, nodes: &[NodeRef], create: bool) -> Result<(), NoMemory>
@@ -106,7 +106,7 @@ impl<A: Allocator + Copy> Row<A> {
         self.members.iter().position(|m| m.node == node)
     }
 
-    /// Takes a member out; those behind it close up.
+    /// Takes a member out; those after it close up.
     pub fn remove(&mut self, position: usize)
         requires { position < length self.old }
         ensures { self.new ≡ remove self.old position }

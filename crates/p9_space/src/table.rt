@@ -126,7 +126,7 @@ impl<A: Allocator + Copy> MountTable<A> {
     }
 
     /// Takes the key's row away, or one member out of it: the first that is the node. A row that
-    /// loses its last member goes, and the rows behind one that goes close up.
+    /// loses its last member goes, and the rows after one that goes close up.
     ///
     /// Without a row this is [`UnmountError::NotMounted`], and where no member is the node
     /// [`UnmountError::NotMember`]; the table is unchanged then. It takes no

@@ -1,6 +1,6 @@
 //! The calls of mount tables and walks, made from lines.
 
-use crate::telling::{channels_told, members, row, step, trail};
+use crate::printing::{channels_text, members, row, step, trail};
 use crate::words::{nodes, take_node, take_order, take_position, take_user, take_word};
 use crate::worlds::{Space, space_of};
 use p9_base::{Fault, Groups, NoMemory, User};
@@ -55,7 +55,7 @@ fn told<T: Tree>(
         "kept" => Ok(row(alloc, &space.kept, take_position(rt, &mut rest))?),
         "given" => Ok(format!(in alloc; "{}", is_table_given(&space.forest, &space.table))?),
         "may" => Ok(rights(rt, alloc, &space.forest, &space.groups, &mut rest)?),
-        _ => table_told(rt, alloc, &mut space.table, word, &mut rest),
+        _ => table_text(rt, alloc, &mut space.table, word, &mut rest),
     }
 }
 
@@ -123,7 +123,7 @@ fn walk_by_channels<T: Tree>(
         names,
         who(user, &space.groups),
     ) {
-        Ok(()) => Ok(channels_told(alloc, &space.table, &channels)?),
+        Ok(()) => Ok(channels_text(alloc, &space.table, &channels)?),
         Err(fault) => Ok(format!(in alloc; "{fault}")?),
     }
 }
@@ -152,8 +152,8 @@ fn rights<T: Tree>(
     format!(in alloc; "{read} {write} {execute} {}", rules(who, file))
 }
 
-/// Makes the call of a table, and tells what it returns.
-pub fn table_told<A: Allocator + Copy>(
+/// Makes the call of a table, and writes what it returns.
+pub fn table_text<A: Allocator + Copy>(
     rt: &impl Abort,
     alloc: Global,
     table: &mut MountTable<A>,

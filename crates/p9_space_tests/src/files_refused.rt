@@ -1,6 +1,6 @@
 //! A run of a namespace file in which an allocation fails does not change the table.
 
-use crate::telling::row;
+use crate::printing::row;
 use crate::words::node;
 use crate::worlds::forest;
 use p9_base::{Fault, NoMemory};
@@ -55,18 +55,18 @@ fn make_given<T: Tree>(rt: &impl Abort, alloc: T::Alloc) -> Result<Given<T>, NoM
 }
 
 // The table has the row that it had, and one more where there is another text.
-fn has_rows<T: Tree>(rt: &impl Abort, telling: Global, given: &Given<T>, made: &str) {
-    let first = row(telling, &given.table, 0).expect(rt, "memory");
+fn has_rows<T: Tree>(rt: &impl Abort, printing: Global, given: &Given<T>, made: &str) {
+    let first = row(printing, &given.table, 0).expect(rt, "memory");
     assert_eq!(rt; first.as_str(), "3 in 0 is 5");
-    let second = row(telling, &given.table, 1).expect(rt, "memory");
+    let second = row(printing, &given.table, 1).expect(rt, "memory");
     assert_eq!(rt; second.as_str(), made);
-    let third = row(telling, &given.table, 2).expect(rt, "memory");
+    let third = row(printing, &given.table, 2).expect(rt, "memory");
     assert_eq!(rt; third.as_str(), "none");
 }
 
 // Runs the text, which reports that `cd /none` failed and makes a row; or an allocation fails, and
 // the table is as before.
-fn run<T: Tree>(rt: &impl Abort, telling: Global, mut given: Given<T>) {
+fn run<T: Tree>(rt: &impl Abort, printing: Global, mut given: Given<T>) {
     let memory = *given.vars.allocator();
     match run_file(
         memory,
@@ -79,11 +79,11 @@ fn run<T: Tree>(rt: &impl Abort, telling: Global, mut given: Given<T>) {
         Ok(reports) => {
             let expected = [(2, OpFault::Path(Fault::NotFound))];
             assert_eq!(rt; reports.as_slice(), expected.as_slice());
-            has_rows(rt, telling, &given, "1 in 0 is 1 0");
+            has_rows(rt, printing, &given, "1 in 0 is 1 0");
         }
         Err(error) => {
             assert_eq!(rt; error, NsError::NoMemory);
-            has_rows(rt, telling, &given, "none");
+            has_rows(rt, printing, &given, "none");
         }
     }
 }

@@ -15,11 +15,11 @@ mod fids_refused;
 #[cfg(test)]
 mod files_refused;
 #[cfg(test)]
+mod printing;
+#[cfg(test)]
 mod refused;
 #[cfg(test)]
 mod tables;
-#[cfg(test)]
-mod telling;
 #[cfg(test)]
 mod texts;
 #[cfg(test)]

@@ -1,7 +1,7 @@
 //! Calls in which an allocation fails change nothing, and succeed when made again.
 
-use crate::calls::table_told;
-use crate::telling::{row, trail};
+use crate::calls::table_text;
+use crate::printing::{row, trail};
 use crate::words::node;
 use crate::worlds::{SMALL, Space, space_of};
 use p9_base::{Fault, NoMemory};
@@ -12,7 +12,7 @@ use p9_tree::{PlainTree, Tree};
 use std::alloc::Global;
 use std::process::Abort;
 
-// What a bind with 1 and 2 tells.
+// What a bind with 1 and 2 returns.
 fn bind(
     rt: &impl Abort,
     alloc: Global,
@@ -21,7 +21,7 @@ fn bind(
 ) -> Result<String, NoMemory> {
     let line = format!(in alloc; "{key} after create 1 2")?;
     let mut rest = line.as_str();
-    table_told(rt, alloc, table, "bind", &mut rest)
+    table_text(rt, alloc, table, "bind", &mut rest)
 }
 
 // Binds, again where it was refused: the table has as many rows as before then.

@@ -61,7 +61,7 @@ walk glenda a b = phase error";
     Ok(())
 }
 
-// A name that isn't there is told before the depth.
+// A name that isn't there is reported before the depth.
 #[test]
 fn a_path_may_be_too_deep(rt: HostRuntime) -> Result<(), Fail> {
     let lines = "\

@@ -43,14 +43,14 @@ module _ (forest : List Server) (who : Who) where
 abbrev pub listing : List MountRow → List Server → Who → NodeRef → List UnionEntry
 listing table forest who place = entries_from forest who 0 (members_of place table)
 
--- the entry is behind the last one that was given
+-- the entry is after the last one that was given
 abbrev pub is_behind : Option Cursor → UnionEntry → Bool
 is_behind cursor e =
     option_map_or
     (λ c. nat_lt c.member e.position || (c.member == e.position && nat_lt c.number e.node.number))
     cursor true
 
--- the entries of a place that are behind it, which are still to be given
+-- the entries of a place that are after it, which are still to be given
 abbrev pub listing_behind : Option Cursor → List MountRow → List Server → Who → NodeRef
     → List UnionEntry
 listing_behind cursor table forest who place =

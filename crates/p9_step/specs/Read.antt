@@ -56,7 +56,7 @@ cursor_after cursor (e ∷ es) = cursor_after (Some (cursor_of e)) es
 abbrev pub cursor_at : ℕ → Opened → Option Cursor
 cursor_at offset opened = if offset == 0 then None else opened.cursor
 
--- the next read of the directory goes on behind these entries
+-- the next read of the directory goes on after these entries
 abbrev pub listed_session : (fid : ℕ) → Opened → (offset : ℕ) → Option Cursor → List UnionEntry
     → Session → Session
 listed_session fid opened offset cursor entries session = record session {

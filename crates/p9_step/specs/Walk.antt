@@ -34,7 +34,7 @@ abbrev pub trail_after : List NodeRef → Result Arrival Fault → List NodeRef
 trail_after trail (Err fault) = trail
 trail_after trail (Ok a) = a.trail
 
--- a first step, and the rest of the walk behind it; a step that is refused ends the walk
+-- a first step, and the rest of the walk after it; a step that is refused ends the walk
 abbrev pub step_and_rest : List NodeRef → Result Arrival Fault → Walked → Walked
 step_and_rest trail (Err fault) rest = record { qids = []; trail = trail; stopped = Some fault }
 step_and_rest trail (Ok a) rest = record rest { qids = a.qid ∷ rest.qids }

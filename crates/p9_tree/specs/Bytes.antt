@@ -19,7 +19,7 @@ overwritten offset bytes old =
 abbrev pub cut_to : (size : ℕ) (old : List ℕ) → List ℕ
 cut_to size old = take size old
 
--- this many bytes: the first of them, or all of them and zeros behind
+-- this many bytes: the first of them, or all of them and zeros after
 abbrev pub resized : (size : ℕ) (old : List ℕ) → List ℕ
 resized size old = take size (padded size old)
 

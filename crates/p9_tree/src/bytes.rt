@@ -71,7 +71,7 @@ impl<A: Allocator> Bytes<A> {
         Ok(())
     }
 
-    // Brings them to this length, if they are fewer, by zeros behind them.
+    // Brings them to this length, if they are fewer, by zeros after them.
     fn pad_to(&mut self, len: usize) -> Result<(), NoMemory>
         ensures ok { OnOk result (self.new ≡ padded len self.old) }
         ensures err { OnErr result (self.new ≡ self.old) }
@@ -82,7 +82,7 @@ impl<A: Allocator> Bytes<A> {
         Ok(())
     }
 
-    // Copies the bytes over those that are at the start and behind it.
+    // Copies the bytes over those that are at the start and after it.
     fn put(&mut self, start: usize, bytes: &[u8])
         requires { start + length bytes.now ≤ length self.old }
         ensures { self.new

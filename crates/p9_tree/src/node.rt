@@ -317,7 +317,7 @@ impl<A: Allocator> Node<A> {
         Ok(())
     }
 
-    // What a stat tells of it has room there, by the types of its fields.
+    // What a stat says of it has room there, by the types of its fields.
     fn tellable(&self)
         ensures { IsTellable self.now }
     {

@@ -15,7 +15,7 @@ const SMALL: &str = "\
 1 add 1 b 800001ed glenda glenda glenda 0 0
 1 add 1 f 1a4 glenda glenda glenda 0 0 hi";
 
-/// A server of a root alone, and the sample world behind it.
+/// A server of a root alone, and the sample world after it.
 pub fn two_servers<T: Tree>(rt: &impl Abort, alloc: T::Alloc) -> Result<Forest<T>, NoMemory> {
     let mut trees = Vec::new(alloc);
     trees.push(T::with_root(alloc)?)?;
@@ -27,16 +27,16 @@ pub fn two_servers<T: Tree>(rt: &impl Abort, alloc: T::Alloc) -> Result<Forest<T
     Ok(forest)
 }
 
-/// Makes the calls over the two servers. What a look tells is the text behind `=` in its line.
+/// Makes the calls over the two servers. What a look returns is the text after `=` in its line.
 pub fn plays<T: Tree>(
     rt: &impl Abort,
     alloc: T::Alloc,
-    telling: Global,
+    printing: Global,
     lines: &str,
 ) -> Result<(), NoMemory> {
     let mut forest = two_servers::<T>(rt, alloc)?;
     for line in lines.lines() {
-        make(rt, telling, &mut forest, line)?;
+        make(rt, printing, &mut forest, line)?;
     }
     Ok(())
 }
@@ -50,13 +50,13 @@ pub fn plays_in_both(rt: &impl Abort, alloc: Global, lines: &str) -> Result<(), 
 /// Makes the call, or the look, of a line.
 pub fn make<T: Tree>(
     rt: &impl Abort,
-    telling: Global,
+    printing: Global,
     forest: &mut Forest<T>,
     line: &str,
 ) -> Result<(), NoMemory> {
     match line.split_once(" = ") {
         Some((words, want)) => {
-            let told = tell(rt, telling, forest, words).expect(rt, "memory");
+            let told = tell(rt, printing, forest, words).expect(rt, "memory");
             assert_eq!(rt; told.as_str(), want, "{words}");
             Ok(())
         }
@@ -67,14 +67,14 @@ pub fn make<T: Tree>(
 /// What the look of a line finds.
 pub fn tell<T: Tree>(
     rt: &impl Abort,
-    telling: Global,
+    printing: Global,
     forest: &Forest<T>,
     words: &str,
 ) -> Result<String, AllocError> {
     let mut rest = words;
     let server = take_server(rt, &mut rest);
     let word = take_word(&mut rest);
-    look(rt, telling, forest, server, word, &mut rest)
+    look(rt, printing, forest, server, word, &mut rest)
 }
 
 /// Makes the call of a line: its server, what it does, at which number, and with what.

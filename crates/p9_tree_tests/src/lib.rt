@@ -1,7 +1,7 @@
 //! Tests of p9_tree and p9_index: what trees and forests return call by call, in a vector of nodes
 //! and in ordered maps, and where an allocation fails.
 //!
-//! A test is a text with a call in each line, and its expected result behind `=`. So a proof loads
+//! A test is a text with a call in each line, and its expected result after `=`. So a proof loads
 //! one literal, whatever a test has in it, which costs much less than a table of values.
 #![tactic(auto)]
 

@@ -1,4 +1,4 @@
-//! What is told of a forest.
+//! What look-ups return of a forest.
 
 use crate::words::{name, take_number, take_word};
 use p9_base::NodeRef;

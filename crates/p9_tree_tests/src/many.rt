@@ -11,16 +11,16 @@ use std::test::Fail;
 // fall while the numbers rise.
 fn fill<T: Tree>(
     rt: &impl Abort,
-    telling: Global,
+    printing: Global,
     forest: &mut Forest<T>,
     files: u32,
 ) -> Result<(), Fail> {
     for number in 1..=files {
-        let line = format!(in telling; "0 add 0 n{number} 1a4 glenda glenda glenda 0 0 hi")?;
+        let line = format!(in printing; "0 add 0 n{number} 1a4 glenda glenda glenda 0 0 hi")?;
         call(rt, forest, line.as_str())?;
     }
     for number in 1..=files {
-        let line = format!(in telling; "0 change {number} m{} - - - -", u32::MAX - number)?;
+        let line = format!(in printing; "0 change {number} m{} - - - -", u32::MAX - number)?;
         call(rt, forest, line.as_str())?;
     }
     Ok(())
@@ -29,36 +29,36 @@ fn fill<T: Tree>(
 // Each file comes in the listing at its number, and is found under its new name alone.
 fn lists_all<T: Tree>(
     rt: &impl Abort,
-    telling: Global,
+    printing: Global,
     forest: &mut Forest<T>,
     files: u32,
 ) -> Result<(), Fail> {
     for number in 1..=files {
         let name = u32::MAX - number;
-        let file = format!(in telling;
+        let file = format!(in printing;
             "{number} Some(0) m{name} 1a4 glenda glenda glenda 0 0 0 [hi]"
         )?;
-        let next = format!(in telling; "0 after 0 {} = {file}", number - 1)?;
-        make(rt, telling, forest, next.as_str())?;
-        let new = format!(in telling; "0 child 0 m{name} = {file}")?;
-        make(rt, telling, forest, new.as_str())?;
-        let old = format!(in telling; "0 child 0 n{number} = none")?;
-        make(rt, telling, forest, old.as_str())?;
+        let next = format!(in printing; "0 after 0 {} = {file}", number - 1)?;
+        make(rt, printing, forest, next.as_str())?;
+        let new = format!(in printing; "0 child 0 m{name} = {file}")?;
+        make(rt, printing, forest, new.as_str())?;
+        let old = format!(in printing; "0 child 0 n{number} = none")?;
+        make(rt, printing, forest, old.as_str())?;
     }
-    let end = format!(in telling; "0 after 0 {files} = none")?;
-    make(rt, telling, forest, end.as_str())?;
+    let end = format!(in printing; "0 after 0 {files} = none")?;
+    make(rt, printing, forest, end.as_str())?;
     Ok(())
 }
 
 fn renames_many<T: Tree>(
     rt: &impl Abort,
     alloc: T::Alloc,
-    telling: Global,
+    printing: Global,
     files: u32,
 ) -> Result<(), Fail> {
     let mut forest = two_servers::<T>(rt, alloc)?;
-    fill(rt, telling, &mut forest, files)?;
-    lists_all(rt, telling, &mut forest, files)
+    fill(rt, printing, &mut forest, files)?;
+    lists_all(rt, printing, &mut forest, files)
 }
 
 // A look-up goes over all nodes here, so there are fewer files.

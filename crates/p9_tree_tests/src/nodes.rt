@@ -40,7 +40,7 @@ fn children_come_in_order(rt: HostRuntime) -> Result<(), Fail> {
     Ok(())
 }
 
-// A file of 16777216 bytes is the longest. The last read is behind its end.
+// A file of 16777216 bytes is the longest. The last read is after its end.
 #[test]
 fn bytes_change(rt: HostRuntime) -> Result<(), Fail> {
     let lines = "\
@@ -70,11 +70,11 @@ fn a_node_is_marked_and_read(rt: HostRuntime) -> Result<(), Fail> {
 }
 
 // The root is glenda's and staff's afterwards.
-fn gives_root<T: Tree>(rt: &impl Abort, alloc: T::Alloc, telling: Global) -> Result<(), Fail> {
+fn gives_root<T: Tree>(rt: &impl Abort, alloc: T::Alloc, printing: Global) -> Result<(), Fail> {
     let mut tree = T::with_root(alloc)?;
     let glenda = user(rt, "glenda");
     tree.set_root(Permissions::from_bits(0o777), glenda, user(rt, "staff"));
-    let root = fields(telling, tree.node(0))?;
+    let root = fields(printing, tree.node(0))?;
     assert_eq!(rt;
         root.as_str(),
         "0 None / 800001ff glenda staff glenda 0 0 0 []"

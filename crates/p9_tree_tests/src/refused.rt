@@ -11,7 +11,7 @@ use std::process::Abort;
 // ordered map, which then asks for memory at an entry.
 const FILES: u64 = 20;
 
-// What is told of the first file, the last one and the next at the end: each got another name and
+// What is returned for the first file, the last one and the next at the end: each got another name and
 // more bytes, and the first was written over.
 const AT_THE_END: &str = "\
 1 next = 24
@@ -24,15 +24,15 @@ const AT_THE_END: &str = "\
 // All that the look-ups tell of the server 1, a line each.
 fn tell_all<T: Tree>(
     rt: &impl Abort,
-    telling: Global,
+    printing: Global,
     forest: &Forest<T>,
 ) -> Result<String, AllocError> {
-    let mut all = tell(rt, telling, forest, "1 next")?;
+    let mut all = tell(rt, printing, forest, "1 next")?;
     for number in 0..FILES + 5 {
         for look in ["node", "after 1", "child 1 n", "child 1 m"] {
             let gap = if look.starts_with("child") { "" } else { " " };
-            let words = format!(in telling; "1 {look}{gap}{number}")?;
-            let told = tell(rt, telling, forest, words.as_str())?;
+            let words = format!(in printing; "1 {look}{gap}{number}")?;
+            let told = tell(rt, printing, forest, words.as_str())?;
             all.push_str("\n")?;
             all.push_str(told.as_str())?;
         }
@@ -40,16 +40,16 @@ fn tell_all<T: Tree>(
     Ok(all)
 }
 
-// Makes the call, again where it was refused, when every look-up tells what it told before.
+// Makes the call, again where it was refused, when every look-up returns what it returned before.
 fn grow<T: Tree>(
     rt: &impl Abort,
-    telling: Global,
+    printing: Global,
     forest: &mut Forest<T>,
     line: &str,
 ) -> Result<(), AllocError> {
-    let before = tell_all(rt, telling, forest)?;
+    let before = tell_all(rt, printing, forest)?;
     if call(rt, forest, line).is_err() {
-        let after = tell_all(rt, telling, forest)?;
+        let after = tell_all(rt, printing, forest)?;
         assert_eq!(rt; after.as_str(), before.as_str(), "{line}");
         assert!(rt; call(rt, forest, line).is_ok());
     }
@@ -59,25 +59,25 @@ fn grow<T: Tree>(
 // Makes the files, gives each another name and more bytes at once, and writes into one.
 fn grow_all<T: Tree>(
     rt: &impl Abort,
-    telling: Global,
+    printing: Global,
     forest: &mut Forest<T>,
 ) -> Result<(), AllocError> {
     for number in 4..4 + FILES {
-        let line = format!(in telling; "1 add 1 n{number} 1a4 glenda glenda glenda 0 0 hi")?;
-        grow(rt, telling, forest, line.as_str())?;
+        let line = format!(in printing; "1 add 1 n{number} 1a4 glenda glenda glenda 0 0 hi")?;
+        grow(rt, printing, forest, line.as_str())?;
     }
     for number in 4..4 + FILES {
-        let line = format!(in telling; "1 change {number} m{number} - - 5 -")?;
-        grow(rt, telling, forest, line.as_str())?;
+        let line = format!(in printing; "1 change {number} m{number} - - 5 -")?;
+        grow(rt, printing, forest, line.as_str())?;
     }
-    grow(rt, telling, forest, "1 write 4 1 ey")?;
-    grow(rt, telling, forest, "1 write 5 100 !")
+    grow(rt, printing, forest, "1 write 4 1 ey")?;
+    grow(rt, printing, forest, "1 write 5 100 !")
 }
 
-fn grows<T: Tree>(rt: &impl Abort, telling: Global, mut forest: Forest<T>) {
-    assert!(rt; grow_all(rt, telling, &mut forest).is_ok());
+fn grows<T: Tree>(rt: &impl Abort, printing: Global, mut forest: Forest<T>) {
+    assert!(rt; grow_all(rt, printing, &mut forest).is_ok());
     for line in AT_THE_END.lines() {
-        assert!(rt; make(rt, telling, &mut forest, line).is_ok());
+        assert!(rt; make(rt, printing, &mut forest, line).is_ok());
     }
 }
 

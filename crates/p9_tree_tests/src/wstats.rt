@@ -37,16 +37,16 @@ const REST: &str = "\
 fn becomes<T: Tree>(
     rt: &impl Abort,
     alloc: T::Alloc,
-    telling: Global,
+    printing: Global,
     row: &str,
 ) -> Result<(), Fail> {
     let (wanted, after) = row.split_once(" | ").expect(rt, "a change and a file");
     let mut rest = after;
     let name = take_word(&mut rest);
-    let lines = format!(in telling;
+    let lines = format!(in printing;
         "1 change 3 {wanted}\n1 node 3 = 3 Some(1) {after}\n1 child 1 {name} = 3 Some(1) {after}\n{REST}"
     )?;
-    plays::<T>(rt, alloc, telling, lines.as_str())?;
+    plays::<T>(rt, alloc, printing, lines.as_str())?;
     Ok(())
 }
 

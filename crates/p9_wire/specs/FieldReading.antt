@@ -1,4 +1,4 @@
--- Fields read from left to right: a field is a value and the bytes behind it.
+-- Fields read from left to right: a field is a value and the bytes after it.
 use Rattle.std.specs.Prelude.{◌≡◌, ℕ, zero, suc, ◌==◌, List, [], ◌∷◌, length, take, drop, Option}
 use Rattle.std.specs.Prelude.{Some, None, nat_lt, if◌then◌else◌}
 use Rattle.byteorder.specs.Endian.{little_number}
@@ -22,7 +22,7 @@ Gives view (Some x) read = read ≡ Some (view x)
 abbrev pub Reader : Type 0 → Type 0
 Reader A = List ℕ → Option (A × List ℕ)
 
--- one field behind another
+-- one field after another
 infixl 20 ◌then◌
 abbrev pub ◌then◌ : {A B : Type 0} → Reader A → Reader B → Reader (A × B)
 (r then s) bytes = r bytes and_then λ a. s a.1 and_then λ b. Some ((a.0, b.0), b.1)
@@ -59,7 +59,7 @@ bytes_at n bytes = if nat_lt (length bytes) n then None else Some (take n bytes,
 abbrev pub sized_bytes_at : Reader (List ℕ)
 sized_bytes_at bytes = number_at 2 bytes and_then λ n. bytes_at n.0 n.1
 
--- a text behind its length
+-- a text after its length
 unfoldable pub text_at : Reader (List ℕ)
 text_at bytes = sized_bytes_at bytes and_then λ s. if is_text s.0 then Some s else None
 
@@ -67,7 +67,7 @@ text_at bytes = sized_bytes_at bytes and_then λ s. if is_text s.0 then Some s e
 unfoldable pub counted_at : Reader (List ℕ)
 counted_at bytes = number_at 4 bytes and_then λ n. bytes_at n.0 n.1
 
--- so many, one behind another
+-- so many, one after another
 unfoldable pub times : {A : Type 0} → Reader A → ℕ → Reader (List A)
 times r zero bytes = Some ([], bytes)
 times r (suc n) bytes = r bytes and_then λ x. times r n x.1 and_then λ xs. Some (x.0 ∷ xs.0, xs.1)

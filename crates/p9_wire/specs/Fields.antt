@@ -38,7 +38,7 @@ stat_fields s =
     ++ number 4 s.atime ++ number 4 s.mtime ++ number 8 s.length
     ++ text s.name ++ text s.uid ++ text s.gid ++ text s.muid
 
--- a stat begins with its size, which counts the bytes behind itself
+-- a stat begins with its size, which counts the bytes after itself
 abbrev pub stat_bytes : StatFields → List ℕ
 stat_bytes = sized stat_fields
 

@@ -42,7 +42,7 @@ pub data Frames : Type 0 where
   Rest : (bytes : List ℕ) → Frames
   BrokenSize : Frames
 
--- what begins so, and what to make of the bytes behind a whole frame
+-- what begins so, and what to make of the bytes after a whole frame
 abbrev pub frames_by : Frame → List ℕ → (List ℕ → Frames) → Frames
 frames_by Need bytes others = Rest bytes
 frames_by (Whole size) bytes others = Next (take size bytes) (others (drop size bytes))

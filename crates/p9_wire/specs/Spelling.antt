@@ -101,7 +101,7 @@ TFits (Twstat fid stat) = FitsStat stat
 unfoldable pub t_spelling : ℕ → TMessage → List ℕ
 t_spelling tag m = frame (t_type m) tag (t_body m)
 
--- these bytes are the request with this tag, and nothing is behind it
+-- these bytes are the request with this tag, and nothing is after it
 pub record TSpells (bytes : List ℕ) (tag : ℕ) (m : TMessage) : Type 0 where
   pub whole : bytes ≡ t_spelling tag m
   pub numbers : TNumbersFit m
@@ -162,7 +162,7 @@ RFits Rremove = Unit {0}
 RFits (Rstat stat) = FitsStat stat
 RFits Rwstat = Unit {0}
 
--- these bytes are the reply with this tag, and nothing is behind it
+-- these bytes are the reply with this tag, and nothing is after it
 pub record RSpells (bytes : List ℕ) (tag : ℕ) (m : RMessage) : Type 0 where
   pub whole : bytes ≡ r_spelling tag m
   pub numbers : RNumbersFit m

@@ -1,4 +1,4 @@
-//! Fields taken from the front of bytes. Each returns its value and the bytes behind it, or None
+//! Fields taken from the front of bytes. Each returns its value and the bytes after it, or None
 //! where the bytes begin with no such field.
 
 ghost use Rattle.std.specs.Prelude.{◌≡◌, ◌≤◌, ◌==◌, Some, None, nat_lt, if◌then◌else◌};
@@ -83,7 +83,7 @@ fn text_from(bytes: &[u8]) -> Option<&str>
     }
 }
 
-/// A text behind two bytes of length.
+/// A text after two bytes of length.
 #[tactic(auto, unfolding(crate::specs::FieldReading::text_at))]
 pub fn take_text(bytes: &[u8]) -> Option<(&str, &[u8])>
     ensures { Gives (λ x. (x.0.now, x.1.now)) result (text_at bytes.now) }
@@ -109,7 +109,7 @@ pub fn take_qid(bytes: &[u8]) -> Option<(Qid, &[u8])>
     Some((qid, rest))
 }
 
-/// Data behind four bytes of count.
+/// Data after four bytes of count.
 #[tactic(auto, unfolding(crate::specs::FieldReading::counted_at))]
 pub fn take_counted(bytes: &[u8]) -> Option<(&[u8], &[u8])>
     ensures { Gives (λ x. (x.0.now, x.1.now)) result (counted_at bytes.now) }
@@ -131,7 +131,7 @@ fn take_count(bytes: &[u8]) -> Option<(usize, &[u8])>
     Some((count, rest))
 }
 
-/// So many texts, one behind another.
+/// So many texts, one after another.
 fn some_names(count: usize, bytes: &[u8]) -> Option<(Names<'_>, &[u8])>
     requires { count ≤ elements_max }
     ensures { Gives (λ x. (x.0, x.1.now)) result (times text_at count bytes.now) }
@@ -146,7 +146,7 @@ fn some_names(count: usize, bytes: &[u8]) -> Option<(Names<'_>, &[u8])>
     Some((names, rest))
 }
 
-/// At most sixteen texts behind two bytes of their number.
+/// At most sixteen texts after two bytes of their number.
 #[tactic(auto, unfolding(crate::specs::FieldReading::several_at))]
 pub fn take_names(bytes: &[u8]) -> Option<(Names<'_>, &[u8])>
     ensures { Gives (λ x. (x.0, x.1.now)) result (several_at text_at bytes.now) }
@@ -155,7 +155,7 @@ pub fn take_names(bytes: &[u8]) -> Option<(Names<'_>, &[u8])>
     some_names(count, rest)
 }
 
-/// So many qids, one behind another.
+/// So many qids, one after another.
 fn some_qids(count: usize, bytes: &[u8]) -> Option<(Qids, &[u8])>
     requires { count ≤ elements_max }
     ensures { Gives (λ x. (x.0, x.1.now)) result (times qid_at count bytes.now) }
@@ -170,7 +170,7 @@ fn some_qids(count: usize, bytes: &[u8]) -> Option<(Qids, &[u8])>
     Some((qids, rest))
 }
 
-/// At most sixteen qids behind two bytes of their number.
+/// At most sixteen qids after two bytes of their number.
 #[tactic(auto, unfolding(crate::specs::FieldReading::several_at))]
 pub fn take_qids(bytes: &[u8]) -> Option<(Qids, &[u8])>
     ensures { Gives (λ x. (x.0, x.1.now)) result (several_at qid_at bytes.now) }
@@ -211,7 +211,7 @@ fn take_stat_fields(bytes: &[u8]) -> Option<(Stat<'_>, &[u8])>
     Some((stat, rest))
 }
 
-/// A stat behind its size, which its fields take up.
+/// A stat after its size, which its fields take up.
 #[tactic(auto, unfolding(crate::specs::FieldReading::sized_at))]
 fn take_stat(bytes: &[u8]) -> Option<(Stat<'_>, &[u8])>
     ensures { Gives (λ x. (stat_view x.0, x.1.now)) result (sized_at stat_fields_at bytes.now) }
@@ -225,7 +225,7 @@ fn take_stat(bytes: &[u8]) -> Option<(Stat<'_>, &[u8])>
     }
 }
 
-/// A stat as a message holds it: behind two bytes of length, which its size and fields take up.
+/// A stat as a message holds it: after two bytes of length, which its size and fields take up.
 #[tactic(auto, unfolding(crate::specs::FieldReading::sized_at))]
 pub fn take_sized_stat(bytes: &[u8]) -> Option<(Stat<'_>, &[u8])>
     ensures { Gives (λ x. (stat_view x.0, x.1.now)) result (stat_at bytes.now) }

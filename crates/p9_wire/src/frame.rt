@@ -13,7 +13,7 @@ pub enum Frame {
     Need,
     /// A whole frame of so many bytes.
     Whole(usize),
-    /// A size below 7 or above `MSIZE_MAX`: no frame begins so, and what follows can't be told.
+    /// A size below 7 or above `MSIZE_MAX`: no frame begins so, and what follows isn't known.
     Broken,
 }
 

@@ -4,7 +4,7 @@ use crate::names::Names;
 use crate::qids::Qids;
 use p9_base::Qid;
 
-/// What a server tells of a file, or a client asks to change, as stat(5). The fields are in the
+/// What a server reports of a file, or a client asks to change, as stat(5). The fields are in the
 /// order of their bytes.
 #[derive(Clone, Copy, Debug)]
 pub struct Stat<'a> {
@@ -97,11 +97,11 @@ pub enum TMsg<'a> {
     Remove {
         fid: u32,
     },
-    /// Asks what is told of a file, as stat(5).
+    /// Asks for the stat of a file, as stat(5).
     Stat {
         fid: u32,
     },
-    /// Changes what is told of a file, as stat(5).
+    /// Changes the stat of a file, as stat(5).
     Wstat {
         fid: u32,
         stat: Stat<'a>,
@@ -133,7 +133,7 @@ pub enum RMsg<'a> {
     Clunk,
     /// The file is removed, as remove(5).
     Remove,
-    /// What is told of the file, as stat(5).
+    /// The stat of the file, as stat(5).
     Stat { stat: Stat<'a> },
     /// It is changed, as stat(5).
     Wstat,

@@ -62,7 +62,7 @@ impl<'a> Names<'a> {
         self.names.as_slice()
     }
 
-    /// Adds a name behind the others.
+    /// Adds a name after the others.
     pub fn push(&mut self, name: &'a str)
         requires { length self.old < elements_max }
         ensures { self.new ≡ self.old ++ name.now ∷ [] }

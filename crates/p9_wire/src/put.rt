@@ -1,5 +1,5 @@
 //! Fields put into a buffer. Each is written from the index `at` on. All else in the buffer is
-//! unchanged, and the index behind the field is returned.
+//! unchanged, and the index after the field is returned.
 
 ghost use Rattle.std.specs.Prelude.{◌≡◌, ◌≤◌, ◌<◌, ◌+◌, ◌*◌, ◌^◌, ◌++◌, All, length, sum_by};
 ghost use Rattle.p9_wire.specs.Fields.{number, text, counted, several, sized, qid_bytes};
@@ -66,7 +66,7 @@ pub fn put_u64(out: &mut [u8], at: usize, n: u64) -> usize
     put_bytes(out, at, &bytes)
 }
 
-/// A text behind two bytes of its length.
+/// A text after two bytes of its length.
 pub fn put_text(out: &mut [u8], at: usize, s: &str) -> usize
     requires short { length s.now < 2 ^ 16 }
     requires room { at + 2 + length s.now ≤ length out.old }
@@ -88,7 +88,7 @@ pub fn put_qid(out: &mut [u8], at: usize, qid: Qid) -> usize
     put_u64(out, at, qid.path)
 }
 
-/// Data behind four bytes of its count.
+/// Data after four bytes of its count.
 pub fn put_counted(out: &mut [u8], at: usize, bytes: &[u8]) -> usize
     requires short { length bytes.now < 2 ^ 32 }
     requires room { at + 4 + length bytes.now ≤ length out.old }
@@ -99,7 +99,7 @@ pub fn put_counted(out: &mut [u8], at: usize, bytes: &[u8]) -> usize
     put_bytes(out, at, bytes)
 }
 
-/// Names behind two bytes of their number.
+/// Names after two bytes of their number.
 pub fn put_names(out: &mut [u8], at: usize, names: &Names<'_>) -> usize
     requires short { All (λ n. length n < 2 ^ 16) names.now }
     requires room { at + 2 + sum_by (λ n. 2 + length n) names.now ≤ length out.old }
@@ -114,7 +114,7 @@ pub fn put_names(out: &mut [u8], at: usize, names: &Names<'_>) -> usize
     end
 }
 
-/// Qids behind two bytes of their number.
+/// Qids after two bytes of their number.
 pub fn put_qids(out: &mut [u8], at: usize, qids: &Qids) -> usize
     requires { at + 2 + 13 * length qids.now ≤ length out.old }
     ensures next { result ≡ at + 2 + 13 * length qids.now }
@@ -128,7 +128,7 @@ pub fn put_qids(out: &mut [u8], at: usize, qids: &Qids) -> usize
     end
 }
 
-/// A stat, which begins with the number of the bytes behind its size.
+/// A stat, which begins with the number of the bytes after its size.
 fn put_stat(out: &mut [u8], at: usize, stat: &Stat<'_>) -> usize
     requires fits { FitsStat (stat_view stat.now) }
     requires room { at + stat_len (stat_view stat.now) ≤ length out.old }
@@ -150,7 +150,7 @@ fn put_stat(out: &mut [u8], at: usize, stat: &Stat<'_>) -> usize
     put_text(out, at, stat.muid)
 }
 
-/// A stat as a message holds it, behind two bytes of its length.
+/// A stat as a message holds it, after two bytes of its length.
 pub fn put_sized_stat(out: &mut [u8], at: usize, stat: &Stat<'_>) -> usize
     requires fits { FitsStat (stat_view stat.now) }
     requires room { at + 2 + stat_len (stat_view stat.now) ≤ length out.old }

@@ -54,7 +54,7 @@ impl Qids {
         self.qids.as_slice()
     }
 
-    /// Adds a qid behind the others.
+    /// Adds a qid after the others.
     pub fn push(&mut self, qid: Qid)
         requires { length self.old < elements_max }
         ensures { self.new ≡ self.old ++ qid ∷ [] }

@@ -92,7 +92,7 @@ fn stat(body: &[u8]) -> Option<(RMsg<'_>, &[u8])>
     Some((RMsg::Stat { stat }, rest))
 }
 
-/// The body of a message of this type, and the bytes behind it.
+/// The body of a message of this type, and the bytes after it.
 #[tactic(auto, unfolding(crate::specs::Reading::r_body_at))]
 fn body_of(kind: u8, body: &[u8]) -> Option<(RMsg<'_>, &[u8])>
     ensures { Gives (λ x. (r_view x.0, x.1.now)) result (r_body_at kind body.now) }

@@ -34,7 +34,7 @@ fn kind_of(message: &RMsg<'_>) -> u8
     }
 }
 
-/// Puts the body behind the bytes of the header, and returns the index behind it.
+/// Puts the body after the bytes of the header, and returns the index after it.
 fn put_body(message: &RMsg<'_>, out: &mut [u8]) -> usize
     requires fits { RFits (r_view message.now) }
     requires room { 7 + r_len (r_view message.now) ≤ length out.old }
@@ -67,7 +67,7 @@ fn put_body(message: &RMsg<'_>, out: &mut [u8]) -> usize
 }
 
 /// Writes a reply with its tag at the front of the buffer, and returns its length. What is
-/// behind it stays. The buffer has room for it, and it has a spelling: `size` and `fits` of `RMsg`
+/// after it stays. The buffer has room for it, and it has a spelling: `size` and `fits` of `RMsg`
 /// tell both.
 pub fn write_r(message: &RMsg<'_>, tag: u16, out: &mut [u8]) -> usize
     requires fits { RFits (r_view message.now) }
@@ -80,9 +80,9 @@ pub fn write_r(message: &RMsg<'_>, tag: u16, out: &mut [u8]) -> usize
     end
 }
 
-/// Makes the Rread of the `count` bytes that are behind the first [`crate::READ_HEADER`] bytes of
+/// Makes the Rread of the `count` bytes that are after the first [`crate::READ_HEADER`] bytes of
 /// the buffer, where its header and count belong, and returns its length. The bytes and what is
-/// behind them stay.
+/// after them stay.
 pub fn finish_read(tag: u16, count: u32, out: &mut [u8]) -> usize
     requires size { read_header + count < 2 ^ 32 }
     requires room { read_header + count ≤ length out.old }

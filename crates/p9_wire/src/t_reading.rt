@@ -156,7 +156,7 @@ fn wstat(body: &[u8]) -> Option<(TMsg<'_>, &[u8])>
     Some((TMsg::Wstat { fid, stat }, rest))
 }
 
-/// The body of a message of this type, and the bytes behind it.
+/// The body of a message of this type, and the bytes after it.
 #[tactic(auto, unfolding(crate::specs::Reading::t_body_at))]
 fn body_of(kind: u8, body: &[u8]) -> Option<(TMsg<'_>, &[u8])>
     ensures { Gives (λ x. (t_view x.0, x.1.now)) result (t_body_at kind body.now) }
@@ -196,7 +196,7 @@ fn whole(bytes: &[u8]) -> Option<(u16, TMsg<'_>)>
 /// The request that these bytes are, with its tag, as intro(5). None where no request has all of
 /// these bytes as its spelling: a size that isn't their number, a type that no request has, a field
 /// that is cut short, a text that is not UTF-8 or has a NUL, more than sixteen names, a stat whose
-/// length isn't its size and two, or bytes behind the body.
+/// length isn't its size and two, or bytes after the body.
 pub fn read_t<'a>(bytes: &'a [u8]) -> Option<(u16, TMsg<'a>)>
     // What is read has this spelling.
     ensures found { IfSome result (λ x. TSpells bytes.now x.0 (t_view x.1)) }

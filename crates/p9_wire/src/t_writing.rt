@@ -35,7 +35,7 @@ fn kind_of(message: &TMsg<'_>) -> u8
     }
 }
 
-/// Puts the body behind the bytes of the header, and returns the index behind it.
+/// Puts the body after the bytes of the header, and returns the index after it.
 fn put_body(message: &TMsg<'_>, out: &mut [u8]) -> usize
     requires fits { TFits (t_view message.now) }
     requires room { 7 + t_len (t_view message.now) ≤ length out.old }
@@ -104,7 +104,7 @@ fn put_body(message: &TMsg<'_>, out: &mut [u8]) -> usize
 }
 
 /// Writes a request with its tag at the front of the buffer, and returns its length. What is
-/// behind it stays. The buffer has room for it, and it has a spelling: `size` and `fits` of `TMsg`
+/// after it stays. The buffer has room for it, and it has a spelling: `size` and `fits` of `TMsg`
 /// tell both.
 pub fn write_t(message: &TMsg<'_>, tag: u16, out: &mut [u8]) -> usize
     requires fits { TFits (t_view message.now) }

@@ -10,7 +10,7 @@ const ROOM: usize = 512;
 /// The bytes of a buffer to which nothing was written.
 pub const UNTOUCHED: u8 = 0xAA;
 
-/// Whether these bytes are at the front, and nothing was written behind them.
+/// Whether these bytes are at the front, and nothing was written after them.
 pub fn holds_only(out: &[u8], want: &[u8]) -> bool {
     if out.len() < want.len() {
         return false;

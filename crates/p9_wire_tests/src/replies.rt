@@ -181,7 +181,7 @@ fn vector_open_read(rt: HostRuntime) -> Result<(), Fail> {
     Ok(())
 }
 
-/// Two entries written in place behind the header and the count, and then the reply around them.
+/// Two entries written in place after the header and the count, and then the reply around them.
 #[test]
 fn vector_union_listing(rt: HostRuntime) -> Result<(), Fail> {
     let mut room = [UNTOUCHED; 200];

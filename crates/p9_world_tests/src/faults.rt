@@ -202,31 +202,31 @@ fn are_bad(rt: &impl Abort, alloc: Global, rows: &str) -> Result<(), AllocError>
 }
 
 #[test]
-fn bad_words_are_told(rt: HostRuntime) -> Result<(), Fail> {
+fn bad_words_are_reported(rt: HostRuntime) -> Result<(), Fail> {
     are_bad(&rt, rt.alloc(), WORDS)?;
     Ok(())
 }
 
 #[test]
-fn bad_names_are_told(rt: HostRuntime) -> Result<(), Fail> {
+fn bad_names_are_reported(rt: HostRuntime) -> Result<(), Fail> {
     are_bad(&rt, rt.alloc(), NAMES)?;
     Ok(())
 }
 
 #[test]
-fn bad_entries_are_told(rt: HostRuntime) -> Result<(), Fail> {
+fn bad_entries_are_reported(rt: HostRuntime) -> Result<(), Fail> {
     are_bad(&rt, rt.alloc(), ENTRIES)?;
     Ok(())
 }
 
 #[test]
-fn bad_places_are_told(rt: HostRuntime) -> Result<(), Fail> {
+fn bad_places_are_reported(rt: HostRuntime) -> Result<(), Fail> {
     are_bad(&rt, rt.alloc(), PLACES)?;
     Ok(())
 }
 
 #[test]
-fn bad_groups_are_told(rt: HostRuntime) -> Result<(), Fail> {
+fn bad_groups_are_reported(rt: HostRuntime) -> Result<(), Fail> {
     are_bad(&rt, rt.alloc(), GROUPS)?;
     Ok(())
 }

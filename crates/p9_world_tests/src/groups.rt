@@ -50,7 +50,7 @@ rob glenda false false
 sys sys true true
 sys ken false false";
 
-// What is told of each group and user of the rows.
+// What is found of each group and user of the rows.
 fn is_asked<T: Tree>(
     rt: &impl Abort,
     alloc: Global,
@@ -71,7 +71,7 @@ fn is_asked<T: Tree>(
     Ok(())
 }
 
-// What is told of the world of a text, with a tree of each kind.
+// What is found of the world of a text, with a tree of each kind.
 fn are_groups_of(rt: &impl Abort, alloc: Global, text: &str, rows: &str) -> Result<(), AllocError> {
     let plain = read_world::<PlainTree<Global>>(alloc, text).expect(rt, "a world");
     is_asked(rt, alloc, &plain, rows)?;
@@ -117,7 +117,7 @@ fn the_example_of_the_guide_has_its_groups(rt: HostRuntime) -> Result<(), Fail> 
 // The groups are read with each request of memory refused in turn.
 fn read_refused<T: Tree>(
     rt: &impl Abort,
-    telling: Global,
+    printing: Global,
     memory: &Refusing<Global>,
     lent: T::Alloc,
 ) {
@@ -126,7 +126,7 @@ fn read_refused<T: Tree>(
         || (),
         |()| {
             let world = read_again::<T>(rt, lent, TEXT);
-            is_asked(rt, telling, &world, ASKED).expect(rt, "memory");
+            is_asked(rt, printing, &world, ASKED).expect(rt, "memory");
         },
     );
     assert!(rt; refusals > 20);

@@ -12,11 +12,11 @@ mod groups;
 #[cfg(test)]
 mod limits;
 #[cfg(test)]
+mod printing;
+#[cfg(test)]
 mod refused;
 #[cfg(test)]
 mod samples;
-#[cfg(test)]
-mod telling;
 #[cfg(test)]
 mod texts;
 #[cfg(test)]

@@ -29,7 +29,7 @@ fn the_largest_file_is_made(rt: HostRuntime) -> Result<(), Fail> {
     Ok(())
 }
 
-// A file of a byte more, with its end, is told so.
+// A file of a byte more, with its end, is refused so.
 fn is_too_long(
     rt: &impl Abort,
     alloc: Global,
@@ -44,7 +44,7 @@ fn is_too_long(
 }
 
 #[test]
-fn large_files_are_told(rt: HostRuntime) -> Result<(), Fail> {
+fn large_files_are_reported(rt: HostRuntime) -> Result<(), Fail> {
     let alloc = rt.alloc();
     is_too_long(&rt, alloc, "/f", "", "line 2: file too large")?;
     is_too_long(&rt, alloc, "/f/g", "", "line 2: file too large")?;
@@ -90,19 +90,19 @@ fn is_one_too_many(
 }
 
 #[test]
-fn one_server_more_is_told(rt: HostRuntime) -> Result<(), Fail> {
+fn one_server_more_is_reported(rt: HostRuntime) -> Result<(), Fail> {
     is_one_too_many(&rt, rt.alloc(), "server y", "line 65537: too many")?;
     Ok(())
 }
 
 #[test]
-fn a_server_again_is_told(rt: HostRuntime) -> Result<(), Fail> {
+fn a_server_again_is_reported(rt: HostRuntime) -> Result<(), Fail> {
     is_one_too_many(&rt, rt.alloc(), "server 0", "line 65537: already there")?;
     Ok(())
 }
 
 #[test]
-fn a_bad_server_more_is_told(rt: HostRuntime) -> Result<(), Fail> {
+fn a_bad_server_more_is_reported(rt: HostRuntime) -> Result<(), Fail> {
     is_one_too_many(&rt, rt.alloc(), "server $", "line 65537: bad name")?;
     Ok(())
 }

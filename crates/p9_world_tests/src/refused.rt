@@ -24,7 +24,7 @@ pub fn read_again<T: Tree>(rt: &impl Abort, lent: T::Alloc, text: &str) -> World
 // The sample is read with each request of memory refused in turn.
 fn read_refused<T: Tree>(
     rt: &impl Abort,
-    telling: Global,
+    printing: Global,
     memory: &Refusing<Global>,
     lent: T::Alloc,
     sample: &Sample,
@@ -34,7 +34,7 @@ fn read_refused<T: Tree>(
         || (),
         |()| {
             let world = read_again::<T>(rt, lent, sample.text);
-            is_sample(rt, telling, &world, sample);
+            is_sample(rt, printing, &world, sample);
         },
     );
     assert!(rt; refusals > 20);

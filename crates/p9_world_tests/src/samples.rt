@@ -1,6 +1,6 @@
 //! The sample worlds are read, each with its nodes.
 
-use crate::telling::world as told_of;
+use crate::printing::world as told_of;
 use crate::worlds::{
     BOUND_INSIDE, COVERED_VAULT, DEEP, HOME, SMALL, Sample, TWO_SERVERS, TWO_UNIONS, VAULT,
 };

@@ -1,6 +1,6 @@
 //! The seven sample worlds.
 
-/// A text, and what is told of the world that it makes.
+/// A text, and the text of the world that it makes.
 #[derive(Clone, Copy)]
 pub struct Sample {
     pub text: &'static str,

@@ -1,6 +1,6 @@
 //! Each allocation of a judgement fails in turn.
 
-use super::telling::{Space, space_of};
+use super::printing::{Space, space_of};
 use p9_base::NoMemory;
 use p9_index::IndexTree;
 use p9_judge::{Verdict, judge};

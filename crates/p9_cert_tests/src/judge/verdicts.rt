@@ -1,12 +1,12 @@
 //! Verdicts over small worlds.
 
-use super::telling::told;
+use super::printing::told;
 use p9_base::NoMemory;
 use std::alloc::Global;
 use std::process::Abort;
 use std::test::Fail;
 
-// Each line has what is told, with `_` for blanks, and of which world, mount table and removed
+// Each line has what is found, with `_` for blanks, and of which world, mount table and removed
 // nodes.
 
 // A world without hidden directories.
@@ -19,7 +19,7 @@ yes;cert_1;dir_0_0;dir_1_0 = server other | 0 0 1 0 0 0 |";
 
 #[test]
 fn without_hidden_directories_all_that_is_passed_is_listed(rt: HostRuntime) -> Result<(), Fail> {
-    are_told(&rt, rt.alloc(), SMALL)?;
+    are_reported(&rt, rt.alloc(), SMALL)?;
     Ok(())
 }
 
@@ -46,7 +46,7 @@ file /vault/key 600 sys sys 01;hide main /vault;group staff sys glenda | |";
 
 #[test]
 fn a_vault_is_judged(rt: HostRuntime) -> Result<(), Fail> {
-    are_told(&rt, rt.alloc(), VAULT)?;
+    are_reported(&rt, rt.alloc(), VAULT)?;
     Ok(())
 }
 
@@ -75,8 +75,8 @@ no;step_0_0_glenda_a;step_0_1_glenda_v;breach_open_0_2 = dir /a 000 glenda sys;\
 dir /a/v 004 glenda glenda;hide main /a/v | |";
 
 #[test]
-fn the_first_breach_is_told(rt: HostRuntime) -> Result<(), Fail> {
-    are_told(&rt, rt.alloc(), ORDER)?;
+fn the_first_breach_is_reported(rt: HostRuntime) -> Result<(), Fail> {
+    are_reported(&rt, rt.alloc(), ORDER)?;
     Ok(())
 }
 
@@ -98,11 +98,11 @@ hide other /w | 0 0 0 1 1 0 | 0 1";
 
 #[test]
 fn binds_are_followed(rt: HostRuntime) -> Result<(), Fail> {
-    are_told(&rt, rt.alloc(), BINDS)?;
+    are_reported(&rt, rt.alloc(), BINDS)?;
     Ok(())
 }
 
-fn are_told(rt: &impl Abort, alloc: Global, rows: &str) -> Result<(), NoMemory> {
+fn are_reported(rt: &impl Abort, alloc: Global, rows: &str) -> Result<(), NoMemory> {
     for row in rows.lines() {
         let (want, row) = row.split_once(" = ").expect(rt, "a row");
         let want = want.replace(alloc, '_', " ")?;

@@ -1,6 +1,6 @@
 use Rattle.std.proofs.Common.{Bor, List, ℕ, map}
 use Rattle.std.proofs.lemmas.Result.{err_from_is_err_and}
-use Rattle.p9_exchange.specs.Exchange.{talked, all_told, exchange_of_lines}
+use Rattle.p9_exchange.specs.Exchange.{talked, all_printed, exchange_of_lines}
 use Rattle.p9_exchange.specs.Talk.{talk_view}
 use Rattle.p9_exchange.proofs.Numbered.{line-taken, line-stops, lines-end}
 use Rattle.p9_exchange.proofs.exchange.exchange_of_lines.Goals as goal
@@ -22,7 +22,7 @@ returns-in_err-talk_of g c =
     let p = err_from_is_err_and r.result r.ensures.1 in
     rw (p.1, p.2)
     (line-stops (talked replies) c.args.script.now (talk_view c.loop-position.talk)
-    c.loop-position.position (all_told replies) _ _ _ c.loop-position-test.true
+    c.loop-position.position (all_printed replies) _ _ _ c.loop-position-test.true
     c.in_err-talk_of.ensures.stop c.loop-position.invariant.0)
 
 pub returns : goal.returns
@@ -31,4 +31,4 @@ returns g c =
     let replies = map (λ (reply : Bor (List ℕ)). reply.now) c.args.replies.now in
     rw (lines-end (talked replies) c.args.script.now (talk_view c.loop-position.talk)
     c.loop-position.position _ c.loop-position-test.false c.loop-position.invariant.0)
-    c.all_told.ensures
+    c.all_printed.ensures

@@ -12,4 +12,4 @@ invariant-loop-position g l =
     let step = talked (map (λ reply. reply.now) l.replies) in
     (try_fold step (talk_view l.talk) (drop l.position numbered)
     ≡ try_fold step nothing_said numbered)
-    × (l.talk.told ≤ length l.replies)
+    × (l.talk.printed ≤ length l.replies)

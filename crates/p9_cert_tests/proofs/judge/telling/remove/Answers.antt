@@ -3,7 +3,7 @@ use Rattle.p9_tree.specs.Server.{Server, with_dropped}
 use Rattle.p9_tree.specs.Forest.{next_of, server_at}
 use Rattle.p9_world.specs.World.{IsWorld, World, world_view}
 use Rattle.p9_world.proofs.Worlds.{IsWorld-changed}
-use Rattle.p9_cert_tests.proofs.judge.telling.remove.Goals as goal
+use Rattle.p9_cert_tests.proofs.judge.printing.remove.Goals as goal
 
 pub invariant_of-world : goal.invariant_of-world
 invariant_of-world g c =

@@ -1,4 +1,4 @@
-//! What is told of a world and a mount table.
+//! Texts of a world and a mount table.
 
 use crate::tables::{nodes_of, table_of};
 use p9_base::{NoMemory, NodeRef};

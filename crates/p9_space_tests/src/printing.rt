@@ -1,4 +1,4 @@
-//! What is told of tables and trails.
+//! Texts of tables and trails.
 
 ghost use Rattle.p9_space.specs.Channel.{Fits};
 
@@ -23,7 +23,7 @@ pub fn trail<A: Allocator + Copy>(
 
 /// The numbers of the files of the places of channels that fit the table, each before a blank. The
 /// last file is found by the row of its place.
-pub fn channels_told<A: Allocator + Copy>(
+pub fn channels_text<A: Allocator + Copy>(
     alloc: Global,
     table: &MountTable<A>,
     channels: &Channels<A>,

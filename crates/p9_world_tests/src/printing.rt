@@ -1,4 +1,4 @@
-//! What is told of a world.
+//! Texts of a world.
 
 use p9_tree::{Node, Tree};
 use p9_world::World;
