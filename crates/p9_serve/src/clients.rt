@@ -75,6 +75,11 @@ impl<S: Stream + Drop, T: Tree> Clients<S, T> {
         }
     }
 
+    /// The allocator of the connections.
+    pub(crate) fn allocator(&self) -> T::Alloc {
+        self.alloc
+    }
+
     /// What is kept of each value: each connection's session is that of its key, and open. This does
     /// nothing when it runs; it is for a caller that has to know so.
     pub fn well_formed(&self)

@@ -12,6 +12,7 @@ use crate::socket::Socket;
 use mio::net::TcpListener;
 use p9_guard::Guard;
 use p9_tree::Tree;
+use std::alloc::Allocator;
 use std::io;
 use std::marker::Model;
 use std::net::SocketAddr;
@@ -34,7 +35,7 @@ pub struct Round {
 #[derive(Drop)]
 pub struct Server<T: Tree> {
     listener: TcpListener,
-    clients: Clients<Socket, T>,
+    clients: Clients<Socket<T::Alloc>, T>,
     pace: Pace,
 }
 
@@ -42,7 +43,7 @@ impl<T: Tree> Model for Server<T> {
     ghost use Rattle.p9_serve.specs.Rounds.{Running};
     ghost use Rattle.p9_serve.specs.declared.socket.Socket.{Socket};
 
-    ghost Value = { Running Socket };
+    ghost Value = { Running (Socket T.Alloc) };
 
     ghost view = { λ s. record { serving = s.clients; pace = s.pace } };
 }
@@ -129,15 +130,15 @@ impl<T: Tree> Server<T> {
         if !self.pace.is_due() {
             return 0;
         }
-        match waiting(&self.listener) {
+        match waiting(self.clients.allocator(), &self.listener) {
             Some(stream) => u64::from(self.clients.take_in(stream)),
             None => 0,
         }
     }
 }
 
-// The socket of a client that waits, if there is one and the accept doesn't fail.
-fn waiting(listener: &TcpListener) -> Option<Socket> {
+// The socket of a client that waits, if there is one, and neither the accept nor an allocation fails.
+fn waiting<A: Allocator>(alloc: A, listener: &TcpListener) -> Option<Socket<A>> {
     let (stream, _) = listener.accept().ok()?;
-    Some(Socket::new(stream))
+    Socket::new(alloc, stream).ok()
 }

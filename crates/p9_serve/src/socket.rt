@@ -4,48 +4,59 @@ ghost use Rattle.std.specs.Io.{ReadsAtMost, WritesAtMost};
 
 use mio::net::TcpStream;
 use p9_conn::Stream;
+use std::alloc::Allocator;
 use std::io;
-use std::io::{Read, Write};
+use std::io::{BufWriter, ErrorKind, Read, Write};
+
+// How many bytes of replies may wait to be sent together.
+const TOGETHER_MAX: usize = 65_536;
 
 /// A client's socket, which doesn't block. What is written to it is sent at once, but where more
-/// is to follow soon: that is sent together.
+/// is to follow soon: that is kept, up to 65,536 bytes, and sent together.
 ///
-/// It sets TCP_NODELAY for that, where the system grants it, and only where it changes.
+/// What is kept is sent before anything is read, and when the socket is dropped, as far as the
+/// system takes it then.
 #[derive(Drop)]
-pub struct Socket {
-    stream: TcpStream,
-    // Whether the system may keep what is written, to send it with what follows.
-    keeps: bool,
+pub struct Socket<A: Allocator> {
+    stream: BufWriter<TcpStream, A>,
 }
 
-impl Socket {
-    /// The socket of a client that was accepted. What is written is sent at once.
-    pub fn new(stream: TcpStream) -> Socket {
+impl<A: Allocator> Socket<A> {
+    /// The socket of a client that was accepted. It sets TCP_NODELAY, where the system grants it.
+    ///
+    /// The buffer of what is kept is taken here. Where that allocation fails, the stream is dropped.
+    pub fn new(alloc: A, stream: TcpStream) -> io::Result<Socket<A>> {
         let _ = stream.set_nodelay(true);
-        Socket {
-            stream,
-            keeps: false,
-        }
+        let stream = BufWriter::with_capacity(alloc, TOGETHER_MAX, stream)?;
+        Ok(Socket { stream })
     }
 
-    // Lets the system keep what is written from now on, or has all of it sent at once.
-    fn set_keeps(&mut self, keeps: bool) {
-        if self.keeps != keeps {
-            let _ = self.stream.set_nodelay(!keeps);
-            self.keeps = keeps;
-        }
+    // Whether nothing is kept.
+    fn is_sent(&self) -> bool {
+        self.stream.buffer().is_empty()
     }
 }
 
-impl Read for Socket {
+impl<A: Allocator> Read for Socket<A> {
     fn read(&mut self, bytes: &mut [u8]) -> io::Result<usize> {
-        self.stream.read(bytes)
+        if !self.is_sent() {
+            self.stream.flush()?;
+        }
+        self.stream.get_mut().read(bytes)
     }
 }
 
-impl Write for Socket {
+impl<A: Allocator> Write for Socket<A> {
+    // What is kept is sent first, as far as the system takes it.
     fn write(&mut self, bytes: &[u8]) -> io::Result<usize> {
-        self.stream.write(bytes)
+        if self.is_sent() {
+            return self.stream.get_mut().write(bytes);
+        }
+        let written = self.stream.write(bytes)?;
+        match self.stream.flush() {
+            Err(error) if error.kind() != ErrorKind::WouldBlock => Err(error),
+            _ => Ok(written),
+        }
     }
 
     fn flush(&mut self) -> io::Result<()> {
@@ -53,20 +64,15 @@ impl Write for Socket {
     }
 }
 
-impl Stream for Socket {
+impl<A: Allocator> Stream for Socket<A> {
     fn receive(&mut self, bytes: &mut [u8]) -> io::Result<usize> {
         self.read(bytes)
     }
 
-    // The last bytes are written before those that were kept are sent, so that they go together.
     fn send(&mut self, bytes: &[u8], more: bool) -> io::Result<usize> {
         if more {
-            self.set_keeps(true);
+            return self.stream.write(bytes);
         }
-        let written = self.write(bytes);
-        if !more {
-            self.set_keeps(false);
-        }
-        written
+        self.write(bytes)
     }
 }

@@ -95,3 +95,21 @@ fn clients_come_one_after_another(rt: HostRuntime) {
     }
     assert_eq!(rt; loopback.accepted, 100);
 }
+
+// The replies to requests that came together come in one read.
+#[test]
+fn replies_leave_together(rt: HostRuntime) {
+    let mut loopback = Loopback::new(&rt, SMALL);
+    let mut client = loopback.connect(&rt);
+    let mut requests = bytes(&rt, VERSION.0);
+    let mut replies = bytes(&rt, VERSION.1);
+    for row in [ATTACH, WALK, OPEN] {
+        let more = requests.extend_from_slice(bytes(&rt, row.0).as_slice());
+        assert!(rt; more.is_ok());
+        let more = replies.extend_from_slice(bytes(&rt, row.1).as_slice());
+        assert!(rt; more.is_ok());
+    }
+    send(&rt, &mut client, requests.as_slice());
+    let got = loopback.first_read(&rt, &mut client);
+    assert!(rt; got.as_slice() == replies.as_slice());
+}
