@@ -1,30 +1,21 @@
 -- What comes of an input, by what its preparation came to.
-use Rattle.std.proofs.Common.{◌≡◌, ℕ, List, [], ◌++◌, Option, Some, None, Result, Ok, Err}
-use Rattle.std.proofs.Common.{refl, sym, ap, subst, ◌∙◌, append_assoc}
-use Rattle.std.specs.Prelude.{IfErr, IsErrAnd}
+use Rattle.std.proofs.Common.{◌≡◌, ℕ, List, [], ◌++◌, Option, Some, None, IfOk, Result, Ok, Err}
+use Rattle.std.proofs.Common.{refl, ap, subst, ◌∙◌, append_assoc}
 use Rattle.std.specs.Option.{option_map_or}
-use Rattle.std.proofs.lemmas.Result.{err_from_is_err_and}
 use Rattle.p9_base.specs.Results.{and_then}
-use Rattle.p9_base.specs.declared.node_ref.NodeRef.{NodeRef}
 use Rattle.p9_cert.specs.declared.gap.Gap.{Gap}
 use Rattle.p9_nsfile.specs.Space.{Report}
-use Rattle.p9_step.specs.Event.{Event}
-use Rattle.p9_commands.specs.Command.{CommandEnds, Printed, Writes, admitted, gap_against}
-use Rattle.p9_commands.specs.NameSpace.{NameSpace}
+use Rattle.p9_commands.specs.Command.{CommandEnds, Printed, Works, Writes, admitted, gap_against}
 use Rattle.p9_commands.specs.Prepared.{IsReported, Prepared, Rejected, prepared_of, rejected_text}
-use Rattle.p9_commands.specs.Refusal.{IsSilent, IsUnverified, ReportsStop, refusal_line}
+use Rattle.p9_commands.specs.Refusal.{IsUnverified, ReportsStop, refusal_line}
 use Rattle.p9_commands.specs.Report.{reports_text}
 use Rattle.p9_commands.specs.declared.command.Command.{Command}
+use Rattle.p9_commands.specs.declared.command.Command.TheVariants.{Play}
 use Rattle.p9_commands.specs.declared.prepared.Needs.{Needs}
 use Rattle.p9_commands.specs.declared.refusal.Refusal.{Refusal}
 use Rattle.p9_commands.specs.declared.refusal.Refusal.TheVariants.{Unverified}
 use Rattle.p9_base.specs.declared.stop.Stop.{Stop}
 use Rattle.p9_base.specs.declared.stop.Stop.TheVariants.{Refused, NoMemory}
-
--- a failed allocation
-pub failed : {V : Type 0} (P : Stop Refusal → Type 0) (r : Result V (Stop Refusal))
-    → IsErrAnd r (λ stop. stop ≡ NoMemory) → P NoMemory → IfErr r P
-failed P r is holds = let error = err_from_is_err_and r is in rw (error.1, error.2) holds
 
 -- A text that was printed after an empty one is appended to another.
 module _ (none printed before after : List ℕ) (empty : none ≡ [])
@@ -71,33 +62,37 @@ module _ (command : Command) (p : Printed) (prepared : Prepared) (between : List
       (λ g. Err (record { reports = prepared.space.reports; refusal = Unverified g }))
       gap (Ok prepared)
 
-  -- no gap is against it
-  pub work-ends : (status : ℕ) → gap_against command prepared ≡ None
-      → Writes command prepared status p.out_before p.out → p.err ≡ between
-      → CommandEnds command (admitted command prepared) status p
-  work-ends status none writes same =
-      subst (λ (gap : Option Gap). CommandEnds command (by_gap gap) status p) (sym none)
-      (same ∙ reported, writes)
+  -- its work ends it
+  worked : (gap : Option Gap) (status : ℕ)
+      → Works command prepared gap status (record p { err_before = between })
+      → CommandEnds command (by_gap gap) status p
+  worked None status works = (works.0 ∙ reported, works.1)
+  worked (Some gap) status works = (
+    works.0,
+    joined p.err_before between p.err prepared.space.reports reported (Unverified gap) works.1,
+    works.2,
+  )
 
-  -- a gap is against it
-  pub gap-ends : (stop : Stop Refusal) → IsUnverified (gap_against command prepared) stop
-      → IsSilent p.out_before p.out stop → ReportsStop stop between p.err
-      → CommandEnds command (admitted command prepared) 1 p
-  gap-ends NoMemory is same printed = absurd printed
-  gap-ends (Refused refusal) is same printed =
-      subst (λ (gap : Option Gap). CommandEnds command (by_gap gap) 1 p) (sym is.1) (
-        refl,
-        joined p.err_before between p.err prepared.space.reports reported (Unverified is.0)
-            (printed ∙ ap (λ r. between ++ refusal_line r) is.2),
-        same,
-      )
+  pub work-ends : {E : Type 0} (result : Result ℕ E)
+      → IfOk result (λ status. Works command prepared (gap_against command prepared) status
+      (record p { err_before = between }))
+      → IfOk result (λ status. CommandEnds command (admitted command prepared) status p)
+  work-ends (Ok status) works = worked (gap_against command prepared) status works
+  work-ends (Err error) works = tt
 
--- what holds of the parts of a prepared input holds of it
-pub of_parts : (P : Prepared → Type 0) (space : NameSpace) (rows : Option (List NodeRef))
-    (events given : List Event) (prepared : Prepared)
-    → record { space = space; rows = rows; events = events } ≡ prepared → given ≡ events
-    → P (record { space = space; rows = rows; events = given }) → P prepared
-of_parts P space rows events given prepared is same holds =
-    subst P is
-    (subst (λ (list : List Event). P (record { space = space; rows = rows; events = list })) same
-    holds)
+-- work that reports nothing
+pub silent-works : {E : Type 0} (command : Command) (seen prepared : Prepared) → seen ≡ prepared
+    → (p : Printed) (result : Result ℕ E) → p.err ≡ p.err_before
+    → IfOk result (λ status. Writes command seen status p.out_before p.out)
+    → IfOk result (λ status. Works command prepared None status p)
+silent-works command seen prepared is p (Ok status) same writes =
+    (same, subst (λ (q : Prepared). Writes command q status p.out_before p.out) is writes)
+silent-works command seen prepared is p (Err error) same writes = tt
+
+-- a script is not played with a certificate that has a gap
+pub unplayed : (prepared : Prepared) (gap : Option Gap) (p : Printed) (stop : Stop Refusal)
+    → IsUnverified gap stop → ReportsStop stop p.err_before p.err → p.out ≡ p.out_before
+    → Works Play prepared gap 1 p
+unplayed prepared gap p NoMemory is reported same = absurd reported
+unplayed prepared gap p (Refused refusal) is reported same =
+    rw is.1 (refl, reported ∙ ap (λ r. p.err_before ++ refusal_line r) is.2, same)

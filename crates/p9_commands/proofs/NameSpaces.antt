@@ -1,5 +1,5 @@
 -- The name space of an input.
-use Rattle.std.proofs.Common.{◌≡◌, ℕ, Bor, Err, None, Some, IfErr, IfOk, List, Ok, Option, Result, []}
+use Rattle.std.proofs.Common.{◌≡◌, ℕ, Bor, Err, None, Some, IfOk, List, Ok, Option, Result, []}
 use Rattle.std.proofs.Common.{refl}
 use Rattle.std.proofs.Common.{subst, sym}
 use Rattle.std.specs.Prelude.{unwrap_or, option_copied}

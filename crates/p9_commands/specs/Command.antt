@@ -9,6 +9,7 @@ use Rattle.p9_commands.specs.Listing.{table_text}
 use Rattle.p9_commands.specs.NameSpace.{exported}
 use Rattle.p9_commands.specs.Play.{PlaysAll}
 use Rattle.p9_commands.specs.Prepared.{Prepared, Rejected, gap_in, prepared_of, rejected_text}
+use Rattle.p9_commands.specs.Refusal.{refusal_line}
 use Rattle.p9_commands.specs.Report.{reports_text}
 use Rattle.p9_commands.specs.Word.{command_of}
 use Rattle.p9_commands.specs.declared.command.Command.{Command}
@@ -77,6 +78,13 @@ Writes Verify prepared status before after =
     IsPrinted (verified_status (gap_in prepared)) (verified_text (gap_in prepared)) before after status
 Writes Ns prepared status before after =
     IsPrinted 0 (table_text prepared.space.world prepared.space.table) before after status
+
+-- what a command makes of a prepared input: its work is printed, or the gap against it is reported
+abbrev pub Works : Command → Prepared → Option Gap → (status : ℕ) → Printed → Type 0
+Works command prepared None status p =
+    (p.err ≡ p.err_before) × Writes command prepared status p.out_before p.out
+Works command prepared (Some gap) status p =
+    (status ≡ 1) × (p.err ≡ p.err_before ++ refusal_line (Unverified gap)) × (p.out ≡ p.out_before)
 
 -- how a command ends: the exit status, and what it printed. What failed in the making of the name
 -- space is reported, and its work is printed; or its input is refused.

@@ -29,11 +29,6 @@ IsUnverified gap NoMemory = Unit {0}
 IsUnverified gap (Refused refusal) =
     (found : Gap) × (gap ≡ Some found) × (refusal ≡ Unverified found)
 
--- a refusal has printed nothing
-abbrev pub IsSilent : (before after : List ℕ) → Stop Refusal → Type 0
-IsSilent before after NoMemory = Unit {0}
-IsSilent before after (Refused refusal) = after ≡ before
-
 -- what is reported of a line of a section
 abbrev pub at_line : (section : List ℕ) (line : ℕ) (text : List ℕ) → List ℕ
 at_line section line text = section ++ codes ":" ++ decimal line ++ codes ": " ++ text

@@ -1,22 +1,16 @@
 //! The program's commands, and how each ends over an input.
 
-ghost use Rattle.std.specs.Prelude.{◌≡◌, IfErr, IfOk, None, OnErr, OnOk, map};
-ghost use Rattle.std.specs.Option.{option_map_or};
-ghost use Rattle.p9_commands.specs.Command.{CommandEnds, IsUnchanged, WordEnds, Writes};
+ghost use Rattle.std.specs.Prelude.{◌≡◌, IfOk, OnErr};
+ghost use Rattle.p9_commands.specs.Command.{CommandEnds, IsUnchanged, WordEnds, Works};
 ghost use Rattle.p9_commands.specs.Command.{asked, gap_against, needs_of, printed};
-ghost use Rattle.p9_commands.specs.NameSpace.{gap_over};
-ghost use Rattle.p9_commands.specs.Refusal.{IsSilent, IsUnverified};
-ghost use Rattle.p9_export.specs.Event.{event_view};
+ghost use Rattle.p9_commands.specs.Prepared.{gap_in};
 
 use crate::judgement::print_verified;
-use crate::name_space::NameSpace;
 use crate::play::play_events;
 use crate::prepared::{Needs, Prepared, prepare_and_report};
-use crate::refusal::{Stop, report};
+use crate::refusal::report;
 use crate::status::{BAD_COMMAND_LINE, DONE, REFUSED};
 use p9_base::NoMemory;
-use p9_cert::Certificate;
-use p9_export::Event;
 use p9_index::IndexTree;
 use p9_tree::Tree;
 use std::alloc::Allocator;
@@ -180,63 +174,57 @@ fn end<T: Tree>(
     ensures { IfOk result (λ status. CommandEnds command (asked command input.now) status
         (printed out.old out.new err.old err.new)) }
 {
-    let Some(prepared) = prepare_and_report::<T>(input, command.needs(), err)? else {
-        return Ok(REFUSED);
+    match prepare_and_report::<T>(input, command.needs(), err)? {
+        Some(prepared) => work(command, prepared, out, err),
+        None => Ok(REFUSED),
+    }
+}
+
+// The work of a command, unless a script is to be played with a certificate that has a gap, which is
+// reported.
+fn work<T: Tree>(
+    command: Command,
+    prepared: Prepared<T>,
+    out: &mut Vec<u8, T::Alloc>,
+    err: &mut Vec<u8, T::Alloc>,
+) -> Result<u8, NoMemory>
+    ensures { IfOk result (λ status. Works command prepared (gap_against command prepared) status
+        (printed out.old out.new err.old err.new)) }
+{
+    match command {
+        Command::Play => play(prepared, out, err),
+        Command::Check => prepared.space.check(out),
+        Command::Verify => print_verified(prepared.gap(), out),
+        Command::Ns => prepared.space.list(out),
+    }
+}
+
+// Plays the script, on a guard where there is a certificate. A gap of that is reported.
+fn play<T: Tree>(
+    prepared: Prepared<T>,
+    out: &mut Vec<u8, T::Alloc>,
+    err: &mut Vec<u8, T::Alloc>,
+) -> Result<u8, NoMemory>
+    ensures { IfOk result (λ status. Works Command.Play prepared (gap_in prepared) status
+        (printed out.old out.new err.old err.new)) }
+{
+    let Prepared {
+        space,
+        certificate,
+        events,
+    } = prepared;
+    let Some(certificate) = certificate else {
+        play_events(&mut space.export(), events.as_slice(), out)?;
+        return Ok(DONE);
     };
-    match work(command, prepared, out) {
-        Ok(status) => Ok(status),
+    match space.guard(certificate) {
+        Ok(mut guard) => {
+            play_events(&mut guard, events.as_slice(), out)?;
+            Ok(DONE)
+        }
         Err(stop) => {
             report(stop, err)?;
             Ok(REFUSED)
         }
     }
-}
-
-// The work of a command, unless a script is to be played with a certificate that has a gap.
-fn work<T: Tree>(
-    command: Command,
-    prepared: Prepared<T>,
-    out: &mut Vec<u8, T::Alloc>,
-) -> Result<u8, Stop>
-    ensures ok { IfOk result (λ status.
-        Writes command prepared status out.old.items out.new.items) }
-    ensures admitted { OnOk result (gap_against command prepared ≡ None) }
-    ensures stop { IfErr result (IsUnverified (gap_against command prepared)) }
-    ensures silent { IfErr result (IsSilent out.old.items out.new.items) }
-{
-    match command {
-        Command::Play => {
-            let Prepared {
-                space,
-                certificate,
-                events,
-            } = prepared;
-            play(space, certificate, events.as_slice(), out)
-        }
-        Command::Check => Ok(prepared.space.check(out)?),
-        Command::Verify => Ok(print_verified(prepared.gap(), out)?),
-        Command::Ns => Ok(prepared.space.list(out)?),
-    }
-}
-
-// Plays events over a name space, on a guard where there is a certificate.
-fn play<T: Tree>(
-    space: NameSpace<T>,
-    certificate: Option<Certificate<T::Alloc>>,
-    events: &[Event<T::Alloc>],
-    out: &mut Vec<u8, T::Alloc>,
-) -> Result<u8, Stop>
-    ensures ok { IfOk result (λ status. Writes Command.Play
-        (record { space = space; rows = certificate; events = map event_view events.now }) status
-        out.old.items out.new.items) }
-    ensures admitted { OnOk result (option_map_or (gap_over space) certificate None ≡ None) }
-    ensures stop { IfErr result
-        (IsUnverified (option_map_or (gap_over space) certificate None)) }
-    ensures silent { IfErr result (IsSilent out.old.items out.new.items) }
-{
-    match certificate {
-        Some(certificate) => play_events(&mut space.guard(certificate)?, events, out)?,
-        None => play_events(&mut space.export(), events, out)?,
-    }
-    Ok(DONE)
 }
