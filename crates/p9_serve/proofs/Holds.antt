@@ -1,5 +1,5 @@
 -- What a stream holds whose content is known.
-use Rattle.std.proofs.Common.{◌≡◌, ℕ, ◌==◌, ◌⊎◌, inl, inr, Bool, true, false, List, [], ◌∷◌, ◌++◌}
+use Rattle.std.proofs.Common.{◌≡◌, ℕ, ◌==◌, inl, inr, Bool, true, false, List, [], ◌∷◌, ◌++◌}
 use Rattle.std.proofs.Common.{Option, Some, None, refl, sym, ap, subst, ◌∙◌, append-nil, append_assoc}
 use Rattle.std.proofs.Common.{drop}
 use Rattle.std.proofs.lemmas.Bool.{eqb-true}
@@ -13,8 +13,8 @@ use Rattle.p9_conn.specs.Turn.{Answering, Deeds, Ending, Over, Phase, Receiving,
 use Rattle.p9_conn.specs.Turn.{phase_of}
 use Rattle.p9_conn.proofs.Facts.{common}
 use Rattle.p9_conn.proofs.Orders.{goes-out}
-use Rattle.p9_serve.specs.Laws.{HoldsReplies, StreamsHoldTheReplies}
-use Rattle.p9_serve.specs.Life.{Acts, Arrives, HasActed, Leaves, Moment, Pass, answered_at, stay}
+use Rattle.p9_serve.specs.Laws.{StreamsHoldTheReplies}
+use Rattle.p9_serve.specs.Life.{Acts, Arrives, Leaves, Moment, Pass, answered_at, stay}
 use Rattle.p9_serve.specs.Life.{written_at}
 use Rattle.p9_serve.specs.Serving.{Serving, slot_at}
 use Rattle.p9_serve.proofs.Keyed.{within}

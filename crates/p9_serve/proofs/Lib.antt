@@ -3,3 +3,4 @@ mod Keyed
 mod Lives
 mod Sends
 mod Holds
+mod Accepting

@@ -1,5 +1,5 @@
 -- What each client is sent is its own replies, also where its key was used before.
-use Rattle.std.proofs.Common.{◌≡◌, ◌≢◌, ℕ, ◌==◌, Bool, true, false, List, [], ◌∷◌, ◌++◌, Option}
+use Rattle.std.proofs.Common.{◌≡◌, ℕ, ◌==◌, Bool, true, false, List, [], ◌∷◌, ◌++◌, Option}
 use Rattle.std.proofs.Common.{Some, None, refl, sym, ap, subst, ◌∙◌, append-nil}
 use Rattle.std.proofs.lemmas.Bool.{eqb-false, eqb-true}
 use Rattle.std.proofs.lemmas.List.{get_or-set_other, get_or-set_same}
@@ -11,7 +11,7 @@ use Rattle.p9_conn.specs.Turn.{Answered, Deeds}
 use Rattle.p9_conn.proofs.Facts.{common}
 use Rattle.p9_conn.proofs.Orders.{goes-out}
 use Rattle.p9_serve.specs.Laws.{ClientsAreSentTheirReplies, IsSent}
-use Rattle.p9_serve.specs.Life.{Acts, ArrivesAt, Arrives, HasActed, Leaves, LeavesAt, Moment, Pass}
+use Rattle.p9_serve.specs.Life.{Acts, ArrivesAt, Arrives, Leaves, Moment, Pass}
 use Rattle.p9_serve.specs.Life.{answered_at, stay, written_at}
 use Rattle.p9_serve.specs.Serving.{Serving, slot_at}
 use Rattle.p9_serve.proofs.Keyed.{within}

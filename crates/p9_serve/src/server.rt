@@ -12,7 +12,6 @@ use crate::socket::Socket;
 use mio::net::TcpListener;
 use p9_guard::Guard;
 use p9_tree::Tree;
-use std::alloc::Allocator;
 use std::io;
 use std::marker::Model;
 use std::net::SocketAddr;
@@ -130,15 +129,16 @@ impl<T: Tree> Server<T> {
         if !self.pace.is_due() {
             return 0;
         }
-        match waiting(self.clients.allocator(), &self.listener) {
+        match self.waiting() {
             Some(stream) => u64::from(self.clients.take_in(stream)),
             None => 0,
         }
     }
-}
 
-// The socket of a client that waits, if there is one, and neither the accept nor an allocation fails.
-fn waiting<A: Allocator>(alloc: A, listener: &TcpListener) -> Option<Socket<A>> {
-    let (stream, _) = listener.accept().ok()?;
-    Socket::new(alloc, stream).ok()
+    // The socket of a client that waits, if there is one, and neither the accept nor an allocation
+    // fails.
+    fn waiting(&self) -> Option<Socket<T::Alloc>> {
+        let (stream, _) = self.listener.accept().ok()?;
+        Socket::new(self.clients.allocator(), stream).ok()
+    }
 }

@@ -1,8 +1,8 @@
-use Rattle.std.proofs.Common.{[], OnErr, inl, inr, refl, rules, subst}
+use Rattle.std.proofs.Common.{[], inl, inr, refl, rules, subst}
 use Rattle.std.proofs.KnownBytes.{Appends-nil}
 use Rattle.std.specs.Prelude.{List, ℕ}
 use Rattle.p9_commands.specs.Offer.{Serves, offer_of}
-use Rattle.p9_serve.specs.Run.{AppendsFront, BreaksOff, Written}
+use Rattle.p9_serve.specs.Run.{BreaksOff, Written}
 use Rattle.p9_serve.proofs.run.served.Goals as goal
 
 pub returns-in-Err-clause-err : goal.returns-in-Err-clause-err
