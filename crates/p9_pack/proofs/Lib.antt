@@ -1,0 +1,7 @@
+pub mod Words
+pub mod Paths
+pub mod Modes
+pub mod Digits
+pub mod Puts
+pub mod Meanings
+pub mod Written

@@ -1,0 +1,23 @@
+//! What the text of a world is written from, and read back.
+//!
+//! A [`WorldLine`] is a line by its fields, whose types leave out what a world's text can't have.
+//! [`write_line`] writes it. The law in [`laws`] says that `p9_world::read_world` reads what is
+//! written as the world that the lines ask for.
+#![tactic(auto)]
+
+pub mod laws;
+mod line;
+mod name;
+mod put;
+mod server_name;
+mod unfit;
+mod user;
+mod word;
+mod write;
+
+pub use line::{DirLine, FileLine, GroupLine, HideLine, WorldLine};
+pub use name::PlainName;
+pub use server_name::ServerName;
+pub use unfit::{Unfit, fit_size};
+pub use user::PlainUser;
+pub use write::write_line;
