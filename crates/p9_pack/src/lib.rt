@@ -5,9 +5,12 @@
 //! written as the world that the lines ask for.
 #![tactic(auto)]
 
+mod account;
+mod accounts;
 pub mod laws;
 mod line;
 mod name;
+mod once;
 mod put;
 mod server_name;
 mod unfit;
@@ -15,6 +18,7 @@ mod user;
 mod word;
 mod write;
 
+pub use accounts::Accounts;
 pub use line::{DirLine, FileLine, GroupLine, HideLine, WorldLine};
 pub use name::PlainName;
 pub use server_name::ServerName;
