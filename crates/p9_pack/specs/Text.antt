@@ -57,11 +57,17 @@ group_words group = codes "group" ∷ group.name ∷ group.leader ∷ group.memb
 abbrev pub hide_words : HideLine → List (List ℕ)
 hide_words hide = codes "hide" ∷ hide.server ∷ path_of true hide.path.now ∷ []
 
+abbrev pub server_words : List ℕ → List (List ℕ)
+server_words name = codes "server" ∷ name ∷ []
+
+abbrev pub user_words : List ℕ → List (List ℕ)
+user_words name = codes "user" ∷ name ∷ []
+
 abbrev pub line_words : WorldLine → List (List ℕ)
-line_words (Server name) = codes "server" ∷ name ∷ []
+line_words (Server name) = server_words name
 line_words (Dir dir) = dir_words dir
 line_words (File file) = file_words file
-line_words (User name) = codes "user" ∷ name ∷ []
+line_words (User name) = user_words name
 line_words (Group group) = group_words group
 line_words (Hide hide) = hide_words hide
 

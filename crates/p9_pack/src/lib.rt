@@ -24,4 +24,6 @@ pub use name::PlainName;
 pub use server_name::ServerName;
 pub use unfit::{Unfit, fit_size};
 pub use user::PlainUser;
-pub use write::write_line;
+pub use write::{
+    write_dir, write_file, write_group, write_hide, write_line, write_server, write_user,
+};

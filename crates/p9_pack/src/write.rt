@@ -1,11 +1,13 @@
 //! The text of a line.
 
-ghost use Rattle.std.specs.Prelude.{◌≡◌, ◌++◌, ◌∷◌, [], IfOk, OnErr, OnOk};
-ghost use Rattle.p9_pack.specs.Text.{dir_words, file_words, group_words, hide_words, joined};
-ghost use Rattle.p9_pack.specs.Text.{line_text, line_words};
+ghost use Rattle.std.specs.Prelude.{◌≡◌, ◌++◌, ◌∷◌, [], OnErr, OnOk};
+ghost use Rattle.p9_pack.specs.Text.{dir_words, file_words, group_words, hide_words};
+ghost use Rattle.p9_pack.specs.Text.{line_text, server_words, user_words, words_text};
 
 use crate::line::{DirLine, FileLine, GroupLine, HideLine, WorldLine};
 use crate::put::{put_bytes, put_file_mode, put_path, put_permissions, put_users, put_word};
+use crate::server_name::ServerName;
+use crate::user::PlainUser;
 use p9_base::NoMemory;
 use std::alloc::Allocator;
 
@@ -19,87 +21,122 @@ pub fn write_line<A: Allocator + Copy>(
     ensures ok { OnOk result (out.new.items ≡ out.old.items ++ line_text line.now) }
     ensures err { OnErr result (out.new.items ≡ out.old.items) }
 {
-    let text = text_of(alloc, line)?;
-    out.extend_from_slice(text.as_slice())?;
-    Ok(())
-}
-
-// The text of a line, with its newline.
-fn text_of<A: Allocator + Copy>(alloc: A, line: &WorldLine<'_>) -> Result<Vec<u8, A>, NoMemory>
-    ensures { IfOk result (λ text. text.items ≡ line_text line.now) }
-{
-    let mut text = Vec::new(alloc);
-    put_line(alloc, line, &mut text)?;
-    text.push(b'\n')?;
-    Ok(text)
-}
-
-// Adds the words of a line, a blank between each two.
-fn put_line<A: Allocator + Copy>(
-    alloc: A,
-    line: &WorldLine<'_>,
-    text: &mut Vec<u8, A>,
-) -> Result<(), NoMemory>
-    ensures { OnOk result (text.new.items ≡ text.old.items ++ joined (line_words line.now)) }
-{
     match line {
-        WorldLine::Server(name) => {
-            text.extend_from_slice(b"server")?;
-            put_word(name.as_str(), text)
-        }
-        WorldLine::Dir(dir) => put_dir(dir, text),
-        WorldLine::File(file) => put_file(alloc, file, text),
-        WorldLine::User(name) => {
-            text.extend_from_slice(b"user")?;
-            put_word(name.as_str(), text)
-        }
-        WorldLine::Group(group) => put_group(group, text),
-        WorldLine::Hide(hide) => put_hide(hide, text),
+        WorldLine::Server(name) => write_server(alloc, *name, out),
+        WorldLine::Dir(dir) => write_dir(alloc, dir, out),
+        WorldLine::File(file) => write_file(alloc, file, out),
+        WorldLine::User(name) => write_user(alloc, *name, out),
+        WorldLine::Group(group) => write_group(alloc, group, out),
+        WorldLine::Hide(hide) => write_hide(alloc, hide, out),
     }
 }
 
-// Adds the words of a directory's line.
-fn put_dir<A: Allocator>(dir: &DirLine<'_>, text: &mut Vec<u8, A>) -> Result<(), NoMemory>
-    ensures { OnOk result (text.new.items ≡ text.old.items ++ joined (dir_words dir.now)) }
+/// Adds the line of a server, as [`write_line`] does.
+pub fn write_server<A: Allocator + Copy>(
+    alloc: A,
+    name: ServerName,
+    out: &mut Vec<u8, A>,
+) -> Result<(), NoMemory>
+    ensures ok { OnOk result (out.new.items ≡ out.old.items ++ words_text (server_words name)) }
+    ensures err { OnErr result (out.new.items ≡ out.old.items) }
 {
-    text.extend_from_slice(b"dir")?;
-    put_path(dir.path, text)?;
-    put_permissions(dir.permissions, text)?;
-    put_word(dir.uid.as_str(), text)?;
-    put_word(dir.gid.as_str(), text)
+    let mut text = Vec::new(alloc);
+    text.extend_from_slice(b"server")?;
+    put_word(name.as_str(), &mut text)?;
+    append(text, out)
 }
 
-// Adds the words of a file's line.
-fn put_file<A: Allocator + Copy>(
+/// Adds the line of a directory, as [`write_line`] does.
+pub fn write_dir<A: Allocator + Copy>(
+    alloc: A,
+    dir: &DirLine<'_>,
+    out: &mut Vec<u8, A>,
+) -> Result<(), NoMemory>
+    ensures ok { OnOk result (out.new.items ≡ out.old.items ++ words_text (dir_words dir.now)) }
+    ensures err { OnErr result (out.new.items ≡ out.old.items) }
+{
+    let mut text = Vec::new(alloc);
+    text.extend_from_slice(b"dir")?;
+    put_path(dir.path, &mut text)?;
+    put_permissions(dir.permissions, &mut text)?;
+    put_word(dir.uid.as_str(), &mut text)?;
+    put_word(dir.gid.as_str(), &mut text)?;
+    append(text, out)
+}
+
+/// Adds the line of a file, as [`write_line`] does.
+pub fn write_file<A: Allocator + Copy>(
     alloc: A,
     file: &FileLine<'_>,
-    text: &mut Vec<u8, A>,
+    out: &mut Vec<u8, A>,
 ) -> Result<(), NoMemory>
-    ensures { OnOk result (text.new.items ≡ text.old.items ++ joined (file_words file.now)) }
+    ensures ok { OnOk result (out.new.items ≡ out.old.items ++ words_text (file_words file.now)) }
+    ensures err { OnErr result (out.new.items ≡ out.old.items) }
 {
+    let mut text = Vec::new(alloc);
     text.extend_from_slice(b"file")?;
-    put_path(file.path, text)?;
-    put_file_mode(file.flags, file.permissions, text)?;
-    put_word(file.uid.as_str(), text)?;
-    put_word(file.gid.as_str(), text)?;
-    put_bytes(alloc, file.bytes, text)
+    put_path(file.path, &mut text)?;
+    put_file_mode(file.flags, file.permissions, &mut text)?;
+    put_word(file.uid.as_str(), &mut text)?;
+    put_word(file.gid.as_str(), &mut text)?;
+    put_bytes(alloc, file.bytes, &mut text)?;
+    append(text, out)
 }
 
-// Adds the words of a group's line.
-fn put_group<A: Allocator>(group: &GroupLine<'_>, text: &mut Vec<u8, A>) -> Result<(), NoMemory>
-    ensures { OnOk result (text.new.items ≡ text.old.items ++ joined (group_words group.now)) }
+/// Adds the line of a listed user, as [`write_line`] does.
+pub fn write_user<A: Allocator + Copy>(
+    alloc: A,
+    name: PlainUser,
+    out: &mut Vec<u8, A>,
+) -> Result<(), NoMemory>
+    ensures ok { OnOk result (out.new.items ≡ out.old.items ++ words_text (user_words name)) }
+    ensures err { OnErr result (out.new.items ≡ out.old.items) }
 {
+    let mut text = Vec::new(alloc);
+    text.extend_from_slice(b"user")?;
+    put_word(name.as_str(), &mut text)?;
+    append(text, out)
+}
+
+/// Adds the line of a group, as [`write_line`] does.
+pub fn write_group<A: Allocator + Copy>(
+    alloc: A,
+    group: &GroupLine<'_>,
+    out: &mut Vec<u8, A>,
+) -> Result<(), NoMemory>
+    ensures ok { OnOk result (out.new.items ≡ out.old.items ++ words_text (group_words group.now)) }
+    ensures err { OnErr result (out.new.items ≡ out.old.items) }
+{
+    let mut text = Vec::new(alloc);
     text.extend_from_slice(b"group")?;
-    put_word(group.name.as_str(), text)?;
-    put_word(group.leader.as_str(), text)?;
-    put_users(group.members, text)
+    put_word(group.name.as_str(), &mut text)?;
+    put_word(group.leader.as_str(), &mut text)?;
+    put_users(group.members, &mut text)?;
+    append(text, out)
 }
 
-// Adds the words of the line that hides a directory.
-fn put_hide<A: Allocator>(hide: &HideLine<'_>, text: &mut Vec<u8, A>) -> Result<(), NoMemory>
-    ensures { OnOk result (text.new.items ≡ text.old.items ++ joined (hide_words hide.now)) }
+/// Adds the line that hides a directory, as [`write_line`] does.
+pub fn write_hide<A: Allocator + Copy>(
+    alloc: A,
+    hide: &HideLine<'_>,
+    out: &mut Vec<u8, A>,
+) -> Result<(), NoMemory>
+    ensures ok { OnOk result (out.new.items ≡ out.old.items ++ words_text (hide_words hide.now)) }
+    ensures err { OnErr result (out.new.items ≡ out.old.items) }
 {
+    let mut text = Vec::new(alloc);
     text.extend_from_slice(b"hide")?;
-    put_word(hide.server.as_str(), text)?;
-    put_path(hide.path, text)
+    put_word(hide.server.as_str(), &mut text)?;
+    put_path(hide.path, &mut text)?;
+    append(text, out)
+}
+
+// Adds the words of a line, and a newline.
+fn append<A: Allocator>(mut words: Vec<u8, A>, out: &mut Vec<u8, A>) -> Result<(), NoMemory>
+    ensures ok { OnOk result (out.new.items ≡ out.old.items ++ (words.items ++ 10 ∷ [])) }
+    ensures err { OnErr result (out.new.items ≡ out.old.items) }
+{
+    words.push(b'\n')?;
+    out.extend_from_slice(words.as_slice())?;
+    Ok(())
 }
