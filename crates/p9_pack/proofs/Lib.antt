@@ -1,3 +1,4 @@
+pub mod Fits
 pub mod Words
 pub mod Paths
 pub mod Modes

@@ -11,7 +11,7 @@ use std::marker::Model;
 
 /// The name of a file or directory that is one word in a line: a [`Name`] without blanks, tabs and
 /// newlines.
-#[derive(Clone, Copy)]
+#[derive(Clone, Copy, PartialEq, Eq)]
 pub struct PlainName {
     name: Name,
 }

@@ -13,7 +13,7 @@ use std::marker::Model;
 
 /// The name of a server that is one word in a line: 1 to 63 bytes of UTF-8 without `/`, `#`, `$`,
 /// NUL, blanks, tabs and newlines.
-#[derive(Clone, Copy)]
+#[derive(Clone, Copy, PartialEq, Eq)]
 pub struct ServerName {
     // A user's name has the same length, and no NUL.
     text: User,

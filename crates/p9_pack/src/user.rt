@@ -1,6 +1,6 @@
 //! Names of users and groups.
 
-ghost use Rattle.std.specs.Prelude.{◌≡◌, IsTrue, MatchResult, None, Some};
+ghost use Rattle.std.specs.Prelude.{◌≡◌, IsTrue, MatchResult, None, Some, codes};
 ghost use Rattle.p9_pack.specs.Unfit.{unfit_user};
 ghost use Rattle.p9_pack.specs.Word.{is_plain_user};
 
@@ -11,7 +11,7 @@ use std::marker::Model;
 
 /// The name of a user or a group that is one word in a line: a [`User`] without blanks, tabs and
 /// newlines.
-#[derive(Clone, Copy)]
+#[derive(Clone, Copy, PartialEq, Eq)]
 pub struct PlainUser {
     user: User,
 }
@@ -46,6 +46,13 @@ impl PlainUser {
             return Err(Unfit::BlankInUser);
         }
         Ok(PlainUser { user })
+    }
+
+    /// The user `sys`.
+    pub fn sys() -> PlainUser
+        ensures { result ≡ codes "sys" }
+    {
+        PlainUser::new("sys").unwrap()
     }
 
     /// Its text.
