@@ -1,0 +1,4 @@
+pub mod Owner
+pub mod Server
+pub mod Settings
+pub mod Status

@@ -1,0 +1,80 @@
+//! The program `p9_admin`: from a directory of the disk to a world.
+#![tactic(auto)]
+
+mod disk;
+mod hide;
+mod node;
+mod output;
+mod owner;
+mod pack;
+mod reason;
+mod settings;
+mod status;
+mod tree;
+mod words;
+
+use crate::pack::run_pack;
+use crate::status::{BAD_COMMAND_LINE, DONE, INPUT_OR_OUTPUT_FAILED, OUT_OF_MEMORY};
+use crate::words::program;
+use std::alloc::AllocError;
+use std::io::ErrorKind;
+use std::process::ExitCode;
+use std::{env, io};
+
+fn main(rt: HostRuntime) -> ExitCode {
+    ExitCode::from(status_of(&rt))
+}
+
+// Runs the program, and reports on standard error what kept it from its work.
+fn status_of(rt: &HostRuntime) -> u8 {
+    match run(rt) {
+        Ok(status) => status,
+        Err(error) if error.kind() == ErrorKind::OutOfMemory => {
+            let _ = eprintln!(rt; "out of memory");
+            OUT_OF_MEMORY
+        }
+        Err(_) => {
+            let _ = eprintln!(rt; "input or output failed");
+            INPUT_OR_OUTPUT_FAILED
+        }
+    }
+}
+
+// Runs the command that the words ask for, and returns the exit status.
+fn run(rt: &HostRuntime) -> io::Result<u8> {
+    let words = match env::args(rt) {
+        Ok(words) => words,
+        Err(error) if error.kind() == ErrorKind::OutOfMemory => return Err(error),
+        Err(_) => return bad_words(rt),
+    };
+    let words: Vec<String> = words.collect(rt.alloc())?;
+    run_words(rt, words.as_slice())
+}
+
+// Runs the command that these words ask for.
+fn run_words(rt: &HostRuntime, words: &[String]) -> io::Result<u8> {
+    let matches = match program(rt.alloc())?.try_get_matches_from(words) {
+        Ok(matches) => matches,
+        Err(error) if error.kind() == clap::error::ErrorKind::OutOfMemory => {
+            return Err(io::Error::from(AllocError));
+        }
+        Err(error) => {
+            error.print(rt)?;
+            return Ok(if error.use_stderr() {
+                BAD_COMMAND_LINE
+            } else {
+                DONE
+            });
+        }
+    };
+    match matches.subcommand() {
+        Some(("pack", options)) => run_pack(rt, options),
+        _ => bad_words(rt),
+    }
+}
+
+// Reports words that are no text.
+fn bad_words(rt: &HostRuntime) -> io::Result<u8> {
+    eprintln!(rt; "p9_admin: bad command line")?;
+    Ok(BAD_COMMAND_LINE)
+}
