@@ -1,0 +1,126 @@
+-- The sealing of an input, from what its steps say.
+use Rattle.std.proofs.Common.{◌≡◌, ℕ, Bool, true, false, List, [], None, Ok, Err}
+use Rattle.std.proofs.Common.{refl, sym, ap, ◌∙◌, subst, arith}
+use Rattle.std.specs.Str.{is_utf8}
+use Rattle.p9_base.specs.declared.node_ref.NodeRef.{NodeRef}
+use Rattle.p9_base.specs.declared.stop.Stop.{Stop}
+use Rattle.p9_base.specs.declared.stop.Stop.TheVariants.{Refused, NoMemory}
+use Rattle.p9_base.specs.Results.{need}
+use Rattle.p9_cert.specs.Rows.{IsCertificate}
+use Rattle.p9_cert.specs.Text.{certificate_text}
+use Rattle.p9_cert.proofs.Written.{written_reads_back}
+use Rattle.p9_commands.specs.Bundle.{Texts, bundle_of}
+use Rattle.p9_commands.specs.NameSpace.{NameSpace, space_in}
+use Rattle.p9_nsfile.specs.Space.{Report}
+use Rattle.p9_commands.specs.Prepared.{IsPrepareErrorBy, Prepared, Rejected, prepared_of, script_in}
+use Rattle.p9_commands.specs.Refusal.{IsStop, or_refused}
+use Rattle.p9_commands.specs.declared.prepared.Needs.{Needs}
+use Rattle.p9_commands.specs.declared.prepared.Needs.TheVariants.{Nothing}
+use Rattle.p9_commands.specs.declared.refusal.Refusal.{Refusal}
+use Rattle.p9_commands.specs.declared.refusal.Refusal.TheVariants.{BadSection, NotUtf8}
+use Rattle.p9_seal.specs.Error.{vacuity_against}
+use Rattle.p9_seal.specs.Sealing.{IsBundle, IsSealed, IsYes, space_of}
+use Rattle.p9_seal.specs.Sections.{HasCertificate}
+use Rattle.p9_seal.specs.Text.{sealed_text}
+use Rattle.p9_seal.proofs.Certificates.{cert_lines, cert_lines-begin, cert_lines-clean}
+use Rattle.p9_seal.proofs.Certificates.{cert_lines-written}
+use Rattle.p9_seal.proofs.Prepares.{alone-ok, joined, joined-err, joined-ok, prepared_of-parts}
+use Rattle.p9_seal.proofs.Prepares.{space_of-parts}
+use Rattle.p9_seal.proofs.Resealed.{resealed}
+
+-- an input with the text of a certificate is a bundle, and is prepared with that certificate
+module _ (input : List ℕ) (rows : List NodeRef) (sound : IsCertificate rows) (texts : Texts)
+    (bundle : bundle_of input ≡ Ok texts) where
+  pub sealed-bundle :
+      (sealed : Texts) × (bundle_of (sealed_text input (certificate_text rows)) ≡ Ok sealed)
+      × HasCertificate (certificate_text rows) texts sealed
+  sealed-bundle =
+      resealed input (cert_lines rows) (certificate_text rows) (cert_lines-written rows)
+      (cert_lines-clean rows sound) (cert_lines-begin rows) texts bundle
+
+  pub sealed-prepared : (needs : Needs)
+      → is_utf8 (sealed_text input (certificate_text rows)) ≡ true →
+      prepared_of needs (sealed_text input (certificate_text rows))
+      ≡ joined (space_in texts.world texts.ns) (script_in texts) rows
+  sealed-prepared needs utf8 =
+      let there = sealed-bundle in
+      prepared_of-parts needs (sealed_text input (certificate_text rows)) (certificate_text rows) texts
+      there.0 rows utf8 there.1 there.2 (written_reads_back rows sound)
+
+-- no rows are a certificate
+empty-certificate : IsCertificate []
+empty-certificate = record {
+  rising = λ i j d lt within. absurd (omega arith);
+  sound = λ k d within. absurd (omega arith);
+}
+
+-- The name space, by an input with a certificate of no rows.
+module _ (input draft : List ℕ) (texts : Texts) (utf8 : is_utf8 input ≡ true)
+    (utf8_draft : is_utf8 draft ≡ true) (bundle : bundle_of input ≡ Ok texts)
+    (written : draft ≡ sealed_text input (certificate_text [])) where
+  drafted : prepared_of Nothing draft ≡ joined (space_in texts.world texts.ns) (script_in texts) []
+  drafted =
+      ap (prepared_of Nothing) written
+      ∙ sealed-prepared input [] empty-certificate texts bundle Nothing
+      (subst (λ t. is_utf8 t ≡ true) written utf8_draft)
+
+  pub read-ok : (prepared : Prepared) → prepared_of Nothing draft ≡ Ok prepared
+      → space_of input ≡ Ok prepared.space
+  read-ok prepared found =
+      space_of-parts input texts utf8 bundle
+      ∙ joined-ok (space_in texts.world texts.ns) (script_in texts) [] prepared (sym drafted ∙ found)
+
+  pub read-err : (rejected : Rejected) → prepared_of Nothing draft ≡ Err rejected
+      → space_of input ≡ Err rejected.refusal
+  read-err rejected found =
+      space_of-parts input texts utf8 bundle
+      ∙ joined-err (space_in texts.world texts.ns) (script_in texts) [] rejected (sym drafted ∙ found)
+
+  pub read-stop : (reports : List Report) (stop : Stop Refusal)
+      → IsPrepareErrorBy (prepared_of Nothing draft) reports stop → IsStop (space_of input) stop
+  read-stop reports NoMemory stopped = tt
+  read-stop reports (Refused refusal) stopped =
+      read-err (record { reports = reports; refusal = refusal }) stopped
+
+-- a text that is no bundle
+pub bad-bundle : (input : List ℕ) → is_utf8 input ≡ true → (stop : Stop Refusal)
+    → IsStop (or_refused BadSection (bundle_of input)) stop → IsStop (space_of input) stop
+unfolding need
+bad-bundle input utf8 NoMemory stopped = tt
+bad-bundle input utf8 (Refused refusal) stopped = rw (utf8, stopped) refl
+
+-- and no text at all
+pub no-text : (input : List ℕ) → is_utf8 input ≡ false → space_of input ≡ Err NotUtf8
+unfolding need
+no-text input utf8 = rw utf8 refl
+
+-- The output, from the name space, the certificate and what is written.
+pub sealed-ok : (input output : List ℕ) (anyway : Bool) (space : NameSpace) (rows : List NodeRef)
+    → is_utf8 input ≡ true → is_utf8 output ≡ true → IsBundle input → space_of input ≡ Ok space
+    → IsYes space rows → vacuity_against anyway space ≡ None → IsCertificate rows
+    → output ≡ sealed_text input (certificate_text rows) → IsSealed input anyway output
+sealed-ok input output anyway space rows utf8 utf8_output bundle read is_yes telling sound written =
+    let there = sealed-bundle input rows sound bundle.0 bundle.1 in
+    let found = alone-ok (space_in bundle.0.world bundle.0.ns) (script_in bundle.0) rows space
+    (sym (space_of-parts input bundle.0 utf8 bundle.1) ∙ read) in
+    record {
+      space = space;
+      rows = rows;
+      events = found.0;
+      read = read;
+      yes = is_yes;
+      telling = telling;
+      written = written;
+      sections = record {
+        texts = bundle.0;
+        sealed = there.0;
+        before = bundle.1;
+        after = ap bundle_of written ∙ there.1;
+        same = there.2;
+      };
+      prepared = λ needs.
+          ap (prepared_of needs) written
+          ∙ sealed-prepared input rows sound bundle.0 bundle.1 needs
+          (subst (λ t. is_utf8 t ≡ true) written utf8_output)
+          ∙ found.1;
+    }

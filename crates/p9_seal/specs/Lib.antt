@@ -1,0 +1,4 @@
+pub mod Text
+pub mod Sections
+pub mod Error
+pub mod Sealing

@@ -1,0 +1,93 @@
+-- The sealing of an input.
+use Rattle.std.specs.Prelude.{◌≡◌, ℕ, Bool, List, Some, None, Result, Ok, Err}
+use Rattle.std.specs.List.{AllByRecursion}
+use Rattle.p9_base.specs.declared.node_ref.NodeRef.{NodeRef}
+use Rattle.p9_base.specs.Results.{and_then}
+use Rattle.p9_cert.specs.Policy.{policy_of}
+use Rattle.p9_cert.specs.Text.{certificate_text}
+use Rattle.p9_judge.specs.Breach.{IsBreach, IsByFirst}
+use Rattle.p9_judge.specs.Verdict.{IsLeast}
+use Rattle.p9_judge.specs.declared.breach.Breach.{Breach}
+use Rattle.p9_step.specs.Event.{Event}
+use Rattle.p9_commands.specs.Bundle.{Texts, bundle_of}
+use Rattle.p9_commands.specs.NameSpace.{NameSpace, gap_over}
+use Rattle.p9_commands.specs.Prepared.{opened, prepared_of, script_in}
+use Rattle.p9_commands.specs.declared.prepared.Needs.{Needs}
+use Rattle.p9_commands.specs.declared.refusal.Refusal.{Refusal}
+use Rattle.p9_seal.specs.Error.{vacuity_against}
+use Rattle.p9_seal.specs.Sections.{HasCertificate}
+use Rattle.p9_seal.specs.Text.{sealed_text}
+use Rattle.p9_seal.specs.declared.error.Vacuity.{Vacuity}
+use Rattle.p9_seal.specs.declared.error.SealError.{SealError}
+use Rattle.p9_seal.specs.declared.error.SealError.TheVariants.{Refused, No, Vacuous, NoMemory}
+
+-- the name space of an input, or its first fault; its certificate is not read
+abbrev pub space_of : List ℕ → Result NameSpace Refusal
+space_of input =
+    and_then (opened input) (λ found. and_then (script_in found.0) (λ events. Ok found.1))
+
+-- What is said of a name space.
+
+-- the rows are a certificate without a gap, and the least one
+pub record IsYes (space : NameSpace) (rows : List NodeRef) : Type 0 where
+  pub closed : gap_over space rows ≡ None
+  pub least : IsLeast (policy_of space.world) space.world.forest space.table rows
+
+-- what is hidden is within reach, and each step's user is the first listed one who may pass
+pub record IsNo {A : Type 0} (space : NameSpace) (breach : Breach A) : Type 0 where
+  pub way : IsBreach (policy_of space.world) space.world.forest space.table breach.steps.items
+      breach.member breach.kind
+  pub by_first : AllByRecursion (IsByFirst (policy_of space.world) space.world.forest)
+      breach.steps.items
+
+-- What is written.
+
+-- the output is a bundle of the same sections, but for the certificate, which is this text
+pub record IsBundleWith (input certificate output : List ℕ) : Type 0 where
+  pub texts : Texts
+  pub sealed : Texts
+  pub before : bundle_of input ≡ Ok texts
+  pub after : bundle_of output ≡ Ok sealed
+  pub same : HasCertificate certificate texts sealed
+
+-- the output is the input with the text of a closed certificate over its name space; it is prepared
+-- as that name space with that certificate, whatever is needed
+pub record IsSealed (input : List ℕ) (anyway : Bool) (output : List ℕ) : Type 0 where
+  pub space : NameSpace
+  pub rows : List NodeRef
+  pub events : List Event
+  pub read : space_of input ≡ Ok space
+  pub yes : IsYes space rows
+  pub telling : vacuity_against anyway space ≡ None
+  pub written : output ≡ sealed_text input (certificate_text rows)
+  pub sections : IsBundleWith input (certificate_text rows) output
+  pub prepared : (needs : Needs)
+      → prepared_of needs output ≡ Ok (record { space = space; rows = Some rows; events = events })
+
+-- the text is a bundle
+abbrev pub IsBundle : List ℕ → Type 0
+IsBundle text = (texts : Texts) × (bundle_of text ≡ Ok texts)
+
+-- Why nothing is written.
+
+-- the yes, which these rows show, says little
+pub record IsVacuous (anyway : Bool) (space : NameSpace) (vacuity : Vacuity) : Type 0 where
+  pub rows : List NodeRef
+  pub yes : IsYes space rows
+  pub against : vacuity_against anyway space ≡ Some vacuity
+
+-- why there is no certificate over a name space
+abbrev pub IsUnsealed : {A : Type 0} → (anyway : Bool) (space : NameSpace) → SealError A → Type 0
+IsUnsealed anyway space (Refused refusal) = ⊥
+IsUnsealed anyway space (No breach) = IsNo space breach
+IsUnsealed anyway space (Vacuous vacuity) = IsVacuous anyway space vacuity
+IsUnsealed anyway space NoMemory = Unit {0}
+
+-- the input's first fault, or why there is no certificate over its name space
+abbrev pub IsSealError : {A : Type 0} → (input : List ℕ) (anyway : Bool) → SealError A → Type 0
+IsSealError input anyway (Refused refusal) = space_of input ≡ Err refusal
+IsSealError input anyway (No breach) =
+    (space : NameSpace) × (space_of input ≡ Ok space) × IsNo space breach
+IsSealError input anyway (Vacuous vacuity) =
+    (space : NameSpace) × (space_of input ≡ Ok space) × IsVacuous anyway space vacuity
+IsSealError input anyway NoMemory = Unit {0}

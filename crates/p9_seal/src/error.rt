@@ -1,0 +1,87 @@
+//! Why an input is not sealed.
+
+ghost use Rattle.std.specs.Prelude.{◌≡◌};
+ghost use Rattle.p9_seal.specs.Error.{vacuity_against, vacuity_of};
+
+use p9_base::NoMemory;
+use p9_commands::{NameSpace, Refusal, Stop};
+use p9_judge::Breach;
+use p9_nsfile::OpFault;
+use p9_tree::Tree;
+use std::alloc::Allocator;
+
+/// Why a yes would say little. Where several apply, it is the one that is first here.
+#[derive(Clone, Copy, Debug, PartialEq, Eq)]
+pub enum Vacuity {
+    /// An operation of the namespace file failed, and this is the first: its line in that section,
+    /// from 1, and why it did nothing.
+    FailedOperation { line: u64, fault: OpFault },
+    /// No directory is hidden.
+    NothingHidden,
+    /// No user is listed, so no client may attach.
+    NoUsers,
+}
+
+/// The first reason why a yes over this name space would say little, unless it is wanted anyway.
+pub(crate) fn vacuity_against<T: Tree>(anyway: bool, space: &NameSpace<T>) -> Option<Vacuity>
+    ensures { result ≡ vacuity_against anyway space.now }
+{
+    if anyway { None } else { vacuity_of(space) }
+}
+
+// The first reason why a yes over this name space would say little.
+fn vacuity_of<T: Tree>(space: &NameSpace<T>) -> Option<Vacuity>
+    ensures { result ≡ vacuity_of space.now }
+{
+    if let Some((line, fault)) = space.reports.first() {
+        return Some(Vacuity::FailedOperation {
+            line: *line,
+            fault: *fault,
+        });
+    }
+    if space.world.hidden.is_empty() {
+        return Some(Vacuity::NothingHidden);
+    }
+    if space.world.users.is_empty() {
+        return Some(Vacuity::NoUsers);
+    }
+    None
+}
+
+/// Why an input is not sealed.
+#[derive(Drop)]
+pub enum SealError<A: Allocator> {
+    /// The input has a fault, and this is the first.
+    Refused(Refusal),
+    /// What is hidden is within reach, and this is a way to it.
+    No(Breach<A>),
+    /// What is hidden is out of reach, but that says little.
+    Vacuous(Vacuity),
+    /// An allocation failed.
+    NoMemory,
+}
+
+impl<A: Allocator> From<Stop> for SealError<A> {
+    ghost use Rattle.std.specs.Prelude.{◌≡◌};
+    ghost use Rattle.p9_seal.specs.Error.{error_of_stop};
+
+    ghost from_gives = { λ stop error. error ≡ error_of_stop stop };
+
+    fn from(stop: Stop) -> SealError<A> {
+        match stop {
+            Stop::Refused(refusal) => SealError::Refused(refusal),
+            Stop::NoMemory => SealError::NoMemory,
+        }
+    }
+}
+
+impl<A: Allocator> From<NoMemory> for SealError<A> {
+    ghost use Rattle.std.specs.Prelude.{◌≡◌};
+    ghost use Rattle.p9_seal.specs.declared.error.SealError.TheVariants.{NoMemory};
+
+    ghost from_gives = { λ _ error. error ≡ NoMemory };
+
+    fn from(_error: NoMemory) -> SealError<A> {
+        SealError::NoMemory
+    }
+}

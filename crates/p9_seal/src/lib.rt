@@ -1,0 +1,9 @@
+//! Sealing: an input of p9 with the judge's certificate in its place.
+#![tactic(auto, unfolding(p9_base::specs::Results::need))]
+
+mod error;
+mod sealing;
+mod text;
+
+pub use error::{SealError, Vacuity};
+pub use sealing::seal;

@@ -1,0 +1,124 @@
+//! The sealing of an input.
+
+ghost use Rattle.std.specs.Prelude.{◌≡◌, IfErr, IfOk, None, Ok, OnOk, true};
+ghost use Rattle.std.specs.Str.{is_utf8};
+ghost use Rattle.std.specs.String.{string_bytes};
+ghost use Rattle.p9_cert.specs.Rows.{IsCertificate};
+ghost use Rattle.p9_cert.specs.Text.{certificate_text};
+ghost use Rattle.p9_commands.specs.Bundle.{bundle_of};
+ghost use Rattle.p9_commands.specs.Refusal.{IsStop, or_refused};
+ghost use Rattle.p9_commands.specs.declared.refusal.Refusal.TheVariants.{BadSection};
+ghost use Rattle.p9_seal.specs.Error.{vacuity_against};
+ghost use Rattle.p9_seal.specs.Sealing.{IsBundle, IsSealError, IsSealed, IsUnsealed, IsYes, space_of};
+ghost use Rattle.p9_seal.specs.Text.{sealed_text};
+
+use crate::error::{SealError, vacuity_against};
+use crate::text::with_certificate;
+use p9_base::NoMemory;
+use p9_cert::{Certificate, write_cert};
+use p9_commands::{BundleError, NameSpace, Needs, Prepared, Refusal, Stop, prepare, split_bundle};
+use p9_judge::{Verdict, judge};
+use p9_tree::Tree;
+use std::alloc::Allocator;
+
+/// The input with the judge's certificate as its certificate section, so that it can be verified,
+/// played over a guard, and served. The world's servers are kept in trees of this type meanwhile.
+///
+/// A `%% cert` section that is there is replaced, whatever it has. Else the section is put before
+/// the script, or at the end. All other lines are as they were; each line has a newline. An input
+/// without sections is that of the sample world.
+///
+/// # Errors
+///
+/// 1. The input's first fault, as [`prepare`] has it, but for those of the old certificate, which is
+///    not read: [`SealError::Refused`].
+/// 2. What is hidden is within reach: [`SealError::No`].
+/// 3. Unless `anyway` is given, a yes that says little: [`SealError::Vacuous`].
+///
+/// Where an allocation fails, the error is [`SealError::NoMemory`] in the place of any of these.
+pub fn seal<T: Tree>(
+    alloc: T::Alloc,
+    input: &[u8],
+    anyway: bool,
+) -> Result<String<T::Alloc>, SealError<T::Alloc>>
+    ensures ok { IfOk result (λ output. IsSealed input.now anyway (string_bytes output)) }
+    ensures err { IfErr result (IsSealError input.now anyway) }
+{
+    let Ok(text) = str::from_utf8(input) else {
+        return Err(SealError::Refused(Refusal::NotUtf8));
+    };
+    let space = name_space::<T>(alloc, text)?;
+    let certificate = certificate_over(alloc, &space, anyway)?;
+    Ok(sealed(alloc, text, &certificate)?)
+}
+
+// The name space of an input. Its certificate is not read.
+fn name_space<T: Tree>(alloc: T::Alloc, text: &str) -> Result<NameSpace<T>, Stop>
+    ensures ok { IfOk result (λ space. space_of text.now ≡ Ok space) }
+    ensures bundle { OnOk result (IsBundle text.now) }
+    ensures stop { IfErr result (IsStop (space_of text.now)) }
+{
+    test_bundle(alloc, text)?;
+    let draft = with_certificate(alloc, text, "cert 1\n")?;
+    match prepare::<T>(alloc, draft.as_str().as_bytes(), Needs::Nothing) {
+        Ok(prepared) => Ok(space_in(prepared)),
+        Err(error) => Err(error.stop),
+    }
+}
+
+// The name space of an input that is prepared.
+fn space_in<T: Tree>(prepared: Prepared<T>) -> NameSpace<T>
+    ensures { result ≡ prepared.space }
+{
+    let Prepared { space, .. } = prepared;
+    space
+}
+
+// Whether the input is a bundle; its first bad line, where it is none.
+fn test_bundle<A: Allocator + Copy>(alloc: A, text: &str) -> Result<(), Stop>
+    ensures ok { OnOk result (IsBundle text.now) }
+    ensures stop { IfErr result (IsStop (or_refused BadSection (bundle_of text.now))) }
+{
+    match split_bundle(alloc, text) {
+        Ok(_) => Ok(()),
+        Err(BundleError::BadBundle { line }) => Err(Stop::Refused(Refusal::BadSection { line })),
+        Err(BundleError::NoMemory) => Err(Stop::NoMemory),
+    }
+}
+
+// The judge's certificate over a name space, if the verdict is a yes that says something.
+fn certificate_over<T: Tree>(
+    alloc: T::Alloc,
+    space: &NameSpace<T>,
+    anyway: bool,
+) -> Result<Certificate<T::Alloc>, SealError<T::Alloc>>
+    ensures yes { IfOk result (λ rows. IsYes space.now rows) }
+    ensures telling { OnOk result (vacuity_against anyway space.now ≡ None) }
+    ensures err { IfErr result (IsUnsealed anyway space.now) }
+{
+    match judge(alloc, &space.world, &space.table)? {
+        Verdict::No(breach) => Err(SealError::No(breach)),
+        Verdict::Yes(certificate) => match vacuity_against(anyway, space) {
+            Some(vacuity) => Err(SealError::Vacuous(vacuity)),
+            None => Ok(certificate),
+        },
+    }
+}
+
+// The input with this certificate.
+fn sealed<A: Allocator + Copy>(
+    alloc: A,
+    text: &str,
+    certificate: &Certificate<A>,
+) -> Result<String<A>, NoMemory>
+    ensures written { IfOk result (λ output.
+        string_bytes output ≡ sealed_text text.now (certificate_text certificate.now)) }
+    ensures sound { IsCertificate certificate.now }
+    ensures utf8 { IfOk result (λ output. is_utf8 (string_bytes output) ≡ true) }
+{
+    certificate.well_formed();
+    let certificate = write_cert(alloc, certificate)?;
+    let output = with_certificate(alloc, text, certificate.as_str())?;
+    let _text = output.as_str();
+    Ok(output)
+}
