@@ -1,4 +1,4 @@
-//! The program `p9_admin`: from a directory of the disk to a world.
+//! The program `p9_admin`: from a directory of the disk to a world, and from an input to a sealed one.
 #![tactic(auto)]
 
 mod disk;
@@ -8,12 +8,14 @@ mod output;
 mod owner;
 mod pack;
 mod reason;
+mod seal;
 mod settings;
 mod status;
 mod tree;
 mod words;
 
 use crate::pack::run_pack;
+use crate::seal::run_seal;
 use crate::status::{BAD_COMMAND_LINE, DONE, INPUT_OR_OUTPUT_FAILED, OUT_OF_MEMORY};
 use crate::words::program;
 use std::alloc::AllocError;
@@ -69,6 +71,7 @@ fn run_words(rt: &HostRuntime, words: &[String]) -> io::Result<u8> {
     };
     match matches.subcommand() {
         Some(("pack", options)) => run_pack(rt, options),
+        Some(("seal", options)) => run_seal(rt, options),
         _ => bad_words(rt),
     }
 }

@@ -6,6 +6,9 @@ pub(crate) const DONE: u8 = 0;
 /// Something is left out.
 pub(crate) const LEFT_OUT: u8 = 1;
 
+/// The input is not sealed.
+pub(crate) const NOT_SEALED: u8 = 1;
+
 /// The words are no command line.
 pub(crate) const BAD_COMMAND_LINE: u8 = 2;
 

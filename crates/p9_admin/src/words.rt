@@ -10,7 +10,8 @@ pub(crate) fn program<'a>(alloc: Global) -> Result<Command<'a>, AllocError> {
         .about("What an administrator of an export does")
         .subcommand_required(true)
         .arg_required_else_help(true)
-        .subcommand(pack(alloc)?)
+        .subcommand(pack(alloc)?)?
+        .subcommand(seal(alloc)?)
 }
 
 // The command that packs directories.
@@ -43,6 +44,17 @@ fn pack<'a>(alloc: Global) -> Result<Command<'a>, AllocError> {
         .arg(many(alloc, "hide", "[SERVER:]PATH", "A directory to be hidden"))?
         .arg(skip)?
         .arg(dirs)
+}
+
+// The command that seals an input.
+fn seal<'a>(alloc: Global) -> Result<Command<'a>, AllocError> {
+    let anyway = Arg::new(alloc, "anyway")
+        .long("anyway")
+        .help("Seals also where nothing is hidden, no user is listed, or an operation failed")
+        .action(ArgAction::SetTrue);
+    Command::new(alloc, "seal")
+        .about("Prints the input with its certificate, where what is hidden is out of reach")
+        .arg(anyway)
 }
 
 // An option with a value.
