@@ -1,0 +1,6 @@
+pub mod Frame
+pub mod Kinds
+pub mod Reason
+pub mod Reply
+pub mod Session
+pub mod Transfer

@@ -1,0 +1,66 @@
+//! One request and the frame of its reply, over a stream.
+
+ghost use Rattle.std.specs.Prelude.{◌≡◌, ◌≤◌, ◌+◌, IfOk, IfSome, IfNone, OnOk, OnErr, length, take};
+ghost use Rattle.std.specs.Io.KnownBytes.{Appends, Consumes, Keeps};
+ghost use Rattle.p9_wire.specs.Message.{t_view};
+ghost use Rattle.p9_wire.specs.Spelling.{t_len, t_spelling, TFits};
+ghost use Rattle.p9_client.specs.Frame.{HasSize, IsBadSize};
+ghost use Rattle.p9_client.specs.Transfer.{AppendsFront};
+
+use crate::stream::Stream;
+use crate::transfer::{receive_between, send_all};
+use byteorder::{ByteOrder, LittleEndian};
+use p9_wire::{HEADER, TMsg, write_t};
+use std::io;
+
+/// Writes a request with its tag, and reads the frame of the reply into the front of the buffer.
+/// Returns its size, or `None` where that is below 7 or above `most`: then the front of the buffer
+/// has the 7 bytes that were read. After an error the stream has a front of the request.
+pub fn exchange<S: Stream>(
+    stream: &mut S,
+    tag: u16,
+    request: &TMsg<'_>,
+    most: usize,
+    frame: &mut [u8],
+) -> io::Result<Option<usize>>
+    requires fits { TFits (t_view request.now) }
+    requires short { 7 + t_len (t_view request.now) ≤ most }
+    requires room { most ≤ length frame.old }
+    ensures asked { OnOk result (Appends (S.contents stream.old) (S.contents stream.new)
+        (t_spelling tag (t_view request.now))) }
+    ensures front { OnErr result (AppendsFront (S.contents stream.old) (S.contents stream.new)
+        (t_spelling tag (t_view request.now))) }
+    ensures whole { IfOk result (λ found. IfSome found (λ size. (size ≤ most)
+        × HasSize (take size frame.new)
+        × Consumes (S.remaining stream.old) (S.remaining stream.new) (take size frame.new))) }
+    ensures bad { IfOk result (λ found. IfNone found (IsBadSize most (take 7 frame.new)
+        × Consumes (S.remaining stream.old) (S.remaining stream.new) (take 7 frame.new))) }
+{
+    let size = write_t(request, tag, frame);
+    send_all(stream, &frame[..size])?;
+    receive_frame(stream, most, frame)
+}
+
+// Reads the frame of a reply into the front of the buffer, as `exchange`.
+fn receive_frame<S: Stream>(
+    stream: &mut S,
+    most: usize,
+    frame: &mut [u8],
+) -> io::Result<Option<usize>>
+    requires header { 7 ≤ most }
+    requires room { most ≤ length frame.old }
+    ensures whole { IfOk result (λ found. IfSome found (λ size. (size ≤ most)
+        × HasSize (take size frame.new)
+        × Consumes (S.remaining stream.old) (S.remaining stream.new) (take size frame.new))) }
+    ensures bad { IfOk result (λ found. IfNone found (IsBadSize most (take 7 frame.new)
+        × Consumes (S.remaining stream.old) (S.remaining stream.new) (take 7 frame.new))) }
+    ensures written { Keeps (S.contents stream.old) (S.contents stream.new) }
+{
+    receive_between(stream, frame, 0, HEADER)?;
+    let size = LittleEndian::read_u32(frame) as usize;
+    if size < HEADER || size > most {
+        return Ok(None);
+    }
+    receive_between(stream, frame, HEADER, size)?;
+    Ok(Some(size))
+}
