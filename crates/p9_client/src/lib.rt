@@ -5,6 +5,7 @@
 //! the session neither writes nor reads again.
 #![tactic(auto)]
 
+mod entry;
 mod error;
 mod exchange;
 mod reason;
@@ -15,6 +16,7 @@ mod session;
 mod stream;
 mod transfer;
 
+pub use entry::Entry;
 pub use error::ClientError;
 pub use reason::{REASON_MAX, Reason};
 

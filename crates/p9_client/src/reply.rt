@@ -27,8 +27,8 @@ pub struct Opened {
     pub iounit: u32,
 }
 
-// The reply with this tag that a frame is.
-fn reply_of(tag: u16, frame: &[u8]) -> Result<RMsg<'_>, ClientError>
+/// The reply with this tag that a frame is.
+pub fn reply_of(tag: u16, frame: &[u8]) -> Result<RMsg<'_>, ClientError>
     ensures { IsReplyOf tag frame.now result }
 {
     match read_r(frame) {

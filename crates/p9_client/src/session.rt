@@ -3,14 +3,16 @@
 ghost use Rattle.std.specs.Prelude.{◌≡◌, ◌+◌, ◌-◌, ◌≤◌, [], false, min, IfOk, IfErr, OnErr, length, take};
 ghost use Rattle.p9_wire.specs.Frame.{msize_max};
 ghost use Rattle.p9_wire.specs.Message.{Rclunk, Rremove, Rwstat, Tattach, Tclunk, Tcreate, Topen};
-ghost use Rattle.p9_wire.specs.Message.{Tread, Tremove, Tversion, Twalk, Twrite, Twstat, stat_view};
+ghost use Rattle.p9_wire.specs.Message.{Tread, Tremove, Tstat, Tversion, Twalk, Twrite, Twstat, stat_view};
 ghost use Rattle.p9_wire.specs.Message.{t_view};
+ghost use Rattle.p9_client.specs.Entry.{IsStat};
 ghost use Rattle.p9_client.specs.Kinds.{AgreesOn, ExceedsBytes, ExceedsCount, ExceedsQids, IsAttached};
 ghost use Rattle.p9_client.specs.Kinds.{IsCreated, IsEmptyReply, IsOpened, IsRead, IsWalked, IsWritten};
 ghost use Rattle.p9_client.specs.Kinds.{OffersMore, dialect, msize_min};
 ghost use Rattle.p9_client.specs.Reply.{gives_no_more};
 ghost use Rattle.p9_client.specs.Session.{IsAsked, IsCall, IsSettled, next_tag, no_fid, no_tag};
 
+use crate::entry::{Entry, stat_entry};
 use crate::error::ClientError;
 use crate::exchange::exchange;
 use crate::reply::{
@@ -300,6 +302,21 @@ impl<S: Stream + Drop, A: Allocator + Copy> Session<S, A> {
         let tag = self.tag;
         self.ask(tag, &TMsg::Remove { fid })?;
         let taken = take_remove(tag, self.reply());
+        self.settled(taken)
+    }
+
+    /// Asks for the stat of the file of a fid, as stat(5). Its texts are allocated by `alloc`.
+    ///
+    /// # Errors
+    ///
+    /// Each of [`ClientError`]. [`ClientError::NoMemory`] is an allocation that fails.
+    pub fn stat<B: Allocator + Copy>(&mut self, alloc: B, fid: u32) -> Result<Entry<B>, ClientError>
+        ensures { IsCall S.remaining S.contents (Tstat fid) self.old.tag 125 IsStat gives_no_more
+            self.old self.new result }
+    {
+        let tag = self.tag;
+        self.ask(tag, &TMsg::Stat { fid })?;
+        let taken = stat_entry(alloc, tag, self.reply());
         self.settled(taken)
     }
 

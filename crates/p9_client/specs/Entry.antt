@@ -1,0 +1,45 @@
+-- What a server reports of a file, and the stats of a directory's contents.
+use Rattle.std.specs.Prelude.{◌≡◌, ℕ, List, Option, None, Some}
+use Rattle.std.specs.String.{string_bytes}
+use Rattle.p9_wire.specs.Fields.{FitsStat, StatNumbersFit, stat_bytes, text}
+use Rattle.p9_wire.specs.Message.{RMessage, Rstat, StatFields, stat_view}
+use Rattle.p9_wire.specs.Reading.{r_message_of}
+use Rattle.p9_wire.specs.Reply.{frame}
+use Rattle.p9_wire.specs.Spelling.{RSpells}
+use Rattle.p9_wire.specs.declared.message.Stat.{Stat}
+use Rattle.p9_client.specs.declared.entry.Entry.{Entry}
+
+-- the stat that an entry is
+abbrev pub entry_view : {A : Type 0} → Entry A → StatFields
+entry_view entry = record {
+  kind = entry.kind;
+  dev = entry.dev;
+  qid = entry.qid;
+  mode = entry.mode;
+  atime = entry.atime;
+  mtime = entry.mtime;
+  length = entry.length;
+  name = string_bytes entry.name;
+  uid = string_bytes entry.uid;
+  gid = string_bytes entry.gid;
+  muid = string_bytes entry.muid;
+}
+
+-- a reply to a stat has this entry
+abbrev pub IsStat : {A : Type 0} → RMessage → Entry A → Type 0
+IsStat m entry = m ≡ Rstat (entry_view entry)
+
+-- the frame of a reply to a stat, with these bytes as the stat and tag 0
+abbrev pub stat_frame : List ℕ → List ℕ
+stat_frame bytes = frame 125 0 (text bytes)
+
+-- an entry is the stat that these bytes are, or they are no stat
+abbrev pub IsEntryOf : {A : Type 0} → List ℕ → Option (Entry A) → Type 0
+IsEntryOf bytes None = (s : StatFields) → StatNumbersFit s → FitsStat s → stat_bytes s ≡ bytes → ⊥
+IsEntryOf bytes (Some entry) = stat_bytes (entry_view entry) ≡ bytes
+
+-- a frame spells a reply with this stat, or no stat is read of it
+abbrev pub IsStatOf : List ℕ → Option Stat → Type 0
+IsStatOf frame None = (tag : ℕ) (s : StatFields) → r_message_of frame ≡ Some (tag, Rstat s) → ⊥
+IsStatOf frame (Some stat) =
+    (tag : ℕ) × RSpells frame tag (Rstat (stat_view stat))
