@@ -1,6 +1,6 @@
 -- The size of a frame is in its first four bytes.
 use Rattle.std.proofs.Common.{◌≡◌, ◌∙◌, ℕ, ◌≤◌, List, ap, arith, drop, length, length-take-le, sym}
-use Rattle.std.proofs.Common.{take, take-append-drop, take-take}
+use Rattle.std.proofs.Common.{take, take-append-drop}
 use Rattle.byteorder.specs.Endian.{little_number}
 use Rattle.byteorder.specs.Numbers.{little_from-append}
 

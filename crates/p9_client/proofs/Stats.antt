@@ -1,5 +1,5 @@
 -- The stat of a frame is that of the bytes which the frame was made of.
-use Rattle.std.proofs.Common.{◌≡◌, ℕ, ◌+◌, ◌<◌, ◌^◌, ◌∙◌, List, ◌++◌, Some, ap, arith, drop, drop-drop, drop_at, length, sym}
+use Rattle.std.proofs.Common.{◌≡◌, ℕ, ◌+◌, ◌∙◌, List, ◌++◌, Some, ap, arith, drop, drop-drop, drop_at, length, sym}
 use Rattle.std.proofs.lemmas.List.{length-append}
 use Rattle.p9_wire.specs.Fields.{FitsStat, StatNumbersFit, number, stat_bytes, text}
 use Rattle.p9_wire.specs.Message.{Rstat, StatFields}

@@ -1,5 +1,5 @@
 -- The frame of a reply, by its size.
-use Rattle.std.specs.Prelude.{◌≡◌, ℕ, ◌<◌, ◌≤◌, ◌⊎◌, List, length}
+use Rattle.std.specs.Prelude.{◌≡◌, ℕ, ◌<◌, ◌⊎◌, List, length}
 use Rattle.byteorder.specs.Endian.{little_number}
 
 -- it has as many bytes as its size says

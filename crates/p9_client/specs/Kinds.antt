@@ -1,5 +1,5 @@
 -- What each kind of reply gives, and where it gives what was not asked for.
-use Rattle.std.specs.Prelude.{◌≡◌, ℕ, ◌<◌, ◌≤◌, ◌⊎◌, List, codes, drop, length, take}
+use Rattle.std.specs.Prelude.{◌≡◌, ℕ, ◌<◌, ◌≤◌, List, codes, drop, length, take}
 use Rattle.p9_base.specs.declared.qid.Qid.{Qid}
 use Rattle.p9_wire.specs.Message.{RMessage, Rattach, Rcreate, Ropen, Rread, Rversion, Rwalk, Rwrite}
 use Rattle.p9_client.specs.declared.reply.Opened.{Opened}

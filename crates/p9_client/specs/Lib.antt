@@ -1,3 +1,4 @@
+pub mod Files
 pub mod Entry
 pub mod Frame
 pub mod Kinds

@@ -1,5 +1,5 @@
 -- A session, and what a call of it does to its stream.
-use Rattle.std.specs.Prelude.{◌≡◌, ◌≢◌, ℕ, ◌+◌, ◌≤◌, ◌⊎◌, Bool, false, true, List, Option, Result}
+use Rattle.std.specs.Prelude.{◌≡◌, ℕ, ◌+◌, ◌≤◌, ◌⊎◌, Bool, false, true, List, Option, Result}
 use Rattle.std.specs.Prelude.{MatchResult, nat_lt, if◌then◌else◌}
 use Rattle.std.specs.Io.KnownBytes.{Appends, Consumes}
 use Rattle.p9_wire.specs.Message.{TMessage, RMessage}
@@ -10,7 +10,7 @@ use Rattle.p9_client.specs.declared.error.ClientError.TheVariants.{BadSize, NoMe
 use Rattle.p9_client.specs.declared.error.ClientError.TheVariants.{OtherType, Unasked, NoMemory}
 use Rattle.p9_client.specs.Frame.{HasSize, IsBadSize}
 use Rattle.p9_client.specs.Reason.{ends}
-use Rattle.p9_client.specs.Reply.{IsNoAnswer, IsOtherAnswer, IsReply, IsTaken}
+use Rattle.p9_client.specs.Reply.{IsNoAnswer, IsOtherAnswer, IsReply}
 use Rattle.p9_client.specs.Transfer.{AppendsFront}
 
 -- a session: its stream, the greatest frame, the tag of the next request, whether it has failed,

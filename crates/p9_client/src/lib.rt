@@ -8,18 +8,20 @@
 mod entry;
 mod error;
 mod exchange;
+mod file_error;
+mod files;
+mod listing;
 mod reason;
 mod reply;
 mod session;
-
-
 mod stream;
 mod transfer;
 
 pub use entry::Entry;
 pub use error::ClientError;
+pub use file_error::FileError;
+pub use listing::LISTING_MAX;
 pub use reason::{REASON_MAX, Reason};
-
 pub use reply::{MSIZE_MIN, Opened, VERSION};
 pub use session::Session;
 pub use stream::Stream;

@@ -1,11 +1,12 @@
 //! A session: one request at a time, and the one frame that answers it.
 
-ghost use Rattle.std.specs.Prelude.{◌≡◌, ◌+◌, ◌-◌, ◌≤◌, [], false, min, IfOk, IfErr, OnErr, length, take};
+ghost use Rattle.std.specs.Prelude.{◌≡◌, ◌+◌, ◌-◌, ◌≤◌, [], false, min, true, IfOk, IsTrue, OnErr, length, take};
 ghost use Rattle.p9_wire.specs.Frame.{msize_max};
 ghost use Rattle.p9_wire.specs.Message.{Rclunk, Rremove, Rwstat, Tattach, Tclunk, Tcreate, Topen};
 ghost use Rattle.p9_wire.specs.Message.{Tread, Tremove, Tstat, Tversion, Twalk, Twrite, Twstat, stat_view};
 ghost use Rattle.p9_wire.specs.Message.{t_view};
 ghost use Rattle.p9_client.specs.Entry.{IsStat};
+ghost use Rattle.p9_client.specs.Files.{ends_file};
 ghost use Rattle.p9_client.specs.Kinds.{AgreesOn, ExceedsBytes, ExceedsCount, ExceedsQids, IsAttached};
 ghost use Rattle.p9_client.specs.Kinds.{IsCreated, IsEmptyReply, IsOpened, IsRead, IsWalked, IsWritten};
 ghost use Rattle.p9_client.specs.Kinds.{OffersMore, dialect, msize_min};
@@ -15,6 +16,7 @@ ghost use Rattle.p9_client.specs.Session.{IsAsked, IsCall, IsSettled, next_tag, 
 use crate::entry::{Entry, stat_entry};
 use crate::error::ClientError;
 use crate::exchange::exchange;
+use crate::file_error::FileError;
 use crate::reply::{
     MSIZE_MIN, Opened, VERSION, agreed_msize, attached_qid, created_file, opened_file, read_into,
     take_clunk, take_remove, take_wstat, walked_qids, written_count,
@@ -26,7 +28,7 @@ use std::alloc::Allocator;
 use std::marker::Model;
 
 // The bytes of a frame that a read or a write has beside its data.
-const AROUND_DATA: usize = IOHDRSZ as usize;
+pub(crate) const AROUND_DATA: usize = IOHDRSZ as usize;
 
 /// A session of a client over a stream.
 ///
@@ -333,6 +335,22 @@ impl<S: Stream + Drop, A: Allocator + Copy> Session<S, A> {
         self.ask(tag, &TMsg::Wstat { fid, stat })?;
         let taken = take_wstat(tag, self.reply());
         self.settled(taken)
+    }
+
+    // Room for the bytes that a read gives.
+    pub(crate) fn chunk(&self) -> Result<Vec<u8, A>, NoMemory> {
+        Ok(vec![in *self.frame.allocator(); 0; self.msize - AROUND_DATA]?)
+    }
+
+    // An error of a listing or of a file, after which the session has failed where that ends it.
+    pub(crate) fn ended_by(&mut self, error: FileError) -> FileError
+        ensures same { result ≡ error }
+        ensures failed { IsTrue (ends_file error) → self.new.failed ≡ true }
+    {
+        if error.ends_session() {
+            self.failed = true;
+        }
+        error
     }
 
     // Writes a request with its tag, and reads the frame of its reply.
