@@ -11,7 +11,7 @@ use byteorder::{ByteOrder, LittleEndian};
 use std::alloc::Allocator;
 
 /// The most bytes of a directory's contents that are listed.
-pub const LISTING_MAX: u64 = 67_108_864;
+pub const LISTING_MAX: u32 = 67_108_864;
 
 // A stat is shorter than this.
 const STAT_LIMIT: usize = 65_536;
@@ -22,9 +22,7 @@ impl<S: Stream + Drop, A: Allocator + Copy> Session<S, A> {
     ///
     /// # Errors
     ///
-    /// [`FileError::Session`] and [`FileError::NoMemory`]. [`FileError::BadEntry`] where what a
-    /// read gives ends within an entry, or has one that is no stat. [`FileError::Endless`] where
-    /// the contents are longer than [`LISTING_MAX`].
+    /// Those of [`Session::list_within`], with [`LISTING_MAX`] as the limit.
     pub fn list<B: Allocator + Copy>(
         &mut self,
         alloc: B,
@@ -32,10 +30,28 @@ impl<S: Stream + Drop, A: Allocator + Copy> Session<S, A> {
     ) -> Result<Vec<Entry<B>, B>, FileError>
         ensures { GoesOn self.old self.new result }
     {
+        self.list_within(alloc, fid, LISTING_MAX)
+    }
+
+    /// The entries of a directory, as [`Session::list`], of so many bytes at most.
+    ///
+    /// # Errors
+    ///
+    /// [`FileError::Session`] and [`FileError::NoMemory`]. [`FileError::BadEntry`] where what a
+    /// read gives ends within an entry, or has one that is no stat. [`FileError::Endless`] where
+    /// the contents are longer than `most`.
+    pub fn list_within<B: Allocator + Copy>(
+        &mut self,
+        alloc: B,
+        fid: u32,
+        most: u32,
+    ) -> Result<Vec<Entry<B>, B>, FileError>
+        ensures { GoesOn self.old self.new result }
+    {
         let mut chunk = self.chunk()?;
         let mut entries = Vec::new(alloc);
         let mut offset = 0u64;
-        while offset <= LISTING_MAX {
+        while offset <= u64::from(most) {
             let count = self.read(fid, offset, chunk.as_mut_slice())?;
             if count == 0 {
                 return Ok(entries);

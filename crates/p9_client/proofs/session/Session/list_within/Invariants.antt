@@ -1,8 +1,8 @@
 use Rattle.std.proofs.Common.{◌≡◌, ◌+◌, ◌-◌}
-use Rattle.p9_client.proofs.session.Session.list.Given as goal
+use Rattle.p9_client.proofs.session.Session.list_within.Given as goal
 
 abbrev pub invariant-loop-offset : goal.invariant-loop-offset
 invariant-loop-offset g l = l.self.failed ≡ l.fn.self.failed
 
 abbrev pub decreases-loop-offset : goal.decreases-loop-offset
-decreases-loop-offset g l = 67108864 + 1 - l.offset
+decreases-loop-offset g l = l.most + 1 - l.offset

@@ -1,0 +1,90 @@
+//! A session over a guard: each call once.
+
+use crate::kinds::{file_kind_of, kind_of};
+use crate::served::{Served, attach};
+use p9_client::{ClientError, Session};
+use p9_wire::Stat;
+use std::alloc::Global;
+use std::process::Abort;
+
+// More bytes than a call has.
+const ALL: usize = 1_000_000;
+
+// A stat that changes nothing.
+fn untouched<'a>() -> Stat<'a> {
+    Stat {
+        kind: u16::MAX,
+        dev: u32::MAX,
+        qid: p9_base::Qid {
+            kind: u8::MAX,
+            version: u32::MAX,
+            path: u64::MAX,
+        },
+        mode: u32::MAX,
+        atime: u32::MAX,
+        mtime: u32::MAX,
+        length: u64::MAX,
+        name: "",
+        uid: "",
+        gid: "",
+        muid: "",
+    }
+}
+
+// What a file of the world is.
+fn contents(rt: &impl Abort, alloc: Global, session: &mut Session<Served, Global>, path: &[&str]) -> Vec<u8> {
+    assert!(rt; session.walk_path(0, 1, path).is_ok());
+    assert!(rt; session.open(1, 0).is_ok());
+    let mut out = Vec::new(alloc);
+    assert!(rt; session.read_to(1, &mut out).is_ok_and(|count| count == out.len() as u64));
+    assert!(rt; session.clunk(1).is_ok());
+    out
+}
+
+// Makes a file, writes it, changes its name, reads it, and removes it.
+fn lives(rt: &impl Abort, alloc: Global, most: usize) {
+    let mut session = attach(rt, alloc, Served::new(rt, alloc, most));
+    assert!(rt; session.walk_path(0, 1, &["pub"]).is_ok());
+    assert!(rt; session.create(1, "note", 0o644, 1).is_ok_and(|file| file.qid.kind == 0));
+    assert!(rt; session.write_whole(1, b"a note").is_ok());
+    let mut stat = untouched();
+    stat.name = "other";
+    assert!(rt; session.wstat(1, stat).is_ok());
+    assert!(rt; session.stat(alloc, 1).is_ok_and(|entry| entry.name.as_str() == "other" && entry.length == 6));
+    assert!(rt; session.clunk(1).is_ok());
+    assert!(rt; contents(rt, alloc, &mut session, &["pub", "other"]).as_slice() == b"a note".as_slice());
+    assert!(rt; session.walk_path(0, 1, &["pub", "other"]).is_ok());
+    assert!(rt; session.remove(1).is_ok());
+    let gone = session.walk_path(0, 1, &["pub", "other"]);
+    assert!(rt; gone.is_err_and(|error| file_kind_of(&error) == "not walked"));
+    assert!(rt; !session.is_failed());
+}
+
+#[test]
+fn a_file_lives(rt: HostRuntime) {
+    lives(&rt, rt.alloc(), ALL);
+    lives(&rt, rt.alloc(), 1);
+}
+
+#[test]
+fn a_refusal_has_the_servers_text(rt: HostRuntime) {
+    let mut session = attach(&rt, rt.alloc(), Served::new(&rt, rt.alloc(), ALL));
+    assert!(rt; session.walk_path(0, 1, &["shut"]).is_ok());
+    let refused = session.open(1, 0);
+    let is_denied = matches!(&refused, Err(ClientError::Refused(reason)) if reason.as_str() == "permission denied");
+    assert!(rt; is_denied);
+    let too_long = session.attach(2, "glen\0da", "");
+    assert!(rt; too_long.is_err_and(|error| kind_of(&error) == "too long"));
+    assert!(rt; session.clunk(1).is_ok());
+}
+
+#[test]
+fn a_directory_is_listed(rt: HostRuntime) {
+    let mut session = attach(&rt, rt.alloc(), Served::new(&rt, rt.alloc(), ALL));
+    assert!(rt; session.walk_path(0, 1, &["pub"]).is_ok());
+    assert!(rt; session.open(1, 0).is_ok());
+    let entries = session.list(rt.alloc(), 1).expect(&rt, "a listing");
+    assert!(rt; entries.len() == 2);
+    assert!(rt; entries[0].name.as_str() == "hello" && !entries[0].is_dir());
+    assert!(rt; entries[1].name.as_str() == "sub" && entries[1].is_dir());
+}
