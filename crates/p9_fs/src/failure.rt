@@ -1,0 +1,93 @@
+//! How a command fails, and how that is reported.
+
+use crate::names::printable;
+use p9_base::NoMemory;
+use p9_client::{ClientError, FileError};
+use std::alloc::{AllocError, AllocFailed};
+use std::io;
+use std::io::ErrorKind;
+
+/// How a command failed. It was reported where it was met.
+#[derive(Clone, Copy, Debug, PartialEq, Eq)]
+pub enum Failure {
+    /// The server refused what was asked, or a name was refused.
+    Refused,
+    /// The words are a bad command line.
+    BadWords,
+    /// An allocation failed.
+    NoMemory,
+    /// Input or output failed, or the connection, or the server sent what it must not.
+    Failed,
+}
+
+impl Failure {
+    /// The exit status.
+    pub fn status(self) -> u8 {
+        match self {
+            Failure::Refused => 1,
+            Failure::BadWords => 2,
+            Failure::NoMemory => 3,
+            Failure::Failed => 4,
+        }
+    }
+}
+
+impl From<AllocError> for Failure {
+    fn from(_error: AllocError) -> Failure {
+        Failure::NoMemory
+    }
+}
+
+impl<T: Drop> From<AllocFailed<T>> for Failure {
+    fn from(_error: AllocFailed<T>) -> Failure {
+        Failure::NoMemory
+    }
+}
+
+impl From<NoMemory> for Failure {
+    fn from(_error: NoMemory) -> Failure {
+        Failure::NoMemory
+    }
+}
+
+// How a command failed that met this error.
+fn failure_of(error: &FileError) -> Failure {
+    match error {
+        FileError::Session(ClientError::Refused(_) | ClientError::TooLong)
+        | FileError::NotWalked => Failure::Refused,
+        FileError::Session(ClientError::NoMemory) | FileError::NoMemory => Failure::NoMemory,
+        _ => Failure::Failed,
+    }
+}
+
+/// Reports why the file of a path is not had, and returns how the command failed.
+pub fn report(rt: &HostRuntime, path: &str, error: &FileError) -> Failure {
+    match format!(in rt.alloc(); "{path}: {error}") {
+        Ok(text) => report_text(rt, text.as_str(), failure_of(error)),
+        Err(_) => Failure::NoMemory,
+    }
+}
+
+/// Reports why a file of the system is not had, and returns how the command failed.
+pub fn report_local(rt: &HostRuntime, path: &str, error: &io::Error) -> Failure {
+    let failure = if error.kind() == ErrorKind::OutOfMemory {
+        Failure::NoMemory
+    } else {
+        Failure::Failed
+    };
+    match format!(in rt.alloc(); "{path}: {error}") {
+        Ok(text) => report_text(rt, text.as_str(), failure),
+        Err(_) => Failure::NoMemory,
+    }
+}
+
+/// Reports a text, and returns a failure.
+pub fn report_text(rt: &HostRuntime, text: &str, failure: Failure) -> Failure {
+    match printable(rt.alloc(), text) {
+        Ok(text) => {
+            let _ = eprintln!(rt; "p9_fs: {text}");
+            failure
+        }
+        Err(_) => Failure::NoMemory,
+    }
+}

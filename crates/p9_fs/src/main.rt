@@ -1,0 +1,59 @@
+//! The program `p9_fs`: it shows what an export has, and copies files from it and to it.
+#![tactic(auto)]
+
+mod connect;
+mod copying;
+mod failure;
+mod names;
+mod printing;
+mod remote;
+mod shell;
+mod words;
+
+use crate::connect::connect;
+use crate::failure::Failure;
+use crate::shell::{run_line, run_lines};
+use crate::words::{Verb, program, verb_of};
+use clap::error::ErrorKind;
+use std::env;
+use std::process::ExitCode;
+
+fn main(rt: HostRuntime) -> ExitCode {
+    match run(&rt) {
+        Ok(()) => ExitCode::SUCCESS,
+        Err(failure) => ExitCode::from(failure.status()),
+    }
+}
+
+// Does what the words ask for. What keeps it from that is reported where it is met.
+fn run(rt: &HostRuntime) -> Result<(), Failure> {
+    let words = match env::args(rt) {
+        Ok(words) => words,
+        Err(_) => return Err(Failure::BadWords),
+    };
+    let words: Vec<String> = words.collect(rt.alloc())?;
+    let matches = match program(rt.alloc())?.try_get_matches_from(words.as_slice()) {
+        Ok(matches) => matches,
+        Err(error) => return shown(rt, &error),
+    };
+    let Some(verb) = verb_of(&matches) else {
+        return Err(Failure::BadWords);
+    };
+    let mut client = connect(rt, &matches)?;
+    match verb {
+        Verb::Shell => run_lines(rt, &mut client),
+        verb => run_line(rt, &mut client, verb),
+    }
+}
+
+// Prints what `clap` has to say of the words: their help, the version, or what is wrong with them.
+fn shown(rt: &HostRuntime, error: &clap::Error) -> Result<(), Failure> {
+    if error.print(rt).is_err() {
+        return Err(Failure::Failed);
+    }
+    match error.kind() {
+        ErrorKind::DisplayHelp | ErrorKind::DisplayVersion => Ok(()),
+        ErrorKind::OutOfMemory => Err(Failure::NoMemory),
+        _ => Err(Failure::BadWords),
+    }
+}

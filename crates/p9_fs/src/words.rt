@@ -1,0 +1,172 @@
+//! The words of the command line, and of a line of commands.
+
+use clap::{Arg, ArgAction, ArgMatches, Command, value_parser};
+use std::alloc::{AllocError, Global};
+
+/// What is asked for.
+#[derive(Clone, Copy, Debug)]
+pub enum Verb<'a> {
+    /// The entries of a directory, or a file; by name, or in long lines.
+    List { path: &'a str, long: bool },
+    /// The bytes of a file.
+    Cat { path: &'a str },
+    /// What the server reports of a file.
+    Stat { path: &'a str },
+    /// A copy of a file, or of all in a directory.
+    Get {
+        path: &'a str,
+        local: &'a str,
+        is_recursive: bool,
+    },
+    /// A copy to the server.
+    Put { local: &'a str, path: &'a str },
+    /// A new directory.
+    MakeDir { path: &'a str },
+    /// No more file.
+    Remove { path: &'a str },
+    /// Another name.
+    Rename { path: &'a str, name: &'a str },
+    /// Other permissions.
+    ChangeMode { mode: u32, path: &'a str },
+    /// The commands of the standard input.
+    Shell,
+}
+
+/// What the words ask for that `clap` read, or `None` where a mode is no octal number.
+pub fn verb_of<'a>(words: &ArgMatches<'a>) -> Option<Verb<'a>> {
+    let (name, words) = words.subcommand()?;
+    let path = words.get_str("path");
+    match name {
+        "ls" => Some(Verb::List {
+            path: path.unwrap_or("/"),
+            long: words.get_flag("long"),
+        }),
+        "cat" => Some(Verb::Cat { path: path? }),
+        "stat" => Some(Verb::Stat { path: path? }),
+        "get" => Some(Verb::Get {
+            path: path?,
+            local: words.get_str("local")?,
+            is_recursive: words.get_flag("recursive"),
+        }),
+        "put" => Some(Verb::Put {
+            local: words.get_str("local")?,
+            path: path?,
+        }),
+        "mkdir" => Some(Verb::MakeDir { path: path? }),
+        "rm" => Some(Verb::Remove { path: path? }),
+        "mv" => Some(Verb::Rename {
+            path: path?,
+            name: words.get_str("name")?,
+        }),
+        "chmod" => Some(Verb::ChangeMode {
+            mode: u32::from_str_radix(words.get_str("mode")?, 8).ok()?,
+            path: path?,
+        }),
+        "sh" => Some(Verb::Shell),
+        _ => None,
+    }
+}
+
+/// The program's command line.
+pub fn program<'a>(alloc: Global) -> Result<Command<'a>, AllocError> {
+    let addr = option(alloc, "addr", 'a', "ADDR", "the server's address, HOST:PORT").required(true);
+    let user = option(alloc, "user", 'u', "USER", "the user to attach as, or else $USER, or none");
+    let aname = option(alloc, "aname", 'n', "ANAME", "the tree to attach");
+    let msize = option(alloc, "msize", 'm', "MSIZE", "the most bytes of a message")
+        .value_parser(value_parser!(usize));
+    let program = Command::new(alloc, "p9_fs")
+        .about("looks at an export of 9P2000, and copies files from it and to it")
+        .version("1.0")
+        .arg(addr)?
+        .arg(user)?
+        .arg(aname)?
+        .arg(msize)?;
+    let shell = Command::new(alloc, "sh").about("runs the commands of the standard input");
+    with_verbs(alloc, program)?.subcommand(shell)
+}
+
+/// A line of commands, after the program's name.
+pub fn line_program<'a>(alloc: Global) -> Result<Command<'a>, AllocError> {
+    let program = Command::new(alloc, "p9_fs").disable_version_flag(true);
+    with_verbs(alloc, program)
+}
+
+// An option with a value.
+fn option<'a>(
+    alloc: Global,
+    id: &'a str,
+    letter: char,
+    value: &'a str,
+    help: &'a str,
+) -> Arg<'a> {
+    Arg::new(alloc, id)
+        .short(letter)
+        .value_name(value)
+        .help(help)
+        .action(ArgAction::Set)
+}
+
+// A word that has to be there.
+fn word<'a>(alloc: Global, id: &'a str, value: &'a str) -> Arg<'a> {
+    Arg::new(alloc, id)
+        .value_name(value)
+        .required(true)
+        .action(ArgAction::Set)
+}
+
+// A flag.
+fn flag<'a>(alloc: Global, id: &'a str, letter: char, help: &'a str) -> Arg<'a> {
+    Arg::new(alloc, id)
+        .short(letter)
+        .help(help)
+        .action(ArgAction::SetTrue)
+}
+
+// Adds the commands on files.
+fn with_verbs<'a>(alloc: Global, program: Command<'a>) -> Result<Command<'a>, AllocError> {
+    let list = Command::new(alloc, "ls")
+        .about("lists a directory or a file")
+        .arg(flag(alloc, "long", 'l', "in long lines"))?
+        .arg(word(alloc, "path", "PATH").required(false))?;
+    let get = Command::new(alloc, "get")
+        .about("copies a file from the server")
+        .arg(flag(alloc, "recursive", 'r', "a directory with all that is in it"))?
+        .arg(word(alloc, "path", "PATH"))?
+        .arg(word(alloc, "local", "LOCAL"))?;
+    let put = Command::new(alloc, "put")
+        .about("copies a file to the server")
+        .arg(word(alloc, "local", "LOCAL"))?
+        .arg(word(alloc, "path", "PATH"))?;
+    let rename = Command::new(alloc, "mv")
+        .about("gives a file another name, in the same directory")
+        .arg(word(alloc, "path", "PATH"))?
+        .arg(word(alloc, "name", "NAME"))?;
+    let change_mode = Command::new(alloc, "chmod")
+        .about("gives a file the permissions of an octal number")
+        .arg(word(alloc, "mode", "MODE"))?
+        .arg(word(alloc, "path", "PATH"))?;
+    let program = program
+        .subcommand_required(true)
+        .subcommand(list)?
+        .subcommand(get)?
+        .subcommand(put)?
+        .subcommand(rename)?
+        .subcommand(change_mode)?;
+    let program = with_verb(alloc, program, "cat", "prints a file")?;
+    let program = with_verb(alloc, program, "stat", "prints all that the server reports of a file")?;
+    let program = with_verb(alloc, program, "mkdir", "makes a directory")?;
+    with_verb(alloc, program, "rm", "removes a file or an empty directory")
+}
+
+// Adds a command on one path.
+fn with_verb<'a>(
+    alloc: Global,
+    program: Command<'a>,
+    name: &'a str,
+    about: &'a str,
+) -> Result<Command<'a>, AllocError> {
+    let verb = Command::new(alloc, name)
+        .about(about)
+        .arg(word(alloc, "path", "PATH"))?;
+    program.subcommand(verb)
+}
