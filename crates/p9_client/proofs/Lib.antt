@@ -1,4 +1,5 @@
 pub mod Calls
 pub mod Parts
+pub mod ReadPieces
 pub mod Sizes
 pub mod Stats

@@ -1,7 +1,7 @@
 //! The contents of a directory: stats, one after another.
 
 ghost use Rattle.std.specs.Prelude.{◌≡◌, ◌<◌, ◌≤◌, ◌^◌, ◌++◌, IfOk, OnOk, length};
-ghost use Rattle.p9_client.specs.Files.{GoesOn, spelled};
+ghost use Rattle.p9_client.specs.Files.{GoesOn, ReadsWhole, spelled};
 
 use crate::entry::Entry;
 use crate::file_error::FileError;
@@ -28,7 +28,9 @@ impl<S: Stream + Drop, A: Allocator + Copy> Session<S, A> {
         alloc: B,
         fid: u32,
     ) -> Result<Vec<Entry<B>, B>, FileError>
-        ensures { GoesOn self.old self.new result }
+        ensures goes_on { GoesOn self.old self.new result }
+        ensures listed { IfOk result (λ entries. ReadsWhole S.remaining S.contents fid
+            (spelled entries.items) self.old self.new) }
     {
         self.list_within(alloc, fid, LISTING_MAX)
     }
@@ -46,7 +48,9 @@ impl<S: Stream + Drop, A: Allocator + Copy> Session<S, A> {
         fid: u32,
         most: u32,
     ) -> Result<Vec<Entry<B>, B>, FileError>
-        ensures { GoesOn self.old self.new result }
+        ensures goes_on { GoesOn self.old self.new result }
+        ensures listed { IfOk result (λ entries. ReadsWhole S.remaining S.contents fid
+            (spelled entries.items) self.old self.new) }
     {
         let mut chunk = self.chunk()?;
         let mut entries = Vec::new(alloc);

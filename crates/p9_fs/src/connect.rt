@@ -25,11 +25,7 @@ pub fn connect(rt: &HostRuntime, words: &ArgMatches<'_>) -> Result<Client, Failu
     let address = words.get_str("addr").unwrap_or("");
     let msize = words.get_one::<usize>("msize").unwrap_or(MSIZE);
     if msize < MSIZE_MIN || msize > MSIZE_MAX {
-        return Err(report_text(
-            rt,
-            "an msize is from 256 to 1048576",
-            Failure::BadWords,
-        ));
+        return Err(report_text(rt, "an msize is from 256 to 1048576", Failure::BadWords));
     }
     let stream = match TcpStream::connect(rt, address) {
         Ok(stream) => stream,

@@ -77,12 +77,7 @@ struct Pending {
 }
 
 // Copies a directory with all that is in it. What is refused is reported, and the rest is copied.
-fn get_tree(
-    rt: &HostRuntime,
-    client: &mut Client,
-    path: &str,
-    local: &str,
-) -> Result<(), Failure> {
+fn get_tree(rt: &HostRuntime, client: &mut Client, path: &str, local: &str) -> Result<(), Failure> {
     let mut pending = Vec::new(rt.alloc());
     let mut dirs: Vec<(String, u32)> = Vec::new(rt.alloc());
     let mut outcome = Ok(());

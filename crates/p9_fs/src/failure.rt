@@ -53,8 +53,8 @@ impl From<NoMemory> for Failure {
 // How a command failed that met this error.
 fn failure_of(error: &FileError) -> Failure {
     match error {
-        FileError::Session(ClientError::Refused(_) | ClientError::TooLong)
-        | FileError::NotWalked => Failure::Refused,
+        FileError::Session(ClientError::Refused(_) | ClientError::TooLong) | FileError::NotWalked =>
+            Failure::Refused,
         FileError::Session(ClientError::NoMemory) | FileError::NoMemory => Failure::NoMemory,
         _ => Failure::Failed,
     }

@@ -30,7 +30,9 @@ pub fn stat_line(alloc: Global, entry: &Entry<Global>) -> Result<String, AllocEr
     let (path, version, kind) = (entry.qid.path, entry.qid.version, entry.qid.kind);
     let (mode, atime, mtime) = (entry.mode, entry.atime, entry.mtime);
     let (length, device, dev) = (entry.length, entry.kind, entry.dev);
-    format!(in alloc; "'{name}' '{uid}' '{gid}' '{muid}' q ({path:x} {version} {kind:x}) m 0{mode:o} at {atime} mt {mtime} l {length} t {device} d {dev}")
+    format!(in alloc;
+        "'{name}' '{uid}' '{gid}' '{muid}' q ({path:x} {version} {kind:x}) m 0{mode:o} at {atime} mt {mtime} l {length} t {device} d {dev}"
+    )
 }
 
 // The letters of a mode: `d` for a directory, `a` for a file that is only appended to, then `l` for

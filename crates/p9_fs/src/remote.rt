@@ -60,7 +60,11 @@ pub fn finish<T: Drop>(
 }
 
 /// What the server reports of the file of a path.
-pub fn stat_of(rt: &HostRuntime, client: &mut Client, path: &str) -> Result<Entry<Global>, Failure> {
+pub fn stat_of(
+    rt: &HostRuntime,
+    client: &mut Client,
+    path: &str,
+) -> Result<Entry<Global>, Failure> {
     walk_to(rt, client, path)?;
     let done = client.stat(rt.alloc(), FILE).map_err(FileError::Session);
     finish(rt, client, path, done)

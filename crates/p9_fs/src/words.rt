@@ -7,11 +7,18 @@ use std::alloc::{AllocError, Global};
 #[derive(Clone, Copy, Debug)]
 pub enum Verb<'a> {
     /// The entries of a directory, or a file; by name, or in long lines.
-    List { path: &'a str, long: bool },
+    List {
+        path: &'a str,
+        long: bool,
+    },
     /// The bytes of a file.
-    Cat { path: &'a str },
+    Cat {
+        path: &'a str,
+    },
     /// What the server reports of a file.
-    Stat { path: &'a str },
+    Stat {
+        path: &'a str,
+    },
     /// A copy of a file, or of all in a directory.
     Get {
         path: &'a str,
@@ -19,15 +26,28 @@ pub enum Verb<'a> {
         is_recursive: bool,
     },
     /// A copy to the server.
-    Put { local: &'a str, path: &'a str },
+    Put {
+        local: &'a str,
+        path: &'a str,
+    },
     /// A new directory.
-    MakeDir { path: &'a str },
+    MakeDir {
+        path: &'a str,
+    },
     /// No more file.
-    Remove { path: &'a str },
+    Remove {
+        path: &'a str,
+    },
     /// Another name.
-    Rename { path: &'a str, name: &'a str },
+    Rename {
+        path: &'a str,
+        name: &'a str,
+    },
     /// Other permissions.
-    ChangeMode { mode: u32, path: &'a str },
+    ChangeMode {
+        mode: u32,
+        path: &'a str,
+    },
     /// The commands of the standard input.
     Shell,
 }
@@ -69,11 +89,25 @@ pub fn verb_of<'a>(words: &ArgMatches<'a>) -> Option<Verb<'a>> {
 
 /// The program's command line.
 pub fn program<'a>(alloc: Global) -> Result<Command<'a>, AllocError> {
-    let addr = option(alloc, "addr", 'a', "ADDR", "the server's address, HOST:PORT").required(true);
-    let user = option(alloc, "user", 'u', "USER", "the user to attach as, or else $USER, or none");
+    let addr = option(
+        alloc,
+        "addr",
+        'a',
+        "ADDR",
+        "the server's address, HOST:PORT",
+    )
+    .required(true);
+    let user = option(
+        alloc,
+        "user",
+        'u',
+        "USER",
+        "the user to attach as, or else $USER, or none",
+    );
     let aname = option(alloc, "aname", 'n', "ANAME", "the tree to attach");
-    let msize = option(alloc, "msize", 'm', "MSIZE", "the most bytes of a message")
-        .value_parser(value_parser!(usize));
+    let msize = option(alloc, "msize", 'm', "MSIZE", "the most bytes of a message").value_parser(
+        value_parser!(usize),
+    );
     let program = Command::new(alloc, "p9_fs")
         .about("looks at an export of 9P2000, and copies files from it and to it")
         .version("1.0")
@@ -92,13 +126,7 @@ pub fn line_program<'a>(alloc: Global) -> Result<Command<'a>, AllocError> {
 }
 
 // An option with a value.
-fn option<'a>(
-    alloc: Global,
-    id: &'a str,
-    letter: char,
-    value: &'a str,
-    help: &'a str,
-) -> Arg<'a> {
+fn option<'a>(alloc: Global, id: &'a str, letter: char, value: &'a str, help: &'a str) -> Arg<'a> {
     Arg::new(alloc, id)
         .short(letter)
         .value_name(value)
@@ -130,7 +158,12 @@ fn with_verbs<'a>(alloc: Global, program: Command<'a>) -> Result<Command<'a>, Al
         .arg(word(alloc, "path", "PATH").required(false))?;
     let get = Command::new(alloc, "get")
         .about("copies a file from the server")
-        .arg(flag(alloc, "recursive", 'r', "a directory with all that is in it"))?
+        .arg(flag(
+            alloc,
+            "recursive",
+            'r',
+            "a directory with all that is in it",
+        ))?
         .arg(word(alloc, "path", "PATH"))?
         .arg(word(alloc, "local", "LOCAL"))?;
     let put = Command::new(alloc, "put")
@@ -153,7 +186,12 @@ fn with_verbs<'a>(alloc: Global, program: Command<'a>) -> Result<Command<'a>, Al
         .subcommand(rename)?
         .subcommand(change_mode)?;
     let program = with_verb(alloc, program, "cat", "prints a file")?;
-    let program = with_verb(alloc, program, "stat", "prints all that the server reports of a file")?;
+    let program = with_verb(
+        alloc,
+        program,
+        "stat",
+        "prints all that the server reports of a file",
+    )?;
     let program = with_verb(alloc, program, "mkdir", "makes a directory")?;
     with_verb(alloc, program, "rm", "removes a file or an empty directory")
 }
