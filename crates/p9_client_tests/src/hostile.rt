@@ -59,8 +59,16 @@ const ROWS: [(Call, &str, &str); 29] = [
     (Call::Clunk, "0a000000 6b 0000 0100 ff", "no message"),
     (Call::Read, "0f000000 75 0000 04000000 01020304", "done"),
     (Call::Read, "0b000000 75 0000 00000000", "done"),
-    (Call::Read, "10000000 75 0000 05000000 0102030405", "unasked"),
-    (Call::Read, "0f000000 75 0000 05000000 01020304", "no message"),
+    (
+        Call::Read,
+        "10000000 75 0000 05000000 0102030405",
+        "unasked",
+    ),
+    (
+        Call::Read,
+        "0f000000 75 0000 05000000 01020304",
+        "no message",
+    ),
     (Call::Write, "0b000000 77 0000 02000000", "done"),
     (Call::Write, "0b000000 77 0000 03000000", "unasked"),
     (Call::Write, "0b000000 77 0000 ffffffff", "unasked"),
@@ -70,11 +78,31 @@ const ROWS: [(Call, &str, &str); 29] = [
         "23000000 6f 0000 0200 80 00000000 0100000000000000 00 00000000 0300000000000000",
         "unasked",
     ),
-    (Call::Version, "13000000 65 ffff 00200000 0600 395032303030", "done"),
-    (Call::Version, "13000000 65 ffff 01200000 0600 395032303030", "unasked"),
-    (Call::Version, "13000000 65 ffff ff000000 0600 395032303030", "unasked"),
-    (Call::Version, "14000000 65 ffff 00200000 0700 756e6b6e6f776e", "unasked"),
-    (Call::Version, "13000000 65 0000 00200000 0600 395032303030", "other tag"),
+    (
+        Call::Version,
+        "13000000 65 ffff 00200000 0600 395032303030",
+        "done",
+    ),
+    (
+        Call::Version,
+        "13000000 65 ffff 01200000 0600 395032303030",
+        "unasked",
+    ),
+    (
+        Call::Version,
+        "13000000 65 ffff ff000000 0600 395032303030",
+        "unasked",
+    ),
+    (
+        Call::Version,
+        "14000000 65 ffff 00200000 0700 756e6b6e6f776e",
+        "unasked",
+    ),
+    (
+        Call::Version,
+        "13000000 65 0000 00200000 0600 395032303030",
+        "other tag",
+    ),
 ];
 
 // What a call comes to.

@@ -43,7 +43,10 @@ fn a_listing_has_the_entries_of_all_reads(rt: HostRuntime) {
             Ok(entries) => ("done", entries.len()),
             Err(error) => (file_kind_of(&error), 0),
         };
-        assert!(rt; came == wanted && entries == count, "{replies}: {came} {entries}");
+        assert!(rt;
+            came == wanted && entries == count,
+            "{replies}: {came} {entries}"
+        );
         assert!(rt; session.is_failed() == (wanted != "done"), "{replies}");
     }
 }

@@ -23,7 +23,11 @@ fn read_both(
 }
 
 // The session goes on where an allocation fails.
-fn check(rt: &impl Abort, alloc: &Refusing<Global>, mut session: Session<Served, &Refusing<Global>>) {
+fn check(
+    rt: &impl Abort,
+    alloc: &Refusing<Global>,
+    mut session: Session<Served, &Refusing<Global>>,
+) {
     let result = read_both(alloc, &mut session);
     let fine = match &result {
         Ok(count) => *count == 7,

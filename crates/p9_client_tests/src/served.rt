@@ -72,12 +72,7 @@ impl Served {
         };
         self.reply.clear();
         self.reply.resize(room, 0)?;
-        let len = self.guard.answer(
-            SESSION,
-            self.input.as_slice(),
-            0,
-            self.reply.as_mut_slice(),
-        );
+        let len = self.guard.answer(SESSION, self.input.as_slice(), 0, self.reply.as_mut_slice());
         self.reply.truncate(len);
         self.read = 0;
         self.input.clear();

@@ -32,11 +32,20 @@ fn untouched<'a>() -> Stat<'a> {
 }
 
 // What a file of the world is.
-fn contents(rt: &impl Abort, alloc: Global, session: &mut Session<Served, Global>, path: &[&str]) -> Vec<u8> {
+fn contents(
+    rt: &impl Abort,
+    alloc: Global,
+    session: &mut Session<Served, Global>,
+    path: &[&str],
+) -> Vec<u8> {
     assert!(rt; session.walk_path(0, 1, path).is_ok());
     assert!(rt; session.open(1, 0).is_ok());
     let mut out = Vec::new(alloc);
-    assert!(rt; session.read_to(1, &mut out).is_ok_and(|count| count == out.len() as u64));
+    assert!(rt;
+        session
+            .read_to(1, &mut out)
+            .is_ok_and(|count| count == out.len() as u64)
+    );
     assert!(rt; session.clunk(1).is_ok());
     out
 }
@@ -45,14 +54,23 @@ fn contents(rt: &impl Abort, alloc: Global, session: &mut Session<Served, Global
 fn lives(rt: &impl Abort, alloc: Global, most: usize) {
     let mut session = attach(rt, alloc, Served::new(rt, alloc, most));
     assert!(rt; session.walk_path(0, 1, &["pub"]).is_ok());
-    assert!(rt; session.create(1, "note", 0o644, 1).is_ok_and(|file| file.qid.kind == 0));
+    assert!(rt;
+        session
+            .create(1, "note", 0o644, 1)
+            .is_ok_and(|file| file.qid.kind == 0)
+    );
     assert!(rt; session.write_whole(1, b"a note").is_ok());
     let mut stat = untouched();
     stat.name = "other";
     assert!(rt; session.wstat(1, stat).is_ok());
-    assert!(rt; session.stat(alloc, 1).is_ok_and(|entry| entry.name.as_str() == "other" && entry.length == 6));
+    assert!(rt;
+        session.stat(alloc, 1).is_ok_and(|entry| entry.name.as_str() == "other"
+            && entry.length == 6)
+    );
     assert!(rt; session.clunk(1).is_ok());
-    assert!(rt; contents(rt, alloc, &mut session, &["pub", "other"]).as_slice() == b"a note".as_slice());
+    assert!(rt;
+        contents(rt, alloc, &mut session, &["pub", "other"]).as_slice() == b"a note".as_slice()
+    );
     assert!(rt; session.walk_path(0, 1, &["pub", "other"]).is_ok());
     assert!(rt; session.remove(1).is_ok());
     let gone = session.walk_path(0, 1, &["pub", "other"]);
@@ -71,7 +89,8 @@ fn a_refusal_has_the_servers_text(rt: HostRuntime) {
     let mut session = attach(&rt, rt.alloc(), Served::new(&rt, rt.alloc(), ALL));
     assert!(rt; session.walk_path(0, 1, &["shut"]).is_ok());
     let refused = session.open(1, 0);
-    let is_denied = matches!(&refused, Err(ClientError::Refused(reason)) if reason.as_str() == "permission denied");
+    let is_denied =
+        matches!(&refused, Err(ClientError::Refused(reason)) if reason.as_str() == "permission denied");
     assert!(rt; is_denied);
     let too_long = session.attach(2, "glen\0da", "");
     assert!(rt; too_long.is_err_and(|error| kind_of(&error) == "too long"));
