@@ -1,0 +1,293 @@
+//! Lines that are written, and the world that is read of them.
+
+use p9_base::{FileFlags, NoMemory, Permissions, Rights};
+use p9_index::IndexTree;
+use p9_pack::{
+    DirLine, FileLine, GroupLine, HideLine, PlainName, PlainUser, ServerName, WorldLine, write_line,
+};
+use p9_testing::{Refusing, refuse_each};
+use p9_tree::{Node, Tree};
+use p9_world::{World, read_world};
+use std::alloc::{Allocator, Global};
+use std::process::Abort;
+use std::str::from_utf8;
+use std::test::Fail;
+
+const TEXT: &str = "\
+server main
+dir / 755 sys sys
+dir /usr 750 glenda sys
+file /usr/none 644 glenda sys -
+file /usr/\u{e9} alt406 glenda sys 00ff0a
+file /usr/LONG l000 glenda sys 68690a
+user glenda
+group sys glenda glenda sys
+hide main /usr
+hide main /
+";
+
+// The nodes of the world, each by its number, name, permissions, owner and bytes.
+const TOLD: &str = "\
+0 / 20000000755 sys []
+1 usr 20000000750 glenda []
+2 none 644 glenda []
+3 \u{e9} 14400000406 glenda [0, 255, 10]
+4 LONG 4000000000 glenda [104, 105, 10]
+";
+
+// A name of 255 bytes, which is LONG above.
+const LONG: &str =
+    "nnnnnnnnnnnnnnnnnnnnnnnnnnnnnnnnnnnnnnnnnnnnnnnnnnnnnnnnnnnnnnnnnnnnnnnnnnnnnnnnnnnnnnnnnnnnnnnnnnnnnnnnnnnnnnnnnnnnnnnnnnnnnnnnnnnnnnnnnnnnnnnnnnnnnnnnnnnnnnnnnnnnnnnnnnnnnnnnnnnnnnnnnnnnnnnnnnnnnnnnnnnnnnnnnnnnnnnnnnnnnnnnnnnnnnnnnnnnnnnnnnnnnnnnnnnnnnn";
+
+const NO_FLAGS: FileFlags = FileFlags {
+    append_only: false,
+    exclusive: false,
+    temporary: false,
+};
+
+const ALL_FLAGS: FileFlags = FileFlags {
+    append_only: true,
+    exclusive: true,
+    temporary: true,
+};
+
+const EXCLUSIVE: FileFlags = FileFlags {
+    append_only: false,
+    exclusive: true,
+    temporary: false,
+};
+
+// The permissions of nine bits.
+fn permissions(bits: u32) -> Permissions {
+    let rights = |bits: u32| Rights {
+        read: bits / 4 % 2 == 1,
+        write: bits / 2 % 2 == 1,
+        execute: bits % 2 == 1,
+    };
+    Permissions {
+        owner: rights(bits / 64),
+        group: rights(bits / 8),
+        others: rights(bits),
+    }
+}
+
+fn name(rt: &impl Abort, text: &str) -> PlainName {
+    PlainName::new(text).ok().expect(rt, "a name")
+}
+
+fn user(rt: &impl Abort, text: &str) -> PlainUser {
+    PlainUser::new(text).ok().expect(rt, "a user")
+}
+
+// Adds a line, again where an allocation failed: then the text is as before.
+fn write<A: Allocator + Copy>(
+    rt: &impl Abort,
+    alloc: A,
+    line: &WorldLine<'_>,
+    out: &mut Vec<u8, A>,
+) {
+    let len = out.len();
+    if let Err(NoMemory) = write_line(alloc, line, out) {
+        assert!(rt; out.len() == len);
+        assert!(rt; write_line(alloc, line, out).is_ok());
+    }
+}
+
+// A line of a directory.
+fn dir<'a>(path: &'a [PlainName], bits: u32, uid: PlainUser, gid: PlainUser) -> WorldLine<'a> {
+    let permissions = permissions(bits);
+    WorldLine::Dir(DirLine {
+        path,
+        permissions,
+        uid,
+        gid,
+    })
+}
+
+// A line of a file.
+fn file<'a>(
+    path: &'a [PlainName],
+    (flags, bits): (FileFlags, u32),
+    uid: PlainUser,
+    gid: PlainUser,
+    bytes: &'a [u8],
+) -> WorldLine<'a> {
+    let permissions = permissions(bits);
+    WorldLine::File(FileLine {
+        path,
+        flags,
+        permissions,
+        uid,
+        gid,
+        bytes,
+    })
+}
+
+// The users of the lines.
+#[derive(Drop)]
+struct Users {
+    sys: PlainUser,
+    glenda: PlainUser,
+}
+
+// Writes the lines of the text.
+fn write_lines<A: Allocator + Copy>(rt: &impl Abort, alloc: A, out: &mut Vec<u8, A>) {
+    let users = Users {
+        sys: user(rt, "sys"),
+        glenda: user(rt, "glenda"),
+    };
+    let main = ServerName::new("main").ok().expect(rt, "a server");
+    let usr = [name(rt, "usr")];
+    write_server(rt, alloc, main, out);
+    write_dir(rt, alloc, &[], 0o755, (users.sys, users.sys), out);
+    write_dir(rt, alloc, &usr, 0o750, (users.glenda, users.sys), out);
+    write_files(rt, alloc, &users, out);
+    write_user(rt, alloc, users.glenda, out);
+    write_group(rt, alloc, &users, out);
+    write_hide(rt, alloc, main, &usr, out);
+    write_hide(rt, alloc, main, &[], out);
+}
+
+// Writes the line of a server.
+fn write_server<A: Allocator + Copy>(
+    rt: &impl Abort,
+    alloc: A,
+    server: ServerName,
+    out: &mut Vec<u8, A>,
+) {
+    let line = WorldLine::Server(server);
+    write(rt, alloc, &line, out);
+}
+
+// Writes the line of a directory.
+fn write_dir<A: Allocator + Copy>(
+    rt: &impl Abort,
+    alloc: A,
+    path: &[PlainName],
+    bits: u32,
+    (uid, gid): (PlainUser, PlainUser),
+    out: &mut Vec<u8, A>,
+) {
+    let line = dir(path, bits, uid, gid);
+    write(rt, alloc, &line, out);
+}
+
+// Writes the line of a listed user.
+fn write_user<A: Allocator + Copy>(
+    rt: &impl Abort,
+    alloc: A,
+    user: PlainUser,
+    out: &mut Vec<u8, A>,
+) {
+    let line = WorldLine::User(user);
+    write(rt, alloc, &line, out);
+}
+
+// Writes the lines of the files.
+fn write_files<A: Allocator + Copy>(
+    rt: &impl Abort,
+    alloc: A,
+    users: &Users,
+    out: &mut Vec<u8, A>,
+) {
+    for (text, mode, bytes) in [
+        ("none", (NO_FLAGS, 0o644), b"".as_slice()),
+        ("\u{e9}", (ALL_FLAGS, 0o406), b"\0\xff\n".as_slice()),
+        (LONG, (EXCLUSIVE, 0), b"hi\n".as_slice()),
+    ] {
+        write_file(rt, alloc, text, mode, users, bytes, out);
+    }
+}
+
+// Writes the line of a file in the directory `usr`.
+fn write_file<A: Allocator + Copy>(
+    rt: &impl Abort,
+    alloc: A,
+    text: &str,
+    mode: (FileFlags, u32),
+    users: &Users,
+    bytes: &[u8],
+    out: &mut Vec<u8, A>,
+) {
+    let path = [name(rt, "usr"), name(rt, text)];
+    let line = file(&path, mode, users.glenda, users.sys, bytes);
+    write(rt, alloc, &line, out);
+}
+
+// Writes the line of the group.
+fn write_group<A: Allocator + Copy>(
+    rt: &impl Abort,
+    alloc: A,
+    users: &Users,
+    out: &mut Vec<u8, A>,
+) {
+    let members = [users.glenda, users.sys];
+    let group = GroupLine {
+        name: users.sys,
+        leader: users.glenda,
+        members: &members,
+    };
+    let line = WorldLine::Group(group);
+    write(rt, alloc, &line, out);
+}
+
+// Writes a line that hides a directory.
+fn write_hide<A: Allocator + Copy>(
+    rt: &impl Abort,
+    alloc: A,
+    server: ServerName,
+    path: &[PlainName],
+    out: &mut Vec<u8, A>,
+) {
+    let line = WorldLine::Hide(HideLine { server, path });
+    write(rt, alloc, &line, out);
+}
+
+// Adds what a node is.
+fn tell<A: Allocator>(told: &mut String, node: &Node<A>) -> Result<(), Fail> {
+    let (number, name, mode) = (node.number(), node.name(), node.mode().bits());
+    let (uid, bytes) = (node.uid().as_str(), node.bytes());
+    writeln!(told, "{number} {name} {mode:o} {uid} {bytes:?}")?;
+    Ok(())
+}
+
+// What the nodes of a world are.
+fn told_of(alloc: Global, world: &World<IndexTree<Global>>) -> Result<String, Fail> {
+    let mut told = String::new(alloc);
+    let forest = &world.forest;
+    for tree in forest.trees.as_slice() {
+        for number in 0..tree.next() {
+            if let Some(node) = tree.node(number) {
+                tell(&mut told, node)?;
+            }
+        }
+    }
+    Ok(told)
+}
+
+#[test]
+fn lines_are_written_and_read_back(rt: HostRuntime) -> Result<(), Fail> {
+    let alloc = rt.alloc();
+    let mut out = Vec::new(alloc);
+    write_lines(&rt, alloc, &mut out);
+    let text = from_utf8(out.as_slice())?;
+    assert!(rt; text == TEXT.replace(alloc, "LONG", LONG)?.as_str());
+    let world = read_world::<IndexTree<Global>>(alloc, text)?;
+    let told = told_of(alloc, &world)?;
+    assert!(rt; told.as_str() == TOLD.replace(alloc, "LONG", LONG)?.as_str());
+    Ok(())
+}
+
+#[test]
+fn a_line_is_written_after_each_refusal(rt: HostRuntime) {
+    let memory = Refusing::new(rt.alloc());
+    let refusals = refuse_each(
+        &memory,
+        || Vec::new(&memory),
+        |mut out| {
+            write_lines(&rt, &memory, &mut out);
+            assert!(rt; out.len() == TEXT.len() + LONG.len() - 4);
+        },
+    );
+    assert!(rt; refusals > 10);
+}
