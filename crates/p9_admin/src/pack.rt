@@ -82,25 +82,7 @@ fn pack_dirs(
         Err(NoMemory) => return Err(io::Error::from(AllocError)),
     };
     packing.output.text.extend_from_slice(b"%% world\n")?;
-    let mut servers: Vec<ServerName> = Vec::new(rt.alloc());
-    for dir in dirs {
-        let server = match ServerName::new(server_text(name, dir)) {
-            Ok(server) => server,
-            Err(unfit) => {
-                packing.output.leave_out(rt, dir, Reason::Unfit(unfit))?;
-                continue;
-            }
-        };
-        if servers
-            .iter()
-            .any(|other| other.as_str() == server.as_str())
-        {
-            packing.output.leave_out(rt, dir, Reason::SameServer)?;
-            continue;
-        }
-        servers.push(server)?;
-        pack_tree(rt, &mut packing, &accounts, server, dir)?;
-    }
+    pack_servers(rt, &mut packing, &accounts, name, dirs)?;
     pack_groups(rt, &mut packing, &accounts)?;
     pack_users(rt, &mut packing.output, packing.settings.users.as_slice())?;
     pack_hides(rt, &mut packing.output, packing.settings.hides.as_slice())?;
