@@ -2,9 +2,8 @@
 
 use crate::canned::session_of;
 use crate::kinds::file_kind_of;
-use p9_base::Qid;
-use p9_client::{FileError, Session, Stream};
-use p9_wire::{Stat, write_stat};
+use p9_client::{Entry, FileError, Session, Stream};
+use p9_testing::bytes_of;
 use std::alloc::Global;
 use std::io;
 use std::io::{Read, Write};
@@ -35,19 +34,29 @@ const ROWS: [(&str, &str, usize); 8] = [
     ("0b000000 75 0100 00000000", "other tag", 0),
 ];
 
+// What a listing comes to.
+fn outcome(listed: &Result<Vec<Entry<Global>, Global>, FileError>) -> &'static str {
+    match listed {
+        Ok(_) => "done",
+        Err(error) => file_kind_of(error),
+    }
+}
+
+// Lists over the replies. The session has then failed, but where the listing is had.
+fn check(rt: &impl Abort, alloc: Global, replies: &str, wanted: &str, count: usize) {
+    let mut session = session_of(rt, alloc, replies, 0);
+    let listed = session.list(alloc, 0);
+    assert!(rt; outcome(&listed) == wanted, "{replies}");
+    assert!(rt; session.is_failed() == listed.is_err(), "{replies}");
+    if let Ok(entries) = listed {
+        assert!(rt; entries.len() == count, "{replies}");
+    }
+}
+
 #[test]
 fn a_listing_has_the_entries_of_all_reads(rt: HostRuntime) {
     for (replies, wanted, count) in ROWS {
-        let mut session = session_of(&rt, rt.alloc(), replies, 0);
-        let (came, entries) = match session.list(rt.alloc(), 0) {
-            Ok(entries) => ("done", entries.len()),
-            Err(error) => (file_kind_of(&error), 0),
-        };
-        assert!(rt;
-            came == wanted && entries == count,
-            "{replies}: {came} {entries}"
-        );
-        assert!(rt; session.is_failed() == (wanted != "done"), "{replies}");
+        check(&rt, rt.alloc(), replies, wanted, count);
     }
 }
 
@@ -64,13 +73,13 @@ struct Endless {
 impl Endless {
     // Makes the next reply.
     fn answer(&mut self) -> io::Result<()> {
-        let count = self.data.len();
+        let count = u32::try_from(self.data.len()).unwrap_or(0);
         self.reply.clear();
         self.reply
-            .extend_from_slice(&(count.wrapping_add(11) as u32).to_le_bytes())?;
+            .extend_from_slice(&count.wrapping_add(11).to_le_bytes())?;
         self.reply.push(117)?;
         self.reply.extend_from_slice(&self.tag.to_le_bytes())?;
-        self.reply.extend_from_slice(&(count as u32).to_le_bytes())?;
+        self.reply.extend_from_slice(&count.to_le_bytes())?;
         self.reply.extend_from_slice(self.data.as_slice())?;
         self.tag = self.tag.wrapping_add(1);
         self.read = 0;
@@ -112,26 +121,17 @@ impl Stream for Endless {
     }
 }
 
+// The stat of `f`, with empty names of users.
+const STAT: &str = "\
+3000 0000 00000000 00 00000000 0100000000000000 00000000 00000000 00000000 \
+0000000000000000 0100 66 0000 0000 0000";
+
 // A hundred stats of the same file.
 fn stats(rt: &impl Abort, alloc: Global) -> Vec<u8, Global> {
-    let stat = Stat {
-        kind: 0,
-        dev: 0,
-        qid: Qid::default(),
-        mode: 0,
-        atime: 0,
-        mtime: 0,
-        length: 0,
-        name: "f",
-        uid: "",
-        gid: "",
-        muid: "",
-    };
-    let mut one = [0; 100];
-    let len = write_stat(&stat, &mut one);
+    let one = bytes_of(alloc, STAT).expect(rt, "bytes");
     let mut stats = Vec::new(alloc);
     for _ in 0..100 {
-        assert!(rt; stats.extend_from_slice(&one[..len]).is_ok());
+        assert!(rt; stats.extend_from_slice(one.as_slice()).is_ok());
     }
     stats
 }

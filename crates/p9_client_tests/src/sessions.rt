@@ -2,7 +2,7 @@
 
 use crate::kinds::{file_kind_of, kind_of};
 use crate::served::{Served, attach};
-use p9_client::{ClientError, Session};
+use p9_client::{ClientError, FileError, Session};
 use p9_wire::Stat;
 use std::alloc::Global;
 use std::process::Abort;
@@ -50,32 +50,52 @@ fn contents(
     out
 }
 
-// Makes a file, writes it, changes its name, reads it, and removes it.
-fn lives(rt: &impl Abort, alloc: Global, most: usize) {
-    let mut session = attach(rt, alloc, Served::new(rt, alloc, most));
+// Makes a file, and writes it.
+fn begins(rt: &impl Abort, session: &mut Session<Served, Global>) {
     assert!(rt; session.walk_path(0, 1, &["pub"]).is_ok());
-    assert!(rt;
-        session
-            .create(1, "note", 0o644, 1)
-            .is_ok_and(|file| file.qid.kind == 0)
-    );
+    let made = session.create(1, "note", 0o644, 1);
+    assert!(rt; made.is_ok());
     assert!(rt; session.write_whole(1, b"a note").is_ok());
+    assert!(rt; session.clunk(1).is_ok());
+}
+
+// Gives it another name.
+fn is_renamed(rt: &impl Abort, alloc: Global, session: &mut Session<Served, Global>) {
+    assert!(rt; session.walk_path(0, 1, &["pub", "note"]).is_ok());
     let mut stat = untouched();
     stat.name = "other";
     assert!(rt; session.wstat(1, stat).is_ok());
-    assert!(rt;
-        session.stat(alloc, 1).is_ok_and(|entry| entry.name.as_str() == "other"
-            && entry.length == 6)
-    );
+    let entry = session.stat(alloc, 1).ok().expect(rt, "a stat");
+    assert!(rt; entry.name.as_str() == "other");
+    assert!(rt; entry.length == 6);
     assert!(rt; session.clunk(1).is_ok());
-    assert!(rt;
-        contents(rt, alloc, &mut session, &["pub", "other"]).as_slice() == b"a note".as_slice()
-    );
+}
+
+// Whether a walk led nowhere.
+fn is_not_walked(walked: &Result<(), FileError>) -> bool {
+    match walked {
+        Ok(()) => false,
+        Err(error) => file_kind_of(error) == "not walked",
+    }
+}
+
+// Removes it.
+fn ends(rt: &impl Abort, session: &mut Session<Served, Global>) {
     assert!(rt; session.walk_path(0, 1, &["pub", "other"]).is_ok());
     assert!(rt; session.remove(1).is_ok());
     let gone = session.walk_path(0, 1, &["pub", "other"]);
-    assert!(rt; gone.is_err_and(|error| file_kind_of(&error) == "not walked"));
+    assert!(rt; is_not_walked(&gone));
     assert!(rt; !session.is_failed());
+}
+
+// A file's life, where a call of the stream moves at most so many bytes.
+fn lives(rt: &impl Abort, alloc: Global, most: usize) {
+    let mut session = attach(rt, alloc, Served::new(rt, alloc, most));
+    begins(rt, &mut session);
+    is_renamed(rt, alloc, &mut session);
+    let note = contents(rt, alloc, &mut session, &["pub", "other"]);
+    assert!(rt; note.as_slice() == b"a note".as_slice());
+    ends(rt, &mut session);
 }
 
 #[test]
