@@ -6,3 +6,4 @@ pub mod Digits
 pub mod Puts
 pub mod Meanings
 pub mod Written
+pub mod WordFaults
