@@ -1,0 +1,5 @@
+pub mod Paths
+pub mod Walks
+pub mod Numbers
+pub mod Verdicts
+pub mod Refusals

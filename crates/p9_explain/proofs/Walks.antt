@@ -1,0 +1,37 @@
+-- A walk in words, and what is said of it.
+use Rattle.std.proofs.Common.{◌≡◌, ℕ, ◌+◌, ◌<◌, ◌≤◌, List, [], ◌∷◌, ◌++◌, length, take, get_or, refl}
+use Rattle.std.proofs.Common.{sym, ap, ◌∙◌, subst, append_assoc, append-nil}
+use Rattle.std.proofs.lemmas.List.{take_all, take_more}
+use Rattle.p9_judge.specs.declared.breach.Step.{Step}
+use Rattle.p9_world.specs.World.{World}
+use Rattle.p9_explain.specs.Told.{IsStepTold, IsWalkTold}
+
+module _ (world : World) where
+  -- a step more
+  walk-push : (steps : List Step) (text : List ℕ) (step : Step) (line : List ℕ)
+      → IsWalkTold world steps text → IsStepTold world step line
+      → IsWalkTold world (steps ++ step ∷ []) (text ++ line)
+  walk-push [] text step line walk told =
+      (line, [], told, ap (λ t. t ++ line) walk ∙ sym (append-nil line), refl)
+  walk-push (s ∷ steps) text step line walk told = (
+    walk.0,
+    walk.1 ++ line,
+    walk.2,
+    ap (λ t. t ++ line) walk.3 ∙ append_assoc walk.0 walk.1 line,
+    walk-push steps walk.1 step line walk.4 told,
+  )
+
+  module _ (steps : List Step) (i : ℕ) (text : List ℕ) where
+    pub walk-more : (d step : Step) (line after : List ℕ) → i < length steps
+        → step ≡ get_or steps i d → after ≡ text ++ line → IsStepTold world step line
+        → IsWalkTold world (take i steps) text → IsWalkTold world (take (i + 1) steps) after
+    walk-more d step line after l at is told walk =
+        let here : take i steps ++ step ∷ [] ≡ take (i + 1) steps =
+        ap (λ s. take i steps ++ s ∷ []) at ∙ sym (take_more steps i d l) in
+        subst (λ t. IsWalkTold world (take (i + 1) steps) t) (sym is)
+        (subst (λ ss. IsWalkTold world ss (text ++ line)) here
+        (walk-push (take i steps) text step line walk told))
+
+    pub walk-all : length steps ≤ i → IsWalkTold world (take i steps) text
+        → IsWalkTold world steps text
+    walk-all l walk = subst (λ ss. IsWalkTold world ss text) (take_all i steps l) walk

@@ -1,0 +1,50 @@
+-- What is said of an input. It says yes only where `check` may say yes, and no only where `check` may
+-- say no; no input has both.
+use Rattle.std.specs.Prelude.{◌≡◌, ◌⊎◌, ℕ, List, [], ◌++◌, Result, Ok, Err, codes}
+use Rattle.p9_base.specs.declared.stop.Stop.{Stop}
+use Rattle.p9_base.specs.declared.stop.Stop.TheVariants.{Refused, NoMemory}
+use Rattle.p9_commands.specs.declared.refusal.Refusal.{Refusal}
+use Rattle.p9_commands.specs.Judgement.{SaysNo, SaysYes}
+use Rattle.p9_commands.specs.NameSpace.{NameSpace}
+use Rattle.p9_commands.specs.Prepared.{Prepared, Rejected}
+use Rattle.p9_explain.specs.Told.{IsBreachTold}
+
+-- yes: `check` prints some text for it that says so
+pub record IsYesTold (space : NameSpace) (status : ℕ) (text : List ℕ) : Type 0 where
+  pub status_is : status ≡ 0
+  pub printed : List ℕ
+  pub said : SaysYes space [] printed 0
+  pub claim : List ℕ
+  pub rest : List ℕ
+  pub is : text ≡ claim ++ codes "yes: " ++ rest
+
+-- no: `check` prints some text for it that says so, and its breach is the one that is told
+pub record IsNoTold (space : NameSpace) (status : ℕ) (text : List ℕ) : Type 0 where
+  pub status_is : status ≡ 1
+  pub printed : List ℕ
+  pub said : SaysNo space [] printed 1
+  pub claim : List ℕ
+  pub breach : List ℕ
+  pub rest : List ℕ
+  pub told : IsBreachTold space.world said.steps said.member breach
+  pub is : text ≡ claim ++ codes "no: " ++ breach ++ rest
+
+abbrev pub IsVerdictTold : NameSpace → (status : ℕ) (text : List ℕ) → Type 0
+IsVerdictTold space status text = IsYesTold space status text ⊎ IsNoTold space status text
+
+-- the input is refused
+abbrev pub IsRefusal : List ℕ → Type 0
+IsRefusal text = (rest : List ℕ) × (text ≡ codes "refused: " ++ rest)
+
+-- that an input is refused is appended, with status 1; a failed allocation never is
+abbrev pub IsRefusalTold : Stop Refusal → (status : ℕ) (before after : List ℕ) → Type 0
+IsRefusalTold (Refused refusal) status before after =
+    (status ≡ 1) × ((text : List ℕ) × IsRefusal text × (after ≡ before ++ text))
+IsRefusalTold NoMemory status before after = ⊥
+
+-- the verdict over an input's name space is appended; or that it is refused, where it has a fault
+abbrev pub IsExplained : Result Prepared Rejected → (status : ℕ) (before after : List ℕ) → Type 0
+IsExplained (Ok prepared) status before after =
+    (text : List ℕ) × IsVerdictTold prepared.space status text × (after ≡ before ++ text)
+IsExplained (Err rejected) status before after =
+    (status ≡ 1) × ((text : List ℕ) × IsRefusal text × (after ≡ before ++ text))

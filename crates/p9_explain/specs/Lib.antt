@@ -1,0 +1,4 @@
+pub mod Path
+pub mod Told
+pub mod Explained
+pub mod NodeLines

@@ -1,0 +1,201 @@
+//! An input explained.
+
+ghost use Rattle.std.specs.Prelude.{◌≡◌, ◌++◌, ℕ, IfOk, List, OnErr};
+ghost use Rattle.std.specs.String.{string_bytes};
+ghost use Rattle.p9_commands.specs.Prepared.{prepared_of};
+ghost use Rattle.p9_commands.specs.declared.prepared.Needs.TheVariants.{Nothing};
+ghost use Rattle.p9_explain.specs.Explained.{IsExplained, IsRefusal, IsRefusalTold};
+ghost use Rattle.p9_explain.specs.Explained.{IsVerdictTold};
+
+use crate::breach::breach_words;
+use crate::certificate::certificate_words;
+use crate::claim::claim_of;
+use crate::faults::fault_lines;
+use crate::hints::{hints, unneeded_rows};
+use crate::source::Source;
+use p9_base::NoMemory;
+use p9_cert::Certificate;
+use p9_commands::status::{DONE, REFUSED};
+use p9_commands::{NameSpace, Needs, Prepared, Refusal, Stop, prepare};
+use p9_judge::{Verdict, judge};
+use p9_tree::Tree;
+use std::alloc::{AllocError, Allocator};
+
+/// Explains an input to a person who has never seen a certificate, and returns the exit status. The
+/// lines are appended to `out`; they name the input by `name`, and its lines by their numbers in it.
+///
+/// First is what is claimed: which listed users neither see nor change what is inside which hidden
+/// directories. Then:
+///
+/// - `yes`, with the number of directories that clients can reach, and what is said of the input's own
+///   certificate: that it is accepted, or its first gap in words. The status is 0.
+/// - `no`, with a walk to what is hidden, line by line, and how to mend it. The status is 1.
+///
+/// Hints follow, each with its line. Where the input has a fault there is none of this: the first is
+/// reported as [`Refusal::text`](p9_commands::Refusal::text) says, and all bad lines are listed, each
+/// with what was expected there. The status is 1.
+///
+/// Where an allocation fails, it returns [`NoMemory`], and `out` is as before.
+pub fn explain<T: Tree>(
+    name: &str,
+    input: &[u8],
+    out: &mut Vec<u8, T::Alloc>,
+) -> Result<u8, NoMemory>
+    ensures ok { IfOk result (λ status. IsExplained (prepared_of Nothing input.now) status
+        out.old.items out.new.items) }
+    ensures no_memory { OnErr result (out.new.items ≡ out.old.items) }
+{
+    match prepare::<T>(*out.allocator(), input, Needs::Nothing) {
+        Ok(prepared) => explain_prepared(name, input, &prepared, out),
+        Err(error) => explain_refusal::<T>(name, input, error.stop, out),
+    }
+}
+
+// Says why an input is refused.
+fn explain_refusal<T: Tree>(
+    name: &str,
+    input: &[u8],
+    stop: Stop,
+    out: &mut Vec<u8, T::Alloc>,
+) -> Result<u8, NoMemory>
+    ensures ok { IfOk result (λ status. IsRefusalTold stop status out.old.items out.new.items) }
+    ensures no_memory { OnErr result (out.new.items ≡ out.old.items) }
+{
+    match stop {
+        Stop::Refused(refusal) => {
+            let text = refusal_words::<T>(*out.allocator(), name, input, refusal)?;
+            out.extend_from_slice(text.as_bytes())?;
+            Ok(REFUSED)
+        }
+        Stop::NoMemory => Err(NoMemory),
+    }
+}
+
+// Explains an input that is prepared.
+fn explain_prepared<T: Tree>(
+    name: &str,
+    input: &[u8],
+    prepared: &Prepared<T>,
+    out: &mut Vec<u8, T::Alloc>,
+) -> Result<u8, NoMemory>
+    ensures ok { IfOk result (λ status. (text : List ℕ) × IsVerdictTold prepared.now.space status text
+        × (out.new.items ≡ out.old.items ++ text)) }
+    ensures no_memory { OnErr result (out.new.items ≡ out.old.items) }
+{
+    let alloc = *out.allocator();
+    let source = Source::of(alloc, name, str::from_utf8(input).unwrap_or(""))?;
+    let further = further_words(alloc, &source, prepared)?;
+    let certificate = prepared.certificate.as_ref();
+    let told = verdict_words(
+        alloc,
+        &source,
+        &prepared.space,
+        certificate,
+        further.as_str(),
+    )?;
+    out.extend_from_slice(told.text.as_bytes())?;
+    Ok(told.status)
+}
+
+// A verdict in words, and the exit status.
+#[derive(Drop)]
+struct Told<A: Allocator> {
+    text: String<A>,
+    status: u8,
+}
+
+// The verdict over a name space, with what follows it.
+fn verdict_words<T: Tree>(
+    alloc: T::Alloc,
+    source: &Source<'_, T::Alloc>,
+    space: &NameSpace<T>,
+    certificate: Option<&Certificate<T::Alloc>>,
+    further: &str,
+) -> Result<Told<T::Alloc>, NoMemory>
+    ensures { IfOk result (λ told. IsVerdictTold space.now told.status (string_bytes told.text)) }
+{
+    let claim = claim_of(alloc, &space.world)?;
+    match judge(alloc, &space.world, &space.table)? {
+        Verdict::Yes(least) => {
+            let words = yes_words(alloc, source, certificate, &least)?;
+            let text = told_text(alloc, &claim, "yes: ", &words, further)?;
+            Ok(Told { text, status: DONE })
+        }
+        Verdict::No(breach) => {
+            let words = breach_words(alloc, source, &space.world, &breach)?;
+            let text = told_text(alloc, &claim, "no: ", &words, further)?;
+            Ok(Told {
+                text,
+                status: REFUSED,
+            })
+        }
+    }
+}
+
+// The claim, the verdict, and what follows it.
+fn told_text<A: Allocator + Copy>(
+    alloc: A,
+    claim: &String<A>,
+    verdict: &str,
+    words: &String<A>,
+    further: &str,
+) -> Result<String<A>, AllocError>
+    ensures { IfOk result (λ text. string_bytes text ≡ string_bytes claim.now ++ verdict.now
+        ++ string_bytes words.now ++ further.now) }
+{
+    let mut text = String::from_str(alloc, claim.as_str())?;
+    text.push_str(verdict)?;
+    text.push_str(words.as_str())?;
+    text.push_str(further)?;
+    Ok(text)
+}
+
+// What follows a yes.
+fn yes_words<A: Allocator + Copy>(
+    alloc: A,
+    source: &Source<'_, A>,
+    certificate: Option<&Certificate<A>>,
+    least: &Certificate<A>,
+) -> Result<String<A>, NoMemory> {
+    let count = least.rows().len();
+    let directories = if count == 1 {
+        "directory"
+    } else {
+        "directories"
+    };
+    let unneeded = unneeded_rows(alloc, source, certificate, least)?;
+    let rest = format!(in alloc; "and nothing hidden\n{unneeded}")?;
+    Ok(format!(in alloc; "clients can reach {count} {directories}, {rest}")?)
+}
+
+// What follows the verdict: what is said of the input's certificate, and hints.
+fn further_words<T: Tree>(
+    alloc: T::Alloc,
+    source: &Source<'_, T::Alloc>,
+    prepared: &Prepared<T>,
+) -> Result<String<T::Alloc>, NoMemory> {
+    let space = &prepared.space;
+    let certificate = prepared.certificate.as_ref();
+    let certificate = certificate_words(alloc, source, &space.world, certificate, prepared.gap())?;
+    let reports = space.reports.as_slice();
+    let hints = hints(alloc, source, &space.world, &space.table, reports)?;
+    Ok(format!(in alloc; "{certificate}{hints}")?)
+}
+
+// What is said of an input that has a fault.
+fn refusal_words<T: Tree>(
+    alloc: T::Alloc,
+    name: &str,
+    input: &[u8],
+    refusal: Refusal,
+) -> Result<String<T::Alloc>, NoMemory>
+    ensures { IfOk result (λ text. IsRefusal (string_bytes text)) }
+{
+    let reason = refusal.text(alloc)?;
+    let faults = match str::from_utf8(input) {
+        Ok(input) => fault_lines::<T>(alloc, &Source::of(alloc, name, input)?)?,
+        Err(_) => String::new(alloc),
+    };
+    let rest = format!(in alloc; "{reason}\n{faults}")?;
+    Ok(format!(in alloc; "refused: {rest}")?)
+}

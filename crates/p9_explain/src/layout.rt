@@ -1,0 +1,69 @@
+//! Which lines of an input belong to which section, also where section lines are bad.
+
+use crate::head::{Head, Section, Way, head_of};
+use p9_base::{NoMemory, lines};
+use std::alloc::Allocator;
+
+/// A line: its number, from 1, the section that it belongs to, if to one, and the way in which it is
+/// a bad section line, if it is one.
+#[derive(Clone, Copy)]
+pub(crate) struct Line<'a> {
+    pub number: u64,
+    pub text: &'a str,
+    pub section: Option<Section>,
+    pub way: Option<Way>,
+}
+
+/// The lines of an input. A line that is meant to begin a section does so, unless that section was
+/// there before.
+pub(crate) fn layout_of<A: Allocator + Copy>(
+    alloc: A,
+    input: &str,
+) -> Result<Vec<Line<'_>, A>, NoMemory> {
+    let mut layout = Vec::new(alloc);
+    let mut begun = Vec::new(alloc);
+    let mut current = None;
+    let mut number = 0u64;
+    for text in lines(alloc, input)?.as_slice() {
+        number = number.saturating_add(1);
+        let head = head_of(alloc, text)?;
+        let way = way_of(head, text, begun.as_slice());
+        let section = if head == Head::Other { current } else { None };
+        if let Head::Begins(section) | Head::Bad(Some(section), _) = head {
+            current = new_section(section, begun.as_slice());
+            begun.push(section)?;
+        }
+        layout.push(Line {
+            number,
+            text,
+            section,
+            way,
+        })?;
+    }
+    Ok(layout)
+}
+
+// The section, unless it was begun before.
+fn new_section(section: Section, begun: &[Section]) -> Option<Section> {
+    if begun.contains(&section) {
+        None
+    } else {
+        Some(section)
+    }
+}
+
+// The way in which a line is bad after lines that began these sections.
+fn way_of(head: Head, line: &str, begun: &[Section]) -> Option<Way> {
+    match head {
+        Head::Bad(_, way) => Some(way),
+        Head::Begins(section) if begun.contains(&section) => Some(Way::Twice),
+        Head::Begins(section) => match begun.last() {
+            Some(last) if *last > section => Some(Way::WrongOrder),
+            _ => None,
+        },
+        Head::Other if begun.is_empty() && !line.trim_matches([' ', '\t']).is_empty() => {
+            Some(Way::TextBefore)
+        }
+        Head::Other => None,
+    }
+}

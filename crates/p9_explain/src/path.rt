@@ -1,0 +1,96 @@
+//! The path by which a node is named: `server:/path`.
+
+ghost use Rattle.std.specs.Prelude.{◌≡◌, IfOk, map, reverse};
+ghost use Rattle.std.specs.Option.{option_map};
+ghost use Rattle.std.specs.String.{string_bytes};
+ghost use Rattle.p9_tree.specs.Forest.{server_at};
+ghost use Rattle.p9_commands.specs.Path.{entry_at, names_to, rooted_path, server_name};
+ghost use Rattle.p9_explain.specs.Path.{path_of};
+
+use p9_base::{NoMemory, NodeRef};
+use p9_tree::{Forest, Tree};
+use p9_world::World;
+use std::alloc::Allocator;
+
+/// The path of a node: its server's name, a colon, and from the root on a slash before each name.
+/// The root is a slash alone.
+pub(crate) fn path_of<T: Tree>(
+    alloc: T::Alloc,
+    world: &World<T>,
+    at: NodeRef,
+) -> Result<String<T::Alloc>, NoMemory>
+    ensures { IfOk result (λ path. string_bytes path ≡ path_of world.now at) }
+{
+    let names = names_to(alloc, &world.forest, at)?;
+    let rooted = rooted(alloc, names.as_slice())?;
+    Ok(format!(in alloc; "{}:{rooted}", server_name(world, at.server))?)
+}
+
+// The name of the server of this number.
+fn server_name<T: Tree>(world: &World<T>, server: u16) -> &str
+    ensures { result.now ≡ server_name server world.now }
+{
+    match world.servers.get(server as usize) {
+        Some(name) => name.as_str(),
+        None => "",
+    }
+}
+
+// The names that lead to a node from its server's root.
+fn names_to<'a, T: Tree>(
+    alloc: T::Alloc,
+    forest: &'a Forest<T>,
+    at: NodeRef,
+) -> Result<Vec<&'a str, T::Alloc>, NoMemory>
+    ensures { IfOk result (λ names. map (λ n. n.now) names.items
+        ≡ names_to at.number (server_at at.server forest.now).nodes) }
+{
+    let mut names = names_from(alloc, forest, at)?;
+    names.reverse();
+    Ok(names)
+}
+
+// The names from a node's own up to that below its server's root.
+fn names_from<'a, T: Tree>(
+    alloc: T::Alloc,
+    forest: &'a Forest<T>,
+    at: NodeRef,
+) -> Result<Vec<&'a str, T::Alloc>, NoMemory>
+    ensures { IfOk result (λ names. reverse (map (λ n. n.now) names.items)
+        ≡ names_to at.number (server_at at.server forest.now).nodes) }
+{
+    let mut names = Vec::new(alloc);
+    let mut here = at;
+    for _ in 0..at.number {
+        let Some((parent, name)) = entry(forest, here) else {
+            return Ok(names);
+        };
+        names.push(name)?;
+        here.number = parent;
+    }
+    Ok(names)
+}
+
+// In which directory a node is, and under which name.
+fn entry<T: Tree>(forest: &Forest<T>, at: NodeRef) -> Option<(u64, &str)>
+    ensures { option_map (λ e. (e.0, e.1.now)) result
+        ≡ entry_at at.number (server_at at.server forest.now).nodes }
+{
+    let node = forest.node(at)?;
+    Some((node.parent()?, node.name()))
+}
+
+// A slash before each name; without names a slash alone.
+fn rooted<A: Allocator + Copy>(alloc: A, names: &[&str]) -> Result<String<A>, NoMemory>
+    ensures { IfOk result (λ path. string_bytes path ≡ rooted_path (map (λ n. n.now) names.now)) }
+{
+    if names.is_empty() {
+        return Ok(String::from_str(alloc, "/")?);
+    }
+    let mut path = String::new(alloc);
+    for name in names {
+        path.push_str("/")?;
+        path.push_str(name)?;
+    }
+    Ok(path)
+}
