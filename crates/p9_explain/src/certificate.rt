@@ -100,8 +100,8 @@ fn row_words<T: Tree>(
         if number == row {
             let line = source.line(alloc, Section::Cert, statement.line)?;
             let path = match rows.get((number as usize).saturating_sub(1)) {
-                Some(at) => path_of(alloc, world, *at)?,
-                None => String::new(alloc),
+                Some(at) if world.forest.node(*at).is_some() => path_of(alloc, world, *at)?,
+                _ => String::from_str(alloc, "the row")?,
             };
             return Ok(format!(in alloc; "{path} ({line})")?);
         }
