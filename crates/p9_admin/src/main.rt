@@ -1,7 +1,9 @@
-//! The program `p9_admin`: from a directory of the disk to a world, and from an input to a sealed one.
+//! The program `p9_admin`: from a directory of the disk to a world, and from an input to a sealed one
+//! or to a verdict in words.
 #![tactic(auto)]
 
 mod disk;
+mod explain;
 mod hide;
 mod node;
 mod output;
@@ -14,6 +16,7 @@ mod status;
 mod tree;
 mod words;
 
+use crate::explain::run_explain;
 use crate::pack::run_pack;
 use crate::seal::run_seal;
 use crate::status::{BAD_COMMAND_LINE, DONE, INPUT_OR_OUTPUT_FAILED, OUT_OF_MEMORY};
@@ -72,6 +75,7 @@ fn run_words(rt: &HostRuntime, words: &[String]) -> io::Result<u8> {
     match matches.subcommand() {
         Some(("pack", options)) => run_pack(rt, options),
         Some(("seal", options)) => run_seal(rt, options),
+        Some(("explain", options)) => run_explain(rt, options),
         _ => bad_words(rt),
     }
 }

@@ -11,7 +11,8 @@ pub(crate) fn program<'a>(alloc: Global) -> Result<Command<'a>, AllocError> {
         .subcommand_required(true)
         .arg_required_else_help(true)
         .subcommand(pack(alloc)?)?
-        .subcommand(seal(alloc)?)
+        .subcommand(seal(alloc)?)?
+        .subcommand(explain(alloc)?)
 }
 
 // The command that packs directories.
@@ -55,6 +56,15 @@ fn seal<'a>(alloc: Global) -> Result<Command<'a>, AllocError> {
     Command::new(alloc, "seal")
         .about("Prints the input with its certificate, where what is hidden is out of reach")
         .arg(anyway)
+}
+
+// The command that explains an input.
+fn explain<'a>(alloc: Global) -> Result<Command<'a>, AllocError> {
+    Command::new(alloc, "explain")
+        .about("Says in words whether what is hidden is out of reach, and why not")
+        .arg(one(alloc, "name", "NAME", "The input's name in what is printed").default_value(
+            "input",
+        ))
 }
 
 // An option with a value.
