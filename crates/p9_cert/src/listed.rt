@@ -66,7 +66,8 @@ impl<'a, A: Allocator + Copy> Listed<'a, A> {
     }
 
     // Whether some listed user is of one of the classes. The group is looked up once, and the users
-    // are gone over only where not everybody is of them.
+    // are gone over only where not everybody is of them. A group of the owner's name that isn't
+    // listed has the owner alone, who is then compared once.
     fn is_one_of<B: Allocator>(self, classes: Classes, node: &Node<B>) -> bool
         ensures { result ≡ some_listed self.entry.users.now self.entry.groups.now
             (is_of classes node.now) }
@@ -76,8 +77,10 @@ impl<'a, A: Allocator + Copy> Listed<'a, A> {
         }
         let gid = node.gid();
         let group = self.groups.get(gid);
+        let owner_alone = classes.owner && group.is_none() && node.uid() == gid;
         self.users.iter().any(|user| {
-            (classes.owner && node.uid() == user) || is_in_group(user, classes, gid, group)
+            (classes.owner && node.uid() == user)
+                || (!owner_alone && is_in_group(user, classes, gid, group))
         })
     }
 }

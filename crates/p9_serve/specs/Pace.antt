@@ -44,9 +44,14 @@ is_due p =
 abbrev pub is_quiet : Round → Bool
 is_quiet round = nat_eq round.accepted 0 && nat_eq round.moved 0 && nat_eq round.closed 0
 
+-- whether a client was taken in or closed
+abbrev pub is_coming_or_going : Round → Bool
+is_coming_or_going round = nat_lt 0 round.accepted || nat_lt 0 round.closed
+
 -- after one round more
 abbrev pub pacing_after : Pacing → Round → Pacing
 pacing_after p round = record {
   quiet = (if is_quiet round then min (p.quiet + 1) most_quiet else 0);
-  left = (if is_due p then longest_wait else p.left - 1);
+  left =
+      (if is_coming_or_going round then 0 else if is_due p then longest_wait else p.left - 1);
 }

@@ -24,10 +24,11 @@ const MOST_QUIET: u64 = 5_007;
 /// What a server's rounds so far say of the next one: whether it accepts, and how long to rest
 /// before it. A round is quiet where nothing was taken in, moved or closed.
 ///
-/// A round accepts if it is the first, if none of the 63 before it did, if the quiet rounds just
-/// before it are 16 or a multiple of that, and after each rest. There is a rest after 5,000 quiet
-/// rounds and after each further one: 50 microseconds at first, then each time twice as long, up
-/// to 4,000. A round that is not quiet ends the rests.
+/// A round accepts if it is the first, if the one before it took in or closed a client, if none of
+/// the 63 before it did, if the quiet rounds just before it are 16 or a multiple of that, and
+/// after each rest. There is a rest after 5,000 quiet rounds and after each further one: 50
+/// microseconds at first, then each time twice as long, up to 4,000. A round that is not quiet
+/// ends the rests.
 #[derive(Drop)]
 pub struct Pace {
     // The quiet rounds in a row that were the last ones, up to `MOST_QUIET`.
@@ -75,7 +76,9 @@ impl Pace {
     pub fn count(&mut self, round: Round)
         ensures { self.new ≡ pacing_after self.old round }
     {
-        self.left = if self.is_due() {
+        self.left = if round.accepted > 0 || round.closed > 0 {
+            0
+        } else if self.is_due() {
             LONGEST_WAIT
         } else {
             self.left.saturating_sub(1)
