@@ -1,0 +1,4 @@
+pub mod Finds
+pub mod Trails
+pub mod Ways
+pub mod Tours
