@@ -3,15 +3,16 @@ use Rattle.std.specs.Prelude.{ℕ, ◌+◌, ◌-◌, ◌*◌, ◌^◌, ◌%◌, 
 use Rattle.std.specs.Prelude.{nat_lt, if◌then◌else◌}
 use Rattle.p9_serve.specs.declared.server.Round.{Round}
 
--- how many quiet rounds in a row were the last ones, as far as it matters, and how many rounds may
--- still pass before one accepts, whatever comes
+-- how many quiet rounds in a row were the last ones, as far as it matters; how many rounds may still
+-- pass before one accepts, whatever comes; and how many these were just after the last accept
 pub record Pacing : Type 0 where
   pub quiet : ℕ
   pub left : ℕ
+  pub wait : ℕ
 
--- how many rounds pass at most without an accept
+-- how many rounds pass at most between two accepts
 abbrev pub longest_wait : ℕ
-longest_wait = 63
+longest_wait = 255
 
 -- how many quiet rounds come between two accepts
 abbrev pub accept_each : ℕ
@@ -27,7 +28,7 @@ most_quiet = 5_007
 
 -- before the first round
 abbrev pub new_pacing : Pacing
-new_pacing = record { quiet = 0; left = 0 }
+new_pacing = record { quiet = 0; left = 0; wait = 0 }
 
 -- the rest before the next round, in microseconds: 50 at first, then each time twice as long, up to
 -- 4,000
@@ -45,13 +46,23 @@ abbrev pub is_quiet : Round → Bool
 is_quiet round = nat_eq round.accepted 0 && nat_eq round.moved 0 && nat_eq round.closed 0
 
 -- whether a client was taken in or closed
-abbrev pub is_coming_or_going : Round → Bool
-is_coming_or_going round = nat_lt 0 round.accepted || nat_lt 0 round.closed
+abbrev pub has_changed : Round → Bool
+has_changed round = nat_lt 0 round.accepted || nat_lt 0 round.closed
+
+-- how many rounds pass after an accept: none while clients come and go, and after accepts that find
+-- nobody one, then three, seven, and so on
+abbrev pub wait_after : (was_due : Bool) (wait : ℕ) → Round → ℕ
+wait_after was_due wait round =
+    if has_changed round then 0
+    else if was_due then min (2 * wait + 1) longest_wait
+    else wait
 
 -- after one round more
 abbrev pub pacing_after : Pacing → Round → Pacing
-pacing_after p round = record {
-  quiet = (if is_quiet round then min (p.quiet + 1) most_quiet else 0);
-  left =
-      (if is_coming_or_going round then 0 else if is_due p then longest_wait else p.left - 1);
-}
+pacing_after p round =
+    let wait = wait_after (is_due p) p.wait round in
+    record {
+      quiet = (if is_quiet round then min (p.quiet + 1) most_quiet else 0);
+      left = (if has_changed round || is_due p then wait else p.left - 1);
+      wait = wait;
+    }

@@ -2,15 +2,15 @@
 
 ghost use Rattle.std.specs.Prelude.{◌≡◌, ◌≤◌, ◌*◌};
 ghost use Rattle.std.specs.Duration.{as_nanos};
-ghost use Rattle.p9_serve.specs.Pace.{is_due, is_quiet, most_quiet, new_pacing, pacing_after};
-ghost use Rattle.p9_serve.specs.Pace.{rest_of};
+ghost use Rattle.p9_serve.specs.Pace.{has_changed, is_due, is_quiet, longest_wait, most_quiet};
+ghost use Rattle.p9_serve.specs.Pace.{new_pacing, pacing_after, rest_of, wait_after};
 
 use crate::server::Round;
 use std::marker::Model;
 use std::time::Duration;
 
-// How many rounds pass at most without an accept.
-const LONGEST_WAIT: u64 = 63;
+// How many rounds pass at most between two accepts.
+const LONGEST_WAIT: u64 = 255;
 
 // How many quiet rounds come between two accepts.
 const ACCEPT_EACH: u64 = 16;
@@ -24,8 +24,9 @@ const MOST_QUIET: u64 = 5_007;
 /// What a server's rounds so far say of the next one: whether it accepts, and how long to rest
 /// before it. A round is quiet where nothing was taken in, moved or closed.
 ///
-/// A round accepts if it is the first, if the one before it took in or closed a client, if none of
-/// the 63 before it did, if the quiet rounds just before it are 16 or a multiple of that, and
+/// A round accepts if it is the first, or if the one before it took in or closed a client. After
+/// accepts that find nobody one round passes until the next, then three, seven, and so on up to
+/// 255. A round accepts also if the quiet rounds just before it are 16 or a multiple of that, and
 /// after each rest. There is a rest after 5,000 quiet rounds and after each further one: 50
 /// microseconds at first, then each time twice as long, up to 4,000. A round that is not quiet
 /// ends the rests.
@@ -35,17 +36,19 @@ pub struct Pace {
     quiet: u64,
     // The rounds that may still pass before one accepts, whatever comes.
     left: u64,
+    // What was left just after the last accept.
+    wait: u64,
 }
 
 impl Model for Pace {
     ghost use Rattle.std.specs.Prelude.{◌≤◌};
-    ghost use Rattle.p9_serve.specs.Pace.{Pacing, most_quiet};
+    ghost use Rattle.p9_serve.specs.Pace.{Pacing, longest_wait, most_quiet};
 
     ghost Value = { Pacing };
 
-    ghost view = { λ p. record { quiet = p.quiet; left = p.left } };
+    ghost view = { λ p. record { quiet = p.quiet; left = p.left; wait = p.wait } };
 
-    ghost invariant = { λ p. p.quiet ≤ most_quiet };
+    ghost invariant = { λ p. (p.quiet ≤ most_quiet) × (p.wait ≤ longest_wait) };
 }
 
 impl Pace {
@@ -53,7 +56,11 @@ impl Pace {
     pub fn new() -> Pace
         ensures { result ≡ new_pacing }
     {
-        Pace { quiet: 0, left: 0 }
+        Pace {
+            quiet: 0,
+            left: 0,
+            wait: 0,
+        }
     }
 
     /// Whether the next round accepts.
@@ -76,10 +83,10 @@ impl Pace {
     pub fn count(&mut self, round: Round)
         ensures { self.new ≡ pacing_after self.old round }
     {
-        self.left = if round.accepted > 0 || round.closed > 0 {
-            0
-        } else if self.is_due() {
-            LONGEST_WAIT
+        let was_due = self.is_due();
+        self.wait = self.wait_after(round, was_due);
+        self.left = if has_changed(round) || was_due {
+            self.wait
         } else {
             self.left.saturating_sub(1)
         };
@@ -89,6 +96,26 @@ impl Pace {
             0
         };
     }
+
+    // How many rounds are left just after the last accept, once this round is over.
+    fn wait_after(&self, round: Round, was_due: bool) -> u64
+        ensures { result ≡ wait_after was_due self.now.wait round }
+    {
+        if has_changed(round) {
+            0
+        } else if was_due {
+            (2 * self.wait + 1).min(LONGEST_WAIT)
+        } else {
+            self.wait
+        }
+    }
+}
+
+// Whether a client was taken in or closed.
+fn has_changed(round: Round) -> bool
+    ensures { result ≡ has_changed round }
+{
+    round.accepted > 0 || round.closed > 0
 }
 
 // Whether nothing was taken in, moved or closed.
