@@ -4,13 +4,15 @@ ghost use Rattle.std.specs.Prelude.{◌≡◌, ◌++◌, IfOk, codes};
 ghost use Rattle.std.specs.String.{string_bytes};
 ghost use Rattle.p9_explain.specs.Told.{IsBreachTold, IsStepTold, IsWalkTold};
 
+use crate::column::{blanks, column_of, prefix_width, width};
+use crate::member::{Found, bound_words, found_words, hidden_dir};
 use crate::path::path_of;
-use crate::right::{TO_USE, class_of, rule_words, ruling_class, use_words};
-use crate::source::Source;
+use crate::right::{TO_USE, class_of, has, ruling_class};
+use crate::source::{Source, made};
 use p9_base::{NoMemory, NodeRef};
-use p9_cert::is_hidden;
+use p9_cert::MemberFault;
 use p9_judge::{Breach, BreachKind, Step};
-use p9_space::{ROOT_PLACE, TO_EXECUTE, TO_WRITE};
+use p9_space::{ROOT_PLACE, TO_EXECUTE};
 use p9_tree::Tree;
 use p9_world::World;
 use std::alloc::{AllocError, Allocator};
@@ -25,10 +27,11 @@ pub(crate) fn breach_words<T: Tree>(
     ensures { IfOk result (λ text. IsBreachTold world.now breach.now.steps.items
         breach.now.member (string_bytes text)) }
 {
+    let column = column_of(alloc, world, breach)?;
     let head = head_words(alloc, world, breach)?;
-    let walk = walk_words(alloc, source, world, breach.steps.as_slice())?;
+    let walk = walk_words(alloc, source, world, breach.steps.as_slice(), column)?;
     let path = path_of(alloc, world, breach.member)?;
-    let rest = end_words(alloc, source, world, breach)?;
+    let rest = end_words(alloc, source, world, breach, column)?;
     Ok(breach_text(alloc, &head, &walk, &path, &rest)?)
 }
 
@@ -52,22 +55,39 @@ fn breach_text<A: Allocator + Copy>(
     Ok(text)
 }
 
-// What follows the path of the member that the walk leads to: the line that made it, what is wrong
-// with it, where it is bound, and how to mend it.
+// What follows the path of the member that the walk leads to: what is wrong with it, and how to mend
+// that.
 fn end_words<T: Tree>(
     alloc: T::Alloc,
     source: &Source<'_, T::Alloc>,
     world: &World<T>,
     breach: &Breach<T::Alloc>,
+    column: usize,
 ) -> Result<String<T::Alloc>, NoMemory> {
-    let fault = fault_words(alloc, source, world, breach)?;
     let place = match breach.steps.last() {
         Some(step) => place_after(world, step),
         None => Some(ROOT_PLACE),
     };
-    let bound = bound_words(alloc, world, place, breach.member)?;
-    let mend = mend(breach.kind);
-    Ok(format!(in alloc; "{fault}{bound}\nmend: {mend}\n")?)
+    let found = Found {
+        member: breach.member,
+        place,
+        fault: fault_of(breach.kind),
+    };
+    let words = found_words(alloc, source, world, found)?;
+    let left = width(path_of(alloc, world, breach.member)?.as_str()).saturating_add(2);
+    let blanks = blanks(alloc, left, column)?;
+    let mend = mend(world, breach);
+    Ok(format!(in alloc; "{blanks}{words}mend: {mend}\n")?)
+}
+
+// What is wrong with the member of a breach, as of a certificate's gap.
+fn fault_of(kind: BreachKind) -> MemberFault {
+    match kind {
+        BreachKind::Inside => MemberFault::Inside,
+        BreachKind::Open => MemberFault::Open,
+        BreachKind::Owned => MemberFault::Owned,
+        BreachKind::Removable => MemberFault::Removable,
+    }
 }
 
 // What is within reach, and who attaches.
@@ -87,34 +107,17 @@ fn head_words<T: Tree>(
     })
 }
 
-// The hidden directory that the node is, or is inside of.
-fn hidden_dir<T: Tree>(world: &World<T>, at: NodeRef) -> NodeRef {
-    let mut here = at;
-    for _ in 0..at.number {
-        if is_hidden(world.hidden.as_slice(), here) {
-            return here;
-        }
-        let Some(dir) = dir_of(world, here) else {
-            return here;
-        };
-        here = dir;
-    }
-    here
-}
-
-// The directory that a node is in.
-fn dir_of<T: Tree>(world: &World<T>, at: NodeRef) -> Option<NodeRef> {
-    let parent = world.forest.node(at)?.parent()?;
-    Some(at.beside(parent))
-}
-
 // How a breach is mended.
-fn mend(kind: BreachKind) -> &'static str {
-    match kind {
+fn mend<T: Tree>(world: &World<T>, breach: &Breach<T::Alloc>) -> &'static str {
+    match breach.kind {
         BreachKind::Inside => "bind nothing from inside a hidden directory",
-        BreachKind::Open => {
+        BreachKind::Open if is_open_to_others(world, breach.member) => {
             "give it to an owner and a group leader who is not listed, \
              and no bits to others or to groups with listed members"
+        }
+        BreachKind::Open => {
+            "give it to an owner and a group leader who is not listed, \
+             and no bits to groups with listed members"
         }
         BreachKind::Owned => "give it to an owner and a group leader who is not listed",
         BreachKind::Removable => {
@@ -124,19 +127,28 @@ fn mend(kind: BreachKind) -> &'static str {
     }
 }
 
+// Whether a node has bits for others.
+fn is_open_to_others<T: Tree>(world: &World<T>, at: NodeRef) -> bool {
+    match world.forest.node(at) {
+        Some(node) => has(node.mode().permissions.others, TO_USE),
+        None => false,
+    }
+}
+
 // The walk, a line for each step.
 fn walk_words<T: Tree>(
     alloc: T::Alloc,
     source: &Source<'_, T::Alloc>,
     world: &World<T>,
     steps: &[Step],
+    column: usize,
 ) -> Result<String<T::Alloc>, NoMemory>
     ensures { IfOk result (λ text. IsWalkTold world.now steps.now (string_bytes text)) }
 {
     let mut text = String::new(alloc);
     let mut place = Some(ROOT_PLACE);
     for step in steps {
-        let line = step_words(alloc, source, world, step, place)?;
+        let line = step_words(alloc, source, world, step, place, column)?;
         text.push_str(line.as_str())?;
         place = place_after(world, step);
     }
@@ -157,13 +169,14 @@ fn step_words<T: Tree>(
     world: &World<T>,
     step: &Step,
     place: Option<NodeRef>,
+    column: usize,
 ) -> Result<String<T::Alloc>, NoMemory>
     ensures { IfOk result (λ line. IsStepTold world.now step.now (string_bytes line)) }
 {
     let path = path_of(alloc, world, step.member)?;
-    let right = right_words(alloc, source, world, step)?;
-    let bound = bound_words(alloc, world, place, step.member)?;
-    let rest = format!(in alloc; "{right}{bound}\n")?;
+    let left = prefix_width(step).saturating_add(width(path.as_str()));
+    let blanks = blanks(alloc, left, column)?;
+    let rest = pass_words(alloc, source, world, step, place, &blanks)?;
     Ok(step_text(alloc, step, &path, &rest)?)
 }
 
@@ -185,89 +198,38 @@ fn step_text<A: Allocator + Copy>(
     Ok(line)
 }
 
-// The line that made the directory of a step, and by which right it is passed.
-fn right_words<T: Tree>(
+// What follows the path of a step: blanks, the line that made its directory, by which right it is
+// passed, and where it is bound.
+fn pass_words<T: Tree>(
     alloc: T::Alloc,
     source: &Source<'_, T::Alloc>,
+    world: &World<T>,
+    step: &Step,
+    place: Option<NodeRef>,
+    blanks: &String<T::Alloc>,
+) -> Result<String<T::Alloc>, NoMemory> {
+    let made = made(alloc, source, world, step.member)?;
+    let right = pass_right(alloc, world, step)?;
+    let bound = bound_words(alloc, world, place, step.member)?;
+    Ok(format!(in alloc; "{blanks}({made}{right}){bound}\n")?)
+}
+
+// By which right the user of a step passes its directory, after a colon.
+fn pass_right<T: Tree>(
+    alloc: T::Alloc,
     world: &World<T>,
     step: &Step,
 ) -> Result<String<T::Alloc>, NoMemory> {
     let Some(node) = world.forest.node(step.member) else {
         return Ok(String::new(alloc));
     };
-    let made = source.node(alloc, step.member, node)?;
-    if let Some(class) = class_of(world, &step.user, node, TO_EXECUTE) {
-        let class = class.words(alloc, node)?;
-        return Ok(format!(in alloc; " ({made}: {class} may search)")?);
-    }
-    if let Some(class) = ruling_class(world, &step.user, node) {
-        let class = class.words(alloc, node)?;
-        return Ok(format!(in alloc; " ({made}: {class} may change its mode)")?);
-    }
-    Ok(format!(in alloc; " ({made})")?)
-}
-
-// Where a node is bound, if that isn't its own place.
-fn bound_words<T: Tree>(
-    alloc: T::Alloc,
-    world: &World<T>,
-    place: Option<NodeRef>,
-    at: NodeRef,
-) -> Result<String<T::Alloc>, NoMemory> {
-    match place {
-        Some(place) if place != at => {
-            let path = path_of(alloc, world, place)?;
-            Ok(format!(in alloc; ", bound at {path}")?)
-        }
-        _ => Ok(String::new(alloc)),
-    }
-}
-
-// The line that made the member that the walk leads to, and what is wrong with it.
-fn fault_words<T: Tree>(
-    alloc: T::Alloc,
-    source: &Source<'_, T::Alloc>,
-    world: &World<T>,
-    breach: &Breach<T::Alloc>,
-) -> Result<String<T::Alloc>, NoMemory> {
-    let Some(node) = world.forest.node(breach.member) else {
-        return Ok(String::new(alloc));
+    let (class, deed) = match class_of(world, &step.user, node, TO_EXECUTE) {
+        Some(class) => (class, "may search"),
+        None => match ruling_class(world, &step.user, node) {
+            Some(class) => (class, "may change its mode"),
+            None => return Ok(String::new(alloc)),
+        },
     };
-    let made = source.node(alloc, breach.member, node)?;
-    let why = match breach.kind {
-        BreachKind::Inside => {
-            let dir = path_of(alloc, world, hidden_dir(world, breach.member))?;
-            format!(in alloc; "is inside {dir}")?
-        }
-        BreachKind::Open => {
-            let who = use_words(alloc, world, node, TO_USE)?;
-            format!(in alloc; "is open: {}", who.unwrap_or(String::new(alloc)))?
-        }
-        BreachKind::Owned => {
-            let who = rule_words(alloc, world, node)?;
-            format!(in alloc; "is owned: {who}")?
-        }
-        BreachKind::Removable => removal_words(alloc, source, world, breach.member)?,
-    };
-    Ok(format!(in alloc; " ({made}) {why}")?)
-}
-
-// Who may remove or rename a node, by the directory that it is in.
-fn removal_words<T: Tree>(
-    alloc: T::Alloc,
-    source: &Source<'_, T::Alloc>,
-    world: &World<T>,
-    at: NodeRef,
-) -> Result<String<T::Alloc>, NoMemory> {
-    let dir = dir_of(world, at).unwrap_or(at);
-    let path = path_of(alloc, world, dir)?;
-    let Some(node) = world.forest.node(dir) else {
-        return Ok(path);
-    };
-    let made = source.node(alloc, dir, node)?;
-    let who = match use_words(alloc, world, node, TO_WRITE)? {
-        Some(who) => who,
-        None => rule_words(alloc, world, node)?,
-    };
-    Ok(format!(in alloc; "is removable: of {path} ({made}) {who}")?)
+    let words = class.words(alloc, node)?;
+    Ok(format!(in alloc; ": {words} {deed}")?)
 }

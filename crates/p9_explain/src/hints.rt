@@ -1,12 +1,12 @@
 //! Hints: what is allowed and may not be meant.
 
 use crate::head::Section;
-use crate::right::{TO_USE, class_of, ruling_class};
+use crate::right::{class_of, ruling_class};
 use crate::source::Source;
 use p9_base::{NoMemory, NodeRef, Statement, User, statements};
 use p9_cert::Certificate;
 use p9_nsfile::OpFault;
-use p9_space::{MountTable, ROOT_PLACE};
+use p9_space::{MountTable, ROOT_PLACE, TO_EXECUTE};
 use p9_tree::Tree;
 use p9_world::World;
 use std::alloc::Allocator;
@@ -22,11 +22,12 @@ pub(crate) fn hints<T: Tree>(
 ) -> Result<String<T::Alloc>, NoMemory> {
     let section = source.text(alloc, Section::World)?;
     let statements = statements(alloc, section.as_str())?;
-    let strangers = strangers(alloc, source, world, statements.as_slice())?;
-    let odd = odd_lines(alloc, source)?;
-    let idle = idle_users(alloc, world, table)?;
-    let failed = failed_operations(alloc, source, reports)?;
-    Ok(format!(in alloc; "{strangers}{odd}{idle}{failed}")?)
+    let mut text = strangers(alloc, source, world, statements.as_slice())?;
+    push_odd_names(&mut text, source, statements.as_slice())?;
+    push_carriage_returns(&mut text, source)?;
+    push_idle_users(&mut text, source, world, table, statements.as_slice())?;
+    push_failed_operations(&mut text, source, reports)?;
+    Ok(text)
 }
 
 // The owners, group leaders and members who are no listed users, each once.
@@ -70,84 +71,103 @@ fn is_listed(users: &[User], name: &str) -> bool {
     false
 }
 
-// The lines with a name that begins with `#` or `%`, and those that end with a carriage return.
-fn odd_lines<A: Allocator + Copy>(alloc: A, source: &Source<'_, A>) -> Result<String<A>, NoMemory> {
-    let mut text = String::new(alloc);
+// The lines of a world with a name that begins with `#` or `%`.
+fn push_odd_names<A: Allocator + Copy>(
+    text: &mut String<A>,
+    source: &Source<'_, A>,
+    statements: &[Statement<'_, A>],
+) -> Result<(), NoMemory> {
+    for statement in statements {
+        if has_odd_name(statement.words.as_slice()) {
+            let line = source.line(*text.allocator(), Section::World, statement.line)?;
+            writeln!(text, "hint: {line}: a name begins with # or %")?;
+        }
+    }
+    Ok(())
+}
+
+// Whether one of the words, or a name in a path, begins with `#` or `%`.
+fn has_odd_name(words: &[&str]) -> bool {
+    words.iter().any(|word| word.starts_with(['#', '%'])
+        || word.contains("/#")
+        || word.contains("/%"))
+}
+
+// The lines that end with a carriage return.
+fn push_carriage_returns<A: Allocator + Copy>(
+    text: &mut String<A>,
+    source: &Source<'_, A>,
+) -> Result<(), NoMemory> {
     for line in source.lines.as_slice() {
         if line.text.ends_with('\r') {
-            let number = line.number;
-            writeln!(
-                text,
-                "hint: {}:{number}: a carriage return ends it",
-                source.name
-            )?;
-        }
-        if line.section == Some(Section::World) && has_odd_name(line.text) {
-            let number = line.number;
-            writeln!(
-                text,
-                "hint: {}:{number}: a name begins with # or %",
-                source.name
-            )?;
+            let (name, number) = (source.name, line.number);
+            writeln!(text, "hint: {name}:{number}: a carriage return ends it")?;
         }
     }
-    Ok(text)
+    Ok(())
 }
 
-// Whether a name in a line begins with `#` or `%`: not the first of the line.
-fn has_odd_name(line: &str) -> bool {
-    line.contains(" #") || line.contains(" %") || line.contains("/#") || line.contains("/%")
-}
-
-// The listed users who may do nothing at the root of the name space.
-fn idle_users<T: Tree>(
-    alloc: T::Alloc,
+// The lines of the listed users who can't pass the root of the name space.
+fn push_idle_users<T: Tree>(
+    text: &mut String<T::Alloc>,
+    source: &Source<'_, T::Alloc>,
     world: &World<T>,
     table: &MountTable<T::Alloc>,
-) -> Result<String<T::Alloc>, NoMemory> {
-    let mut text = String::new(alloc);
-    for user in world.users.as_slice() {
-        if !may_do_anything(world, table, user) {
-            writeln!(text, "hint: user {user} may do nothing")?;
+    statements: &[Statement<'_, T::Alloc>],
+) -> Result<(), NoMemory> {
+    for statement in statements {
+        let Some(user) = user_in(statement.words.as_slice()) else {
+            continue;
+        };
+        if !passes_root(world, table, &user) {
+            let line = source.line(*text.allocator(), Section::World, statement.line)?;
+            writeln!(
+                text,
+                "hint: {line}: {user} can't pass the root, and so reaches nothing below it"
+            )?;
         }
     }
-    Ok(text)
+    Ok(())
 }
 
-// Whether the user may do something with a member of the root place.
-fn may_do_anything<T: Tree>(world: &World<T>, table: &MountTable<T::Alloc>, user: &User) -> bool {
+// The user whom a line lists.
+fn user_in(words: &[&str]) -> Option<User> {
+    match words {
+        ["user", name] => User::new(name),
+        _ => None,
+    }
+}
+
+// Whether the user may search a member of the root of the name space, or rules it.
+fn passes_root<T: Tree>(world: &World<T>, table: &MountTable<T::Alloc>, user: &User) -> bool {
     for member in table.members(ROOT_PLACE).as_slice() {
-        if may_do_something(world, user, member.node) {
+        if passes(world, user, member.node) {
             return true;
         }
     }
     false
 }
 
-// Whether the user has a right of the node, or rules it.
-fn may_do_something<T: Tree>(world: &World<T>, user: &User, at: NodeRef) -> bool {
+// Whether the user may search the node, or rules it.
+fn passes<T: Tree>(world: &World<T>, user: &User, at: NodeRef) -> bool {
     let Some(node) = world.forest.node(at) else {
         return false;
     };
-    class_of(world, user, node, TO_USE).is_some() || ruling_class(world, user, node).is_some()
+    class_of(world, user, node, TO_EXECUTE).is_some() || ruling_class(world, user, node).is_some()
 }
 
 // The operations of the namespace file that failed.
-fn failed_operations<A: Allocator + Copy>(
-    alloc: A,
+fn push_failed_operations<A: Allocator + Copy>(
+    text: &mut String<A>,
     source: &Source<'_, A>,
     reports: &[(u64, OpFault)],
-) -> Result<String<A>, NoMemory> {
-    let mut text = String::new(alloc);
+) -> Result<(), NoMemory> {
     for (line, fault) in reports {
-        let line = source.line(alloc, Section::Ns, *line)?;
-        writeln!(
-            text,
-            "hint: {line}: this failed, and did nothing: {}",
-            fault.text()
-        )?;
+        let line = source.line(*text.allocator(), Section::Ns, *line)?;
+        let why = fault.text();
+        writeln!(text, "hint: {line}: this failed, and did nothing: {why}")?;
     }
-    Ok(text)
+    Ok(())
 }
 
 /// The hints on the rows of a certificate that are not in the least one.

@@ -5,12 +5,14 @@
 mod breach;
 mod certificate;
 mod claim;
+mod column;
 mod explained;
 mod fault;
 mod faults;
 mod head;
 mod hints;
 mod layout;
+mod member;
 mod node_lines;
 mod path;
 mod right;

@@ -1,6 +1,6 @@
 //! By which right a user may do something with a node.
 
-use p9_base::{NoMemory, Rights, User};
+use p9_base::{NoMemory, NodeRef, Rights, User};
 use p9_space::{TO_EXECUTE, TO_READ, TO_WRITE, Who, may};
 use p9_tree::{Node, Tree};
 use p9_world::World;
@@ -11,6 +11,13 @@ pub(crate) const TO_USE: Rights = Rights {
     read: true,
     write: true,
     execute: true,
+};
+
+/// None of the three.
+pub(crate) const NO_RIGHTS: Rights = Rights {
+    read: false,
+    write: false,
+    execute: false,
 };
 
 /// As what a user has a right.
@@ -59,8 +66,8 @@ pub(crate) fn class_of<T: Tree>(
     }
 }
 
-// Whether the rights have one that is wanted.
-fn has(rights: Rights, wanted: Rights) -> bool {
+/// Whether the rights have one that is wanted.
+pub(crate) fn has(rights: Rights, wanted: Rights) -> bool {
     (wanted.read && rights.read)
         || (wanted.write && rights.write)
         || (wanted.execute && rights.execute)
@@ -81,26 +88,29 @@ pub(crate) fn ruling_class<T: Tree>(
     }
 }
 
-/// The first listed user who has one of these rights of the node, with the class, in words: `others`
-/// or `USER, CLASS,`; and what the user may do of reading, writing and searching.
-pub(crate) fn use_words<T: Tree>(
+/// By which right the first listed user who has one of these rights of a node uses it, in words; or
+/// else the first who rules it.
+pub(crate) fn right_words<T: Tree>(
     alloc: T::Alloc,
     world: &World<T>,
-    node: &Node<T::Alloc>,
+    at: NodeRef,
     wanted: Rights,
-) -> Result<Option<String<T::Alloc>>, NoMemory> {
+) -> Result<String<T::Alloc>, NoMemory> {
+    let Some(node) = world.forest.node(at) else {
+        return Ok(String::new(alloc));
+    };
     for user in world.users.as_slice() {
         if let Some(class) = class_of(world, user, node, wanted) {
             let subject = subject(alloc, user, class, node)?;
             let deeds = deeds(world, user, node);
-            return Ok(Some(format!(in alloc; "{subject} may {deeds} it")?));
+            return Ok(format!(in alloc; "{subject} may {deeds} it")?);
         }
     }
-    Ok(None)
+    rule_words(alloc, world, node)
 }
 
-/// The first listed user who rules the node, in words.
-pub(crate) fn rule_words<T: Tree>(
+// The first listed user who rules the node, in words.
+fn rule_words<T: Tree>(
     alloc: T::Alloc,
     world: &World<T>,
     node: &Node<T::Alloc>,

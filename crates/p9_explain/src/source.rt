@@ -4,7 +4,8 @@ use crate::head::Section;
 use crate::layout::{Line, layout_of};
 use crate::node_lines::{NodeLine, line_of, node_lines};
 use p9_base::{NoMemory, NodeRef, statements};
-use p9_tree::Node;
+use p9_tree::{Node, Tree};
+use p9_world::World;
 use std::alloc::Allocator;
 
 /// An input, by its name.
@@ -36,9 +37,9 @@ impl<'a, A: Allocator + Copy> Source<'a, A> {
         Ok(format!(in alloc; "{}:{number}", self.name)?)
     }
 
-    /// `NAME:L, MODE OWNER GROUP` for a node: the line that made it, and what it says. A node of the
-    /// sample world has no line.
-    pub fn node<B: Allocator>(
+    // `NAME:L, MODE OWNER GROUP` for a node: the line that made it, and what it says. A node of the
+    // sample world has no line.
+    fn node<B: Allocator>(
         &self,
         alloc: A,
         at: NodeRef,
@@ -50,6 +51,20 @@ impl<'a, A: Allocator + Copy> Source<'a, A> {
         };
         let bits = node.mode().permissions.bits();
         Ok(format!(in alloc; "{place}, {bits:03o} {} {}", node.uid(), node.gid())?)
+    }
+}
+
+/// `NAME:L, MODE OWNER GROUP` for a node: the line that made it, and what it says. What isn't there
+/// has no words.
+pub(crate) fn made<T: Tree>(
+    alloc: T::Alloc,
+    source: &Source<'_, T::Alloc>,
+    world: &World<T>,
+    at: NodeRef,
+) -> Result<String<T::Alloc>, NoMemory> {
+    match world.forest.node(at) {
+        Some(node) => source.node(alloc, at, node),
+        None => Ok(String::new(alloc)),
     }
 }
 

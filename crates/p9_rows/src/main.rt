@@ -2,6 +2,7 @@
 //! rows of each file are as written, and what differs in the others.
 #![tactic(auto)]
 
+mod admin;
 mod body;
 mod fault;
 mod play;

@@ -1,5 +1,6 @@
 //! Plays rows, and prints which differ.
 
+use crate::admin::{explained, sealed};
 use crate::body::Ending;
 use crate::row::Row;
 use crate::words::{exchange, first_not_read_back, frames, played};
@@ -54,16 +55,22 @@ fn ends_as_written<T: Tree<Alloc = Global>>(
     Ok(differs == row.is_to_differ)
 }
 
-// How a command ends over an input. `frames` and `exchange` are those of p9_fcall, and all others
-// those of p9.
+// How a command ends over an input. What follows a colon is its argument. `frames` and `exchange`
+// are those of p9_fcall, `seal` and `explain` those of p9_admin, and all others those of p9.
 fn play<T: Tree<Alloc = Global>>(
     alloc: Global,
     command: &str,
     input: &[u8],
 ) -> Result<Ending, AllocError> {
-    match command {
+    let (name, argument) = match command.split_once(':') {
+        Some((name, argument)) => (name, Some(argument)),
+        None => (command, None),
+    };
+    match name {
         "frames" => frames(alloc, input),
         "exchange" => exchange::<T>(alloc, input),
+        "seal" => sealed::<T>(alloc, input, argument),
+        "explain" => explained::<T>(alloc, input, argument),
         _ => played::<T>(alloc, command, input),
     }
 }

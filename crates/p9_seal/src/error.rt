@@ -8,7 +8,7 @@ use p9_commands::{NameSpace, Refusal, Stop};
 use p9_judge::Breach;
 use p9_nsfile::OpFault;
 use p9_tree::Tree;
-use std::alloc::Allocator;
+use std::alloc::{AllocError, Allocator};
 
 /// Why a yes would say little. Where several apply, it is the one that is first here.
 #[derive(Clone, Copy, Debug, PartialEq, Eq)]
@@ -59,6 +59,36 @@ pub enum SealError<A: Allocator> {
     Vacuous(Vacuity),
     /// An allocation failed.
     NoMemory,
+}
+
+impl Vacuity {
+    // What would be sealed.
+    fn text<A: Allocator + Copy>(self, alloc: A) -> Result<String<A>, AllocError> {
+        match self {
+            Vacuity::FailedOperation { line, fault } => format!(in alloc; "ns:{line}: {fault}"),
+            Vacuity::NothingHidden => String::from_str(alloc, "nothing is hidden"),
+            Vacuity::NoUsers => String::from_str(alloc, "no user is listed"),
+        }
+    }
+}
+
+impl<A: Allocator + Copy> SealError<A> {
+    /// The line that reports it, without a newline. A fault of the input is reported as
+    /// [`Refusal::text`] says. The only error is that an allocation fails, or failed.
+    pub fn text(&self, alloc: A) -> Result<String<A>, AllocError> {
+        match self {
+            SealError::Refused(refusal) => refusal.text(alloc),
+            SealError::No(_) => String::from_str(
+                alloc,
+                "not sealed: what is hidden is within reach",
+            ),
+            SealError::Vacuous(vacuity) => {
+                let why = vacuity.text(alloc)?;
+                format!(in alloc; "not sealed: {why} (--anyway seals it)")
+            }
+            SealError::NoMemory => Err(AllocError),
+        }
+    }
 }
 
 impl<A: Allocator> From<Stop> for SealError<A> {

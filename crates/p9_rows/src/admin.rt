@@ -1,0 +1,58 @@
+//! How the commands of `p9_admin` end that read an input.
+
+use crate::body::Ending;
+use p9_base::NoMemory;
+use p9_explain::explain;
+use p9_seal::{SealError, seal};
+use p9_tree::Tree;
+use std::alloc::{AllocError, Global};
+
+// What the program calls an input that is given no name.
+const NAME: &str = "input";
+
+/// How `p9_admin seal` ends over an input, with `anyway` as its argument for `--anyway`.
+pub fn sealed<T: Tree<Alloc = Global>>(
+    alloc: Global,
+    input: &[u8],
+    argument: Option<&str>,
+) -> Result<Ending, AllocError> {
+    let mut ending = Ending::new(alloc);
+    match seal::<T>(alloc, input, argument == Some("anyway")) {
+        Ok(text) => ending.out = text.into_bytes(),
+        Err(error) => {
+            ending.status = 1;
+            ending.err = unsealed::<T>(alloc, input, &error)?;
+        }
+    }
+    Ok(ending)
+}
+
+// Why an input is not sealed: the way to what is hidden is explained.
+fn unsealed<T: Tree<Alloc = Global>>(
+    alloc: Global,
+    input: &[u8],
+    error: &SealError<Global>,
+) -> Result<Vec<u8>, AllocError> {
+    let text = error.text(alloc)?;
+    let mut err = format!(in alloc; "{text}\n")?.into_bytes();
+    if let SealError::No(_) = error {
+        explain::<T>(NAME, input, &mut err).map_err(|_| AllocError)?;
+    }
+    Ok(err)
+}
+
+/// How `p9_admin explain` ends over an input, which is named by the argument.
+pub fn explained<T: Tree<Alloc = Global>>(
+    alloc: Global,
+    input: &[u8],
+    argument: Option<&str>,
+) -> Result<Ending, AllocError> {
+    let mut ending = Ending::new(alloc);
+    match explain::<T>(argument.unwrap_or(NAME), input, &mut ending.out) {
+        Ok(status) => {
+            ending.status = status;
+            Ok(ending)
+        }
+        Err(NoMemory) => Err(AllocError),
+    }
+}
