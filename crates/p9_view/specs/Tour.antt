@@ -5,6 +5,7 @@
 use Rattle.std.specs.Prelude.{◌≡◌, ℕ, ◌+◌, ◌-◌, ◌<◌, ◌==◌, Bool, false, List, [], ◌∷◌, ◌++◌, Option}
 use Rattle.std.specs.Prelude.{Some, None, Ok, MatchBool, length, slice_get, take, if◌then◌else◌}
 use Rattle.std.specs.List.{filter_map, list_any}
+use Rattle.std.specs.Option.{option_and_then, option_map}
 use Rattle.p9_base.specs.declared.node_ref.NodeRef.{NodeRef}
 use Rattle.p9_base.specs.NodeRef.{same_node}
 use Rattle.p9_tree.specs.Server.{Server}
@@ -43,6 +44,14 @@ pub data IsPathTo (entries : List Entry) : ℕ → List (List ℕ) → Type 0 wh
   Below : (i : ℕ) (e : Entry) (origin : Origin) (names : List (List ℕ))
       → slice_get entries i ≡ Some e → e.origin ≡ Some origin
       → IsPathTo entries origin.parent names → IsPathTo entries i (names ++ origin.name ∷ [])
+
+-- below which entry the entry of an index is, and under which name
+abbrev pub origin_pair : Origin → ℕ × List ℕ
+origin_pair origin = (origin.parent, origin.name)
+
+abbrev pub origin_at : List Entry → ℕ → Option (ℕ × List ℕ)
+origin_at entries i =
+    option_map origin_pair (option_and_then (λ e. e.origin) (slice_get entries i))
 
 -- the name and the place of an entry, where it is below the entry of this index
 abbrev pub way_from : ℕ → Option Origin → NodeRef → Option (List ℕ × NodeRef)

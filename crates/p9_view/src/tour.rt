@@ -1,7 +1,8 @@
 //! Tours of the name space.
 
-ghost use Rattle.std.specs.Prelude.{◌≡◌, ◌++◌, ◌∷◌, ◌<◌, [], IfOk, OnOk, length};
-ghost use Rattle.p9_view.specs.Tour.{entry_below, root_entry};
+ghost use Rattle.std.specs.Prelude.{◌≡◌, ◌++◌, ◌∷◌, ◌<◌, [], IfOk, OnOk, length, map, reverse};
+ghost use Rattle.std.specs.Option.{option_map};
+ghost use Rattle.p9_view.specs.Tour.{IsPathTo, IsTour, entry_below, origin_at, root_entry};
 
 use p9_base::{Name, NoMemory, NodeRef};
 use p9_space::ROOT_PLACE;
@@ -64,6 +65,50 @@ impl<A: Allocator + Copy> Tour<A> {
         ensures { result.now ≡ self.now }
     {
         self.entries.as_slice()
+    }
+
+    /// What is kept of each tour: the entry without an origin is the first, and each other is below an
+    /// earlier one. This does nothing when it runs; it is for a caller that has to know so.
+    pub fn well_formed(&self)
+        ensures { IsTour self.now }
+    {
+        let _entries = &self.entries;
+    }
+
+    /// The names from the first entry to the entry of this index: its path. The only error is that an
+    /// allocation fails.
+    pub fn names_to(&self, index: usize) -> Result<Vec<&str, A>, NoMemory>
+        requires { index < length self.now }
+        ensures { IfOk result (λ names.
+            IsPathTo self.now index (map (λ n. n.now) names.items)) }
+    {
+        let mut names = self.names_from(index)?;
+        names.reverse();
+        Ok(names)
+    }
+
+    // The names from an entry's own up to that below the first entry.
+    fn names_from(&self, index: usize) -> Result<Vec<&str, A>, NoMemory>
+        requires { index < length self.now }
+        ensures { IfOk result (λ names.
+            IsPathTo self.now index (reverse (map (λ n. n.now) names.items))) }
+    {
+        self.well_formed();
+        let mut names = Vec::new(self.allocator());
+        let mut here = index;
+        while let Some((parent, name)) = self.origin(here) {
+            names.push(name)?;
+            here = parent;
+        }
+        Ok(names)
+    }
+
+    // Below which entry an entry is, and under which name.
+    fn origin(&self, index: usize) -> Option<(usize, &str)>
+        ensures { option_map (λ o. (o.0, o.1.now)) result ≡ origin_at self.now index }
+    {
+        let origin = self.entries.get(index)?.origin.as_ref()?;
+        Some((origin.parent, origin.name.as_str()))
     }
 
     /// The allocator that the entries are kept in.
