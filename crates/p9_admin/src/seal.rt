@@ -2,10 +2,10 @@
 
 use crate::status::{DONE, NOT_SEALED};
 use clap::ArgMatches;
-use p9_commands::Refusal;
+use p9_base::NoMemory;
+use p9_explain::explain;
 use p9_index::IndexTree;
-use p9_judge::Breach;
-use p9_seal::{SealError, Vacuity, seal};
+use p9_seal::{SealError, seal};
 use std::alloc::{AllocError, Global};
 use std::io::{self, Read, Write};
 
@@ -17,7 +17,11 @@ pub(crate) fn run_seal(rt: &HostRuntime, options: &ArgMatches<'_>) -> io::Result
     let anyway = options.get_flag("anyway");
     match seal::<IndexTree<Global>>(rt.alloc(), input.as_slice(), anyway) {
         Ok(text) => print_sealed(rt, text.as_str()),
-        Err(error) => report(rt, &error),
+        Err(error) => {
+            let name = options.get_str("name").unwrap_or("input");
+            report(rt, name, input.as_slice(), &error)?;
+            Ok(NOT_SEALED)
+        }
     }
 }
 
@@ -28,37 +32,14 @@ fn print_sealed(rt: &HostRuntime, text: &str) -> io::Result<u8> {
     Ok(DONE)
 }
 
-// Reports why nothing is sealed.
-fn report(rt: &HostRuntime, error: &SealError<Global>) -> io::Result<u8> {
-    match error {
-        SealError::Refused(refusal) => report_refusal(rt, *refusal)?,
-        SealError::No(breach) => report_breach(rt, breach)?,
-        SealError::Vacuous(vacuity) => report_vacuity(rt, *vacuity)?,
-        SealError::NoMemory => return Err(io::Error::from(AllocError)),
-    }
-    Ok(NOT_SEALED)
-}
-
-// Reports a fault of the input, as p9 does.
-fn report_refusal(rt: &HostRuntime, refusal: Refusal) -> io::Result<()> {
-    let text = refusal.text(rt.alloc())?;
-    eprintln!(rt; "{text}")
-}
-
-// Reports a way into a hidden directory, as `p9 check` prints it.
-fn report_breach(rt: &HostRuntime, breach: &Breach<Global>) -> io::Result<()> {
-    eprintln!(rt; "not sealed: what is hidden is within reach\n{breach}")
-}
-
-// Reports why a certificate would say little.
-fn report_vacuity(rt: &HostRuntime, vacuity: Vacuity) -> io::Result<()> {
-    match vacuity {
-        Vacuity::FailedOperation { line, fault } => {
-            eprintln!(rt; "not sealed: ns:{line}: {fault} (--anyway seals it)")
+// Reports why nothing is sealed. The way to what is hidden is explained.
+fn report(rt: &HostRuntime, name: &str, input: &[u8], error: &SealError<Global>) -> io::Result<()> {
+    let text = error.text(rt.alloc())?;
+    let mut err = format!(in rt.alloc(); "{text}\n")?.into_bytes();
+    if let SealError::No(_) = error {
+        if let Err(NoMemory) = explain::<IndexTree<Global>>(name, input, &mut err) {
+            return Err(io::Error::from(AllocError));
         }
-        Vacuity::NothingHidden => eprintln!(rt;
-            "not sealed: nothing is hidden (--anyway seals it)"
-        ),
-        Vacuity::NoUsers => eprintln!(rt; "not sealed: no user is listed (--anyway seals it)"),
     }
+    rt.stderr().write_all(err.as_slice())
 }

@@ -56,6 +56,7 @@ fn seal<'a>(alloc: Global) -> Result<Command<'a>, AllocError> {
         .action(ArgAction::SetTrue);
     Command::new(alloc, "seal")
         .about("Prints the input with its certificate, where what is hidden is out of reach")
+        .arg(input_name(alloc))?
         .arg(anyway)
 }
 
@@ -63,9 +64,12 @@ fn seal<'a>(alloc: Global) -> Result<Command<'a>, AllocError> {
 fn explain<'a>(alloc: Global) -> Result<Command<'a>, AllocError> {
     Command::new(alloc, "explain")
         .about("Says in words whether what is hidden is out of reach, and why not")
-        .arg(one(alloc, "name", "NAME", "The input's name in what is printed").default_value(
-            "input",
-        ))
+        .arg(input_name(alloc))
+}
+
+// The option that names the input.
+fn input_name<'a>(alloc: Global) -> Arg<'a> {
+    one(alloc, "name", "NAME", "The input's name in what is printed").default_value("input")
 }
 
 // The command that prints a name space.
