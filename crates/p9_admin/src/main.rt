@@ -1,5 +1,5 @@
-//! The program `p9_admin`: from a directory of the disk to a world, and from an input to a sealed one
-//! or to a verdict in words.
+//! The program `p9_admin`: from a directory of the disk to a world, and from an input to a sealed one,
+//! to a verdict in words or to its name space.
 #![tactic(auto)]
 
 mod disk;
@@ -14,12 +14,14 @@ mod seal;
 mod settings;
 mod status;
 mod tree;
+mod view;
 mod words;
 
 use crate::explain::run_explain;
 use crate::pack::run_pack;
 use crate::seal::run_seal;
 use crate::status::{BAD_COMMAND_LINE, DONE, INPUT_OR_OUTPUT_FAILED, OUT_OF_MEMORY};
+use crate::view::run_tree;
 use crate::words::program;
 use std::alloc::AllocError;
 use std::io::ErrorKind;
@@ -76,6 +78,7 @@ fn run_words(rt: &HostRuntime, words: &[String]) -> io::Result<u8> {
         Some(("pack", options)) => run_pack(rt, options),
         Some(("seal", options)) => run_seal(rt, options),
         Some(("explain", options)) => run_explain(rt, options),
+        Some(("tree", options)) => run_tree(rt, options),
         _ => bad_words(rt),
     }
 }

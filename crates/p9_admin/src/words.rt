@@ -12,7 +12,8 @@ pub(crate) fn program<'a>(alloc: Global) -> Result<Command<'a>, AllocError> {
         .arg_required_else_help(true)
         .subcommand(pack(alloc)?)?
         .subcommand(seal(alloc)?)?
-        .subcommand(explain(alloc)?)
+        .subcommand(explain(alloc)?)?
+        .subcommand(tree(alloc)?)
 }
 
 // The command that packs directories.
@@ -69,6 +70,17 @@ fn explain<'a>(alloc: Global) -> Result<Command<'a>, AllocError> {
 // The option that names the input.
 fn input_name<'a>(alloc: Global) -> Arg<'a> {
     one(alloc, "name", "NAME", "The input's name in what is printed").default_value("input")
+}
+
+// The command that prints a name space.
+fn tree<'a>(alloc: Global) -> Result<Command<'a>, AllocError> {
+    let user = Arg::new(alloc, "user")
+        .value_name("USER")
+        .help("A listed user; without one all places are printed")
+        .action(ArgAction::Set);
+    Command::new(alloc, "tree")
+        .about("Prints the name space as a user meets it")
+        .arg(user)
 }
 
 // An option with a value.

@@ -5,6 +5,7 @@ use p9_base::NoMemory;
 use p9_explain::explain;
 use p9_seal::{SealError, seal};
 use p9_tree::Tree;
+use p9_view::show_tree;
 use std::alloc::{AllocError, Global};
 
 // What the program calls an input that is given no name.
@@ -49,6 +50,22 @@ pub fn explained<T: Tree<Alloc = Global>>(
 ) -> Result<Ending, AllocError> {
     let mut ending = Ending::new(alloc);
     match explain::<T>(argument.unwrap_or(NAME), input, &mut ending.out) {
+        Ok(status) => {
+            ending.status = status;
+            Ok(ending)
+        }
+        Err(NoMemory) => Err(AllocError),
+    }
+}
+
+/// How `p9_admin tree` ends over an input, for the user whom the argument names.
+pub fn shown<T: Tree<Alloc = Global>>(
+    alloc: Global,
+    input: &[u8],
+    argument: Option<&str>,
+) -> Result<Ending, AllocError> {
+    let mut ending = Ending::new(alloc);
+    match show_tree::<T>(input, argument, &mut ending.out, &mut ending.err) {
         Ok(status) => {
             ending.status = status;
             Ok(ending)

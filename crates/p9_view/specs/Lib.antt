@@ -1,0 +1,7 @@
+pub mod Way
+pub mod Tour
+pub mod Visit
+pub mod Mode
+pub mod Passing
+pub mod Line
+pub mod Tree

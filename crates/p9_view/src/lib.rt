@@ -1,0 +1,15 @@
+//! The name space as a user meets it.
+#![tactic(auto)]
+
+mod line;
+mod mode;
+mod passing;
+mod path;
+mod tour;
+mod tree;
+mod visit;
+mod way;
+
+pub use tour::{Entry, Origin, Tour};
+pub use tree::{print_tree, show_tree};
+pub use visit::tour_of;
