@@ -1,0 +1,3 @@
+pub mod Rect
+pub mod Pen
+pub mod Line
