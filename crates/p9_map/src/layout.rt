@@ -6,7 +6,7 @@ ghost use Rattle.p9_map.specs.Rect.{AreApart, IsWithin};
 
 use crate::boxes::{Boxes, place_all};
 use crate::item::{Item, Link, Placed};
-use crate::line::{LANE, LANES, Line, lines_of};
+use crate::line::{LANE, LANE_FIRST, LANES, Line, lines_of};
 use p9_base::NoMemory;
 use std::alloc::Allocator;
 
@@ -40,7 +40,7 @@ pub fn lay_out<A: Allocator + Copy>(
     ensures links { IfOk result (λ l. map (λ x. x.link) l.lines.items ≡ links.now) }
     ensures joined { IfOk result (λ l. All (IsJoined l.boxes.items) l.lines.items) }
 {
-    let gutter = LANE * (rows.min(LANES) + 1) as u64 + 40;
+    let gutter = 2 * LANE_FIRST + LANE * rows.min(LANES) as u64;
     let Boxes {
         boxes,
         right,

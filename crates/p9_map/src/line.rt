@@ -5,12 +5,15 @@ ghost use Rattle.p9_map.specs.Line.{IsBetween, IsJoined};
 ghost use Rattle.p9_map.specs.Rect.{IsOnBorder};
 
 use crate::item::{Link, LinkKind, Placed};
-use crate::rect::{Point, Port};
+use crate::rect::{Point, Side};
 use p9_base::NoMemory;
 use std::alloc::Allocator;
 
 /// How far the lanes are from each other, in which lines go up and down between columns.
 pub(crate) const LANE: u64 = 11;
+
+/// How far the first lane is from the boxes of the column before it.
+pub(crate) const LANE_FIRST: u64 = 34;
 
 /// How many lanes there are between two columns.
 pub(crate) const LANES: usize = 20;
@@ -64,8 +67,8 @@ fn entry_line(link: Link, from: Placed, to: Placed) -> Line
     ensures starts { IsOnBorder from.rect result.start }
     ensures ends { IsOnBorder to.rect result.end }
 {
-    let start = from.rect.port(Port::Below);
-    let end = to.rect.port(Port::Middle);
+    let start = from.rect.foot();
+    let end = to.rect.beside(Side::Left, 11);
     Line {
         link,
         start,
@@ -83,20 +86,12 @@ fn member_line(boxes: &[Placed], link: Link, row: usize, from: Placed, to: Place
     ensures starts { IsOnBorder from.rect result.start }
     ensures ends { IsOnBorder to.rect result.end }
 {
-    let lane = LANE * (row % LANES + 1) as u64;
-    let (out, into) = (from.column, to.column);
-    let start = from.rect.port(if into < out {
-        Port::LeftOut
-    } else {
-        Port::RightOut
-    });
-    let end = to.rect.port(if out < into {
-        Port::LeftIn
-    } else {
-        Port::RightIn
-    });
-    let out_of = gutter(boxes, if into < out { out } else { out.saturating_add(1) });
-    let into_of = gutter(boxes, if out < into { into } else { into.saturating_add(1) });
+    let lane = LANE_FIRST + LANE * (row % LANES) as u64;
+    let (leaves, comes) = sides(from.column, to.column);
+    let start = from.rect.beside(leaves, 4);
+    let end = to.rect.beside(comes, 10 + 4 * (row % 3) as u64);
+    let out_of = gutter(boxes, beside(from.column, leaves));
+    let into_of = gutter(boxes, beside(to.column, comes));
     let across = if out_of == into_of {
         end.y
     } else {
@@ -109,6 +104,25 @@ fn member_line(boxes: &[Placed], link: Link, row: usize, from: Placed, to: Place
         out: out_of.saturating_add(lane),
         across,
         into: into_of.saturating_add(lane),
+    }
+}
+
+// The sides on which a line leaves a box of one column and comes to one of another.
+fn sides(from: usize, to: usize) -> (Side, Side) {
+    if from < to {
+        (Side::Right, Side::Left)
+    } else if to < from {
+        (Side::Left, Side::Right)
+    } else {
+        (Side::Right, Side::Right)
+    }
+}
+
+// The column before which the space at this side of a column is.
+fn beside(column: usize, side: Side) -> usize {
+    match side {
+        Side::Left => column,
+        Side::Right => column.saturating_add(1),
     }
 }
 

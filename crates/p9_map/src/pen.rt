@@ -13,6 +13,7 @@ const INDENT: u64 = 24;
 
 /// The greatest depth that is shown by an indent, and the greatest width.
 const DEPTH_MAX: u64 = 200;
+
 const WIDTH_MAX: u64 = 2000;
 
 /// Where the boxes begin, from the top.

@@ -26,52 +26,35 @@ pub struct Rect {
     ghost high: { top + 22 ≤ bottom },
 }
 
-/// Where a line meets a box: at its lower side below the first letter, and at the left or right side
-/// in the upper half, where a line begins, in the middle, or in the lower half, where an arrow ends.
+/// A side of a box.
 #[derive(Clone, Copy)]
-pub(crate) enum Port {
-    Below,
-    Middle,
-    LeftOut,
-    LeftIn,
-    RightOut,
-    RightIn,
+pub(crate) enum Side {
+    Left,
+    Right,
 }
 
 impl Rect {
     ghost use Rattle.p9_map.specs.Rect.{IsOnBorder};
 
-    /// The point of a port.
-    pub(crate) fn port(self, port: Port) -> Point
+    /// The point of the lower side from which lines go down to what is in a directory.
+    pub(crate) fn foot(self) -> Point
         ensures { IsOnBorder self result }
     {
-        let upper = self.top + 6;
-        let lower = self.top + 15;
-        match port {
-            Port::Below => Point {
-                x: self.left + 10,
-                y: self.bottom,
-            },
-            Port::Middle => Point {
-                x: self.left,
-                y: self.top + 11,
-            },
-            Port::LeftOut => Point {
-                x: self.left,
-                y: upper,
-            },
-            Port::LeftIn => Point {
-                x: self.left,
-                y: lower,
-            },
-            Port::RightOut => Point {
-                x: self.right,
-                y: upper,
-            },
-            Port::RightIn => Point {
-                x: self.right,
-                y: lower,
-            },
+        Point {
+            x: self.left + 10,
+            y: self.bottom,
+        }
+    }
+
+    /// A point of the left or right side, so far from the top.
+    pub(crate) fn beside(self, side: Side, below: u64) -> Point
+        requires { below ≤ 22 }
+        ensures { IsOnBorder self result }
+    {
+        let y = self.top + below;
+        match side {
+            Side::Left => Point { x: self.left, y },
+            Side::Right => Point { x: self.right, y },
         }
     }
 }

@@ -1,5 +1,5 @@
 use Rattle.std.proofs.Common.{refl, arith}
-use Rattle.p9_map.proofs.Laid.{laid-more, laid-none}
+use Rattle.p9_map.proofs.Laid.{laid-more}
 use Rattle.p9_map.proofs.boxes.place_all.Goals as goal
 
 pub loop-item-preserved : goal.loop-item-preserved

@@ -1,5 +1,5 @@
-use Rattle.std.proofs.Common.{refl, arith}
-use Rattle.p9_map.proofs.Joined.{joined-more, joined-none}
+use Rattle.std.proofs.Common.{refl}
+use Rattle.p9_map.proofs.Joined.{joined-more}
 use Rattle.p9_map.proofs.line.lines_of.Goals as goal
 
 pub loop-link-preserved : goal.loop-link-preserved
