@@ -12,7 +12,8 @@ pub(crate) fn program<'a>(alloc: Global) -> Result<Command<'a>, AllocError> {
         .arg_required_else_help(true)
         .subcommand(pack(alloc)?)?
         .subcommand(seal(alloc)?)?
-        .subcommand(explain(alloc)?)
+        .subcommand(explain(alloc)?)?
+        .subcommand(map(alloc))
 }
 
 // The command that packs directories.
@@ -65,6 +66,11 @@ fn explain<'a>(alloc: Global) -> Result<Command<'a>, AllocError> {
         .arg(one(alloc, "name", "NAME", "The input's name in what is printed").default_value(
             "input",
         ))
+}
+
+// The command that draws an input.
+fn map<'a>(alloc: Global) -> Command<'a> {
+    Command::new(alloc, "map").about("Prints the input as a picture, in SVG")
 }
 
 // An option with a value.
