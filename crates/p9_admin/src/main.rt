@@ -1,10 +1,11 @@
 //! The program `p9_admin`: from a directory of the disk to a world, and from an input to a sealed one,
-//! to a verdict in words or to its name space.
+//! to a verdict in words, to its name space, or to a picture.
 #![tactic(auto)]
 
 mod disk;
 mod explain;
 mod hide;
+mod map;
 mod node;
 mod output;
 mod owner;
@@ -18,6 +19,7 @@ mod view;
 mod words;
 
 use crate::explain::run_explain;
+use crate::map::run_map;
 use crate::pack::run_pack;
 use crate::seal::run_seal;
 use crate::status::{BAD_COMMAND_LINE, DONE, INPUT_OR_OUTPUT_FAILED, OUT_OF_MEMORY};
@@ -79,6 +81,7 @@ fn run_words(rt: &HostRuntime, words: &[String]) -> io::Result<u8> {
         Some(("seal", options)) => run_seal(rt, options),
         Some(("explain", options)) => run_explain(rt, options),
         Some(("tree", options)) => run_tree(rt, options),
+        Some(("map", _)) => run_map(rt),
         _ => bad_words(rt),
     }
 }

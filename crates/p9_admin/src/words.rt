@@ -13,7 +13,8 @@ pub(crate) fn program<'a>(alloc: Global) -> Result<Command<'a>, AllocError> {
         .subcommand(pack(alloc)?)?
         .subcommand(seal(alloc)?)?
         .subcommand(explain(alloc)?)?
-        .subcommand(tree(alloc)?)
+        .subcommand(tree(alloc)?)?
+        .subcommand(map(alloc))
 }
 
 // The command that packs directories.
@@ -81,6 +82,11 @@ fn tree<'a>(alloc: Global) -> Result<Command<'a>, AllocError> {
     Command::new(alloc, "tree")
         .about("Prints the name space as a user meets it")
         .arg(user)
+}
+
+// The command that draws an input.
+fn map<'a>(alloc: Global) -> Command<'a> {
+    Command::new(alloc, "map").about("Prints the input as a picture, in SVG")
 }
 
 // An option with a value.

@@ -1,0 +1,28 @@
+use Rattle.std.proofs.Common.{IsTrue, subst}
+use Rattle.std.specs.String.{string_bytes}
+use Rattle.p9_cert.specs.Policy.{policy_of}
+use Rattle.p9_judge.specs.Verdict.{IsVerdict}
+use Rattle.p9_space.specs.Given.{is_table_given}
+use Rattle.p9_map.proofs.Pictures.{no-shown, yes-shown}
+use Rattle.p9_map.proofs.picture.space_picture.Goals as goal
+
+pub returns-in_ok-text-in-Yes : goal.returns-in_ok-text-in-Yes
+returns-in_ok-text-in-Yes g c =
+    yes-shown c.args.space.now c.in_ok-least.field-0 c.in-Yes.least
+    (string_bytes c.in_ok-parts-in-Yes.parts.head.text)
+    (string_bytes c.in_ok-parts-in-Yes.parts.rest.text)
+    (string_bytes c.in_ok-text-in-Yes.text) c.in-Yes.is
+    (subst (λ s. IsTrue (is_table_given s.world.forest s.table)) c.space.view_is c.space.invariant)
+    (subst (λ s. IsVerdict (policy_of s.world) s.world.forest s.table c.in_ok-least.field-0)
+    c.space.view_is c.in_ok-least.ensures)
+    c.in_ok-text-in-Yes.ensures
+
+pub returns-in_ok-text-in-No : goal.returns-in_ok-text-in-No
+returns-in_ok-text-in-No g c =
+    no-shown c.args.space.now c.in_ok-least.field-0 c.in-No.breach
+    (string_bytes c.in_ok-parts-in-No.parts.head.text)
+    (string_bytes c.in_ok-parts-in-No.parts.rest.text)
+    (string_bytes c.in_ok-text-in-No.text) c.in-No.is
+    (subst (λ s. IsVerdict (policy_of s.world) s.world.forest s.table c.in_ok-least.field-0)
+    c.space.view_is c.in_ok-least.ensures)
+    c.in_ok-text-in-No.ensures

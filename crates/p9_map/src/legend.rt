@@ -1,0 +1,117 @@
+//! The head of a picture, and what explains its signs.
+
+use crate::drawing::draw_lock;
+use crate::svg::Svg;
+use p9_base::NoMemory;
+use std::alloc::Allocator;
+
+/// How wide a picture is at the least.
+pub(crate) const WIDTH_MIN: u64 = 860;
+
+/// How high a line of the legend is.
+const ROW: u64 = 24;
+
+/// The style of boxes, lines and texts.
+const STYLE: &str = "<style>
+text{font-family:monospace;font-size:13px;fill:#000}
+.title{font-weight:bold;font-size:14px}
+rect{stroke:#000;fill:#fff}
+.reached{fill:#d5ecd0;stroke:#1b6e1b;stroke-width:2}
+.hidden{stroke-width:2}
+.inside{fill:#ddd;stroke:#777;stroke-dasharray:2 2}
+rect.walk{stroke:#c00000;stroke-width:3;stroke-dasharray:none}
+path{fill:none}
+.entry{stroke:#888;shape-rendering:crispEdges}
+.member{stroke:#0b3d91;stroke-width:1.5;stroke-dasharray:6 3;marker-end:url(#head)}
+.walk.entry,.walk.member{stroke:#c00000;stroke-width:3}
+.walk.member{marker-end:url(#walkhead)}
+.lock{fill:#000;fill-rule:evenodd;stroke:#000}
+.number{font-size:11px;fill:#0b3d91;stroke:#fff;stroke-width:4;paint-order:stroke}
+.note{fill:#c00000}
+.badge{fill:#c00000}
+.step{font-size:11px;font-weight:bold;fill:#fff;text-anchor:middle}
+</style>
+<defs>
+<marker id=\"head\" viewBox=\"0 0 8 8\" refX=\"8\" refY=\"4\" markerWidth=\"8\" markerHeight=\"8\" markerUnits=\"userSpaceOnUse\" orient=\"auto\"><path d=\"M0 0L8 4L0 8z\" style=\"fill:#0b3d91\"/></marker>
+<marker id=\"walkhead\" viewBox=\"0 0 8 8\" refX=\"8\" refY=\"4\" markerWidth=\"12\" markerHeight=\"12\" markerUnits=\"userSpaceOnUse\" orient=\"auto\"><path d=\"M0 0L8 4L0 8z\" style=\"fill:#c00000\"/></marker>
+</defs>
+<rect width=\"100%\" height=\"100%\" style=\"stroke:none\"/>
+";
+
+/// Begins a picture of this size.
+pub(crate) fn draw_head<A: Allocator + Copy>(
+    svg: &mut Svg<A>,
+    width: u64,
+    height: u64,
+) -> Result<(), NoMemory> {
+    svg.number("<svg xmlns=\"http://www.w3.org/2000/svg\" width=\"", width)?;
+    svg.number("\" height=\"", height)?;
+    svg.number("\" viewBox=\"0 0 ", width)?;
+    svg.number(" ", height)?;
+    svg.push("\">\n")?;
+    svg.push(STYLE)
+}
+
+/// How high the legend is.
+pub(crate) fn legend_height(has_breach: bool, left_out: usize) -> u64 {
+    ROW * (5 + u64::from(has_breach) + u64::from(left_out > 0))
+}
+
+/// Draws what explains the signs, from this height on.
+pub(crate) fn draw_legend<A: Allocator + Copy>(
+    svg: &mut Svg<A>,
+    top: u64,
+    has_breach: bool,
+    left_out: usize,
+) -> Result<(), NoMemory> {
+    draw_sample(
+        svg,
+        "reached",
+        top,
+        "clients can reach it, as the certificate says",
+    )?;
+    let second = top.saturating_add(ROW);
+    draw_sample(svg, "hidden", second, "a hidden directory")?;
+    draw_lock(svg, 38, second.saturating_add(7))?;
+    let third = second.saturating_add(ROW);
+    draw_sample(svg, "inside", third, "inside a hidden directory")?;
+    let fourth = third.saturating_add(ROW);
+    draw_arrow(svg, fourth)?;
+    let mut next = fourth.saturating_add(ROW);
+    if has_breach {
+        draw_sample(
+            svg,
+            "walk",
+            next,
+            "the walk to what is hidden, and by which right it goes on",
+        )?;
+        next = next.saturating_add(ROW);
+    }
+    if left_out > 0 {
+        let text = format!(in *svg.text.allocator(); "{left_out} more have no box")?;
+        svg.line("name", 24, next.saturating_add(13), text.as_str())?;
+    }
+    Ok(())
+}
+
+// Draws a small box of a style, and what it means.
+fn draw_sample<A: Allocator + Copy>(
+    svg: &mut Svg<A>,
+    class: &str,
+    top: u64,
+    text: &str,
+) -> Result<(), NoMemory> {
+    svg.push("<rect class=\"")?;
+    svg.push(class)?;
+    svg.number("\" x=\"24\" y=\"", top)?;
+    svg.push("\" width=\"40\" height=\"16\"/>\n")?;
+    svg.line("name", 76, top.saturating_add(13), text)
+}
+
+// Draws a small arrow, and what it means.
+fn draw_arrow<A: Allocator + Copy>(svg: &mut Svg<A>, top: u64) -> Result<(), NoMemory> {
+    svg.number("<path class=\"member\" d=\"M24 ", top.saturating_add(8))?;
+    svg.push("h40\"/>\n")?;
+    let text = "what stands there; 1, 2 and so on in a union; c: files may be created in it";
+    svg.line("name", 76, top.saturating_add(13), text)
+}

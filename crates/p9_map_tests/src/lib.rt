@@ -1,0 +1,7 @@
+//! Tests of p9_map: how many boxes and arrows pictures have, names in them, and failed allocations.
+#![tactic(auto)]
+
+#[cfg(test)]
+mod pictures;
+#[cfg(test)]
+mod refusals;
