@@ -1,5 +1,5 @@
 -- What a reply gives, by its frame.
-use Rattle.std.specs.Prelude.{◌≡◌, ◌≢◌, ℕ, ◌⊎◌, List, None, Some, Result, MatchResult}
+use Rattle.std.specs.Prelude.{◌≡◌, ◌≢◌, ℕ, ◌⊎◌, List, None, Some, Result, MatchResult, IsTrue}
 use Rattle.p9_wire.specs.Message.{RMessage, Rerror, r_view}
 use Rattle.p9_wire.specs.Reading.{r_message_of}
 use Rattle.p9_wire.specs.Reply.{r_type}
@@ -8,7 +8,9 @@ use Rattle.p9_client.specs.declared.error.ClientError.{ClientError}
 use Rattle.p9_client.specs.declared.error.ClientError.TheVariants.{Refused, TooLong, Over, Stream}
 use Rattle.p9_client.specs.declared.error.ClientError.TheVariants.{BadSize, NoMessage, OtherTag}
 use Rattle.p9_client.specs.declared.error.ClientError.TheVariants.{OtherType, Unasked, NoMemory}
-use Rattle.p9_client.specs.Reason.{IsReason}
+use Rattle.p9_client.specs.declared.reply.Asked.{Asked}
+use Rattle.p9_client.specs.declared.reply.Asked.TheVariants.{Read, Write}
+use Rattle.p9_client.specs.Reason.{IsReason, ends}
 
 -- the frame is the reply with this tag
 abbrev pub IsReply : (frame : List ℕ) (tag : ℕ) → RMessage → Type 0
@@ -60,3 +62,15 @@ IsTaken kind Gives GivesMore tag frame result =
     MatchResult result (λ value. (m : RMessage) × IsReply frame tag m × Gives m value)
     (λ error. IsNoAnswer tag frame error
     ⊎ ((m : RMessage) × IsReply frame tag m × IsOtherAnswer kind GivesMore m error))
+
+-- the number of the type of a reply to what was asked
+abbrev pub asked_type : Asked → ℕ
+asked_type Read = 117
+asked_type Write = 119
+
+-- a reply that does not matter is of the kind that was asked for, or a refusal; each error ends the
+-- session
+abbrev pub IsDroppedReply : Asked → (tag : ℕ) (frame : List ℕ) → Result (Unit {0}) ClientError → Type 0
+IsDroppedReply asked tag frame result =
+    MatchResult result (λ nothing. (m : RMessage) × IsReply frame tag m
+    × ((r_type m ≡ asked_type asked) ⊎ (r_type m ≡ 107))) (λ error. IsTrue (ends error))
