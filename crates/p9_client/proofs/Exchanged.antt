@@ -286,10 +286,10 @@ module _ {S : Type 0} (remaining contents : S → Option (List ℕ)) where
       }
 
 -- a reply that was dropped
-pub dropped-one : {S : Type 0} (asked : Asked) (tag : ℕ) (frame : List ℕ) (late new : Talk S)
+pub dropped-one : {S : Type 0} (asked : Asked) (most tag : ℕ) (frame : List ℕ) (late new : Talk S)
     (dropped : Result (Unit {0}) ClientError) (nothing : Unit {0})
-    → IsDroppedReply asked tag frame dropped → frame ≡ late.reply → Ok nothing ≡ dropped
+    → IsDroppedReply asked most tag frame dropped → frame ≡ late.reply → Ok nothing ≡ dropped
     → IsSettled late new dropped → (m : RMessage) × IsReply late.reply tag m × (new ≡ late)
-dropped-one asked tag frame late new (Ok value) nothing answer frame_is is settled =
+dropped-one asked most tag frame late new (Ok value) nothing answer frame_is is settled =
     (answer.0, subst (λ (f : List ℕ). IsReply f tag answer.0) frame_is answer.1, settled)
-dropped-one asked tag frame late new (Err error) nothing answer frame_is is settled = cc
+dropped-one asked most tag frame late new (Err error) nothing answer frame_is is settled = cc

@@ -1,6 +1,6 @@
 -- What a reply gives, by its frame.
-use Rattle.std.specs.Prelude.{◌≡◌, ◌≢◌, ℕ, ◌⊎◌, List, None, Some, Result, MatchResult, IsTrue}
-use Rattle.p9_wire.specs.Message.{RMessage, Rerror, r_view}
+use Rattle.std.specs.Prelude.{◌≡◌, ◌≢◌, ℕ, ◌≤◌, ◌⊎◌, List, None, Some, Result, MatchResult, IsTrue, length}
+use Rattle.p9_wire.specs.Message.{RMessage, Rerror, Rread, Rwrite, r_view}
 use Rattle.p9_wire.specs.Reading.{r_message_of}
 use Rattle.p9_wire.specs.Reply.{r_type}
 use Rattle.p9_wire.specs.declared.message.RMsg.{RMsg}
@@ -63,14 +63,18 @@ IsTaken kind Gives GivesMore tag frame result =
     (λ error. IsNoAnswer tag frame error
     ⊎ ((m : RMessage) × IsReply frame tag m × IsOtherAnswer kind GivesMore m error))
 
--- the number of the type of a reply to what was asked
-abbrev pub asked_type : Asked → ℕ
-asked_type Read = 117
-asked_type Write = 119
+-- a reply to a read or a write of at most so many bytes, or a refusal
+abbrev pub IsWithin : Asked → (most : ℕ) → RMessage → Type 0
+IsWithin Read most m =
+    ((bytes : List ℕ) × (m ≡ Rread bytes) × (length bytes ≤ most))
+    ⊎ ((ename : List ℕ) × (m ≡ Rerror ename))
+IsWithin Write most m =
+    ((count : ℕ) × (m ≡ Rwrite count) × (count ≤ most))
+    ⊎ ((ename : List ℕ) × (m ≡ Rerror ename))
 
--- a reply that does not matter is of the kind that was asked for, or a refusal; each error ends the
--- session
-abbrev pub IsDroppedReply : Asked → (tag : ℕ) (frame : List ℕ) → Result (Unit {0}) ClientError → Type 0
-IsDroppedReply asked tag frame result =
-    MatchResult result (λ nothing. (m : RMessage) × IsReply frame tag m
-    × ((r_type m ≡ asked_type asked) ⊎ (r_type m ≡ 107))) (λ error. IsTrue (ends error))
+-- a reply that does not matter is within what was asked; each error ends the session
+abbrev pub IsDroppedReply : Asked → (most tag : ℕ) (frame : List ℕ)
+    → Result (Unit {0}) ClientError → Type 0
+IsDroppedReply asked most tag frame result =
+    MatchResult result (λ nothing. (m : RMessage) × IsReply frame tag m × IsWithin asked most m)
+    (λ error. IsTrue (ends error))

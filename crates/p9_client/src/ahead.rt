@@ -28,11 +28,12 @@ impl<S: Stream + Drop, A: Allocator + Copy> Session<S, A> {
             self.new) }
         ensures err { IfErr result (λ error. self.new.failed ≡ true) }
     {
+        let most = self.data_max();
         let mut tag = first;
         let mut left = count;
         while left > 0 {
             self.receive()?;
-            let dropped = dropped_reply(asked, tag, self.reply());
+            let dropped = dropped_reply(asked, tag, self.reply(), most);
             self.settled(dropped)?;
             tag = tag_after(tag);
             left -= 1;

@@ -151,13 +151,17 @@ pub enum Asked {
     Write,
 }
 
-/// A reply to a read or a write whose bytes or whose count does not matter: it is of its kind, or a
-/// refusal.
-pub fn dropped_reply(asked: Asked, tag: u16, frame: &[u8]) -> Result<(), ClientError>
-    ensures { IsDroppedReply asked tag frame.now result }
+/// A reply to a read or a write of at most so many bytes, whose bytes or count do not matter. A
+/// refusal does not matter either.
+pub fn dropped_reply(asked: Asked, tag: u16, frame: &[u8], most: usize) -> Result<(), ClientError>
+    ensures { IsDroppedReply asked most tag frame.now result }
 {
     match (asked, reply_of(tag, frame)) {
-        (Asked::Read, Ok(RMsg::Read { .. })) | (Asked::Write, Ok(RMsg::Write { .. })) => Ok(()),
+        (Asked::Read, Ok(RMsg::Read { bytes })) if bytes.len() <= most => Ok(()),
+        (Asked::Write, Ok(RMsg::Write { count })) if count as usize <= most => Ok(()),
+        (Asked::Read, Ok(RMsg::Read { .. })) | (Asked::Write, Ok(RMsg::Write { .. })) => Err(
+            ClientError::Unasked,
+        ),
         (_, Ok(_)) => Err(ClientError::OtherType),
         (_, Err(ClientError::Refused(_))) => Ok(()),
         (_, Err(error)) => Err(error),

@@ -5,7 +5,7 @@ use Rattle.p9_client.proofs.session.Session.drop_replies.Goals as goal
 
 pub loop-left-preserved : goal.loop-left-preserved
 loop-left-preserved g c =
-    let one = dropped-one c.args.asked c.loop-left.tag c.reply.result.now c.receive.new.self
+    let one = dropped-one c.args.asked c.data_max-most.result c.loop-left.tag c.reply.result.now c.receive.new.self
     c.settled.new.self c.dropped_reply-dropped.result c.in_ok-settled.field-0
     c.dropped_reply-dropped.ensures c.reply.ensures c.in_ok-settled.ensures.result
     c.settled.ensures.settled in
