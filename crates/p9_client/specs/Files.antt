@@ -3,7 +3,8 @@ use Rattle.std.specs.Prelude.{◌≡◌, ℕ, ◌+◌, ◌<◌, ◌≤◌, ◌�
 use Rattle.std.specs.Prelude.{Option, Result, MatchResult, drop, length, take}
 use Rattle.std.specs.List.{concat, flat_map}
 use Rattle.p9_wire.specs.Fields.{stat_bytes}
-use Rattle.p9_wire.specs.Message.{Rread, Rwrite, Tread, Twrite}
+use Rattle.p9_base.specs.declared.qid.Qid.{Qid}
+use Rattle.p9_wire.specs.Message.{Rread, Rwalk, Rwrite, Tread, Twalk, Twrite}
 use Rattle.p9_client.specs.declared.entry.Entry.{Entry}
 use Rattle.p9_client.specs.declared.file_error.FileError.{FileError}
 use Rattle.p9_client.specs.declared.file_error.FileError.TheVariants.{Session, NotWalked, BadEntry}
@@ -79,6 +80,29 @@ Writes fid bytes from to (e ∷ es) =
     ⊎ (WritesBehind fid from bytes e × Writes fid bytes from to es)
 
 module _ {S : Type 0} (remaining contents : S → Option (List ℕ)) where
+  -- a walk by at most sixteen names, all of which lead somewhere
+  pub record WalksPiece (fid newfid : ℕ) (names : List (List ℕ)) (old new : Talk S) : Type 0 where
+    pub few : length names ≤ 16
+    pub asked : Asks remaining contents (Twalk fid newfid names) old.tag old new
+    pub qids : List Qid
+    pub answer : IsReply new.reply old.tag (Rwalk qids)
+    pub whole : length qids ≡ length names
+
+  -- walks by these names, one after another, of one fid
+  abbrev pub WalksOn : (fid : ℕ) → List (List (List ℕ)) → (old new : Talk S) → Type 0
+  WalksOn fid [] old new = new ≡ old
+  WalksOn fid (piece ∷ pieces) old new =
+      (mid : Talk S) × WalksPiece fid fid piece old mid × WalksOn fid pieces mid new
+
+  -- a fid walked to a new one, and that one on, by the names of a path in pieces
+  pub record WalksPath (fid newfid : ℕ) (path : List (List ℕ)) (old new : Talk S) : Type 0 where
+    pub first : List (List ℕ)
+    pub pieces : List (List (List ℕ))
+    pub joined : first ++ flat_map (λ piece. piece) pieces ≡ path
+    pub mid : Talk S
+    pub begins : WalksPiece fid newfid first old mid
+    pub walks : WalksOn newfid pieces mid new
+
   -- a read of a file from an offset on gave this piece
   pub record ReadsPiece (fid offset : ℕ) (piece : List ℕ) (old new : Talk S) : Type 0 where
     pub most : ℕ

@@ -1,7 +1,7 @@
 //! Paths of any number of names, walked.
 
-ghost use Rattle.std.specs.Prelude.{◌≤◌, length};
-ghost use Rattle.p9_client.specs.Files.{GoesOn};
+ghost use Rattle.std.specs.Prelude.{◌≤◌, IfOk, length, map};
+ghost use Rattle.p9_client.specs.Files.{GoesOn, WalksPath, WalksPiece};
 
 use crate::file_error::FileError;
 use crate::session::Session;
@@ -18,7 +18,9 @@ impl<S: Stream + Drop, A: Allocator + Copy> Session<S, A> {
     ///
     /// [`FileError::Session`], and [`FileError::NotWalked`] where the path leads nowhere.
     pub fn walk_path(&mut self, fid: u32, newfid: u32, path: &[&str]) -> Result<(), FileError>
-        ensures { GoesOn self.old self.new result }
+        ensures goes_on { GoesOn self.old self.new result }
+        ensures walked { IfOk result (λ nothing. WalksPath S.remaining S.contents fid newfid
+            (map (λ name. name.now) path.now) self.old self.new) }
     {
         let mut walked = path.len().min(MAXWELEM);
         self.walk_piece(fid, newfid, &path[..walked])?;
@@ -38,7 +40,9 @@ impl<S: Stream + Drop, A: Allocator + Copy> Session<S, A> {
     // One walk, by at most sixteen names.
     fn walk_piece(&mut self, fid: u32, newfid: u32, piece: &[&str]) -> Result<(), FileError>
         requires { length piece.now ≤ 16 }
-        ensures { GoesOn self.old self.new result }
+        ensures goes_on { GoesOn self.old self.new result }
+        ensures walked { IfOk result (λ nothing. WalksPiece S.remaining S.contents fid newfid
+            (map (λ name. name.now) piece.now) self.old self.new) }
     {
         let mut names = Names::new();
         for name in piece {
