@@ -1,5 +1,5 @@
 -- Requests that are written and answers that are read, one after another.
-use Rattle.std.proofs.Common.{◌≡◌, ℕ, ◌+◌, ◌∙◌, Err, List, [], ◌∷◌, ◌++◌, None, Ok, Option, Result, Some, ap}
+use Rattle.std.proofs.Common.{◌≡◌, ℕ, ◌+◌, ◌<◌, ◌∙◌, Err, List, [], ◌∷◌, ◌++◌, None, Ok, Option, Result, Some, ap}
 use Rattle.std.proofs.Common.{append-nil, append_assoc, arith, length, length-append, map, refl, subst, sym}
 use Rattle.std.proofs.KnownBytes.{Appends-kept, Appends-nil, Appends-trans, Consumes-nil, Consumes-trans, Keeps-refl, Keeps-trans}
 use Rattle.std.proofs.lemmas.List.{map-append}
@@ -45,12 +45,15 @@ answers-append tag (x ∷ xs) ys first more =
 
 -- a further request is for the next part
 pub asked-more : (request : ℕ → TMessage) (size : ℕ → ℕ) (from to : ℕ) (rs : List TMessage)
-    (next : TMessage) → AskInTurn request size from to rs → next ≡ request to
+    (next : TMessage) → AskInTurn request size from to rs → next ≡ request to → 0 < size to
     → AskInTurn request size from (to + size to) (rs ++ next ∷ [])
-asked-more request size from to [] next asked is =
-    (is ∙ ap request (sym asked), ap (λ (t : ℕ). t + size t) asked)
-asked-more request size from to (r ∷ rs) next asked is =
-    (asked.0, asked-more request size (from + size from) to rs next asked.1 is)
+asked-more request size from to [] next asked is some = (
+  is ∙ ap request (sym asked),
+  subst (λ (t : ℕ). 0 < size t) (sym asked) some,
+  ap (λ (t : ℕ). t + size t) asked,
+)
+asked-more request size from to (r ∷ rs) next asked is some =
+    (asked.0, asked.1, asked-more request size (from + size from) to rs next asked.2 is some)
 
 -- as many answers as requests
 pub record Paired (requests : List TMessage) (answers : List Answer) : Type 0 where
@@ -237,14 +240,14 @@ module _ {S : Type 0} (remaining contents : S → Option (List ℕ)) where
   -- the request for the next part was written
   pub next-sent : (request : ℕ → TMessage) (size : ℕ → ℕ) (count at tag : ℕ) (next : TMessage)
       (old mid new : Talk S) → HasSent request size count at old mid
-      → Sends remaining contents next tag mid new → tag ≡ mid.tag → next ≡ request at
+      → Sends remaining contents next tag mid new → tag ≡ mid.tag → next ≡ request at → 0 < size at
       → HasSent request size (count + 1) (at + size at) old new
-  next-sent request size count at tag next old mid new before sends tag_is is =
+  next-sent request size count at tag next old mid new before sends tag_is is some =
       record {
         requests = before.requests ++ next ∷ [];
         long = omega (arith, before.long, length-append before.requests (next ∷ []));
         sent = sent-more before.requests next tag old mid new before.sent sends tag_is;
-        asked = asked-more request size 0 at before.requests next before.asked is;
+        asked = asked-more request size 0 at before.requests next before.asked is some;
       }
 
   -- so many answers were read from a first tag on, up to another tag

@@ -82,7 +82,7 @@ behind fid start most len at from to (e ∷ es) asked after =
         request_is = asked.0;
         behind = after;
       },
-      behind fid start most len at (from + part_size most len from) to es asked.1 (omega arith),
+      behind fid start most len at (from + part_size most len from) to es asked.2 (omega arith),
     )
 
 -- reads of parts give what their answers do
@@ -96,6 +96,7 @@ reads-on fid start most len from to (e ∷ es) bytes asked given =
     let at : ReadsAt fid (start + from) piece e =
     record {
       size = part_size most len from;
+      some = asked.1;
       request_is = asked.0;
       reply_is = given.1;
       within = within;
@@ -111,7 +112,7 @@ reads-on fid start most len from to (e ∷ es) bytes asked given =
             reads (omega (arith, full.0)),
             full.1.1,
             subst (λ (t : ℕ). Reads fid t es full.1.0) next
-                (reads-on fid start most len (from + part_size most len from) to es full.1.0 asked.1
+                (reads-on fid start most len (from + part_size most len from) to es full.1.0 asked.2
                 full.1.2),
           )
       | inr short ↦ inl (
@@ -120,7 +121,7 @@ reads-on fid start most len from to (e ∷ es) bytes asked given =
         reads (omega (arith, short.0)),
         short.1 ∙ sym (append-nil piece),
         behind fid start most len (start + from + length piece) (from + part_size most len from) to
-            es asked.1 (omega (arith, short.0)),
+            es asked.2 (omega (arith, short.0)),
       )
     ]
 
@@ -142,6 +143,7 @@ first-ends fid start most len to e es bytes asked given none =
     let at : start + 0 ≡ start = omega arith in
     record {
       size = part_size most len 0;
+      some = asked.1;
       request_is = subst (λ (t : ℕ). e.request ≡ Tread fid t (part_size most len 0)) at asked.0;
       reply_is = given.1 ∙ ap Rread piece;
       within = omega arith;

@@ -74,7 +74,7 @@ behind fid start most len bytes at from to (e ∷ es) asked after =
         request_is = asked.0;
         behind = after;
       },
-      behind fid start most len bytes at (from + part_size most len from) to es asked.1
+      behind fid start most len bytes at (from + part_size most len from) to es asked.2
           (omega arith),
     )
 
@@ -105,7 +105,7 @@ writes-on fid start most len bytes from to total end (e ∷ es) asked taken end_
             writes (omega (arith, full.0)),
             subst (λ (t : ℕ). Writes fid bytes t end es) next
                 (writes-on fid start most len bytes (from + part_size most len from) to full.1.0 end es
-                asked.1 full.1.2 (omega (arith, full.0, full.1.1, end_is))),
+                asked.2 full.1.2 (omega (arith, full.0, full.1.1, end_is))),
           )
       | inr short ↦
           let here : start + from + count ≡ end = omega (arith, short.1, end_is) in
@@ -114,7 +114,7 @@ writes-on fid start most len bytes from to total end (e ∷ es) asked taken end_
             writes (omega (arith, short.0)),
             subst (λ (t : ℕ). Writes fid bytes (start + from + count) t es) here
                 (behind fid start most len bytes (start + from + count)
-                (from + part_size most len from) to es asked.1 (omega (arith, short.0))),
+                (from + part_size most len from) to es asked.2 (omega (arith, short.0))),
           )
     ]
 

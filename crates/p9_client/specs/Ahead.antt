@@ -51,12 +51,13 @@ abbrev pub AreAnswers : ℕ → List Answer → Type 0
 AreAnswers tag [] = Unit {0}
 AreAnswers tag (answer ∷ answers) = IsAnswer tag answer × AreAnswers (next_tag tag) answers
 
--- requests for parts of a file, from a place on: each is for the part after that of the one before
+-- requests for parts of a file, from a place on: each is for the part after that of the one before,
+-- which is not empty
 abbrev pub AskInTurn : (request : ℕ → TMessage) (size : ℕ → ℕ) (from to : ℕ) → List TMessage
     → Type 0
 AskInTurn request size from to [] = from ≡ to
 AskInTurn request size from to (r ∷ rs) =
-    (r ≡ request from) × AskInTurn request size (from + size from) to rs
+    (r ≡ request from) × (0 < size from) × AskInTurn request size (from + size from) to rs
 
 -- how long the part from a place on is, of so many bytes in parts of at most so many
 abbrev pub part_size : (most len at : ℕ) → ℕ

@@ -38,6 +38,7 @@ spelled entries = flat_map (λ entry. stat_bytes (entry_view entry)) entries
 -- an exchange that read this piece of a file from a place on
 pub record ReadsAt (fid at : ℕ) (piece : List ℕ) (e : Exchange) : Type 0 where
   pub size : ℕ
+  pub some : 0 < size
   pub request_is : e.request ≡ Tread fid at size
   pub reply_is : e.answer.reply ≡ Rread piece
   pub within : length piece ≤ size

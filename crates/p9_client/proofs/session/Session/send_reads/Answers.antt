@@ -1,4 +1,4 @@
-use Rattle.std.proofs.Common.{◌≡◌, ◌∙◌, ℕ, ◌+◌, ◌-◌, ap, arith, min, subst, sym}
+use Rattle.std.proofs.Common.{◌≡◌, ◌∙◌, ℕ, ◌+◌, ◌-◌, ◌<◌, ap, arith, min, subst, sym}
 use Rattle.p9_wire.specs.Message.{Tread}
 use Rattle.p9_client.specs.Ahead.{part_size, read_part}
 use Rattle.p9_client.proofs.Exchanged.{HasSent, next-sent}
@@ -10,6 +10,8 @@ loop-at-preserved g c =
     let at : ℕ = c.loop-at.at in
     let size : c.min-size.result ≡ part_size most c.args.len at =
     c.min-size.ensures ∙ ap (λ (m : ℕ). min m (c.args.len - at)) c.data_max-most.ensures.value in
+    let some : 0 < part_size most c.args.len at =
+    omega (arith, c.data_max-most.ensures.value, c.data_max-most.ensures.some, c.loop-at-test.true) in
     let request = read_part c.args.fid c.args.start most c.args.len in
     record {
       within = omega (arith, c.min-size.ensures, c.loop-at-test.true);
@@ -29,5 +31,5 @@ loop-at-preserved g c =
           (next-sent g.S.Read.remaining g.S.Write.contents request (part_size most c.args.len)
           c.loop-at.count at c.tag-tag.result _ c.args.self.now c.loop-at.self c.send.new.self
           c.loop-at.invariant.sent c.in_ok-send.ensures c.tag-tag.ensures
-          (ap (λ (n : ℕ). Tread c.args.fid (c.args.start + at) n) size));
+          (ap (λ (n : ℕ). Tread c.args.fid (c.args.start + at) n) size) some);
     }

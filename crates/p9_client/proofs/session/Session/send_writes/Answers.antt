@@ -1,4 +1,4 @@
-use Rattle.std.proofs.Common.{◌≡◌, ◌∙◌, ℕ, ◌+◌, ◌-◌, ap, arith, drop, min, subst, sym, take}
+use Rattle.std.proofs.Common.{◌≡◌, ◌∙◌, ℕ, ◌+◌, ◌-◌, ◌<◌, ap, arith, drop, min, subst, sym, take}
 use Rattle.p9_wire.specs.Message.{Twrite}
 use Rattle.p9_client.specs.Ahead.{part_size, write_part}
 use Rattle.p9_client.proofs.Exchanged.{HasSent, next-sent}
@@ -13,6 +13,8 @@ loop-at-preserved g c =
     c.min-size.ensures ∙ ap (λ (m : ℕ). min m (c.args.len - at)) c.data_max-most.ensures.value in
     let piece : offset + c.min-size.result - offset ≡ part_size most c.args.len at =
     omega (arith, size) in
+    let some : 0 < part_size most c.args.len at =
+    omega (arith, c.data_max-most.ensures.value, c.data_max-most.ensures.some, c.loop-at-test.true) in
     let request = write_part c.args.fid c.args.start most c.args.len c.args.bytes.now in
     record {
       within = omega (arith, c.min-size.ensures, c.loop-at-test.true);
@@ -32,5 +34,6 @@ loop-at-preserved g c =
           (next-sent g.S.Read.remaining g.S.Write.contents request (part_size most c.args.len)
           c.loop-at.count at c.tag-tag.result _ c.args.self.now c.loop-at.self c.send.new.self
           c.loop-at.invariant.sent c.in_ok-send.ensures c.tag-tag.ensures
-          (ap (λ (n : ℕ). Twrite c.args.fid offset (take n (drop offset c.args.bytes.now))) piece));
+          (ap (λ (n : ℕ). Twrite c.args.fid offset (take n (drop offset c.args.bytes.now))) piece)
+          some);
     }
