@@ -1,10 +1,20 @@
--- A call of a session, from its steps: a request is asked, its reply is looked at, and the session
--- is settled.
-use Rattle.std.proofs.Common.{◌≡◌, ℕ, false, List, Option, Result, Ok, Err, inr, refl}
+-- A call of a session, from its steps: a request is written, a frame read, its reply looked at, and
+-- the session settled.
+use Rattle.std.proofs.Common.{◌≡◌, ◌∙◌, ℕ, false, true, List, Option, Result, Ok, Err, inr, length, refl, subst, sym}
+use Rattle.std.proofs.Math.Seq.{take-length}
+use Rattle.std.proofs.KnownBytes.{Appends-kept}
+use Rattle.std.specs.Io.KnownBytes.{Appends}
 use Rattle.p9_wire.specs.Message.{TMessage, RMessage}
+use Rattle.p9_wire.specs.Spelling.{t_spelling}
 use Rattle.p9_client.specs.declared.error.ClientError.{ClientError}
+use Rattle.p9_client.specs.declared.error.ClientError.TheVariants.{Refused, TooLong, Over, Stream}
+use Rattle.p9_client.specs.declared.error.ClientError.TheVariants.{BadSize, NoMessage, OtherTag}
+use Rattle.p9_client.specs.declared.error.ClientError.TheVariants.{OtherType, Unasked, NoMemory}
+use Rattle.p9_client.specs.Frame.{IsBadSize}
 use Rattle.p9_client.specs.Reply.{IsTaken}
-use Rattle.p9_client.specs.Session.{Asks, GetsNone, IsCall, IsSettled, Talk}
+use Rattle.p9_client.specs.Session.{Asks, GetsNone, IsAsked, IsCall, IsReceived, IsSendable, IsSettled}
+use Rattle.p9_client.specs.Session.{ReadsNone, ReceivesNone, Sends, Talk}
+use Rattle.p9_client.proofs.Exchanged.{kept-Consumes}
 
 module _ {S : Type 0} (remaining contents : S → Option (List ℕ)) where
   pub call : {T : Type 0} (request : TMessage) (tag kind : ℕ) (Gives : RMessage → T → Type 0)
@@ -28,6 +38,84 @@ module _ {S : Type 0} (remaining contents : S → Option (List ℕ)) where
         failed = refl;
         answer = taken;
       })
+
+  -- a request was written, and a frame is read
+  pub asks : (request : TMessage) (tag : ℕ) (old mid new : Talk S)
+      (received : Result (Unit {0}) ClientError) → Sends remaining contents request tag old mid
+      → IsReceived remaining contents mid new received
+      → IsAsked remaining contents request tag old new received
+  asks request tag old mid new (Ok nothing) sent read = (
+    record {
+      alive = sent.alive;
+      sendable = sent.sendable;
+      written = Appends-kept _ _ _ _ sent.written read.unwritten;
+      read = kept-Consumes _ _ _ _ sent.unread read.read;
+      size = read.size;
+      tag_is = read.tag_is ∙ sent.tag_is;
+      msize_is = read.msize_is ∙ sent.msize_is;
+    },
+    read.goes_on ∙ sent.goes_on,
+  )
+  asks request tag old mid new (Err (Refused reason)) sent read = absurd read
+  asks request tag old mid new (Err TooLong) sent read = absurd read
+  asks request tag old mid new (Err Over) sent read = absurd read
+  asks request tag old mid new (Err (Stream error)) sent read =
+      let spelled = t_spelling tag request in
+      record {
+        alive = sent.alive;
+        sendable = sent.sendable;
+        written = (
+          length spelled,
+          subst (λ (bs : List ℕ). Appends (contents old.stream) (contents new.stream) bs)
+              (sym (take-length spelled)) (Appends-kept _ _ _ _ sent.written read.unwritten),
+        );
+        failed = read.failed;
+        msize_is = read.msize_is ∙ sent.msize_is;
+      }
+  asks request tag old mid new (Err BadSize) sent read =
+      record {
+        alive = sent.alive;
+        sendable = sent.sendable;
+        written = Appends-kept _ _ _ _ sent.written read.unwritten;
+        read = kept-Consumes _ _ _ _ sent.unread read.read;
+        bad = subst (λ (most : ℕ). IsBadSize most new.reply) sent.msize_is read.bad;
+        failed = read.failed;
+        msize_is = read.msize_is ∙ sent.msize_is;
+      }
+  asks request tag old mid new (Err NoMessage) sent read = absurd read
+  asks request tag old mid new (Err OtherTag) sent read = absurd read
+  asks request tag old mid new (Err OtherType) sent read = absurd read
+  asks request tag old mid new (Err Unasked) sent read = absurd read
+  asks request tag old mid new (Err NoMemory) sent read = absurd read
+
+  -- where a request that can be sent is not, the session has failed
+  pub unsent-fails : (request : TMessage) (tag : ℕ) (old new : Talk S) (error : ClientError)
+      → ReadsNone remaining contents request tag old new error → IsSendable old.msize request
+      → new.failed ≡ true
+  unsent-fails request tag old new (Refused reason) none sendable = absurd none
+  unsent-fails request tag old new TooLong none sendable = absurd (none.1 sendable)
+  unsent-fails request tag old new Over none sendable = rw none.1 none.0
+  unsent-fails request tag old new (Stream error) none sendable = none.failed
+  unsent-fails request tag old new BadSize none sendable = none.failed
+  unsent-fails request tag old new NoMessage none sendable = absurd none
+  unsent-fails request tag old new OtherTag none sendable = absurd none
+  unsent-fails request tag old new OtherType none sendable = absurd none
+  unsent-fails request tag old new Unasked none sendable = absurd none
+  unsent-fails request tag old new NoMemory none sendable = absurd none
+
+  -- where no frame is read, the session has failed
+  pub unread-fails : (old new : Talk S) (error : ClientError)
+      → ReceivesNone remaining contents old new error → new.failed ≡ true
+  unread-fails old new (Refused reason) none = absurd none
+  unread-fails old new TooLong none = absurd none
+  unread-fails old new Over none = absurd none
+  unread-fails old new (Stream error) none = none.failed
+  unread-fails old new BadSize none = none.failed
+  unread-fails old new NoMessage none = absurd none
+  unread-fails old new OtherTag none = absurd none
+  unread-fails old new OtherType none = absurd none
+  unread-fails old new Unasked none = absurd none
+  unread-fails old new NoMemory none = absurd none
 
   -- a version that gives nothing changes no msize
   pub no-version : {T : Type 0} (request : TMessage) (tag kind : ℕ) (Gives : RMessage → T → Type 0)

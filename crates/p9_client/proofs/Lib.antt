@@ -1,5 +1,9 @@
 pub mod Calls
+pub mod Exchanged
 pub mod Parts
+pub mod ReadAhead
 pub mod ReadPieces
 pub mod Sizes
 pub mod Stats
+pub mod WalkPieces
+pub mod WriteAhead

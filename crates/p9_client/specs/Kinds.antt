@@ -40,6 +40,11 @@ IsOpened m opened = m ≡ Ropen opened.qid opened.iounit
 abbrev pub IsCreated : RMessage → Opened → Type 0
 IsCreated m opened = m ≡ Rcreate opened.qid opened.iounit
 
+-- a reply to a read of at most so many bytes has these bytes
+pub record IsReadOf (most : ℕ) (m : RMessage) (bytes : List ℕ) : Type 0 where
+  pub is : m ≡ Rread bytes
+  pub within : length bytes ≤ most
+
 -- a reply to a read of at most so many bytes has the bytes that are at the front of the buffer,
 -- and the buffer is unchanged after them
 pub record IsRead (most : ℕ) (old new : List ℕ) (m : RMessage) (count : ℕ) : Type 0 where

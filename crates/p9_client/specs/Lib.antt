@@ -1,5 +1,6 @@
-pub mod Files
+pub mod Ahead
 pub mod Entry
+pub mod Files
 pub mod Frame
 pub mod Kinds
 pub mod Reason

@@ -1,6 +1,6 @@
 -- What a reply gives, by its frame.
-use Rattle.std.specs.Prelude.{◌≡◌, ◌≢◌, ℕ, ◌⊎◌, List, None, Some, Result, MatchResult}
-use Rattle.p9_wire.specs.Message.{RMessage, Rerror, r_view}
+use Rattle.std.specs.Prelude.{◌≡◌, ◌≢◌, ℕ, ◌≤◌, ◌⊎◌, List, None, Some, Result, MatchResult, IsTrue, length}
+use Rattle.p9_wire.specs.Message.{RMessage, Rerror, Rread, Rwrite, r_view}
 use Rattle.p9_wire.specs.Reading.{r_message_of}
 use Rattle.p9_wire.specs.Reply.{r_type}
 use Rattle.p9_wire.specs.declared.message.RMsg.{RMsg}
@@ -8,7 +8,9 @@ use Rattle.p9_client.specs.declared.error.ClientError.{ClientError}
 use Rattle.p9_client.specs.declared.error.ClientError.TheVariants.{Refused, TooLong, Over, Stream}
 use Rattle.p9_client.specs.declared.error.ClientError.TheVariants.{BadSize, NoMessage, OtherTag}
 use Rattle.p9_client.specs.declared.error.ClientError.TheVariants.{OtherType, Unasked, NoMemory}
-use Rattle.p9_client.specs.Reason.{IsReason}
+use Rattle.p9_client.specs.declared.reply.Asked.{Asked}
+use Rattle.p9_client.specs.declared.reply.Asked.TheVariants.{Read, Write}
+use Rattle.p9_client.specs.Reason.{IsReason, ends}
 
 -- the frame is the reply with this tag
 abbrev pub IsReply : (frame : List ℕ) (tag : ℕ) → RMessage → Type 0
@@ -60,3 +62,19 @@ IsTaken kind Gives GivesMore tag frame result =
     MatchResult result (λ value. (m : RMessage) × IsReply frame tag m × Gives m value)
     (λ error. IsNoAnswer tag frame error
     ⊎ ((m : RMessage) × IsReply frame tag m × IsOtherAnswer kind GivesMore m error))
+
+-- a reply to a read or a write of at most so many bytes, or a refusal
+abbrev pub IsWithin : Asked → (most : ℕ) → RMessage → Type 0
+IsWithin Read most m =
+    ((bytes : List ℕ) × (m ≡ Rread bytes) × (length bytes ≤ most))
+    ⊎ ((ename : List ℕ) × (m ≡ Rerror ename))
+IsWithin Write most m =
+    ((count : ℕ) × (m ≡ Rwrite count) × (count ≤ most))
+    ⊎ ((ename : List ℕ) × (m ≡ Rerror ename))
+
+-- a reply that does not matter is within what was asked; each error ends the session
+abbrev pub IsDroppedReply : Asked → (most tag : ℕ) (frame : List ℕ)
+    → Result (Unit {0}) ClientError → Type 0
+IsDroppedReply asked most tag frame result =
+    MatchResult result (λ nothing. (m : RMessage) × IsReply frame tag m × IsWithin asked most m)
+    (λ error. IsTrue (ends error))

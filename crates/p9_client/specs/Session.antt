@@ -1,7 +1,7 @@
 -- A session, and what a call of it does to its stream.
 use Rattle.std.specs.Prelude.{◌≡◌, ℕ, ◌+◌, ◌≤◌, ◌⊎◌, Bool, false, true, List, Option, Result}
 use Rattle.std.specs.Prelude.{MatchResult, nat_lt, if◌then◌else◌}
-use Rattle.std.specs.Io.KnownBytes.{Appends, Consumes}
+use Rattle.std.specs.Io.KnownBytes.{Appends, Consumes, Keeps}
 use Rattle.p9_wire.specs.Message.{TMessage, RMessage}
 use Rattle.p9_wire.specs.Spelling.{t_len, t_spelling, TFits}
 use Rattle.p9_client.specs.declared.error.ClientError.{ClientError}
@@ -107,6 +107,63 @@ module _ {S : Type 0} (remaining contents : S → Option (List ℕ)) where
       MatchResult result (Gets request tag Gives old new)
       (λ error. ReadsNone request tag old new error
       ⊎ GetsNone request tag kind GivesMore old new error)
+
+  -- a session that had not failed wrote this request with this tag, once, and read nothing
+  pub record Sends (request : TMessage) (tag : ℕ) (old new : Talk S) : Type 0 where
+    pub alive : old.failed ≡ false
+    pub sendable : IsSendable old.msize request
+    pub written : Appends (contents old.stream) (contents new.stream) (t_spelling tag request)
+    pub unread : Keeps (remaining old.stream) (remaining new.stream)
+    pub tag_is : new.tag ≡ next_tag old.tag
+    pub msize_is : new.msize ≡ old.msize
+    pub goes_on : new.failed ≡ false
+
+  -- a request was written, or no frame will be read for it
+  abbrev pub IsSent : TMessage → (tag : ℕ) (old new : Talk S) → Result (Unit {0}) ClientError
+      → Type 0
+  IsSent request tag old new result =
+      MatchResult result (λ nothing. Sends request tag old new) (ReadsNone request tag old new)
+
+  -- the frame of a reply was read, and nothing was written
+  pub record Receives (old new : Talk S) : Type 0 where
+    pub read : Consumes (remaining old.stream) (remaining new.stream) new.reply
+    pub size : HasSize new.reply
+    pub unwritten : Keeps (contents old.stream) (contents new.stream)
+    pub tag_is : new.tag ≡ old.tag
+    pub msize_is : new.msize ≡ old.msize
+    pub goes_on : new.failed ≡ old.failed
+
+  -- the stream failed while a frame was read
+  pub record StopsReading (old new : Talk S) : Type 0 where
+    pub unwritten : Keeps (contents old.stream) (contents new.stream)
+    pub failed : new.failed ≡ true
+    pub msize_is : new.msize ≡ old.msize
+
+  -- what was read begins no frame of the session
+  pub record ReadsBadSize (old new : Talk S) : Type 0 where
+    pub read : Consumes (remaining old.stream) (remaining new.stream) new.reply
+    pub bad : IsBadSize old.msize new.reply
+    pub unwritten : Keeps (contents old.stream) (contents new.stream)
+    pub failed : new.failed ≡ true
+    pub msize_is : new.msize ≡ old.msize
+
+  -- why no frame was read
+  abbrev pub ReceivesNone : (old new : Talk S) → ClientError → Type 0
+  ReceivesNone old new (Refused reason) = ⊥
+  ReceivesNone old new TooLong = ⊥
+  ReceivesNone old new Over = ⊥
+  ReceivesNone old new (Stream error) = StopsReading old new
+  ReceivesNone old new BadSize = ReadsBadSize old new
+  ReceivesNone old new NoMessage = ⊥
+  ReceivesNone old new OtherTag = ⊥
+  ReceivesNone old new OtherType = ⊥
+  ReceivesNone old new Unasked = ⊥
+  ReceivesNone old new NoMemory = ⊥
+
+  -- a frame was read, which is not looked at yet
+  abbrev pub IsReceived : (old new : Talk S) → Result (Unit {0}) ClientError → Type 0
+  IsReceived old new result =
+      MatchResult result (λ nothing. Receives old new) (ReceivesNone old new)
 
   -- a request was written and a frame read, which is not looked at yet
   abbrev pub IsAsked : TMessage → (tag : ℕ) (old new : Talk S) → Result (Unit {0}) ClientError

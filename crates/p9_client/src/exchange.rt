@@ -13,36 +13,29 @@ use byteorder::{ByteOrder, LittleEndian};
 use p9_wire::{HEADER, TMsg, write_t};
 use std::io;
 
-/// Writes a request with its tag, and reads the frame of the reply into the front of the buffer.
-/// Returns its size, or `None` where that is below 7 or above `most`: then the front of the buffer
-/// has the 7 bytes that were read. After an error the stream has a front of the request.
-pub fn exchange<S: Stream>(
+/// Writes a request with its tag. The front of the buffer has its bytes then. After an error the
+/// stream has a front of the request.
+pub fn send_request<S: Stream>(
     stream: &mut S,
     tag: u16,
     request: &TMsg<'_>,
-    most: usize,
     frame: &mut [u8],
-) -> io::Result<Option<usize>>
+) -> io::Result<()>
     requires fits { TFits (t_view request.now) }
-    requires short { 7 + t_len (t_view request.now) ≤ most }
-    requires room { most ≤ length frame.old }
-    ensures asked { OnOk result (Appends (S.contents stream.old) (S.contents stream.new)
+    requires room { 7 + t_len (t_view request.now) ≤ length frame.old }
+    ensures ok { OnOk result (Appends (S.contents stream.old) (S.contents stream.new)
         (t_spelling tag (t_view request.now))) }
-    ensures front { OnErr result (AppendsFront (S.contents stream.old) (S.contents stream.new)
+    ensures err { OnErr result (AppendsFront (S.contents stream.old) (S.contents stream.new)
         (t_spelling tag (t_view request.now))) }
-    ensures whole { IfOk result (λ found. IfSome found (λ size. (size ≤ most)
-        × HasSize (take size frame.new)
-        × Consumes (S.remaining stream.old) (S.remaining stream.new) (take size frame.new))) }
-    ensures bad { IfOk result (λ found. IfNone found (IsBadSize most (take 7 frame.new)
-        × Consumes (S.remaining stream.old) (S.remaining stream.new) (take 7 frame.new))) }
+    ensures left { Keeps (S.remaining stream.old) (S.remaining stream.new) }
 {
     let size = write_t(request, tag, frame);
-    send_all(stream, &frame[..size])?;
-    receive_frame(stream, most, frame)
+    send_all(stream, &frame[..size])
 }
 
-// Reads the frame of a reply into the front of the buffer, as `exchange`.
-fn receive_frame<S: Stream>(
+/// Reads the frame of a reply into the front of the buffer. Returns its size, or `None` where that
+/// is below 7 or above `most`: then the front of the buffer has the 7 bytes that were read.
+pub fn receive_frame<S: Stream>(
     stream: &mut S,
     most: usize,
     frame: &mut [u8],

@@ -1,22 +1,26 @@
 //! A client of 9P2000 over any stream of two directions.
 //!
-//! A [`Session`] asks one request at a time, and takes the one frame that answers it. It trusts no
-//! server: a reply that is not the one that was asked for is an error, and after such an error
-//! the session neither writes nor reads again.
+//! A call of a [`Session`] asks one request, and takes the one frame that answers it. A whole file is
+//! read and written by several requests at once. A session trusts no server: a reply that is not the
+//! one that was asked for is an error, and after such an error it neither writes nor reads again.
 #![tactic(auto)]
 
+mod ahead;
 mod entry;
 mod error;
 mod exchange;
 mod file_error;
-mod files;
 mod listing;
+mod paths;
+mod reading;
 mod reason;
 mod reply;
 mod session;
 mod stream;
 mod transfer;
+mod writing;
 
+pub use ahead::AHEAD_MAX;
 pub use entry::Entry;
 pub use error::ClientError;
 pub use file_error::FileError;

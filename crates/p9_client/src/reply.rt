@@ -2,9 +2,9 @@
 
 ghost use Rattle.std.specs.Prelude.{◌≡◌, ◌≤◌, OnErr, length};
 ghost use Rattle.p9_wire.specs.Message.{Rclunk, Rremove, Rwstat};
-ghost use Rattle.p9_client.specs.Reply.{IsReplyOf, IsTaken, gives_no_more};
+ghost use Rattle.p9_client.specs.Reply.{IsDroppedReply, IsReplyOf, IsTaken, gives_no_more};
 ghost use Rattle.p9_client.specs.Kinds.{AgreesOn, ExceedsBytes, ExceedsCount, ExceedsQids, IsAttached};
-ghost use Rattle.p9_client.specs.Kinds.{IsCreated, IsEmptyReply, IsOpened, IsRead, IsWalked, IsWritten};
+ghost use Rattle.p9_client.specs.Kinds.{IsCreated, IsEmptyReply, IsOpened, IsRead, IsReadOf, IsWalked, IsWritten};
 ghost use Rattle.p9_client.specs.Kinds.{OffersMore};
 
 use crate::error::ClientError;
@@ -121,6 +121,18 @@ pub fn read_into(
     }
 }
 
+/// The bytes of a reply to a read, at most `most`.
+pub fn read_bytes(tag: u16, frame: &[u8], most: usize) -> Result<&[u8], ClientError>
+    ensures { IsTaken 117 (λ m bytes. IsReadOf most m bytes.now) (ExceedsBytes most) tag frame.now
+        result }
+{
+    match reply_of(tag, frame)? {
+        RMsg::Read { bytes } if bytes.len() <= most => Ok(bytes),
+        RMsg::Read { .. } => Err(ClientError::Unasked),
+        _ => Err(ClientError::OtherType),
+    }
+}
+
 /// How many bytes were written, at most `most`, of a reply to a write.
 pub fn written_count(tag: u16, frame: &[u8], most: usize) -> Result<usize, ClientError>
     ensures { IsTaken 119 (IsWritten most) (ExceedsCount most) tag frame.now result }
@@ -129,6 +141,30 @@ pub fn written_count(tag: u16, frame: &[u8], most: usize) -> Result<usize, Clien
         RMsg::Write { count } if count as usize <= most => Ok(count as usize),
         RMsg::Write { .. } => Err(ClientError::Unasked),
         _ => Err(ClientError::OtherType),
+    }
+}
+
+/// What was asked of a file: to be read, or to be written.
+#[derive(Clone, Copy, Debug, PartialEq, Eq)]
+pub enum Asked {
+    Read,
+    Write,
+}
+
+/// A reply to a read or a write of at most so many bytes, whose bytes or count do not matter. A
+/// refusal does not matter either.
+pub fn dropped_reply(asked: Asked, tag: u16, frame: &[u8], most: usize) -> Result<(), ClientError>
+    ensures { IsDroppedReply asked most tag frame.now result }
+{
+    match (asked, reply_of(tag, frame)) {
+        (Asked::Read, Ok(RMsg::Read { bytes })) if bytes.len() <= most => Ok(()),
+        (Asked::Write, Ok(RMsg::Write { count })) if count as usize <= most => Ok(()),
+        (Asked::Read, Ok(RMsg::Read { .. })) | (Asked::Write, Ok(RMsg::Write { .. })) => Err(
+            ClientError::Unasked,
+        ),
+        (_, Ok(_)) => Err(ClientError::OtherType),
+        (_, Err(ClientError::Refused(_))) => Ok(()),
+        (_, Err(error)) => Err(error),
     }
 }
 

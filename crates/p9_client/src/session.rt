@@ -1,6 +1,6 @@
 //! A session: one request at a time, and the one frame that answers it.
 
-ghost use Rattle.std.specs.Prelude.{◌≡◌, ◌+◌, ◌-◌, ◌≤◌, [], false, min, true, IfOk, IsTrue, OnErr, length, take};
+ghost use Rattle.std.specs.Prelude.{◌≡◌, ◌+◌, ◌-◌, ◌<◌, ◌≤◌, ◌^◌, [], false, min, true, IfOk, IsTrue, OnErr, length, take};
 ghost use Rattle.p9_wire.specs.Frame.{msize_max};
 ghost use Rattle.p9_wire.specs.Message.{Rclunk, Rremove, Rwstat, Tattach, Tclunk, Tcreate, Topen};
 ghost use Rattle.p9_wire.specs.Message.{Tread, Tremove, Tstat, Tversion, Twalk, Twrite, Twstat, stat_view};
@@ -11,11 +11,11 @@ ghost use Rattle.p9_client.specs.Kinds.{AgreesOn, ExceedsBytes, ExceedsCount, Ex
 ghost use Rattle.p9_client.specs.Kinds.{IsCreated, IsEmptyReply, IsOpened, IsRead, IsWalked, IsWritten};
 ghost use Rattle.p9_client.specs.Kinds.{OffersMore, dialect, msize_min};
 ghost use Rattle.p9_client.specs.Reply.{gives_no_more};
-ghost use Rattle.p9_client.specs.Session.{IsAsked, IsCall, IsSettled, next_tag, no_fid, no_tag};
+ghost use Rattle.p9_client.specs.Session.{IsAsked, IsCall, IsReceived, IsSent, IsSettled, next_tag, no_fid, no_tag};
 
 use crate::entry::{Entry, stat_entry};
 use crate::error::ClientError;
-use crate::exchange::exchange;
+use crate::exchange::{receive_frame, send_request};
 use crate::file_error::FileError;
 use crate::reply::{
     MSIZE_MIN, Opened, VERSION, agreed_msize, attached_qid, created_file, opened_file, read_into,
@@ -337,15 +337,34 @@ impl<S: Stream + Drop, A: Allocator + Copy> Session<S, A> {
         self.settled(taken)
     }
 
+    // The tag of the next request.
+    pub(crate) fn tag(&self) -> u16
+        ensures { result ≡ self.now.tag }
+    {
+        self.tag
+    }
+
+    // The most bytes that one read or write moves.
+    pub(crate) fn data_max(&self) -> usize
+        ensures value { result ≡ self.now.msize - 24 }
+        ensures some { 0 < result }
+        ensures small { result < 2 ^ 20 }
+        ensures room { result + 24 ≤ self.now.msize }
+    {
+        self.msize - AROUND_DATA
+    }
+
     // Room for the bytes that a read gives.
     pub(crate) fn chunk(&self) -> Result<Vec<u8, A>, NoMemory> {
         Ok(vec![in *self.frame.allocator(); 0; self.msize - AROUND_DATA]?)
     }
 
-    // An error of a listing or of a file, after which the session has failed where that ends it.
+    // An error of a listing or of a file, after which the session has failed where that ends it, and
+    // else is unchanged.
     pub(crate) fn ended_by(&mut self, error: FileError) -> FileError
         ensures same { result ≡ error }
         ensures failed { IsTrue (ends_file error) → self.new.failed ≡ true }
+        ensures unchanged { ends_file error ≡ false → self.new ≡ self.old }
     {
         if error.ends_session() {
             self.failed = true;
@@ -357,21 +376,38 @@ impl<S: Stream + Drop, A: Allocator + Copy> Session<S, A> {
     fn ask(&mut self, tag: u16, request: &TMsg<'_>) -> Result<(), ClientError>
         ensures { IsAsked S.remaining S.contents (t_view request.now) tag self.old self.new result }
     {
+        self.send(tag, request)?;
+        self.receive()
+    }
+
+    // Writes a request with its tag, and reads nothing.
+    pub(crate) fn send(&mut self, tag: u16, request: &TMsg<'_>) -> Result<(), ClientError>
+        ensures { IsSent S.remaining S.contents (t_view request.now) tag self.old self.new result }
+    {
         if self.failed {
             return Err(ClientError::Over);
         }
         if !request.fits() || request.size() > self.msize {
             return Err(ClientError::TooLong);
         }
-        let read = exchange(
-            &mut self.stream,
-            tag,
-            request,
-            self.msize,
-            self.frame.as_mut_slice(),
-        );
+        let sent = send_request(&mut self.stream, tag, request, self.frame.as_mut_slice());
         self.tag = tag_after(self.tag);
-        match read {
+        self.len = 0;
+        match sent {
+            Ok(()) => Ok(()),
+            Err(error) => {
+                self.failed = true;
+                Err(ClientError::Stream(error))
+            }
+        }
+    }
+
+    // Reads the frame of a reply, and writes nothing.
+    pub(crate) fn receive(&mut self) -> Result<(), ClientError>
+        requires { self.old.failed ≡ false }
+        ensures { IsReceived S.remaining S.contents self.old self.new result }
+    {
+        match receive_frame(&mut self.stream, self.msize, self.frame.as_mut_slice()) {
             Ok(Some(size)) => {
                 self.len = size;
                 Ok(())
@@ -390,14 +426,14 @@ impl<S: Stream + Drop, A: Allocator + Copy> Session<S, A> {
     }
 
     // The frame that was read last.
-    fn reply(&self) -> &[u8]
+    pub(crate) fn reply(&self) -> &[u8]
         ensures { result.now ≡ self.now.reply }
     {
         &self.frame[..self.len]
     }
 
     // What was taken of a reply. The session has failed where that is an error that ends it.
-    fn settled<T>(&mut self, taken: Result<T, ClientError>) -> Result<T, ClientError>
+    pub(crate) fn settled<T>(&mut self, taken: Result<T, ClientError>) -> Result<T, ClientError>
         ensures result { result ≡ taken }
         ensures settled { IsSettled self.old self.new taken }
     {
@@ -408,8 +444,8 @@ impl<S: Stream + Drop, A: Allocator + Copy> Session<S, A> {
     }
 }
 
-// The tag after another, which is never that of a version.
-fn tag_after(tag: u16) -> u16
+/// The tag after another, which is never that of a version.
+pub(crate) fn tag_after(tag: u16) -> u16
     ensures { result ≡ next_tag tag }
 {
     if tag < NOTAG - 1 { tag + 1 } else { 0 }

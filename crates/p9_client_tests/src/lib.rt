@@ -3,6 +3,8 @@
 #![tactic(auto)]
 
 #[cfg(test)]
+mod ahead;
+#[cfg(test)]
 mod canned;
 #[cfg(test)]
 mod hostile;
@@ -12,6 +14,8 @@ mod kinds;
 mod listings;
 #[cfg(test)]
 mod memory;
+#[cfg(test)]
+mod pieces;
 #[cfg(test)]
 mod served;
 #[cfg(test)]

@@ -59,23 +59,24 @@ impl Served {
         }
     }
 
-    // Has the request answered that was written, if it is there.
+    // Has the first request answered of those that were written, if it is there.
     fn answer(&mut self) -> io::Result<()> {
         let Frame::Whole(size) = frame_of(self.input.as_slice()) else {
             return Ok(());
         };
-        if size != self.input.len() {
-            return Ok(());
-        }
+        let size = size.min(self.input.len());
         let Some(room) = self.guard.reply_max(SESSION) else {
             return Ok(());
         };
         self.reply.clear();
         self.reply.resize(room, 0)?;
-        let len = self.guard.answer(SESSION, self.input.as_slice(), 0, self.reply.as_mut_slice());
+        let len = self
+            .guard
+            .answer(SESSION, &self.input[..size], 0, self.reply.as_mut_slice());
         self.reply.truncate(len);
         self.read = 0;
-        self.input.clear();
+        let rest = Vec::from_slice(*self.input.allocator(), &self.input[size..])?;
+        self.input = rest;
         Ok(())
     }
 }

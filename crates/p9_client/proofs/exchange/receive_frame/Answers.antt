@@ -10,9 +10,12 @@ returns-clause-whole g c =
     let within : size ≤ length frame =
     omega (arith, c.if-size-most.false, c.requires.room, c.receive_between-2.auto.bytes, c.receive_between.auto.bytes) in (
       c.if-size-most.false,
-      size-kept size _ frame c.if-size-lt-HEADER.false within
-          (omega (arith, c.requires, c.receive_between.auto.bytes)) c.receive_between-2.ensures.kept
-          ∙ sym c.read_u32-size.ensures ∙ sym (length-take-le size frame within),
+      (
+        omega (arith, c.if-size-lt-HEADER.false, length-take-le size frame within),
+        size-kept size _ frame c.if-size-lt-HEADER.false within
+            (omega (arith, c.requires, c.receive_between.auto.bytes)) c.receive_between-2.ensures.kept
+            ∙ sym c.read_u32-size.ensures ∙ sym (length-take-le size frame within),
+      ),
       read-both _ _ _ 7 size _ frame c.if-size-lt-HEADER.false c.receive_between-2.ensures.kept
           c.in_ok-receive_between.ensures.ok c.in_ok-receive_between-2.ensures.ok,
     )

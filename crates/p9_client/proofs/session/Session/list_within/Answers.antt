@@ -24,7 +24,7 @@ loop-offset-preserved g c =
     c.deref.ensures.value ∙ take_at c.read.new.buffer _ c.loop-offset.chunk.len long in
     record {
       failed = gets.alive ∙ sym gets.asked.alive ∙ c.loop-offset.invariant.failed;
-      read = more-read g.S.Read.remaining g.S.Write.contents c.args.fid c.loop-offset.offset _
+      read = more-read g.S.Read.remaining g.S.Write.contents c.args.fid c.loop-offset.offset (c.loop-offset.offset + count)
           (spelled c.loop-offset.entries.items) (take count c.read.new.buffer) _ c.args.self.now
           c.loop-offset.self c.read.new.self c.loop-offset.invariant.read
           (piece-of g.S.Read.remaining g.S.Write.contents c.args.fid c.loop-offset.offset _ count _

@@ -1,0 +1,175 @@
+//! A file that is read whole.
+
+ghost use Rattle.std.specs.Prelude.{◌≡◌, ℕ, ◌+◌, ◌-◌, ◌<◌, ◌≤◌, ◌^◌, false, true, IfErr, IfOk, IsTrue, List, length};
+ghost use Rattle.std.specs.Io.KnownBytes.{Appends};
+ghost use Rattle.p9_client.specs.Ahead.{SendsReads, TakesRead, TakesReads};
+ghost use Rattle.p9_client.specs.Files.{GoesOn, ReadsFile, ReadsOn, ends_file};
+
+use crate::ahead::AHEAD_MAX;
+use crate::error::ClientError;
+use crate::file_error::FileError;
+use crate::reply::{Asked, read_bytes};
+use crate::session::{Session, tag_after};
+use crate::stream::Stream;
+use p9_wire::TMsg;
+use std::alloc::Allocator;
+use std::io;
+use std::io::{ErrorKind, Write};
+
+// A file is shorter than this.
+const FILE_LIMIT: u64 = 1 << 63;
+
+impl<S: Stream + Drop, A: Allocator + Copy> Session<S, A> {
+    /// Reads the file of a fid from its beginning to its end, and writes its bytes to a writer. The
+    /// fid is open for reading. Returns how many bytes these are.
+    ///
+    /// Once a read gave as many bytes as a frame has room for, up to [`AHEAD_MAX`] of them are sent at
+    /// once, each from where the one before ends. Where one of them gives fewer bytes, what those
+    /// behind it give is dropped, and the next read is from where these bytes end.
+    ///
+    /// # Errors
+    ///
+    /// [`FileError::Session`], [`FileError::Output`] where the writer fails, [`FileError::NoMemory`]
+    /// where it has no memory, and [`FileError::Endless`] where 2^63 bytes come. The writer may have
+    /// a part of the file.
+    pub fn read_to<W: Write>(&mut self, fid: u32, out: &mut W) -> Result<u64, FileError>
+        ensures goes_on { GoesOn self.old self.new result }
+        ensures whole { IfOk result (λ len. (bytes : List ℕ) × (length bytes ≡ len)
+            × ReadsFile S.remaining S.contents fid bytes self.old self.new
+            × Appends (W.contents out.old) (W.contents out.new) bytes) }
+    {
+        let most = self.data_max();
+        let mut span = most;
+        let mut offset = 0;
+        while offset < FILE_LIMIT {
+            let count = self.read_ahead(fid, offset, span, out)?;
+            if count == 0 {
+                return Ok(offset);
+            }
+            span = if count < span { most } else { AHEAD_MAX * most };
+            offset += count as u64;
+        }
+        Err(self.ended_by(FileError::Endless))
+    }
+
+    // Reads so many bytes from an offset on: sends reads of its parts, and takes the replies. Returns
+    // how many bytes were written to the writer, which is 0 at the end of the file.
+    fn read_ahead<W: Write>(
+        &mut self,
+        fid: u32,
+        start: u64,
+        len: usize,
+        out: &mut W,
+    ) -> Result<usize, FileError>
+        requires some { 0 < len }
+        requires fits { start + len < 2 ^ 64 }
+        ensures ok { IfOk result (λ count. (count ≤ len) × (self.new.failed ≡ false)
+            × (self.new.msize ≡ self.old.msize)
+            × ((bytes : List ℕ) × (length bytes ≡ count)
+            × ReadsOn S.remaining S.contents fid start bytes self.old self.new
+            × Appends (W.contents out.old) (W.contents out.new) bytes)) }
+        ensures err { IfErr result (λ error. IsTrue (ends_file error) → self.new.failed ≡ true) }
+    {
+        let tag = self.tag();
+        let count = self.send_reads(fid, start, len)?;
+        self.take_reads(tag, count, len, out)
+    }
+
+    // Sends reads of the parts of so many bytes after an offset. Returns how many these are.
+    fn send_reads(&mut self, fid: u32, start: u64, len: usize) -> Result<usize, ClientError>
+        requires fits { start + len < 2 ^ 64 }
+        ensures ok { IfOk result (SendsReads S.remaining S.contents fid start len self.old self.new) }
+        ensures some { IfOk result (λ count. 0 < len → 0 < count × (self.new.failed ≡ false)) }
+        ensures err { IfErr result (λ error. self.new.failed ≡ true) }
+    {
+        let most = self.data_max();
+        let mut count = 0;
+        let mut at = 0;
+        while at < len {
+            let size = most.min(len - at);
+            let tag = self.tag();
+            self.send(
+                tag,
+                &TMsg::Read {
+                    fid,
+                    offset: start + at as u64,
+                    count: size as u32,
+                },
+            )?;
+            count += 1;
+            at += size;
+        }
+        Ok(count)
+    }
+
+    // Takes the replies to so many reads of the parts of so many bytes, the first with this tag. Their
+    // bytes are written to the writer, up to those of the first that is short, and what comes after
+    // it is dropped. Returns how many bytes were written.
+    fn take_reads<W: Write>(
+        &mut self,
+        first: u16,
+        count: usize,
+        len: usize,
+        out: &mut W,
+    ) -> Result<usize, FileError>
+        requires { self.old.failed ≡ false }
+        ensures ok { IfOk result (λ total. (total ≤ len) × ((bytes : List ℕ) × (length bytes ≡ total)
+            × TakesReads S.remaining S.contents first count len self.old self.new bytes
+            × Appends (W.contents out.old) (W.contents out.new) bytes)) }
+        ensures err { IfErr result (λ error. IsTrue (ends_file error) → self.new.failed ≡ true) }
+    {
+        let most = self.data_max();
+        let mut tag = first;
+        let mut total = 0;
+        for at in 0..count {
+            let size = most.min(len - total);
+            let taken = self.take_read(tag, size, out);
+            tag = tag_after(tag);
+            let left = count - at - 1;
+            match taken {
+                Ok(read) if read < size => {
+                    self.drop_replies(Asked::Read, tag, left)?;
+                    return Ok(total + read);
+                }
+                Ok(read) => total += read,
+                Err(error) => return Err(self.ended_ahead(error, Asked::Read, tag, left)),
+            }
+        }
+        Ok(total)
+    }
+
+    // Takes the reply to a read of at most so many bytes, and writes its bytes to the writer. Returns
+    // how many these are.
+    fn take_read<W: Write>(
+        &mut self,
+        tag: u16,
+        most: usize,
+        out: &mut W,
+    ) -> Result<usize, FileError>
+        requires { self.old.failed ≡ false }
+        ensures ok { IfOk result (λ count. (count ≤ most) × ((bytes : List ℕ)
+            × (length bytes ≡ count) × TakesRead S.remaining S.contents tag self.old self.new bytes
+            × Appends (W.contents out.old) (W.contents out.new) bytes)) }
+        ensures err { IfErr result (λ error. IsTrue (ends_file error) → self.new.failed ≡ true) }
+    {
+        self.receive()?;
+        match read_bytes(tag, self.reply(), most) {
+            Ok(bytes) => match out.write_all(bytes) {
+                Ok(()) => Ok(bytes.len()),
+                Err(error) => Err(output_error(error)),
+            },
+            Err(error) => Err(self.ended_by(FileError::Session(error))),
+        }
+    }
+}
+
+// Why a writer did not take what was read.
+fn output_error(error: io::Error) -> FileError
+    ensures { ends_file result ≡ false }
+{
+    if error.kind() == ErrorKind::OutOfMemory {
+        FileError::NoMemory
+    } else {
+        FileError::Output(error)
+    }
+}
