@@ -3,7 +3,7 @@ use Rattle.std.proofs.Common.{◌≡◌, ℕ, ◌+◌, ◌∙◌, List, [], ◌�
 use Rattle.std.proofs.Common.{length, refl, subst, sym, take}
 use Rattle.std.proofs.lemmas.List.{append-nil, length-append}
 use Rattle.std.specs.List.{concat}
-use Rattle.p9_wire.specs.Message.{RMessage, Rread, Tread}
+use Rattle.p9_wire.specs.Message.{Tread}
 use Rattle.p9_client.specs.Files.{ReadsPiece, ReadsPieces, ReadsWhole}
 use Rattle.p9_client.specs.Kinds.{IsRead}
 use Rattle.p9_client.specs.Reply.{IsReply}

@@ -4,7 +4,7 @@ use Rattle.std.proofs.Common.{drop, length, map, refl, subst, sym, take}
 use Rattle.std.proofs.Math.Seq.{take-add}
 use Rattle.std.proofs.lemmas.List.{map-append}
 use Rattle.std.specs.List.{flat_map}
-use Rattle.p9_wire.specs.Message.{Rwalk, Twalk}
+use Rattle.p9_wire.specs.Message.{Twalk}
 use Rattle.p9_base.specs.declared.qid.Qid.{Qid}
 use Rattle.p9_client.specs.Files.{WalksOn, WalksPath, WalksPiece}
 use Rattle.p9_client.specs.Kinds.{IsWalked}

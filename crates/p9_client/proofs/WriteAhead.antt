@@ -1,9 +1,9 @@
 -- What writes ahead write of bytes to a file.
-use Rattle.std.proofs.Common.{◌≡◌, ℕ, ◌+◌, ◌-◌, ◌<◌, ◌≤◌, ◌∙◌, List, [], ◌∷◌, ◌++◌, Option, ap, arith, drop}
-use Rattle.std.proofs.Common.{Err, IfOk, Ok, Result, false, inl, inr, length, length-append, refl, subst, sym, take}
+use Rattle.std.proofs.Common.{◌≡◌, ℕ, ◌+◌, ◌-◌, ◌<◌, ◌≤◌, ◌∙◌, List, [], ◌∷◌, ◌++◌, Option, ap, arith}
+use Rattle.std.proofs.Common.{Err, IfOk, Ok, Result, false, inl, inr, length, length-append, refl, subst, sym}
 use Rattle.p9_wire.specs.Message.{Rwrite, TMessage}
 use Rattle.p9_client.specs.declared.file_error.FileError.{FileError}
-use Rattle.p9_client.specs.Ahead.{Answer, AskInTurn, DropsReplies, Exchange, Exchanges, Received, SendsWrites}
+use Rattle.p9_client.specs.Ahead.{Answer, AskInTurn, DropsReplies, Exchange, Received, SendsWrites}
 use Rattle.p9_client.specs.Ahead.{Sent, TakeParts, TakesWrite, TakesWrites, answers_of, part_size, requests_of, tag_past}
 use Rattle.p9_client.specs.Ahead.{write_part}
 use Rattle.p9_client.specs.Files.{Writes, WritesAt, WritesOn}

@@ -1,7 +1,7 @@
 -- A file that is read over a stream on which the exporter's replies come back.
 use Rattle.std.proofs.Common.{◌≡◌, ◌∙◌, ℕ, ◌+◌, ◌-◌, ◌<◌, ◌≤◌, ◌^◌, List, [], ◌∷◌, ◌++◌, None, Option, Some, ap}
 use Rattle.std.proofs.Common.{append_assoc, arith, drop, drop-drop, inl, inr, length, length-append, min, refl, subst, sym}
-use Rattle.std.proofs.Common.{Bool, false, take, take-take, true}
+use Rattle.std.proofs.Common.{Bool, Err, Ok, false, take, take-take, true}
 use Rattle.std.proofs.lemmas.Bool.Decides.{nat_tests}
 use Rattle.std.specs.Prelude.{if◌then◌else◌, nat_lt}
 use Rattle.std.proofs.Math.Seq.{take-add, take-length}
@@ -175,8 +175,8 @@ remains (e ∷ es) tail state name msize fid tag at from clock bytes given rest 
 
 module _ {S : Type 0} (remaining contents : S → Option (List ℕ)) where
   pub read_gives_bytes : ReadGivesBytes remaining contents
-  read_gives_bytes state name msize fid offset most clock count bytes rest before after old new file
-      numbers tag_fits room short left gets =
+  read_gives_bytes state name msize fid offset most clock bytes rest before after old new (Ok count)
+      file numbers tag_fits room short left gets =
       let m : RMessage = gets.answer.0 in
       let answer : Answer = record { frame = new.reply; reply = m } in
       let front = left-of (remaining old.stream) (remaining new.stream) _ new.reply left
@@ -189,6 +189,9 @@ module _ {S : Type 0} (remaining contents : S → Option (List ℕ)) where
       let given : take count after ≡ bytes_of msize offset most bytes = cc in
       let whole : min most (msize - 24) ≡ most = omega (arith, short) in
       given ∙ ap (λ (n : ℕ). take n (drop offset bytes)) whole
+  read_gives_bytes state name msize fid offset most clock bytes rest before after old new (Err error)
+      file numbers tag_fits room short left none =
+      tt
 
   pub file_is_read_whole : FileIsReadWhole remaining contents
   file_is_read_whole state name msize fid clock bytes read rest old new file tag_fits room whole

@@ -134,11 +134,11 @@ fn option<'a>(alloc: Global, id: &'a str, letter: char, value: &'a str, help: &'
         .action(ArgAction::Set)
 }
 
-// A word that has to be there.
-fn word<'a>(alloc: Global, id: &'a str, value: &'a str) -> Arg<'a> {
+// A word, which has to be there or not.
+fn word<'a>(alloc: Global, id: &'a str, value: &'a str, is_required: bool) -> Arg<'a> {
     Arg::new(alloc, id)
         .value_name(value)
-        .required(true)
+        .required(is_required)
         .action(ArgAction::Set)
 }
 
@@ -150,13 +150,84 @@ fn flag<'a>(alloc: Global, id: &'a str, letter: char, help: &'a str) -> Arg<'a> 
         .action(ArgAction::SetTrue)
 }
 
+// A command on files: its name, what it does, and the words after it. Each word has a name and one
+// for the help.
+struct Shape {
+    name: &'static str,
+    about: &'static str,
+    first: (&'static str, &'static str),
+    second: Option<(&'static str, &'static str)>,
+}
+
+// The commands whose words all have to be there, but for those with flags.
+const SHAPES: [Shape; 7] = [
+    Shape {
+        name: "cat",
+        about: "prints a file",
+        first: ("path", "PATH"),
+        second: None,
+    },
+    Shape {
+        name: "stat",
+        about: "prints all that the server reports of a file",
+        first: ("path", "PATH"),
+        second: None,
+    },
+    Shape {
+        name: "put",
+        about: "copies a file to the server",
+        first: ("local", "LOCAL"),
+        second: Some(("path", "PATH")),
+    },
+    Shape {
+        name: "mkdir",
+        about: "makes a directory",
+        first: ("path", "PATH"),
+        second: None,
+    },
+    Shape {
+        name: "rm",
+        about: "removes a file or an empty directory",
+        first: ("path", "PATH"),
+        second: None,
+    },
+    Shape {
+        name: "mv",
+        about: "gives a file another name, in the same directory",
+        first: ("path", "PATH"),
+        second: Some(("name", "NAME")),
+    },
+    Shape {
+        name: "chmod",
+        about: "gives a file the permissions of an octal number",
+        first: ("mode", "MODE"),
+        second: Some(("path", "PATH")),
+    },
+];
+
 // Adds the commands on files.
 fn with_verbs<'a>(alloc: Global, program: Command<'a>) -> Result<Command<'a>, AllocError> {
-    let list = Command::new(alloc, "ls")
+    let mut program = program
+        .subcommand_required(true)
+        .subcommand(list_verb(alloc)?)?
+        .subcommand(get_verb(alloc)?)?;
+    for shape in &SHAPES {
+        program = program.subcommand(command_of(alloc, shape)?)?;
+    }
+    Ok(program)
+}
+
+// The command that lists.
+fn list_verb<'a>(alloc: Global) -> Result<Command<'a>, AllocError> {
+    Command::new(alloc, "ls")
         .about("lists a directory or a file")
         .arg(flag(alloc, "long", 'l', "in long lines"))?
-        .arg(word(alloc, "path", "PATH").required(false))?;
-    let get = Command::new(alloc, "get")
+        .arg(word(alloc, "path", "PATH", false))
+}
+
+// The command that copies from the server.
+fn get_verb<'a>(alloc: Global) -> Result<Command<'a>, AllocError> {
+    Command::new(alloc, "get")
         .about("copies a file from the server")
         .arg(flag(
             alloc,
@@ -164,47 +235,18 @@ fn with_verbs<'a>(alloc: Global, program: Command<'a>) -> Result<Command<'a>, Al
             'r',
             "a directory with all that is in it",
         ))?
-        .arg(word(alloc, "path", "PATH"))?
-        .arg(word(alloc, "local", "LOCAL"))?;
-    let put = Command::new(alloc, "put")
-        .about("copies a file to the server")
-        .arg(word(alloc, "local", "LOCAL"))?
-        .arg(word(alloc, "path", "PATH"))?;
-    let rename = Command::new(alloc, "mv")
-        .about("gives a file another name, in the same directory")
-        .arg(word(alloc, "path", "PATH"))?
-        .arg(word(alloc, "name", "NAME"))?;
-    let change_mode = Command::new(alloc, "chmod")
-        .about("gives a file the permissions of an octal number")
-        .arg(word(alloc, "mode", "MODE"))?
-        .arg(word(alloc, "path", "PATH"))?;
-    let program = program
-        .subcommand_required(true)
-        .subcommand(list)?
-        .subcommand(get)?
-        .subcommand(put)?
-        .subcommand(rename)?
-        .subcommand(change_mode)?;
-    let program = with_verb(alloc, program, "cat", "prints a file")?;
-    let program = with_verb(
-        alloc,
-        program,
-        "stat",
-        "prints all that the server reports of a file",
-    )?;
-    let program = with_verb(alloc, program, "mkdir", "makes a directory")?;
-    with_verb(alloc, program, "rm", "removes a file or an empty directory")
+        .arg(word(alloc, "path", "PATH", true))?
+        .arg(word(alloc, "local", "LOCAL", true))
 }
 
-// Adds a command on one path.
-fn with_verb<'a>(
-    alloc: Global,
-    program: Command<'a>,
-    name: &'a str,
-    about: &'a str,
-) -> Result<Command<'a>, AllocError> {
-    let verb = Command::new(alloc, name)
-        .about(about)
-        .arg(word(alloc, "path", "PATH"))?;
-    program.subcommand(verb)
+// A command of one or two words.
+fn command_of<'a>(alloc: Global, shape: &Shape) -> Result<Command<'a>, AllocError> {
+    let (id, value) = shape.first;
+    let verb = Command::new(alloc, shape.name)
+        .about(shape.about)
+        .arg(word(alloc, id, value, true))?;
+    match shape.second {
+        Some((id, value)) => verb.arg(word(alloc, id, value, true)),
+        None => Ok(verb),
+    }
 }

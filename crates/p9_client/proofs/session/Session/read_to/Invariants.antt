@@ -1,4 +1,4 @@
-use Rattle.std.proofs.Common.{◌≡◌, ℕ, ◌-◌, ◌<◌, ◌≤◌, ◌^◌, List, length}
+use Rattle.std.proofs.Common.{◌≡◌, ℕ, ◌-◌, ◌<◌, ◌^◌, List, length}
 use Rattle.std.specs.Io.KnownBytes.{Appends}
 use Rattle.p9_client.proofs.ReadAhead.{HasReadFile}
 use Rattle.p9_client.proofs.session.Session.read_to.Given as goal

@@ -1,6 +1,5 @@
 use Rattle.std.proofs.Common.{◌≡◌, ◌∙◌, ℕ, ◌+◌, ◌-◌, ◌<◌, ap, arith, min, refl, subst, sym}
 use Rattle.p9_client.specs.Ahead.{DropsReplies, TakesWrites, part_size}
-use Rattle.p9_client.specs.Session.{next_tag}
 use Rattle.p9_client.proofs.WriteAhead.{HasTakenWrites, no-writes-taken, short-write-taken, write-taken, writes-taken}
 use Rattle.p9_client.proofs.session.Session.take_writes.Goals as goal
 

@@ -1,5 +1,5 @@
-use Rattle.std.proofs.Common.{◌≡◌, ◌∙◌, ◌+◌, ◌<◌, ◌^◌, arith, refl}
-use Rattle.p9_client.proofs.WriteAhead.{more-written, nothing-written}
+use Rattle.std.proofs.Common.{◌∙◌, ◌+◌, ◌<◌, ◌^◌, arith}
+use Rattle.p9_client.proofs.WriteAhead.{more-written}
 use Rattle.p9_client.proofs.session.Session.write_whole.Goals as goal
 use Rattle.p9_client.proofs.session.Session.write_whole.Goals.{then-count-len, else-count-len}
 
