@@ -29,16 +29,21 @@ fn whoever_comes_ends_the_rests(rt: HostRuntime) {
     assert_eq!(rt; loopback.rest(), Duration::ZERO);
 }
 
-// A new server accepts in its first round. Where nothing comes, it does so again each 16 rounds.
+// A new server accepts in its first round, and in the round after one in which a client came. Then,
+// where nobody comes, it accepts after one round more, three, and seven.
 #[test]
-fn a_quiet_server_accepts_each_sixteenth_round(rt: HostRuntime) {
+fn accepts_that_find_nobody_come_further_apart(rt: HostRuntime) {
     let mut loopback = Loopback::new(&rt, SMALL);
     let _first = loopback.connect(&rt);
     loopback.wait(1);
     assert_eq!(rt; loopback.accepted, 1);
     let _second = loopback.connect(&rt);
-    loopback.wait(16);
-    assert_eq!(rt; loopback.accepted, 1);
     loopback.wait(1);
     assert_eq!(rt; loopback.accepted, 2);
+    loopback.wait(7);
+    let _third = loopback.connect(&rt);
+    loopback.wait(7);
+    assert_eq!(rt; loopback.accepted, 2);
+    loopback.wait(1);
+    assert_eq!(rt; loopback.accepted, 3);
 }
