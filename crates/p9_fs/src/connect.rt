@@ -1,14 +1,15 @@
 //! The connection to a server.
 
 use crate::failure::{Failure, report, report_local, report_text};
+use crate::watched::Watched;
 use clap::ArgMatches;
 use p9_client::{ClientError, FileError, Session};
 use std::alloc::Global;
-use std::env;
 use std::net::TcpStream;
+use std::{env, io};
 
 /// The session of the program.
-pub type Client = Session<TcpStream, Global>;
+pub type Client = Session<Watched, Global>;
 
 /// The fid of the root.
 pub const ROOT: u32 = 0;
@@ -20,18 +21,22 @@ const MSIZE_MIN: usize = 256;
 
 const MSIZE_MAX: usize = 1_048_576;
 
-/// Connects to the server that the words name, begins a session, and attaches its root.
-pub fn connect(rt: &HostRuntime, words: &ArgMatches<'_>) -> Result<Client, Failure> {
+/// Connects to the server that the words name, begins a session, and attaches its root. What takes
+/// long is reported, if that is asked for.
+pub fn connect(
+    rt: &HostRuntime,
+    words: &ArgMatches<'_>,
+    is_reported: bool,
+) -> Result<Client, Failure> {
     let address = words.get_str("addr").unwrap_or("");
     let msize = words.get_one::<usize>("msize").unwrap_or(MSIZE);
     if msize < MSIZE_MIN || msize > MSIZE_MAX {
         return Err(report_text(rt, "an msize is from 256 to 1048576", Failure::BadWords));
     }
-    let stream = match TcpStream::connect(rt, address) {
+    let stream = match stream_to(rt, address, is_reported) {
         Ok(stream) => stream,
         Err(error) => return Err(report_local(rt, address, &error)),
     };
-    let _ = stream.set_nodelay(true);
     let mut client = Session::new(rt.alloc(), stream, msize)?;
     if let Err(error) = client.version() {
         return Err(refused(rt, address, error));
@@ -42,6 +47,13 @@ pub fn connect(rt: &HostRuntime, words: &ArgMatches<'_>) -> Result<Client, Failu
         Ok(_) => Ok(client),
         Err(error) => Err(refused(rt, address, error)),
     }
+}
+
+// A stream to the server of an address.
+fn stream_to(rt: &HostRuntime, address: &str, is_reported: bool) -> io::Result<Watched> {
+    let stream = TcpStream::connect(rt, address)?;
+    let _ = stream.set_nodelay(true);
+    Watched::new(*rt, stream, is_reported)
 }
 
 // Reports why the server of an address has no session for the user.

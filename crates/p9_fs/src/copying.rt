@@ -5,7 +5,7 @@ use crate::failure::{Failure, report, report_local, report_text};
 use crate::names::{is_inside, joined, names_of};
 use crate::remote::{FILE, PERMISSIONS, entries_of, finish, stat_of, walk_to, walk_to_parent};
 use p9_client::{Entry, FileError};
-use std::alloc::Global;
+use std::alloc::{AllocError, Global};
 use std::fs;
 use std::fs::{File, Permissions};
 use std::os::unix::fs::PermissionsExt;
@@ -95,6 +95,8 @@ fn get_tree(rt: &HostRuntime, client: &mut Client, path: &str, local: &str) -> R
             Err(failure) => return Err(failure),
         }
     }
+    // A directory is closed to its owner only after those in it have their modes.
+    dirs.reverse();
     for (dir, mode) in dirs {
         set_mode(rt, dir.as_str(), mode)?;
     }
@@ -118,21 +120,43 @@ fn get_next(
         return Err(report_local(rt, local.as_str(), &error));
     }
     let entries = entries_of(rt, client, path.as_str())?;
+    let outcome = push_entries(
+        rt,
+        entries.as_slice(),
+        path.as_str(),
+        local.as_str(),
+        pending,
+    );
+    dirs.push((local, entry.mode))?;
+    outcome
+}
+
+// Adds the entries of a directory. A name that leads elsewhere is reported, and the others are added.
+fn push_entries(
+    rt: &HostRuntime,
+    entries: &[Entry<Global>],
+    path: &str,
+    local: &str,
+    pending: &mut Vec<Pending>,
+) -> Result<(), Failure> {
     let mut outcome = Ok(());
-    for entry in &entries {
+    for entry in entries {
         let name = entry.name.as_str();
         if is_inside(name) {
-            pending.push(Pending {
-                path: joined(rt.alloc(), path.as_str(), name)?,
-                local: joined(rt.alloc(), local.as_str(), name)?,
-            })?;
+            pending.push(below(rt.alloc(), path, local, name)?)?;
         } else {
             let text = format!(in rt.alloc(); "{path}: a file is named '{name}'")?;
             outcome = Err(report_text(rt, text.as_str(), Failure::Refused));
         }
     }
-    dirs.push((local, entry.mode))?;
     outcome
+}
+
+// What is to be copied of a name in a directory.
+fn below(alloc: Global, path: &str, local: &str, name: &str) -> Result<Pending, AllocError> {
+    let path = joined(alloc, path, name)?;
+    let local = joined(alloc, local, name)?;
+    Ok(Pending { path, local })
 }
 
 // Gives a directory of the system the permissions of a mode.

@@ -8,6 +8,7 @@ mod names;
 mod printing;
 mod remote;
 mod shell;
+mod watched;
 mod words;
 
 use crate::connect::connect;
@@ -16,6 +17,7 @@ use crate::shell::{run_line, run_lines};
 use crate::words::{Verb, program, verb_of};
 use clap::error::ErrorKind;
 use std::env;
+use std::io::IsTerminal;
 use std::process::ExitCode;
 
 fn main(rt: HostRuntime) -> ExitCode {
@@ -39,10 +41,18 @@ fn run(rt: &HostRuntime) -> Result<(), Failure> {
     let Some(verb) = verb_of(&matches) else {
         return Err(Failure::BadWords);
     };
-    let mut client = connect(rt, &matches)?;
+    let mut client = connect(rt, &matches, is_reported(rt, verb))?;
     match verb {
         Verb::Shell => run_lines(rt, &mut client),
         verb => run_line(rt, &mut client, verb),
+    }
+}
+
+// Whether a command that takes long is reported: on a terminal, unless it prints a file there.
+fn is_reported(rt: &HostRuntime, verb: Verb<'_>) -> bool {
+    match verb {
+        Verb::Cat { .. } => rt.stderr().is_terminal() && !rt.stdout().is_terminal(),
+        _ => rt.stderr().is_terminal(),
     }
 }
 

@@ -7,7 +7,7 @@ use crate::printing::{long_line, print, stat_line};
 use p9_base::{DMDIR, Qid};
 use p9_client::{Entry, FileError};
 use p9_wire::Stat;
-use std::alloc::Global;
+use std::alloc::{AllocError, Global};
 
 /// The fid of the file that a command is about.
 pub const FILE: u32 = 1;
@@ -94,13 +94,29 @@ pub fn list(rt: &HostRuntime, client: &mut Client, path: &str, long: bool) -> Re
         return print_entry(rt, &entry, long);
     }
     let entries = entries_of(rt, client, path)?;
-    let mut order = Vec::new(rt.alloc());
+    let order = by_name(rt.alloc(), entries.as_slice())?;
+    print_entries(rt, entries.as_slice(), order.as_slice(), long)
+}
+
+// The places of entries, in the order of their names.
+fn by_name(alloc: Global, entries: &[Entry<Global>]) -> Result<Vec<(&str, usize)>, AllocError> {
+    let mut order = Vec::new(alloc);
     for (at, entry) in entries.iter().enumerate() {
         order.push((entry.name.as_str(), at))?;
     }
     order.sort_unstable();
+    Ok(order)
+}
+
+// Prints entries in an order.
+fn print_entries(
+    rt: &HostRuntime,
+    entries: &[Entry<Global>],
+    order: &[(&str, usize)],
+    long: bool,
+) -> Result<(), Failure> {
     for (_, at) in order {
-        if let Some(entry) = entries.get(at) {
+        if let Some(entry) = entries.get(*at) {
             print_entry(rt, entry, long)?;
         }
     }

@@ -5,7 +5,8 @@ use crate::copying::{get, put};
 use crate::failure::Failure;
 use crate::remote::{cat, change_mode, list, make_dir, print_stat, remove, rename};
 use crate::words::{Verb, line_program, verb_of};
-use p9_base::{is_skipped, words};
+use p9_base::{NoMemory, is_skipped, words};
+use std::alloc::Global;
 
 /// Runs one command. `sh` within lines is refused as a bad word.
 pub fn run_line(rt: &HostRuntime, client: &mut Client, verb: Verb<'_>) -> Result<(), Failure> {
@@ -52,14 +53,25 @@ pub fn run_lines(rt: &HostRuntime, client: &mut Client) -> Result<(), Failure> {
 
 // Runs the command of a line.
 fn run_text(rt: &HostRuntime, client: &mut Client, line: &str) -> Result<(), Failure> {
-    let mut all = Vec::new(rt.alloc());
-    all.push("p9_fs")?;
     let words = words(rt.alloc(), line)?;
     if is_skipped(words.as_slice()) {
         return Ok(());
     }
-    all.extend_from_slice(words.as_slice())?;
-    let matches = match line_program(rt.alloc())?.try_get_matches_from(all.as_slice()) {
+    let words = after_name(rt.alloc(), words.as_slice())?;
+    run_words(rt, client, words.as_slice())
+}
+
+// Words after the program's name.
+fn after_name<'a>(alloc: Global, words: &[&'a str]) -> Result<Vec<&'a str>, NoMemory> {
+    let mut all = Vec::new(alloc);
+    all.push("p9_fs")?;
+    all.extend_from_slice(words)?;
+    Ok(all)
+}
+
+// Runs the command of these words.
+fn run_words(rt: &HostRuntime, client: &mut Client, words: &[&str]) -> Result<(), Failure> {
+    let matches = match line_program(rt.alloc())?.try_get_matches_from(words) {
         Ok(matches) => matches,
         Err(error) => {
             let _ = error.print(rt);

@@ -55,68 +55,97 @@ pub enum Verb<'a> {
 /// What the words ask for that `clap` read, or `None` where a mode is no octal number.
 pub fn verb_of<'a>(words: &ArgMatches<'a>) -> Option<Verb<'a>> {
     let (name, words) = words.subcommand()?;
-    let path = words.get_str("path");
     match name {
         "ls" => Some(Verb::List {
-            path: path.unwrap_or("/"),
+            path: words.get_str("path").unwrap_or("/"),
             long: words.get_flag("long"),
         }),
-        "cat" => Some(Verb::Cat { path: path? }),
-        "stat" => Some(Verb::Stat { path: path? }),
+        "sh" => Some(Verb::Shell),
+        _ => file_verb(name, words, words.get_str("path")?),
+    }
+}
+
+// What a command of this name asks for of the file of a path.
+fn file_verb<'a>(name: &str, words: &ArgMatches<'a>, path: &'a str) -> Option<Verb<'a>> {
+    match name {
+        "cat" => Some(Verb::Cat { path }),
+        "stat" => Some(Verb::Stat { path }),
+        "mkdir" => Some(Verb::MakeDir { path }),
+        "rm" => Some(Verb::Remove { path }),
+        _ => verb_of_two(name, words, path),
+    }
+}
+
+// What a command of this name asks for that has another word beside the path.
+fn verb_of_two<'a>(name: &str, words: &ArgMatches<'a>, path: &'a str) -> Option<Verb<'a>> {
+    match name {
         "get" => Some(Verb::Get {
-            path: path?,
+            path,
             local: words.get_str("local")?,
             is_recursive: words.get_flag("recursive"),
         }),
         "put" => Some(Verb::Put {
             local: words.get_str("local")?,
-            path: path?,
+            path,
         }),
-        "mkdir" => Some(Verb::MakeDir { path: path? }),
-        "rm" => Some(Verb::Remove { path: path? }),
         "mv" => Some(Verb::Rename {
-            path: path?,
+            path,
             name: words.get_str("name")?,
         }),
         "chmod" => Some(Verb::ChangeMode {
-            mode: u32::from_str_radix(words.get_str("mode")?, 8).ok()?,
-            path: path?,
+            mode: mode_of(words.get_str("mode")?)?,
+            path,
         }),
-        "sh" => Some(Verb::Shell),
         _ => None,
     }
 }
 
+// The mode of an octal number.
+fn mode_of(word: &str) -> Option<u32> {
+    u32::from_str_radix(word, 8).ok()
+}
+
 /// The program's command line.
 pub fn program<'a>(alloc: Global) -> Result<Command<'a>, AllocError> {
-    let addr = option(
-        alloc,
-        "addr",
-        'a',
-        "ADDR",
-        "the server's address, HOST:PORT",
-    )
-    .required(true);
-    let user = option(
-        alloc,
-        "user",
-        'u',
-        "USER",
-        "the user to attach as, or else $USER, or none",
-    );
-    let aname = option(alloc, "aname", 'n', "ANAME", "the tree to attach");
-    let msize = option(alloc, "msize", 'm', "MSIZE", "the most bytes of a message").value_parser(
-        value_parser!(usize),
-    );
     let program = Command::new(alloc, "p9_fs")
         .about("looks at an export of 9P2000, and copies files from it and to it")
-        .version("1.0")
-        .arg(addr)?
-        .arg(user)?
-        .arg(aname)?
-        .arg(msize)?;
-    let shell = Command::new(alloc, "sh").about("runs the commands of the standard input");
-    with_verbs(alloc, program)?.subcommand(shell)
+        .version("1.0");
+    with_shell(alloc, with_verbs(alloc, with_options(alloc, program)?)?)
+}
+
+// Adds the options.
+fn with_options<'a>(alloc: Global, program: Command<'a>) -> Result<Command<'a>, AllocError> {
+    let program = program
+        .arg(option(
+            alloc,
+            "addr",
+            'a',
+            "ADDR",
+            "the server's address, HOST:PORT",
+        )
+        .required(true))?
+        .arg(option(
+            alloc,
+            "user",
+            'u',
+            "USER",
+            "the user to attach as, or else $USER, or none",
+        ))?;
+    with_more_options(alloc, program)
+}
+
+// Adds the options after the user.
+fn with_more_options<'a>(alloc: Global, program: Command<'a>) -> Result<Command<'a>, AllocError> {
+    program
+        .arg(option(alloc, "aname", 'n', "ANAME", "the tree to attach"))?
+        .arg(option(alloc, "msize", 'm', "MSIZE", "the most bytes of a message").value_parser(
+            value_parser!(usize),
+        ))
+}
+
+// Adds the command that runs other commands.
+fn with_shell<'a>(alloc: Global, program: Command<'a>) -> Result<Command<'a>, AllocError> {
+    program.subcommand(Command::new(alloc, "sh").about("runs the commands of the standard input"))
 }
 
 /// A line of commands, after the program's name.
@@ -207,14 +236,29 @@ const SHAPES: [Shape; 7] = [
 
 // Adds the commands on files.
 fn with_verbs<'a>(alloc: Global, program: Command<'a>) -> Result<Command<'a>, AllocError> {
-    let mut program = program
-        .subcommand_required(true)
-        .subcommand(list_verb(alloc)?)?
-        .subcommand(get_verb(alloc)?)?;
+    let mut program = with_flagged(alloc, program.subcommand_required(true))?;
     for shape in &SHAPES {
-        program = program.subcommand(command_of(alloc, shape)?)?;
+        program = with_shape(alloc, program, shape)?;
     }
     Ok(program)
+}
+
+// Adds the commands that have flags.
+fn with_flagged<'a>(alloc: Global, program: Command<'a>) -> Result<Command<'a>, AllocError> {
+    let list = list_verb(alloc)?;
+    let program = program.subcommand(list)?;
+    let get = get_verb(alloc)?;
+    program.subcommand(get)
+}
+
+// Adds a command of one or two words.
+fn with_shape<'a>(
+    alloc: Global,
+    program: Command<'a>,
+    shape: &Shape,
+) -> Result<Command<'a>, AllocError> {
+    let command = command_of(alloc, shape)?;
+    program.subcommand(command)
 }
 
 // The command that lists.
