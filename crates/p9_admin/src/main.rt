@@ -25,6 +25,7 @@ use crate::seal::run_seal;
 use crate::status::{BAD_COMMAND_LINE, DONE, INPUT_OR_OUTPUT_FAILED, OUT_OF_MEMORY};
 use crate::view::run_tree;
 use crate::words::program;
+use clap::ArgMatches;
 use std::alloc::AllocError;
 use std::io::ErrorKind;
 use std::process::ExitCode;
@@ -62,20 +63,14 @@ fn run(rt: &HostRuntime) -> io::Result<u8> {
 
 // Runs the command that these words ask for.
 fn run_words(rt: &HostRuntime, words: &[String]) -> io::Result<u8> {
-    let matches = match program(rt.alloc())?.try_get_matches_from(words) {
-        Ok(matches) => matches,
-        Err(error) if error.kind() == clap::error::ErrorKind::OutOfMemory => {
-            return Err(io::Error::from(AllocError));
-        }
-        Err(error) => {
-            error.print(rt)?;
-            return Ok(if error.use_stderr() {
-                BAD_COMMAND_LINE
-            } else {
-                DONE
-            });
-        }
-    };
+    match program(rt.alloc())?.try_get_matches_from(words) {
+        Ok(matches) => run_command(rt, &matches),
+        Err(error) => print_error(rt, &error),
+    }
+}
+
+// Runs the command that was read of the words.
+fn run_command(rt: &HostRuntime, matches: &ArgMatches<'_>) -> io::Result<u8> {
     match matches.subcommand() {
         Some(("pack", options)) => run_pack(rt, options),
         Some(("seal", options)) => run_seal(rt, options),
@@ -84,6 +79,19 @@ fn run_words(rt: &HostRuntime, words: &[String]) -> io::Result<u8> {
         Some(("map", _)) => run_map(rt),
         _ => bad_words(rt),
     }
+}
+
+// Prints what `clap` has to say of the words: their help, the version, or what is wrong with them.
+fn print_error(rt: &HostRuntime, error: &clap::Error) -> io::Result<u8> {
+    if error.kind() == clap::error::ErrorKind::OutOfMemory {
+        return Err(io::Error::from(AllocError));
+    }
+    error.print(rt)?;
+    Ok(if error.use_stderr() {
+        BAD_COMMAND_LINE
+    } else {
+        DONE
+    })
 }
 
 // Reports words that are no text.

@@ -109,49 +109,50 @@ fn mode_of(word: &str) -> Option<u32> {
 pub fn program<'a>(alloc: Global) -> Result<Command<'a>, AllocError> {
     let program = Command::new(alloc, "p9_fs")
         .about("looks at an export of 9P2000, and copies files from it and to it")
-        .version("1.0");
-    with_shell(alloc, with_verbs(alloc, with_options(alloc, program)?)?)
+        .version("1.0")
+        .subcommand_required(true);
+    let shell = Command::new(alloc, "sh").about("runs the commands of the standard input");
+    let program = with_verbs(alloc, with_options(alloc, program));
+    with(program, Ok(shell))
 }
 
 // Adds the options.
 fn with_options<'a>(alloc: Global, program: Command<'a>) -> Result<Command<'a>, AllocError> {
-    let program = program
-        .arg(option(
-            alloc,
-            "addr",
-            'a',
-            "ADDR",
-            "the server's address, HOST:PORT",
-        )
-        .required(true))?
-        .arg(option(
-            alloc,
-            "user",
-            'u',
-            "USER",
-            "the user to attach as, or else $USER, or none",
-        ))?;
-    with_more_options(alloc, program)
+    let addr = "the server's address, HOST:PORT";
+    let user = "the user to attach as, or else $USER, or none";
+    let msize = "the most bytes of a message";
+    let program = program.arg(option(alloc, "addr", 'a', "ADDR", addr).required(true));
+    let program = taking(program, option(alloc, "user", 'u', "USER", user));
+    let program = taking(
+        program,
+        option(alloc, "aname", 'n', "ANAME", "the tree to attach"),
+    );
+    let msize = option(alloc, "msize", 'm', "MSIZE", msize);
+    taking(program, msize.value_parser(value_parser!(usize)))
 }
 
-// Adds the options after the user.
-fn with_more_options<'a>(alloc: Global, program: Command<'a>) -> Result<Command<'a>, AllocError> {
-    program
-        .arg(option(alloc, "aname", 'n', "ANAME", "the tree to attach"))?
-        .arg(option(alloc, "msize", 'm', "MSIZE", "the most bytes of a message").value_parser(
-            value_parser!(usize),
-        ))
+// The program with a command more, if there is memory for both.
+fn with<'a>(
+    program: Result<Command<'a>, AllocError>,
+    command: Result<Command<'a>, AllocError>,
+) -> Result<Command<'a>, AllocError> {
+    program?.subcommand(command?)
 }
 
-// Adds the command that runs other commands.
-fn with_shell<'a>(alloc: Global, program: Command<'a>) -> Result<Command<'a>, AllocError> {
-    program.subcommand(Command::new(alloc, "sh").about("runs the commands of the standard input"))
+// The command with an option or a word more, if there is memory for it.
+fn taking<'a>(
+    command: Result<Command<'a>, AllocError>,
+    arg: Arg<'a>,
+) -> Result<Command<'a>, AllocError> {
+    command?.arg(arg)
 }
 
 /// A line of commands, after the program's name.
 pub fn line_program<'a>(alloc: Global) -> Result<Command<'a>, AllocError> {
-    let program = Command::new(alloc, "p9_fs").disable_version_flag(true);
-    with_verbs(alloc, program)
+    let program = Command::new(alloc, "p9_fs")
+        .disable_version_flag(true)
+        .subcommand_required(true);
+    with_verbs(alloc, Ok(program))
 }
 
 // An option with a value.
@@ -234,63 +235,45 @@ const SHAPES: [Shape; 7] = [
     },
 ];
 
-// Adds the commands on files.
-fn with_verbs<'a>(alloc: Global, program: Command<'a>) -> Result<Command<'a>, AllocError> {
-    let mut program = with_flagged(alloc, program.subcommand_required(true))?;
-    for shape in &SHAPES {
-        program = with_shape(alloc, program, shape)?;
-    }
-    Ok(program)
-}
-
-// Adds the commands that have flags.
-fn with_flagged<'a>(alloc: Global, program: Command<'a>) -> Result<Command<'a>, AllocError> {
-    let list = list_verb(alloc)?;
-    let program = program.subcommand(list)?;
-    let get = get_verb(alloc)?;
-    program.subcommand(get)
-}
-
-// Adds a command of one or two words.
-fn with_shape<'a>(
+// The program with the commands on files, if there is memory for all.
+fn with_verbs<'a>(
     alloc: Global,
-    program: Command<'a>,
-    shape: &Shape,
+    program: Result<Command<'a>, AllocError>,
 ) -> Result<Command<'a>, AllocError> {
-    let command = command_of(alloc, shape)?;
-    program.subcommand(command)
+    let program = with(program, list_verb(alloc));
+    let mut program = with(program, get_verb(alloc));
+    for shape in &SHAPES {
+        program = with(program, command_of(alloc, shape));
+    }
+    program
 }
 
 // The command that lists.
 fn list_verb<'a>(alloc: Global) -> Result<Command<'a>, AllocError> {
-    Command::new(alloc, "ls")
+    let command = Command::new(alloc, "ls")
         .about("lists a directory or a file")
-        .arg(flag(alloc, "long", 'l', "in long lines"))?
-        .arg(word(alloc, "path", "PATH", false))
+        .arg(flag(alloc, "long", 'l', "in long lines"));
+    taking(command, word(alloc, "path", "PATH", false))
 }
 
 // The command that copies from the server.
 fn get_verb<'a>(alloc: Global) -> Result<Command<'a>, AllocError> {
-    Command::new(alloc, "get")
+    let recursive = "a directory with all that is in it";
+    let command = Command::new(alloc, "get")
         .about("copies a file from the server")
-        .arg(flag(
-            alloc,
-            "recursive",
-            'r',
-            "a directory with all that is in it",
-        ))?
-        .arg(word(alloc, "path", "PATH", true))?
-        .arg(word(alloc, "local", "LOCAL", true))
+        .arg(flag(alloc, "recursive", 'r', recursive));
+    let command = taking(command, word(alloc, "path", "PATH", true));
+    taking(command, word(alloc, "local", "LOCAL", true))
 }
 
 // A command of one or two words.
 fn command_of<'a>(alloc: Global, shape: &Shape) -> Result<Command<'a>, AllocError> {
     let (id, value) = shape.first;
-    let verb = Command::new(alloc, shape.name)
+    let command = Command::new(alloc, shape.name)
         .about(shape.about)
-        .arg(word(alloc, id, value, true))?;
+        .arg(word(alloc, id, value, true));
     match shape.second {
-        Some((id, value)) => verb.arg(word(alloc, id, value, true)),
-        None => Ok(verb),
+        Some((id, value)) => taking(command, word(alloc, id, value, true)),
+        None => command,
     }
 }
