@@ -12,7 +12,7 @@ pub record Pacing : Type 0 where
 
 -- how many rounds pass at most between two accepts
 abbrev pub longest_wait : ℕ
-longest_wait = 255
+longest_wait = 63
 
 -- how many quiet rounds come between two accepts
 abbrev pub accept_each : ℕ

@@ -10,7 +10,7 @@ use std::marker::Model;
 use std::time::Duration;
 
 // How many rounds pass at most between two accepts.
-const LONGEST_WAIT: u64 = 255;
+const LONGEST_WAIT: u64 = 63;
 
 // How many quiet rounds come between two accepts.
 const ACCEPT_EACH: u64 = 16;
@@ -26,7 +26,7 @@ const MOST_QUIET: u64 = 5_007;
 ///
 /// A round accepts if it is the first, or if the one before it took in or closed a client. After
 /// accepts that find nobody one round passes until the next, then three, seven, and so on up to
-/// 255. A round accepts also if the quiet rounds just before it are 16 or a multiple of that, and
+/// 63. A round accepts also if the quiet rounds just before it are 16 or a multiple of that, and
 /// after each rest. There is a rest after 5,000 quiet rounds and after each further one: 50
 /// microseconds at first, then each time twice as long, up to 4,000. A round that is not quiet
 /// ends the rests.
