@@ -20,3 +20,5 @@ mod pieces;
 mod served;
 #[cfg(test)]
 mod sessions;
+#[cfg(test)]
+mod tree;

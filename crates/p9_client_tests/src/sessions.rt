@@ -7,8 +7,8 @@ use p9_wire::Stat;
 use std::alloc::Global;
 use std::process::Abort;
 
-// More bytes than a call has.
-const ALL: usize = 1_000_000;
+/// More bytes than a call has.
+pub const ALL: usize = 1_000_000;
 
 // A stat that changes nothing.
 fn untouched<'a>() -> Stat<'a> {
@@ -31,8 +31,8 @@ fn untouched<'a>() -> Stat<'a> {
     }
 }
 
-// What a file of the world is.
-fn contents(
+/// The bytes of the file of a path.
+pub fn contents(
     rt: &impl Abort,
     alloc: Global,
     session: &mut Session<Served, Global>,

@@ -1,4 +1,5 @@
-//! Tests of p9_map: how many boxes and arrows pictures have, names in them, and failed allocations.
+//! Tests of p9_map and p9_view: how many boxes and arrows pictures have, names in them, and failed
+//! allocations.
 #![tactic(auto)]
 
 #[cfg(test)]

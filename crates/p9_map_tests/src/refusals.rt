@@ -1,9 +1,10 @@
-//! Allocations that fail: the call says so, and made again it draws the picture.
+//! Allocations that fail: a call says so, and made again it draws the picture or prints the tree.
 
-use p9_base::Stop;
+use p9_base::{NoMemory, Stop};
 use p9_index::IndexTree;
 use p9_map::map;
 use p9_testing::{Refusing, refuse_each};
+use p9_view::show_tree;
 use std::alloc::Allocator;
 use std::process::Abort;
 
@@ -28,9 +29,49 @@ fn map_again<A: Allocator + Copy>(rt: &impl Abort, alloc: A) {
     assert!(rt; svg.is_ok_and(|svg| svg.as_str().contains("verdict: no")));
 }
 
+// The trees of the same name space: of all places, and of those that a user meets.
+const TREES: [(Option<&str>, &str); 2] = [
+    (
+        None,
+        "/ d-rwxr-xr-x sys sys 0 -> main:/ + other:/ passed by everybody
+/vault d-rwxr-xr-x sys sys 0 (hidden) passed by everybody
+/vault/in d-rwxr-xr-x sys sys 0 passed by everybody
+",
+    ),
+    (
+        Some("glenda"),
+        "/ d-rwxr-xr-x sys sys 0 -> main:/ + other:/
+/vault d-rwxr-xr-x sys sys 0 (hidden)
+/vault/in d-rwxr-xr-x sys sys 0
+",
+    ),
+];
+
+// Prints a tree. Where an allocation fails, the call says so.
+fn tree_again<A: Allocator + Copy>(rt: &impl Abort, alloc: A, user: Option<&str>, lines: &str) {
+    let mut out = Vec::new(alloc);
+    let mut err = Vec::new(alloc);
+    let mut status = show_tree::<IndexTree<A>>(LEAK.as_bytes(), user, &mut out, &mut err);
+    if status == Err(NoMemory) {
+        out.clear();
+        status = show_tree::<IndexTree<A>>(LEAK.as_bytes(), user, &mut out, &mut err);
+    }
+    assert!(rt; status == Ok(0) && err.is_empty());
+    assert!(rt; out.as_slice() == lines.as_bytes());
+}
+
 #[test]
-fn the_call_is_made_again_at_each_refusal(rt: HostRuntime) {
+fn a_picture_is_drawn_again_at_each_refusal(rt: HostRuntime) {
     let memory = Refusing::new(rt.alloc());
     let refused = refuse_each(&memory, || (), |()| map_again(&rt, &memory));
     assert!(rt; refused > 50);
+}
+
+#[test]
+fn a_tree_is_printed_again_at_each_refusal(rt: HostRuntime) {
+    let memory = Refusing::new(rt.alloc());
+    for (user, lines) in TREES {
+        let refused = refuse_each(&memory, || (), |()| tree_again(&rt, &memory, user, lines));
+        assert!(rt; refused > 50);
+    }
 }

@@ -1,0 +1,91 @@
+//! A tree of files that is put to a server and got back.
+
+use crate::served::{Served, attach};
+use crate::sessions::{ALL, contents};
+use p9_base::DMDIR;
+use p9_client::{Entry, Session};
+use std::alloc::Global;
+use std::process::Abort;
+
+const DIRS: [&str; 7] = ["a", "b", "c", "d", "e", "f", "g"];
+
+// How many files there are in all. The file of number N is in the directory N modulo 7.
+const FILES: u32 = 300;
+
+// The bytes of the file of a number. The first is empty, and the last needs three messages.
+fn bytes_of(rt: &impl Abort, alloc: Global, number: u32) -> Vec<u8> {
+    let mut bytes = Vec::new(alloc);
+    for at in 0..u64::from(number) * 61 {
+        assert!(rt; bytes.push((at % 251) as u8).is_ok());
+    }
+    bytes
+}
+
+// Makes a directory.
+fn make_dir(rt: &impl Abort, session: &mut Session<Served, Global>, dir: &str) {
+    assert!(rt; session.walk_path(0, 1, &["pub"]).is_ok());
+    assert!(rt; session.create(1, dir, DMDIR | 0o755, 0).is_ok());
+    assert!(rt; session.clunk(1).is_ok());
+}
+
+// Makes the file of a number, and writes its bytes.
+fn put(rt: &impl Abort, alloc: Global, session: &mut Session<Served, Global>, number: u32) {
+    let dir = DIRS[number as usize % DIRS.len()];
+    let name = format!(in alloc; "{number}").expect(rt, "memory");
+    let bytes = bytes_of(rt, alloc, number);
+    assert!(rt; session.walk_path(0, 1, &["pub", dir]).is_ok());
+    assert!(rt; session.create(1, name.as_str(), 0o644, 1).is_ok());
+    assert!(rt; session.write_whole(1, bytes.as_slice()).is_ok());
+    assert!(rt; session.clunk(1).is_ok());
+}
+
+// The entries of a directory.
+fn entries(
+    rt: &impl Abort,
+    alloc: Global,
+    session: &mut Session<Served, Global>,
+    dir: &str,
+) -> Vec<Entry<Global>> {
+    assert!(rt; session.walk_path(0, 1, &["pub", dir]).is_ok());
+    assert!(rt; session.open(1, 0).is_ok());
+    let entries = session.list(alloc, 1).expect(rt, "a listing");
+    assert!(rt; session.clunk(1).is_ok());
+    entries
+}
+
+// Gets the file of an entry, whose name is its number, and compares its bytes.
+fn get(
+    rt: &impl Abort,
+    alloc: Global,
+    session: &mut Session<Served, Global>,
+    dir: &str,
+    entry: &Entry<Global>,
+) {
+    let name = entry.name.as_str();
+    let number = name.parse::<u32>().ok().expect(rt, "a number");
+    let bytes = contents(rt, alloc, session, &["pub", dir, name]);
+    let wanted = bytes_of(rt, alloc, number);
+    assert!(rt; entry.length == wanted.len() as u64, "{dir}/{number}");
+    assert!(rt; bytes.as_slice() == wanted.as_slice(), "{dir}/{number}");
+}
+
+#[test]
+fn a_tree_is_put_and_got_back(rt: HostRuntime) {
+    let alloc = rt.alloc();
+    let mut session = attach(&rt, alloc, Served::new(&rt, alloc, ALL));
+    for dir in DIRS {
+        make_dir(&rt, &mut session, dir);
+    }
+    for number in 0..FILES {
+        put(&rt, alloc, &mut session, number);
+    }
+    let mut got = 0usize;
+    for dir in DIRS {
+        let entries = entries(&rt, alloc, &mut session, dir);
+        got = got.saturating_add(entries.len());
+        for entry in &entries {
+            get(&rt, alloc, &mut session, dir, entry);
+        }
+    }
+    assert!(rt; got == 300);
+}
