@@ -18,7 +18,7 @@ fn count(text: &str, part: &str) -> usize {
 }
 
 // Inputs with how many boxes and arrows their pictures have, of which so many boxes are on a walk.
-const WORLDS: [(&str, usize, usize, usize); 9] = [
+const WORLDS: [(&str, usize, usize, usize); 12] = [
     // the sample world
     ("", 4, 0, 0),
     // two unions, of which one has the other as a member
@@ -46,6 +46,27 @@ const WORLDS: [(&str, usize, usize, usize); 9] = [
     (
         "%% world\nserver main\ndir / 777 sys sys\ndir /empty 755 sys sys\ndir /vault 777 sys sys\ndir /vault/key 700 glenda glenda\nuser glenda\nhide main /vault\n%% ns\nbind /empty /vault\n",
         4,
+        1,
+        0,
+    ),
+    // a directory that is bound from below
+    (
+        "%% world\nserver main\ndir /deep 755 sys sys\ndir /deep/d 755 sys sys\ndir /m 755 sys sys\nuser glenda\n%% ns\nbind /deep/d /m\n",
+        4,
+        1,
+        0,
+    ),
+    // one that is bound from inside a hidden directory: the walk goes to the root, and into it
+    (
+        "%% world\nserver main\ndir /u 755 sys sys\ndir /vault 000 sys sys\ndir /vault/in 755 sys sys\nuser glenda\nhide main /vault\n%% ns\nbind -a /vault/in /u\n",
+        4,
+        2,
+        2,
+    ),
+    // a user's own directory for temporary files
+    (
+        "%% world\nserver main\ndir /usr 755 sys sys\ndir /usr/glenda 755 glenda glenda\ndir /usr/glenda/tmp 755 glenda glenda\ndir /tmp 777 sys sys\nuser glenda\nset home /usr/glenda\n%% ns\nbind -c $home/tmp /tmp\n",
+        5,
         1,
         0,
     ),
