@@ -1,18 +1,20 @@
 -- Requests that are written and answers that are read, one after another.
-use Rattle.std.proofs.Common.{◌≡◌, ℕ, ◌+◌, ◌<◌, ◌∙◌, Err, List, [], ◌∷◌, ◌++◌, None, Ok, Option, Result, Some, ap}
+use Rattle.std.proofs.Common.{◌≡◌, ℕ, ◌+◌, ◌<◌, ◌≤◌, ◌∙◌, List, [], ◌∷◌, ◌++◌, None, Option, Some, ap}
 use Rattle.std.proofs.Common.{append-nil, append_assoc, arith, length, length-append, map, refl, subst, sym}
 use Rattle.std.proofs.KnownBytes.{Appends-kept, Appends-nil, Appends-trans, Consumes-nil, Consumes-trans, Keeps-refl, Keeps-trans}
 use Rattle.std.proofs.lemmas.List.{map-append}
 use Rattle.std.proofs.lemmas.List.Concat.{flat_map-append}
+use Rattle.std.proofs.lemmas.List.Folds.{concat-append}
 use Rattle.std.specs.Io.KnownBytes.{Appends, Consumes, Keeps}
 use Rattle.p9_wire.specs.Message.{RMessage, TMessage}
 use Rattle.p9_wire.specs.Spelling.{t_spelling}
-use Rattle.p9_client.specs.Ahead.{Answer, AreAnswers, AskInTurn, Exchange, Exchanges, Received, Sent, answers_of}
-use Rattle.p9_client.specs.Ahead.{frames, requests_of, spelled_from, tag_past}
-use Rattle.p9_client.specs.declared.error.ClientError.{ClientError}
-use Rattle.p9_client.specs.declared.reply.Asked.{Asked}
-use Rattle.p9_client.specs.Reply.{IsDroppedReply, IsReply}
-use Rattle.p9_client.specs.Session.{IsSettled, Receives, Sends, Talk, next_tag}
+use Rattle.std.proofs.lemmas.List.Elements.{All-append, All-cons, All-nil, All-push}
+use Rattle.std.specs.List.{Contains, concat, flat_map}
+use Rattle.p9_client.specs.Ahead.{Answer, AreAnswers, Arrives, AskInTurn, Exchange, Exchanges, Finds, FindsReply, IsRound, Round}
+use Rattle.p9_client.specs.Ahead.{Sent, ahead_max, answers_of, requests_of, spelled_from, tag_past}
+use Rattle.p9_client.specs.Frame.{HasSize}
+use Rattle.p9_client.specs.Reply.{IsReply}
+use Rattle.p9_client.specs.Session.{Receives, Sends, Talk, next_tag}
 
 tag_past-append : {T : Type 0} (tag : ℕ) (xs ys : List T)
     → tag_past tag (xs ++ ys) ≡ tag_past (tag_past tag xs) ys
@@ -82,9 +84,50 @@ kept-Consumes (Some x) None c bs kept read = absurd kept
 kept-Consumes (Some x) (Some y) None bs kept read = absurd read
 kept-Consumes (Some x) (Some y) (Some z) bs kept read = sym kept ∙ read
 
--- the answer with this frame
-abbrev pub answer_in : List ℕ → RMessage → Answer
-answer_in frame reply = record { frame = frame; reply = reply }
+-- a frame is the reply
+pub found-reply : (arrived : List (List ℕ)) (tag : ℕ) (frame : List ℕ) (m reply : RMessage)
+    → Contains arrived frame → HasSize frame → IsReply frame tag m → m ≡ reply
+    → FindsReply arrived tag reply
+found-reply arrived tag frame m reply is_there size is same =
+    record {
+      frame = frame;
+      is_there = is_there;
+      is = record { size = size; is = subst (IsReply frame tag) same is };
+    }
+
+-- no answers are found
+pub finds-none : (arrived : List (List ℕ)) (tag : ℕ) → Finds arrived tag 0 []
+finds-none arrived tag =
+    record {
+      long = refl;
+      answered = tt;
+      among = All-nil (λ (a : Answer). Contains arrived a.frame);
+    }
+
+-- further ones are
+pub finds-both : (arrived : List (List ℕ)) (tag next first more count : ℕ) (xs ys : List Answer)
+    → Finds arrived tag first xs → next ≡ tag_past tag xs → Finds arrived next more ys
+    → first + more ≡ count → Finds arrived tag count (xs ++ ys)
+finds-both arrived tag next first more count xs ys front next_is back count_is =
+    record {
+      long = omega (arith, length-append xs ys, front.long, back.long, count_is);
+      answered = answers-append tag xs ys front.answered
+          (subst (λ (t : ℕ). AreAnswers t ys) next_is back.answered);
+      among = All-append (λ (a : Answer). Contains arrived a.frame) xs ys front.among back.among;
+    }
+
+-- one is
+pub finds-one : (arrived : List (List ℕ)) (tag : ℕ) (reply : RMessage)
+    → (found : FindsReply arrived tag reply)
+    → Finds arrived tag 1 ((record { frame = found.frame; reply = reply }) ∷ [])
+finds-one arrived tag reply found =
+    record {
+      long = refl;
+      answered = (found.is, tt);
+      among = All-cons (λ (a : Answer). Contains arrived a.frame)
+          (record { frame = found.frame; reply = reply }) [] found.is_there
+          (All-nil (λ (a : Answer). Contains arrived a.frame));
+    }
 
 module _ {S : Type 0} (remaining contents : S → Option (List ℕ)) where
   pub nothing-sent : (s : Talk S) → Sent remaining contents [] s s
@@ -119,70 +162,43 @@ module _ {S : Type 0} (remaining contents : S → Option (List ℕ)) where
         goes_on = more.goes_on ∙ sym more.alive ∙ sent.goes_on;
       }
 
-  pub nothing-received : (tag : ℕ) (s : Talk S) → Received remaining contents tag [] s s
-  nothing-received tag s =
-      record {
-        read = Consumes-nil (remaining s.stream);
-        unwritten = Keeps-refl (contents s.stream);
-        answered = tt;
-        tag_is = refl;
-        msize_is = refl;
-        goes_on = refl;
-      }
-
-  -- further answers were read
-  pub received-both : (tag next : ℕ) (xs ys : List Answer) (old mid new : Talk S)
-      → Received remaining contents tag xs old mid → next ≡ tag_past tag xs
-      → Received remaining contents next ys mid new
-      → Received remaining contents tag (xs ++ ys) old new
-  received-both tag next xs ys old mid new first next_is more =
-      record {
-        read = subst (λ (bs : List ℕ). Consumes (remaining old.stream) (remaining new.stream) bs)
-            (sym (flat_map-append (λ (a : Answer). a.frame) xs ys))
-            (Consumes-trans _ _ _ _ _ first.read more.read);
-        unwritten = Keeps-trans _ _ _ first.unwritten more.unwritten;
-        answered = answers-append tag xs ys first.answered
-            (subst (λ (t : ℕ). AreAnswers t ys) next_is more.answered);
-        tag_is = more.tag_is ∙ first.tag_is;
-        msize_is = more.msize_is ∙ first.msize_is;
-        goes_on = more.goes_on ∙ first.goes_on;
-      }
-
-  -- one answer was read
-  pub received-one : (tag : ℕ) (reply : RMessage) (old new : Talk S)
-      → Receives remaining contents old new → IsReply new.reply tag reply
-      → Received remaining contents tag (answer_in new.reply reply ∷ []) old new
-  received-one tag reply old new received is =
-      record {
-        read = subst (λ (bs : List ℕ). Consumes (remaining old.stream) (remaining new.stream) bs)
-            (sym (append-nil new.reply)) received.read;
-        unwritten = received.unwritten;
-        answered = (record { size = received.size; is = is }, tt);
-        tag_is = received.tag_is;
-        msize_is = received.msize_is;
-        goes_on = received.goes_on;
-      }
-
   -- requests were written, and then their answers were read
-  pub exchanged : (exchanges : List Exchange) (old mid new : Talk S)
+  pub exchanged : (exchanges : List Exchange) (arrived : List (List ℕ)) (old mid new : Talk S)
       → Sent remaining contents (requests_of exchanges) old mid
-      → Received remaining contents old.tag (answers_of exchanges) mid new
+      → Arrives remaining contents arrived mid new
+      → Finds arrived old.tag (length arrived) (answers_of exchanges) → length arrived ≤ ahead_max
       → Exchanges remaining contents exchanges old new
-  exchanged exchanges old mid new sent received =
+  exchanged exchanges arrived old mid new sent arrives found few =
+      let round : Round = record { arrived = arrived; answers = answers_of exchanges } in
+      let is : IsRound round =
       record {
-        written = Appends-kept _ _ _ _ sent.written received.unwritten;
-        read = kept-Consumes _ _ _ _ sent.unread received.read;
-        answered = received.answered;
-        tag_is = received.tag_is ∙ sent.tag_is
+        few = omega (arith, found.long, few);
+        sizes = arrives.sizes;
+        as_many = sym found.long;
+        among = found.among;
+      } in
+      record {
+        written = Appends-kept _ _ _ _ sent.written arrives.unwritten;
+        rounds = round ∷ [];
+        each = All-cons IsRound round [] is (All-nil IsRound);
+        in_rounds = append-nil (answers_of exchanges);
+        read = subst (λ (bs : List ℕ). Consumes (remaining old.stream) (remaining new.stream) bs)
+            (sym (append-nil (concat arrived)))
+            (kept-Consumes _ _ _ _ sent.unread arrives.read);
+        answered = found.answered;
+        tag_is = arrives.tag_is ∙ sent.tag_is
             ∙ tag_past-map (λ (e : Exchange). e.request) old.tag exchanges;
-        msize_is = received.msize_is ∙ sent.msize_is;
-        goes_on = received.goes_on ∙ sent.goes_on;
+        msize_is = arrives.msize_is ∙ sent.msize_is;
+        goes_on = arrives.goes_on ∙ sent.goes_on;
       }
 
   pub nothing-exchanged : (s : Talk S) → Exchanges remaining contents [] s s
   nothing-exchanged s =
       record {
         written = Appends-nil (contents s.stream);
+        rounds = [];
+        each = All-nil IsRound;
+        in_rounds = refl;
         read = Consumes-nil (remaining s.stream);
         answered = tt;
         tag_is = refl;
@@ -208,14 +224,21 @@ module _ {S : Type 0} (remaining contents : S → Option (List ℕ)) where
       ap (λ (t : ℕ). spelled_from old.tag (requests_of xs) ++ spelled_from t (requests_of ys)) tag_is
       ∙ sym (spelled-append old.tag (requests_of xs) (requests_of ys))
       ∙ ap (spelled_from old.tag) (sym requests) in
-      let read : frames (answers_of xs) ++ frames (answers_of ys) ≡ frames (answers_of (xs ++ ys)) =
-      sym (flat_map-append (λ (a : Answer). a.frame) (answers_of xs) (answers_of ys))
-      ∙ ap frames (sym answers) in
+      let in_rounds : flat_map (λ (r : Round). r.answers) (first.rounds ++ more.rounds)
+      ≡ answers_of xs ++ answers_of ys =
+      flat_map-append (λ (r : Round). r.answers) first.rounds more.rounds
+      ∙ ap (λ (zs : List Answer). zs ++ flat_map (λ (r : Round). r.answers) more.rounds)
+      first.in_rounds
+      ∙ ap (λ (zs : List Answer). answers_of xs ++ zs) more.in_rounds in
       record {
         written = subst (λ (bs : List ℕ). Appends (contents old.stream) (contents new.stream) bs)
             spelled (Appends-trans _ _ _ _ _ first.written more.written);
+        rounds = first.rounds ++ more.rounds;
+        each = All-append IsRound first.rounds more.rounds first.each more.each;
+        in_rounds = in_rounds ∙ sym answers;
         read = subst (λ (bs : List ℕ). Consumes (remaining old.stream) (remaining new.stream) bs)
-            read (Consumes-trans _ _ _ _ _ first.read more.read);
+            (sym (flat_map-append (λ (r : Round). concat r.arrived) first.rounds more.rounds))
+            (Consumes-trans _ _ _ _ _ first.read more.read);
         answered = subst (AreAnswers old.tag) (sym answers)
             (answers-append old.tag (answers_of xs) (answers_of ys) first.answered
             (subst (λ (t : ℕ). AreAnswers t (answers_of ys)) tag_is' more.answered));
@@ -250,49 +273,55 @@ module _ {S : Type 0} (remaining contents : S → Option (List ℕ)) where
         asked = asked-more request size 0 at before.requests next before.asked is some;
       }
 
-  -- so many answers were read from a first tag on, up to another tag
-  pub record HasReceived (first tag count : ℕ) (old new : Talk S) : Type 0 where
-    pub answers : List Answer
-    pub long : length answers ≡ count
-    pub tag_is : tag ≡ tag_past first answers
-    pub received : Received remaining contents first answers old new
-
-  pub none-received : (first : ℕ) (s : Talk S) → HasReceived first first 0 s s
-  none-received first s =
-      record { answers = []; long = refl; tag_is = refl; received = nothing-received first s }
-
-  -- the next answer was read
-  pub next-received : (first tag count : ℕ) (reply : RMessage) (old mid new : Talk S)
-      → HasReceived first tag count old mid → Receives remaining contents mid new
-      → IsReply new.reply tag reply → HasReceived first (next_tag tag) (count + 1) old new
-  next-received first tag count reply old mid new before receives is =
-      let last = answer_in new.reply reply in
+  -- so many frames were read
+  pub none-arrived : (s : Talk S) → Arrives remaining contents [] s s
+  none-arrived s =
       record {
-        answers = before.answers ++ last ∷ [];
-        long = omega (arith, before.long, length-append before.answers (last ∷ []));
-        tag_is = next-tag_past first tag before.answers last before.tag_is;
-        received = received-both first tag before.answers (last ∷ []) old mid new before.received
-            before.tag_is (received-one tag reply mid new receives is);
+        read = Consumes-nil (remaining s.stream);
+        sizes = All-nil HasSize;
+        unwritten = Keeps-refl (contents s.stream);
+        tag_is = refl;
+        msize_is = refl;
+        goes_on = refl;
       }
 
-  -- the same of equal values
-  pub received-as : (first tag tag' count count' : ℕ) (old new new' : Talk S)
-      → HasReceived first tag count old new → tag' ≡ tag → count ≡ count' → new' ≡ new
-      → HasReceived first tag' count' old new'
-  received-as first tag tag' count count' old new new' h tag_is count_is new_is =
+  -- a further frame was read
+  pub next-arrived : (arrived : List (List ℕ)) (old mid new : Talk S)
+      → Arrives remaining contents arrived old mid → Receives remaining contents mid new
+      → Arrives remaining contents (arrived ++ new.reply ∷ []) old new
+  next-arrived arrived old mid new before received =
+      let bytes : concat arrived ++ new.reply ≡ concat (arrived ++ new.reply ∷ []) =
+      ap (λ (zs : List ℕ). concat arrived ++ zs) (sym (append-nil new.reply))
+      ∙ sym (concat-append arrived (new.reply ∷ [])) in
       record {
-        answers = h.answers;
-        long = h.long ∙ count_is;
-        tag_is = tag_is ∙ h.tag_is;
-        received = subst (λ (s : Talk S). Received remaining contents first h.answers old s)
-            (sym new_is) h.received;
+        read = subst (λ (bs : List ℕ). Consumes (remaining old.stream) (remaining new.stream) bs) bytes
+            (Consumes-trans _ _ _ _ _ before.read received.read);
+        sizes = All-push HasSize arrived new.reply before.sizes received.size;
+        unwritten = Keeps-trans _ _ _ before.unwritten received.unwritten;
+        tag_is = received.tag_is ∙ before.tag_is;
+        msize_is = received.msize_is ∙ before.msize_is;
+        goes_on = received.goes_on ∙ before.goes_on;
       }
 
--- a reply that was dropped
-pub dropped-one : {S : Type 0} (asked : Asked) (most tag : ℕ) (frame : List ℕ) (late new : Talk S)
-    (dropped : Result (Unit {0}) ClientError) (nothing : Unit {0})
-    → IsDroppedReply asked most tag frame dropped → frame ≡ late.reply → Ok nothing ≡ dropped
-    → IsSettled late new dropped → (m : RMessage) × IsReply late.reply tag m × (new ≡ late)
-dropped-one asked most tag frame late new (Ok value) nothing answer frame_is is settled =
-    (answer.0, subst (λ (f : List ℕ). IsReply f tag answer.0) frame_is answer.1, settled)
-dropped-one asked most tag frame late new (Err error) nothing answer frame_is is settled = cc
+-- so many answers are found from a first tag on, up to another tag
+pub record HasFound (arrived : List (List ℕ)) (first tag count : ℕ) : Type 0 where
+  pub answers : List Answer
+  pub tag_is : tag ≡ tag_past first answers
+  pub found : Finds arrived first count answers
+
+pub none-found : (arrived : List (List ℕ)) (first : ℕ) → HasFound arrived first first 0
+none-found arrived first =
+    record { answers = []; tag_is = refl; found = finds-none arrived first }
+
+-- the next answer is
+pub next-found : (arrived : List (List ℕ)) (first tag count : ℕ) (reply : RMessage)
+    → HasFound arrived first tag count → FindsReply arrived tag reply
+    → HasFound arrived first (next_tag tag) (count + 1)
+next-found arrived first tag count reply before next =
+    let last : Answer = record { frame = next.frame; reply = reply } in
+    record {
+      answers = before.answers ++ last ∷ [];
+      tag_is = next-tag_past first tag before.answers last before.tag_is;
+      found = finds-both arrived first tag count 1 (count + 1) before.answers (last ∷ []) before.found
+          before.tag_is (finds-one arrived tag reply next) refl;
+    }

@@ -1,16 +1,15 @@
 -- What reads ahead give of a file.
 use Rattle.std.proofs.Common.{◌≡◌, ℕ, ◌+◌, ◌-◌, ◌<◌, ◌≤◌, ◌∙◌, List, [], ◌∷◌, ◌++◌, Option, ap, append_assoc}
-use Rattle.std.proofs.Common.{Err, IfOk, Ok, Result, append-nil, arith, false, inl, inr, length, length-append, refl, subst, sym}
+use Rattle.std.proofs.Common.{append-nil, arith, false, inl, inr, length, length-append, refl, subst, sym}
 use Rattle.std.specs.Io.KnownBytes.{Appends}
 use Rattle.p9_wire.specs.Message.{Rread, TMessage, Tread}
-use Rattle.p9_client.specs.declared.file_error.FileError.{FileError}
-use Rattle.p9_client.specs.Ahead.{Answer, AskInTurn, DropsReplies, Exchange, Exchanges, GiveParts, Received}
-use Rattle.p9_client.specs.Ahead.{SendsReads, Sent, TakesRead, TakesReads, answers_of, part_size, read_part, requests_of}
+use Rattle.p9_client.specs.Ahead.{Answer, Arrives, ArrivesAll, AskInTurn, Exchange, Exchanges, Finds, FindsReplies, FindsReply}
+use Rattle.p9_client.specs.Ahead.{GiveParts, SendsReads, Sent, TakesReads, ahead_max, answers_of, part_size, read_part, requests_of}
 use Rattle.p9_client.specs.Ahead.{tag_past}
 use Rattle.p9_client.specs.Files.{Reads, ReadsAt, ReadsFile, ReadsOn}
 use Rattle.p9_client.specs.Session.{Talk, next_tag}
-use Rattle.p9_client.proofs.Exchanged.{answer_in, exchanged, exchanges-both, next-tag_past, nothing-exchanged}
-use Rattle.p9_client.proofs.Exchanged.{nothing-received, paired, received-both, received-one}
+use Rattle.p9_client.proofs.Exchanged.{exchanged, exchanges-both, finds-both, finds-none, finds-one, next-tag_past}
+use Rattle.p9_client.proofs.Exchanged.{nothing-exchanged, paired}
 
 -- the answers to reads of parts gave all of them
 abbrev pub GiveAll : (size : ℕ → ℕ) (from to : ℕ) → List Answer → List ℕ → Type 0
@@ -173,41 +172,112 @@ reads-both fid at (x ∷ xs) ys front back first more =
       | inr h ↦ inr (h.0, reads-both fid at xs ys front back h.1 more)
     ]
 
+-- the answers to so many reads of parts are found, from a first tag on, and gave all of their parts
+pub record HasTakenReads (arrived : List (List ℕ)) (most len first tag count total : ℕ)
+    (bytes : List ℕ) : Type 0 where
+  pub answers : List Answer
+  pub tag_is : tag ≡ tag_past first answers
+  pub found : Finds arrived first count answers
+  pub given : GiveAll (part_size most len) 0 total answers bytes
+
+pub no-reads-taken : (arrived : List (List ℕ)) (most len first : ℕ)
+    → HasTakenReads arrived most len first first 0 0 []
+no-reads-taken arrived most len first =
+    record {
+      answers = [];
+      tag_is = refl;
+      found = finds-none arrived first;
+      given = (refl, refl);
+    }
+
+-- a further part was given whole
+pub read-taken : (arrived : List (List ℕ)) (most len first tag count total : ℕ)
+    (bytes piece : List ℕ) → HasTakenReads arrived most len first tag count total bytes
+    → FindsReply arrived tag (Rread piece) → length piece ≡ part_size most len total
+    → HasTakenReads arrived most len first (next_tag tag) (count + 1) (total + length piece)
+    (bytes ++ piece)
+read-taken arrived most len first tag count total bytes piece before next whole =
+    let last : Answer = record { frame = next.frame; reply = Rread piece } in
+    record {
+      answers = before.answers ++ last ∷ [];
+      tag_is = next-tag_past first tag before.answers last before.tag_is;
+      found = finds-both arrived first tag count 1 (count + 1) before.answers (last ∷ []) before.found
+          before.tag_is (finds-one arrived tag (Rread piece) next) refl;
+      given = subst (λ (t : ℕ). GiveAll (part_size most len) 0 t (before.answers ++ last ∷ [])
+          (bytes ++ piece)) (ap (λ (n : ℕ). total + n) (sym whole))
+          (given-more (part_size most len) 0 total before.answers bytes last piece (bytes ++ piece)
+          before.given refl whole refl);
+    }
+
+-- none was short
+pub reads-taken : (arrived : List (List ℕ)) (most len first tag count total : ℕ) (bytes : List ℕ)
+    → HasTakenReads arrived most len first tag count total bytes → count ≡ length arrived
+    → TakesReads arrived first most len bytes
+reads-taken arrived most len first tag count total bytes taken all = (
+  taken.answers,
+  subst (λ (n : ℕ). Finds arrived first n taken.answers) all taken.found,
+  given-all (part_size most len) 0 total taken.answers bytes taken.given,
+)
+
+-- the next one was, and what those after it give was dropped
+pub short-taken : (arrived : List (List ℕ)) (most len first tag count total left : ℕ)
+    (bytes piece : List ℕ) → HasTakenReads arrived most len first tag count total bytes
+    → FindsReply arrived tag (Rread piece) → length piece < part_size most len total
+    → FindsReplies arrived (next_tag tag) left → count + 1 + left ≡ length arrived
+    → TakesReads arrived first most len (bytes ++ piece)
+short-taken arrived most len first tag count total left bytes piece before next short drops all =
+    let last : Answer = record { frame = next.frame; reply = Rread piece } in
+    let others : List Answer = drops.0 in (
+      before.answers ++ last ∷ others,
+      finds-both arrived first tag count (1 + left) (length arrived) before.answers (last ∷ others)
+          before.found before.tag_is
+          (finds-both arrived tag (next_tag tag) 1 left (1 + left) (last ∷ []) others
+          (finds-one arrived tag (Rread piece) next) refl drops.1 refl) (omega (arith, all)),
+      given-short (part_size most len) 0 total before.answers bytes last others piece
+          (bytes ++ piece) before.given refl short refl,
+    )
+
 module _ {S : Type 0} (remaining contents : S → Option (List ℕ)) where
   -- reads of parts were sent, and their answers taken
   pub read-ahead : (fid start most len to count : ℕ) (requests : List TMessage)
-      (answers : List Answer) (bytes : List ℕ) (old mid new : Talk S)
+      (arrived : List (List ℕ)) (answers : List Answer) (bytes : List ℕ) (old mid new : Talk S)
       → Sent remaining contents requests old mid
       → AskInTurn (read_part fid start most len) (part_size most len) 0 to requests
-      → Received remaining contents old.tag answers mid new
+      → Arrives remaining contents arrived mid new
+      → Finds arrived old.tag (length arrived) answers
       → GiveParts (part_size most len) 0 answers bytes → length requests ≡ count
-      → length answers ≡ count → 0 < count → ReadsOn remaining contents fid start bytes old new
-  read-ahead fid start most len to count requests answers bytes old mid new sent asked received
-      given asked-count answered-count some =
-      let both = paired requests answers (asked-count ∙ sym answered-count) in
-      from_paired fid start most len to both.exchanges bytes old mid new
+      → length arrived ≡ count → 0 < count → count ≤ ahead_max
+      → ReadsOn remaining contents fid start bytes old new
+  read-ahead fid start most len to count requests arrived answers bytes old mid new sent asked
+      arrives found given asked-count arrived-count some few =
+      let both = paired requests answers (omega (arith, asked-count, arrived-count, found.long)) in
+      from_paired fid start most len to both.exchanges arrived bytes old mid new
       (subst (λ (rs : List TMessage). Sent remaining contents rs old mid) (sym both.asked) sent)
       (subst (AskInTurn (read_part fid start most len) (part_size most len) 0 to) (sym both.asked)
-      asked)
-      (subst (λ (xs : List Answer). Received remaining contents old.tag xs mid new) (sym both.answered)
-      received)
+      asked) arrives
+      (subst (λ (xs : List Answer). Finds arrived old.tag (length arrived) xs) (sym both.answered)
+      found)
       (subst (λ (xs : List Answer). GiveParts (part_size most len) 0 xs bytes) (sym both.answered)
-      given) (omega (arith, ap length both.asked))
+      given) (omega (arith, ap length both.asked)) (omega (arith, arrived-count, few))
     where
-      from_paired : (fid start most len to : ℕ) (es : List Exchange) (bytes : List ℕ)
-          (old mid new : Talk S) → Sent remaining contents (requests_of es) old mid
+      from_paired : (fid start most len to : ℕ) (es : List Exchange) (arrived : List (List ℕ))
+          (bytes : List ℕ) (old mid new : Talk S) → Sent remaining contents (requests_of es) old mid
           → AskInTurn (read_part fid start most len) (part_size most len) 0 to (requests_of es)
-          → Received remaining contents old.tag (answers_of es) mid new
+          → Arrives remaining contents arrived mid new
+          → Finds arrived old.tag (length arrived) (answers_of es)
           → GiveParts (part_size most len) 0 (answers_of es) bytes
-          → 0 < length (requests_of es) → ReadsOn remaining contents fid start bytes old new
-      from_paired fid start most len to [] bytes old mid new sent asked received given some =
+          → 0 < length (requests_of es) → length arrived ≤ ahead_max
+          → ReadsOn remaining contents fid start bytes old new
+      from_paired fid start most len to [] arrived bytes old mid new sent asked arrives found given
+          some few =
           absurd (omega arith)
-      from_paired fid start most len to (e ∷ es) bytes old mid new sent asked received given some =
+      from_paired fid start most len to (e ∷ es) arrived bytes old mid new sent asked arrives found
+          given some few =
           let at : start + 0 ≡ start = omega arith in
           record {
             first = e;
             others = es;
-            exchanged = exchanged remaining contents (e ∷ es) old mid new sent received;
+            exchanged = exchanged remaining contents (e ∷ es) arrived old mid new sent arrives found few;
             given = subst (λ (t : ℕ). Reads fid t (e ∷ es) bytes) at
                 (reads-on fid start most len 0 to (e ∷ es) bytes asked given);
             ends = first-ends fid start most len to e es bytes asked given;
@@ -255,117 +325,38 @@ module _ {S : Type 0} (remaining contents : S → Option (List ℕ)) where
             mid new read.exchanged more.exchanged;
         given = read.given;
         ended = subst (λ (t : ℕ). ReadsAt fid t [] more.first) (sym here) (more.ends none);
+        behind = subst (λ (t : ℕ). Reads fid t (more.first ∷ more.others) []) (sym here)
+            (subst (Reads fid at (more.first ∷ more.others)) none more.given);
       }
-
-  -- the answers to so many reads of parts were taken, from a first tag on, and gave all of their parts
-  pub record HasTakenReads (most len first tag count total : ℕ) (bytes : List ℕ)
-      (old new : Talk S) : Type 0 where
-    pub answers : List Answer
-    pub long : length answers ≡ count
-    pub tag_is : tag ≡ tag_past first answers
-    pub received : Received remaining contents first answers old new
-    pub given : GiveAll (part_size most len) 0 total answers bytes
-
-  pub no-reads-taken : (most len first : ℕ) (s : Talk S) → HasTakenReads most len first first 0 0 [] s s
-  no-reads-taken most len first s =
-      record {
-        answers = [];
-        long = refl;
-        tag_is = refl;
-        received = nothing-received remaining contents first s;
-        given = (refl, refl);
-      }
-
-  -- a further part was given whole
-  pub read-taken : (most len first tag count total : ℕ) (bytes piece : List ℕ) (old mid new : Talk S)
-      → HasTakenReads most len first tag count total bytes old mid
-      → TakesRead remaining contents tag mid new piece → length piece ≡ part_size most len total
-      → HasTakenReads most len first (next_tag tag) (count + 1) (total + length piece)
-      (bytes ++ piece) old new
-  read-taken most len first tag count total bytes piece old mid new before takes whole =
-      let last = answer_in new.reply (Rread piece) in
-      record {
-        answers = before.answers ++ last ∷ [];
-        long = omega (arith, before.long, length-append before.answers (last ∷ []));
-        tag_is = next-tag_past first tag before.answers last before.tag_is;
-        received = received-both remaining contents first tag before.answers (last ∷ []) old mid new
-            before.received before.tag_is
-            (received-one remaining contents tag (Rread piece) mid new takes.received takes.is);
-        given = subst (λ (t : ℕ). GiveAll (part_size most len) 0 t (before.answers ++ last ∷ [])
-            (bytes ++ piece)) (ap (λ (n : ℕ). total + n) (sym whole))
-            (given-more (part_size most len) 0 total before.answers bytes last piece (bytes ++ piece)
-            before.given refl whole refl);
-      }
-
-  -- none was short
-  pub reads-taken : (most len first tag count total : ℕ) (bytes : List ℕ) (old new : Talk S)
-      → HasTakenReads most len first tag count total bytes old new → most ≡ old.msize - 24
-      → TakesReads remaining contents first count len old new bytes
-  reads-taken most len first tag count total bytes old new taken most_is = (
-    taken.answers,
-    taken.long,
-    taken.received,
-    subst (λ (m : ℕ). GiveParts (part_size m len) 0 taken.answers bytes) most_is
-        (given-all (part_size most len) 0 total taken.answers bytes taken.given),
-  )
-
-  -- the next one was, and what came after it was dropped
-  pub short-taken : (most len first tag count total left all : ℕ) (bytes piece : List ℕ)
-      (old mid late new : Talk S) → HasTakenReads most len first tag count total bytes old mid
-      → TakesRead remaining contents tag mid late piece → length piece < part_size most len total
-      → DropsReplies remaining contents (next_tag tag) left late new → all ≡ count + 1 + left
-      → most ≡ old.msize - 24
-      → TakesReads remaining contents first all len old new (bytes ++ piece)
-  short-taken most len first tag count total left all bytes piece old mid late new before takes short
-      drops all_is most_is =
-      let last = answer_in late.reply (Rread piece) in
-      let others = drops.0 in (
-        before.answers ++ last ∷ others,
-        omega (
-          arith,
-          all_is,
-          before.long,
-          drops.1,
-          length-append before.answers (last ∷ others),
-        ),
-        received-both remaining contents first tag before.answers (last ∷ others) old mid new
-            before.received before.tag_is
-            (received-both remaining contents tag (next_tag tag) (last ∷ []) others mid late new
-            (received-one remaining contents tag (Rread piece) mid late takes.received takes.is) refl
-            drops.2),
-        subst (λ (m : ℕ). GiveParts (part_size m len) 0 (before.answers ++ last ∷ others)
-            (bytes ++ piece)) most_is
-            (given-short (part_size most len) 0 total before.answers bytes last others piece
-            (bytes ++ piece) before.given refl short refl),
-      )
 
   -- reads of parts were sent, and what they came to was taken
-  pub read-ahead-ok : (fid start len count tag : ℕ) (out out' : Option (List ℕ))
-      (old mid new : Talk S) (result : Result ℕ FileError) → 0 < len
+  pub read-ahead-ok : (fid start len count tag most total : ℕ) (arrived : List (List ℕ))
+      (out out' : Option (List ℕ)) (old mid new : Talk S) → 0 < len
       → SendsReads remaining contents fid start len old mid count
-      → (0 < len → 0 < count × (mid.failed ≡ false)) → tag ≡ old.tag
-      → IfOk result (λ total. (total ≤ len) × ((bytes : List ℕ) × (length bytes ≡ total)
-      × TakesReads remaining contents tag count len mid new bytes × Appends out out' bytes))
-      → IfOk result (λ total. (total ≤ len) × (new.failed ≡ false) × (new.msize ≡ old.msize)
+      → (0 < len → 0 < count × (mid.failed ≡ false)) → count ≤ ahead_max → tag ≡ old.tag
+      → ArrivesAll remaining contents count mid new arrived → most ≡ new.msize - 24
+      → (total ≤ len) × ((bytes : List ℕ) × (length bytes ≡ total)
+      × TakesReads arrived tag most len bytes × Appends out out' bytes)
+      → (total ≤ len) × (new.failed ≡ false) × (new.msize ≡ old.msize)
       × ((bytes : List ℕ) × (length bytes ≡ total)
-      × ReadsOn remaining contents fid start bytes old new × Appends out out' bytes))
-  read-ahead-ok fid start len count tag out out' old mid new (Ok total) some sends alive tag_is ok =
+      × ReadsOn remaining contents fid start bytes old new × Appends out out' bytes)
+  read-ahead-ok fid start len count tag most total arrived out out' old mid new some sends alive few
+      tag_is arrives most_is ok =
       let bytes : List ℕ = ok.1.0 in
       let takes = ok.1.2 in
-      let most : mid.msize - 24 ≡ old.msize - 24 = ap (λ (m : ℕ). m - 24) sends.2.msize_is in (
+      let msize : new.msize ≡ old.msize = arrives.1.msize_is ∙ sends.2.msize_is in
+      let most' : most ≡ old.msize - 24 = most_is ∙ ap (λ (m : ℕ). m - 24) msize in (
         ok.0,
-        takes.2.goes_on ∙ (alive some).1,
-        takes.2.msize_is ∙ sends.2.msize_is,
+        arrives.1.goes_on ∙ (alive some).1,
+        msize,
         (
           bytes,
           ok.1.1,
-          read-ahead fid start (old.msize - 24) len sends.3.0 count sends.0 takes.0 bytes old mid new
-              sends.2 sends.3.1
-              (subst (λ (t : ℕ). Received remaining contents t takes.0 mid new) tag_is takes.2)
-              (subst (λ (m : ℕ). GiveParts (part_size m len) 0 takes.0 bytes) most takes.3)
-              sends.1 takes.1 (alive some).0,
+          read-ahead fid start (old.msize - 24) len sends.3.0 count sends.0 arrived takes.0 bytes old
+              mid new sends.2 sends.3.1 arrives.1
+              (subst (λ (t : ℕ). Finds arrived t (length arrived) takes.0) tag_is takes.1)
+              (subst (λ (m : ℕ). GiveParts (part_size m len) 0 takes.0 bytes) most' takes.2) sends.1
+              arrives.0 (alive some).0 few,
           ok.1.3,
         ),
       )
-  read-ahead-ok fid start len count tag out out' old mid new (Err error) some sends alive tag_is ok =
-      tt

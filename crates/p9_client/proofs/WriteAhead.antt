@@ -1,15 +1,14 @@
 -- What writes ahead write of bytes to a file.
 use Rattle.std.proofs.Common.{◌≡◌, ℕ, ◌+◌, ◌-◌, ◌<◌, ◌≤◌, ◌∙◌, List, [], ◌∷◌, ◌++◌, Option, ap, arith}
-use Rattle.std.proofs.Common.{Err, IfOk, Ok, Result, false, inl, inr, length, length-append, refl, subst, sym}
+use Rattle.std.proofs.Common.{false, inl, inr, length, refl, subst, sym}
 use Rattle.p9_wire.specs.Message.{Rwrite, TMessage}
-use Rattle.p9_client.specs.declared.file_error.FileError.{FileError}
-use Rattle.p9_client.specs.Ahead.{Answer, AskInTurn, DropsReplies, Exchange, Received, SendsWrites}
-use Rattle.p9_client.specs.Ahead.{Sent, TakeParts, TakesWrite, TakesWrites, answers_of, part_size, requests_of, tag_past}
+use Rattle.p9_client.specs.Ahead.{Answer, Arrives, ArrivesAll, AskInTurn, Exchange, Finds, FindsReplies, FindsReply, SendsWrites}
+use Rattle.p9_client.specs.Ahead.{Sent, TakeParts, TakesWrites, ahead_max, answers_of, part_size, requests_of, tag_past}
 use Rattle.p9_client.specs.Ahead.{write_part}
 use Rattle.p9_client.specs.Files.{Writes, WritesAt, WritesOn}
 use Rattle.p9_client.specs.Session.{Talk, next_tag}
-use Rattle.p9_client.proofs.Exchanged.{answer_in, exchanged, exchanges-both, next-tag_past, nothing-exchanged}
-use Rattle.p9_client.proofs.Exchanged.{nothing-received, paired, received-both, received-one}
+use Rattle.p9_client.proofs.Exchanged.{exchanged, exchanges-both, finds-both, finds-none, finds-one, next-tag_past}
+use Rattle.p9_client.proofs.Exchanged.{nothing-exchanged, paired}
 
 -- the answers to writes of parts say that all of them were written
 abbrev pub TakeAll : (size : ℕ → ℕ) (from to : ℕ) → List Answer → ℕ → Type 0
@@ -129,24 +128,92 @@ writes-both fid bytes from mid to (x ∷ xs) ys first more =
       | inr h ↦ inr (h.0, writes-both fid bytes from mid to xs ys h.1 more)
     ]
 
+-- the answers to so many writes of parts are found, from a first tag on, and say that all of them were
+-- written
+pub record HasTakenWrites (arrived : List (List ℕ)) (most len first tag count total : ℕ)
+    : Type 0 where
+  pub answers : List Answer
+  pub tag_is : tag ≡ tag_past first answers
+  pub found : Finds arrived first count answers
+  pub taken : TakeAll (part_size most len) 0 total answers total
+
+pub no-writes-taken : (arrived : List (List ℕ)) (most len first : ℕ)
+    → HasTakenWrites arrived most len first first 0 0
+no-writes-taken arrived most len first =
+    record {
+      answers = [];
+      tag_is = refl;
+      found = finds-none arrived first;
+      taken = (refl, refl);
+    }
+
+-- a further part was written whole
+pub write-taken : (arrived : List (List ℕ)) (most len first tag count total part : ℕ)
+    → HasTakenWrites arrived most len first tag count total → FindsReply arrived tag (Rwrite part)
+    → part ≡ part_size most len total
+    → HasTakenWrites arrived most len first (next_tag tag) (count + 1) (total + part)
+write-taken arrived most len first tag count total part before next whole =
+    let last : Answer = record { frame = next.frame; reply = Rwrite part } in
+    record {
+      answers = before.answers ++ last ∷ [];
+      tag_is = next-tag_past first tag before.answers last before.tag_is;
+      found = finds-both arrived first tag count 1 (count + 1) before.answers (last ∷ []) before.found
+          before.tag_is (finds-one arrived tag (Rwrite part) next) refl;
+      taken = subst (λ (t : ℕ). TakeAll (part_size most len) 0 t (before.answers ++ last ∷ [])
+          (total + part)) (ap (λ (n : ℕ). total + n) (sym whole))
+          (taken-more (part_size most len) 0 total before.answers total last part (total + part)
+          before.taken refl whole refl);
+    }
+
+-- none was short
+pub writes-taken : (arrived : List (List ℕ)) (most len first tag count total : ℕ)
+    → HasTakenWrites arrived most len first tag count total → count ≡ length arrived
+    → TakesWrites arrived first most len total
+writes-taken arrived most len first tag count total taken all = (
+  taken.answers,
+  subst (λ (n : ℕ). Finds arrived first n taken.answers) all taken.found,
+  taken-all (part_size most len) 0 total taken.answers total taken.taken,
+)
+
+-- the next one was, and what those after it say was dropped
+pub short-write-taken : (arrived : List (List ℕ)) (most len first tag count total part left : ℕ)
+    → HasTakenWrites arrived most len first tag count total → FindsReply arrived tag (Rwrite part)
+    → part < part_size most len total → FindsReplies arrived (next_tag tag) left
+    → count + 1 + left ≡ length arrived → TakesWrites arrived first most len (total + part)
+short-write-taken arrived most len first tag count total part left before next short drops all =
+    let last : Answer = record { frame = next.frame; reply = Rwrite part } in
+    let others : List Answer = drops.0 in (
+      before.answers ++ last ∷ others,
+      finds-both arrived first tag count (1 + left) (length arrived) before.answers (last ∷ others)
+          before.found before.tag_is
+          (finds-both arrived tag (next_tag tag) 1 left (1 + left) (last ∷ []) others
+          (finds-one arrived tag (Rwrite part) next) refl drops.1 refl) (omega (arith, all)),
+      taken-short (part_size most len) 0 total before.answers total last others part (total + part)
+          before.taken refl short refl,
+    )
+
 module _ {S : Type 0} (remaining contents : S → Option (List ℕ)) where
   -- writes of parts were sent, and their answers taken
   pub write-ahead : (fid start most len to total : ℕ) (bytes : List ℕ) (requests : List TMessage)
-      (answers : List Answer) (old mid new : Talk S) → Sent remaining contents requests old mid
+      (arrived : List (List ℕ)) (answers : List Answer) (old mid new : Talk S)
+      → Sent remaining contents requests old mid
       → AskInTurn (write_part fid start most len bytes) (part_size most len) 0 to requests
-      → Received remaining contents old.tag answers mid new
+      → Arrives remaining contents arrived mid new
+      → Finds arrived old.tag (length arrived) answers
       → TakeParts (part_size most len) 0 answers total → length requests ≡ length answers
+      → length arrived ≤ ahead_max
       → WritesOn remaining contents fid bytes start (start + total) old new
-  write-ahead fid start most len to total bytes requests answers old mid new sent asked received
-      taken same =
+  write-ahead fid start most len to total bytes requests arrived answers old mid new sent asked
+      arrives found taken same few =
       let both = paired requests answers same in
       let at : start + 0 ≡ start = omega arith in
       record {
         exchanges = both.exchanges;
-        exchanged = exchanged remaining contents both.exchanges old mid new
+        exchanged = exchanged remaining contents both.exchanges arrived old mid new
             (subst (λ (rs : List TMessage). Sent remaining contents rs old mid) (sym both.asked) sent)
-            (subst (λ (xs : List Answer). Received remaining contents old.tag xs mid new)
-            (sym both.answered) received);
+            arrives
+            (subst (λ (xs : List Answer). Finds arrived old.tag (length arrived) xs)
+            (sym both.answered) found) few;
         written = subst (λ (t : ℕ). Writes fid bytes t (start + total) both.exchanges) at
             (writes-on fid start most len bytes 0 to total (start + total) both.exchanges
             (subst (AskInTurn (write_part fid start most len bytes) (part_size most len) 0 to)
@@ -178,106 +245,26 @@ module _ {S : Type 0} (remaining contents : S → Option (List ℕ)) where
             more.written;
       }
 
-  -- the answers to so many writes of parts were taken, from a first tag on, and say that all of them
-  -- were written
-  pub record HasTakenWrites (most len first tag count total : ℕ) (old new : Talk S) : Type 0 where
-    pub answers : List Answer
-    pub long : length answers ≡ count
-    pub tag_is : tag ≡ tag_past first answers
-    pub received : Received remaining contents first answers old new
-    pub taken : TakeAll (part_size most len) 0 total answers total
-
-  pub no-writes-taken : (most len first : ℕ) (s : Talk S) → HasTakenWrites most len first first 0 0 s s
-  no-writes-taken most len first s =
-      record {
-        answers = [];
-        long = refl;
-        tag_is = refl;
-        received = nothing-received remaining contents first s;
-        taken = (refl, refl);
-      }
-
-  -- a further part was written whole
-  pub write-taken : (most len first tag count total part : ℕ) (old mid new : Talk S)
-      → HasTakenWrites most len first tag count total old mid
-      → TakesWrite remaining contents tag mid new part → part ≡ part_size most len total
-      → HasTakenWrites most len first (next_tag tag) (count + 1) (total + part) old new
-  write-taken most len first tag count total part old mid new before takes whole =
-      let last = answer_in new.reply (Rwrite part) in
-      record {
-        answers = before.answers ++ last ∷ [];
-        long = omega (arith, before.long, length-append before.answers (last ∷ []));
-        tag_is = next-tag_past first tag before.answers last before.tag_is;
-        received = received-both remaining contents first tag before.answers (last ∷ []) old mid new
-            before.received before.tag_is
-            (received-one remaining contents tag (Rwrite part) mid new takes.received takes.is);
-        taken = subst (λ (t : ℕ). TakeAll (part_size most len) 0 t (before.answers ++ last ∷ [])
-            (total + part)) (ap (λ (n : ℕ). total + n) (sym whole))
-            (taken-more (part_size most len) 0 total before.answers total last part (total + part)
-            before.taken refl whole refl);
-      }
-
-  -- none was short
-  pub writes-taken : (most len first tag count total : ℕ) (old new : Talk S)
-      → HasTakenWrites most len first tag count total old new → most ≡ old.msize - 24
-      → TakesWrites remaining contents first count len old new total
-  writes-taken most len first tag count total old new taken most_is = (
-    taken.answers,
-    taken.long,
-    taken.received,
-    subst (λ (m : ℕ). TakeParts (part_size m len) 0 taken.answers total) most_is
-        (taken-all (part_size most len) 0 total taken.answers total taken.taken),
-  )
-
-  -- the next one was, and what came after it was dropped
-  pub short-write-taken : (most len first tag count total part left all : ℕ)
-      (old mid late new : Talk S) → HasTakenWrites most len first tag count total old mid
-      → TakesWrite remaining contents tag mid late part → part < part_size most len total
-      → DropsReplies remaining contents (next_tag tag) left late new → all ≡ count + 1 + left
-      → most ≡ old.msize - 24
-      → TakesWrites remaining contents first all len old new (total + part)
-  short-write-taken most len first tag count total part left all old mid late new before takes short
-      drops all_is most_is =
-      let last = answer_in late.reply (Rwrite part) in
-      let others = drops.0 in (
-        before.answers ++ last ∷ others,
-        omega (
-          arith,
-          all_is,
-          before.long,
-          drops.1,
-          length-append before.answers (last ∷ others),
-        ),
-        received-both remaining contents first tag before.answers (last ∷ others) old mid new
-            before.received before.tag_is
-            (received-both remaining contents tag (next_tag tag) (last ∷ []) others mid late new
-            (received-one remaining contents tag (Rwrite part) mid late takes.received takes.is) refl
-            drops.2),
-        subst (λ (m : ℕ). TakeParts (part_size m len) 0 (before.answers ++ last ∷ others)
-            (total + part)) most_is
-            (taken-short (part_size most len) 0 total before.answers total last others part
-            (total + part) before.taken refl short refl),
-      )
-
   -- writes of parts were sent, and what they came to was taken
-  pub write-ahead-ok : (fid start len count tag : ℕ) (bytes : List ℕ) (old mid new : Talk S)
-      (result : Result ℕ FileError) → 0 < len
+  pub write-ahead-ok : (fid start len count tag most total : ℕ) (bytes : List ℕ)
+      (arrived : List (List ℕ)) (old mid new : Talk S) → 0 < len
       → SendsWrites remaining contents fid start len bytes old mid count
-      → (0 < len → 0 < count × (mid.failed ≡ false)) → tag ≡ old.tag
-      → IfOk result (λ total. (total ≤ len)
-      × TakesWrites remaining contents tag count len mid new total)
-      → IfOk result (λ total. (total ≤ len) × (new.failed ≡ false) × (new.msize ≡ old.msize)
-      × WritesOn remaining contents fid bytes start (start + total) old new)
-  write-ahead-ok fid start len count tag bytes old mid new (Ok total) some sends alive tag_is ok =
+      → (0 < len → 0 < count × (mid.failed ≡ false)) → count ≤ ahead_max → tag ≡ old.tag
+      → ArrivesAll remaining contents count mid new arrived → most ≡ new.msize - 24
+      → (total ≤ len) × TakesWrites arrived tag most len total
+      → (total ≤ len) × (new.failed ≡ false) × (new.msize ≡ old.msize)
+      × WritesOn remaining contents fid bytes start (start + total) old new
+  write-ahead-ok fid start len count tag most total bytes arrived old mid new some sends alive few
+      tag_is arrives most_is ok =
       let takes = ok.1 in
-      let most : mid.msize - 24 ≡ old.msize - 24 = ap (λ (m : ℕ). m - 24) sends.2.msize_is in (
+      let msize : new.msize ≡ old.msize = arrives.1.msize_is ∙ sends.2.msize_is in
+      let most' : most ≡ old.msize - 24 = most_is ∙ ap (λ (m : ℕ). m - 24) msize in (
         ok.0,
-        takes.2.goes_on ∙ (alive some).1,
-        takes.2.msize_is ∙ sends.2.msize_is,
-        write-ahead fid start (old.msize - 24) len sends.3.0 total bytes sends.0 takes.0 old mid new
-            sends.2 sends.3.1
-            (subst (λ (t : ℕ). Received remaining contents t takes.0 mid new) tag_is takes.2)
-            (subst (λ (m : ℕ). TakeParts (part_size m len) 0 takes.0 total) most takes.3)
-            (sends.1 ∙ sym takes.1),
+        arrives.1.goes_on ∙ (alive some).1,
+        msize,
+        write-ahead fid start (old.msize - 24) len sends.3.0 total bytes sends.0 arrived takes.0 old mid
+            new sends.2 sends.3.1 arrives.1
+            (subst (λ (t : ℕ). Finds arrived t (length arrived) takes.0) tag_is takes.1)
+            (subst (λ (m : ℕ). TakeParts (part_size m len) 0 takes.0 total) most' takes.2)
+            (omega (arith, sends.1, arrives.0, takes.1.long)) (omega (arith, arrives.0, few)),
       )
-  write-ahead-ok fid start len count tag bytes old mid new (Err error) some sends alive tag_is ok = tt

@@ -1,13 +1,13 @@
 -- Requests ahead: several are written before the replies to them are read.
-use Rattle.std.specs.Prelude.{◌≡◌, ℕ, ◌+◌, ◌-◌, ◌<◌, ◌⊎◌, min, List, [], ◌∷◌, ◌++◌, Option, length, map}
+use Rattle.std.specs.Prelude.{◌≡◌, ℕ, ◌+◌, ◌-◌, ◌<◌, ◌≤◌, ◌⊎◌, min, List, [], ◌∷◌, ◌++◌, Option, length, map}
 use Rattle.std.specs.Prelude.{drop, take}
 use Rattle.std.specs.Io.KnownBytes.{Appends, Consumes, Keeps}
-use Rattle.std.specs.List.{flat_map}
+use Rattle.std.specs.List.{All, Contains, concat, flat_map}
 use Rattle.p9_wire.specs.Message.{TMessage, RMessage, Rread, Rwrite, Tread, Twrite}
 use Rattle.p9_wire.specs.Spelling.{t_spelling}
 use Rattle.p9_client.specs.Frame.{HasSize}
 use Rattle.p9_client.specs.Reply.{IsReply}
-use Rattle.p9_client.specs.Session.{Receives, Talk, next_tag}
+use Rattle.p9_client.specs.Session.{Talk, next_tag}
 
 -- the frame of a reply, and what it is
 pub record Answer : Type 0 where
@@ -51,6 +51,43 @@ abbrev pub AreAnswers : ℕ → List Answer → Type 0
 AreAnswers tag [] = Unit {0}
 AreAnswers tag (answer ∷ answers) = IsAnswer tag answer × AreAnswers (next_tag tag) answers
 
+-- the most requests that are sent before the first of their replies is read
+abbrev pub ahead_max : ℕ
+ahead_max = 8
+
+-- what came of requests that were sent together: the frames, in the order in which they were read,
+-- and the answers, in the order of the requests
+pub record Round : Type 0 where
+  pub arrived : List (List ℕ)
+  pub answers : List Answer
+
+-- the answers are among the frames that were read, which are as many
+pub record IsRound (round : Round) : Type 0 where
+  pub few : length round.answers ≤ ahead_max
+  pub sizes : All HasSize round.arrived
+  pub as_many : length round.arrived ≡ length round.answers
+  pub among : All (λ answer. Contains round.arrived answer.frame) round.answers
+
+-- the frames of rounds, in the order in which they were read
+abbrev pub arrived_in : List Round → List ℕ
+arrived_in rounds = flat_map (λ round. concat round.arrived) rounds
+
+-- so many answers, each the reply with the next tag, are among these frames
+pub record Finds (arrived : List (List ℕ)) (tag count : ℕ) (answers : List Answer) : Type 0 where
+  pub long : length answers ≡ count
+  pub answered : AreAnswers tag answers
+  pub among : All (λ answer. Contains arrived answer.frame) answers
+
+-- so many replies are among these frames
+abbrev pub FindsReplies : (arrived : List (List ℕ)) (tag count : ℕ) → Type 0
+FindsReplies arrived tag count = (answers : List Answer) × Finds arrived tag count answers
+
+-- one of these frames is the reply with the tag
+pub record FindsReply (arrived : List (List ℕ)) (tag : ℕ) (reply : RMessage) : Type 0 where
+  pub frame : List ℕ
+  pub is_there : Contains arrived frame
+  pub is : IsAnswer tag (record { frame = frame; reply = reply })
+
 -- requests for parts of a file, from a place on: each is for the part after that of the one before,
 -- which is not empty
 abbrev pub AskInTurn : (request : ℕ → TMessage) (size : ℕ → ℕ) (from to : ℕ) → List TMessage
@@ -90,6 +127,19 @@ TakeParts size from (answer ∷ answers) total =
     × ((rest : ℕ) × (total ≡ count + rest) × TakeParts size (from + size from) answers rest))
     ⊎ ((count < size from) × (total ≡ count)))
 
+-- the replies to reads of the parts of so many bytes are among these frames, and this is what they give
+abbrev pub TakesReads : (arrived : List (List ℕ)) (tag most len : ℕ) → List ℕ → Type 0
+TakesReads arrived tag most len bytes =
+    (answers : List Answer) × Finds arrived tag (length arrived) answers
+    × GiveParts (part_size most len) 0 answers bytes
+
+-- the replies to writes of the parts of so many bytes are among these frames, and they say that so
+-- many bytes were written
+abbrev pub TakesWrites : (arrived : List (List ℕ)) (tag most len total : ℕ) → Type 0
+TakesWrites arrived tag most len total =
+    (answers : List Answer) × Finds arrived tag (length arrived) answers
+    × TakeParts (part_size most len) 0 answers total
+
 module _ {S : Type 0} (remaining contents : S → Option (List ℕ)) where
   -- these requests were written, each with the next tag, and nothing was read
   pub record Sent (requests : List TMessage) (old new : Talk S) : Type 0 where
@@ -100,31 +150,32 @@ module _ {S : Type 0} (remaining contents : S → Option (List ℕ)) where
     pub msize_is : new.msize ≡ old.msize
     pub goes_on : new.failed ≡ old.failed
 
-  -- these answers were read, from this tag on, and nothing was written
-  pub record Received (tag : ℕ) (answers : List Answer) (old new : Talk S) : Type 0 where
-    pub read : Consumes (remaining old.stream) (remaining new.stream) (frames answers)
+  -- these frames were read, and nothing was written
+  pub record Arrives (arrived : List (List ℕ)) (old new : Talk S) : Type 0 where
+    pub read : Consumes (remaining old.stream) (remaining new.stream) (concat arrived)
+    pub sizes : All HasSize arrived
     pub unwritten : Keeps (contents old.stream) (contents new.stream)
-    pub answered : AreAnswers tag answers
     pub tag_is : new.tag ≡ old.tag
     pub msize_is : new.msize ≡ old.msize
     pub goes_on : new.failed ≡ old.failed
 
-  -- these requests were written, each with the next tag, and these answers to them read, in the same
-  -- order
+  -- so many frames were read
+  abbrev pub ArrivesAll : (count : ℕ) (old new : Talk S) → List (List ℕ) → Type 0
+  ArrivesAll count old new arrived = (length arrived ≡ count) × Arrives arrived old new
+
+  -- these requests were written, each with the next tag, and these answers to them read: those to
+  -- requests that were sent together in any order
   pub record Exchanges (exchanges : List Exchange) (old new : Talk S) : Type 0 where
     pub written : Appends (contents old.stream) (contents new.stream)
         (spelled_from old.tag (requests_of exchanges))
-    pub read : Consumes (remaining old.stream) (remaining new.stream)
-        (frames (answers_of exchanges))
+    pub rounds : List Round
+    pub each : All IsRound rounds
+    pub in_rounds : flat_map (λ round. round.answers) rounds ≡ answers_of exchanges
+    pub read : Consumes (remaining old.stream) (remaining new.stream) (arrived_in rounds)
     pub answered : AreAnswers old.tag (answers_of exchanges)
     pub tag_is : new.tag ≡ tag_past old.tag exchanges
     pub msize_is : new.msize ≡ old.msize
     pub goes_on : new.failed ≡ old.failed
-
-  -- the replies to so many requests were read, from this tag on
-  abbrev pub DropsReplies : (tag count : ℕ) (old new : Talk S) → Type 0
-  DropsReplies tag count old new =
-      (answers : List Answer) × (length answers ≡ count) × Received tag answers old new
 
   -- reads of the parts of so many bytes after a place were written
   abbrev pub SendsReads : (fid start len : ℕ) (old new : Talk S) → (count : ℕ) → Type 0
@@ -133,22 +184,6 @@ module _ {S : Type 0} (remaining contents : S → Option (List ℕ)) where
       (requests : List TMessage) × (length requests ≡ count) × Sent requests old new
       × ((to : ℕ) × AskInTurn (read_part fid start most len) (part_size most len) 0 to requests)
 
-  -- the reply to a read was read, which has these bytes
-  pub record TakesRead (tag : ℕ) (old new : Talk S) (bytes : List ℕ) : Type 0 where
-    pub received : Receives remaining contents old new
-    pub is : IsReply new.reply tag (Rread bytes)
-
-  -- the reply to a write was read, which says this count
-  pub record TakesWrite (tag : ℕ) (old new : Talk S) (count : ℕ) : Type 0 where
-    pub received : Receives remaining contents old new
-    pub is : IsReply new.reply tag (Rwrite count)
-
-  -- the replies to reads of the parts of so many bytes were read, and this is what they give
-  abbrev pub TakesReads : (tag count len : ℕ) (old new : Talk S) → List ℕ → Type 0
-  TakesReads tag count len old new bytes =
-      (answers : List Answer) × (length answers ≡ count) × Received tag answers old new
-      × GiveParts (part_size (old.msize - 24) len) 0 answers bytes
-
   -- writes of the parts of so many bytes after a place were written
   abbrev pub SendsWrites : (fid start len : ℕ) (bytes : List ℕ) (old new : Talk S) → (count : ℕ)
       → Type 0
@@ -156,10 +191,3 @@ module _ {S : Type 0} (remaining contents : S → Option (List ℕ)) where
       let most = old.msize - 24 in
       (requests : List TMessage) × (length requests ≡ count) × Sent requests old new
       × ((to : ℕ) × AskInTurn (write_part fid start most len bytes) (part_size most len) 0 to requests)
-
-  -- the replies to writes of the parts of so many bytes were read, and they say that so many bytes
-  -- were written
-  abbrev pub TakesWrites : (tag count len : ℕ) (old new : Talk S) → (total : ℕ) → Type 0
-  TakesWrites tag count len old new total =
-      (answers : List Answer) × (length answers ≡ count) × Received tag answers old new
-      × TakeParts (part_size (old.msize - 24) len) 0 answers total

@@ -141,6 +141,7 @@ module _ {S : Type 0} (remaining contents : S → Option (List ℕ)) where
     pub exchanged : Exchanges remaining contents (exchanges ++ last ∷ dropped) old new
     pub given : Reads fid 0 exchanges bytes
     pub ended : ReadsAt fid (length bytes) [] last
+    pub behind : Reads fid (length bytes) (last ∷ dropped) []
 
   -- writes ahead wrote bytes to a file, from a place to another
   pub record WritesOn (fid : ℕ) (bytes : List ℕ) (from to : ℕ) (old new : Talk S) : Type 0 where

@@ -1,13 +1,12 @@
 //! Requests ahead: several reads or writes are sent before the first of their replies is read.
 
-ghost use Rattle.std.specs.Prelude.{◌≡◌, false, true, IfOk, IfErr, IsTrue};
-ghost use Rattle.p9_client.specs.Ahead.{DropsReplies};
-ghost use Rattle.p9_client.specs.Files.{ends_file};
+ghost use Rattle.std.specs.Prelude.{◌≡◌, false, true, IfErr, IfOk, IsTrue};
+ghost use Rattle.p9_client.specs.Ahead.{ArrivesAll};
+ghost use Rattle.p9_client.specs.Reason.{ends};
 
 use crate::error::ClientError;
-use crate::file_error::FileError;
-use crate::reply::{Asked, dropped_reply};
-use crate::session::{Session, tag_after};
+use crate::replies::Replies;
+use crate::session::Session;
 use crate::stream::Stream;
 use std::alloc::Allocator;
 
@@ -15,50 +14,39 @@ use std::alloc::Allocator;
 pub const AHEAD_MAX: usize = 8;
 
 impl<S: Stream + Drop, A: Allocator + Copy> Session<S, A> {
-    // Reads the replies to so many reads or writes, of which the first has this tag, and drops what
-    // they give. A refusal is dropped too.
-    pub(crate) fn drop_replies(
+    // Reads the replies to so many requests that were sent, the first with this tag, in the order in
+    // which they come. Where one is not kept, but the session goes on, all others are read too.
+    pub(crate) fn receive_replies(
         &mut self,
-        asked: Asked,
         first: u16,
         count: usize,
-    ) -> Result<(), ClientError>
+    ) -> Result<Replies<A>, ClientError>
         requires { self.old.failed ≡ false }
-        ensures ok { IfOk result (λ nothing. DropsReplies S.remaining S.contents first count self.old
-            self.new) }
+        ensures ok { IfOk result (ArrivesAll S.remaining S.contents count self.old self.new) }
+        ensures err { IfErr result (λ error. IsTrue (ends error) → self.new.failed ≡ true) }
+    {
+        let mut replies = Replies::new(self.alloc());
+        for at in 0..count {
+            self.receive()?;
+            let kept = replies.keep(first, count, self.reply());
+            if let Err(error) = self.settled(kept) {
+                self.drop_replies(count - at - 1)?;
+                return Err(error);
+            }
+        }
+        Ok(replies)
+    }
+
+    // Reads so many frames, and drops them, where the session has not failed.
+    fn drop_replies(&mut self, count: usize) -> Result<(), ClientError>
+        ensures failed { self.old.failed ≡ true → self.new.failed ≡ true }
         ensures err { IfErr result (λ error. self.new.failed ≡ true) }
     {
-        let most = self.data_max();
-        let mut tag = first;
         let mut left = count;
-        while left > 0 {
+        while left > 0 && !self.is_failed() {
             self.receive()?;
-            let dropped = dropped_reply(asked, tag, self.reply(), most);
-            self.settled(dropped)?;
-            tag = tag_after(tag);
             left -= 1;
         }
         Ok(())
-    }
-
-    // An error of a reply, after which so many replies are still to come, the first with this tag. They
-    // are dropped, where the session goes on. Where that fails, its error is returned.
-    pub(crate) fn ended_ahead(
-        &mut self,
-        error: FileError,
-        asked: Asked,
-        first: u16,
-        count: usize,
-    ) -> FileError
-        requires { IsTrue (ends_file error) → self.old.failed ≡ true }
-        ensures { IsTrue (ends_file result) → self.new.failed ≡ true }
-    {
-        if self.is_failed() {
-            return error;
-        }
-        match self.drop_replies(asked, first, count) {
-            Ok(()) => error,
-            Err(dropped) => FileError::Session(dropped),
-        }
     }
 }

@@ -1,8 +1,9 @@
 //! A client of 9P2000 over any stream of two directions.
 //!
 //! A call of a [`Session`] asks one request, and takes the one frame that answers it. A whole file is
-//! read and written by several requests at once. A session trusts no server: a reply that is not the
-//! one that was asked for is an error, and after such an error it neither writes nor reads again.
+//! read and written by several requests at once, whose replies may come in any order. A session
+//! trusts no server: a reply that is not one that was asked for is an error, and after such an error
+//! it neither writes nor reads again.
 #![tactic(auto)]
 
 mod ahead;
@@ -14,6 +15,7 @@ mod listing;
 mod paths;
 mod reading;
 mod reason;
+mod replies;
 mod reply;
 mod session;
 mod stream;

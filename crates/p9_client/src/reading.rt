@@ -2,12 +2,14 @@
 
 ghost use Rattle.std.specs.Prelude.{◌≡◌, ℕ, ◌+◌, ◌-◌, ◌<◌, ◌≤◌, ◌^◌, false, true, IfErr, IfOk, IsTrue, List, length};
 ghost use Rattle.std.specs.Io.KnownBytes.{Appends};
-ghost use Rattle.p9_client.specs.Ahead.{SendsReads, TakesRead, TakesReads};
+ghost use Rattle.p9_wire.specs.Message.{Rread};
+ghost use Rattle.p9_client.specs.Ahead.{FindsReply, SendsReads, TakesReads, ahead_max};
 ghost use Rattle.p9_client.specs.Files.{GoesOn, ReadsFile, ReadsOn, ends_file};
 
 use crate::ahead::AHEAD_MAX;
 use crate::error::ClientError;
 use crate::file_error::FileError;
+use crate::replies::Replies;
 use crate::reply::{Asked, read_bytes};
 use crate::session::{Session, tag_after};
 use crate::stream::Stream;
@@ -72,20 +74,26 @@ impl<S: Stream + Drop, A: Allocator + Copy> Session<S, A> {
     {
         let tag = self.tag();
         let count = self.send_reads(fid, start, len)?;
-        self.take_reads(tag, count, len, out)
+        let replies = self.receive_replies(tag, count)?;
+        match take_reads(&replies, tag, self.data_max(), len, out) {
+            Ok(read) => Ok(read),
+            Err(error) => Err(self.ended_by(error)),
+        }
     }
 
-    // Sends reads of the parts of so many bytes after an offset. Returns how many these are.
+    // Sends reads of the parts of so many bytes after an offset, up to `AHEAD_MAX`. Returns how many
+    // these are.
     fn send_reads(&mut self, fid: u32, start: u64, len: usize) -> Result<usize, ClientError>
         requires fits { start + len < 2 ^ 64 }
         ensures ok { IfOk result (SendsReads S.remaining S.contents fid start len self.old self.new) }
         ensures some { IfOk result (λ count. 0 < len → 0 < count × (self.new.failed ≡ false)) }
+        ensures few { IfOk result (λ count. count ≤ ahead_max) }
         ensures err { IfErr result (λ error. self.new.failed ≡ true) }
     {
         let most = self.data_max();
         let mut count = 0;
         let mut at = 0;
-        while at < len {
+        while at < len && count < AHEAD_MAX {
             let size = most.min(len - at);
             let tag = self.tag();
             self.send(
@@ -101,65 +109,53 @@ impl<S: Stream + Drop, A: Allocator + Copy> Session<S, A> {
         }
         Ok(count)
     }
+}
 
-    // Takes the replies to so many reads of the parts of so many bytes, the first with this tag. Their
-    // bytes are written to the writer, up to those of the first that is short, and what comes after
-    // it is dropped. Returns how many bytes were written.
-    fn take_reads<W: Write>(
-        &mut self,
-        first: u16,
-        count: usize,
-        len: usize,
-        out: &mut W,
-    ) -> Result<usize, FileError>
-        requires { self.old.failed ≡ false }
-        ensures ok { IfOk result (λ total. (total ≤ len) × ((bytes : List ℕ) × (length bytes ≡ total)
-            × TakesReads S.remaining S.contents first count len self.old self.new bytes
-            × Appends (W.contents out.old) (W.contents out.new) bytes)) }
-        ensures err { IfErr result (λ error. IsTrue (ends_file error) → self.new.failed ≡ true) }
-    {
-        let most = self.data_max();
-        let mut tag = first;
-        let mut total = 0;
-        for at in 0..count {
-            let size = most.min(len - total);
-            let taken = self.take_read(tag, size, out);
-            tag = tag_after(tag);
-            let left = count - at - 1;
-            match taken {
-                Ok(read) if read < size => {
-                    self.drop_replies(Asked::Read, tag, left)?;
-                    return Ok(total + read);
-                }
-                Ok(read) => total += read,
-                Err(error) => return Err(self.ended_ahead(error, Asked::Read, tag, left)),
-            }
+// Takes the replies to reads of the parts of so many bytes, the first with this tag. Their bytes are
+// written to the writer, up to those of the first that is short, and what those after it give is
+// dropped. Returns how many bytes were written.
+fn take_reads<W: Write, A: Allocator + Copy>(
+    replies: &Replies<A>,
+    first: u16,
+    most: usize,
+    len: usize,
+    out: &mut W,
+) -> Result<usize, FileError>
+    ensures { IfOk result (λ total. (total ≤ len) × ((bytes : List ℕ) × (length bytes ≡ total)
+        × TakesReads replies.now first most len bytes
+        × Appends (W.contents out.old) (W.contents out.new) bytes)) }
+{
+    let mut tag = first;
+    let mut total = 0;
+    for at in 0..replies.len() {
+        let size = most.min(len - total);
+        let read = take_read(replies, tag, size, out)?;
+        tag = tag_after(tag);
+        total += read;
+        if read < size {
+            replies.drop_from(Asked::Read, tag, replies.len() - at - 1, most)?;
+            return Ok(total);
         }
-        Ok(total)
     }
+    Ok(total)
+}
 
-    // Takes the reply to a read of at most so many bytes, and writes its bytes to the writer. Returns
-    // how many these are.
-    fn take_read<W: Write>(
-        &mut self,
-        tag: u16,
-        most: usize,
-        out: &mut W,
-    ) -> Result<usize, FileError>
-        requires { self.old.failed ≡ false }
-        ensures ok { IfOk result (λ count. (count ≤ most) × ((bytes : List ℕ)
-            × (length bytes ≡ count) × TakesRead S.remaining S.contents tag self.old self.new bytes
-            × Appends (W.contents out.old) (W.contents out.new) bytes)) }
-        ensures err { IfErr result (λ error. IsTrue (ends_file error) → self.new.failed ≡ true) }
-    {
-        self.receive()?;
-        match read_bytes(tag, self.reply(), most) {
-            Ok(bytes) => match out.write_all(bytes) {
-                Ok(()) => Ok(bytes.len()),
-                Err(error) => Err(output_error(error)),
-            },
-            Err(error) => Err(self.ended_by(FileError::Session(error))),
-        }
+// Takes the reply to a read of at most so many bytes, and writes its bytes to the writer. Returns how
+// many these are.
+fn take_read<W: Write, A: Allocator + Copy>(
+    replies: &Replies<A>,
+    tag: u16,
+    most: usize,
+    out: &mut W,
+) -> Result<usize, FileError>
+    ensures { IfOk result (λ count. (count ≤ most) × ((bytes : List ℕ) × (length bytes ≡ count)
+        × FindsReply replies.now tag (Rread bytes)
+        × Appends (W.contents out.old) (W.contents out.new) bytes)) }
+{
+    let bytes = read_bytes(tag, replies.with_tag(tag)?, most)?;
+    match out.write_all(bytes) {
+        Ok(()) => Ok(bytes.len()),
+        Err(error) => Err(output_error(error)),
     }
 }
 

@@ -354,9 +354,14 @@ impl<S: Stream + Drop, A: Allocator + Copy> Session<S, A> {
         self.msize - AROUND_DATA
     }
 
+    // What the session allocates by.
+    pub(crate) fn alloc(&self) -> A {
+        *self.frame.allocator()
+    }
+
     // Room for the bytes that a read gives.
     pub(crate) fn chunk(&self) -> Result<Vec<u8, A>, NoMemory> {
-        Ok(vec![in *self.frame.allocator(); 0; self.msize - AROUND_DATA]?)
+        Ok(vec![in self.alloc(); 0; self.msize - AROUND_DATA]?)
     }
 
     // An error of a listing or of a file, after which the session has failed where that ends it, and

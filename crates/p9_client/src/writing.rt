@@ -1,13 +1,14 @@
 //! A file that is written whole.
 
 ghost use Rattle.std.specs.Prelude.{◌≡◌, ◌+◌, ◌-◌, ◌<◌, ◌≤◌, ◌^◌, false, true, IfErr, IfOk, IsTrue, length};
-ghost use Rattle.p9_client.specs.Ahead.{SendsWrites, TakesWrite, TakesWrites};
+ghost use Rattle.p9_client.specs.Ahead.{SendsWrites, TakesWrites, ahead_max};
 ghost use Rattle.p9_client.specs.Files.{GoesOn, WritesOn, ends_file};
 ghost use Rattle.p9_client.specs.Reason.{ends};
 
 use crate::ahead::AHEAD_MAX;
 use crate::error::ClientError;
 use crate::file_error::FileError;
+use crate::replies::Replies;
 use crate::reply::{Asked, written_count};
 use crate::session::{Session, tag_after};
 use crate::stream::Stream;
@@ -63,10 +64,13 @@ impl<S: Stream + Drop, A: Allocator + Copy> Session<S, A> {
     {
         let tag = self.tag();
         let count = self.send_writes(fid, bytes, start, len)?;
-        self.take_writes(tag, count, len)
+        let replies = self.receive_replies(tag, count)?;
+        let taken = take_writes(&replies, tag, self.data_max(), len);
+        Ok(self.settled(taken)?)
     }
 
-    // Sends the parts of so many of the bytes from a place on. Returns how many these are.
+    // Sends the parts of so many of the bytes from a place on, up to `AHEAD_MAX`. Returns how many
+    // these are.
     fn send_writes(
         &mut self,
         fid: u32,
@@ -78,12 +82,13 @@ impl<S: Stream + Drop, A: Allocator + Copy> Session<S, A> {
         ensures ok { IfOk result (SendsWrites S.remaining S.contents fid start len bytes.now self.old
             self.new) }
         ensures some { IfOk result (λ count. 0 < len → 0 < count × (self.new.failed ≡ false)) }
+        ensures few { IfOk result (λ count. count ≤ ahead_max) }
         ensures err { IfErr result (λ error. self.new.failed ≡ true) }
     {
         let most = self.data_max();
         let mut count = 0;
         let mut at = 0;
-        while at < len {
+        while at < len && count < AHEAD_MAX {
             let size = most.min(len - at);
             let tag = self.tag();
             let offset = start + at;
@@ -100,52 +105,30 @@ impl<S: Stream + Drop, A: Allocator + Copy> Session<S, A> {
         }
         Ok(count)
     }
+}
 
-    // Takes the replies to so many writes of the parts of so many bytes, the first with this tag.
-    // Returns how many bytes were written up to the end of the first part that was not written whole.
-    // The replies after it are dropped.
-    fn take_writes(&mut self, first: u16, count: usize, len: usize) -> Result<usize, FileError>
-        requires { self.old.failed ≡ false }
-        ensures ok { IfOk result (λ total. (total ≤ len)
-            × TakesWrites S.remaining S.contents first count len self.old self.new total) }
-        ensures err { IfErr result (λ error. IsTrue (ends_file error) → self.new.failed ≡ true) }
-    {
-        let most = self.data_max();
-        let mut tag = first;
-        let mut total = 0;
-        for at in 0..count {
-            let size = most.min(len - total);
-            let taken = self.take_write(tag, size);
-            tag = tag_after(tag);
-            let left = count - at - 1;
-            match taken {
-                Ok(written) if written < size => {
-                    self.drop_replies(Asked::Write, tag, left)?;
-                    return Ok(total + written);
-                }
-                Ok(written) => total += written,
-                Err(error) => {
-                    return Err(self.ended_ahead(
-                        FileError::Session(error),
-                        Asked::Write,
-                        tag,
-                        left,
-                    ));
-                }
-            }
+// Takes the replies to writes of the parts of so many bytes, the first with this tag. Returns how many
+// bytes were written up to the end of the first part that was not written whole. What the replies
+// after it say does not matter.
+fn take_writes<A: Allocator + Copy>(
+    replies: &Replies<A>,
+    first: u16,
+    most: usize,
+    len: usize,
+) -> Result<usize, ClientError>
+    ensures { IfOk result (λ total. (total ≤ len) × TakesWrites replies.now first most len total) }
+{
+    let mut tag = first;
+    let mut total = 0;
+    for at in 0..replies.len() {
+        let size = most.min(len - total);
+        let written = written_count(tag, replies.with_tag(tag)?, size)?;
+        tag = tag_after(tag);
+        total += written;
+        if written < size {
+            replies.drop_from(Asked::Write, tag, replies.len() - at - 1, most)?;
+            return Ok(total);
         }
-        Ok(total)
     }
-
-    // Takes the reply to a write of so many bytes. Returns how many of them were written.
-    fn take_write(&mut self, tag: u16, size: usize) -> Result<usize, ClientError>
-        requires { self.old.failed ≡ false }
-        ensures ok { IfOk result (λ count. (count ≤ size)
-            × TakesWrite S.remaining S.contents tag self.old self.new count) }
-        ensures err { IfErr result (λ error. IsTrue (ends error) → self.new.failed ≡ true) }
-    {
-        self.receive()?;
-        let taken = written_count(tag, self.reply(), size);
-        self.settled(taken)
-    }
+    Ok(total)
 }

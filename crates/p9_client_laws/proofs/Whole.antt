@@ -5,22 +5,25 @@ use Rattle.std.proofs.Common.{Bool, Err, Ok, false, take, take-take, true}
 use Rattle.std.proofs.lemmas.Bool.Decides.{nat_tests}
 use Rattle.std.specs.Prelude.{if◌then◌else◌, nat_lt}
 use Rattle.std.proofs.Math.Seq.{take-add, take-length}
-use Rattle.std.proofs.lemmas.List.{length-drop, length-take, take_all}
+use Rattle.std.proofs.lemmas.List.{length-drop, length-map, length-take, take_all}
 use Rattle.std.specs.Io.KnownBytes.{Consumes}
-use Rattle.std.specs.List.{AllByRecursion}
+use Rattle.std.proofs.lemmas.List.Elements.{recursion_from_All}
+use Rattle.std.specs.List.{AllByRecursion, flat_map}
 use Rattle.std.specs.Option.{option_map_or}
 use Rattle.p9_wire.specs.Message.{RMessage, Rflush, Rread, TMessage, Tread}
 use Rattle.p9_wire.specs.Reading.{r_message_of}
 use Rattle.p9_wire.specs.Reply.{r_spelling}
 use Rattle.p9_wire.specs.Spelling.{TNumbersFit}
 use Rattle.p9_step.specs.State.{State}
-use Rattle.p9_client.specs.Ahead.{Answer, AreAnswers, Exchange, IsAnswer, answers_of, frames, requests_of}
+use Rattle.p9_client.specs.Ahead.{Answer, AreAnswers, Exchange, IsAnswer, IsRound, Round, answers_of, arrived_in, frames}
+use Rattle.p9_client.specs.Ahead.{requests_of}
 use Rattle.p9_client.specs.Files.{Reads, ReadsFile}
 use Rattle.p9_client.specs.Session.{Talk, next_tag}
 use Rattle.p9_client_laws.specs.Reading.{FileIsReadWhole, ReadGivesBytes}
 use Rattle.p9_client_laws.specs.Served.{HasFile, IsMsize, replies_from, request_step}
-use Rattle.p9_client_laws.proofs.Frames.{same-frames, spelling-read, spelling-size}
-use Rattle.p9_client_laws.proofs.Steps.{bytes_of, step-file, step-reply}
+use Rattle.p9_client_laws.proofs.Came.{came, next-fits}
+use Rattle.p9_client_laws.proofs.Rounds.{reads-ask, rounds-in-order}
+use Rattle.p9_client_laws.proofs.Steps.{bytes_of}
 
 -- what is read first of what is left
 left-of : (a b : Option (List ℕ)) (xs bs : List ℕ) → a ≡ Some xs → Consumes a b bs
@@ -46,25 +49,13 @@ served : (state : State) (name msize fid : ℕ) (bytes : List ℕ) (tag clock of
 served state name msize fid bytes tag clock offset count request answer more ys file room tag_fits
     numbers is answered left =
     let given : List ℕ = bytes_of msize offset count bytes in
-    let numbers' : TNumbersFit (Tread fid offset count) =
-    subst (λ (r : TMessage). TNumbersFit r) is numbers in
-    let reply : (request_step state name tag clock request).reply ≡ r_spelling tag (Rread given) =
-    ap (λ (r : TMessage). (request_step state name tag clock r).reply) is
-    ∙ step-reply state name msize fid bytes file room tag clock offset count tag_fits numbers' in
-    let short : 11 + length given < 2 ^ 32 =
-    omega (arith, length-take (min count (msize - 24)) (drop offset bytes), room.within) in
-    let same = same-frames (r_spelling tag (Rread given)) answer.frame more ys
-    (spelling-size tag given short) answered.size
-    (ap (λ (zs : List ℕ). zs ++ more) (sym reply) ∙ left) in
-    let both : Some (tag, answer.reply) ≡ Some (tag, Rread given) =
-    sym answered.is ∙ ap r_message_of (sym same.frames)
-    ∙ spelling-read tag given short tag_fits in
+    let one = came state name msize fid bytes tag clock offset count request answer.frame more ys file
+    room tag_fits numbers is answered.size left in
+    let both : Some (tag, answer.reply) ≡ Some (tag, Rread given) = sym answered.is ∙ one.is in
     record {
       reply_is = ap (λ (o : Option (ℕ × RMessage)). option_map_or (λ x. x.1) o Rflush) both;
-      behind = same.behind;
-      file = subst (λ (r : TMessage). HasFile (request_step state name tag clock r).state name msize fid
-          bytes) (sym is)
-          (step-file state name msize fid bytes file room tag clock offset count tag_fits numbers');
+      behind = one.behind;
+      file = one.file;
     }
 
 -- the first bytes of others are as many of them
@@ -103,14 +94,6 @@ record Remains (name msize fid : ℕ) (clock : ℕ → ℕ) (from : ℕ) (bytes 
   left : replies_from state name tag clock at (requests_of tail) ++ rest
       ≡ frames (answers_of tail) ++ ys
   given_is : given ≡ take (length given) (drop from bytes)
-
--- the next tag is one
-next-fits : (tag : ℕ) → tag < 2 ^ 16 → next_tag tag < 2 ^ 16
-next-fits tag fits = go (nat_lt tag 65534) refl
-  where
-    go : (test : Bool) → nat_lt tag 65534 ≡ test → (if test then tag + 1 else 0) < 2 ^ 16
-    go true is = let below : tag < 65534 = grind (arith, nat_tests, is) in omega (arith, below)
-    go false is = omega arith
 
 remains : (es tail : List Exchange) (state : State) (name msize fid tag at from : ℕ) (clock : ℕ → ℕ)
     (bytes given rest ys : List ℕ) → IsMsize msize → HasFile state name msize fid bytes
@@ -199,8 +182,26 @@ module _ {S : Type 0} (remaining contents : S → Option (List ℕ)) where
       let tail : List Exchange = whole.last ∷ whole.dropped in
       let front = left-of (remaining old.stream) (remaining new.stream) _ _ left
       whole.exchanged.read in
+      let exchanges : List Exchange = whole.exchanges ++ tail in
+      let answers : List Answer = flat_map (λ (r : Round). r.answers) whole.exchanged.rounds in
+      let in_rounds : answers ≡ answers_of exchanges = whole.exchanged.in_rounds in
+      let in_order : arrived_in whole.exchanged.rounds ≡ frames answers =
+      rounds-in-order whole.exchanged.rounds (requests_of exchanges) state name msize fid old.tag 0
+      clock bytes rest front.0 room file tag_fits
+      (recursion_from_All IsRound whole.exchanged.rounds whole.exchanged.each)
+      (omega (
+        arith,
+        ap length in_rounds,
+        length-map exchanges (λ (e : Exchange). e.request),
+        length-map exchanges (λ (e : Exchange). e.answer),
+      )) numbers
+      (reads-ask fid 0 (length read) whole.exchanges tail read [] whole.given whole.behind)
+      (subst (AreAnswers old.tag) (sym in_rounds) whole.exchanged.answered) front.1 in
+      let frames_are : replies_from state name old.tag clock 0 (requests_of exchanges) ++ rest
+      ≡ frames (answers_of exchanges) ++ front.0 =
+      front.1 ∙ ap (λ (zs : List ℕ). zs ++ front.0) (in_order ∙ ap frames in_rounds) in
       let end = remains whole.exchanges tail state name msize fid old.tag 0 0 clock bytes read rest
-      front.0 room file tag_fits numbers whole.exchanged.answered whole.given front.1 in
+      front.0 room file tag_fits numbers whole.exchanged.answered whole.given frames_are in
       let step = request_step end.state name end.tag (clock end.at) whole.last.request in
       let others : List ℕ =
       replies_from step.state name (next_tag end.tag) clock (end.at + 1)

@@ -22,6 +22,7 @@ loop-at-preserved g c =
         c.data_max-most.ensures.some,
         c.loop-at.invariant.counted,
       );
+      few = omega (arith, c.if-count-lt-AHEAD_MAX.true);
       some = λ h. omega arith;
       alive = λ h. c.in_ok-send.ensures.goes_on;
       msize = c.in_ok-send.ensures.msize_is ∙ c.loop-at.invariant.msize;

@@ -7,6 +7,7 @@ abbrev pub invariant-loop-at : goal.invariant-loop-at
 invariant-loop-at g l = record {
   within : l.at ≤ l.len;
   counted : l.count ≤ l.at;
+  few : l.count ≤ 8;
   some : 0 < l.at → 0 < l.count;
   alive : 0 < l.count → l.self.failed ≡ false;
   msize : l.self.msize ≡ l.fn.self.msize;

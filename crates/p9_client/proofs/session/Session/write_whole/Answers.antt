@@ -1,7 +1,18 @@
-use Rattle.std.proofs.Common.{◌∙◌, ◌+◌, ◌<◌, ◌^◌, arith}
-use Rattle.p9_client.proofs.WriteAhead.{more-written}
+use Rattle.std.proofs.Common.{◌∙◌, ◌+◌, ◌<◌, ◌^◌, arith, refl}
+use Rattle.p9_client.proofs.WriteAhead.{more-written, nothing-written}
 use Rattle.p9_client.proofs.session.Session.write_whole.Goals as goal
 use Rattle.p9_client.proofs.session.Session.write_whole.Goals.{then-count-len, else-count-len}
+
+pub loop-written-init : goal.loop-written-init
+loop-written-init g c =
+    record {
+      within = omega arith;
+      failed = refl;
+      some = c.data_max-most.ensures.some;
+      small = omega (arith, c.data_max-most.ensures.small);
+      wrote = nothing-written g.S.Read.remaining g.S.Write.contents c.args.fid c.args.bytes.now 0
+          c.args.self.now;
+    }
 
 pub loop-written-preserved : goal.loop-written-preserved
 loop-written-preserved g c =
