@@ -1,7 +1,7 @@
 -- The answers to requests that were sent together are in the order in which they came, where the frames
 -- came in the order of the tags.
 use Rattle.std.proofs.Common.{◌≡◌, ◌∙◌, ℕ, ◌+◌, ◌<◌, ◌≤◌, ◌^◌, ◌⊎◌, List, [], ◌∷◌, ◌++◌, Some, ap}
-use Rattle.std.proofs.Common.{Bool, arith, false, inl, inr, length, refl, subst, sym, true}
+use Rattle.std.proofs.Common.{Bool, arith, false, inl, inr, length, refl, subst, suc, sym, true, zero}
 use Rattle.std.proofs.lemmas.Bool.Decides.{nat_tests}
 use Rattle.std.specs.Prelude.{if◌then◌else◌, nat_lt, slice_index_or}
 use Rattle.std.specs.List.{AllByRecursion, Contains, concat}
@@ -68,11 +68,8 @@ off-other first count some few off =
     ]
 
 off-first : (first : ℕ) → first < 2 ^ 16 → Off first 1 (next_tag first)
-off-first first fits = off-next first 0 first fits fits (omega arith) here
-  where
-    here : Off first 0 first
-    unfolding Off
-    here = inl (omega arith)
+unfolding Off
+off-first first fits = off-next first 0 first fits fits (omega arith) (inl (omega arith))
 
 -- one frame is the reply with one tag
 one-tag : (frame other : List ℕ) (t u : ℕ) (m n : RMessage) → IsReply frame t m → IsReply other u n
@@ -101,7 +98,7 @@ not-behind : (first count tag : ℕ) (fs : List (List ℕ)) (frame : List ℕ) (
 not-behind first count tag [] frame m first_fits tag_fits off some few in_order is there =
     omega (arith, there.1)
 not-behind first count tag (f ∷ fs) frame m first_fits tag_fits off some few in_order is there =
-    elim head-or-tail f fs frame there [
+    elim (head-or-tail f fs frame there) [
       | inl same ↦
           let tags : tag ≡ first = one-tag f frame tag first in_order.0.0 m in_order.0.1 is same in
           off-other first count some (omega (arith, few)) (subst (Off first count) tags off)
@@ -119,7 +116,7 @@ rest-among : (first count tag : ℕ) (f : List ℕ) (fs : List (List ℕ)) (answ
 rest-among first count tag f fs [] m first_fits tag_fits off some few is answered among = tt
 rest-among first count tag f fs (a ∷ answers) m first_fits tag_fits off some few is answered among =
     let there : Contains fs a.frame =
-    elim head-or-tail f fs a.frame among.0 [
+    elim (head-or-tail f fs a.frame among.0) [
       | inl same ↦
           let tags : first ≡ tag = one-tag f a.frame first tag m a.reply is answered.0.is same in
           absurd (off-other first count some (omega (arith, few))
@@ -142,7 +139,7 @@ same-order tag [] (a ∷ answers) fits as_many few in_order answered among = abs
 same-order tag (f ∷ fs) [] fits as_many few in_order answered among = absurd (omega (arith, as_many))
 same-order tag (f ∷ fs) (a ∷ answers) fits as_many few in_order answered among =
     let first : f ≡ a.frame =
-    elim head-or-tail f fs a.frame among.0 [
+    elim (head-or-tail f fs a.frame among.0) [
       | inl same ↦ same
       | inr later ↦ absurd (not-behind tag 1 (next_tag tag) fs a.frame a.reply fits (next-fits tag fits)
         (off-first tag fits) (omega arith) (omega (arith, as_many, few)) in_order.1 answered.0.is later)

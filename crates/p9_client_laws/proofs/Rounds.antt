@@ -1,7 +1,7 @@
 -- The exporter replies in the order of the requests, so its replies to reads that were sent together are
 -- read in this order too.
 use Rattle.std.proofs.Common.{◌≡◌, ◌∙◌, ℕ, ◌+◌, ◌<◌, ◌≤◌, ◌^◌, List, [], ◌∷◌, ◌++◌, ap, append_assoc}
-use Rattle.std.proofs.Common.{append-nil, arith, length, length-append, refl, subst, sym}
+use Rattle.std.proofs.Common.{arith, inl, inr, length, length-append, refl, subst, sym}
 use Rattle.std.proofs.lemmas.List.Concat.{flat_map-append}
 use Rattle.std.proofs.lemmas.List.Elements.{recursion_from_All}
 use Rattle.std.specs.List.{AllByRecursion, Contains, concat, flat_map}
@@ -76,7 +76,7 @@ leaves [] requests state name msize fid tag at clock bytes rest ys room file tag
     record {
       in_order = tt;
       others = requests;
-      long = refl;
+      long = omega arith;
       state = state;
       at = at;
       file = file;
