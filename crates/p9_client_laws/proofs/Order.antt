@@ -142,7 +142,7 @@ same-order tag (f ∷ fs) (a ∷ answers) fits as_many few in_order answered amo
     elim (head-or-tail f fs a.frame among.0) [
       | inl same ↦ same
       | inr later ↦ absurd (not-behind tag 1 (next_tag tag) fs a.frame a.reply fits (next-fits tag fits)
-        (off-first tag fits) (omega arith) (omega (arith, as_many, few)) in_order.1 answered.0.is later)
+          (off-first tag fits) (omega arith) (omega (arith, as_many, few)) in_order.1 answered.0.is later)
     ] in
     let others = same-order (next_tag tag) fs answers (next-fits tag fits) (omega (arith, as_many))
     (omega (arith, few)) in_order.1 answered.1

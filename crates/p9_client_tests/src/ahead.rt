@@ -118,28 +118,26 @@ fn nothing_written_is_an_error(rt: HostRuntime) {
     write(&rt, rt.alloc(), PIECE + 1, Fault::Short(1), "stuck");
 }
 
-// The first request is alone, and then eight at a time are on their way. The last of these is never
-// late.
 #[test]
-fn replies_out_of_order_are_an_error(rt: HostRuntime) {
-    for request in 0..17 {
-        let wanted = if request % 8 == 0 {
-            "done"
-        } else {
-            "other tag"
-        };
-        read(&rt, rt.alloc(), 17 * PIECE, Fault::Late(request), wanted);
-        write(&rt, rt.alloc(), 17 * PIECE, Fault::Late(request), wanted);
+fn replies_may_come_in_any_order(rt: HostRuntime) {
+    for request in 0..25 {
+        read(&rt, rt.alloc(), 17 * PIECE, Fault::Late(request), "done");
+        write(&rt, rt.alloc(), 17 * PIECE, Fault::Late(request), "done");
     }
-    // These are of reads behind the end.
-    for request in 18..24 {
-        read(
-            &rt,
-            rt.alloc(),
-            17 * PIECE,
-            Fault::Late(request),
-            "other tag",
-        );
+    for pieces in [1, 2, 9, 10, 17, 30] {
+        read(&rt, rt.alloc(), pieces * PIECE, Fault::Backwards, "done");
+        write(&rt, rt.alloc(), pieces * PIECE, Fault::Backwards, "done");
+    }
+}
+
+// No further reply is waited for.
+#[test]
+fn a_reply_to_another_tag_is_an_error(rt: HostRuntime) {
+    for request in 0..17 {
+        for fault in [Fault::OtherTag(request), Fault::Again(request)] {
+            read(&rt, rt.alloc(), 17 * PIECE, fault, "other tag");
+            write(&rt, rt.alloc(), 17 * PIECE, fault, "other tag");
+        }
     }
 }
 

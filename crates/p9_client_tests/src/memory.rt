@@ -1,11 +1,17 @@
 //! Each allocation of a listing and of a whole read refused in turn.
 
 use crate::kinds::file_kind_of;
+use crate::pieces::{Fault, Pieces};
 use crate::served::{Served, attach};
 use p9_client::{FileError, Session};
 use p9_testing::{Refusing, refuse_each};
 use std::alloc::Global;
 use std::process::Abort;
+
+// The msize of a session whose files are in many pieces, and how long such a file is.
+const MSIZE: usize = 256;
+
+const LONG: usize = 2_400;
 
 // Lists a directory and reads a file.
 fn read_both(
@@ -46,4 +52,36 @@ fn each_allocation_is_refused_in_turn(rt: HostRuntime) {
         |session| check(&rt, &memory, session),
     );
     assert!(rt; refusals > 10);
+}
+
+// Writes a file of many pieces and reads it. The session goes on, and is in step, where an allocation
+// fails.
+fn check_pieces(
+    rt: &impl Abort,
+    alloc: &Refusing<Global>,
+    mut session: Session<Pieces, &Refusing<Global>>,
+) {
+    let written = session.write_whole(1, &[7; LONG]);
+    let mut out = Vec::new(alloc);
+    let read = session.read_to(1, &mut out);
+    let is_whole = matches!(&read, Ok(count) if *count == LONG as u64);
+    assert!(rt; is_whole || written.is_err() || matches!(&read, Err(_)));
+    for error in [written.err(), read.err()].iter().flatten() {
+        assert!(rt; file_kind_of(error) == "no memory");
+    }
+    assert!(rt; session.clunk(1).is_ok());
+}
+
+#[test]
+fn each_allocation_of_replies_is_refused_in_turn(rt: HostRuntime) {
+    let memory = Refusing::new(rt.alloc());
+    let refusals = refuse_each(
+        &memory,
+        || {
+            let server = Pieces::new(rt.alloc(), Vec::new(rt.alloc()), Fault::Nothing);
+            Session::new(&memory, server, MSIZE).expect(&rt, "memory")
+        },
+        |session| check_pieces(&rt, &memory, session),
+    );
+    assert!(rt; refusals > 20);
 }

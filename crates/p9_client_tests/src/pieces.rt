@@ -17,6 +17,12 @@ pub enum Fault {
     Refused(usize),
     /// It answers the request after the one behind it, if that is there.
     Late(usize),
+    /// It answers the requests that wait in the order from the last to the first.
+    Backwards,
+    /// It answers the request by a tag that nobody waits for, and none after it.
+    OtherTag(usize),
+    /// It answers the request by the tag of the one before it, and none after it.
+    Again(usize),
     /// It says that it read or wrote one byte more than was asked.
     More(usize),
     /// It answers with another type.
@@ -110,14 +116,43 @@ impl Pieces {
             self.output.truncate(start);
             return Ok(());
         }
-        self.reply(request, tag, &message)?;
+        let start = self.output.len();
+        self.reply(request, self.tag_for(request, tag), &message)?;
         self.output.extend_from_slice(self.late.as_slice())?;
         self.late.clear();
+        if self.fault == Fault::Backwards {
+            let start = start.min(self.output.len());
+            let mut all = Vec::from_slice(*self.file.allocator(), &self.output[start..])?;
+            all.extend_from_slice(&self.output[..start])?;
+            self.output = all;
+        }
         Ok(())
+    }
+
+    // The tag of the reply to a request of this tag.
+    fn tag_for(&self, request: usize, tag: u16) -> u16 {
+        if self.fault == Fault::OtherTag(request) {
+            return tag.wrapping_add(100);
+        }
+        if self.fault == Fault::Again(request) {
+            return tag.wrapping_sub(1);
+        }
+        tag
+    }
+
+    // Whether a request is behind the last one that is answered.
+    fn is_ignored(&self, request: usize) -> bool {
+        match self.fault {
+            Fault::OtherTag(last) | Fault::Again(last) => last < request,
+            _ => false,
+        }
     }
 
     // Adds the reply to a request: what is read, or how many bytes were written; nothing for others.
     fn reply(&mut self, request: usize, tag: u16, message: &TMsg<'_>) -> io::Result<()> {
+        if self.is_ignored(request) {
+            return Ok(());
+        }
         if self.fault == Fault::Refused(request) {
             return self.put(107, tag, &[2, 0, b'n', b'o']);
         }
