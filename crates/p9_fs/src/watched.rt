@@ -37,8 +37,8 @@ impl Watched {
         })
     }
 
-    // Reports what went over the stream, where it is time for that. A failure to do so is none of the
-    // stream.
+    // Reports what went over the stream, where it is time for that. Where this fails the stream does
+    // not: the report is lost.
     fn report(&mut self) {
         let Some(next) = self.next else {
             return;

@@ -113,7 +113,7 @@ pub fn program<'a>(alloc: Global) -> Result<Command<'a>, AllocError> {
         .subcommand_required(true);
     let shell = Command::new(alloc, "sh").about("runs the commands of the standard input");
     let program = with_verbs(alloc, with_options(alloc, program));
-    with(program, Ok(shell))
+    with_subcommand(program, Ok(shell))
 }
 
 // Adds the options.
@@ -122,17 +122,17 @@ fn with_options<'a>(alloc: Global, program: Command<'a>) -> Result<Command<'a>, 
     let user = "the user to attach as, or else $USER, or none";
     let msize = "the most bytes of a message";
     let program = program.arg(option(alloc, "addr", 'a', "ADDR", addr).required(true));
-    let program = taking(program, option(alloc, "user", 'u', "USER", user));
-    let program = taking(
+    let program = with_arg(program, option(alloc, "user", 'u', "USER", user));
+    let program = with_arg(
         program,
         option(alloc, "aname", 'n', "ANAME", "the tree to attach"),
     );
     let msize = option(alloc, "msize", 'm', "MSIZE", msize);
-    taking(program, msize.value_parser(value_parser!(usize)))
+    with_arg(program, msize.value_parser(value_parser!(usize)))
 }
 
 // The program with a command more, if there is memory for both.
-fn with<'a>(
+fn with_subcommand<'a>(
     program: Result<Command<'a>, AllocError>,
     command: Result<Command<'a>, AllocError>,
 ) -> Result<Command<'a>, AllocError> {
@@ -140,7 +140,7 @@ fn with<'a>(
 }
 
 // The command with an option or a word more, if there is memory for it.
-fn taking<'a>(
+fn with_arg<'a>(
     command: Result<Command<'a>, AllocError>,
     arg: Arg<'a>,
 ) -> Result<Command<'a>, AllocError> {
@@ -240,10 +240,10 @@ fn with_verbs<'a>(
     alloc: Global,
     program: Result<Command<'a>, AllocError>,
 ) -> Result<Command<'a>, AllocError> {
-    let program = with(program, list_verb(alloc));
-    let mut program = with(program, get_verb(alloc));
+    let program = with_subcommand(program, list_verb(alloc));
+    let mut program = with_subcommand(program, get_verb(alloc));
     for shape in &SHAPES {
-        program = with(program, command_of(alloc, shape));
+        program = with_subcommand(program, command_of(alloc, shape));
     }
     program
 }
@@ -253,7 +253,7 @@ fn list_verb<'a>(alloc: Global) -> Result<Command<'a>, AllocError> {
     let command = Command::new(alloc, "ls")
         .about("lists a directory or a file")
         .arg(flag(alloc, "long", 'l', "in long lines"));
-    taking(command, word(alloc, "path", "PATH", false))
+    with_arg(command, word(alloc, "path", "PATH", false))
 }
 
 // The command that copies from the server.
@@ -262,8 +262,8 @@ fn get_verb<'a>(alloc: Global) -> Result<Command<'a>, AllocError> {
     let command = Command::new(alloc, "get")
         .about("copies a file from the server")
         .arg(flag(alloc, "recursive", 'r', recursive));
-    let command = taking(command, word(alloc, "path", "PATH", true));
-    taking(command, word(alloc, "local", "LOCAL", true))
+    let command = with_arg(command, word(alloc, "path", "PATH", true));
+    with_arg(command, word(alloc, "local", "LOCAL", true))
 }
 
 // A command of one or two words.
@@ -273,7 +273,7 @@ fn command_of<'a>(alloc: Global, shape: &Shape) -> Result<Command<'a>, AllocErro
         .about(shape.about)
         .arg(word(alloc, id, value, true));
     match shape.second {
-        Some((id, value)) => taking(command, word(alloc, id, value, true)),
+        Some((id, value)) => with_arg(command, word(alloc, id, value, true)),
         None => command,
     }
 }
