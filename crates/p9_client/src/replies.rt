@@ -97,8 +97,7 @@ impl<A: Allocator + Copy> Replies<A> {
         ensures there { IfOk result (λ frame. Contains self.now frame.now) }
         ensures size { IfOk result (λ frame. HasSize frame.now) }
     {
-        for at in 0..self.replies.len() {
-            let reply = &self.replies[at];
+        for reply in self.replies.as_slice() {
             if reply.tag == tag {
                 return Ok(reply.frame.as_slice());
             }

@@ -1,4 +1,4 @@
 use Rattle.p9_client.proofs.replies.Replies.with_tag.Given as goal
 
-abbrev pub invariant-loop-at : goal.invariant-loop-at
-invariant-loop-at g l = Unit {0}
+abbrev pub invariant-loop-reply : goal.invariant-loop-reply
+invariant-loop-reply g l = Unit {0}
