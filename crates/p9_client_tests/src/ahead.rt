@@ -1,8 +1,9 @@
 //! Whole files in pieces, of which several are on their way at once.
 
-use crate::kinds::file_kind_of;
+use crate::answered::Answered;
+use crate::kinds::outcome;
 use crate::pieces::{Fault, Pieces};
-use p9_client::{AHEAD_MAX, FileError, Session};
+use p9_client::{AHEAD_MAX, Session};
 use std::alloc::Global;
 use std::io;
 use std::io::{ErrorKind, Write};
@@ -22,202 +23,202 @@ fn file_of(rt: &impl Abort, alloc: Global, len: usize) -> Vec<u8, Global> {
     file
 }
 
-// A session with a server of this file.
+// What is done with the file of a server.
+#[derive(Clone, Copy, Debug)]
+enum Call {
+    Read,
+    Write,
+}
+
+// What is played: a call on a file of so many bytes, what the server does wrong at which request, and
+// the number of the stream's call that fails.
+#[derive(Clone, Copy, Debug)]
+struct Play {
+    call: Call,
+    len: usize,
+    fault: Fault,
+    place: usize,
+    broken: usize,
+}
+
+// A call on a file of so many bytes, where nothing goes wrong.
+fn fine(call: Call, len: usize) -> Play {
+    Play {
+        call,
+        len,
+        fault: Fault::Nothing,
+        place: 0,
+        broken: usize::MAX,
+    }
+}
+
+// A session with a server of this file, where this goes wrong.
 fn session_with(
     rt: &impl Abort,
     alloc: Global,
     file: Vec<u8, Global>,
-    fault: Fault,
-) -> Session<Pieces, Global> {
-    Session::new(alloc, Pieces::new(alloc, file, fault), MSIZE).expect(rt, "memory")
+    play: Play,
+) -> Session<Answered<Pieces>, Global> {
+    let server = Pieces::new(alloc, file, play.fault, play.place);
+    let mut stream = Answered::new(alloc, server);
+    stream.broken = play.broken;
+    Session::new(alloc, stream, MSIZE).expect(rt, "memory")
 }
 
-// What is left of a call: its name, or `done`.
-fn outcome<T>(came: &Result<T, FileError>) -> &'static str {
-    match came {
-        Ok(_) => "done",
-        Err(error) => file_kind_of(error),
+// Plays a call, which comes to what is wanted. Returns the most requests that were on their way at
+// once.
+fn check(rt: &impl Abort, alloc: Global, play: Play, wanted: &str) -> usize {
+    let bytes = file_of(rt, alloc, play.len);
+    match play.call {
+        Call::Read => {
+            let mut session = session_with(rt, alloc, bytes, play);
+            let mut out = Vec::new(alloc);
+            let came = outcome(&session.read_to(1, &mut out));
+            settle(rt, &mut session, out.as_slice(), came, wanted, play)
+        }
+        Call::Write => {
+            let mut session = session_with(rt, alloc, Vec::new(alloc), play);
+            let came = outcome(&session.write_whole(1, bytes.as_slice()));
+            settle(rt, &mut session, bytes.as_slice(), came, wanted, play)
+        }
     }
 }
 
-// Reads a file of so many bytes. Where all is done the bytes are those of the file. The session
-// then goes on, and so it does after a refusal.
-fn read(rt: &impl Abort, alloc: Global, len: usize, fault: Fault, wanted: &str) -> usize {
-    let mut session = session_with(rt, alloc, file_of(rt, alloc, len), fault);
-    let mut out = Vec::new(alloc);
-    let came = session.read_to(1, &mut out);
-    let is_counted = !matches!(&came, Ok(count) if *count != len as u64);
-    assert!(rt; is_counted);
-    let came = outcome(&came);
-    assert!(rt; came == wanted, "{len} {fault:?}: {came}");
-    let is_whole = out.as_slice() == session.stream().file.as_slice();
-    assert!(rt; is_whole || wanted != "done", "{len} {fault:?}");
-    goes_on_after(rt, &mut session, wanted);
-    session.stream().most_waiting
-}
-
-// Writes a file of so many bytes, as `read`.
-fn write(rt: &impl Abort, alloc: Global, len: usize, fault: Fault, wanted: &str) -> usize {
-    let mut session = session_with(rt, alloc, Vec::new(alloc), fault);
-    let bytes = file_of(rt, alloc, len);
-    let came = outcome(&session.write_whole(1, bytes.as_slice()));
-    assert!(rt; came == wanted, "{len} {fault:?}: {came}");
-    let is_whole = bytes.as_slice() == session.stream().file.as_slice();
-    assert!(rt; is_whole || wanted != "done", "{len} {fault:?}");
-    goes_on_after(rt, &mut session, wanted);
-    session.stream().most_waiting
+// What a call came to is what is wanted. Where all is done the bytes are those of the file. The
+// session then goes on, and so it does after a refusal.
+fn settle(
+    rt: &impl Abort,
+    session: &mut Session<Answered<Pieces>, Global>,
+    bytes: &[u8],
+    came: &str,
+    wanted: &str,
+    play: Play,
+) -> usize {
+    assert!(rt; came == wanted, "{play:?}: {came}");
+    let server = &session.stream().server;
+    let (is_whole, ahead) = (bytes == server.file.as_slice(), server.most_waiting);
+    assert!(rt; is_whole || wanted != "done", "{play:?}");
+    goes_on_after(rt, session, wanted);
+    ahead
 }
 
 // The session has not failed after these, and its next request is answered.
-fn goes_on_after(rt: &impl Abort, session: &mut Session<Pieces, Global>, outcome: &str) {
+fn goes_on_after(rt: &impl Abort, session: &mut Session<Answered<Pieces>, Global>, outcome: &str) {
     let goes_on = matches!(outcome, "done" | "refused" | "stuck" | "output");
-    assert!(rt; session.is_failed() != goes_on, "{outcome}");
-    assert!(rt; session.clunk(1).is_ok() == goes_on, "{outcome}");
+    assert!(rt;
+        session.is_failed() != goes_on && session.clunk(1).is_ok() == goes_on,
+        "{outcome}"
+    );
 }
 
 // How many requests are on their way at once, for a file of so many bytes.
-fn ahead_of(len: usize) -> usize {
-    if len < PIECE { 1 } else { AHEAD_MAX }
-}
-
-#[test]
-fn files_of_any_number_of_pieces_are_read(rt: HostRuntime) {
-    for pieces in 0..20 {
-        for more in [0, 1, 231] {
-            let len = pieces * PIECE + more;
-            let ahead = read(&rt, rt.alloc(), len, Fault::Nothing, "done");
-            assert!(rt; ahead == ahead_of(len), "{len}: {ahead}");
-        }
+fn ahead_of(call: Call, len: usize) -> usize {
+    match call {
+        Call::Read if len < PIECE => 1,
+        Call::Read => AHEAD_MAX,
+        Call::Write if len == 0 => 0,
+        Call::Write => len.div_ceil(PIECE).saturating_sub(1).max(1).min(AHEAD_MAX),
     }
 }
 
 #[test]
-fn files_of_any_number_of_pieces_are_written(rt: HostRuntime) {
-    for pieces in 0..20 {
-        for more in [0, 1, 231] {
-            let len = pieces * PIECE + more;
-            let ahead = write(&rt, rt.alloc(), len, Fault::Nothing, "done");
-            let all = len.div_ceil(PIECE);
-            let most = if all == 0 { 1 } else { (all - 1).max(1) };
-            assert!(rt; ahead == most.min(AHEAD_MAX), "{len}: {ahead}");
+fn files_of_any_number_of_pieces_are_read_and_written(rt: HostRuntime) {
+    for call in [Call::Read, Call::Write] {
+        for pieces in 0..20 {
+            for more in [0, 1, 231] {
+                let fine = fine(call, pieces * PIECE + more);
+                let ahead = check(&rt, rt.alloc(), fine, "done");
+                assert!(rt; ahead == ahead_of(call, fine.len), "{fine:?}: {ahead}");
+            }
         }
     }
 }
 
+// What a call on a file of 17 pieces comes to, where the server does this wrong at one of the
+// requests from the first of these numbers up to the second. A short reply is not the end. After a
+// tag that nobody waits for no further reply is waited for. A refusal of a read behind the end is
+// dropped.
+const ROWS: [(Call, Fault, usize, usize, &str); 17] = [
+    (Call::Read, Fault::Short, 0, 20, "done"),
+    (Call::Write, Fault::Short, 0, 20, "done"),
+    (Call::Read, Fault::Late, 0, 25, "done"),
+    (Call::Write, Fault::Late, 0, 25, "done"),
+    (Call::Read, Fault::OtherTag, 0, 17, "other tag"),
+    (Call::Write, Fault::OtherTag, 0, 17, "other tag"),
+    (Call::Read, Fault::Again, 0, 17, "other tag"),
+    (Call::Write, Fault::Again, 0, 17, "other tag"),
+    (Call::Read, Fault::Refused, 0, 17, "refused"),
+    (Call::Write, Fault::Refused, 0, 17, "refused"),
+    (Call::Read, Fault::Refused, 18, 25, "done"),
+    (Call::Read, Fault::More, 0, 17, "unasked"),
+    (Call::Write, Fault::More, 0, 17, "unasked"),
+    (Call::Read, Fault::More, 18, 25, "unasked"),
+    (Call::Read, Fault::OtherType, 0, 17, "other type"),
+    (Call::Write, Fault::OtherType, 0, 17, "other type"),
+    (Call::Read, Fault::OtherType, 18, 25, "other type"),
+];
+
 #[test]
-fn a_short_reply_is_not_the_end(rt: HostRuntime) {
-    for request in 0..20 {
-        read(&rt, rt.alloc(), 18 * PIECE, Fault::Short(request), "done");
-        write(&rt, rt.alloc(), 18 * PIECE, Fault::Short(request), "done");
+fn a_fault_of_the_server_comes_to_what_it_is(rt: HostRuntime) {
+    for (call, fault, first, end, wanted) in ROWS {
+        for place in first..end {
+            let faulty = Play {
+                fault,
+                place,
+                ..fine(call, 17 * PIECE)
+            };
+            check(&rt, rt.alloc(), faulty, wanted);
+        }
     }
 }
 
 #[test]
 fn nothing_written_is_an_error(rt: HostRuntime) {
-    write(&rt, rt.alloc(), 1, Fault::Short(0), "stuck");
-    write(&rt, rt.alloc(), PIECE + 1, Fault::Short(1), "stuck");
-}
-
-#[test]
-fn replies_may_come_in_any_order(rt: HostRuntime) {
-    for request in 0..25 {
-        read(&rt, rt.alloc(), 17 * PIECE, Fault::Late(request), "done");
-        write(&rt, rt.alloc(), 17 * PIECE, Fault::Late(request), "done");
-    }
-    for pieces in [1, 2, 9, 10, 17, 30] {
-        read(&rt, rt.alloc(), pieces * PIECE, Fault::Backwards, "done");
-        write(&rt, rt.alloc(), pieces * PIECE, Fault::Backwards, "done");
+    for (len, place) in [(1, 0), (PIECE + 1, 1)] {
+        let fault = Fault::Short;
+        let faulty = Play {
+            fault,
+            place,
+            ..fine(Call::Write, len)
+        };
+        check(&rt, rt.alloc(), faulty, "stuck");
     }
 }
 
-// No further reply is waited for.
 #[test]
-fn a_reply_to_another_tag_is_an_error(rt: HostRuntime) {
-    for request in 0..17 {
-        for fault in [Fault::OtherTag(request), Fault::Again(request)] {
-            read(&rt, rt.alloc(), 17 * PIECE, fault, "other tag");
-            write(&rt, rt.alloc(), 17 * PIECE, fault, "other tag");
+fn replies_may_come_backwards(rt: HostRuntime) {
+    for call in [Call::Read, Call::Write] {
+        for pieces in [1, 2, 9, 10, 17, 30] {
+            let fault = Fault::Backwards;
+            check(
+                &rt,
+                rt.alloc(),
+                Play {
+                    fault,
+                    ..fine(call, pieces * PIECE)
+                },
+                "done",
+            );
         }
     }
 }
 
-// A refusal of a read behind the end is dropped.
-#[test]
-fn a_refusal_in_the_middle_is_told(rt: HostRuntime) {
-    for request in 0..17 {
-        read(
-            &rt,
-            rt.alloc(),
-            17 * PIECE,
-            Fault::Refused(request),
-            "refused",
-        );
-        write(
-            &rt,
-            rt.alloc(),
-            17 * PIECE,
-            Fault::Refused(request),
-            "refused",
-        );
-    }
-    for request in 18..25 {
-        read(&rt, rt.alloc(), 17 * PIECE, Fault::Refused(request), "done");
-    }
-}
-
-#[test]
-fn more_than_was_asked_is_an_error(rt: HostRuntime) {
-    for request in 0..17 {
-        read(&rt, rt.alloc(), 17 * PIECE, Fault::More(request), "unasked");
-        write(&rt, rt.alloc(), 17 * PIECE, Fault::More(request), "unasked");
-    }
-    for request in 18..25 {
-        read(&rt, rt.alloc(), 17 * PIECE, Fault::More(request), "unasked");
-    }
-}
-
-#[test]
-fn another_type_is_an_error(rt: HostRuntime) {
-    for request in 0..25 {
-        read(
-            &rt,
-            rt.alloc(),
-            17 * PIECE,
-            Fault::OtherType(request),
-            "other type",
-        );
-    }
-    for request in 0..17 {
-        write(
-            &rt,
-            rt.alloc(),
-            17 * PIECE,
-            Fault::OtherType(request),
-            "other type",
-        );
-    }
-}
-
+// A request is sent by one call, and its reply read by two. A file of 9 pieces is read by requests for
+// one piece, then for eight, and for eight behind its end, and written by the first nine.
 #[test]
 fn each_call_of_the_stream_fails_in_turn(rt: HostRuntime) {
-    let mut failed = 0usize;
-    for call in 0..90 {
-        let mut session = session_with(
-            &rt,
-            rt.alloc(),
-            file_of(&rt, rt.alloc(), 9 * PIECE),
-            Fault::Broken(call),
-        );
-        let came = outcome(&session.read_to(1, &mut Vec::new(rt.alloc())));
-        assert!(rt; came == "done" || came == "stream", "{call}: {came}");
-        assert!(rt; session.is_failed() == (came == "stream"), "{call}");
-        if came == "stream" {
-            failed = failed.saturating_add(1);
+    for (call, calls) in [(Call::Read, 51), (Call::Write, 27)] {
+        for broken in 0..calls {
+            check(
+                &rt,
+                rt.alloc(),
+                Play {
+                    broken,
+                    ..fine(call, 9 * PIECE)
+                },
+                "stream",
+            );
         }
-    }
-    assert!(rt; failed > 40, "{failed}");
-    for call in 0..26 {
-        write(&rt, rt.alloc(), 9 * PIECE, Fault::Broken(call), "stream");
     }
 }
 
@@ -245,7 +246,7 @@ impl Write for Narrow {
 fn the_session_goes_on_where_the_writer_fails(rt: HostRuntime) {
     for pieces in 0..17 {
         let file = file_of(&rt, rt.alloc(), 17 * PIECE);
-        let mut session = session_with(&rt, rt.alloc(), file, Fault::Nothing);
+        let mut session = session_with(&rt, rt.alloc(), file, fine(Call::Read, 0));
         let mut out = Narrow {
             room: pieces * PIECE,
         };

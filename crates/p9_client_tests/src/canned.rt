@@ -1,65 +1,40 @@
-//! Streams of a hostile server: one gives bytes from a list, and one the same data for each read.
+//! A hostile server, which gives bytes from a list.
 
-use p9_client::{Session, Stream};
+use crate::answered::{Answered, Server};
+use p9_client::Session;
 use p9_testing::bytes_of;
 use std::alloc::Global;
 use std::io;
-use std::io::{Cursor, Read, Write};
 use std::process::Abort;
 
-/// A stream that gives these bytes, whatever is written to it, and counts what is written.
+/// A server that gives these bytes once, whatever is written to it.
 #[derive(Drop)]
 pub struct Canned {
-    replies: Cursor<Vec<u8, Global>>,
-    pub written: u64,
+    replies: Vec<u8, Global>,
 }
 
-impl Canned {
-    /// A stream of bytes in hexadecimal digits, without the last few of them.
-    pub fn new(rt: &impl Abort, alloc: Global, digits: &str, missing: usize) -> Canned {
-        let mut replies = bytes_of(alloc, digits).expect(rt, "bytes");
-        replies.truncate(replies.len().saturating_sub(missing));
-        Canned {
-            replies: Cursor::new(replies),
-            written: 0,
-        }
-    }
-}
-
-impl Read for Canned {
-    fn read(&mut self, buf: &mut [u8]) -> io::Result<usize> {
-        self.replies.read(buf)
-    }
-}
-
-impl Write for Canned {
-    fn write(&mut self, buf: &[u8]) -> io::Result<usize> {
-        self.written = self.written.saturating_add(buf.len() as u64);
-        Ok(buf.len())
-    }
-
-    fn flush(&mut self) -> io::Result<()> {
+impl Server for Canned {
+    fn answer(
+        &mut self,
+        _input: &mut Vec<u8, Global>,
+        output: &mut Vec<u8, Global>,
+    ) -> io::Result<()> {
+        output.extend_from_slice(self.replies.as_slice())?;
+        self.replies.clear();
         Ok(())
     }
 }
 
-impl Stream for Canned {
-    fn receive(&mut self, bytes: &mut [u8]) -> io::Result<usize> {
-        self.read(bytes)
-    }
-
-    fn send(&mut self, bytes: &[u8]) -> io::Result<usize> {
-        self.write(bytes)
-    }
-}
-
-/// A session over these replies, with frames of at most 8,192 bytes.
+/// A session over bytes in hexadecimal digits, without the last few of them, with frames of at most
+/// 8,192 bytes.
 pub fn session_of(
     rt: &impl Abort,
     alloc: Global,
     digits: &str,
     missing: usize,
-) -> Session<Canned, Global> {
-    let canned = Canned::new(rt, alloc, digits, missing);
-    Session::new(alloc, canned, 8_192).expect(rt, "memory")
+) -> Session<Answered<Canned>, Global> {
+    let mut replies = bytes_of(alloc, digits).expect(rt, "bytes");
+    replies.truncate(replies.len().saturating_sub(missing));
+    let stream = Answered::new(alloc, Canned { replies });
+    Session::new(alloc, stream, 8_192).expect(rt, "memory")
 }

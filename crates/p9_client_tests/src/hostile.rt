@@ -1,5 +1,6 @@
 //! Replies of a hostile server, each of which is an error.
 
+use crate::answered::Answered;
 use crate::canned::{Canned, session_of};
 use crate::kinds::kind_of;
 use p9_client::{ClientError, Session};
@@ -18,7 +19,7 @@ enum Call {
 }
 
 // Asks it: a walk of one name, a read of four bytes, a write of two.
-fn ask(session: &mut Session<Canned, Global>, call: Call) -> Result<(), ClientError> {
+fn ask(session: &mut Session<Answered<Canned>, Global>, call: Call) -> Result<(), ClientError> {
     match call {
         Call::Version => {
             session.version()?;

@@ -30,3 +30,11 @@ pub fn file_kind_of(error: &FileError) -> &'static str {
         FileError::NoMemory => "no memory",
     }
 }
+
+/// What a call comes to: the name of its error, or `done`.
+pub fn outcome<T>(came: &Result<T, FileError>) -> &'static str {
+    match came {
+        Ok(_) => "done",
+        Err(error) => file_kind_of(error),
+    }
+}

@@ -5,6 +5,8 @@
 #[cfg(test)]
 mod ahead;
 #[cfg(test)]
+mod answered;
+#[cfg(test)]
 mod canned;
 #[cfg(test)]
 mod hostile;

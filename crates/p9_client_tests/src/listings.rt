@@ -1,12 +1,12 @@
 //! Listings of a hostile server.
 
+use crate::answered::{Answered, Server, reply_frame};
 use crate::canned::session_of;
-use crate::kinds::file_kind_of;
-use p9_client::{Entry, FileError, Session, Stream};
+use crate::kinds::outcome;
+use p9_client::Session;
 use p9_testing::bytes_of;
 use std::alloc::Global;
 use std::io;
-use std::io::{Read, Write};
 use std::process::Abort;
 
 // The replies to the reads of a directory, and what its listing comes to: the number of its entries,
@@ -34,14 +34,6 @@ const ROWS: [(&str, &str, usize); 8] = [
     ("0b000000 75 0100 00000000", "other tag", 0),
 ];
 
-// What a listing comes to.
-fn outcome(listed: &Result<Vec<Entry<Global>, Global>, FileError>) -> &'static str {
-    match listed {
-        Ok(_) => "done",
-        Err(error) => file_kind_of(error),
-    }
-}
-
 // Lists over the replies. The session has then failed, but where the listing is had.
 fn check(rt: &impl Abort, alloc: Global, replies: &str, wanted: &str, count: usize) {
     let mut session = session_of(rt, alloc, replies, 0);
@@ -63,61 +55,20 @@ fn a_listing_has_the_entries_of_all_reads(rt: HostRuntime) {
 // A server that answers each read with the same data.
 #[derive(Drop)]
 struct Endless {
-    data: Vec<u8, Global>,
-    // The tag of the next reply, and what is left to read of it.
+    body: Vec<u8, Global>,
+    // The tag of the next reply.
     tag: u16,
-    reply: Vec<u8, Global>,
-    read: usize,
 }
 
-impl Endless {
-    // Makes the next reply.
-    fn answer(&mut self) -> io::Result<()> {
-        let count = u32::try_from(self.data.len()).unwrap_or(0);
-        self.reply.clear();
-        self.reply
-            .extend_from_slice(&count.wrapping_add(11).to_le_bytes())?;
-        self.reply.push(117)?;
-        self.reply.extend_from_slice(&self.tag.to_le_bytes())?;
-        self.reply.extend_from_slice(&count.to_le_bytes())?;
-        self.reply.extend_from_slice(self.data.as_slice())?;
+impl Server for Endless {
+    fn answer(
+        &mut self,
+        _input: &mut Vec<u8, Global>,
+        output: &mut Vec<u8, Global>,
+    ) -> io::Result<()> {
+        *output = reply_frame(*output.allocator(), 117, self.tag, self.body.as_slice())?;
         self.tag = self.tag.wrapping_add(1);
-        self.read = 0;
         Ok(())
-    }
-}
-
-impl Read for Endless {
-    fn read(&mut self, buf: &mut [u8]) -> io::Result<usize> {
-        if self.read >= self.reply.len() {
-            self.answer()?;
-        }
-        let start = self.read.min(self.reply.len());
-        let rest = &self.reply[start..];
-        let count = rest.len().min(buf.len());
-        buf[..count].copy_from_slice(&rest[..count]);
-        self.read = start.saturating_add(count);
-        Ok(count)
-    }
-}
-
-impl Write for Endless {
-    fn write(&mut self, buf: &[u8]) -> io::Result<usize> {
-        Ok(buf.len())
-    }
-
-    fn flush(&mut self) -> io::Result<()> {
-        Ok(())
-    }
-}
-
-impl Stream for Endless {
-    fn receive(&mut self, bytes: &mut [u8]) -> io::Result<usize> {
-        self.read(bytes)
-    }
-
-    fn send(&mut self, bytes: &[u8]) -> io::Result<usize> {
-        self.write(bytes)
     }
 }
 
@@ -126,26 +77,22 @@ const STAT: &str = "\
 3000 0000 00000000 00 00000000 0100000000000000 00000000 00000000 00000000 \
 0000000000000000 0100 66 0000 0000 0000";
 
-// A hundred stats of the same file.
+// The body of a reply with a hundred stats of the same file.
 fn stats(rt: &impl Abort, alloc: Global) -> Vec<u8, Global> {
     let one = bytes_of(alloc, STAT).expect(rt, "bytes");
-    let mut stats = Vec::new(alloc);
+    let mut body = bytes_of(alloc, "88130000").expect(rt, "bytes");
     for _ in 0..100 {
-        assert!(rt; stats.extend_from_slice(one.as_slice()).is_ok());
+        assert!(rt; body.extend_from_slice(one.as_slice()).is_ok());
     }
-    stats
+    body
 }
 
 #[test]
 fn entries_without_end_are_an_error(rt: HostRuntime) {
-    let endless = Endless {
-        data: stats(&rt, rt.alloc()),
-        tag: 0,
-        reply: Vec::new(rt.alloc()),
-        read: 0,
-    };
-    let mut session = Session::new(rt.alloc(), endless, 8_192).expect(&rt, "memory");
+    let body = stats(&rt, rt.alloc());
+    let stream = Answered::new(rt.alloc(), Endless { body, tag: 0 });
+    let mut session = Session::new(rt.alloc(), stream, 8_192).expect(&rt, "memory");
     let listed = session.list_within(rt.alloc(), 0, 100_000);
-    assert!(rt; matches!(listed, Err(FileError::Endless)));
+    assert!(rt; outcome(&listed) == "endless");
     assert!(rt; session.is_failed());
 }

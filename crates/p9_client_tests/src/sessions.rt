@@ -1,14 +1,12 @@
 //! A session over a guard: each call once.
 
+use crate::answered::Answered;
 use crate::kinds::{file_kind_of, kind_of};
-use crate::served::{Served, attach};
+use crate::served::{Served, attach, serve};
 use p9_client::{ClientError, FileError, Session};
 use p9_wire::Stat;
 use std::alloc::Global;
 use std::process::Abort;
-
-/// More bytes than a call has.
-pub const ALL: usize = 1_000_000;
 
 // A stat that changes nothing.
 fn untouched<'a>() -> Stat<'a> {
@@ -35,7 +33,7 @@ fn untouched<'a>() -> Stat<'a> {
 pub fn contents(
     rt: &impl Abort,
     alloc: Global,
-    session: &mut Session<Served, Global>,
+    session: &mut Session<Answered<Served>, Global>,
     path: &[&str],
 ) -> Vec<u8> {
     assert!(rt; session.walk_path(0, 1, path).is_ok());
@@ -51,7 +49,7 @@ pub fn contents(
 }
 
 // Makes a file, and writes it.
-fn begins(rt: &impl Abort, session: &mut Session<Served, Global>) {
+fn begins(rt: &impl Abort, session: &mut Session<Answered<Served>, Global>) {
     assert!(rt; session.walk_path(0, 1, &["pub"]).is_ok());
     let made = session.create(1, "note", 0o644, 1);
     assert!(rt; made.is_ok());
@@ -60,7 +58,7 @@ fn begins(rt: &impl Abort, session: &mut Session<Served, Global>) {
 }
 
 // Gives it another name.
-fn is_renamed(rt: &impl Abort, alloc: Global, session: &mut Session<Served, Global>) {
+fn is_renamed(rt: &impl Abort, alloc: Global, session: &mut Session<Answered<Served>, Global>) {
     assert!(rt; session.walk_path(0, 1, &["pub", "note"]).is_ok());
     let mut stat = untouched();
     stat.name = "other";
@@ -80,7 +78,7 @@ fn is_not_walked(walked: &Result<(), FileError>) -> bool {
 }
 
 // Removes it.
-fn ends(rt: &impl Abort, session: &mut Session<Served, Global>) {
+fn ends(rt: &impl Abort, session: &mut Session<Answered<Served>, Global>) {
     assert!(rt; session.walk_path(0, 1, &["pub", "other"]).is_ok());
     assert!(rt; session.remove(1).is_ok());
     let gone = session.walk_path(0, 1, &["pub", "other"]);
@@ -90,7 +88,9 @@ fn ends(rt: &impl Abort, session: &mut Session<Served, Global>) {
 
 // A file's life, where a call of the stream moves at most so many bytes.
 fn lives(rt: &impl Abort, alloc: Global, most: usize) {
-    let mut session = attach(rt, alloc, Served::new(rt, alloc, most));
+    let mut stream = serve(rt, alloc);
+    stream.most = most;
+    let mut session = attach(rt, alloc, stream);
     begins(rt, &mut session);
     is_renamed(rt, alloc, &mut session);
     let note = contents(rt, alloc, &mut session, &["pub", "other"]);
@@ -100,13 +100,13 @@ fn lives(rt: &impl Abort, alloc: Global, most: usize) {
 
 #[test]
 fn a_file_lives(rt: HostRuntime) {
-    lives(&rt, rt.alloc(), ALL);
+    lives(&rt, rt.alloc(), usize::MAX);
     lives(&rt, rt.alloc(), 1);
 }
 
 #[test]
 fn a_refusal_has_the_servers_text(rt: HostRuntime) {
-    let mut session = attach(&rt, rt.alloc(), Served::new(&rt, rt.alloc(), ALL));
+    let mut session = attach(&rt, rt.alloc(), serve(&rt, rt.alloc()));
     assert!(rt; session.walk_path(0, 1, &["shut"]).is_ok());
     let refused = session.open(1, 0);
     let is_denied =
@@ -119,7 +119,7 @@ fn a_refusal_has_the_servers_text(rt: HostRuntime) {
 
 #[test]
 fn a_directory_is_listed(rt: HostRuntime) {
-    let mut session = attach(&rt, rt.alloc(), Served::new(&rt, rt.alloc(), ALL));
+    let mut session = attach(&rt, rt.alloc(), serve(&rt, rt.alloc()));
     assert!(rt; session.walk_path(0, 1, &["pub"]).is_ok());
     assert!(rt; session.open(1, 0).is_ok());
     let entries = session.list(rt.alloc(), 1).expect(&rt, "a listing");

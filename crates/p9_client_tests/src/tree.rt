@@ -1,7 +1,8 @@
 //! A tree of files that is put to a server and got back.
 
-use crate::served::{Served, attach};
-use crate::sessions::{ALL, contents};
+use crate::answered::Answered;
+use crate::served::{Served, attach, serve};
+use crate::sessions::contents;
 use p9_base::DMDIR;
 use p9_client::{Entry, Session};
 use std::alloc::Global;
@@ -22,14 +23,19 @@ fn bytes_of(rt: &impl Abort, alloc: Global, number: u32) -> Vec<u8> {
 }
 
 // Makes a directory.
-fn make_dir(rt: &impl Abort, session: &mut Session<Served, Global>, dir: &str) {
+fn make_dir(rt: &impl Abort, session: &mut Session<Answered<Served>, Global>, dir: &str) {
     assert!(rt; session.walk_path(0, 1, &["pub"]).is_ok());
     assert!(rt; session.create(1, dir, DMDIR | 0o755, 0).is_ok());
     assert!(rt; session.clunk(1).is_ok());
 }
 
 // Makes the file of a number, and writes its bytes.
-fn put(rt: &impl Abort, alloc: Global, session: &mut Session<Served, Global>, number: u32) {
+fn put(
+    rt: &impl Abort,
+    alloc: Global,
+    session: &mut Session<Answered<Served>, Global>,
+    number: u32,
+) {
     let dir = DIRS[number as usize % DIRS.len()];
     let name = format!(in alloc; "{number}").expect(rt, "memory");
     let bytes = bytes_of(rt, alloc, number);
@@ -43,7 +49,7 @@ fn put(rt: &impl Abort, alloc: Global, session: &mut Session<Served, Global>, nu
 fn entries(
     rt: &impl Abort,
     alloc: Global,
-    session: &mut Session<Served, Global>,
+    session: &mut Session<Answered<Served>, Global>,
     dir: &str,
 ) -> Vec<Entry<Global>> {
     assert!(rt; session.walk_path(0, 1, &["pub", dir]).is_ok());
@@ -57,7 +63,7 @@ fn entries(
 fn get(
     rt: &impl Abort,
     alloc: Global,
-    session: &mut Session<Served, Global>,
+    session: &mut Session<Answered<Served>, Global>,
     dir: &str,
     entry: &Entry<Global>,
 ) {
@@ -72,7 +78,7 @@ fn get(
 #[test]
 fn a_tree_is_put_and_got_back(rt: HostRuntime) {
     let alloc = rt.alloc();
-    let mut session = attach(&rt, alloc, Served::new(&rt, alloc, ALL));
+    let mut session = attach(&rt, alloc, serve(&rt, alloc));
     for dir in DIRS {
         make_dir(&rt, &mut session, dir);
     }

@@ -1,0 +1,127 @@
+//! A stream whose requests a server in memory answers.
+
+use p9_client::Stream;
+use p9_wire::{Frame, frame_of};
+use std::alloc::Global;
+use std::io::{ErrorKind, Read, Write};
+use std::{io, mem};
+
+/// A server in memory.
+pub trait Server: Drop {
+    /// Takes requests that are whole from the input, and adds their replies to the output, which is
+    /// empty.
+    fn answer(
+        &mut self,
+        input: &mut Vec<u8, Global>,
+        output: &mut Vec<u8, Global>,
+    ) -> io::Result<()>;
+}
+
+/// A stream to a server. What was written is answered when a reply is to be read and none is left.
+#[derive(Drop)]
+pub struct Answered<S: Server> {
+    pub server: S,
+    /// The number of the call that fails.
+    pub broken: usize,
+    /// How many bytes a call moves at most.
+    pub most: usize,
+    /// How many bytes were written.
+    pub written: usize,
+    calls: usize,
+    // What was written and is not answered yet.
+    input: Vec<u8, Global>,
+    // The replies, and how many bytes of them were read.
+    output: Vec<u8, Global>,
+    read: usize,
+}
+
+impl<S: Server> Answered<S> {
+    /// A stream to this server, of which no call fails.
+    pub fn new(alloc: Global, server: S) -> Answered<S> {
+        Answered {
+            server,
+            broken: usize::MAX,
+            most: usize::MAX,
+            written: 0,
+            calls: 0,
+            input: Vec::new(alloc),
+            output: Vec::new(alloc),
+            read: 0,
+        }
+    }
+
+    // Counts a call, which may be the one that fails.
+    fn count_call(&mut self) -> io::Result<()> {
+        let call = self.calls;
+        self.calls = call.saturating_add(1);
+        if call == self.broken {
+            return Err(io::Error::from(ErrorKind::ConnectionReset));
+        }
+        Ok(())
+    }
+}
+
+impl<S: Server> Read for Answered<S> {
+    fn read(&mut self, buf: &mut [u8]) -> io::Result<usize> {
+        self.count_call()?;
+        if self.read >= self.output.len() {
+            self.output.clear();
+            self.read = 0;
+            self.server.answer(&mut self.input, &mut self.output)?;
+        }
+        let start = self.read.min(self.output.len());
+        let rest = &self.output[start..];
+        let count = rest.len().min(buf.len()).min(self.most);
+        buf[..count].copy_from_slice(&rest[..count]);
+        self.read = start.saturating_add(count);
+        Ok(count)
+    }
+}
+
+impl<S: Server> Write for Answered<S> {
+    fn write(&mut self, buf: &[u8]) -> io::Result<usize> {
+        self.count_call()?;
+        let count = buf.len().min(self.most);
+        self.input.extend_from_slice(&buf[..count])?;
+        self.written = self.written.saturating_add(count);
+        Ok(count)
+    }
+
+    fn flush(&mut self) -> io::Result<()> {
+        Ok(())
+    }
+}
+
+impl<S: Server> Stream for Answered<S> {
+    fn receive(&mut self, bytes: &mut [u8]) -> io::Result<usize> {
+        self.read(bytes)
+    }
+
+    fn send(&mut self, bytes: &[u8]) -> io::Result<usize> {
+        self.write(bytes)
+    }
+}
+
+/// Takes the first of the frames that were written, if it is whole.
+pub fn take_frame(input: &mut Vec<u8, Global>) -> io::Result<Option<Vec<u8, Global>>> {
+    let Frame::Whole(size) = frame_of(input.as_slice()) else {
+        return Ok(None);
+    };
+    let rest = input.split_off(size.min(input.len()))?;
+    Ok(Some(mem::replace(input, rest)))
+}
+
+/// The frame of a reply of this type.
+pub fn reply_frame(alloc: Global, kind: u8, tag: u16, body: &[u8]) -> io::Result<Vec<u8, Global>> {
+    let size = len_of(body).saturating_add(7);
+    let mut frame = Vec::from_slice(alloc, &size.to_le_bytes())?;
+    frame.push(kind)?;
+    frame.extend_from_slice(&tag.to_le_bytes())?;
+    frame.extend_from_slice(body)?;
+    Ok(frame)
+}
+
+/// How many bytes these are, as a message says it.
+pub fn len_of(bytes: &[u8]) -> u32 {
+    u32::try_from(bytes.len()).unwrap_or(u32::MAX)
+}
