@@ -1,6 +1,6 @@
 //! How a command fails, and how that is reported.
 
-use crate::names::printable;
+use crate::names::Printable;
 use p9_base::NoMemory;
 use p9_client::{ClientError, FileError};
 use std::alloc::{AllocError, AllocFailed};
@@ -83,11 +83,7 @@ pub fn report_local(rt: &HostRuntime, path: &str, error: &io::Error) -> Failure 
 
 /// Reports a text, and returns a failure.
 pub fn report_text(rt: &HostRuntime, text: &str, failure: Failure) -> Failure {
-    match printable(rt.alloc(), text) {
-        Ok(text) => {
-            let _ = eprintln!(rt; "p9_fs: {text}");
-            failure
-        }
-        Err(_) => Failure::NoMemory,
-    }
+    let text = Printable(text);
+    let _ = eprintln!(rt; "p9_fs: {text}");
+    failure
 }

@@ -1,6 +1,8 @@
 //! Names and paths.
 
 use std::alloc::{AllocError, Global};
+use std::fmt;
+use std::fmt::{Display, Formatter};
 
 /// The names of a path, between its slashes, without empty ones and `.`.
 pub fn names_of(alloc: Global, path: &str) -> Result<Vec<&str>, AllocError> {
@@ -16,18 +18,23 @@ pub fn is_inside(name: &str) -> bool {
 
 /// A name after a path.
 pub fn joined(alloc: Global, path: &str, name: &str) -> Result<String, AllocError> {
-    if path.is_empty() || path.ends_with('/') {
-        format!(in alloc; "{path}{name}")
+    let slash = if path.is_empty() || path.ends_with('/') {
+        ""
     } else {
-        format!(in alloc; "{path}/{name}")
-    }
+        "/"
+    };
+    format!(in alloc; "{path}{slash}{name}")
 }
 
 /// A text without control characters, which a terminal might obey: each is a question mark.
-pub fn printable(alloc: Global, text: &str) -> Result<String, AllocError> {
-    let mut shown = String::new(alloc);
-    for c in text.chars() {
-        shown.push(if c.is_control() { '?' } else { c })?;
+#[derive(Clone, Copy)]
+pub struct Printable<'a>(pub &'a str);
+
+impl Display for Printable<'_> {
+    fn fmt<W: fmt::Write>(&self, f: &mut Formatter<W>) -> fmt::Result {
+        for c in self.0.chars() {
+            f.write_char(if c.is_control() { '?' } else { c })?;
+        }
+        Ok(())
     }
-    Ok(shown)
 }

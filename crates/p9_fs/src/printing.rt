@@ -1,32 +1,33 @@
 //! Lines about files.
 
 use crate::failure::Failure;
-use crate::names::printable;
+use crate::names::Printable;
 use jiff::Timestamp;
 use jiff::tz::TimeZone;
 use p9_base::{DMAPPEND, DMDIR, DMEXCL};
 use p9_client::Entry;
 use std::alloc::{AllocError, Global};
+use std::fmt;
+use std::fmt::{Display, Formatter};
 
 /// A file's line, as `ls -l` of Plan 9 prints it: its mode, `M` for a file of a server and the
 /// server's number, owner, group, length, the day of its last change, and its name.
 pub fn long_line(alloc: Global, entry: &Entry<Global>) -> Result<String, AllocError> {
-    let mode = mode_text(alloc, entry.mode)?;
-    let dev = entry.dev;
-    let uid = printable(alloc, entry.uid.as_str())?;
-    let gid = printable(alloc, entry.gid.as_str())?;
-    let length = entry.length;
+    let mode = Letters(entry.mode);
+    let (dev, length) = (entry.dev, entry.length);
+    let uid = Printable(entry.uid.as_str());
+    let gid = Printable(entry.gid.as_str());
+    let name = Printable(entry.name.as_str());
     let day = day_of(alloc, entry.mtime)?;
-    let name = printable(alloc, entry.name.as_str())?;
     format!(in alloc; "{mode} M {dev} {uid} {gid} {length} {day} {name}")
 }
 
 /// All that a server reports of a file, as fcall(2) of Plan 9 prints it.
 pub fn stat_line(alloc: Global, entry: &Entry<Global>) -> Result<String, AllocError> {
-    let name = printable(alloc, entry.name.as_str())?;
-    let uid = printable(alloc, entry.uid.as_str())?;
-    let gid = printable(alloc, entry.gid.as_str())?;
-    let muid = printable(alloc, entry.muid.as_str())?;
+    let name = Printable(entry.name.as_str());
+    let uid = Printable(entry.uid.as_str());
+    let gid = Printable(entry.gid.as_str());
+    let muid = Printable(entry.muid.as_str());
     let (path, version, kind) = (entry.qid.path, entry.qid.version, entry.qid.kind);
     let (mode, atime, mtime) = (entry.mode, entry.atime, entry.mtime);
     let (length, device, dev) = (entry.length, entry.kind, entry.dev);
@@ -37,31 +38,40 @@ pub fn stat_line(alloc: Global, entry: &Entry<Global>) -> Result<String, AllocEr
 
 // The letters of a mode: `d` for a directory, `a` for a file that is only appended to, then `l` for
 // one that is open once at a time, and the rights of its owner, its group and others.
-fn mode_text(alloc: Global, mode: u32) -> Result<String, AllocError> {
-    let mut text = String::new(alloc);
-    text.push(if mode & DMDIR != 0 {
-        'd'
-    } else if mode & DMAPPEND != 0 {
-        'a'
-    } else {
-        '-'
-    })?;
-    text.push(if mode & DMEXCL != 0 { 'l' } else { '-' })?;
-    for (bit, letter) in [
-        (0o400, 'r'),
-        (0o200, 'w'),
-        (0o100, 'x'),
-        (0o040, 'r'),
-        (0o020, 'w'),
-        (0o010, 'x'),
-        (0o004, 'r'),
-        (0o002, 'w'),
-        (0o001, 'x'),
-    ] {
-        text.push(if mode & bit != 0 { letter } else { '-' })?;
+#[derive(Clone, Copy)]
+struct Letters(u32);
+
+impl Display for Letters {
+    fn fmt<W: fmt::Write>(&self, f: &mut Formatter<W>) -> fmt::Result {
+        let Letters(mode) = *self;
+        let kind = if mode & DMDIR != 0 {
+            'd'
+        } else if mode & DMAPPEND != 0 {
+            'a'
+        } else {
+            '-'
+        };
+        f.write_char(kind)?;
+        f.write_char(if mode & DMEXCL != 0 { 'l' } else { '-' })?;
+        for (bit, letter) in RIGHTS {
+            f.write_char(if mode & bit != 0 { letter } else { '-' })?;
+        }
+        Ok(())
     }
-    Ok(text)
 }
+
+// The bits of rights, and their letters.
+const RIGHTS: [(u32, char); 9] = [
+    (0o400, 'r'),
+    (0o200, 'w'),
+    (0o100, 'x'),
+    (0o040, 'r'),
+    (0o020, 'w'),
+    (0o010, 'x'),
+    (0o004, 'r'),
+    (0o002, 'w'),
+    (0o001, 'x'),
+];
 
 // The day of so many seconds after 1970 began.
 fn day_of(alloc: Global, seconds: u32) -> Result<String, AllocError> {
@@ -75,7 +85,7 @@ fn day_of(alloc: Global, seconds: u32) -> Result<String, AllocError> {
 }
 
 /// Prints a line, or a failure of the output.
-pub fn print(rt: &HostRuntime, line: &str) -> Result<(), Failure> {
+pub fn print(rt: &HostRuntime, line: &impl Display) -> Result<(), Failure> {
     match println!(rt; "{line}") {
         Ok(()) => Ok(()),
         Err(_) => Err(Failure::Failed),

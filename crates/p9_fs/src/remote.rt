@@ -2,7 +2,7 @@
 
 use crate::connect::{Client, ROOT};
 use crate::failure::{Failure, report, report_text};
-use crate::names::{names_of, printable};
+use crate::names::{Printable, names_of};
 use crate::printing::{long_line, print, stat_line};
 use p9_base::{DMDIR, Qid};
 use p9_client::{Entry, FileError};
@@ -125,18 +125,17 @@ fn print_entries(
 
 // Prints the name of an entry, or its long line.
 fn print_entry(rt: &HostRuntime, entry: &Entry<Global>, long: bool) -> Result<(), Failure> {
-    let line = if long {
-        long_line(rt.alloc(), entry)?
+    if long {
+        print(rt, &long_line(rt.alloc(), entry)?)
     } else {
-        printable(rt.alloc(), entry.name.as_str())?
-    };
-    print(rt, line.as_str())
+        print(rt, &Printable(entry.name.as_str()))
+    }
 }
 
 /// Prints all that the server reports of a file.
 pub fn print_stat(rt: &HostRuntime, client: &mut Client, path: &str) -> Result<(), Failure> {
     let entry = stat_of(rt, client, path)?;
-    print(rt, stat_line(rt.alloc(), &entry)?.as_str())
+    print(rt, &stat_line(rt.alloc(), &entry)?)
 }
 
 /// Writes the bytes of a file to the standard output.

@@ -107,28 +107,18 @@ fn mode_of(word: &str) -> Option<u32> {
 
 /// The program's command line.
 pub fn program<'a>(alloc: Global) -> Result<Command<'a>, AllocError> {
-    let program = Command::new(alloc, "p9_fs")
+    let mut program = Command::new(alloc, "p9_fs")
         .about("looks at an export of 9P2000, and copies files from it and to it")
         .version("1.0")
-        .subcommand_required(true);
+        .subcommand_required(true)
+        .arg(option(alloc, &ADDR).required(true));
+    for shape in &OPTIONS {
+        program = with_arg(program, option(alloc, shape));
+    }
+    let msize = option(alloc, &MSIZE).value_parser(value_parser!(usize));
+    let program = with_verbs(alloc, with_arg(program, msize));
     let shell = Command::new(alloc, "sh").about("runs the commands of the standard input");
-    let program = with_verbs(alloc, with_options(alloc, program));
     with_subcommand(program, Ok(shell))
-}
-
-// Adds the options.
-fn with_options<'a>(alloc: Global, program: Command<'a>) -> Result<Command<'a>, AllocError> {
-    let addr = "the server's address, HOST:PORT";
-    let user = "the user to attach as, or else $USER, or none";
-    let msize = "the most bytes of a message";
-    let program = program.arg(option(alloc, "addr", 'a', "ADDR", addr).required(true));
-    let program = with_arg(program, option(alloc, "user", 'u', "USER", user));
-    let program = with_arg(
-        program,
-        option(alloc, "aname", 'n', "ANAME", "the tree to attach"),
-    );
-    let msize = option(alloc, "msize", 'm', "MSIZE", msize);
-    with_arg(program, msize.value_parser(value_parser!(usize)))
 }
 
 // The program with a command more, if there is memory for both.
@@ -155,12 +145,49 @@ pub fn line_program<'a>(alloc: Global) -> Result<Command<'a>, AllocError> {
     with_verbs(alloc, Ok(program))
 }
 
+// An option with a value: its name, its letter, the value's name for the help, and what it is.
+struct OptionShape {
+    name: &'static str,
+    letter: char,
+    value: &'static str,
+    help: &'static str,
+}
+
+const ADDR: OptionShape = OptionShape {
+    name: "addr",
+    letter: 'a',
+    value: "ADDR",
+    help: "the server's address, HOST:PORT",
+};
+
+const OPTIONS: [OptionShape; 2] = [
+    OptionShape {
+        name: "user",
+        letter: 'u',
+        value: "USER",
+        help: "the user to attach as, or else $USER, or none",
+    },
+    OptionShape {
+        name: "aname",
+        letter: 'n',
+        value: "ANAME",
+        help: "the tree to attach",
+    },
+];
+
+const MSIZE: OptionShape = OptionShape {
+    name: "msize",
+    letter: 'm',
+    value: "MSIZE",
+    help: "the most bytes of a message",
+};
+
 // An option with a value.
-fn option<'a>(alloc: Global, id: &'a str, letter: char, value: &'a str, help: &'a str) -> Arg<'a> {
-    Arg::new(alloc, id)
-        .short(letter)
-        .value_name(value)
-        .help(help)
+fn option<'a>(alloc: Global, shape: &OptionShape) -> Arg<'a> {
+    Arg::new(alloc, shape.name)
+        .short(shape.letter)
+        .value_name(shape.value)
+        .help(shape.help)
         .action(ArgAction::Set)
 }
 
@@ -172,66 +199,75 @@ fn word<'a>(alloc: Global, id: &'a str, value: &'a str, is_required: bool) -> Ar
         .action(ArgAction::Set)
 }
 
-// A flag.
-fn flag<'a>(alloc: Global, id: &'a str, letter: char, help: &'a str) -> Arg<'a> {
-    Arg::new(alloc, id)
-        .short(letter)
-        .help(help)
-        .action(ArgAction::SetTrue)
-}
+// A flag: its name, its letter, and what it asks for.
+type Flag = (&'static str, char, &'static str);
 
-// A command on files: its name, what it does, and the words after it. Each word has a name and one
-// for the help.
+// A word: its name, one for the help, and whether it has to be there.
+type Word = (&'static str, &'static str, bool);
+
+// A command on files: its name, what it does, the flag that it may take, and the words after it.
 struct Shape {
     name: &'static str,
     about: &'static str,
-    first: (&'static str, &'static str),
-    second: Option<(&'static str, &'static str)>,
+    flag: Option<Flag>,
+    words: &'static [Word],
 }
 
-// The commands whose words all have to be there, but for those with flags.
-const SHAPES: [Shape; 7] = [
+// The commands on files.
+const SHAPES: [Shape; 9] = [
+    Shape {
+        name: "ls",
+        about: "lists a directory or a file",
+        flag: Some(("long", 'l', "in long lines")),
+        words: &[("path", "PATH", false)],
+    },
+    Shape {
+        name: "get",
+        about: "copies a file from the server",
+        flag: Some(("recursive", 'r', "a directory with all that is in it")),
+        words: &[("path", "PATH", true), ("local", "LOCAL", true)],
+    },
     Shape {
         name: "cat",
         about: "prints a file",
-        first: ("path", "PATH"),
-        second: None,
+        flag: None,
+        words: &[("path", "PATH", true)],
     },
     Shape {
         name: "stat",
         about: "prints all that the server reports of a file",
-        first: ("path", "PATH"),
-        second: None,
+        flag: None,
+        words: &[("path", "PATH", true)],
     },
     Shape {
         name: "put",
         about: "copies a file to the server",
-        first: ("local", "LOCAL"),
-        second: Some(("path", "PATH")),
+        flag: None,
+        words: &[("local", "LOCAL", true), ("path", "PATH", true)],
     },
     Shape {
         name: "mkdir",
         about: "makes a directory",
-        first: ("path", "PATH"),
-        second: None,
+        flag: None,
+        words: &[("path", "PATH", true)],
     },
     Shape {
         name: "rm",
         about: "removes a file or an empty directory",
-        first: ("path", "PATH"),
-        second: None,
+        flag: None,
+        words: &[("path", "PATH", true)],
     },
     Shape {
         name: "mv",
         about: "gives a file another name, in the same directory",
-        first: ("path", "PATH"),
-        second: Some(("name", "NAME")),
+        flag: None,
+        words: &[("path", "PATH", true), ("name", "NAME", true)],
     },
     Shape {
         name: "chmod",
         about: "gives a file the permissions of an octal number",
-        first: ("mode", "MODE"),
-        second: Some(("path", "PATH")),
+        flag: None,
+        words: &[("mode", "MODE", true), ("path", "PATH", true)],
     },
 ];
 
@@ -240,40 +276,22 @@ fn with_verbs<'a>(
     alloc: Global,
     program: Result<Command<'a>, AllocError>,
 ) -> Result<Command<'a>, AllocError> {
-    let program = with_subcommand(program, list_verb(alloc));
-    let mut program = with_subcommand(program, get_verb(alloc));
+    let mut program = program;
     for shape in &SHAPES {
         program = with_subcommand(program, command_of(alloc, shape));
     }
     program
 }
 
-// The command that lists.
-fn list_verb<'a>(alloc: Global) -> Result<Command<'a>, AllocError> {
-    let command = Command::new(alloc, "ls")
-        .about("lists a directory or a file")
-        .arg(flag(alloc, "long", 'l', "in long lines"));
-    with_arg(command, word(alloc, "path", "PATH", false))
-}
-
-// The command that copies from the server.
-fn get_verb<'a>(alloc: Global) -> Result<Command<'a>, AllocError> {
-    let recursive = "a directory with all that is in it";
-    let command = Command::new(alloc, "get")
-        .about("copies a file from the server")
-        .arg(flag(alloc, "recursive", 'r', recursive));
-    let command = with_arg(command, word(alloc, "path", "PATH", true));
-    with_arg(command, word(alloc, "local", "LOCAL", true))
-}
-
-// A command of one or two words.
+// A command on files.
 fn command_of<'a>(alloc: Global, shape: &Shape) -> Result<Command<'a>, AllocError> {
-    let (id, value) = shape.first;
-    let command = Command::new(alloc, shape.name)
-        .about(shape.about)
-        .arg(word(alloc, id, value, true));
-    match shape.second {
-        Some((id, value)) => with_arg(command, word(alloc, id, value, true)),
-        None => command,
+    let mut command = Ok(Command::new(alloc, shape.name).about(shape.about));
+    if let Some((id, letter, help)) = shape.flag {
+        let flag = Arg::new(alloc, id).short(letter).help(help);
+        command = with_arg(command, flag.action(ArgAction::SetTrue));
     }
+    for (id, value, is_required) in shape.words {
+        command = with_arg(command, word(alloc, id, value, *is_required));
+    }
+    command
 }
