@@ -4,16 +4,17 @@ ghost use Rattle.std.specs.Prelude.{◌≡◌, ◌++◌, IfOk, codes};
 ghost use Rattle.std.specs.String.{string_bytes};
 ghost use Rattle.p9_explain.specs.Told.{IsBreachTold, IsStepTold, IsWalkTold};
 
-use crate::column::{blanks, column_of, prefix_width, width};
-use crate::member::{Found, bound_words, found_words, hidden_dir};
+use crate::column::{column_of, prefix_width, push_blanks, width};
+use crate::member::{Found, hidden_dir, push_found};
 use crate::path::path_of;
-use crate::right::{TO_USE, class_of, has, ruling_class};
-use crate::source::{Source, made};
-use p9_base::{NoMemory, NodeRef};
+use crate::right::{Class, TO_USE, class_of, has, ruling_class};
+use crate::source::Source;
+use crate::teller::{Part, Teller};
+use p9_base::{NoMemory, NodeRef, User};
 use p9_cert::MemberFault;
 use p9_judge::{Breach, BreachKind, Step};
 use p9_space::{ROOT_PLACE, TO_EXECUTE};
-use p9_tree::Tree;
+use p9_tree::{Node, Tree};
 use p9_world::World;
 use std::alloc::{AllocError, Allocator};
 
@@ -27,11 +28,12 @@ pub(crate) fn breach_words<T: Tree>(
     ensures { IfOk result (λ text. IsBreachTold world.now breach.now.steps.items
         breach.now.member (string_bytes text)) }
 {
+    let teller = Teller { source, world };
     let column = column_of(alloc, world, breach)?;
-    let head = head_words(alloc, world, breach)?;
+    let head = head_words(alloc, &teller, breach)?;
     let walk = walk_words(alloc, source, world, breach.steps.as_slice(), column)?;
     let path = path_of(alloc, world, breach.member)?;
-    let rest = end_words(alloc, source, world, breach, column)?;
+    let rest = end_words(alloc, &teller, breach, column)?;
     Ok(breach_text(alloc, &head, &walk, &path, &rest)?)
 }
 
@@ -59,13 +61,12 @@ fn breach_text<A: Allocator + Copy>(
 // that.
 fn end_words<T: Tree>(
     alloc: T::Alloc,
-    source: &Source<'_, T::Alloc>,
-    world: &World<T>,
+    teller: &Teller<'_, '_, T>,
     breach: &Breach<T::Alloc>,
     column: usize,
 ) -> Result<String<T::Alloc>, NoMemory> {
     let place = match breach.steps.last() {
-        Some(step) => place_after(world, step),
+        Some(step) => place_after(teller.world, step),
         None => Some(ROOT_PLACE),
     };
     let found = Found {
@@ -73,11 +74,13 @@ fn end_words<T: Tree>(
         place,
         fault: fault_of(breach.kind),
     };
-    let words = found_words(alloc, source, world, found)?;
-    let left = width(path_of(alloc, world, breach.member)?.as_str()).saturating_add(2);
-    let blanks = blanks(alloc, left, column)?;
-    let mend = mend(world, breach);
-    Ok(format!(in alloc; "{blanks}{words}mend: {mend}\n")?)
+    let mut text = String::new(alloc);
+    let left = width(path_of(alloc, teller.world, breach.member)?.as_str()).saturating_add(2);
+    push_blanks(&mut text, left, column)?;
+    push_found(&mut text, teller, found)?;
+    let mend = Part::Text(mend(teller.world, breach));
+    teller.say(&mut text, &[Part::Text("mend: "), mend, Part::Text("\n")])?;
+    Ok(text)
 }
 
 // What is wrong with the member of a breach, as of a certificate's gap.
@@ -93,18 +96,22 @@ fn fault_of(kind: BreachKind) -> MemberFault {
 // What is within reach, and who attaches.
 fn head_words<T: Tree>(
     alloc: T::Alloc,
-    world: &World<T>,
+    teller: &Teller<'_, '_, T>,
     breach: &Breach<T::Alloc>,
 ) -> Result<String<T::Alloc>, NoMemory> {
-    let dir = path_of(alloc, world, hidden_dir(world, breach.member))?;
-    let root = path_of(alloc, world, ROOT_PLACE)?;
-    Ok(match breach.steps.first() {
-        Some(step) => {
-            let user = step.user;
-            format!(in alloc; "the inside of {dir} is within reach\n  {user} attaches at {root}\n")?
-        }
-        None => format!(in alloc; "the inside of {dir} is within reach\n")?,
-    })
+    let mut text = String::new(alloc);
+    let dir = Part::Path(hidden_dir(teller.world, breach.member));
+    let reach = Part::Text(" is within reach\n");
+    teller.say(&mut text, &[Part::Text("the inside of "), dir, reach])?;
+    if let Some(step) = breach.steps.first() {
+        let user = Part::User(step.user);
+        teller.say(
+            &mut text,
+            &[Part::Text("  "), user, Part::Text(" attaches at ")],
+        )?;
+        teller.say(&mut text, &[Part::Path(ROOT_PLACE), Part::Text("\n")])?;
+    }
+    Ok(text)
 }
 
 // How a breach is mended.
@@ -175,8 +182,8 @@ fn step_words<T: Tree>(
 {
     let path = path_of(alloc, world, step.member)?;
     let left = prefix_width(step).saturating_add(width(path.as_str()));
-    let blanks = blanks(alloc, left, column)?;
-    let rest = pass_words(alloc, source, world, step, place, &blanks)?;
+    let teller = Teller { source, world };
+    let rest = pass_words(alloc, &teller, step, place, column.saturating_sub(left))?;
     Ok(step_text(alloc, step, &path, &rest)?)
 }
 
@@ -198,38 +205,49 @@ fn step_text<A: Allocator + Copy>(
     Ok(line)
 }
 
-// What follows the path of a step: blanks, the line that made its directory, by which right it is
-// passed, and where it is bound.
+// What follows the path of a step: so many blanks, the line that made its directory, by which right it
+// is passed, and where it is bound.
 fn pass_words<T: Tree>(
     alloc: T::Alloc,
-    source: &Source<'_, T::Alloc>,
-    world: &World<T>,
+    teller: &Teller<'_, '_, T>,
     step: &Step,
     place: Option<NodeRef>,
-    blanks: &String<T::Alloc>,
+    blanks: usize,
 ) -> Result<String<T::Alloc>, NoMemory> {
-    let made = made(alloc, source, world, step.member)?;
-    let right = pass_right(alloc, world, step)?;
-    let bound = bound_words(alloc, world, place, step.member)?;
-    Ok(format!(in alloc; "{blanks}({made}{right}){bound}\n")?)
+    let mut text = String::new(alloc);
+    push_blanks(&mut text, 0, blanks)?;
+    teller.say(&mut text, &[Part::Text("("), Part::Made(step.member)])?;
+    push_pass_right(&mut text, teller, step)?;
+    let bound = Part::Bound(place, step.member);
+    teller.say(&mut text, &[Part::Text(")"), bound, Part::Text("\n")])?;
+    Ok(text)
 }
 
-// By which right the user of a step passes its directory, after a colon.
-fn pass_right<T: Tree>(
-    alloc: T::Alloc,
-    world: &World<T>,
+// Adds by which right the user of a step passes its directory, after a colon.
+fn push_pass_right<T: Tree>(
+    text: &mut String<T::Alloc>,
+    teller: &Teller<'_, '_, T>,
     step: &Step,
-) -> Result<String<T::Alloc>, NoMemory> {
+) -> Result<(), NoMemory> {
+    let world = teller.world;
     let Some(node) = world.forest.node(step.member) else {
-        return Ok(String::new(alloc));
+        return Ok(());
     };
-    let (class, deed) = match class_of(world, &step.user, node, TO_EXECUTE) {
-        Some(class) => (class, "may search"),
-        None => match ruling_class(world, &step.user, node) {
-            Some(class) => (class, "may change its mode"),
-            None => return Ok(String::new(alloc)),
-        },
+    let Some((class, deed)) = passing_class(world, &step.user, node) else {
+        return Ok(());
     };
-    let words = class.words(alloc, node)?;
-    Ok(format!(in alloc; ": {words} {deed}")?)
+    let class = Part::Class(class, *node.gid());
+    teller.say(text, &[Part::Text(": "), class, Part::Text(deed)])
+}
+
+// As what a user passes a directory, and what that is.
+fn passing_class<T: Tree>(
+    world: &World<T>,
+    user: &User,
+    node: &Node<T::Alloc>,
+) -> Option<(Class, &'static str)> {
+    match class_of(world, user, node, TO_EXECUTE) {
+        Some(class) => Some((class, " may search")),
+        None => Some((ruling_class(world, user, node)?, " may change its mode")),
+    }
 }

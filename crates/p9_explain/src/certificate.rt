@@ -1,60 +1,47 @@
 //! What is said of the certificate of an input: whether it is accepted, and its first gap in words.
 
 use crate::head::Section;
-use crate::member::{Found, found_words, inside_words};
-use crate::path::path_of;
+use crate::member::{Found, push_found, push_inside};
 use crate::source::Source;
+use crate::teller::{Part, Teller};
 use p9_base::{NoMemory, NodeRef, statements};
 use p9_cert::{Certificate, Gap, MemberFault, RowFault};
 use p9_space::ROOT_PLACE;
 use p9_tree::Tree;
-use p9_world::World;
 use std::alloc::Allocator;
 
-/// What is said of the input's own certificate: that there is none, that it is accepted, or this first
-/// gap of it, told as a breach is.
-pub(crate) fn certificate_words<T: Tree>(
-    alloc: T::Alloc,
-    source: &Source<'_, T::Alloc>,
-    world: &World<T>,
+/// Adds to a text what is said of the input's own certificate: that there is none, that it is accepted,
+/// or this first gap of it, told as a breach is.
+pub(crate) fn push_certificate<T: Tree>(
+    text: &mut String<T::Alloc>,
+    teller: &Teller<'_, '_, T>,
     certificate: Option<&Certificate<T::Alloc>>,
     gap: Option<Gap>,
-) -> Result<String<T::Alloc>, NoMemory> {
-    let Some(certificate) = certificate else {
-        return Ok(String::from_str(alloc, "certificate: none\n")?);
-    };
-    let Some(gap) = gap else {
-        return Ok(String::from_str(alloc, "certificate: accepted\n")?);
-    };
-    let gap = gap_words(alloc, source, world, certificate.rows(), gap)?;
-    Ok(format!(in alloc; "certificate: not accepted: {gap}")?)
+) -> Result<(), NoMemory> {
+    match (certificate, gap) {
+        (None, _) => text.push_str("certificate: none\n")?,
+        (Some(_), None) => text.push_str("certificate: accepted\n")?,
+        (Some(certificate), Some(gap)) => {
+            text.push_str("certificate: not accepted: ")?;
+            push_gap(text, teller, certificate.rows(), gap)?;
+        }
+    }
+    Ok(())
 }
 
-// A gap in words.
-fn gap_words<T: Tree>(
-    alloc: T::Alloc,
-    source: &Source<'_, T::Alloc>,
-    world: &World<T>,
+// Adds a gap in words.
+fn push_gap<T: Tree>(
+    text: &mut String<T::Alloc>,
+    teller: &Teller<'_, '_, T>,
     rows: &[NodeRef],
     gap: Gap,
-) -> Result<String<T::Alloc>, NoMemory> {
+) -> Result<(), NoMemory> {
     match gap {
-        Gap::Table(at) => {
-            let (server, number) = (at.server, at.number);
-            Ok(format!(in alloc;
-                "a bind names node {number} of server {server}, which was never made\n"
-            )?)
-        }
-        Gap::Row { row, kind } => row_gap(alloc, source, world, rows, row, kind),
+        Gap::Table(at) => push_table_gap(text, at),
+        Gap::Row { row, kind } => push_row_gap(text, teller, rows, row, kind),
         Gap::Root { member, kind } => {
-            let begins = String::from_str(alloc, "a walk begins at")?;
-            unsafe_words(
-                alloc,
-                source,
-                world,
-                &begins,
-                found(ROOT_PLACE, member, kind),
-            )
+            text.push_str("a walk begins at")?;
+            push_unsafe(text, teller, found(ROOT_PLACE, member, kind))
         }
         Gap::Child {
             row,
@@ -62,11 +49,21 @@ fn gap_words<T: Tree>(
             member,
             kind,
         } => {
-            let row = row_words(alloc, source, world, rows, row)?;
-            let leads = format!(in alloc; "row {row} leads to")?;
-            unsafe_words(alloc, source, world, &leads, found(child, member, kind))
+            push_row(text, teller, rows, row)?;
+            text.push_str(" leads to")?;
+            push_unsafe(text, teller, found(child, member, kind))
         }
     }
+}
+
+// Adds that a bind names a node that was never made.
+fn push_table_gap<A: Allocator + Copy>(text: &mut String<A>, at: NodeRef) -> Result<(), NoMemory> {
+    let (server, number) = (at.server, at.number);
+    writeln!(
+        text,
+        "a bind names node {number} of server {server}, which was never made"
+    )?;
+    Ok(())
 }
 
 // What is found at a place.
@@ -78,22 +75,25 @@ fn found(place: NodeRef, member: NodeRef, fault: MemberFault) -> Found {
     }
 }
 
-// What is wrong with a row.
-fn row_gap<T: Tree>(
-    alloc: T::Alloc,
-    source: &Source<'_, T::Alloc>,
-    world: &World<T>,
+// Adds what is wrong with a row.
+fn push_row_gap<T: Tree>(
+    text: &mut String<T::Alloc>,
+    teller: &Teller<'_, '_, T>,
     rows: &[NodeRef],
     row: u64,
     kind: RowFault,
-) -> Result<String<T::Alloc>, NoMemory> {
-    let words = row_words(alloc, source, world, rows, row)?;
-    let why = match (kind, row_at(rows, row)) {
-        (RowFault::Absent, _) => String::from_str(alloc, "is no directory")?,
-        (RowFault::Inside, Some(at)) => inside_words(alloc, world, at)?,
-        _ => String::from_str(alloc, "is a hidden directory")?,
-    };
-    Ok(format!(in alloc; "row {words} {why}\n")?)
+) -> Result<(), NoMemory> {
+    push_row(text, teller, rows, row)?;
+    match (kind, row_at(rows, row)) {
+        (RowFault::Absent, _) => text.push_str(" is no directory")?,
+        (RowFault::Inside, Some(at)) => {
+            text.push_str(" ")?;
+            push_inside(text, teller, at)?;
+        }
+        _ => text.push_str(" is a hidden directory")?,
+    }
+    text.push_str("\n")?;
+    Ok(())
 }
 
 // The row of this number, from 1.
@@ -102,36 +102,37 @@ fn row_at(rows: &[NodeRef], row: u64) -> Option<NodeRef> {
     rows.get(position).copied()
 }
 
-// A place that a walk begins at or a row leads to, and what is wrong with what is found there.
-fn unsafe_words<T: Tree>(
-    alloc: T::Alloc,
-    source: &Source<'_, T::Alloc>,
-    world: &World<T>,
-    leads: &String<T::Alloc>,
+// Adds a place that a walk begins at or a row leads to, and what is wrong with what is found there.
+fn push_unsafe<T: Tree>(
+    text: &mut String<T::Alloc>,
+    teller: &Teller<'_, '_, T>,
     found: Found,
-) -> Result<String<T::Alloc>, NoMemory> {
-    let place = path_of(alloc, world, found.place.unwrap_or(found.member))?;
-    let path = path_of(alloc, world, found.member)?;
-    let words = found_words(alloc, source, world, found)?;
-    let found = format!(in alloc; "  {path} {words}")?;
-    Ok(format!(in alloc; "{leads} {place}\n{found}")?)
+) -> Result<(), NoMemory> {
+    let place = Part::Path(found.place.unwrap_or(found.member));
+    teller.say(text, &[Part::Text(" "), place, Part::Text("\n  ")])?;
+    teller.say(text, &[Part::Path(found.member), Part::Text(" ")])?;
+    push_found(text, teller, found)
 }
 
-// The row of this number, from 1: its path where there is something, and its line.
-fn row_words<T: Tree>(
-    alloc: T::Alloc,
-    source: &Source<'_, T::Alloc>,
-    world: &World<T>,
+// Adds the row of this number, from 1: its path where there is something, and its line.
+fn push_row<T: Tree>(
+    text: &mut String<T::Alloc>,
+    teller: &Teller<'_, '_, T>,
     rows: &[NodeRef],
     row: u64,
-) -> Result<String<T::Alloc>, NoMemory> {
-    let line = source.line(alloc, Section::Cert, row_line(alloc, source, row)?)?;
+) -> Result<(), NoMemory> {
+    let line = row_line(*text.allocator(), teller.source, row)?;
+    let line = Part::Line(Section::Cert, line);
+    let world = teller.world;
+    text.push_str("row ")?;
     match row_at(rows, row) {
         Some(at) if world.forest.node(at).is_some() => {
-            let path = path_of(alloc, world, at)?;
-            Ok(format!(in alloc; "{path} ({line})")?)
+            teller.say(
+                text,
+                &[Part::Path(at), Part::Text(" ("), line, Part::Text(")")],
+            )
         }
-        _ => Ok(line),
+        _ => teller.say(text, &[line]),
     }
 }
 

@@ -1,60 +1,78 @@
 //! What an input claims.
 
-use crate::path::path_of;
+use crate::teller::{Part, Teller};
 use p9_base::{NoMemory, NodeRef, User};
 use p9_tree::Tree;
-use p9_world::World;
-use std::alloc::Allocator;
 
 /// The claim of a world, as a line: of which users, and about which directories.
 pub(crate) fn claim_of<T: Tree>(
     alloc: T::Alloc,
-    world: &World<T>,
+    teller: &Teller<'_, '_, T>,
 ) -> Result<String<T::Alloc>, NoMemory> {
-    if world.hidden.is_empty() {
-        return Ok(String::from_str(alloc, "claim: none, since nothing is hidden\n")?);
-    }
-    let users = names_of(alloc, world.users.as_slice())?;
-    let dirs = paths_of(alloc, world, world.hidden.as_slice())?;
-    Ok(if world.users.is_empty() {
-        format!(in alloc;
-            "claim: no user is listed, so none sees or changes what is inside {dirs}\n"
-        )?
-    } else if world.users.len() == 1 {
-        format!(in alloc; "claim: {users} neither sees nor changes what is inside {dirs}\n")?
+    let mut text = String::from_str(alloc, "claim: ")?;
+    let world = teller.world;
+    let hidden = world.hidden.as_slice();
+    if hidden.is_empty() {
+        text.push_str("none, since nothing is hidden\n")?;
     } else {
-        format!(in alloc; "claim: of {users}, none sees or changes what is inside {dirs}\n")?
-    })
+        push_users(&mut text, teller, world.users.as_slice())?;
+        push_paths(&mut text, teller, hidden)?;
+    }
+    Ok(text)
 }
 
-// The names of users: `a`, `a and b`, `a, b and c`.
-fn names_of<A: Allocator + Copy>(alloc: A, users: &[User]) -> Result<String<A>, NoMemory> {
-    let mut text = String::new(alloc);
+// Adds of which users something is claimed, and what.
+fn push_users<T: Tree>(
+    text: &mut String<T::Alloc>,
+    teller: &Teller<'_, '_, T>,
+    users: &[User],
+) -> Result<(), NoMemory> {
+    match users {
+        [] => text.push_str("no user is listed, so none sees or changes")?,
+        [user] => teller.say(
+            text,
+            &[Part::User(*user), Part::Text(" neither sees nor changes")],
+        )?,
+        _ => {
+            text.push_str("of ")?;
+            push_names(text, teller, users)?;
+            text.push_str(", none sees or changes")?;
+        }
+    }
+    text.push_str(" what is inside ")?;
+    Ok(())
+}
+
+// Adds the names of users: `a`, `a and b`, `a, b and c`.
+fn push_names<T: Tree>(
+    text: &mut String<T::Alloc>,
+    teller: &Teller<'_, '_, T>,
+    users: &[User],
+) -> Result<(), NoMemory> {
     let mut left = users.len();
     for user in users {
-        text.push_str(user.as_str())?;
         left = left.saturating_sub(1);
-        if left == 1 {
-            text.push_str(" and ")?;
-        } else if left > 1 {
-            text.push_str(", ")?;
-        }
+        let next = match left {
+            0 => "",
+            1 => " and ",
+            _ => ", ",
+        };
+        teller.say(text, &[Part::User(*user), Part::Text(next)])?;
     }
-    Ok(text)
+    Ok(())
 }
 
-// The paths of directories, with a comma between them.
-fn paths_of<T: Tree>(
-    alloc: T::Alloc,
-    world: &World<T>,
+// Adds the paths of directories, with a comma between them, as the end of the line.
+fn push_paths<T: Tree>(
+    text: &mut String<T::Alloc>,
+    teller: &Teller<'_, '_, T>,
     dirs: &[NodeRef],
-) -> Result<String<T::Alloc>, NoMemory> {
-    let mut text = String::new(alloc);
+) -> Result<(), NoMemory> {
+    let mut left = dirs.len();
     for dir in dirs {
-        if !text.is_empty() {
-            text.push_str(", ")?;
-        }
-        text.push_str(path_of(alloc, world, *dir)?.as_str())?;
+        left = left.saturating_sub(1);
+        let next = if left == 0 { "\n" } else { ", " };
+        teller.say(text, &[Part::Path(*dir), Part::Text(next)])?;
     }
-    Ok(text)
+    Ok(())
 }

@@ -5,7 +5,7 @@ use p9_base::NoMemory;
 use p9_judge::{Breach, Step};
 use p9_tree::Tree;
 use p9_world::World;
-use std::alloc::Allocator;
+use std::alloc::{AllocError, Allocator};
 
 /// How many characters a text has.
 pub(crate) fn width(text: &str) -> usize {
@@ -33,15 +33,14 @@ pub(crate) fn column_of<T: Tree>(
     Ok(prefix.saturating_add(longest).saturating_add(2))
 }
 
-/// Blanks from one column to another.
-pub(crate) fn blanks<A: Allocator + Copy>(
-    alloc: A,
+/// Adds blanks to a text, from one column to another.
+pub(crate) fn push_blanks<A: Allocator + Copy>(
+    text: &mut String<A>,
     from: usize,
     to: usize,
-) -> Result<String<A>, NoMemory> {
-    let mut text = String::new(alloc);
+) -> Result<(), AllocError> {
     for _ in from..to {
         text.push(' ')?;
     }
-    Ok(text)
+    Ok(())
 }

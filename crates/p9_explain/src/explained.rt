@@ -8,11 +8,12 @@ ghost use Rattle.p9_explain.specs.Explained.{IsExplained, IsRefusal, IsRefusalTo
 ghost use Rattle.p9_explain.specs.Explained.{IsVerdictTold};
 
 use crate::breach::breach_words;
-use crate::certificate::certificate_words;
+use crate::certificate::push_certificate;
 use crate::claim::claim_of;
-use crate::faults::fault_lines;
-use crate::hints::{hints, unneeded_rows};
+use crate::faults::push_faults;
+use crate::hints::{push_hints, push_unneeded_rows};
 use crate::source::Source;
+use crate::teller::Teller;
 use p9_base::NoMemory;
 use p9_cert::Certificate;
 use p9_commands::status::{DONE, REFUSED};
@@ -114,7 +115,8 @@ fn verdict_words<T: Tree>(
 ) -> Result<Told<T::Alloc>, NoMemory>
     ensures { IfOk result (λ told. IsVerdictTold space.now told.status (string_bytes told.text)) }
 {
-    let claim = claim_of(alloc, &space.world)?;
+    let world = &space.world;
+    let claim = claim_of(alloc, &Teller { source, world })?;
     match judge(alloc, &space.world, &space.table)? {
         Verdict::Yes(least) => {
             let words = yes_words(alloc, source, certificate, &least)?;
@@ -163,9 +165,13 @@ fn yes_words<A: Allocator + Copy>(
     } else {
         "directories"
     };
-    let unneeded = unneeded_rows(alloc, source, certificate, least)?;
-    let rest = format!(in alloc; "and nothing hidden\n{unneeded}")?;
-    Ok(format!(in alloc; "clients can reach {count} {directories}, {rest}")?)
+    let mut text = format!(in alloc;
+        "clients can reach {count} {directories}, and nothing hidden\n"
+    )?;
+    if let Some(certificate) = certificate {
+        push_unneeded_rows(&mut text, source, certificate, least)?;
+    }
+    Ok(text)
 }
 
 // What follows the verdict: what is said of the input's certificate, and hints.
@@ -175,11 +181,17 @@ fn further_words<T: Tree>(
     prepared: &Prepared<T>,
 ) -> Result<String<T::Alloc>, NoMemory> {
     let space = &prepared.space;
-    let certificate = prepared.certificate.as_ref();
-    let certificate = certificate_words(alloc, source, &space.world, certificate, prepared.gap())?;
-    let reports = space.reports.as_slice();
-    let hints = hints(alloc, source, &space.world, &space.table, reports)?;
-    Ok(format!(in alloc; "{certificate}{hints}")?)
+    let world = &space.world;
+    let teller = Teller { source, world };
+    let mut text = String::new(alloc);
+    push_certificate(
+        &mut text,
+        &teller,
+        prepared.certificate.as_ref(),
+        prepared.gap(),
+    )?;
+    push_hints(&mut text, &teller, &space.table, space.reports.as_slice())?;
+    Ok(text)
 }
 
 // What is said of an input that has a fault.
@@ -192,10 +204,9 @@ fn refusal_words<T: Tree>(
     ensures { IfOk result (λ text. IsRefusal (string_bytes text)) }
 {
     let reason = refusal.text(alloc)?;
-    let faults = match str::from_utf8(input) {
-        Ok(input) => fault_lines::<T>(alloc, &Source::of(alloc, name, input)?)?,
-        Err(_) => String::new(alloc),
-    };
-    let rest = format!(in alloc; "{reason}\n{faults}")?;
+    let mut rest = format!(in alloc; "{reason}\n")?;
+    if let Ok(input) = str::from_utf8(input) {
+        push_faults::<T>(&mut rest, &Source::of(alloc, name, input)?)?;
+    }
     Ok(format!(in alloc; "refused: {rest}")?)
 }

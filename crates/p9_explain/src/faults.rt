@@ -10,7 +10,7 @@ use p9_nsfile::{BadForm, NsError, run_file};
 use p9_space::MountTable;
 use p9_tree::{Forest, Tree};
 use p9_world::{LineFault, WorldError, read_world};
-use std::alloc::Allocator;
+use std::alloc::{AllocError, Allocator};
 
 // How many bad lines of a section are listed at most.
 const FAULTS_MAX: u64 = 100;
@@ -31,59 +31,58 @@ impl<A: Allocator> Fault<A> {
     }
 }
 
-/// A line for each bad line of an input: where it is, the word, and what was expected.
-pub(crate) fn fault_lines<T: Tree>(
-    alloc: T::Alloc,
+/// Adds to a text a line for each bad line of an input: where it is, the word, and what was expected.
+pub(crate) fn push_faults<T: Tree>(
+    text: &mut String<T::Alloc>,
     source: &Source<'_, T::Alloc>,
-) -> Result<String<T::Alloc>, NoMemory> {
-    let sections = section_line_faults(alloc, source)?;
-    let world = faults_in::<T>(alloc, source, Section::World)?;
-    let ns = faults_in::<T>(alloc, source, Section::Ns)?;
-    let certificate = faults_in::<T>(alloc, source, Section::Cert)?;
-    let script = faults_in::<T>(alloc, source, Section::Script)?;
-    Ok(format!(in alloc; "{sections}{world}{ns}{certificate}{script}")?)
+) -> Result<(), NoMemory> {
+    push_section_lines(text, source)?;
+    for section in [Section::World, Section::Ns, Section::Cert, Section::Script] {
+        push_faults_in::<T>(text, source, section)?;
+    }
+    Ok(())
 }
 
-// The lines that are bad where sections begin, or before the first.
-fn section_line_faults<A: Allocator + Copy>(
-    alloc: A,
+// Adds the lines that are bad where sections begin, or before the first.
+fn push_section_lines<A: Allocator + Copy>(
+    text: &mut String<A>,
     source: &Source<'_, A>,
-) -> Result<String<A>, NoMemory> {
-    let mut text = String::new(alloc);
+) -> Result<(), AllocError> {
     for line in source.lines.as_slice() {
         if let Some(way) = line.way {
             writeln!(text, "{}:{}: {}", source.name, line.number, way.text())?;
         }
     }
-    Ok(text)
+    Ok(())
 }
 
-// The bad lines of a section. A line that is bad also with what is read in its place is listed once.
-fn faults_in<T: Tree>(
-    alloc: T::Alloc,
+// Adds the bad lines of a section. A line that is bad also with what is read in its place is listed
+// once.
+fn push_faults_in<T: Tree>(
+    text: &mut String<T::Alloc>,
     source: &Source<'_, T::Alloc>,
     section: Section,
-) -> Result<String<T::Alloc>, NoMemory> {
-    let mut text = String::new(alloc);
+) -> Result<(), NoMemory> {
+    let alloc = *text.allocator();
     let mut read = source.text(alloc, section)?;
     let mut last = None;
     for _ in 0..FAULTS_MAX {
         let Some(fault) = first_fault::<T>(alloc, section, read.as_str())? else {
-            return Ok(text);
+            return Ok(());
         };
         let again = last == Some(fault.line);
         read = with_line(alloc, read.as_str(), fault.line, fault.instead(again))?;
         last = Some(fault.line);
         if !again {
-            let line = source.line(alloc, section, fault.line)?;
-            writeln!(text, "{line}: {}", fault.words)?;
+            source.push_line(text, section, fault.line)?;
+            writeln!(text, ": {}", fault.words)?;
         }
         if fault.line == 0 {
-            return Ok(text);
+            return Ok(());
         }
     }
     writeln!(text, "{}: there may be more bad lines", source.name)?;
-    Ok(text)
+    Ok(())
 }
 
 // The first bad line of a section of this text. A section without lines has none.

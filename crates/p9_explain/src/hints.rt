@@ -3,53 +3,64 @@
 use crate::head::Section;
 use crate::right::{class_of, ruling_class};
 use crate::source::Source;
+use crate::teller::Teller;
 use p9_base::{NoMemory, NodeRef, Statement, User, statements};
 use p9_cert::Certificate;
 use p9_nsfile::OpFault;
 use p9_space::{MountTable, ROOT_PLACE, TO_EXECUTE};
 use p9_tree::Tree;
 use p9_world::World;
-use std::alloc::Allocator;
+use std::alloc::{AllocError, Allocator};
 
-/// The hints on an input, each with its line. `reports` are the operations of its namespace file that
-/// failed.
-pub(crate) fn hints<T: Tree>(
-    alloc: T::Alloc,
-    source: &Source<'_, T::Alloc>,
-    world: &World<T>,
+/// Adds the hints on an input to a text, each with its line. `reports` are the operations of its
+/// namespace file that failed.
+pub(crate) fn push_hints<T: Tree>(
+    text: &mut String<T::Alloc>,
+    teller: &Teller<'_, '_, T>,
     table: &MountTable<T::Alloc>,
     reports: &[(u64, OpFault)],
-) -> Result<String<T::Alloc>, NoMemory> {
-    let section = source.text(alloc, Section::World)?;
-    let statements = statements(alloc, section.as_str())?;
-    let mut text = strangers(alloc, source, world, statements.as_slice())?;
-    push_odd_names(&mut text, source, statements.as_slice())?;
-    push_carriage_returns(&mut text, source)?;
-    push_idle_users(&mut text, source, world, table, statements.as_slice())?;
-    push_failed_operations(&mut text, source, reports)?;
-    Ok(text)
+) -> Result<(), NoMemory> {
+    let section = teller.source.text(*text.allocator(), Section::World)?;
+    let statements = statements(*text.allocator(), section.as_str())?;
+    push_strangers(text, teller, statements.as_slice())?;
+    push_odd_names(text, teller.source, statements.as_slice())?;
+    push_carriage_returns(text, teller.source)?;
+    push_idle_users(text, teller, table, statements.as_slice())?;
+    push_failed_operations(text, teller.source, reports)
 }
 
-// The owners, group leaders and members who are no listed users, each once.
-fn strangers<T: Tree>(
-    alloc: T::Alloc,
-    source: &Source<'_, T::Alloc>,
-    world: &World<T>,
+// Adds a hint on a line of a section.
+fn push_hint<A: Allocator + Copy>(
+    text: &mut String<A>,
+    source: &Source<'_, A>,
+    (section, line): (Section, u64),
+    name: &str,
+    what: &str,
+) -> Result<(), AllocError> {
+    text.push_str("hint: ")?;
+    source.push_line(text, section, line)?;
+    writeln!(text, ": {name}{what}")
+}
+
+// Adds the owners, group leaders and members who are no listed users, each once.
+fn push_strangers<T: Tree>(
+    text: &mut String<T::Alloc>,
+    teller: &Teller<'_, '_, T>,
     statements: &[Statement<'_, T::Alloc>],
-) -> Result<String<T::Alloc>, NoMemory> {
-    let mut text = String::new(alloc);
-    let mut told = Vec::new(alloc);
+) -> Result<(), NoMemory> {
+    let world = teller.world;
+    let mut told = Vec::new(*text.allocator());
     for statement in statements {
         for name in names_of(statement.words.as_slice()) {
             if told.contains(name) || is_listed(world.users.as_slice(), name) {
                 continue;
             }
             told.push(*name)?;
-            let line = source.line(alloc, Section::World, statement.line)?;
-            writeln!(text, "hint: {line}: {name} is no listed user")?;
+            let at = (Section::World, statement.line);
+            push_hint(text, teller.source, at, name, " is no listed user")?;
         }
     }
-    Ok(text)
+    Ok(())
 }
 
 // The names of users in a line: an owner, or a leader and members.
@@ -79,8 +90,8 @@ fn push_odd_names<A: Allocator + Copy>(
 ) -> Result<(), NoMemory> {
     for statement in statements {
         if has_odd_name(statement.words.as_slice()) {
-            let line = source.line(*text.allocator(), Section::World, statement.line)?;
-            writeln!(text, "hint: {line}: a name begins with # or %")?;
+            let at = (Section::World, statement.line);
+            push_hint(text, source, at, "", "a name begins with # or %")?;
         }
     }
     Ok(())
@@ -107,11 +118,13 @@ fn push_carriage_returns<A: Allocator + Copy>(
     Ok(())
 }
 
-// The lines of the listed users who can't pass the root of the name space.
+// What is said of a listed user who can't pass the root of the name space.
+const IDLE: &str = " can't pass the root, and so reaches nothing below it";
+
+// The lines of these users.
 fn push_idle_users<T: Tree>(
     text: &mut String<T::Alloc>,
-    source: &Source<'_, T::Alloc>,
-    world: &World<T>,
+    teller: &Teller<'_, '_, T>,
     table: &MountTable<T::Alloc>,
     statements: &[Statement<'_, T::Alloc>],
 ) -> Result<(), NoMemory> {
@@ -119,12 +132,9 @@ fn push_idle_users<T: Tree>(
         let Some(user) = user_in(statement.words.as_slice()) else {
             continue;
         };
-        if !passes_root(world, table, &user) {
-            let line = source.line(*text.allocator(), Section::World, statement.line)?;
-            writeln!(
-                text,
-                "hint: {line}: {user} can't pass the root, and so reaches nothing below it"
-            )?;
+        if !passes_root(teller.world, table, &user) {
+            let at = (Section::World, statement.line);
+            push_hint(text, teller.source, at, user.as_str(), IDLE)?;
         }
     }
     Ok(())
@@ -163,32 +173,33 @@ fn push_failed_operations<A: Allocator + Copy>(
     reports: &[(u64, OpFault)],
 ) -> Result<(), NoMemory> {
     for (line, fault) in reports {
-        let line = source.line(*text.allocator(), Section::Ns, *line)?;
-        let why = fault.text();
-        writeln!(text, "hint: {line}: this failed, and did nothing: {why}")?;
+        let at = (Section::Ns, *line);
+        push_hint(
+            text,
+            source,
+            at,
+            "this failed, and did nothing: ",
+            fault.text(),
+        )?;
     }
     Ok(())
 }
 
-/// The hints on the rows of a certificate that are not in the least one.
-pub(crate) fn unneeded_rows<A: Allocator + Copy>(
-    alloc: A,
+/// Adds to a text the hints on the rows of a certificate that are not in the least one.
+pub(crate) fn push_unneeded_rows<A: Allocator + Copy>(
+    text: &mut String<A>,
     source: &Source<'_, A>,
-    certificate: Option<&Certificate<A>>,
+    certificate: &Certificate<A>,
     least: &Certificate<A>,
-) -> Result<String<A>, NoMemory> {
-    let mut text = String::new(alloc);
-    let Some(certificate) = certificate else {
-        return Ok(text);
-    };
-    let section = source.text(alloc, Section::Cert)?;
-    let statements = statements(alloc, section.as_str())?;
+) -> Result<(), NoMemory> {
+    let section = source.text(*text.allocator(), Section::Cert)?;
+    let statements = statements(*text.allocator(), section.as_str())?;
     let lines = statements.as_slice().iter().skip(1);
     for (row, statement) in certificate.rows().iter().zip(lines) {
         if !least.contains(*row) {
-            let line = source.line(alloc, Section::Cert, statement.line)?;
-            writeln!(text, "hint: {line}: no walk needs this row")?;
+            let at = (Section::Cert, statement.line);
+            push_hint(text, source, at, "", "no walk needs this row")?;
         }
     }
-    Ok(text)
+    Ok(())
 }

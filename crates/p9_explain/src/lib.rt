@@ -17,5 +17,6 @@ mod node_lines;
 mod path;
 mod right;
 mod source;
+mod teller;
 
 pub use explained::explain;

@@ -1,10 +1,11 @@
 //! By which right a user may do something with a node.
 
+use crate::teller::{Part, Teller};
 use p9_base::{NoMemory, NodeRef, Rights, User};
 use p9_space::{TO_EXECUTE, TO_READ, TO_WRITE, Who, may};
 use p9_tree::{Node, Tree};
 use p9_world::World;
-use std::alloc::Allocator;
+use std::alloc::{AllocError, Allocator};
 
 /// To read, to write or to search.
 pub(crate) const TO_USE: Rights = Rights {
@@ -30,20 +31,19 @@ pub(crate) enum Class {
 }
 
 impl Class {
-    /// The class in words, for a node: `others`, `its owner`, `a member of GROUP`,
+    /// Adds the class to a text, for a node of a group: `others`, `its owner`, `a member of GROUP`,
     /// `the leader of GROUP`.
-    pub fn words<A: Allocator + Copy, B: Allocator>(
+    pub fn push<A: Allocator + Copy>(
         self,
-        alloc: A,
-        node: &Node<B>,
-    ) -> Result<String<A>, NoMemory> {
-        let gid = node.gid();
-        Ok(match self {
-            Class::Other => String::from_str(alloc, "others")?,
-            Class::Owner => String::from_str(alloc, "its owner")?,
-            Class::Member => format!(in alloc; "a member of {gid}")?,
-            Class::Leader => format!(in alloc; "the leader of {gid}")?,
-        })
+        text: &mut String<A>,
+        group: &User,
+    ) -> Result<(), AllocError> {
+        match self {
+            Class::Other => text.push_str("others"),
+            Class::Owner => text.push_str("its owner"),
+            Class::Member => write!(text, "a member of {group}"),
+            Class::Leader => write!(text, "the leader of {group}"),
+        }
     }
 }
 
@@ -88,54 +88,75 @@ pub(crate) fn ruling_class<T: Tree>(
     }
 }
 
-/// By which right the first listed user who has one of these rights of a node uses it, in words; or
-/// else the first who rules it.
-pub(crate) fn right_words<T: Tree>(
-    alloc: T::Alloc,
-    world: &World<T>,
+// A user who has a right of a node: as what, and what for.
+#[derive(Clone, Copy)]
+struct Holder {
+    user: User,
+    class: Class,
+    deeds: &'static str,
+}
+
+/// Adds to a text by which right the first listed user who has one of these rights of a node uses it,
+/// in words; or else the first who rules it.
+pub(crate) fn push_right<T: Tree>(
+    text: &mut String<T::Alloc>,
+    teller: &Teller<'_, '_, T>,
     at: NodeRef,
     wanted: Rights,
-) -> Result<String<T::Alloc>, NoMemory> {
+) -> Result<(), NoMemory> {
+    let world = teller.world;
     let Some(node) = world.forest.node(at) else {
-        return Ok(String::new(alloc));
+        return Ok(());
     };
+    let Some(holder) = holder_of(world, node, wanted) else {
+        return Ok(());
+    };
+    let Holder { user, class, deeds } = holder;
+    if class != Class::Other {
+        teller.say(text, &[Part::User(user), Part::Text(", ")])?;
+    }
+    let may = if class == Class::Other {
+        " may "
+    } else {
+        ", may "
+    };
+    let group = *node.gid();
+    teller.say(
+        text,
+        &[
+            Part::Class(class, group),
+            Part::Text(may),
+            Part::Text(deeds),
+        ],
+    )
+}
+
+// The first listed user who has one of these rights of a node, or else the first who rules it.
+fn holder_of<T: Tree>(world: &World<T>, node: &Node<T::Alloc>, wanted: Rights) -> Option<Holder> {
     for user in world.users.as_slice() {
         if let Some(class) = class_of(world, user, node, wanted) {
-            let subject = subject(alloc, user, class, node)?;
-            let deeds = deeds(world, user, node);
-            return Ok(format!(in alloc; "{subject} may {deeds} it")?);
+            return Some(Holder {
+                user: *user,
+                class,
+                deeds: deeds(world, user, node),
+            });
         }
     }
-    rule_words(alloc, world, node)
+    ruler_of(world, node)
 }
 
-// The first listed user who rules the node, in words.
-fn rule_words<T: Tree>(
-    alloc: T::Alloc,
-    world: &World<T>,
-    node: &Node<T::Alloc>,
-) -> Result<String<T::Alloc>, NoMemory> {
+// The first listed user who rules a node.
+fn ruler_of<T: Tree>(world: &World<T>, node: &Node<T::Alloc>) -> Option<Holder> {
     for user in world.users.as_slice() {
         if let Some(class) = ruling_class(world, user, node) {
-            let subject = subject(alloc, user, class, node)?;
-            return Ok(format!(in alloc; "{subject} may change its mode")?);
+            return Some(Holder {
+                user: *user,
+                class,
+                deeds: "change its mode",
+            });
         }
     }
-    Ok(String::new(alloc))
-}
-
-// A user by a class: `others`, or `USER, CLASS,`.
-fn subject<A: Allocator + Copy, B: Allocator>(
-    alloc: A,
-    user: &User,
-    class: Class,
-    node: &Node<B>,
-) -> Result<String<A>, NoMemory> {
-    let words = class.words(alloc, node)?;
-    if class == Class::Other {
-        return Ok(words);
-    }
-    Ok(format!(in alloc; "{user}, {words},")?)
+    None
 }
 
 // Which of the three the user may do.
@@ -148,18 +169,18 @@ fn deeds<T: Tree>(world: &World<T>, user: &User, node: &Node<T::Alloc>) -> &'sta
     let write = may(who, node, TO_WRITE);
     let search = may(who, node, TO_EXECUTE);
     if read && write && search {
-        "read, write and search"
+        "read, write and search it"
     } else if read && write {
-        "read and write"
+        "read and write it"
     } else if read && search {
-        "read and search"
+        "read and search it"
     } else if write && search {
-        "write and search"
+        "write and search it"
     } else if read {
-        "read"
+        "read it"
     } else if write {
-        "write"
+        "write it"
     } else {
-        "search"
+        "search it"
     }
 }

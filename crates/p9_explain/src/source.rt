@@ -4,9 +4,7 @@ use crate::head::Section;
 use crate::layout::{Line, layout_of};
 use crate::node_lines::{NodeLine, line_of, node_lines};
 use p9_base::{NoMemory, NodeRef, statements};
-use p9_tree::{Node, Tree};
-use p9_world::World;
-use std::alloc::Allocator;
+use std::alloc::{AllocError, Allocator};
 
 /// An input, by its name.
 #[derive(Drop)]
@@ -31,40 +29,20 @@ impl<'a, A: Allocator + Copy> Source<'a, A> {
         section_text(alloc, self.lines.as_slice(), section)
     }
 
-    /// `NAME:L` for this line of a section.
-    pub fn line(&self, alloc: A, section: Section, line: u64) -> Result<String<A>, NoMemory> {
-        let number = number_in(self.lines.as_slice(), section, line);
-        Ok(format!(in alloc; "{}:{number}", self.name)?)
-    }
-
-    // `NAME:L, MODE OWNER GROUP` for a node: the line that made it, and what it says. A node of the
-    // sample world has no line.
-    fn node<B: Allocator>(
+    /// Adds `NAME:L` for this line of a section to a text.
+    pub fn push_line(
         &self,
-        alloc: A,
-        at: NodeRef,
-        node: &Node<B>,
-    ) -> Result<String<A>, NoMemory> {
-        let place = match line_of(self.nodes.as_slice(), at) {
-            Some(line) => self.line(alloc, Section::World, line)?,
-            None => String::from_str(alloc, "the sample world")?,
-        };
-        let bits = node.mode().permissions.bits();
-        Ok(format!(in alloc; "{place}, {bits:03o} {} {}", node.uid(), node.gid())?)
+        text: &mut String<A>,
+        section: Section,
+        line: u64,
+    ) -> Result<(), AllocError> {
+        let number = number_in(self.lines.as_slice(), section, line);
+        write!(text, "{}:{number}", self.name)
     }
-}
 
-/// `NAME:L, MODE OWNER GROUP` for a node: the line that made it, and what it says. What isn't there
-/// has no words.
-pub(crate) fn made<T: Tree>(
-    alloc: T::Alloc,
-    source: &Source<'_, T::Alloc>,
-    world: &World<T>,
-    at: NodeRef,
-) -> Result<String<T::Alloc>, NoMemory> {
-    match world.forest.node(at) {
-        Some(node) => source.node(alloc, at, node),
-        None => Ok(String::new(alloc)),
+    /// The line of the world that made a node.
+    pub fn line_of(&self, at: NodeRef) -> Option<u64> {
+        line_of(self.nodes.as_slice(), at)
     }
 }
 

@@ -1,0 +1,89 @@
+//! Sentences about a world, by their parts.
+
+use crate::head::Section;
+use crate::path::path_of;
+use crate::right::Class;
+use crate::source::Source;
+use p9_base::{NoMemory, NodeRef, User};
+use p9_tree::Tree;
+use p9_world::World;
+
+/// A part of a sentence.
+#[derive(Clone, Copy)]
+pub(crate) enum Part {
+    /// These words.
+    Text(&'static str),
+    /// A number.
+    Number(u64),
+    /// The name of a user.
+    User(User),
+    /// What a user is for a node: `others`, `its owner`, `a member of GROUP`, `the leader of GROUP`.
+    Class(Class, User),
+    /// The path of a node.
+    Path(NodeRef),
+    /// `NAME:L` for this line of a section.
+    Line(Section, u64),
+    /// `NAME:L, MODE OWNER GROUP` for a node: the line that made it, and what it says. What isn't
+    /// there has no words, and a node of the sample world no line.
+    Made(NodeRef),
+    /// `, bound at PATH` for a place and a node that is bound there, if that isn't its own place.
+    Bound(Option<NodeRef>, NodeRef),
+}
+
+/// Tells of a world, and of the input that it was read from.
+#[derive(Drop)]
+pub(crate) struct Teller<'a, 'b, T: Tree> {
+    pub source: &'a Source<'b, T::Alloc>,
+    pub world: &'a World<T>,
+}
+
+impl<T: Tree> Teller<'_, '_, T> {
+    /// Adds a sentence of these parts to a text.
+    pub fn say(&self, text: &mut String<T::Alloc>, parts: &[Part]) -> Result<(), NoMemory> {
+        for part in parts {
+            self.say_part(text, part)?;
+        }
+        Ok(())
+    }
+
+    // Adds a part.
+    fn say_part(&self, text: &mut String<T::Alloc>, part: &Part) -> Result<(), NoMemory> {
+        match part {
+            Part::Text(words) => text.push_str(words)?,
+            Part::Number(number) => write!(text, "{number}")?,
+            Part::User(user) => text.push_str(user.as_str())?,
+            Part::Class(class, group) => class.push(text, group)?,
+            Part::Path(at) => self.say_path(text, *at)?,
+            Part::Line(section, line) => self.source.push_line(text, *section, *line)?,
+            Part::Made(at) => self.say_made(text, *at)?,
+            Part::Bound(Some(place), at) if *place != *at => {
+                text.push_str(", bound at ")?;
+                self.say_path(text, *place)?;
+            }
+            Part::Bound(..) => {}
+        }
+        Ok(())
+    }
+
+    // Adds the path of a node.
+    fn say_path(&self, text: &mut String<T::Alloc>, at: NodeRef) -> Result<(), NoMemory> {
+        let path = path_of(*text.allocator(), self.world, at)?;
+        text.push_str(path.as_str())?;
+        Ok(())
+    }
+
+    // Adds the line that made a node, and what it says.
+    fn say_made(&self, text: &mut String<T::Alloc>, at: NodeRef) -> Result<(), NoMemory> {
+        let world = self.world;
+        let Some(node) = world.forest.node(at) else {
+            return Ok(());
+        };
+        match self.source.line_of(at) {
+            Some(line) => self.source.push_line(text, Section::World, line)?,
+            None => text.push_str("the sample world")?,
+        }
+        let bits = node.mode().permissions.bits();
+        write!(text, ", {bits:03o} {} {}", node.uid(), node.gid())?;
+        Ok(())
+    }
+}
