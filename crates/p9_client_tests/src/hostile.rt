@@ -130,8 +130,8 @@ fn check(rt: &impl Abort, alloc: Global, call: Call, reply: &str, missing: usize
 
 #[test]
 fn a_reply_comes_to_what_it_says(rt: HostRuntime) {
-    for (call, reply, wanted) in ROWS {
-        check(&rt, rt.alloc(), call, reply, 0, wanted);
+    for (call, reply, wanted) in &ROWS {
+        check(&rt, rt.alloc(), *call, reply, 0, wanted);
     }
 }
 

@@ -1,7 +1,7 @@
 //! Each allocation of a listing and of a whole read refused in turn.
 
 use crate::answered::Answered;
-use crate::kinds::outcome;
+use crate::kinds::{file_kind_of, outcome};
 use crate::pieces::{Fault, Pieces};
 use crate::served::{Served, attach, serve};
 use p9_client::{FileError, Session};
@@ -33,11 +33,13 @@ fn read_both(
 fn check(
     rt: &impl Abort,
     alloc: &Refusing<Global>,
-    mut session: Session<Answered<Served>, &Refusing<Global>>,
+    session: &mut Session<Answered<Served>, &Refusing<Global>>,
 ) {
-    let result = read_both(alloc, &mut session);
-    let came = outcome(&result);
-    assert!(rt; came == "no memory" || result.is_ok_and(|count| count == 7));
+    let (came, count) = match read_both(alloc, session) {
+        Ok(count) => ("done", count),
+        Err(error) => (file_kind_of(&error), 7),
+    };
+    assert!(rt; count == 7 && (came == "done" || came == "no memory"));
     assert!(rt; !session.is_failed());
 }
 
@@ -47,7 +49,7 @@ fn each_allocation_is_refused_in_turn(rt: HostRuntime) {
     let refusals = refuse_each(
         &memory,
         || attach(&rt, &memory, serve(&rt, rt.alloc())),
-        |session| check(&rt, &memory, session),
+        |mut session| check(&rt, &memory, &mut session),
     );
     assert!(rt; refusals > 10);
 }

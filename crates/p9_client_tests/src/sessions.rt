@@ -3,7 +3,7 @@
 use crate::answered::Answered;
 use crate::kinds::{file_kind_of, kind_of};
 use crate::served::{Served, attach, serve};
-use p9_client::{ClientError, FileError, Session};
+use p9_client::{ClientError, Entry, FileError, Session};
 use p9_wire::Stat;
 use std::alloc::Global;
 use std::process::Abort;
@@ -39,12 +39,10 @@ pub fn contents(
     assert!(rt; session.walk_path(0, 1, path).is_ok());
     assert!(rt; session.open(1, 0).is_ok());
     let mut out = Vec::new(alloc);
-    assert!(rt;
-        session
-            .read_to(1, &mut out)
-            .is_ok_and(|count| count == out.len() as u64)
-    );
-    assert!(rt; session.clunk(1).is_ok());
+    let read = session.read_to(1, &mut out);
+    let is_counted = read.is_ok_and(|count| count == out.len() as u64);
+    let goes_on = session.clunk(1).is_ok();
+    assert!(rt; is_counted && goes_on);
     out
 }
 
@@ -63,9 +61,9 @@ fn is_renamed(rt: &impl Abort, alloc: Global, session: &mut Session<Answered<Ser
     let mut stat = untouched();
     stat.name = "other";
     assert!(rt; session.wstat(1, stat).is_ok());
-    let entry = session.stat(alloc, 1).ok().expect(rt, "a stat");
-    assert!(rt; entry.name.as_str() == "other");
-    assert!(rt; entry.length == 6);
+    let is_other = session.stat(alloc, 1).is_ok_and(|entry| entry.name.as_str() == "other"
+        && entry.length == 6);
+    assert!(rt; is_other);
     assert!(rt; session.clunk(1).is_ok());
 }
 
@@ -86,31 +84,36 @@ fn ends(rt: &impl Abort, session: &mut Session<Answered<Served>, Global>) {
     assert!(rt; !session.is_failed());
 }
 
-// A file's life, where a call of the stream moves at most so many bytes.
-fn lives(rt: &impl Abort, alloc: Global, most: usize) {
+// A file's life.
+fn lives(rt: &impl Abort, alloc: Global, session: &mut Session<Answered<Served>, Global>) {
+    begins(rt, session);
+    is_renamed(rt, alloc, session);
+    let note = contents(rt, alloc, session, &["pub", "other"]);
+    assert!(rt; note.as_slice() == b"a note".as_slice());
+    ends(rt, session);
+}
+
+// A session whose calls of the stream move at most so many bytes.
+fn attach_with(rt: &impl Abort, alloc: Global, most: usize) -> Session<Answered<Served>, Global> {
     let mut stream = serve(rt, alloc);
     stream.most = most;
-    let mut session = attach(rt, alloc, stream);
-    begins(rt, &mut session);
-    is_renamed(rt, alloc, &mut session);
-    let note = contents(rt, alloc, &mut session, &["pub", "other"]);
-    assert!(rt; note.as_slice() == b"a note".as_slice());
-    ends(rt, &mut session);
+    attach(rt, alloc, stream)
 }
 
 #[test]
 fn a_file_lives(rt: HostRuntime) {
-    lives(&rt, rt.alloc(), usize::MAX);
-    lives(&rt, rt.alloc(), 1);
+    for most in [usize::MAX, 1] {
+        lives(&rt, rt.alloc(), &mut attach_with(&rt, rt.alloc(), most));
+    }
 }
 
-#[test]
-fn a_refusal_has_the_servers_text(rt: HostRuntime) {
-    let mut session = attach(&rt, rt.alloc(), serve(&rt, rt.alloc()));
+// A directory that only sys may read is walked to and not opened.
+fn is_refused(rt: &impl Abort, session: &mut Session<Answered<Served>, Global>) {
     assert!(rt; session.walk_path(0, 1, &["shut"]).is_ok());
-    let refused = session.open(1, 0);
-    let is_denied =
-        matches!(&refused, Err(ClientError::Refused(reason)) if reason.as_str() == "permission denied");
+    let is_denied = match session.open(1, 0) {
+        Err(ClientError::Refused(reason)) => reason.as_str() == "permission denied",
+        _ => false,
+    };
     assert!(rt; is_denied);
     let too_long = session.attach(2, "glen\0da", "");
     assert!(rt; too_long.is_err_and(|error| kind_of(&error) == "too long"));
@@ -118,12 +121,36 @@ fn a_refusal_has_the_servers_text(rt: HostRuntime) {
 }
 
 #[test]
+fn a_refusal_has_the_servers_text(rt: HostRuntime) {
+    is_refused(&rt, &mut attach_with(&rt, rt.alloc(), usize::MAX));
+}
+
+#[test]
 fn a_directory_is_listed(rt: HostRuntime) {
-    let mut session = attach(&rt, rt.alloc(), serve(&rt, rt.alloc()));
-    assert!(rt; session.walk_path(0, 1, &["pub"]).is_ok());
+    let alloc = rt.alloc();
+    let mut session = attach_with(&rt, alloc, usize::MAX);
+    is_listed(&rt, entries(&rt, alloc, &mut session, &["pub"]).as_slice());
+}
+
+// The entries of the directory that all may write.
+fn is_listed(rt: &impl Abort, entries: &[Entry<Global>]) {
+    let [hello, sub] = entries else {
+        panic!(rt; "two entries");
+    };
+    assert!(rt; hello.name.as_str() == "hello" && !hello.is_dir());
+    assert!(rt; sub.name.as_str() == "sub" && sub.is_dir());
+}
+
+/// The entries of the directory of a path.
+pub fn entries(
+    rt: &impl Abort,
+    alloc: Global,
+    session: &mut Session<Answered<Served>, Global>,
+    path: &[&str],
+) -> Vec<Entry<Global>> {
+    assert!(rt; session.walk_path(0, 1, path).is_ok());
     assert!(rt; session.open(1, 0).is_ok());
-    let entries = session.list(rt.alloc(), 1).expect(&rt, "a listing");
-    assert!(rt; entries.len() == 2);
-    assert!(rt; entries[0].name.as_str() == "hello" && !entries[0].is_dir());
-    assert!(rt; entries[1].name.as_str() == "sub" && entries[1].is_dir());
+    let entries = session.list(alloc, 1);
+    assert!(rt; session.clunk(1).is_ok());
+    entries.expect(rt, "a listing")
 }

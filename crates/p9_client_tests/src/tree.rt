@@ -2,7 +2,7 @@
 
 use crate::answered::Answered;
 use crate::served::{Served, attach, serve};
-use crate::sessions::contents;
+use crate::sessions::{contents, entries};
 use p9_base::DMDIR;
 use p9_client::{Entry, Session};
 use std::alloc::Global;
@@ -45,20 +45,6 @@ fn put(
     assert!(rt; session.clunk(1).is_ok());
 }
 
-// The entries of a directory.
-fn entries(
-    rt: &impl Abort,
-    alloc: Global,
-    session: &mut Session<Answered<Served>, Global>,
-    dir: &str,
-) -> Vec<Entry<Global>> {
-    assert!(rt; session.walk_path(0, 1, &["pub", dir]).is_ok());
-    assert!(rt; session.open(1, 0).is_ok());
-    let entries = session.list(alloc, 1).expect(rt, "a listing");
-    assert!(rt; session.clunk(1).is_ok());
-    entries
-}
-
 // Gets the file of an entry, whose name is its number, and compares its bytes.
 fn get(
     rt: &impl Abort,
@@ -75,23 +61,42 @@ fn get(
     assert!(rt; bytes.as_slice() == wanted.as_slice(), "{dir}/{number}");
 }
 
-#[test]
-fn a_tree_is_put_and_got_back(rt: HostRuntime) {
-    let alloc = rt.alloc();
-    let mut session = attach(&rt, alloc, serve(&rt, alloc));
+// Makes the directories, and puts all files.
+fn put_all(rt: &impl Abort, alloc: Global, session: &mut Session<Answered<Served>, Global>) {
     for dir in DIRS {
-        make_dir(&rt, &mut session, dir);
+        make_dir(rt, session, dir);
     }
     for number in 0..FILES {
-        put(&rt, alloc, &mut session, number);
+        put(rt, alloc, session, number);
     }
+}
+
+// Gets all files of a directory. Returns how many these are.
+fn get_all(
+    rt: &impl Abort,
+    alloc: Global,
+    session: &mut Session<Answered<Served>, Global>,
+    dir: &str,
+) -> usize {
+    let entries = entries(rt, alloc, session, &["pub", dir]);
+    for entry in &entries {
+        get(rt, alloc, session, dir, entry);
+    }
+    entries.len()
+}
+
+// Gets the files of all directories.
+fn is_got_back(rt: &impl Abort, alloc: Global, session: &mut Session<Answered<Served>, Global>) {
     let mut got = 0usize;
     for dir in DIRS {
-        let entries = entries(&rt, alloc, &mut session, dir);
-        got = got.saturating_add(entries.len());
-        for entry in &entries {
-            get(&rt, alloc, &mut session, dir, entry);
-        }
+        got = got.saturating_add(get_all(rt, alloc, session, dir));
     }
     assert!(rt; got == 300);
+}
+
+#[test]
+fn a_tree_is_put_and_got_back(rt: HostRuntime) {
+    let mut session = attach(&rt, rt.alloc(), serve(&rt, rt.alloc()));
+    put_all(&rt, rt.alloc(), &mut session);
+    is_got_back(&rt, rt.alloc(), &mut session);
 }
