@@ -17,16 +17,20 @@ pub(crate) fn draw_line<A: Allocator + Copy>(
     line: &Line,
     is_walk: bool,
 ) -> Result<(), NoMemory> {
-    svg.push("<path class=\"")?;
-    svg.push(class_of(line.link.kind, is_walk))?;
-    svg.number("\" d=\"M", line.start.x)?;
-    svg.number(" ", line.start.y)?;
-    svg.number("H", line.out)?;
-    svg.number("V", line.across)?;
-    svg.number("H", line.into)?;
-    svg.number("V", line.end.y)?;
-    svg.number("H", line.end.x)?;
-    svg.push("\"/>\n")
+    let class = class_of(line.link.kind, is_walk);
+    let (start, end) = (line.start, line.end);
+    let Line {
+        out,
+        across,
+        into,
+        ..
+    } = *line;
+    writeln!(
+        svg.text,
+        "<path class=\"{class}\" d=\"M{} {}H{out}V{across}H{into}V{}H{}\"/>",
+        start.x, start.y, end.y, end.x
+    )?;
+    Ok(())
 }
 
 // The style of a line.
@@ -68,18 +72,19 @@ pub(crate) fn draw_number<A: Allocator + Copy>(
         return Ok(());
     }
     let comes_from_the_left = line.into < line.end.x;
-    svg.number(
-        "<text class=\"number\" x=\"",
-        beside(line.end, comes_from_the_left, position),
-    )?;
-    svg.number("\" y=\"", line.end.y.saturating_add(4))?;
-    svg.push(if comes_from_the_left {
-        "\" text-anchor=\"end\">"
+    let x = beside(line.end, comes_from_the_left, position);
+    let y = line.end.y.saturating_add(4);
+    let anchor = if comes_from_the_left {
+        " text-anchor=\"end\""
     } else {
-        "\">"
-    })?;
+        ""
+    };
+    write!(
+        svg.text,
+        "<text class=\"number\" x=\"{x}\" y=\"{y}\"{anchor}>"
+    )?;
     if of > 1 {
-        svg.number("", position as u64)?;
+        write!(svg.text, "{position}")?;
     }
     svg.push(if create { "c</text>\n" } else { "</text>\n" })
 }
@@ -128,18 +133,16 @@ fn draw_rect<A: Allocator + Copy>(
     rect: Rect,
     mark: Mark,
 ) -> Result<(), NoMemory> {
-    svg.push("<rect class=\"")?;
-    svg.push(mark.look.class())?;
-    svg.push(if mark.number.is_some() { " walk" } else { "" })?;
-    svg.number("\" x=\"", rect.left)?;
-    svg.number("\" y=\"", rect.top)?;
-    svg.number("\" width=\"", rect.right.saturating_sub(rect.left))?;
-    svg.number("\" height=\"", HEIGHT)?;
-    svg.push(if mark.is_dir {
-        "\"/>\n"
-    } else {
-        "\" rx=\"9\"/>\n"
-    })
+    let class = mark.look.class();
+    let walk = if mark.number.is_some() { " walk" } else { "" };
+    let corners = if mark.is_dir { "" } else { " rx=\"9\"" };
+    let (x, y) = (rect.left, rect.top);
+    let width = rect.right.saturating_sub(rect.left);
+    writeln!(
+        svg.text,
+        "<rect class=\"{class}{walk}\" x=\"{x}\" y=\"{y}\" width=\"{width}\" height=\"{HEIGHT}\"{corners}/>"
+    )?;
+    Ok(())
 }
 
 // Draws a lock whose body begins at a point.
@@ -148,9 +151,9 @@ pub(crate) fn draw_lock<A: Allocator + Copy>(
     x: u64,
     y: u64,
 ) -> Result<(), NoMemory> {
-    svg.number("<path class=\"lock\" d=\"M", x)?;
-    svg.number(" ", y)?;
-    svg.push("h10v8h-10zm2 0v-3a3 3 0 0 1 6 0v3\"/>\n")
+    let lock = "h10v8h-10zm2 0v-3a3 3 0 0 1 6 0v3";
+    writeln!(svg.text, "<path class=\"lock\" d=\"M{x} {y}{lock}\"/>")?;
+    Ok(())
 }
 
 // Draws the number of a box on the walk, at its upper left corner.
@@ -159,11 +162,15 @@ fn draw_badge<A: Allocator + Copy>(
     rect: Rect,
     number: u64,
 ) -> Result<(), NoMemory> {
-    svg.number("<circle class=\"badge\" cx=\"", rect.left)?;
-    svg.number("\" cy=\"", rect.top)?;
-    svg.push("\" r=\"8\"/>\n")?;
-    svg.number("<text class=\"step\" x=\"", rect.left)?;
-    svg.number("\" y=\"", rect.top.saturating_add(4))?;
-    svg.number("\">", number)?;
-    svg.push("</text>\n")
+    let (x, y) = (rect.left, rect.top);
+    let below = y.saturating_add(4);
+    writeln!(
+        svg.text,
+        "<circle class=\"badge\" cx=\"{x}\" cy=\"{y}\" r=\"8\"/>"
+    )?;
+    writeln!(
+        svg.text,
+        "<text class=\"step\" x=\"{x}\" y=\"{below}\">{number}</text>"
+    )?;
+    Ok(())
 }

@@ -44,11 +44,10 @@ pub(crate) fn draw_head<A: Allocator + Copy>(
     width: u64,
     height: u64,
 ) -> Result<(), NoMemory> {
-    svg.number("<svg xmlns=\"http://www.w3.org/2000/svg\" width=\"", width)?;
-    svg.number("\" height=\"", height)?;
-    svg.number("\" viewBox=\"0 0 ", width)?;
-    svg.number(" ", height)?;
-    svg.push("\">\n")?;
+    writeln!(
+        svg.text,
+        "<svg xmlns=\"http://www.w3.org/2000/svg\" width=\"{width}\" height=\"{height}\" viewBox=\"0 0 {width} {height}\">"
+    )?;
     svg.push(STYLE)
 }
 
@@ -101,17 +100,17 @@ fn draw_sample<A: Allocator + Copy>(
     top: u64,
     text: &str,
 ) -> Result<(), NoMemory> {
-    svg.push("<rect class=\"")?;
-    svg.push(class)?;
-    svg.number("\" x=\"24\" y=\"", top)?;
-    svg.push("\" width=\"40\" height=\"16\"/>\n")?;
+    writeln!(
+        svg.text,
+        "<rect class=\"{class}\" x=\"24\" y=\"{top}\" width=\"40\" height=\"16\"/>"
+    )?;
     svg.line("name", 76, top.saturating_add(13), text)
 }
 
 // Draws a small arrow, and what it means.
 fn draw_arrow<A: Allocator + Copy>(svg: &mut Svg<A>, top: u64) -> Result<(), NoMemory> {
-    svg.number("<path class=\"member\" d=\"M24 ", top.saturating_add(8))?;
-    svg.push("h40\"/>\n")?;
+    let middle = top.saturating_add(8);
+    writeln!(svg.text, "<path class=\"member\" d=\"M24 {middle}h40\"/>")?;
     let text = "what stands there; 1, 2 and so on in a union; c: files may be created in it";
     svg.line("name", 76, top.saturating_add(13), text)
 }

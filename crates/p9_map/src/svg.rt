@@ -24,14 +24,6 @@ impl<A: Allocator + Copy> Svg<A> {
         Ok(())
     }
 
-    /// Adds SVG, and a number after it.
-    pub fn number(&mut self, svg: &str, number: u64) -> Result<(), NoMemory> {
-        self.text.push_str(svg)?;
-        let number = number.to_string(*self.text.allocator())?;
-        self.text.push_str(number.as_str())?;
-        Ok(())
-    }
-
     /// Adds a text, escaped.
     pub fn words(&mut self, text: &str) -> Result<(), NoMemory> {
         let text = escaped(*self.text.allocator(), text)?;
@@ -41,11 +33,7 @@ impl<A: Allocator + Copy> Svg<A> {
 
     /// Adds a line of text that begins at a point, of a style.
     pub fn line(&mut self, class: &str, x: u64, y: u64, text: &str) -> Result<(), NoMemory> {
-        self.number("<text x=\"", x)?;
-        self.number("\" y=\"", y)?;
-        self.push("\" class=\"")?;
-        self.push(class)?;
-        self.push("\">")?;
+        write!(self.text, "<text x=\"{x}\" y=\"{y}\" class=\"{class}\">")?;
         self.words(text)?;
         self.push("</text>\n")
     }
