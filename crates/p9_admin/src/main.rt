@@ -14,6 +14,7 @@ mod reason;
 mod seal;
 mod settings;
 mod status;
+mod streams;
 mod tree;
 mod view;
 mod words;

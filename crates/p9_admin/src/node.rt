@@ -9,12 +9,13 @@ use crate::output::Output;
 use crate::owner::{group_of, owner_of};
 use crate::reason::Reason;
 use crate::settings::{Settings, add_user};
-use p9_base::{FileFlags, NoMemory, Permissions};
+use crate::streams::in_memory;
+use p9_base::{FileFlags, Permissions};
 use p9_pack::{
     Accounts, DirLine, FileLine, PlainName, PlainUser, ServerName, fit_size, write_dir, write_file,
     write_server,
 };
-use std::alloc::{AllocError, Global};
+use std::alloc::Global;
 use std::fs::{FileType, Metadata, symlink_metadata};
 use std::io::{self, ErrorKind};
 use std::os::unix::fs::MetadataExt;
@@ -172,10 +173,7 @@ impl Packing {
 
     // Notes a group that occurs.
     fn note_group(&mut self, group: PlainUser) -> io::Result<()> {
-        match add_user(group, &mut self.groups) {
-            Ok(()) => Ok(()),
-            Err(NoMemory) => Err(io::Error::from(AllocError)),
-        }
+        in_memory(add_user(group, &mut self.groups))
     }
 
     // Leaves out what could not be read, unless an allocation failed.

@@ -1,8 +1,8 @@
 //! What is printed while directories are packed.
 
 use crate::reason::Reason;
+use crate::streams::in_memory;
 use p9_base::NoMemory;
-use std::alloc::AllocError;
 use std::io::{self, IsTerminal, Write};
 use std::time::Instant;
 
@@ -37,9 +37,7 @@ impl Output {
     /// Counts a line that was added to the text, and prints what there is, where that is much. The
     /// error of one that was not added is a failed allocation.
     pub fn count(&mut self, rt: &HostRuntime, added: Result<(), NoMemory>) -> io::Result<()> {
-        if let Err(NoMemory) = added {
-            return Err(io::Error::from(AllocError));
-        }
+        in_memory(added)?;
         self.lines = self.lines.saturating_add(1);
         if self.text.len() >= BLOCK {
             self.flush(rt)?;

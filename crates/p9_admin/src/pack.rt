@@ -11,9 +11,10 @@ use crate::owner::leader_of;
 use crate::reason::Reason;
 use crate::settings::settings_in;
 use crate::status::{BAD_COMMAND_LINE, DONE, LEFT_OUT};
+use crate::streams::in_memory;
 use crate::tree::pack_tree;
 use clap::ArgMatches;
-use p9_base::{NoMemory, Stop};
+use p9_base::Stop;
 use p9_pack::{
     Accounts, GroupLine, HideLine, PlainUser, ServerName, write_group, write_hide, write_user,
 };
@@ -77,10 +78,7 @@ fn pack_dirs(
 ) -> io::Result<u64> {
     let passwd = fs::read_to_string(rt, options.get_str("passwd").unwrap_or("/etc/passwd"))?;
     let group = fs::read_to_string(rt, options.get_str("group").unwrap_or("/etc/group"))?;
-    let accounts = match Accounts::read(rt.alloc(), passwd.as_str(), group.as_str()) {
-        Ok(accounts) => accounts,
-        Err(NoMemory) => return Err(io::Error::from(AllocError)),
-    };
+    let accounts = in_memory(Accounts::read(rt.alloc(), passwd.as_str(), group.as_str()))?;
     packing.output.text.extend_from_slice(b"%% world\n")?;
     pack_servers(rt, &mut packing, &accounts, name, dirs)?;
     pack_groups(rt, &mut packing, &accounts)?;
@@ -147,10 +145,7 @@ fn pack_group(
     name: PlainUser,
     leader: PlainUser,
 ) -> io::Result<()> {
-    let found = match accounts.members(rt.alloc(), name.as_str()) {
-        Ok(found) => found,
-        Err(NoMemory) => return Err(io::Error::from(AllocError)),
-    };
+    let found = in_memory(accounts.members(rt.alloc(), name.as_str()))?;
     let mut members = Vec::new(rt.alloc());
     for member in found.as_slice() {
         match PlainUser::new(member) {

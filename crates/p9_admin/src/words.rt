@@ -3,22 +3,169 @@
 use clap::{Arg, ArgAction, Command};
 use std::alloc::{AllocError, Global};
 
+// A command: its name, what it does, and its options and words.
+struct CommandShape {
+    name: &'static str,
+    about: &'static str,
+    args: &'static [ArgShape],
+}
+
+// An option or a word of a command: its name, the value's name for the help, what it is, and what
+// it takes.
+struct ArgShape {
+    name: &'static str,
+    value: &'static str,
+    help: &'static str,
+    takes: Takes,
+}
+
+// What an option or a word of a command takes.
+#[derive(Clone, Copy)]
+enum Takes {
+    /// An option without a value.
+    Nothing,
+    /// An option with a value.
+    Value,
+    /// An option with a value, or else this one is meant.
+    ValueOr(&'static str),
+    /// An option with a value, which may be repeated.
+    Values,
+    /// A word that may be there.
+    Word,
+    /// Words, of which there is at least one.
+    Words,
+}
+
+// The option that names the input.
+const INPUT_NAME: ArgShape = ArgShape {
+    name: "name",
+    value: "NAME",
+    help: "The input's name in what is printed",
+    takes: Takes::ValueOr("input"),
+};
+
+// The options of `pack`, and its directories.
+const PACK: [ArgShape; 10] = [
+    ArgShape {
+        name: "name",
+        value: "NAME",
+        help: "The server's name, for one directory",
+        takes: Takes::Value,
+    },
+    ArgShape {
+        name: "passwd",
+        value: "FILE",
+        help: "The users",
+        takes: Takes::ValueOr("/etc/passwd"),
+    },
+    ArgShape {
+        name: "group",
+        value: "FILE",
+        help: "The groups",
+        takes: Takes::ValueOr("/etc/group"),
+    },
+    ArgShape {
+        name: "owner",
+        value: "NAME",
+        help: "The owner of everything",
+        takes: Takes::Value,
+    },
+    ArgShape {
+        name: "group-owner",
+        value: "NAME",
+        help: "The group of everything",
+        takes: Takes::Value,
+    },
+    ArgShape {
+        name: "leader",
+        value: "NAME",
+        help: "The leader of each group",
+        takes: Takes::Value,
+    },
+    ArgShape {
+        name: "user",
+        value: "NAME",
+        help: "A listed user, who may attach",
+        takes: Takes::Values,
+    },
+    ArgShape {
+        name: "hide",
+        value: "[SERVER:]PATH",
+        help: "A directory to be hidden",
+        takes: Takes::Values,
+    },
+    ArgShape {
+        name: "skip",
+        value: "",
+        help: "Exits with 0 where something is left out",
+        takes: Takes::Nothing,
+    },
+    ArgShape {
+        name: "dirs",
+        value: "DIR",
+        help: "A directory of the disk, which becomes a server",
+        takes: Takes::Words,
+    },
+];
+
+const COMMANDS: [CommandShape; 5] = [
+    CommandShape {
+        name: "pack",
+        about: "Prints the text of a world of directories of the disk",
+        args: &PACK,
+    },
+    CommandShape {
+        name: "seal",
+        about: "Prints the input with its certificate, where what is hidden is out of reach",
+        args: &[
+            INPUT_NAME,
+            ArgShape {
+                name: "anyway",
+                value: "",
+                help: "Seals also where nothing is hidden, no user is listed, or an operation failed",
+                takes: Takes::Nothing,
+            },
+        ],
+    },
+    CommandShape {
+        name: "explain",
+        about: "Says in words whether what is hidden is out of reach, and why not",
+        args: &[INPUT_NAME],
+    },
+    CommandShape {
+        name: "tree",
+        about: "Prints the name space as a user meets it",
+        args: &[ArgShape {
+            name: "user",
+            value: "USER",
+            help: "A listed user; without one all places are printed",
+            takes: Takes::Word,
+        }],
+    },
+    CommandShape {
+        name: "map",
+        about: "Prints the input as a picture, in SVG",
+        args: &[],
+    },
+];
+
 /// The program's command line: a command and its options.
 pub(crate) fn program<'a>(alloc: Global) -> Result<Command<'a>, AllocError> {
-    let program = Command::new(alloc, "p9_admin")
-        .version("1.0")
-        .about("What an administrator of an export does")
-        .subcommand_required(true)
-        .arg_required_else_help(true);
-    let program = with(Ok(program), pack(alloc));
-    let program = with(program, seal(alloc));
-    let program = with(program, explain(alloc));
-    let program = with(program, tree(alloc));
-    with(program, Ok(map(alloc)))
+    let mut program = Ok(
+        Command::new(alloc, "p9_admin")
+            .version("1.0")
+            .about("What an administrator of an export does")
+            .subcommand_required(true)
+            .arg_required_else_help(true),
+    );
+    for shape in &COMMANDS {
+        program = with_subcommand(program, command_of(alloc, shape));
+    }
+    program
 }
 
 // The program with a command more, if there is memory for both.
-fn with<'a>(
+fn with_subcommand<'a>(
     program: Result<Command<'a>, AllocError>,
     command: Result<Command<'a>, AllocError>,
 ) -> Result<Command<'a>, AllocError> {
@@ -26,131 +173,45 @@ fn with<'a>(
 }
 
 // The command with an option or a word more, if there is memory for it.
-fn taking<'a>(
+fn with_arg<'a>(
     command: Result<Command<'a>, AllocError>,
     arg: Arg<'a>,
 ) -> Result<Command<'a>, AllocError> {
     command?.arg(arg)
 }
 
-// The command that packs directories.
-fn pack<'a>(alloc: Global) -> Result<Command<'a>, AllocError> {
-    let name = one(
-        alloc,
-        "name",
-        "NAME",
-        "The server's name, for one directory",
-    );
-    let command = Command::new(alloc, "pack")
-        .about("Prints the text of a world of directories of the disk")
-        .arg(name);
-    let command = taking(command, file(alloc, "passwd", "The users", "/etc/passwd"));
-    let command = taking(command, file(alloc, "group", "The groups", "/etc/group"));
-    let command = taking(
-        command,
-        one(alloc, "owner", "NAME", "The owner of everything"),
-    );
-    let command = taking(
-        command,
-        one(alloc, "group-owner", "NAME", "The group of everything"),
-    );
-    let command = taking(
-        command,
-        one(alloc, "leader", "NAME", "The leader of each group"),
-    );
-    let command = taking(
-        command,
-        many(alloc, "user", "NAME", "A listed user, who may attach"),
-    );
-    let command = taking(
-        command,
-        many(alloc, "hide", "[SERVER:]PATH", "A directory to be hidden"),
-    );
-    let command = taking(
-        command,
-        flag(alloc, "skip", "Exits with 0 where something is left out"),
-    );
-    taking(command, dirs(alloc))
+// A command with its options and words.
+fn command_of<'a>(alloc: Global, shape: &CommandShape) -> Result<Command<'a>, AllocError> {
+    let mut command = Ok(Command::new(alloc, shape.name).about(shape.about));
+    for arg in shape.args {
+        command = with_arg(command, arg_of(alloc, arg));
+    }
+    command
 }
 
-// The directories, of which there is at least one.
-fn dirs<'a>(alloc: Global) -> Arg<'a> {
-    Arg::new(alloc, "dirs")
-        .value_name("DIR")
-        .help("A directory of the disk, which becomes a server")
-        .required(true)
-        .num_args(1..)
-        .action(ArgAction::Append)
-}
-
-// The command that seals an input.
-fn seal<'a>(alloc: Global) -> Result<Command<'a>, AllocError> {
-    let anyway = flag(
-        alloc,
-        "anyway",
-        "Seals also where nothing is hidden, no user is listed, or an operation failed",
-    );
-    let command = Command::new(alloc, "seal")
-        .about("Prints the input with its certificate, where what is hidden is out of reach")
-        .arg(input_name(alloc));
-    taking(command, anyway)
-}
-
-// The command that explains an input.
-fn explain<'a>(alloc: Global) -> Result<Command<'a>, AllocError> {
-    Command::new(alloc, "explain")
-        .about("Says in words whether what is hidden is out of reach, and why not")
-        .arg(input_name(alloc))
-}
-
-// The option that names the input.
-fn input_name<'a>(alloc: Global) -> Arg<'a> {
-    one(alloc, "name", "NAME", "The input's name in what is printed").default_value("input")
-}
-
-// The command that prints a name space.
-fn tree<'a>(alloc: Global) -> Result<Command<'a>, AllocError> {
-    Command::new(alloc, "tree")
-        .about("Prints the name space as a user meets it")
-        .arg(user(alloc))
-}
-
-// The user of the command that prints a name space.
-fn user<'a>(alloc: Global) -> Arg<'a> {
-    Arg::new(alloc, "user")
-        .value_name("USER")
-        .help("A listed user; without one all places are printed")
-        .action(ArgAction::Set)
-}
-
-// The command that draws an input.
-fn map<'a>(alloc: Global) -> Command<'a> {
-    Command::new(alloc, "map").about("Prints the input as a picture, in SVG")
-}
-
-// An option with a value.
-fn one<'a>(alloc: Global, name: &'a str, value: &'a str, help: &'a str) -> Arg<'a> {
-    Arg::new(alloc, name)
-        .long(name)
-        .value_name(value)
-        .help(help)
-        .action(ArgAction::Set)
-}
-
-// An option that names a file, or else this one is meant.
-fn file<'a>(alloc: Global, name: &'a str, help: &'a str, path: &'a str) -> Arg<'a> {
-    one(alloc, name, "FILE", help).default_value(path)
-}
-
-// An option with a value, which may be repeated.
-fn many<'a>(alloc: Global, name: &'a str, value: &'a str, help: &'a str) -> Arg<'a> {
-    one(alloc, name, value, help).action(ArgAction::Append)
-}
-
-// An option without a value.
-fn flag<'a>(alloc: Global, name: &'a str, help: &'a str) -> Arg<'a> {
-    Arg::new(alloc, name)
-        .long(name)
-        .help(help)
-        .action(ArgAction::SetTrue)
+// An option or a word.
+fn arg_of<'a>(alloc: Global, shape: &ArgShape) -> Arg<'a> {
+    let arg = Arg::new(alloc, shape.name).help(shape.help);
+    match shape.takes {
+        Takes::Nothing => arg.long(shape.name).action(ArgAction::SetTrue),
+        Takes::Value => arg
+            .long(shape.name)
+            .value_name(shape.value)
+            .action(ArgAction::Set),
+        Takes::ValueOr(value) => arg
+            .long(shape.name)
+            .value_name(shape.value)
+            .default_value(value)
+            .action(ArgAction::Set),
+        Takes::Values => arg
+            .long(shape.name)
+            .value_name(shape.value)
+            .action(ArgAction::Append),
+        Takes::Word => arg.value_name(shape.value).action(ArgAction::Set),
+        Takes::Words => arg
+            .value_name(shape.value)
+            .required(true)
+            .num_args(1..)
+            .action(ArgAction::Append),
+    }
 }
