@@ -52,13 +52,13 @@ fn fine(call: Call, len: usize) -> Play {
     }
 }
 
-// A session with a server of this file, where this goes wrong.
-fn session_with(
-    rt: &impl Abort,
-    alloc: Global,
-    file: Vec<u8, Global>,
-    play: Play,
-) -> Session<Answered<Pieces>, Global> {
+// A session with a server, where this goes wrong. The file that is read is there, and that which is
+// written is empty.
+fn session_with(rt: &impl Abort, alloc: Global, play: Play) -> Session<Answered<Pieces>, Global> {
+    let file = match play.call {
+        Call::Read => file_of(rt, alloc, play.len),
+        Call::Write => Vec::new(alloc),
+    };
     let server = Pieces::new(alloc, file, play.fault, play.place);
     let mut stream = Answered::new(alloc, server);
     stream.broken = play.broken;
@@ -68,20 +68,37 @@ fn session_with(
 // Plays a call, which comes to what is wanted. Returns the most requests that were on their way at
 // once.
 fn check(rt: &impl Abort, alloc: Global, play: Play, wanted: &str) -> usize {
-    let bytes = file_of(rt, alloc, play.len);
+    let mut session = session_with(rt, alloc, play);
     match play.call {
-        Call::Read => {
-            let mut session = session_with(rt, alloc, bytes, play);
-            let mut out = Vec::new(alloc);
-            let came = outcome(&session.read_to(1, &mut out));
-            settle(rt, &mut session, out.as_slice(), came, wanted, play)
-        }
-        Call::Write => {
-            let mut session = session_with(rt, alloc, Vec::new(alloc), play);
-            let came = outcome(&session.write_whole(1, bytes.as_slice()));
-            settle(rt, &mut session, bytes.as_slice(), came, wanted, play)
-        }
+        Call::Read => read(rt, alloc, &mut session, play, wanted),
+        Call::Write => write(rt, alloc, &mut session, play, wanted),
     }
+}
+
+// Reads the file.
+fn read(
+    rt: &impl Abort,
+    alloc: Global,
+    session: &mut Session<Answered<Pieces>, Global>,
+    play: Play,
+    wanted: &str,
+) -> usize {
+    let mut out = Vec::new(alloc);
+    let came = outcome(&session.read_to(1, &mut out));
+    settle(rt, session, out.as_slice(), came, wanted, play)
+}
+
+// Writes the file.
+fn write(
+    rt: &impl Abort,
+    alloc: Global,
+    session: &mut Session<Answered<Pieces>, Global>,
+    play: Play,
+    wanted: &str,
+) -> usize {
+    let bytes = file_of(rt, alloc, play.len);
+    let came = outcome(&session.write_whole(1, bytes.as_slice()));
+    settle(rt, session, bytes.as_slice(), came, wanted, play)
 }
 
 // What a call came to is what is wanted. Where all is done the bytes are those of the file. The
@@ -242,16 +259,22 @@ impl Write for Narrow {
     }
 }
 
+// A file of 17 pieces is read by a writer that has room for fewer.
+fn is_output_error(
+    rt: &impl Abort,
+    session: &mut Session<Answered<Pieces>, Global>,
+    pieces: usize,
+) {
+    let room = pieces.saturating_mul(PIECE);
+    let came = outcome(&session.read_to(1, &mut Narrow { room }));
+    assert!(rt; came == "output", "{pieces}: {came}");
+    goes_on_after(rt, session, came);
+}
+
 #[test]
 fn the_session_goes_on_where_the_writer_fails(rt: HostRuntime) {
     for pieces in 0..17 {
-        let file = file_of(&rt, rt.alloc(), 17 * PIECE);
-        let mut session = session_with(&rt, rt.alloc(), file, fine(Call::Read, 0));
-        let mut out = Narrow {
-            room: pieces * PIECE,
-        };
-        let came = outcome(&session.read_to(1, &mut out));
-        assert!(rt; came == "output", "{pieces}: {came}");
-        goes_on_after(&rt, &mut session, came);
+        let mut session = session_with(&rt, rt.alloc(), fine(Call::Read, 17 * PIECE));
+        is_output_error(&rt, &mut session, pieces);
     }
 }

@@ -59,7 +59,7 @@ fn each_allocation_is_refused_in_turn(rt: HostRuntime) {
 fn check_pieces(
     rt: &impl Abort,
     alloc: &Refusing<Global>,
-    mut session: Session<Answered<Pieces>, &Refusing<Global>>,
+    session: &mut Session<Answered<Pieces>, &Refusing<Global>>,
 ) {
     let written = outcome(&session.write_whole(1, &[7; LONG]));
     let mut out = Vec::new(alloc);
@@ -79,7 +79,7 @@ fn each_allocation_of_replies_is_refused_in_turn(rt: HostRuntime) {
             let server = Pieces::new(rt.alloc(), Vec::new(rt.alloc()), Fault::Nothing, 0);
             Session::new(&memory, Answered::new(rt.alloc(), server), MSIZE).expect(&rt, "memory")
         },
-        |session| check_pieces(&rt, &memory, session),
+        |mut session| check_pieces(&rt, &memory, &mut session),
     );
     assert!(rt; refusals > 20);
 }
