@@ -155,7 +155,7 @@ fn files_of_any_number_of_pieces_are_read_and_written(rt: HostRuntime) {
 // requests from the first of these numbers up to the second. A short reply is not the end. After a
 // tag that nobody waits for no further reply is waited for. A refusal of a read behind the end is
 // dropped.
-const ROWS: [(Call, Fault, usize, usize, &str); 17] = [
+const ROWS: [(Call, Fault, usize, usize, &str); 16] = [
     (Call::Read, Fault::Short, 0, 20, "done"),
     (Call::Write, Fault::Short, 0, 20, "done"),
     (Call::Read, Fault::Late, 0, 25, "done"),
@@ -170,9 +170,8 @@ const ROWS: [(Call, Fault, usize, usize, &str); 17] = [
     (Call::Read, Fault::More, 0, 17, "unasked"),
     (Call::Write, Fault::More, 0, 17, "unasked"),
     (Call::Read, Fault::More, 18, 25, "unasked"),
-    (Call::Read, Fault::OtherType, 0, 17, "other type"),
+    (Call::Read, Fault::OtherType, 0, 25, "other type"),
     (Call::Write, Fault::OtherType, 0, 17, "other type"),
-    (Call::Read, Fault::OtherType, 18, 25, "other type"),
 ];
 
 #[test]
