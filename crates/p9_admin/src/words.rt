@@ -151,42 +151,27 @@ const COMMANDS: [CommandShape; 5] = [
 
 /// The program's command line: a command and its options.
 pub(crate) fn program<'a>(alloc: Global) -> Result<Command<'a>, AllocError> {
-    let mut program = Ok(
-        Command::new(alloc, "p9_admin")
-            .version("1.0")
-            .about("What an administrator of an export does")
-            .subcommand_required(true)
-            .arg_required_else_help(true),
-    );
+    let mut commands = Vec::new(alloc);
     for shape in &COMMANDS {
-        program = with_subcommand(program, command_of(alloc, shape));
+        commands.push(command_of(alloc, shape)?)?;
     }
-    program
-}
-
-// The program with a command more, if there is memory for both.
-fn with_subcommand<'a>(
-    program: Result<Command<'a>, AllocError>,
-    command: Result<Command<'a>, AllocError>,
-) -> Result<Command<'a>, AllocError> {
-    program?.subcommand(command?)
-}
-
-// The command with an option or a word more, if there is memory for it.
-fn with_arg<'a>(
-    command: Result<Command<'a>, AllocError>,
-    arg: Arg<'a>,
-) -> Result<Command<'a>, AllocError> {
-    command?.arg(arg)
+    Command::new(alloc, "p9_admin")
+        .version("1.0")
+        .about("What an administrator of an export does")
+        .subcommand_required(true)
+        .arg_required_else_help(true)
+        .subcommands(commands)
 }
 
 // A command with its options and words.
 fn command_of<'a>(alloc: Global, shape: &CommandShape) -> Result<Command<'a>, AllocError> {
-    let mut command = Ok(Command::new(alloc, shape.name).about(shape.about));
+    let mut args = Vec::new(alloc);
     for arg in shape.args {
-        command = with_arg(command, arg_of(alloc, arg));
+        args.push(arg_of(alloc, arg))?;
     }
-    command
+    Command::new(alloc, shape.name)
+        .about(shape.about)
+        .args(args)
 }
 
 // An option or a word.

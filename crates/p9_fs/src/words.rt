@@ -107,42 +107,37 @@ fn mode_of(word: &str) -> Option<u32> {
 
 /// The program's command line.
 pub fn program<'a>(alloc: Global) -> Result<Command<'a>, AllocError> {
-    let mut program = Command::new(alloc, "p9_fs")
+    let mut options = Vec::new(alloc);
+    for shape in &OPTIONS {
+        options.push(option(alloc, shape))?;
+    }
+    let mut commands = file_commands(alloc)?;
+    commands.push(Command::new(alloc, "sh").about("runs the commands of the standard input"))?;
+    Command::new(alloc, "p9_fs")
         .about("looks at an export of 9P2000, and copies files from it and to it")
         .version("1.0")
         .subcommand_required(true)
-        .arg(option(alloc, &ADDR).required(true));
-    for shape in &OPTIONS {
-        program = with_arg(program, option(alloc, shape));
-    }
-    let msize = option(alloc, &MSIZE).value_parser(value_parser!(usize));
-    let program = with_verbs(alloc, with_arg(program, msize));
-    let shell = Command::new(alloc, "sh").about("runs the commands of the standard input");
-    with_subcommand(program, Ok(shell))
-}
-
-// The program with a command more, if there is memory for both.
-fn with_subcommand<'a>(
-    program: Result<Command<'a>, AllocError>,
-    command: Result<Command<'a>, AllocError>,
-) -> Result<Command<'a>, AllocError> {
-    program?.subcommand(command?)
-}
-
-// The command with an option or a word more, if there is memory for it.
-fn with_arg<'a>(
-    command: Result<Command<'a>, AllocError>,
-    arg: Arg<'a>,
-) -> Result<Command<'a>, AllocError> {
-    command?.arg(arg)
+        .args(options)?
+        .subcommands(commands)
 }
 
 /// A line of commands, after the program's name.
 pub fn line_program<'a>(alloc: Global) -> Result<Command<'a>, AllocError> {
-    let program = Command::new(alloc, "p9_fs")
+    Command::new(alloc, "p9_fs")
         .disable_version_flag(true)
-        .subcommand_required(true);
-    with_verbs(alloc, Ok(program))
+        .subcommand_required(true)
+        .subcommands(file_commands(alloc)?)
+}
+
+// What the value of an option is.
+#[derive(Clone, Copy)]
+enum Takes {
+    /// A text, and the option has to be there.
+    NeededText,
+    /// A text.
+    Text,
+    /// A number.
+    Number,
 }
 
 // An option with a value: its name, its letter, the value's name for the help, and what it is.
@@ -151,59 +146,96 @@ struct OptionShape {
     letter: char,
     value: &'static str,
     help: &'static str,
+    takes: Takes,
 }
 
-const ADDR: OptionShape = OptionShape {
-    name: "addr",
-    letter: 'a',
-    value: "ADDR",
-    help: "the server's address, HOST:PORT",
-};
-
-const OPTIONS: [OptionShape; 2] = [
+const OPTIONS: [OptionShape; 4] = [
+    OptionShape {
+        name: "addr",
+        letter: 'a',
+        value: "ADDR",
+        help: "the server's address, HOST:PORT",
+        takes: Takes::NeededText,
+    },
     OptionShape {
         name: "user",
         letter: 'u',
         value: "USER",
         help: "the user to attach as, or else $USER, or none",
+        takes: Takes::Text,
     },
     OptionShape {
         name: "aname",
         letter: 'n',
         value: "ANAME",
         help: "the tree to attach",
+        takes: Takes::Text,
+    },
+    OptionShape {
+        name: "msize",
+        letter: 'm',
+        value: "MSIZE",
+        help: "the most bytes of a message",
+        takes: Takes::Number,
     },
 ];
 
-const MSIZE: OptionShape = OptionShape {
-    name: "msize",
-    letter: 'm',
-    value: "MSIZE",
-    help: "the most bytes of a message",
-};
-
 // An option with a value.
 fn option<'a>(alloc: Global, shape: &OptionShape) -> Arg<'a> {
-    Arg::new(alloc, shape.name)
+    let arg = Arg::new(alloc, shape.name)
         .short(shape.letter)
         .value_name(shape.value)
         .help(shape.help)
-        .action(ArgAction::Set)
+        .action(ArgAction::Set);
+    match shape.takes {
+        Takes::NeededText => arg.required(true),
+        Takes::Text => arg,
+        Takes::Number => arg.value_parser(value_parser!(usize)),
+    }
 }
 
-// A word, which has to be there or not.
-fn word<'a>(alloc: Global, id: &'a str, value: &'a str, is_required: bool) -> Arg<'a> {
-    Arg::new(alloc, id)
-        .value_name(value)
-        .required(is_required)
-        .action(ArgAction::Set)
+// A flag of a command: its name, its letter, and what it asks for.
+struct Flag {
+    name: &'static str,
+    letter: char,
+    help: &'static str,
 }
 
-// A flag: its name, its letter, and what it asks for.
-type Flag = (&'static str, char, &'static str);
+// A word of a command: its name, one for the help, and whether it has to be there.
+struct Word {
+    name: &'static str,
+    value: &'static str,
+    is_needed: bool,
+}
 
-// A word: its name, one for the help, and whether it has to be there.
-type Word = (&'static str, &'static str, bool);
+const PATH: Word = Word {
+    name: "path",
+    value: "PATH",
+    is_needed: true,
+};
+
+const ANY_PATH: Word = Word {
+    is_needed: false,
+    ..PATH
+};
+
+const LOCAL: Word = Word {
+    name: "local",
+    value: "LOCAL",
+    is_needed: true,
+};
+
+const NAME: Word = Word {
+    name: "name",
+    value: "NAME",
+    is_needed: true,
+};
+
+const MODE: Word = Word {
+    name: "mode",
+    value: "MODE",
+    is_needed: true,
+};
 
 // A command on files: its name, what it does, the flag that it may take, and the words after it.
 struct Shape {
@@ -218,80 +250,90 @@ const SHAPES: [Shape; 9] = [
     Shape {
         name: "ls",
         about: "lists a directory or a file",
-        flag: Some(("long", 'l', "in long lines")),
-        words: &[("path", "PATH", false)],
+        flag: Some(Flag {
+            name: "long",
+            letter: 'l',
+            help: "in long lines",
+        }),
+        words: &[ANY_PATH],
     },
     Shape {
         name: "get",
         about: "copies a file from the server",
-        flag: Some(("recursive", 'r', "a directory with all that is in it")),
-        words: &[("path", "PATH", true), ("local", "LOCAL", true)],
+        flag: Some(Flag {
+            name: "recursive",
+            letter: 'r',
+            help: "a directory with all that is in it",
+        }),
+        words: &[PATH, LOCAL],
     },
     Shape {
         name: "cat",
         about: "prints a file",
         flag: None,
-        words: &[("path", "PATH", true)],
+        words: &[PATH],
     },
     Shape {
         name: "stat",
         about: "prints all that the server reports of a file",
         flag: None,
-        words: &[("path", "PATH", true)],
+        words: &[PATH],
     },
     Shape {
         name: "put",
         about: "copies a file to the server",
         flag: None,
-        words: &[("local", "LOCAL", true), ("path", "PATH", true)],
+        words: &[LOCAL, PATH],
     },
     Shape {
         name: "mkdir",
         about: "makes a directory",
         flag: None,
-        words: &[("path", "PATH", true)],
+        words: &[PATH],
     },
     Shape {
         name: "rm",
         about: "removes a file or an empty directory",
         flag: None,
-        words: &[("path", "PATH", true)],
+        words: &[PATH],
     },
     Shape {
         name: "mv",
         about: "gives a file another name, in the same directory",
         flag: None,
-        words: &[("path", "PATH", true), ("name", "NAME", true)],
+        words: &[PATH, NAME],
     },
     Shape {
         name: "chmod",
         about: "gives a file the permissions of an octal number",
         flag: None,
-        words: &[("mode", "MODE", true), ("path", "PATH", true)],
+        words: &[MODE, PATH],
     },
 ];
 
-// The program with the commands on files, if there is memory for all.
-fn with_verbs<'a>(
-    alloc: Global,
-    program: Result<Command<'a>, AllocError>,
-) -> Result<Command<'a>, AllocError> {
-    let mut program = program;
+// The commands on files.
+fn file_commands<'a>(alloc: Global) -> Result<Vec<Command<'a>>, AllocError> {
+    let mut commands = Vec::new(alloc);
     for shape in &SHAPES {
-        program = with_subcommand(program, command_of(alloc, shape));
+        commands.push(command_of(alloc, shape)?)?;
     }
-    program
+    Ok(commands)
 }
 
 // A command on files.
 fn command_of<'a>(alloc: Global, shape: &Shape) -> Result<Command<'a>, AllocError> {
-    let mut command = Ok(Command::new(alloc, shape.name).about(shape.about));
-    if let Some((id, letter, help)) = shape.flag {
-        let flag = Arg::new(alloc, id).short(letter).help(help);
-        command = with_arg(command, flag.action(ArgAction::SetTrue));
+    let mut args = Vec::new(alloc);
+    if let Some(flag) = &shape.flag {
+        let arg = Arg::new(alloc, flag.name)
+            .short(flag.letter)
+            .help(flag.help);
+        args.push(arg.action(ArgAction::SetTrue))?;
     }
-    for (id, value, is_required) in shape.words {
-        command = with_arg(command, word(alloc, id, value, *is_required));
+    for word in shape.words {
+        let arg = Arg::new(alloc, word.name).value_name(word.value);
+        args.push(arg.required(word.is_needed).action(ArgAction::Set))?;
     }
-    command
+    Command::new(alloc, shape.name)
+        .about(shape.about)
+        .args(args)
 }
