@@ -123,71 +123,31 @@ fn file<'a>(
     })
 }
 
-// The users of the lines.
-#[derive(Drop)]
-struct Users {
-    sys: PlainUser,
-    glenda: PlainUser,
+// A line that hides a directory.
+fn hide<'a>(server: ServerName, path: &'a [PlainName]) -> WorldLine<'a> {
+    WorldLine::Hide(HideLine { server, path })
 }
 
 // Writes the lines of the text.
 fn write_lines<A: Allocator + Copy>(rt: &impl Abort, alloc: A, out: &mut Vec<u8, A>) {
-    let users = Users {
-        sys: user(rt, "sys"),
-        glenda: user(rt, "glenda"),
-    };
-    let main = ServerName::new("main").ok().expect(rt, "a server");
+    let (sys, glenda) = (user(rt, "sys"), user(rt, "glenda"));
+    let server = ServerName::new("main").ok().expect(rt, "a server");
     let usr = [name(rt, "usr")];
-    write_server(rt, alloc, main, out);
-    write_dir(rt, alloc, &[], 0o755, (users.sys, users.sys), out);
-    write_dir(rt, alloc, &usr, 0o750, (users.glenda, users.sys), out);
-    write_files(rt, alloc, &users, out);
-    write_user(rt, alloc, users.glenda, out);
-    write_group(rt, alloc, &users, out);
-    write_hide(rt, alloc, main, &usr, out);
-    write_hide(rt, alloc, main, &[], out);
-}
-
-// Writes the line of a server.
-fn write_server<A: Allocator + Copy>(
-    rt: &impl Abort,
-    alloc: A,
-    server: ServerName,
-    out: &mut Vec<u8, A>,
-) {
-    let line = WorldLine::Server(server);
-    write(rt, alloc, &line, out);
-}
-
-// Writes the line of a directory.
-fn write_dir<A: Allocator + Copy>(
-    rt: &impl Abort,
-    alloc: A,
-    path: &[PlainName],
-    bits: u32,
-    (uid, gid): (PlainUser, PlainUser),
-    out: &mut Vec<u8, A>,
-) {
-    let line = dir(path, bits, uid, gid);
-    write(rt, alloc, &line, out);
-}
-
-// Writes the line of a listed user.
-fn write_user<A: Allocator + Copy>(
-    rt: &impl Abort,
-    alloc: A,
-    user: PlainUser,
-    out: &mut Vec<u8, A>,
-) {
-    let line = WorldLine::User(user);
-    write(rt, alloc, &line, out);
+    write(rt, alloc, &WorldLine::Server(server), out);
+    write(rt, alloc, &dir(&[], 0o755, sys, sys), out);
+    write(rt, alloc, &dir(&usr, 0o750, glenda, sys), out);
+    write_files(rt, alloc, (glenda, sys), out);
+    write(rt, alloc, &WorldLine::User(glenda), out);
+    write_group(rt, alloc, sys, &[glenda, sys], out);
+    write(rt, alloc, &hide(server, &usr), out);
+    write(rt, alloc, &hide(server, &[]), out);
 }
 
 // Writes the lines of the files.
 fn write_files<A: Allocator + Copy>(
     rt: &impl Abort,
     alloc: A,
-    users: &Users,
+    (uid, gid): (PlainUser, PlainUser),
     out: &mut Vec<u8, A>,
 ) {
     for (text, mode, bytes) in [
@@ -195,52 +155,25 @@ fn write_files<A: Allocator + Copy>(
         ("\u{e9}", (ALL_FLAGS, 0o406), b"\0\xff\n".as_slice()),
         (LONG, (EXCLUSIVE, 0), b"hi\n".as_slice()),
     ] {
-        write_file(rt, alloc, text, mode, users, bytes, out);
+        let path = [name(rt, "usr"), name(rt, text)];
+        write(rt, alloc, &file(&path, mode, uid, gid, bytes), out);
     }
 }
 
-// Writes the line of a file in the directory `usr`.
-fn write_file<A: Allocator + Copy>(
-    rt: &impl Abort,
-    alloc: A,
-    text: &str,
-    mode: (FileFlags, u32),
-    users: &Users,
-    bytes: &[u8],
-    out: &mut Vec<u8, A>,
-) {
-    let path = [name(rt, "usr"), name(rt, text)];
-    let line = file(&path, mode, users.glenda, users.sys, bytes);
-    write(rt, alloc, &line, out);
-}
-
-// Writes the line of the group.
+// Writes the line of a group, whose leader is its first member.
 fn write_group<A: Allocator + Copy>(
     rt: &impl Abort,
     alloc: A,
-    users: &Users,
+    name: PlainUser,
+    members: &[PlainUser; 2],
     out: &mut Vec<u8, A>,
 ) {
-    let members = [users.glenda, users.sys];
     let group = GroupLine {
-        name: users.sys,
-        leader: users.glenda,
-        members: &members,
+        name,
+        leader: members[0],
+        members,
     };
-    let line = WorldLine::Group(group);
-    write(rt, alloc, &line, out);
-}
-
-// Writes a line that hides a directory.
-fn write_hide<A: Allocator + Copy>(
-    rt: &impl Abort,
-    alloc: A,
-    server: ServerName,
-    path: &[PlainName],
-    out: &mut Vec<u8, A>,
-) {
-    let line = WorldLine::Hide(HideLine { server, path });
-    write(rt, alloc, &line, out);
+    write(rt, alloc, &WorldLine::Group(group), out);
 }
 
 // Adds what a node is.
