@@ -4,7 +4,7 @@ mod Smalls
 mod Plays
 mod Worlds
 mod Prints
-mod Paths
+pub mod Paths
 mod NameSpaces
 mod Machines
 mod Judgements

@@ -1,10 +1,11 @@
 -- The names on the way up to a server's root.
 use Rattle.std.proofs.Common.{◌≡◌, ℕ, zero, suc, ◌-◌, ◌<◌, List, [], ◌∷◌, ◌++◌, Bor, Option, Some}
 use Rattle.std.proofs.Common.{None, length, map, reverse, refl, sym, ap, ◌∙◌, arith, append_assoc}
+use Rattle.std.proofs.Common.{◌+◌, ◌≤◌, drop, get_or, append-nil}
 use Rattle.std.specs.Prelude.{codes}
 use Rattle.std.specs.List.{flat_map}
 use Rattle.std.specs.Option.{option_map, option_map_or}
-use Rattle.std.proofs.lemmas.List.{map_push, map-append, reverse-append}
+use Rattle.std.proofs.lemmas.List.{drop_all, drop_more, map_push, map-append, reverse-append}
 use Rattle.std.proofs.lemmas.List.Folds.{flat_map-map}
 use Rattle.p9_tree.specs.Node.{Node}
 use Rattle.p9_commands.specs.Path.{entry_at, names_below, rooted_path}
@@ -58,3 +59,25 @@ pub rooted_path-names : (names : List (Bor (List ℕ))) → 0 < length names
     → rooted_path (map (λ n. n.now) names) ≡ flat_map (λ n. codes "/" ++ n.now) names
 rooted_path-names [] some = absurd (omega arith)
 rooted_path-names (n ∷ ns) some = flat_map-map (λ n. codes "/" ++ n) (λ n. n.now) (n ∷ ns)
+
+-- A slash and a name more, after a text.
+abbrev pub slashed : Bor (List ℕ) → List ℕ
+slashed name = codes "/" ++ name.now
+
+module _ (names : List (Bor (List ℕ))) (i : ℕ) (out whole : List ℕ) where
+  pub slashed-more : (d : Bor (List ℕ)) (half after : List ℕ) → i < length names
+      → half ≡ out ++ codes "/" → after ≡ half ++ (get_or names i d).now
+      → out ++ flat_map slashed (drop i names) ≡ whole
+      → after ++ flat_map slashed (drop (i + 1) names) ≡ whole
+  slashed-more d half after l is_half is_after kept =
+      let name = (get_or names i d).now in
+      let rest = flat_map slashed (drop (i + 1) names) in
+      ap (λ t. t ++ rest) (is_after ∙ ap (λ h. h ++ name) is_half)
+      ∙ append_assoc (out ++ codes "/") name rest
+      ∙ append_assoc out (codes "/") (name ++ rest)
+      ∙ ap (λ ns. out ++ flat_map slashed ns) (sym (drop_more names i d l))
+      ∙ kept
+
+  pub slashed-all : length names ≤ i → out ++ flat_map slashed (drop i names) ≡ whole → out ≡ whole
+  slashed-all l kept =
+      sym (append-nil out) ∙ ap (λ ns. out ++ flat_map slashed ns) (sym (drop_all i names l)) ∙ kept

@@ -1,8 +1,8 @@
 -- Things that are printed one after another.
-use Rattle.std.proofs.Common.{◌≡◌, ℕ, ◌+◌, ◌<◌, ◌≤◌, List, ◌∷◌, ◌++◌, length, get_or, drop, sym, ap}
-use Rattle.std.proofs.Common.{◌∙◌, append_assoc, append-nil}
+use Rattle.std.proofs.Common.{◌≡◌, ℕ, ◌+◌, ◌<◌, List, ◌∷◌, ◌++◌, length, get_or, drop, sym, ap}
+use Rattle.std.proofs.Common.{◌∙◌, append_assoc}
 use Rattle.std.specs.List.{flat_map}
-use Rattle.std.proofs.lemmas.List.{drop_more, drop_all}
+use Rattle.std.proofs.lemmas.List.{drop_more}
 
 module _ {X : Type 0} (text : X → List ℕ) (items : List X) (before : List ℕ) (i : ℕ)
     (out : List ℕ) where
@@ -17,10 +17,3 @@ module _ {X : Type 0} (text : X → List ℕ) (items : List X) (before : List �
       ∙ ap (λ xs. out ++ flat_map text xs)
       (sym (drop_more items i d l ∙ ap (λ y. y ∷ drop (i + 1) items) (sym at)))
       ∙ kept
-
-  -- after the last
-  pub printed-all : length items ≤ i
-      → out ++ flat_map text (drop i items) ≡ before ++ flat_map text items
-      → out ≡ before ++ flat_map text items
-  printed-all l kept =
-      sym (append-nil out) ∙ ap (λ xs. out ++ flat_map text xs) (sym (drop_all i items l)) ∙ kept

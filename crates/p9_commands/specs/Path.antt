@@ -36,6 +36,12 @@ rooted_path (name ∷ names) = flat_map (λ n. codes "/" ++ n) (name ∷ names)
 abbrev pub server_name : ℕ → World → List ℕ
 server_name server world = unwrap_or (slice_get world.servers server) []
 
+-- `server:/path`
+abbrev pub path_of : World → NodeRef → List ℕ
+path_of world at =
+    server_name at.server world ++ codes ":"
+    ++ rooted_path (names_to at.number (server_at at.server world.forest).nodes)
+
 -- `#server/path`
 abbrev pub node_path : World → NodeRef → List ℕ
 node_path world at =

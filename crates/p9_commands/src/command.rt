@@ -8,7 +8,7 @@ ghost use Rattle.p9_commands.specs.Prepared.{gap_in};
 use crate::judgement::print_verified;
 use crate::play::play_events;
 use crate::prepared::{Needs, Prepared, prepare_and_report};
-use crate::refusal::report;
+use crate::refusal::print_stop;
 use crate::status::{BAD_COMMAND_LINE, DONE, REFUSED};
 use p9_base::NoMemory;
 use p9_index::IndexTree;
@@ -223,7 +223,7 @@ fn play<T: Tree>(
             Ok(DONE)
         }
         Err(stop) => {
-            report(stop, err)?;
+            print_stop(stop, err)?;
             Ok(REFUSED)
         }
     }

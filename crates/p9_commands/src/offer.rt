@@ -4,7 +4,7 @@ ghost use Rattle.std.specs.Prelude.{◌≡◌, IfOk, OnErr};
 ghost use Rattle.p9_commands.specs.Offer.{Serves, offer_of};
 
 use crate::prepared::{Needs, prepare_and_report};
-use crate::refusal::report;
+use crate::refusal::print_stop;
 use p9_base::NoMemory;
 use p9_guard::Guard;
 use p9_index::IndexTree;
@@ -50,7 +50,7 @@ fn offer<A: Allocator + Copy>(
     match prepared.guard() {
         Ok(guard) => Ok(Some(guard)),
         Err(stop) => {
-            report(stop, err)?;
+            print_stop(stop, err)?;
             Ok(None)
         }
     }

@@ -11,7 +11,7 @@ ghost use Rattle.p9_export.specs.Event.{event_view};
 use crate::bundle::Bundle;
 use crate::input::{certificate, script, sections, text, text_of};
 use crate::name_space::NameSpace;
-use crate::refusal::{Refusal, Stop, report};
+use crate::refusal::{Refusal, Stop, print_stop};
 use crate::report::print_reports;
 use p9_base::NoMemory;
 use p9_cert::{Certificate, Gap, verify};
@@ -120,7 +120,7 @@ pub(crate) fn prepare_and_report<T: Tree>(
         }
         Err(PrepareError { reports, stop }) => {
             print_reports(reports.as_slice(), err)?;
-            report(stop, err)?;
+            print_stop(stop, err)?;
             Ok(None)
         }
     }

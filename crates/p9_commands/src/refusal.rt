@@ -56,7 +56,7 @@ impl Refusal {
 
 /// Prints the line of a refusal. Where an allocation failed or fails, it returns [`NoMemory`], and a
 /// part of the line may be there.
-pub(crate) fn report<A: Allocator + Copy>(stop: Stop, err: &mut Vec<u8, A>) -> Result<(), NoMemory>
+pub fn print_stop<A: Allocator + Copy>(stop: Stop, err: &mut Vec<u8, A>) -> Result<(), NoMemory>
     ensures { OnOk result (ReportsStop stop err.old.items err.new.items) }
 {
     match stop {

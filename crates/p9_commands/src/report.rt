@@ -11,7 +11,7 @@ use std::alloc::Allocator;
 
 /// Prints reports, a line each: the line of the namespace section, and why its operation did nothing.
 /// Where an allocation fails, some of them may be there.
-pub(crate) fn print_reports<A: Allocator + Copy>(
+pub fn print_reports<A: Allocator + Copy>(
     reports: &[(u64, OpFault)],
     err: &mut Vec<u8, A>,
 ) -> Result<(), NoMemory>

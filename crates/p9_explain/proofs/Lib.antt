@@ -1,4 +1,3 @@
-pub mod Paths
 pub mod Walks
 pub mod Numbers
 pub mod Verdicts

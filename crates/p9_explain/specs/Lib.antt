@@ -1,4 +1,3 @@
-pub mod Path
 pub mod Told
 pub mod Explained
 pub mod NodeLines

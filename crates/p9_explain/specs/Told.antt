@@ -3,7 +3,7 @@ use Rattle.std.specs.Prelude.{◌≡◌, ℕ, List, [], ◌∷◌, ◌++◌, cod
 use Rattle.p9_base.specs.declared.node_ref.NodeRef.{NodeRef}
 use Rattle.p9_judge.specs.declared.breach.Step.{Step}
 use Rattle.p9_world.specs.World.{World}
-use Rattle.p9_explain.specs.Path.{path_of}
+use Rattle.p9_commands.specs.Path.{path_of}
 
 module _ (world : World) where
   -- who passes which directory, and something of that

@@ -6,12 +6,12 @@ ghost use Rattle.p9_explain.specs.Told.{IsBreachTold, IsStepTold, IsWalkTold};
 
 use crate::column::{column_of, prefix_width, push_blanks, width};
 use crate::member::{Found, hidden_dir, push_found};
-use crate::path::path_of;
 use crate::right::{Class, TO_USE, class_of, has, ruling_class};
 use crate::source::Source;
 use crate::teller::{Part, Teller};
 use p9_base::{NoMemory, NodeRef, User};
 use p9_cert::MemberFault;
+use p9_commands::path_of;
 use p9_judge::{Breach, BreachKind, Step};
 use p9_space::{ROOT_PLACE, TO_EXECUTE};
 use p9_tree::{Node, Tree};

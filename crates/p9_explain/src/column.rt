@@ -1,7 +1,7 @@
 //! The column at which the parentheses of a walk's lines begin.
 
-use crate::path::path_of;
 use p9_base::NoMemory;
+use p9_commands::path_of;
 use p9_judge::{Breach, Step};
 use p9_tree::Tree;
 use p9_world::World;

@@ -29,7 +29,7 @@ pub(crate) fn push_hints<T: Tree>(
     push_failed_operations(text, teller.source, reports)
 }
 
-// Adds a hint on a line of a section.
+// Adds a hint on a line of a section: a name, which may be empty, and what is said of it.
 fn push_hint<A: Allocator + Copy>(
     text: &mut String<A>,
     source: &Source<'_, A>,
@@ -121,7 +121,7 @@ fn push_carriage_returns<A: Allocator + Copy>(
 // What is said of a listed user who can't pass the root of the name space.
 const IDLE: &str = " can't pass the root, and so reaches nothing below it";
 
-// The lines of these users.
+// Adds the listed users who can't pass the root of the name space.
 fn push_idle_users<T: Tree>(
     text: &mut String<T::Alloc>,
     teller: &Teller<'_, '_, T>,

@@ -14,7 +14,6 @@ mod hints;
 mod layout;
 mod member;
 mod node_lines;
-mod path;
 mod right;
 mod source;
 mod teller;

@@ -1,10 +1,10 @@
 //! Sentences about a world, by their parts.
 
 use crate::head::Section;
-use crate::path::path_of;
 use crate::right::Class;
 use crate::source::Source;
 use p9_base::{NoMemory, NodeRef, User};
+use p9_commands::path_of;
 use p9_tree::Tree;
 use p9_world::World;
 
@@ -13,8 +13,6 @@ use p9_world::World;
 pub(crate) enum Part {
     /// These words.
     Text(&'static str),
-    /// A number.
-    Number(u64),
     /// The name of a user.
     User(User),
     /// What a user is for a node: `others`, `its owner`, `a member of GROUP`, `the leader of GROUP`.
@@ -50,7 +48,6 @@ impl<T: Tree> Teller<'_, '_, T> {
     fn say_part(&self, text: &mut String<T::Alloc>, part: &Part) -> Result<(), NoMemory> {
         match part {
             Part::Text(words) => text.push_str(words)?,
-            Part::Number(number) => write!(text, "{number}")?,
             Part::User(user) => text.push_str(user.as_str())?,
             Part::Class(class, group) => class.push(text, group)?,
             Part::Path(at) => self.say_path(text, *at)?,

@@ -1,7 +1,7 @@
 //! What an input claims.
 
-use crate::path::path_of;
 use p9_base::{NoMemory, User};
+use p9_commands::path_of;
 use p9_tree::Tree;
 use p9_world::World;
 use std::alloc::Allocator;

@@ -1,10 +1,10 @@
 //! What a box says.
 
 use crate::order::Spot;
-use crate::path::server_name;
 use crate::right::right_of;
 use crate::scene::Scene;
 use p9_base::{NoMemory, NodeRef};
+use p9_commands::server_name;
 use p9_judge::{Breach, BreachKind, Step};
 use p9_space::Who;
 use p9_tree::{Forest, Tree};

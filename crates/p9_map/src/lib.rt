@@ -18,7 +18,6 @@ mod line;
 mod link;
 mod mark;
 mod order;
-mod path;
 mod pen;
 mod picture;
 mod plan;

@@ -3,8 +3,6 @@ use Rattle.std.specs.Prelude.{ℕ, ◌==◌, Bool, List, [], ◌∷◌, ◌++◌
 use Rattle.std.specs.Prelude.{is_some, length, if◌then◌else◌}
 use Rattle.std.specs.Fmt.{decimal}
 use Rattle.std.specs.List.{flat_map, list_any}
-use Rattle.p9_base.specs.declared.node_ref.NodeRef.{NodeRef}
-use Rattle.p9_tree.specs.Forest.{server_at}
 use Rattle.p9_tree.specs.Inside.{is_hidden}
 use Rattle.p9_tree.specs.Node.{Node}
 use Rattle.p9_space.specs.declared.row.Member.{Member}
@@ -15,7 +13,7 @@ use Rattle.p9_space.specs.Table.{members_of}
 use Rattle.p9_space.specs.Walk.{dir_fault}
 use Rattle.p9_world.specs.World.{World}
 use Rattle.p9_commands.specs.NameSpace.{NameSpace}
-use Rattle.p9_commands.specs.Path.{names_to, rooted_path, server_name}
+use Rattle.p9_commands.specs.Path.{path_of, rooted_path}
 use Rattle.p9_view.specs.declared.tour.Entry.{Entry}
 use Rattle.p9_view.specs.Mode.{mode_text}
 use Rattle.p9_view.specs.Passing.{passing_text}
@@ -35,15 +33,9 @@ file_text (Some n) = node_text n
 
 -- What is mounted at a place.
 
--- a node's server and its path there
-abbrev pub node_path : World → NodeRef → List ℕ
-node_path world at =
-    server_name at.server world ++ codes ":"
-    ++ rooted_path (names_to at.number (server_at at.server world.forest).nodes)
-
 -- a member, which may permit creation
 abbrev pub member_text : World → Member → List ℕ
-member_text world m = node_path world m.node ++ (if m.create then codes " -c" else codes "")
+member_text world m = path_of world m.node ++ (if m.create then codes " -c" else codes "")
 
 -- the members in order
 abbrev pub members_text : World → List Member → List ℕ

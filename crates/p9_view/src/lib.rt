@@ -4,7 +4,6 @@
 mod line;
 mod mode;
 mod passing;
-mod path;
 mod tour;
 mod tree;
 mod visit;

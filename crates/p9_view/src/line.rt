@@ -13,11 +13,10 @@ ghost use Rattle.p9_view.specs.Line.{members_text, node_text};
 
 use crate::mode::print_mode;
 use crate::passing::print_passing;
-use crate::path::{print_names, print_node};
 use crate::tour::Entry;
 use p9_base::{NoMemory, NodeRef};
 use p9_cert::is_hidden;
-use p9_commands::NameSpace;
+use p9_commands::{NameSpace, path_of, rooted_path};
 use p9_space::{Member, PLACES_MAX, Who, dir_fault};
 use p9_tree::{Node, Tree};
 use p9_world::World;
@@ -39,7 +38,7 @@ pub(crate) fn print_line<T: Tree>(
 {
     let members = space.table.members(entry.place);
     let members = members.as_slice();
-    print_names(names, out)?;
+    out.extend_from_slice(rooted_path(*out.allocator(), names)?.as_bytes())?;
     print_file(space, entry.place, out)?;
     if space.table.position(entry.place).is_some() {
         print_members(&space.world, members, out)?;
@@ -115,7 +114,7 @@ fn print_member<T: Tree>(
 ) -> Result<(), NoMemory>
     ensures { OnOk result (out.new.items ≡ out.old.items ++ member_text world.now member.now) }
 {
-    print_node(world, member.node, out)?;
+    out.extend_from_slice(path_of(*out.allocator(), world, member.node)?.as_bytes())?;
     let create = if member.create { " -c" } else { "" };
     out.extend_from_slice(create.as_bytes())?;
     Ok(())

@@ -4,8 +4,6 @@ ghost use Rattle.std.specs.Prelude.{◌≡◌, ◌++◌, ℕ, IfOk, List, OnOk, 
 ghost use Rattle.std.specs.Option.{option_copied, option_map};
 ghost use Rattle.std.specs.Str.{bytes_eq};
 ghost use Rattle.p9_commands.specs.Prepared.{prepared_of, rejected_text};
-ghost use Rattle.p9_commands.specs.Refusal.{ReportsStop, refusal_line};
-ghost use Rattle.p9_commands.specs.Report.{report_line, reports_text};
 ghost use Rattle.p9_commands.specs.declared.prepared.Needs.TheVariants.{Nothing};
 ghost use Rattle.p9_space.specs.Rights.{who_view};
 ghost use Rattle.p9_view.specs.Tree.{AreLines, IsInputShown, IsShownTo, IsTree, unlisted_text};
@@ -15,8 +13,7 @@ use crate::tour::Tour;
 use crate::visit::tour_of;
 use p9_base::{NoMemory, User};
 use p9_commands::status::{DONE, REFUSED};
-use p9_commands::{NameSpace, Needs, PrepareError, Prepared, Refusal, Stop, prepare};
-use p9_nsfile::OpFault;
+use p9_commands::{NameSpace, Needs, PrepareError, Prepared, prepare, print_reports, print_stop};
 use p9_space::Who;
 use p9_tree::Tree;
 use p9_world::World;
@@ -125,58 +122,5 @@ fn print_unlisted<A: Allocator + Copy>(name: &str, err: &mut Vec<u8, A>) -> Resu
 {
     err.extend_from_slice(name.as_bytes())?;
     err.extend_from_slice(b": no listed user\n")?;
-    Ok(())
-}
-
-// Prints what failed in a namespace file, a line each.
-fn print_reports<A: Allocator + Copy>(
-    reports: &[(u64, OpFault)],
-    err: &mut Vec<u8, A>,
-) -> Result<(), NoMemory>
-    ensures { OnOk result (err.new.items ≡ err.old.items ++ reports_text reports.now) }
-{
-    for (line, fault) in reports {
-        print_report(*line, *fault, err)?;
-    }
-    Ok(())
-}
-
-// Prints that an operation failed.
-fn print_report<A: Allocator + Copy>(
-    line: u64,
-    fault: OpFault,
-    err: &mut Vec<u8, A>,
-) -> Result<(), NoMemory>
-    ensures { OnOk result (err.new.items ≡ err.old.items ++ report_line (line, fault)) }
-{
-    let number = format!(in *err.allocator(); ":{line}: ")?;
-    err.extend_from_slice(b"ns")?;
-    err.extend_from_slice(number.as_str().as_bytes())?;
-    err.extend_from_slice(fault.text().as_bytes())?;
-    err.push(b'\n')?;
-    Ok(())
-}
-
-// Prints why an input is refused.
-fn print_stop<A: Allocator + Copy>(stop: Stop, err: &mut Vec<u8, A>) -> Result<(), NoMemory>
-    ensures { OnOk result (ReportsStop stop err.old.items
-        err.new.items) }
-{
-    match stop {
-        Stop::Refused(refusal) => print_refusal(refusal, err),
-        Stop::NoMemory => Err(NoMemory),
-    }
-}
-
-// Prints the line of a refusal.
-fn print_refusal<A: Allocator + Copy>(
-    refusal: Refusal,
-    err: &mut Vec<u8, A>,
-) -> Result<(), NoMemory>
-    ensures { OnOk result (err.new.items ≡ err.old.items ++ refusal_line refusal) }
-{
-    let text = refusal.text(*err.allocator())?;
-    err.extend_from_slice(text.as_str().as_bytes())?;
-    err.push(b'\n')?;
     Ok(())
 }

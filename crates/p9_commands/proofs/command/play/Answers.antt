@@ -8,7 +8,7 @@ use Rattle.p9_commands.proofs.command.play.Goals as goal
 pub returns : goal.returns
 returns g c =
     unplayed c.args.prepared (gap_in c.args.prepared)
-    (printed c.args.out.now c.args.out.now c.args.err.now c.report.new.err) c.in-Err.stop
+    (printed c.args.out.now c.args.out.now c.args.err.now c.print_stop.new.err) c.in-Err.stop
     (subst (λ (prepared : Prepared). IsUnverified (gap_in prepared) c.in-Err.stop)
     c.prepared.view_is (rw c.in-Some.is c.in-Err.ensures.stop))
-    c.in_ok-report-in-Err.ensures refl
+    c.in_ok-print_stop-in-Err.ensures refl

@@ -1,14 +1,15 @@
 use Rattle.std.proofs.Common.{◌≡◌, Bool, false, sym, ◌∙◌, ◌<◌, length, arith}
 use Rattle.std.specs.String.{string_bytes}
 use Rattle.std.proofs.lemmas.Bool.Decides.{nat_tests}
-use Rattle.p9_explain.proofs.Paths.{rooted_path-names, slashed-all, slashed-more}
-use Rattle.p9_explain.proofs.path.rooted.Goals as goal
+use Rattle.p9_commands.proofs.Paths.{rooted_path-names, slashed-all, slashed-more}
+use Rattle.p9_commands.proofs.path.rooted_path.Goals as goal
 
 pub loop-name-preserved : goal.loop-name-preserved
+unfolding lib.Utf8.encode
 loop-name-preserved g c =
     slashed-more c.args.names.now c.loop-name.name-index (string_bytes c.loop-name.path) _ _
-    (string_bytes c.push_str.new.self) (string_bytes c.push_str-in-loop-name.new.self) c.loop-name-test.true
-    c.in_ok-push_str.ensures.bytes c.in_ok-push_str-2.ensures.bytes c.loop-name.invariant
+    (string_bytes c.push.new.self) (string_bytes c.push_str.new.self) c.loop-name-test.true
+    c.in_ok-push.ensures.bytes c.in_ok-push_str.ensures.bytes c.loop-name.invariant
 
 pub returns : goal.returns
 returns g c =

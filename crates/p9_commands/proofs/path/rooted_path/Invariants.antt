@@ -1,8 +1,8 @@
 use Rattle.std.proofs.Common.{◌≡◌, ◌++◌, drop}
 use Rattle.std.specs.List.{flat_map}
 use Rattle.std.specs.String.{string_bytes}
-use Rattle.p9_explain.proofs.Paths.{slashed}
-use Rattle.p9_explain.proofs.path.rooted.Given as goal
+use Rattle.p9_commands.proofs.Paths.{slashed}
+use Rattle.p9_commands.proofs.path.rooted_path.Given as goal
 
 -- the path so far, with the names that are left after it, has all names
 abbrev pub invariant-loop-name : goal.invariant-loop-name
