@@ -24,7 +24,7 @@ fn lines_of<A: Allocator + Copy>(alloc: A, head: &str, parts: &str) -> Result<St
 pub fn told(rt: &impl Abort, alloc: Global, row: &str) -> Result<String, NoMemory> {
     let plain = told_over::<PlainTree<Global>>(rt, alloc, alloc, row)?;
     let index = told_over::<IndexTree<Global>>(rt, alloc, alloc, row)?;
-    assert_eq!(rt; plain.as_str(), index.as_str());
+    assert!(rt; plain.as_str() == index.as_str());
     Ok(plain)
 }
 

@@ -10,14 +10,11 @@ fn output_is_appended(rt: HostRuntime) -> Result<(), Fail> {
     let mut out = Vec::from_slice(rt.alloc(), b"out ")?;
     let mut err = Vec::from_slice(rt.alloc(), b"err ")?;
     let status = run_command("play", b"%% script\nclose 1 1", &mut out, &mut err)?;
-    assert_eq!(rt; status, 0);
+    assert!(rt; status == 0);
     let status = run_command("play", b"%%", &mut out, &mut err)?;
-    assert_eq!(rt; status, 1);
-    assert_eq!(rt; str::from_utf8(out.as_slice()), Ok("out skip\n"));
-    assert_eq!(rt;
-        str::from_utf8(err.as_slice()),
-        Ok("err bundle:1: bad section\n")
-    );
+    assert!(rt; status == 1);
+    assert!(rt; str::from_utf8(out.as_slice()) == Ok("out skip\n"));
+    assert!(rt; str::from_utf8(err.as_slice()) == Ok("err bundle:1: bad section\n"));
     Ok(())
 }
 
@@ -30,34 +27,28 @@ fn sections_and_events(rt: HostRuntime) -> Result<(), Fail> {
     let text = "\n%% world\n%% ns\nclear\n %% ns\n%% cert\ncert 1\n%% script\n\
         open 01\n\n# x\nclose 1 2";
     let bundle = split_bundle(rt.alloc(), text)?;
-    assert_eq!(rt; section(&bundle.world), Some(""));
-    assert_eq!(rt; section(&bundle.ns), Some("clear\n %% ns\n"));
-    assert_eq!(rt; section(&bundle.cert), Some("cert 1\n"));
-    assert_eq!(rt;
-        section(&bundle.script),
-        Some("open 01\n\n# x\nclose 1 2\n")
-    );
+    assert!(rt; section(&bundle.world) == Some(""));
+    assert!(rt; section(&bundle.ns) == Some("clear\n %% ns\n"));
+    assert!(rt; section(&bundle.cert) == Some("cert 1\n"));
+    assert!(rt; section(&bundle.script) == Some("open 01\n\n# x\nclose 1 2\n"));
     let none = split_bundle(rt.alloc(), " \n\t")?;
     assert!(rt; none.world.is_none() && none.ns.is_none());
     assert!(rt; none.cert.is_none() && none.script.is_none());
     let second = BundleError::BadBundle { line: 2 };
-    assert_eq!(rt; split_bundle(rt.alloc(), "\n%% certs").err(), Some(second));
+    assert!(rt; split_bundle(rt.alloc(), "\n%% certs").err() == Some(second));
     let third = BundleError::BadBundle { line: 3 };
     let twice = split_bundle(rt.alloc(), "%% cert\ncert 1\n%% cert");
-    assert_eq!(rt; twice.err(), Some(third));
+    assert!(rt; twice.err() == Some(third));
     let events = read_script(rt.alloc(), "open 01\nmsg 2 03 aB0c\nclose 4294967295 5")?;
-    assert_eq!(rt; events.len(), 3);
+    assert!(rt; events.len() == 3);
     assert!(rt; matches!(&events[0], Event::Open(1)));
     let Event::Message(2, frame, 3) = &events[1] else {
         return Err(Fail::from("no message"));
     };
-    assert_eq!(rt; frame.as_slice(), [0xab, 0x0c].as_slice());
+    assert!(rt; frame.as_slice() == [0xab, 0x0c].as_slice());
     assert!(rt; matches!(&events[2], Event::Close(4_294_967_295, 5)));
     let fourth = ScriptError::BadScript { line: 4 };
-    assert_eq!(rt;
-        read_script(rt.alloc(), "open 1\n\n#\nopen").err(),
-        Some(fourth)
-    );
+    assert!(rt; read_script(rt.alloc(), "open 1\n\n#\nopen").err() == Some(fourth));
     Ok(())
 }
 
@@ -68,9 +59,9 @@ fn errors_have_texts(rt: HostRuntime) -> Result<(), Fail> {
         ScriptError::BadScript { line: 8 },
     );
     let shown = format!(in rt.alloc(); "{bundle}, {script}")?;
-    assert_eq!(rt; shown.as_str(), "line 7 begins no section, line 8 is bad");
+    assert!(rt; shown.as_str() == "line 7 begins no section, line 8 is bad");
     let shown = format!(in rt.alloc(); "{}, {}", BundleError::NoMemory, ScriptError::NoMemory)?;
-    assert_eq!(rt; shown.as_str(), "out of memory, out of memory");
+    assert!(rt; shown.as_str() == "out of memory, out of memory");
     Ok(())
 }
 
@@ -80,9 +71,9 @@ fn a_command_is_exact(rt: HostRuntime) -> Result<(), Fail> {
     let mut out = Vec::new(rt.alloc());
     let mut err = Vec::new(rt.alloc());
     let status = run_command("play ", b"\xff", &mut out, &mut err)?;
-    assert_eq!(rt; status, 2);
-    assert_eq!(rt; out.len(), 0);
+    assert!(rt; status == 2);
+    assert!(rt; out.len() == 0);
     let reported = str::from_utf8(err.as_slice());
-    assert_eq!(rt; reported, Ok("p9: bad command line\n"));
+    assert!(rt; reported == Ok("p9: bad command line\n"));
     Ok(())
 }

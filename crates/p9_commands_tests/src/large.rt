@@ -50,8 +50,8 @@ fn frames_of_the_greatest_size(rt: HostRuntime) -> Result<(), Fail> {
     let mut out = Vec::new(rt.alloc());
     let mut err = Vec::new(rt.alloc());
     let status = run_command("play", script.as_bytes(), &mut out, &mut err)?;
-    assert_eq!(rt; status, 0);
-    assert_eq!(rt; str::from_utf8(out.as_slice()), Ok(ANSWERED));
-    assert_eq!(rt; err.len(), 0);
+    assert!(rt; status == 0);
+    assert!(rt; str::from_utf8(out.as_slice()) == Ok(ANSWERED));
+    assert!(rt; err.len() == 0);
     Ok(())
 }

@@ -24,8 +24,8 @@ fn play_again<A: Allocator + Copy>(rt: &impl Abort, alloc: A, input: &str, repor
     let mut err = Vec::new(alloc);
     let outcome = run_command("play", input.as_bytes(), &mut out, &mut err);
     if outcome == Err(NoMemory) {
-        assert_eq!(rt; out.len(), 0);
-        assert_eq!(rt; err.len(), 0);
+        assert!(rt; out.len() == 0);
+        assert!(rt; err.len() == 0);
         let run = Run {
             word: "play",
             input,
@@ -36,8 +36,8 @@ fn play_again<A: Allocator + Copy>(rt: &impl Abort, alloc: A, input: &str, repor
         run_again(rt, alloc, run);
         return;
     }
-    assert_eq!(rt; outcome, Ok(0));
-    assert_eq!(rt; str::from_utf8(err.as_slice()), Ok(reported));
+    assert!(rt; outcome == Ok(0));
+    assert!(rt; str::from_utf8(err.as_slice()) == Ok(reported));
     let refused = "1300000065ffff002000000600395032303030
 160000006b01000d006f7574206f66206d656d6f7279
 ";
@@ -108,13 +108,13 @@ fn run_again<A: Allocator + Copy>(rt: &impl Abort, alloc: A, run: Run<'_>) {
     let mut err = Vec::new(alloc);
     let mut outcome = run_command(run.word, run.input.as_bytes(), &mut out, &mut err);
     if outcome == Err(NoMemory) {
-        assert_eq!(rt; out.len(), 0);
-        assert_eq!(rt; err.len(), 0);
+        assert!(rt; out.len() == 0);
+        assert!(rt; err.len() == 0);
         outcome = run_command(run.word, run.input.as_bytes(), &mut out, &mut err);
     }
-    assert_eq!(rt; outcome, Ok(run.status));
-    assert_eq!(rt; str::from_utf8(out.as_slice()), Ok(run.out));
-    assert_eq!(rt; str::from_utf8(err.as_slice()), Ok(run.err));
+    assert!(rt; outcome == Ok(run.status));
+    assert!(rt; str::from_utf8(out.as_slice()) == Ok(run.out));
+    assert!(rt; str::from_utf8(err.as_slice()) == Ok(run.err));
 }
 
 // A vault, with a namespace file of which an operation fails.

@@ -34,14 +34,14 @@ fn frames_that_come_in_one_read_are_answered_in_order(rt: HostRuntime) {
         add_flush(&rt, &mut input, tag);
         add_flushed(&rt, &mut wanted, tag);
     }
-    assert_eq!(rt; input.len(), 2_719);
+    assert!(rt; input.len() == 2_719);
     let stream = Scripted::new(alloc, input, 10_000);
     let mut conns = [connect(&rt, alloc, &mut guard, 1, stream)];
     serve(&mut guard, &mut conns);
     is_written(&rt, &conns[0], wanted.as_slice());
-    assert_eq!(rt; conns[0].stream().moving_reads(), 1);
-    assert_eq!(rt; conns[0].stream().moving_writes(), 301);
-    assert_eq!(rt; conns[0].stream().writes_with_more(), 300);
+    assert!(rt; conns[0].stream().moving_reads() == 1);
+    assert!(rt; conns[0].stream().moving_writes() == 301);
+    assert!(rt; conns[0].stream().writes_with_more() == 300);
 }
 
 // Where no whole frame is there, a reply is written as the last one.
@@ -56,8 +56,8 @@ fn no_reply_waits_for_a_frame_that_is_cut(rt: HostRuntime) {
     let mut conns = [connect(&rt, alloc, &mut guard, 1, stream)];
     serve(&mut guard, &mut conns);
     is_written(&rt, &conns[0], wanted.as_slice());
-    assert_eq!(rt; conns[0].stream().moving_reads(), 2);
-    assert_eq!(rt; conns[0].stream().writes_with_more(), 0);
+    assert!(rt; conns[0].stream().moving_reads() == 2);
+    assert!(rt; conns[0].stream().writes_with_more() == 0);
 }
 
 // Compares what an open connection wrote.

@@ -123,7 +123,7 @@ fn repeat<T: Tree>(
     let used = heap.used();
     for _ in 0..10 {
         serve_and_drop(rt, alloc, heap, &mut guard, lent, rows, end);
-        assert_eq!(rt; heap.used(), used, "{end:?}");
+        assert!(rt; heap.used() == used, "{end:?}");
     }
 }
 
@@ -134,9 +134,9 @@ fn a_dropped_connection_gives_all_back(rt: HostRuntime) {
     for end in ENDS {
         for rows in [CLUNKED.as_slice(), LEFT_OPEN.as_slice()] {
             repeat::<PlainTree<&LocalHeap>>(&rt, rt.alloc(), &heap, &heap, rows, end);
-            assert_eq!(rt; heap.used(), 0);
+            assert!(rt; heap.used() == 0);
             repeat::<IndexTree<&LocalHeap>>(&rt, rt.alloc(), &heap, &heap, rows, end);
-            assert_eq!(rt; heap.used(), 0);
+            assert!(rt; heap.used() == 0);
         }
     }
 }

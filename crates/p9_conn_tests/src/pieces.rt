@@ -32,7 +32,7 @@ fn cut_at(rt: &impl Abort, alloc: Global, cut: usize) {
     let mut conns = [connect(rt, alloc, &mut guard, 1, stream)];
     serve(&mut guard, &mut conns);
     is_answered(rt, alloc, &guard, &conns[0], &TWO);
-    assert_eq!(rt; conns[0].stream().moving_reads(), 2);
+    assert!(rt; conns[0].stream().moving_reads() == 2);
 }
 
 // Two sessions beside one another, with pieces of each length, down to one byte a call.

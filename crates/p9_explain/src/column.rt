@@ -39,8 +39,6 @@ pub(crate) fn push_blanks<A: Allocator + Copy>(
     from: usize,
     to: usize,
 ) -> Result<(), AllocError> {
-    for _ in from..to {
-        text.push(' ')?;
-    }
-    Ok(())
+    let alloc = *text.allocator();
+    text.push_str(" ".repeat(alloc, to.saturating_sub(from))?.as_str())
 }

@@ -65,11 +65,12 @@ fn push_strangers<T: Tree>(
 
 // The names of users in a line: an owner, or a leader and members.
 fn names_of<'a, 'b>(words: &'b [&'a str]) -> &'b [&'a str] {
-    match words {
-        ["dir" | "file", _, _, _, ..] => &words[3..4],
-        ["group", _, names @ ..] => names,
-        _ => &[],
-    }
+    let names = match words.first() {
+        Some(verb) if *verb == "group" => words.get(2..),
+        Some(verb) if *verb == "dir" || *verb == "file" => words.get(3..4),
+        _ => None,
+    };
+    names.unwrap_or(&[])
 }
 
 // Whether a user of this name is listed.

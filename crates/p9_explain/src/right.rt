@@ -165,22 +165,19 @@ fn deeds<T: Tree>(world: &World<T>, user: &User, node: &Node<T::Alloc>) -> &'sta
         user,
         groups: &world.groups,
     };
-    let read = may(who, node, TO_READ);
-    let write = may(who, node, TO_WRITE);
-    let search = may(who, node, TO_EXECUTE);
-    if read && write && search {
-        "read, write and search it"
-    } else if read && write {
-        "read and write it"
-    } else if read && search {
-        "read and search it"
-    } else if write && search {
-        "write and search it"
-    } else if read {
-        "read it"
-    } else if write {
-        "write it"
+    let (to_write, to_search) = (may(who, node, TO_WRITE), may(who, node, TO_EXECUTE));
+    if may(who, node, TO_READ) {
+        match (to_write, to_search) {
+            (true, true) => "read, write and search it",
+            (true, false) => "read and write it",
+            (false, true) => "read and search it",
+            (false, false) => "read it",
+        }
     } else {
-        "search it"
+        match (to_write, to_search) {
+            (true, true) => "write and search it",
+            (true, false) => "write it",
+            (false, _) => "search it",
+        }
     }
 }

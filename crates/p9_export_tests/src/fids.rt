@@ -14,7 +14,7 @@ fn clone_fid<T: Tree>(rt: &impl Abort, export: &mut Export<T>, newfid: u32, repl
     frame[11..15].copy_from_slice(&newfid.to_le_bytes());
     let size = send(rt, export, 1, 0, &frame, reply);
     let answered = reply.get(..size).expect(rt, "a reply");
-    assert_eq!(rt; answered, [9, 0, 0, 0, 111, 2, 0, 0, 0].as_slice());
+    assert!(rt; answered == [9, 0, 0, 0, 111, 2, 0, 0, 0].as_slice());
 }
 
 // Fid 0 and 1,023 others, and one more.

@@ -147,7 +147,7 @@ fn grows<T: Tree>(rt: &impl Abort, alloc: Global, memory: &Refusing<Global>, len
         || ready::<T>(rt, alloc, lent),
         |mut export| grow_twice(rt, alloc, &mut export),
     );
-    assert_eq!(rt; refusals, 2);
+    assert!(rt; refusals == 2);
 }
 
 #[test]

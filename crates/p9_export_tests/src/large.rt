@@ -38,7 +38,7 @@ const BEGINNING: [Exchange; 4] = [
 // The sample world with session 1.
 fn ready<T: Tree>(rt: &impl Abort, alloc: Global, memory: T::Alloc, reply: &mut [u8]) -> Export<T> {
     let mut export = exporter(rt, memory, SMALL, &[]);
-    assert_eq!(rt; export.open(1), Ok(()));
+    assert!(rt; export.open(1) == Ok(()));
     exchange_all(rt, alloc, &mut export, 0, &BEGINNING, reply);
     export
 }
@@ -74,13 +74,13 @@ fn reads_back<T: Tree<Alloc = Global>>(rt: &impl Abort, alloc: Global) {
     let mut export = ready::<T>(rt, alloc, alloc, reply);
     let data = data_of(rt, alloc, 1_048_553);
     let frame = write_of(rt, alloc, data.as_slice());
-    assert_eq!(rt; frame.len(), 1_048_576);
-    assert_eq!(rt; data.len(), 1_048_553);
+    assert!(rt; frame.len() == 1_048_576);
+    assert!(rt; data.len() == 1_048_553);
     let size = send(rt, &mut export, 1, 0, frame.as_slice(), reply);
     let written = reply.get(..size).expect(rt, "a reply");
     is_reply(rt, alloc, written, "0b000000 77 0100 e9ff0f00");
     let size = read_at(rt, &mut export, 1, 0, u32::MAX, reply);
-    assert_eq!(rt; size, 11 + 1_048_552);
+    assert!(rt; size == 11 + 1_048_552);
     let (front, _) = data.as_slice().split_at(1_048_552);
     assert!(rt; gives(reply, size, front));
     let size = read_at(rt, &mut export, 1, 1_048_552, u32::MAX, reply);
@@ -270,7 +270,7 @@ fn makes_several<T: Tree<Alloc = Global>>(rt: &impl Abort, alloc: Global) {
     let reply = room.as_mut_slice();
     let mut export = exporter::<T>(rt, alloc, THREE, &[]);
     for session in 1..=3 {
-        assert_eq!(rt; export.open(session), Ok(()));
+        assert!(rt; export.open(session) == Ok(()));
     }
     exchange_all(rt, alloc, &mut export, 0, &GREATEST, reply);
     exchange_all(rt, alloc, &mut export, 0, &ALL_GREATEST, reply);
@@ -432,7 +432,7 @@ fn grows<T: Tree>(rt: &impl Abort, alloc: Global, memory: &Refusing<Global>, len
         || ready::<T>(rt, alloc, lent, room(rt, alloc).as_mut_slice()),
         |mut export| grow_twice(rt, alloc, &mut export),
     );
-    assert_eq!(rt; refusals, 2);
+    assert!(rt; refusals == 2);
 }
 
 #[test]

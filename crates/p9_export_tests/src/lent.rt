@@ -84,7 +84,7 @@ fn repeat<T: Tree>(
         succeed(rt, alloc, export, work.takes, reply);
         assert!(rt; heap.used() > used);
         succeed(rt, alloc, export, work.gives, reply);
-        assert_eq!(rt; heap.used(), used);
+        assert!(rt; heap.used() == used);
     }
 }
 
@@ -108,7 +108,7 @@ fn begin_and_close<T: Tree>(
         begin(rt, alloc, export, 2, reply);
         assert!(rt; heap.used() > used);
         close(rt, export);
-        assert_eq!(rt; heap.used(), used);
+        assert!(rt; heap.used() == used);
     }
 }
 
@@ -128,7 +128,7 @@ fn serve<T: Tree>(rt: &impl Abort, alloc: Global, heap: &LocalHeap, lent: T::All
 fn what_was_taken_is_given_back(rt: HostRuntime) {
     let heap = LocalHeap::new(rt.alloc(), 1 << 20).expect(&rt, "memory");
     serve::<PlainTree<&LocalHeap>>(&rt, rt.alloc(), &heap, &heap);
-    assert_eq!(rt; heap.used(), 0);
+    assert!(rt; heap.used() == 0);
     serve::<IndexTree<&LocalHeap>>(&rt, rt.alloc(), &heap, &heap);
-    assert_eq!(rt; heap.used(), 0);
+    assert!(rt; heap.used() == 0);
 }

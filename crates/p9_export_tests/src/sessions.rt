@@ -12,9 +12,9 @@ use std::test::Fail;
 fn opens_and_closes<T: Tree<Alloc = Global>>(rt: &impl Abort, alloc: Global) {
     let mut export = exporter::<T>(rt, alloc, "server main\nuser glenda\n", &[]);
     assert!(rt; !export.live(1));
-    assert_eq!(rt; export.open(1), Ok(()));
-    assert_eq!(rt; export.open(1), Err(OpenError::Live));
-    assert_eq!(rt; export.open(2), Ok(()));
+    assert!(rt; export.open(1) == Ok(()));
+    assert!(rt; export.open(1) == Err(OpenError::Live));
+    assert!(rt; export.open(2) == Ok(()));
     let rows = &[in_session(1, VERSION), in_session(1, ATTACH)];
     let mut room = room(rt, alloc);
     exchange_all(rt, alloc, &mut export, 0, rows, room.as_mut_slice());
@@ -33,6 +33,6 @@ fn a_session_is_opened_once_and_closed(rt: HostRuntime) {
 #[test]
 fn errors_have_texts(rt: HostRuntime) -> Result<(), Fail> {
     let shown = format!(in rt.alloc(); "{}, {}", OpenError::Live, OpenError::NoMemory)?;
-    assert_eq!(rt; shown.as_str(), "session is open, out of memory");
+    assert!(rt; shown.as_str() == "session is open, out of memory");
     Ok(())
 }

@@ -130,7 +130,7 @@ fn walk_to<T: Tree>(
     ];
     walk[11] = fid;
     walk[19..].copy_from_slice(&name_of(number));
-    assert_eq!(rt; send(rt, export, session, 0, &walk, reply), 22);
+    assert!(rt; send(rt, export, session, 0, &walk, reply) == 22);
 }
 
 // Session 2, which is the system's, takes its place from all others.
@@ -140,7 +140,7 @@ fn shut<T: Tree>(rt: &impl Abort, export: &mut Export<T>, place: u32, reply: &mu
     wstat[..15].copy_from_slice(&[62, 0, 0, 0, 126, 1, 0, 1, 0, 0, 0, 49, 0, 47, 0]);
     wstat[34..38].copy_from_slice(&[0xc9, 1, 0, 0x80]);
     wstat[54..].copy_from_slice(&[0; 8]);
-    assert_eq!(rt; send(rt, export, 2, 0, &wstat, reply), 7);
+    assert!(rt; send(rt, export, 2, 0, &wstat, reply) == 7);
     clunk(rt, export, 2, reply);
 }
 
@@ -150,7 +150,7 @@ fn remove_all<T: Tree>(rt: &impl Abort, export: &mut Export<T>, reply: &mut [u8]
     for member in 0..MEMBERS {
         if matches!(kind_of(member), Kind::Removed) {
             walk_to(rt, export, 2, 1, member_number(member), reply);
-            assert_eq!(rt; send(rt, export, 2, 0, &remove, reply), 7);
+            assert!(rt; send(rt, export, 2, 0, &remove, reply) == 7);
         }
     }
 }
@@ -172,7 +172,7 @@ fn begun<T: Tree<Alloc = Global>>(
     let binds = binds(alloc, places).expect(rt, "memory");
     let mut export = exporter::<T>(rt, alloc, text.as_str(), binds.as_slice());
     begin(rt, alloc, &mut export, 1, reply);
-    assert_eq!(rt; export.open(2), Ok(()));
+    assert!(rt; export.open(2) == Ok(()));
     let rows: [Exchange; 2] = [in_session(2, VERSION), in_session(2, ATTACH_SYS)];
     exchange_all(rt, alloc, &mut export, 0, &rows, reply);
     remove_all(rt, &mut export, reply);
@@ -204,7 +204,7 @@ fn wanted(rt: &impl Abort, alloc: Global, place: u32) -> Vec<u8, Global> {
 fn open_place<T: Tree>(rt: &impl Abort, export: &mut Export<T>, place: u32, reply: &mut [u8]) {
     walk_to(rt, export, 1, 2, place_number(place), reply);
     let open = [12, 0, 0, 0, 112, 1, 0, 2, 0, 0, 0, 0];
-    assert_eq!(rt; send(rt, export, 1, 0, &open, reply), 24);
+    assert!(rt; send(rt, export, 1, 0, &open, reply) == 24);
     if place % 3 == 0 {
         shut(rt, export, place, reply);
     }
@@ -226,7 +226,7 @@ fn lists_place<T: Tree>(
     }
     assert!(rt; listing.as_slice() == wanted(rt, alloc, place).as_slice());
     let clunk = [11, 0, 0, 0, 120, 1, 0, 2, 0, 0, 0];
-    assert_eq!(rt; send(rt, export, 1, 0, &clunk, reply), 7);
+    assert!(rt; send(rt, export, 1, 0, &clunk, reply) == 7);
 }
 
 fn lists_all<T: Tree<Alloc = Global>>(rt: &impl Abort, alloc: Global) {

@@ -79,7 +79,7 @@ pub fn begin<T: Tree>(
     session: u32,
     reply: &mut [u8],
 ) {
-    assert_eq!(rt; export.open(session), Ok(()));
+    assert!(rt; export.open(session) == Ok(()));
     exchange(rt, alloc, export, 0, in_session(session, VERSION), reply);
     exchange(rt, alloc, export, 0, in_session(session, ATTACH), reply);
 }

@@ -16,7 +16,7 @@ use std::process::Abort;
 fn open_again<T: Tree>(rt: &impl Abort, guard: &mut Guard<T>, session: u32) {
     if guard.open(session) == Err(OpenError::NoMemory) {
         assert!(rt; !guard.live(session));
-        assert_eq!(rt; guard.open(session), Ok(()));
+        assert!(rt; guard.open(session) == Ok(()));
     }
 }
 
@@ -71,7 +71,7 @@ fn step_again<T: Tree>(
             let frame = bytes_of(alloc, request).expect(rt, "hexadecimal digits");
             let size = answer_again(rt, guard, session, frame.as_slice(), now, reply);
             let wanted = bytes_of(alloc, wanted).expect(rt, "hexadecimal digits");
-            assert_eq!(rt; reply.get(..size), Some(wanted.as_slice()));
+            assert!(rt; reply.get(..size) == Some(wanted.as_slice()));
         }
     }
 }

@@ -12,24 +12,24 @@ use std::alloc::{Allocator, Global};
 use std::process::Abort;
 
 fn is_same_node<A: Allocator, B: Allocator>(rt: &impl Abort, one: &Node<A>, other: &Node<B>) {
-    assert_eq!(rt; one.number(), other.number());
-    assert_eq!(rt; one.parent(), other.parent());
-    assert_eq!(rt; one.name(), other.name());
+    assert!(rt; one.number() == other.number());
+    assert!(rt; one.parent() == other.parent());
+    assert!(rt; one.name() == other.name());
     assert!(rt; one.mode().bits() == other.mode().bits());
     assert!(rt; one.uid() == other.uid());
     assert!(rt; one.gid() == other.gid());
     assert!(rt; one.muid() == other.muid());
-    assert_eq!(rt; one.version(), other.version());
-    assert_eq!(rt; one.atime(), other.atime());
-    assert_eq!(rt; one.mtime(), other.mtime());
+    assert!(rt; one.version() == other.version());
+    assert!(rt; one.atime() == other.atime());
+    assert!(rt; one.mtime() == other.mtime());
     assert!(rt; one.bytes() == other.bytes());
 }
 
 // The trees of server 0 are the same, and there is no other.
 fn is_same_tree<T: Tree, U: Tree>(rt: &impl Abort, one: &Forest<T>, other: &Forest<U>) {
-    assert_eq!(rt; one.trees.len(), 1);
-    assert_eq!(rt; other.trees.len(), 1);
-    assert_eq!(rt; one.next_of(0), other.next_of(0));
+    assert!(rt; one.trees.len() == 1);
+    assert!(rt; other.trees.len() == 1);
+    assert!(rt; one.next_of(0) == other.next_of(0));
     for number in 0..one.next_of(0) {
         let at = NodeRef { server: 0, number };
         match (one.node(at), other.node(at)) {
@@ -44,10 +44,10 @@ fn is_same_world<T: Tree, U: Tree>(rt: &impl Abort, one: &World<T>, other: &Worl
     is_same_tree(rt, &one.forest, &other.forest);
     assert!(rt; one.users.as_slice() == other.users.as_slice());
     assert!(rt; one.hidden.as_slice() == other.hidden.as_slice());
-    assert_eq!(rt; one.vars.len(), other.vars.len());
-    assert_eq!(rt; one.servers.len(), other.servers.len());
+    assert!(rt; one.vars.len() == other.vars.len());
+    assert!(rt; one.servers.len() == other.servers.len());
     for (name, same) in one.servers.iter().zip(other.servers.iter()) {
-        assert_eq!(rt; name.as_str(), same.as_str());
+        assert!(rt; name.as_str() == same.as_str());
     }
 }
 
@@ -56,11 +56,11 @@ fn is_same_table<A: Allocator + Copy, B: Allocator + Copy>(
     one: &MountTable<A>,
     other: &MountTable<B>,
 ) {
-    assert_eq!(rt; one.len(), other.len());
+    assert!(rt; one.len() == other.len());
     for position in 0..one.len() {
         let (key, members) = one.row(position).expect(rt, "a row");
         let (same_key, same_members) = other.row(position).expect(rt, "a row");
-        assert_eq!(rt; key, same_key);
+        assert!(rt; key == same_key);
         assert!(rt; members.as_slice() == same_members.as_slice());
     }
 }
@@ -71,7 +71,7 @@ fn make_again<T: Tree>(rt: &impl Abort, alloc: Global, lent: T::Alloc) {
     let table = table_of(rt, lent, Some(replace(1, 1)));
     let certificate = certificate_of(rt, lent, CERTIFICATE);
     if let Err((world, table, cause)) = Guard::new(world, table, certificate) {
-        assert_eq!(rt; cause, Cause::NoMemory);
+        assert!(rt; cause == Cause::NoMemory);
         is_same_world(rt, &world, &world_of::<PlainTree<Global>>(rt, alloc, VAULT));
         is_same_table(rt, &table, &table_of(rt, alloc, Some(replace(1, 1))));
         let certificate = certificate_of(rt, lent, CERTIFICATE);

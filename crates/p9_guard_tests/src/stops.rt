@@ -92,7 +92,7 @@ fn run_on<T: Tree>(
     if let Err(Stopped { done }) = guard.run(events, bytes) {
         let rest = events.get(done..).expect(rt, "events");
         assert!(rt; matches!(rest.first(), Some(Event::Message(_, _, _))));
-        assert_eq!(rt; guard.run(rest, bytes), Ok(()));
+        assert!(rt; guard.run(rest, bytes) == Ok(()));
     }
 }
 
@@ -100,7 +100,7 @@ fn run_on<T: Tree>(
 fn is_undisturbed(rt: &impl Abort, alloc: Global, script: &Script, run: &Run) {
     let mut guard = scripted::<PlainTree<Global>>(rt, alloc, script);
     let mut bytes = Vec::new(alloc);
-    assert_eq!(rt; guard.run(run.events.as_slice(), &mut bytes), Ok(()));
+    assert!(rt; guard.run(run.events.as_slice(), &mut bytes) == Ok(()));
     assert!(rt; bytes.as_slice() == run.replies.as_slice());
 }
 

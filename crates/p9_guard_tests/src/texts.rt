@@ -32,7 +32,7 @@ fn gaps_have_their_texts(rt: HostRuntime) -> Result<(), Fail> {
     for gap in gaps {
         let alone = format!(in rt.alloc(); "{gap}")?;
         let shown = format!(in rt.alloc(); "{}", Cause::Gap(gap))?;
-        assert_eq!(rt; shown.as_str(), alone.as_str());
+        assert!(rt; shown.as_str() == alone.as_str());
     }
     Ok(())
 }
@@ -40,6 +40,6 @@ fn gaps_have_their_texts(rt: HostRuntime) -> Result<(), Fail> {
 #[test]
 fn other_errors_have_texts(rt: HostRuntime) -> Result<(), Fail> {
     let shown = format!(in rt.alloc(); "{}, {}", Cause::NoMemory, Stopped { done: 3 })?;
-    assert_eq!(rt; shown.as_str(), "out of memory, out of memory");
+    assert!(rt; shown.as_str() == "out of memory, out of memory");
     Ok(())
 }

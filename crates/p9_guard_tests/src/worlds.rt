@@ -197,6 +197,6 @@ pub fn run<T: Tree>(
     events: &[Event<Global>],
     bytes: &mut Vec<u8, T::Alloc>,
 ) -> String<Global> {
-    assert_eq!(rt; guard.run(events, bytes), Ok(()));
+    assert!(rt; guard.run(events, bytes) == Ok(()));
     hex::encode(alloc, bytes.as_slice()).expect(rt, "a text")
 }

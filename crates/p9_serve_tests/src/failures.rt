@@ -53,14 +53,14 @@ const FAILURES: [(ErrorKind, u8, &str); 4] = [
 fn a_failure_is_reported_by_its_text(rt: HostRuntime) {
     for (kind, status, text) in FAILURES {
         let (got, taken) = reported(rt.alloc(), kind, 100);
-        assert_eq!(rt; got, status);
-        assert_eq!(rt; taken.as_slice(), text.as_bytes());
+        assert!(rt; got == status);
+        assert!(rt; taken.as_slice() == text.as_bytes());
     }
 }
 
 #[test]
 fn a_failure_is_reported_as_far_as_the_writer_takes_it(rt: HostRuntime) {
     let (status, taken) = reported(rt.alloc(), ErrorKind::OutOfMemory, 6);
-    assert_eq!(rt; status, 3);
-    assert_eq!(rt; taken.as_slice(), b"out of".as_slice());
+    assert!(rt; status == 3);
+    assert!(rt; taken.as_slice() == b"out of".as_slice());
 }

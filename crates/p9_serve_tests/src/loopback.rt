@@ -85,7 +85,7 @@ impl Loopback {
                 break;
             }
         }
-        assert_eq!(rt; got.as_slice(), wanted.as_slice());
+        assert!(rt; got.as_slice() == wanted.as_slice());
     }
 
     /// Takes rounds until a client has got a whole reply, and returns it.
@@ -148,7 +148,7 @@ impl Loopback {
             }
             let _ = self.round();
         }
-        assert_eq!(rt; self.closed, count);
+        assert!(rt; self.closed == count);
     }
 
     /// Takes rounds until the server has ended a client's connection. No byte comes before that.
@@ -174,7 +174,7 @@ impl Loopback {
 
 /// Sends bytes, of which the system takes all at once.
 pub fn send(rt: &impl Abort, client: &mut TcpStream, bytes: &[u8]) {
-    assert_eq!(rt; client.write(bytes).ok(), Some(bytes.len()));
+    assert!(rt; client.write(bytes).ok() == Some(bytes.len()));
 }
 
 /// Takes what has come.
@@ -182,7 +182,7 @@ fn receive(rt: &impl Abort, client: &mut TcpStream, got: &mut Vec<u8>) {
     let mut buffer = [0u8; 512];
     match client.read(&mut buffer) {
         Ok(count) => assert!(rt; got.extend_from_slice(&buffer[..count]).is_ok()),
-        Err(error) => assert_eq!(rt; error.kind(), ErrorKind::WouldBlock),
+        Err(error) => assert!(rt; error.kind() == ErrorKind::WouldBlock),
     }
 }
 
@@ -195,11 +195,11 @@ fn is_whole(bytes: &[u8]) -> bool {
 pub fn is_ended(rt: &impl Abort, client: &mut TcpStream) -> bool {
     match client.read(&mut [0; 8]) {
         Ok(count) => {
-            assert_eq!(rt; count, 0);
+            assert!(rt; count == 0);
             true
         }
         Err(error) => {
-            assert_eq!(rt; error.kind(), ErrorKind::WouldBlock);
+            assert!(rt; error.kind() == ErrorKind::WouldBlock);
             false
         }
     }

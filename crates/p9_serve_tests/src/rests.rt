@@ -10,23 +10,23 @@ use std::time::Duration;
 fn whoever_comes_ends_the_rests(rt: HostRuntime) {
     let mut loopback = Loopback::new(&rt, SMALL);
     loopback.wait(5_000);
-    assert_eq!(rt; loopback.rest(), Duration::from_micros(50));
+    assert!(rt; loopback.rest() == Duration::from_micros(50));
     loopback.wait(7);
-    assert_eq!(rt; loopback.rest(), Duration::from_micros(4_000));
+    assert!(rt; loopback.rest() == Duration::from_micros(4_000));
     let mut client = loopback.connect(&rt);
     loopback.wait(1);
-    assert_eq!(rt; loopback.accepted, 1);
-    assert_eq!(rt; loopback.rest(), Duration::ZERO);
+    assert!(rt; loopback.accepted == 1);
+    assert!(rt; loopback.rest() == Duration::ZERO);
     loopback.wait(5_000);
-    assert_eq!(rt; loopback.rest(), Duration::from_micros(50));
+    assert!(rt; loopback.rest() == Duration::from_micros(50));
     send(&rt, &mut client, bytes(&rt, VERSION.0).as_slice());
     loopback.reply(&rt, &mut client, VERSION.1);
-    assert_eq!(rt; loopback.rest(), Duration::ZERO);
+    assert!(rt; loopback.rest() == Duration::ZERO);
     loopback.wait(5_003);
     assert!(rt; loopback.rest() > Duration::ZERO);
     drop(client);
     loopback.close(&rt, 1);
-    assert_eq!(rt; loopback.rest(), Duration::ZERO);
+    assert!(rt; loopback.rest() == Duration::ZERO);
 }
 
 // A new server accepts in its first round, and in the round after one in which a client came. Then,
@@ -36,14 +36,14 @@ fn accepts_that_find_nobody_come_further_apart(rt: HostRuntime) {
     let mut loopback = Loopback::new(&rt, SMALL);
     let _first = loopback.connect(&rt);
     loopback.wait(1);
-    assert_eq!(rt; loopback.accepted, 1);
+    assert!(rt; loopback.accepted == 1);
     let _second = loopback.connect(&rt);
     loopback.wait(1);
-    assert_eq!(rt; loopback.accepted, 2);
+    assert!(rt; loopback.accepted == 2);
     loopback.wait(7);
     let _third = loopback.connect(&rt);
     loopback.wait(7);
-    assert_eq!(rt; loopback.accepted, 2);
+    assert!(rt; loopback.accepted == 2);
     loopback.wait(1);
-    assert_eq!(rt; loopback.accepted, 3);
+    assert!(rt; loopback.accepted == 3);
 }

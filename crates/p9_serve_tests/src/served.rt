@@ -78,7 +78,7 @@ fn replies_to(
         &mut client,
         &mut err,
     );
-    assert_eq!(rt; status, 0);
+    assert!(rt; status == 0);
     all_of(rt, client.stream)
 }
 
@@ -115,5 +115,5 @@ fn add(rt: &(impl Abort + AllocGlobal), frames: &mut Vec<u8>, digits: &str) {
 fn each_round_has_its_time(rt: HostRuntime) {
     let (requests, replies) = parts_of(&rt, &TIMED);
     let got = replies_to(&rt, requests.as_slice());
-    assert_eq!(rt; got.as_slice(), replies.as_slice());
+    assert!(rt; got.as_slice() == replies.as_slice());
 }

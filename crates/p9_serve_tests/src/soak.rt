@@ -144,14 +144,14 @@ impl Soak {
     fn finish(mut self, rt: &(impl Abort + AllocGlobal)) {
         self.loopback.close(rt, STEPS + 1);
         self.work(rt);
-        assert_eq!(rt; self.number, FIRST + STEPS + 1);
+        assert!(rt; self.number == FIRST + STEPS + 1);
         let Soak {
             loopback,
             mut honest,
             ..
         } = self;
-        assert_eq!(rt; loopback.accepted, STEPS + 2);
-        assert_eq!(rt; loopback.closed, STEPS + 1);
+        assert!(rt; loopback.accepted == STEPS + 2);
+        assert!(rt; loopback.closed == STEPS + 1);
         assert!(rt; !is_ended(rt, &mut honest));
         loopback.finish(rt, 100);
         assert!(rt; is_ended(rt, &mut honest));

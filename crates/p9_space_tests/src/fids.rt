@@ -72,14 +72,14 @@ fn fids_are_kept_by_rising_number(rt: HostRuntime) {
     let alloc = rt.alloc();
     let table = MountTable::new(alloc);
     let mut fids = FidTable::new(alloc);
-    assert_eq!(rt; fids.first(), None);
+    assert!(rt; fids.first() == None);
     put(&rt, &mut fids, &table, 7, alloc, 1);
     put(&rt, &mut fids, &table, 3, alloc, 1);
     put(&rt, &mut fids, &table, 9, alloc, 1);
-    assert_eq!(rt; fids.len(), 3);
-    assert_eq!(rt; fids.first(), Some(3));
+    assert!(rt; fids.len() == 3);
+    assert!(rt; fids.first() == Some(3));
     assert!(rt; fids.take(3).is_some());
-    assert_eq!(rt; fids.first(), Some(7));
+    assert!(rt; fids.first() == Some(7));
     assert!(rt; fids.take(3).is_none() && fids.get(3).is_none());
 }
 
@@ -118,9 +118,9 @@ fn a_fid_moves_and_is_opened(rt: HostRuntime) -> Result<(), Fail> {
         let channels = channels_at(&rt, &table, alloc, 2);
         move_and_open(&rt, &mut fids, channels, opened, at_once);
         let fid = fids.take(5).ok_or("the fid")?;
-        assert_eq!(rt; fid.channels.trail().here(), node(2));
-        assert_eq!(rt; fid.opened, Some(opened));
-        assert_eq!(rt; fid.user.as_str(), "glenda");
+        assert!(rt; fid.channels.trail().here() == node(2));
+        assert!(rt; fid.opened == Some(opened));
+        assert!(rt; fid.user.as_str() == "glenda");
     }
     Ok(())
 }
@@ -134,10 +134,10 @@ fn is_refused(
     alloc: Global,
     fault: Fault,
 ) {
-    assert_eq!(rt; fids.put_fault(fid), Some(fault));
+    assert!(rt; fids.put_fault(fid) == Some(fault));
     let held = fid_on(rt, channels_at(rt, table, alloc, 1));
-    assert_eq!(rt; fids.put(fid, held), Err(fault));
-    assert_eq!(rt; fids.len(), 1024);
+    assert!(rt; fids.put(fid, held) == Err(fault));
+    assert!(rt; fids.len() == 1024);
 }
 
 #[test]
@@ -165,13 +165,13 @@ fn open_fids_are_counted_by_their_files(rt: HostRuntime) -> Result<(), Fail> {
     put(&rt, &mut fids, &table, 3, alloc, 3);
     open(&rt, &mut fids, 1, TO_READ);
     open(&rt, &mut fids, 2, TO_READ);
-    assert_eq!(rt; fids.open_count(&table, node(1)), 2);
-    assert_eq!(rt; fids.open_count(&table, node(3)), 0);
+    assert!(rt; fids.open_count(&table, node(1)) == 2);
+    assert!(rt; fids.open_count(&table, node(3)) == 0);
     Ok(())
 }
 
 fn gives(rt: &impl Abort, mode: OpenMode, reads: bool, writes: bool) {
-    assert_eq!(rt; (mode.reads(), mode.writes()), (reads, writes));
+    assert!(rt; (mode.reads(), mode.writes()) == (reads, writes));
 }
 
 #[test]

@@ -33,7 +33,7 @@ fn bind_again(
 ) {
     let count = table.len();
     if bind(rt, alloc, table, key).is_err() {
-        assert_eq!(rt; table.len(), count);
+        assert!(rt; table.len() == count);
         assert!(rt; bind(rt, alloc, table, key).is_ok());
     }
     has_row(rt, alloc, table, count, key);
@@ -49,7 +49,7 @@ fn has_row(
 ) {
     let want = format!(in alloc; "{key} in 0 is {key} 1+ 2").expect(rt, "memory");
     let made = row(alloc, table, position).expect(rt, "memory");
-    assert_eq!(rt; made.as_str(), want.as_str());
+    assert!(rt; made.as_str() == want.as_str());
 }
 
 // Binds at three keys, and copies the table.
@@ -60,7 +60,7 @@ fn bind_all(rt: &impl Abort, alloc: Global, mut table: MountTable<&Refusing<Glob
     if table.copy().is_err() {
         assert!(rt; table.copy().is_ok());
     }
-    assert_eq!(rt; table.len(), 3);
+    assert!(rt; table.len() == 3);
 }
 
 #[test]
@@ -84,10 +84,10 @@ fn begin<'a>(rt: &impl Abort, memory: &'a Refusing<Global>) -> Trail<&'a Refusin
 
 // Goes to a place, again where it was refused: the trail leads to the place before then.
 fn push(rt: &impl Abort, trail: &mut Trail<&Refusing<Global>>, number: u64) {
-    assert_eq!(rt; trail.len() as u64, number);
+    assert!(rt; (trail.len() as u64) == number);
     assert!(rt; trail.len() < PLACES_MAX);
     if trail.push(node(number)).is_err() {
-        assert_eq!(rt; trail.here(), node(number.saturating_sub(1)));
+        assert!(rt; trail.here() == node(number.saturating_sub(1)));
         assert!(rt; trail.push(node(number)).is_ok());
     }
 }
@@ -100,7 +100,7 @@ fn make_trail(rt: &impl Abort, memory: &Refusing<Global>) {
     if trail.copy().is_err() {
         assert!(rt; trail.copy().is_ok());
     }
-    assert_eq!(rt; trail.here(), node(39));
+    assert!(rt; trail.here() == node(39));
 }
 
 #[test]
@@ -132,12 +132,12 @@ fn walk_again<T: Tree>(rt: &impl Abort, alloc: Global, space: &Space<T>) {
     let found = match walk(space) {
         Ok(found) => found,
         Err(fault) => {
-            assert_eq!(rt; fault, Fault::OutOfMemory);
+            assert!(rt; fault == Fault::OutOfMemory);
             walk(space).expect(rt, "a walk")
         }
     };
     let told = trail(alloc, &space.table, &found).expect(rt, "memory");
-    assert_eq!(rt; told.as_str(), "0 1 2 ");
+    assert!(rt; told.as_str() == "0 1 2 ");
 }
 
 // Walks the names `a` and `b` by channels.
@@ -159,12 +159,12 @@ fn walk_by_channels_again<T: Tree>(rt: &impl Abort, alloc: Global, space: &Space
     let found = match walk_by_channels(space) {
         Ok(found) => found,
         Err(fault) => {
-            assert_eq!(rt; fault, Fault::OutOfMemory);
+            assert!(rt; fault == Fault::OutOfMemory);
             walk_by_channels(space).expect(rt, "a walk")
         }
     };
     let told = trail(alloc, &space.table, found.trail()).expect(rt, "memory");
-    assert_eq!(rt; told.as_str(), "0 1 2 ");
+    assert!(rt; told.as_str() == "0 1 2 ");
 }
 
 // Both, with each request of memory refused in turn.

@@ -27,12 +27,12 @@ const FAULTS: [(OpFault, &str); 10] = [
 #[test]
 fn bad_forms_have_texts(rt: HostRuntime) -> Result<(), Fail> {
     for (kind, text) in FORMS {
-        assert_eq!(rt; kind.text(), text);
+        assert!(rt; kind.text() == text);
         let shown = format!(in rt.alloc(); "{kind}")?;
-        assert_eq!(rt; shown.as_str(), text);
+        assert!(rt; shown.as_str() == text);
         let error = NsError::BadLine { line: 7, kind };
         let shown = format!(in rt.alloc(); "{error}")?;
-        assert_eq!(rt; shown.as_str().strip_prefix("line 7: "), Some(text));
+        assert!(rt; shown.as_str().strip_prefix("line 7: ") == Some(text));
     }
     Ok(())
 }
@@ -40,9 +40,9 @@ fn bad_forms_have_texts(rt: HostRuntime) -> Result<(), Fail> {
 #[test]
 fn faults_have_texts(rt: HostRuntime) -> Result<(), Fail> {
     for (fault, text) in FAULTS {
-        assert_eq!(rt; fault.text(), text);
+        assert!(rt; fault.text() == text);
         let shown = format!(in rt.alloc(); "{fault}")?;
-        assert_eq!(rt; shown.as_str(), text);
+        assert!(rt; shown.as_str() == text);
     }
     Ok(())
 }
@@ -56,9 +56,6 @@ fn other_errors_have_texts(rt: HostRuntime) -> Result<(), Fail> {
         NsError::NoMemory,
         NoMemory
     )?;
-    assert_eq!(rt;
-        shown.as_str(),
-        "not mounted, not in the union, out of memory, out of memory"
-    );
+    assert!(rt; shown.as_str() == "not mounted, not in the union, out of memory, out of memory");
     Ok(())
 }

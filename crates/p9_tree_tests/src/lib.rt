@@ -1,14 +1,21 @@
-//! Tests of p9_tree and p9_index: what trees and forests return call by call, in a vector of nodes
-//! and in ordered maps, and where an allocation fails.
+//! Tests of the lowest crates: of p9_base, p9_clean and p9_testing; and of p9_tree and p9_index, what
+//! trees and forests return call by call, in a vector of nodes and in ordered maps, and where an
+//! allocation fails.
 //!
 //! A test is a text with a call in each line, and its expected result after `=`. So a proof loads
 //! one literal, whatever a test has in it, which costs much less than a table of values.
 #![tactic(auto)]
 
 #[cfg(test)]
+mod base;
+#[cfg(test)]
 mod calls;
 #[cfg(test)]
 mod changes;
+#[cfg(test)]
+mod clean;
+#[cfg(test)]
+mod digits;
 #[cfg(test)]
 mod forests;
 #[cfg(test)]
@@ -21,6 +28,10 @@ mod many;
 mod nodes;
 #[cfg(test)]
 mod refused;
+#[cfg(test)]
+mod testing;
+#[cfg(test)]
+mod text;
 #[cfg(test)]
 mod words;
 #[cfg(test)]

@@ -87,9 +87,9 @@ fn read<T: Tree>(
         forest.trees.get(at.server as usize),
         again.split_at_mut_checked(room),
     ) {
-        assert_eq!(rt; tree.read_into(at.number, offset, front), count);
+        assert!(rt; tree.read_into(at.number, offset, front) == count);
     }
-    assert_eq!(rt; buffer, again);
+    assert!(rt; buffer == again);
     let text = str::from_utf8(&buffer).unwrap_or("?");
     format!(in alloc; "{count} {text}")
 }

@@ -25,7 +25,7 @@ fn writes_t(rt: &impl Abort, tag: u16, message: &TMsg<'_>, want: &[u8]) {
     assert!(rt; message.fits());
     assert!(rt; message.size() <= ROOM);
     let end = write_t(message, tag, &mut out);
-    assert_eq!(rt; end, want.len());
+    assert!(rt; end == want.len());
     assert!(rt; holds_only(&out, want));
 }
 
@@ -39,7 +39,7 @@ pub fn request(rt: &impl Abort, tag: u16, message: &TMsg<'_>, want: &[u8]) {
 pub fn reads_t(rt: &impl Abort, tag: u16, want: &[u8]) {
     match read_t(want) {
         Some((read, again)) => {
-            assert_eq!(rt; read, tag);
+            assert!(rt; read == tag);
             writes_t(rt, tag, &again, want);
         }
         None => panic!(rt; "it is not read"),
@@ -71,7 +71,7 @@ fn writes_r(rt: &impl Abort, tag: u16, message: &RMsg<'_>, want: &[u8]) {
     assert!(rt; message.fits());
     assert!(rt; message.size() <= ROOM);
     let end = write_r(message, tag, &mut out);
-    assert_eq!(rt; end, want.len());
+    assert!(rt; end == want.len());
     assert!(rt; holds_only(&out, want));
 }
 
@@ -85,7 +85,7 @@ pub fn reply(rt: &impl Abort, tag: u16, message: &RMsg<'_>, want: &[u8]) {
 pub fn reads_r(rt: &impl Abort, tag: u16, want: &[u8]) {
     match read_r(want) {
         Some((read, again)) => {
-            assert_eq!(rt; read, tag);
+            assert!(rt; read == tag);
             writes_r(rt, tag, &again, want);
         }
         None => panic!(rt; "it is not read"),

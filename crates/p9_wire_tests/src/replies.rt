@@ -188,9 +188,9 @@ fn vector_union_listing(rt: HostRuntime) -> Result<(), Fail> {
     let out = &mut room[..];
     let first = stat_of(4, "n", 1);
     let second = stat_of(2, "n", 1);
-    assert_eq!(rt; write_entry(&rt, &first, &mut out[HEADER + 4..]), 68);
-    assert_eq!(rt; write_entry(&rt, &second, &mut out[HEADER + 4 + 68..]), 68);
-    assert_eq!(rt; finish_read(5, 136, out), 147);
+    assert!(rt; write_entry(&rt, &first, &mut out[HEADER + 4..]) == 68);
+    assert!(rt; write_entry(&rt, &second, &mut out[HEADER + 4 + 68..]) == 68);
+    assert!(rt; finish_read(5, 136, out) == 147);
     let digits = "93000000 75 0500 88000000 \
         4200 0000 00000000 00 00000000 0400000000000000 a4010000 \
         00000000 00000000 0100000000000000 0100 6e \

@@ -105,7 +105,7 @@ fn vector_partial_walk(rt: HostRuntime) -> Result<(), Fail> {
     names.push("b");
     names.push("none");
     assert!(rt; !names.is_empty() && names.as_slice().len() == 3);
-    assert_eq!(rt; names.get(2), "none");
+    assert!(rt; names.get(2) == "none");
     let walk = TMsg::Walk {
         fid: 0,
         newfid: 9,

@@ -106,7 +106,7 @@ fn is_certified<T: Tree>(
     match judge(alloc, world, table)? {
         Verdict::No(_breach) => Ok(false),
         Verdict::Yes(certificate) => {
-            assert_eq!(rt; verify(world, table, &certificate), Ok(()));
+            assert!(rt; verify(world, table, &certificate) == Ok(()));
             for i in 0..certificate.rows().len() {
                 let fewer = without(rt, alloc, &certificate, i)?;
                 assert!(rt; verify(world, table, &fewer).is_err());
@@ -127,7 +127,7 @@ fn is_certified_over_both(
     let plain = read_world::<PlainTree<Global>>(alloc, text).expect(rt, "a world");
     let index = read_world::<IndexTree<Global>>(alloc, text).expect(rt, "a world");
     let certified = is_certified(rt, alloc, &plain, table)?;
-    assert_eq!(rt; is_certified(rt, alloc, &index, table)?, certified);
+    assert!(rt; is_certified(rt, alloc, &index, table)? == certified);
     Ok(certified)
 }
 

@@ -19,7 +19,7 @@ pub const SCRIPT: &str = "%% world\nserver main\n%% script\n# a session\nopen 1\
 #[test]
 fn words_are_written_as_frames(rt: HostRuntime) -> Result<(), Fail> {
     match write_script(rt.alloc(), WORDS.as_bytes()) {
-        Ok(text) => assert_eq!(rt; text.as_str(), SCRIPT),
+        Ok(text) => assert!(rt; text.as_str() == SCRIPT),
         Err(stop) => panic!(rt; "{stop:?}"),
     }
     Ok(())
@@ -30,7 +30,7 @@ fn words_are_written_as_frames(rt: HostRuntime) -> Result<(), Fail> {
 fn scripts_stay_as_they_are(rt: HostRuntime) -> Result<(), Fail> {
     for text in ["", "\n", "%% world\n 1 0 Tversion\n%% scripts\n", SCRIPT] {
         match write_script(rt.alloc(), text.as_bytes()) {
-            Ok(same) => assert_eq!(rt; same.as_str(), text),
+            Ok(same) => assert!(rt; same.as_str() == text),
             Err(stop) => panic!(rt; "{stop:?}"),
         }
     }

@@ -16,7 +16,7 @@ fn reads<A: Allocator + Copy>(rt: &impl Abort, alloc: A, line: &str, frame: &[u8
             true
         }
         Err(error) => {
-            assert_eq!(rt; error, WordsError::NoMemory);
+            assert!(rt; error == WordsError::NoMemory);
             false
         }
     }
@@ -34,7 +34,7 @@ fn prints<A: Allocator + Copy>(rt: &impl Abort, alloc: A, line: &str, frame: &[u
         (_, Some((tag, message))) => print_reply(&message, tag, &mut out),
         (None, None) => panic!(rt; "{line}: no message"),
     };
-    assert_eq!(rt; out.as_slice().first(), Some(&b'>'));
+    assert!(rt; out.as_slice().first() == Some(&b'>'));
     assert!(rt; printed.is_ok() || out.len() == 1);
     let text = out.as_slice().strip_prefix(b">");
     assert!(rt; printed.is_err() || text == Some(line.as_bytes()));

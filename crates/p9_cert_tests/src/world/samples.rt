@@ -1,7 +1,7 @@
 //! The sample worlds are read, each with its nodes.
 
-use crate::printing::world as told_of;
-use crate::worlds::{
+use crate::world::printing::world as told_of;
+use crate::world::worlds::{
     BOUND_INSIDE, COVERED_VAULT, DEEP, HOME, SMALL, Sample, TWO_SERVERS, TWO_UNIONS, VAULT,
 };
 use p9_index::IndexTree;
@@ -14,7 +14,7 @@ use std::test::Fail;
 /// The world is the sample's.
 pub fn is_sample<T: Tree>(rt: &impl Abort, alloc: Global, world: &World<T>, sample: &Sample) {
     let told = told_of(alloc, world).expect(rt, "memory");
-    assert_eq!(rt; told.as_str(), sample.told);
+    assert!(rt; told.as_str() == sample.told);
 }
 
 fn is_read(rt: &impl Abort, alloc: Global, sample: &Sample) {
@@ -54,7 +54,7 @@ fn parts_of_a_world_fit(rt: HostRuntime) -> Result<(), Fail> {
         servers,
     } = world;
     prove!(servers.len() == forest.trees.len());
-    assert_eq!(rt; (users.len(), hidden.len(), vars.len()), (1, 1, 0));
+    assert!(rt; (users.len(), hidden.len(), vars.len()) == (1, 1, 0));
     assert!(rt; users.iter().all(|user| !groups.contains(user)));
     Ok(())
 }

@@ -1,7 +1,7 @@
 //! Each growth is refused in turn.
 
-use crate::samples::is_sample;
-use crate::worlds::{HOME, Sample, VAULT};
+use crate::world::samples::is_sample;
+use crate::world::worlds::{HOME, Sample, VAULT};
 use p9_index::IndexTree;
 use p9_testing::{Refusing, refuse_each};
 use p9_tree::{PlainTree, Tree};
@@ -14,7 +14,7 @@ pub fn read_again<T: Tree>(rt: &impl Abort, lent: T::Alloc, text: &str) -> World
     match read_world::<T>(lent, text) {
         Ok(world) => world,
         Err(error) => {
-            assert_eq!(rt; error, WorldError::NoMemory);
+            assert!(rt; error == WorldError::NoMemory);
             let again = read_world::<T>(lent, text);
             again.expect(rt, "a world with ample memory")
         }

@@ -12,11 +12,11 @@ use std::process::Abort;
 fn writes<A: Allocator + Copy>(rt: &impl Abort, alloc: A) -> bool {
     match write_script(alloc, WORDS.as_bytes()) {
         Ok(text) => {
-            assert_eq!(rt; text.as_str(), SCRIPT);
+            assert!(rt; text.as_str() == SCRIPT);
             true
         }
         Err(stop) => {
-            assert_eq!(rt; stop, Stop::NoMemory);
+            assert!(rt; stop == Stop::NoMemory);
             false
         }
     }
@@ -30,7 +30,7 @@ fn shows<A: Allocator + Copy>(rt: &impl Abort, alloc: A) -> bool {
             true
         }
         Err(stop) => {
-            assert_eq!(rt; stop, Stop::NoMemory);
+            assert!(rt; stop == Stop::NoMemory);
             false
         }
     }

@@ -29,7 +29,7 @@ fn reads_numbers(rt: HostRuntime) {
         ("0x5", 8, None),
         ("\u{665}", 8, None),
     ] {
-        assert_eq!(rt; number(word, limit), want, "{word:?} below {limit}");
+        assert!(rt; number(word, limit) == want, "{word:?} below {limit}");
     }
 }
 
@@ -37,9 +37,9 @@ fn reads_numbers(rt: HostRuntime) {
 fn cuts_a_text_into_lines(rt: HostRuntime) -> Result<(), Fail> {
     let alloc = rt.alloc();
     let found = lines(alloc, "server main\r\n\n dir")?;
-    assert_eq!(rt; found.as_slice(), ["server main\r", "", " dir"].as_slice());
+    assert!(rt; found.as_slice() == ["server main\r", "", " dir"].as_slice());
     let found = lines(alloc, "")?;
-    assert_eq!(rt; found.as_slice(), [""].as_slice());
+    assert!(rt; found.as_slice() == [""].as_slice());
     Ok(())
 }
 
@@ -47,12 +47,9 @@ fn cuts_a_text_into_lines(rt: HostRuntime) -> Result<(), Fail> {
 fn cuts_a_line_into_words(rt: HostRuntime) -> Result<(), Fail> {
     let alloc = rt.alloc();
     let found = words(alloc, "\tdir  /usr \t755 gl\u{a0}nda\r\u{b} \r")?;
-    assert_eq!(rt;
-        found.as_slice(),
-        ["dir", "/usr", "755", "gl\u{a0}nda\r\u{b}", "\r"].as_slice()
-    );
+    assert!(rt; found.as_slice() == ["dir", "/usr", "755", "gl\u{a0}nda\r\u{b}", "\r"].as_slice());
     let found = words(alloc, " \t ")?;
-    assert_eq!(rt; found.len(), 0);
+    assert!(rt; found.len() == 0);
     Ok(())
 }
 
@@ -62,12 +59,12 @@ fn counts_the_lines_that_it_passes_over(rt: HostRuntime) -> Result<(), Fail> {
     let found = statements(rt.alloc(), text)?;
     let mut seen = found.iter();
     let server = seen.next().ok_or("no statement")?;
-    assert_eq!(rt; server.line, 3);
-    assert_eq!(rt; server.words.as_slice(), ["server", "main"].as_slice());
+    assert!(rt; server.line == 3);
+    assert!(rt; server.words.as_slice() == ["server", "main"].as_slice());
     let dir = seen.next().ok_or("one statement")?;
-    assert_eq!(rt; dir.line, 6);
+    assert!(rt; dir.line == 6);
     let words = ["dir", "/a", "755", "sys", "sys", "#", "root"];
-    assert_eq!(rt; dir.words.as_slice(), words.as_slice());
-    assert_eq!(rt; found.len(), 2);
+    assert!(rt; dir.words.as_slice() == words.as_slice());
+    assert!(rt; found.len() == 2);
     Ok(())
 }

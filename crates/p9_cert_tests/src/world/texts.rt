@@ -21,17 +21,17 @@ const TEXTS: [(LineFault, &str); 12] = [
 #[test]
 fn faults_have_texts(rt: HostRuntime) -> Result<(), Fail> {
     for (fault, text) in TEXTS {
-        assert_eq!(rt; fault.text(), text);
+        assert!(rt; fault.text() == text);
         let shown = format!(in rt.alloc(); "{fault}")?;
-        assert_eq!(rt; shown.as_str(), text);
+        assert!(rt; shown.as_str() == text);
         let error = WorldError::BadWorld {
             line: 7,
             kind: fault,
         };
         let shown = format!(in rt.alloc(); "{error}")?;
-        assert_eq!(rt; shown.as_str().strip_prefix("line 7: "), Some(text));
+        assert!(rt; shown.as_str().strip_prefix("line 7: ") == Some(text));
     }
     let shown = format!(in rt.alloc(); "{}", WorldError::NoMemory)?;
-    assert_eq!(rt; shown.as_str(), "out of memory");
+    assert!(rt; shown.as_str() == "out of memory");
     Ok(())
 }

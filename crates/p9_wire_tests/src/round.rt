@@ -12,7 +12,7 @@ use std::test::Fail;
 // A line of words is read as the frame.
 fn is_read(rt: &impl Abort, alloc: Global, line: &str, frame: &[u8]) {
     match read_words(alloc, line) {
-        Ok(read) => assert_eq!(rt; read.as_slice(), frame),
+        Ok(read) => assert!(rt; read.as_slice() == frame),
         Err(error) => panic!(rt; "{line}: {error}"),
     }
 }
@@ -26,7 +26,7 @@ fn requests_are_printed_and_read(rt: HostRuntime) -> Result<(), Fail> {
         };
         let mut out = Vec::new(rt.alloc());
         print_request(&message, tag, &mut out)?;
-        assert_eq!(rt; from_utf8(out.as_slice()), Ok(line));
+        assert!(rt; from_utf8(out.as_slice()) == Ok(line));
         is_read(&rt, rt.alloc(), line, frame.as_slice());
     }
     Ok(())
@@ -41,7 +41,7 @@ fn replies_are_printed_and_read(rt: HostRuntime) -> Result<(), Fail> {
         };
         let mut out = Vec::new(rt.alloc());
         print_reply(&message, tag, &mut out)?;
-        assert_eq!(rt; from_utf8(out.as_slice()), Ok(line));
+        assert!(rt; from_utf8(out.as_slice()) == Ok(line));
         is_read(&rt, rt.alloc(), line, frame.as_slice());
     }
     Ok(())

@@ -41,7 +41,7 @@ fn row_cleaning(rt: HostRuntime) -> Result<(), Fail> {
     for line in CLEANED.lines() {
         let (path, want) = line.split_once('|').expect(&rt, "a path");
         let cleaned = clean(rt.alloc(), path)?;
-        assert_eq!(rt; cleaned.as_str(), want, "at {path:?}");
+        assert!(rt; cleaned.as_str() == want, "at {path:?}");
     }
     Ok(())
 }
@@ -49,8 +49,8 @@ fn row_cleaning(rt: HostRuntime) -> Result<(), Fail> {
 #[test]
 fn elements_stand_between_slashes(rt: HostRuntime) -> Result<(), Fail> {
     let found = elements(rt.alloc(), "/usr//./glenda/../λ/")?;
-    assert_eq!(rt; found.as_slice(), ["usr", "glenda", "..", "λ"].as_slice());
+    assert!(rt; found.as_slice() == ["usr", "glenda", "..", "λ"].as_slice());
     let found = elements(rt.alloc(), "//")?;
-    assert_eq!(rt; found.len(), 0);
+    assert!(rt; found.len() == 0);
     Ok(())
 }

@@ -52,15 +52,14 @@ fn the_request_that_is_named_is_refused_once(rt: HostRuntime) -> Result<(), Fail
     for (n, refused) in [(1, 1), (2, 2), (5, 5), (300, 300), (0, 302), (302, 302)] {
         memory.refuse(n);
         for request in 1..302u64 {
-            assert_eq!(rt;
-                empty_vector(&memory).is_err(),
-                request == refused,
+            assert!(rt;
+                empty_vector(&memory).is_err() == (request == refused),
                 "at {n}"
             );
         }
-        assert_eq!(rt; memory.has_refused(), refused < 302, "at {n}");
+        assert!(rt; memory.has_refused() == (refused < 302), "at {n}");
     }
-    assert_eq!(rt; memory.requests(), 6 * 301);
+    assert!(rt; memory.requests() == 6 * 301);
     Ok(())
 }
 
@@ -77,7 +76,7 @@ fn a_vector_is_as_before_at_each_refusal(rt: HostRuntime) -> Result<(), Fail> {
         || empty_vector(&memory).expect(&rt, "a value is made with ample memory"),
         |mut numbers| fill_vector(&rt, &mut numbers),
     );
-    assert_eq!(rt; refusals, requests);
+    assert!(rt; refusals == requests);
     assert!(rt; empty_vector(&memory).is_ok());
     Ok(())
 }
@@ -93,6 +92,6 @@ fn an_ordered_map_is_as_before_at_each_refusal(rt: HostRuntime) -> Result<(), Fa
         || BTreeMap::new(&memory),
         |mut squares| fill_map(&rt, &mut squares),
     );
-    assert_eq!(rt; refusals, requests);
+    assert!(rt; refusals == requests);
     Ok(())
 }
