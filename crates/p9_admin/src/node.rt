@@ -95,8 +95,7 @@ impl Packing {
         })
     }
 
-    // Packs a directory, and returns its entries, unless it is left out. The line of the server is
-    // before that of its root.
+    // Packs a directory, and returns its entries, unless it is left out.
     fn dir(
         &mut self,
         rt: &HostRuntime,
@@ -112,6 +111,24 @@ impl Packing {
                 return Ok(None);
             }
         };
+        self.dir_lines(rt, server, names, attributes)?;
+        if found.has_others {
+            self.output.leave_out(rt, disk.as_str(), Reason::NotText)?;
+        }
+        Ok(Some(Level {
+            disk,
+            names: found.names,
+        }))
+    }
+
+    // Packs a directory without its entries. The line of the server is before that of its root.
+    fn dir_lines(
+        &mut self,
+        rt: &HostRuntime,
+        server: &ServerName,
+        names: &[PlainName],
+        attributes: Attributes,
+    ) -> io::Result<()> {
         if names.is_empty() {
             let added = write_server(rt.alloc(), *server, &mut self.output.text);
             self.output.count(rt, added)?;
@@ -124,15 +141,8 @@ impl Packing {
         };
         let added = write_dir(rt.alloc(), &line, &mut self.output.text);
         self.output.count(rt, added)?;
-        self.note_group(attributes.gid)?;
         note_dir(self.settings.hides.as_mut_slice(), server, names);
-        if found.has_others {
-            self.output.leave_out(rt, disk.as_str(), Reason::NotText)?;
-        }
-        Ok(Some(Level {
-            disk,
-            names: found.names,
-        }))
+        self.note_group(attributes.gid)
     }
 
     // Packs a file of so many bytes.

@@ -43,12 +43,13 @@ pub(crate) fn run_pack(rt: &HostRuntime, options: &ArgMatches<'_>) -> io::Result
         }
         Err(Stop::NoMemory) => return Err(io::Error::from(AllocError)),
     };
-    let packing = Packing {
+    let mut packing = Packing {
         output: Output::new(rt)?,
         settings,
         groups: Vec::new(rt.alloc()),
     };
-    let left_out = pack_dirs(rt, packing, options, name, dirs)?;
+    pack_dirs(rt, &mut packing, options, name, dirs)?;
+    let left_out = packing.output.left_out;
     Ok(exit_status(left_out, options.get_flag("skip")))
 }
 
@@ -68,24 +69,34 @@ fn server_text<'a>(name: Option<&'a str>, dir: &'a str) -> &'a str {
     name.or(Path::new(dir).file_name()).unwrap_or("")
 }
 
-// Packs directories, and returns how much is left out.
+// Packs directories, with the users and groups of the files of accounts.
 fn pack_dirs(
     rt: &HostRuntime,
-    mut packing: Packing,
+    packing: &mut Packing,
     options: &ArgMatches<'_>,
     name: Option<&str>,
     dirs: &[&str],
-) -> io::Result<u64> {
+) -> io::Result<()> {
     let passwd = fs::read_to_string(rt, options.get_str("passwd").unwrap_or("/etc/passwd"))?;
     let group = fs::read_to_string(rt, options.get_str("group").unwrap_or("/etc/group"))?;
     let accounts = in_memory(Accounts::read(rt.alloc(), passwd.as_str(), group.as_str()))?;
+    pack_world(rt, packing, &accounts, name, dirs)
+}
+
+// Packs all lines of the world.
+fn pack_world(
+    rt: &HostRuntime,
+    packing: &mut Packing,
+    accounts: &Accounts<'_, Global>,
+    name: Option<&str>,
+    dirs: &[&str],
+) -> io::Result<()> {
     packing.output.text.extend_from_slice(b"%% world\n")?;
-    pack_servers(rt, &mut packing, &accounts, name, dirs)?;
-    pack_groups(rt, &mut packing, &accounts)?;
+    pack_servers(rt, packing, accounts, name, dirs)?;
+    pack_groups(rt, packing, accounts)?;
     pack_users(rt, &mut packing.output, packing.settings.users.as_slice())?;
     pack_hides(rt, &mut packing.output, packing.settings.hides.as_slice())?;
-    packing.output.flush(rt)?;
-    Ok(packing.output.left_out)
+    packing.output.flush(rt)
 }
 
 // Packs directories, each as a server.

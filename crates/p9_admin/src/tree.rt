@@ -36,30 +36,35 @@ fn pack_levels(
 ) -> io::Result<()> {
     let mut names = Vec::new(rt.alloc());
     for _ in 0..u64::MAX {
-        let Some(level) = levels.last_mut() else {
+        if levels.is_empty() {
             break;
-        };
-        match level.names.pop() {
-            Some(name) => {
-                let disk = joined(rt, level.disk.as_str(), name.as_str())?;
-                let below = pack_entry(
-                    rt,
-                    packing,
-                    accounts,
-                    server,
-                    &mut names,
-                    name.as_str(),
-                    disk,
-                )?;
-                if let Some(below) = below {
-                    levels.push(below)?;
-                }
-            }
-            None => {
-                let _ = levels.pop();
-                let _ = names.pop();
-            }
         }
+        pack_next(rt, packing, accounts, server, &mut names, &mut levels)?;
+    }
+    Ok(())
+}
+
+// Packs the next entry of the last directory, or takes that directory away where there is no more.
+fn pack_next(
+    rt: &HostRuntime,
+    packing: &mut Packing,
+    accounts: &Accounts<'_, Global>,
+    server: &ServerName,
+    names: &mut Vec<PlainName>,
+    levels: &mut Vec<Level>,
+) -> io::Result<()> {
+    let Some(level) = levels.last_mut() else {
+        return Ok(());
+    };
+    let Some(name) = level.names.pop() else {
+        let _ = levels.pop();
+        let _ = names.pop();
+        return Ok(());
+    };
+    let disk = joined(rt, level.disk.as_str(), name.as_str())?;
+    let below = pack_entry(rt, packing, accounts, server, names, name.as_str(), disk)?;
+    if let Some(below) = below {
+        levels.push(below)?;
     }
     Ok(())
 }
