@@ -19,8 +19,7 @@ fn two_clients_are_served(rt: HostRuntime) {
     loopback.ask(&rt, &mut two, &[VERSION, ATTACH, WALK, OPEN]);
     loopback.ask(&rt, &mut one, &[WALK, REMOVE]);
     loopback.ask(&rt, &mut two, &REMOVED);
-    assert!(rt; loopback.accepted == 2);
-    assert!(rt; loopback.closed == 0);
+    loopback.has_taken(&rt, 2, 0);
     assert!(rt; loopback.rounds <= 10_000);
     loopback.finish(&rt, 2);
 }
@@ -31,8 +30,7 @@ fn a_client_that_says_nothing_keeps_nobody_waiting(rt: HostRuntime) {
     let _silent = loopback.connect(&rt);
     let mut other = loopback.connect(&rt);
     loopback.ask(&rt, &mut other, &[VERSION, ATTACH, WALK, REMOVE]);
-    assert!(rt; loopback.accepted == 2);
-    assert!(rt; loopback.closed == 0);
+    loopback.has_taken(&rt, 2, 0);
 }
 
 #[test]
@@ -41,7 +39,7 @@ fn a_client_that_closes_within_a_frame_ends_alone(rt: HostRuntime) {
     let mut other = loopback.connect(&rt);
     loopback.ask(&rt, &mut other, &[VERSION, ATTACH]);
     close_within_a_frame(&rt, &mut loopback);
-    assert!(rt; loopback.accepted == 2);
+    loopback.has_taken(&rt, 2, 1);
     loopback.ask(&rt, &mut other, &[WALK, REMOVE]);
 }
 
@@ -68,8 +66,7 @@ fn a_client_that_never_reads_keeps_nobody_waiting(rt: HostRuntime) {
     loopback.reply(&rt, &mut deaf, WRITE.1);
     read_on(&rt, &mut loopback, &mut deaf);
     loopback.ask(&rt, &mut other, &[REMOVE]);
-    assert!(rt; loopback.accepted == 2);
-    assert!(rt; loopback.closed == 0);
+    loopback.has_taken(&rt, 2, 0);
 }
 
 // Sends reads, and takes rounds until nothing moves. That is before all replies are written, of

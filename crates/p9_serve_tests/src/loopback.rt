@@ -69,9 +69,19 @@ impl Loopback {
         }
     }
 
-    /// How long the server is to rest now.
-    pub fn rest(&self) -> Duration {
-        self.server.rest()
+    /// Whether the server is to rest now.
+    pub fn is_resting(&self) -> bool {
+        self.server.rest() > Duration::ZERO
+    }
+
+    /// The server is to rest so many microseconds now.
+    pub fn rests(&self, rt: &impl Abort, micros: u64) {
+        assert!(rt; self.server.rest() == Duration::from_micros(micros));
+    }
+
+    /// So many clients were taken in, and so many closed.
+    pub fn has_taken(&self, rt: &impl Abort, accepted: u64, closed: u64) {
+        assert!(rt; self.accepted == accepted && self.closed == closed);
     }
 
     /// Takes rounds until a client has got a reply, which is to be this one.

@@ -150,8 +150,7 @@ impl Soak {
             mut honest,
             ..
         } = self;
-        assert!(rt; loopback.accepted == STEPS + 2);
-        assert!(rt; loopback.closed == STEPS + 1);
+        loopback.has_taken(rt, STEPS + 2, STEPS + 1);
         assert!(rt; !is_ended(rt, &mut honest));
         loopback.finish(rt, 100);
         assert!(rt; is_ended(rt, &mut honest));
