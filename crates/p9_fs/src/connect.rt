@@ -38,13 +38,24 @@ pub fn connect(
         Err(error) => return Err(report_local(rt, address, &error)),
     };
     let mut client = Session::new(rt.alloc(), stream, msize)?;
+    begin(rt, &mut client, words, address)?;
+    Ok(client)
+}
+
+// Begins a session with the server of an address, and attaches its root.
+fn begin(
+    rt: &HostRuntime,
+    client: &mut Client,
+    words: &ArgMatches<'_>,
+    address: &str,
+) -> Result<(), Failure> {
     if let Err(error) = client.version() {
         return Err(refused(rt, address, error));
     }
     let user = user_of(rt, words)?;
     let aname = words.get_str("aname").unwrap_or("");
     match client.attach(ROOT, user.as_str(), aname) {
-        Ok(_) => Ok(client),
+        Ok(_) => Ok(()),
         Err(error) => Err(refused(rt, address, error)),
     }
 }

@@ -79,28 +79,46 @@ struct Pending {
 // Copies a directory with all that is in it. What is refused is reported, and the rest is copied.
 fn get_tree(rt: &HostRuntime, client: &mut Client, path: &str, local: &str) -> Result<(), Failure> {
     let mut pending = Vec::new(rt.alloc());
-    let mut dirs: Vec<(String, u32)> = Vec::new(rt.alloc());
-    let mut outcome = Ok(());
+    let mut dirs = Vec::new(rt.alloc());
     pending.push(Pending {
         path: String::from_str(rt.alloc(), path)?,
         local: String::from_str(rt.alloc(), local)?,
     })?;
+    let outcome = get_all(rt, client, &mut pending, &mut dirs);
+    if matches!(outcome, Ok(()) | Err(Failure::Refused)) {
+        set_modes(rt, dirs.as_slice())?;
+    }
+    outcome
+}
+
+// Copies all files that are to be copied, and makes the directories.
+fn get_all(
+    rt: &HostRuntime,
+    client: &mut Client,
+    pending: &mut Vec<Pending>,
+    dirs: &mut Vec<(String, u32)>,
+) -> Result<(), Failure> {
+    let mut outcome = Ok(());
     for _ in 0..u64::MAX {
         let Some(next) = pending.pop() else {
             break;
         };
-        match get_next(rt, client, next, &mut pending, &mut dirs) {
+        match get_next(rt, client, next, pending, dirs) {
             Ok(()) => {}
             Err(Failure::Refused) => outcome = Err(Failure::Refused),
             Err(failure) => return Err(failure),
         }
     }
-    // A directory is closed to its owner only after those in it have their modes.
-    dirs.reverse();
-    for (dir, mode) in dirs {
-        set_mode(rt, dir.as_str(), mode)?;
-    }
     outcome
+}
+
+// Gives directories of the system their permissions, the last one first: a directory is closed to its
+// owner only after those in it have theirs.
+fn set_modes(rt: &HostRuntime, dirs: &[(String, u32)]) -> Result<(), Failure> {
+    for (dir, mode) in dirs.iter().rev() {
+        set_mode(rt, dir.as_str(), *mode)?;
+    }
+    Ok(())
 }
 
 // Copies the next file, or makes the next directory and adds what is in it.
