@@ -1,6 +1,6 @@
 //! The command `explain`: the verdict over an input in words.
 
-use crate::streams::{in_memory, print_all, read_input};
+use crate::streams::{io_result, print_all, read_input};
 use clap::ArgMatches;
 use p9_explain::explain;
 use p9_index::IndexTree;
@@ -14,7 +14,7 @@ pub(crate) fn run_explain(rt: &HostRuntime, options: &ArgMatches<'_>) -> io::Res
     let name = options.get_str("name").unwrap_or("input");
     let mut out = Vec::new(rt.alloc());
     let explained = explain::<IndexTree<Global>>(name, input.as_slice(), &mut out);
-    let status = in_memory(explained)?;
+    let status = io_result(explained)?;
     print_all(rt, out.as_slice())?;
     Ok(status)
 }

@@ -9,7 +9,7 @@ use crate::output::Output;
 use crate::owner::{group_of, owner_of};
 use crate::reason::Reason;
 use crate::settings::{Settings, add_user};
-use crate::streams::in_memory;
+use crate::streams::io_result;
 use p9_base::{FileFlags, Permissions};
 use p9_pack::{
     Accounts, DirLine, FileLine, PlainName, PlainUser, ServerName, fit_size, write_dir, write_file,
@@ -183,7 +183,7 @@ impl Packing {
 
     // Notes a group that occurs.
     fn note_group(&mut self, group: PlainUser) -> io::Result<()> {
-        in_memory(add_user(group, &mut self.groups))
+        io_result(add_user(group, &mut self.groups))
     }
 
     // Leaves out what could not be read, unless an allocation failed.

@@ -1,7 +1,7 @@
 //! What is printed while directories are packed.
 
 use crate::reason::Reason;
-use crate::streams::in_memory;
+use crate::streams::io_result;
 use p9_base::NoMemory;
 use std::io::{self, IsTerminal, Write};
 use std::time::Instant;
@@ -37,7 +37,7 @@ impl Output {
     /// Counts a line that was added to the text, and prints what there is, where that is much. The
     /// error of one that was not added is a failed allocation.
     pub fn count(&mut self, rt: &HostRuntime, added: Result<(), NoMemory>) -> io::Result<()> {
-        in_memory(added)?;
+        io_result(added)?;
         self.lines = self.lines.saturating_add(1);
         if self.text.len() >= BLOCK {
             self.flush(rt)?;

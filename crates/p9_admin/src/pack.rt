@@ -11,7 +11,7 @@ use crate::owner::leader_of;
 use crate::reason::Reason;
 use crate::settings::settings_in;
 use crate::status::{BAD_COMMAND_LINE, DONE, LEFT_OUT};
-use crate::streams::in_memory;
+use crate::streams::io_result;
 use crate::tree::pack_tree;
 use clap::ArgMatches;
 use p9_base::Stop;
@@ -79,7 +79,7 @@ fn pack_dirs(
 ) -> io::Result<()> {
     let passwd = fs::read_to_string(rt, options.get_str("passwd").unwrap_or("/etc/passwd"))?;
     let group = fs::read_to_string(rt, options.get_str("group").unwrap_or("/etc/group"))?;
-    let accounts = in_memory(Accounts::read(rt.alloc(), passwd.as_str(), group.as_str()))?;
+    let accounts = io_result(Accounts::read(rt.alloc(), passwd.as_str(), group.as_str()))?;
     pack_world(rt, packing, &accounts, name, dirs)
 }
 
@@ -156,7 +156,7 @@ fn pack_group(
     name: PlainUser,
     leader: PlainUser,
 ) -> io::Result<()> {
-    let found = in_memory(accounts.members(rt.alloc(), name.as_str()))?;
+    let found = io_result(accounts.members(rt.alloc(), name.as_str()))?;
     let mut members = Vec::new(rt.alloc());
     for member in found.as_slice() {
         match PlainUser::new(member) {

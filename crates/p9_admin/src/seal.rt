@@ -1,7 +1,7 @@
 //! The command `seal`: an input with its certificate.
 
 use crate::status::{DONE, NOT_SEALED};
-use crate::streams::{in_memory, print_all, read_input};
+use crate::streams::{io_result, print_all, read_input};
 use clap::ArgMatches;
 use p9_explain::explain;
 use p9_index::IndexTree;
@@ -32,7 +32,7 @@ fn report(rt: &HostRuntime, name: &str, input: &[u8], error: &SealError<Global>)
     let text = error.text(rt.alloc())?;
     let mut err = format!(in rt.alloc(); "{text}\n")?.into_bytes();
     if let SealError::No(_) = error {
-        let _ = in_memory(explain::<IndexTree<Global>>(name, input, &mut err))?;
+        let _ = io_result(explain::<IndexTree<Global>>(name, input, &mut err))?;
     }
     rt.stderr().write_all(err.as_slice())
 }

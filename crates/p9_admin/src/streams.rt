@@ -17,8 +17,8 @@ pub(crate) fn print_all(rt: &HostRuntime, bytes: &[u8]) -> io::Result<()> {
     rt.stdout().flush()
 }
 
-/// What was done, where no allocation failed.
-pub(crate) fn in_memory<T: Drop>(done: Result<T, NoMemory>) -> io::Result<T> {
+/// What was done, or the error of a failed allocation.
+pub(crate) fn io_result<T: Drop>(done: Result<T, NoMemory>) -> io::Result<T> {
     match done {
         Ok(value) => Ok(value),
         Err(NoMemory) => Err(io::Error::from(AllocError)),

@@ -1,6 +1,6 @@
 //! The command `tree`: a name space as a user meets it.
 
-use crate::streams::{in_memory, print_all, read_input};
+use crate::streams::{io_result, print_all, read_input};
 use clap::ArgMatches;
 use p9_index::IndexTree;
 use p9_view::show_tree;
@@ -15,7 +15,7 @@ pub(crate) fn run_tree(rt: &HostRuntime, options: &ArgMatches<'_>) -> io::Result
     let mut out = Vec::new(rt.alloc());
     let mut err = Vec::new(rt.alloc());
     let shown = show_tree::<IndexTree<Global>>(input.as_slice(), user, &mut out, &mut err);
-    let status = in_memory(shown)?;
+    let status = io_result(shown)?;
     rt.stderr().write_all(err.as_slice())?;
     print_all(rt, out.as_slice())?;
     Ok(status)

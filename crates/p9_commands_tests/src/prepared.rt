@@ -50,9 +50,10 @@ fn all_parts_of_an_input(rt: HostRuntime) {
     assert!(rt; prepared.guard().is_ok());
 }
 
-// An input with more than one fault: what it needs, its first fault, and how that is reported.
+// An input with more than one fault.
 const FAULTY: &[u8] = b"%% ns\nunmount /a\n%% script\nopen";
 
+// What is needed of it, its first fault then, and how that is reported.
 const FAULTS: [(Needs, Refusal, &str); 2] = [
     (Needs::Certificate, Refusal::NoCertificate, "cert: missing"),
     (

@@ -78,20 +78,13 @@ pub(crate) fn head_of<A: Allocator + Copy>(alloc: A, line: &str) -> Result<Head,
     Ok(Head::Bad(section, way))
 }
 
-// The lines that begin sections.
-const HEADS: [(&str, Section); 4] = [
-    ("%% world", Section::World),
-    ("%% ns", Section::Ns),
-    ("%% cert", Section::Cert),
-    ("%% script", Section::Script),
-];
-
 // The section that a line begins.
 fn section_of(line: &str) -> Option<Section> {
-    for (head, section) in HEADS {
-        if line == head {
-            return Some(section);
-        }
+    match line {
+        "%% world" => Some(Section::World),
+        "%% ns" => Some(Section::Ns),
+        "%% cert" => Some(Section::Cert),
+        "%% script" => Some(Section::Script),
+        _ => None,
     }
-    None
 }

@@ -65,12 +65,11 @@ fn push_strangers<T: Tree>(
 
 // The names of users in a line: an owner, or a leader and members.
 fn names_of<'a, 'b>(words: &'b [&'a str]) -> &'b [&'a str] {
-    let names = match words.first() {
-        Some(verb) if *verb == "group" => words.get(2..),
-        Some(verb) if *verb == "dir" || *verb == "file" => words.get(3..4),
-        _ => None,
-    };
-    names.unwrap_or(&[])
+    match words {
+        ["dir" | "file", _, _, _, ..] => &words[3..4],
+        ["group", _, names @ ..] => names,
+        _ => &[],
+    }
 }
 
 // Whether a user of this name is listed.

@@ -165,19 +165,16 @@ fn deeds<T: Tree>(world: &World<T>, user: &User, node: &Node<T::Alloc>) -> &'sta
         user,
         groups: &world.groups,
     };
-    let (to_write, to_search) = (may(who, node, TO_WRITE), may(who, node, TO_EXECUTE));
-    if may(who, node, TO_READ) {
-        match (to_write, to_search) {
-            (true, true) => "read, write and search it",
-            (true, false) => "read and write it",
-            (false, true) => "read and search it",
-            (false, false) => "read it",
-        }
-    } else {
-        match (to_write, to_search) {
-            (true, true) => "write and search it",
-            (true, false) => "write it",
-            (false, _) => "search it",
-        }
+    let to_read = may(who, node, TO_READ);
+    let to_write = may(who, node, TO_WRITE);
+    let to_search = may(who, node, TO_EXECUTE);
+    match (to_read, to_write, to_search) {
+        (true, true, true) => "read, write and search it",
+        (true, true, false) => "read and write it",
+        (true, false, true) => "read and search it",
+        (true, false, false) => "read it",
+        (false, true, true) => "write and search it",
+        (false, true, false) => "write it",
+        (false, false, _) => "search it",
     }
 }
