@@ -1,9 +1,11 @@
 //! Tests of connections: bytes that come and go in pieces, streams that fail, many connections,
-//! allocations that fail, and memory that is freed.
+//! allocations that fail, and memory that is freed. And of the client.
 #![tactic(auto)]
 
 #[cfg(test)]
 mod buffers;
+#[cfg(test)]
+mod client;
 #[cfg(test)]
 mod faults;
 #[cfg(test)]

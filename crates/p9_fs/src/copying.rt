@@ -137,14 +137,8 @@ fn get_next(
     if let Err(error) = fs::create_dir_all(rt, local.as_str()) {
         return Err(report_local(rt, local.as_str(), &error));
     }
-    let entries = entries_of(rt, client, path.as_str())?;
-    let outcome = push_entries(
-        rt,
-        entries.as_slice(),
-        path.as_str(),
-        local.as_str(),
-        pending,
-    );
+    let outcome = push_entries(rt, client, path.as_str(), local.as_str(), pending);
+    // A directory that may not be listed has its permissions too.
     dirs.push((local, entry.mode))?;
     outcome
 }
@@ -152,13 +146,14 @@ fn get_next(
 // Adds the entries of a directory. A name that leads elsewhere is reported, and the others are added.
 fn push_entries(
     rt: &HostRuntime,
-    entries: &[Entry<Global>],
+    client: &mut Client,
     path: &str,
     local: &str,
     pending: &mut Vec<Pending>,
 ) -> Result<(), Failure> {
+    let entries = entries_of(rt, client, path)?;
     let mut outcome = Ok(());
-    for entry in entries {
+    for entry in entries.as_slice() {
         let name = entry.name.as_str();
         if is_inside(name) {
             pending.push(below(rt.alloc(), path, local, name)?)?;

@@ -1,8 +1,8 @@
 //! Replies of a hostile server, each of which is an error.
 
-use crate::answered::Answered;
-use crate::canned::{Canned, session_of};
-use crate::kinds::kind_of;
+use crate::client::answered::Answered;
+use crate::client::canned::{Canned, session_of};
+use crate::client::kinds::kind_of;
 use p9_client::{ClientError, Session};
 use p9_wire::Names;
 use std::alloc::Global;

@@ -1,6 +1,6 @@
 //! A server of one file in memory, which does one thing wrong.
 
-use crate::answered::{Server, len_of, reply_frame, take_frame};
+use crate::client::answered::{Server, len_of, reply_frame, take_frame};
 use p9_wire::{TMsg, read_t};
 use std::alloc::Global;
 use std::io;

@@ -1,8 +1,8 @@
 //! A tree of files that is put to a server and got back.
 
-use crate::answered::Answered;
-use crate::served::{Served, attach, serve};
-use crate::sessions::{contents, entries};
+use crate::client::answered::Answered;
+use crate::client::served::{Served, attach, serve};
+use crate::client::sessions::{contents, entries};
 use p9_base::DMDIR;
 use p9_client::{Entry, Session};
 use std::alloc::Global;

@@ -1,8 +1,8 @@
 //! A session over a guard: each call once.
 
-use crate::answered::Answered;
-use crate::kinds::{file_kind_of, kind_of};
-use crate::served::{Served, attach, serve};
+use crate::client::answered::Answered;
+use crate::client::kinds::{file_kind_of, kind_of};
+use crate::client::served::{Served, attach, serve};
 use p9_client::{ClientError, Entry, FileError, Session};
 use p9_wire::Stat;
 use std::alloc::Global;

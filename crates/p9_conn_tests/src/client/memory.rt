@@ -1,9 +1,9 @@
 //! Each allocation of a listing and of a whole read refused in turn.
 
-use crate::answered::Answered;
-use crate::kinds::{file_kind_of, outcome};
-use crate::pieces::{Fault, Pieces};
-use crate::served::{Served, attach, serve};
+use crate::client::answered::Answered;
+use crate::client::kinds::{file_kind_of, outcome};
+use crate::client::pieces::{Fault, Pieces};
+use crate::client::served::{Served, attach, serve};
 use p9_client::{FileError, Session};
 use p9_testing::{Refusing, refuse_each};
 use std::alloc::Global;

@@ -1,6 +1,6 @@
 //! A guard in memory as a server.
 
-use crate::answered::{Answered, Server};
+use crate::client::answered::{Answered, Server};
 use p9_cert::read_cert;
 use p9_client::Session;
 use p9_guard::Guard;

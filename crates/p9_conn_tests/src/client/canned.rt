@@ -1,6 +1,6 @@
 //! A hostile server, which gives bytes from a list.
 
-use crate::answered::{Answered, Server};
+use crate::client::answered::{Answered, Server};
 use p9_client::Session;
 use p9_testing::bytes_of;
 use std::alloc::Global;

@@ -1,8 +1,8 @@
 //! Listings of a hostile server.
 
-use crate::answered::{Answered, Server, reply_frame};
-use crate::canned::session_of;
-use crate::kinds::outcome;
+use crate::client::answered::{Answered, Server, reply_frame};
+use crate::client::canned::session_of;
+use crate::client::kinds::outcome;
 use p9_client::Session;
 use p9_testing::bytes_of;
 use std::alloc::Global;

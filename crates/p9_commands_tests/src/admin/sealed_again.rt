@@ -1,7 +1,7 @@
 //! Allocations that fail: a call says so, and made again it does all that it has to.
 
-use crate::explains::{CERTIFIED, EXPLAINED};
-use crate::seals::{SEALED, VAULT};
+use crate::admin::explains::{CERTIFIED, EXPLAINED};
+use crate::admin::seals::{SEALED, VAULT};
 use p9_base::NoMemory;
 use p9_explain::explain;
 use p9_index::IndexTree;

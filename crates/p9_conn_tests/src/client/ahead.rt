@@ -1,8 +1,8 @@
 //! Whole files in pieces, of which several are on their way at once.
 
-use crate::answered::Answered;
-use crate::kinds::outcome;
-use crate::pieces::{Fault, Pieces};
+use crate::client::answered::Answered;
+use crate::client::kinds::outcome;
+use crate::client::pieces::{Fault, Pieces};
 use p9_client::{AHEAD_MAX, Session};
 use std::alloc::Global;
 use std::io;
