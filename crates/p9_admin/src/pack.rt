@@ -9,7 +9,7 @@ use crate::node::Packing;
 use crate::output::Output;
 use crate::owner::leader_of;
 use crate::reason::Reason;
-use crate::settings::settings_in;
+use crate::settings::{Settings, settings_in};
 use crate::status::{BAD_COMMAND_LINE, DONE, LEFT_OUT};
 use crate::streams::io_result;
 use crate::tree::pack_tree;
@@ -34,15 +34,25 @@ pub(crate) fn run_pack(rt: &HostRuntime, options: &ArgMatches<'_>) -> io::Result
         [dir] => Some(server_text(name, dir)),
         _ => None,
     };
-    let settings = match settings_in(rt.alloc(), options, only) {
-        Ok(settings) => settings,
+    match settings_in(rt.alloc(), options, only) {
+        Ok(settings) => pack_with(rt, options, name, dirs, settings),
         Err(Stop::Refused(bad)) => {
             let (option, unfit) = (bad.naming.word(), bad.unfit);
             eprintln!(rt; "p9_admin: {option}: {unfit}")?;
-            return Ok(BAD_COMMAND_LINE);
+            Ok(BAD_COMMAND_LINE)
         }
-        Err(Stop::NoMemory) => return Err(io::Error::from(AllocError)),
-    };
+        Err(Stop::NoMemory) => Err(io::Error::from(AllocError)),
+    }
+}
+
+// Packs directories by these settings, and returns the exit status.
+fn pack_with(
+    rt: &HostRuntime,
+    options: &ArgMatches<'_>,
+    name: Option<&str>,
+    dirs: &[&str],
+    settings: Settings,
+) -> io::Result<u8> {
     let mut packing = Packing {
         output: Output::new(rt)?,
         settings,
@@ -156,14 +166,7 @@ fn pack_group(
     name: PlainUser,
     leader: PlainUser,
 ) -> io::Result<()> {
-    let found = io_result(accounts.members(rt.alloc(), name.as_str()))?;
-    let mut members = Vec::new(rt.alloc());
-    for member in found.as_slice() {
-        match PlainUser::new(member) {
-            Ok(member) => members.push(member)?,
-            Err(unfit) => output.leave_out(rt, member, Reason::Unfit(unfit))?,
-        }
-    }
+    let members = members_of(rt, output, accounts, name)?;
     let line = GroupLine {
         name,
         leader,
@@ -171,6 +174,34 @@ fn pack_group(
     };
     let added = write_group(rt.alloc(), &line, &mut output.text);
     output.count(rt, added)
+}
+
+// The members of a group. Those that a world can't have are left out.
+fn members_of(
+    rt: &HostRuntime,
+    output: &mut Output,
+    accounts: &Accounts<'_, Global>,
+    name: PlainUser,
+) -> io::Result<Vec<PlainUser>> {
+    let found = io_result(accounts.members(rt.alloc(), name.as_str()))?;
+    let mut members = Vec::new(rt.alloc());
+    for member in found.as_slice() {
+        push_member(rt, output, member, &mut members)?;
+    }
+    Ok(members)
+}
+
+// Adds a member of a group, unless a world can't have it.
+fn push_member(
+    rt: &HostRuntime,
+    output: &mut Output,
+    name: &str,
+    members: &mut Vec<PlainUser>,
+) -> io::Result<()> {
+    match PlainUser::new(name) {
+        Ok(member) => Ok(members.push(member)?),
+        Err(unfit) => output.leave_out(rt, name, Reason::Unfit(unfit)),
+    }
 }
 
 // Packs the listed users.

@@ -90,12 +90,18 @@ fn user_in(naming: Naming, value: Option<&str>) -> Result<Option<PlainUser>, Sto
 // The users of the values, each once.
 fn users_in(alloc: Global, values: &[&str]) -> Result<Vec<PlainUser>, Stop<BadOption>> {
     let mut users = Vec::new(alloc);
+    add_users(values, &mut users)?;
+    Ok(users)
+}
+
+// Adds the users of the values, unless they are there.
+fn add_users(values: &[&str], users: &mut Vec<PlainUser>) -> Result<(), Stop<BadOption>> {
     for value in values {
         if let Some(user) = user_in(Naming::User, Some(value))? {
-            add_user(user, &mut users)?;
+            add_user(user, users)?;
         }
     }
-    Ok(users)
+    Ok(())
 }
 
 /// Adds a user, unless it is there.
@@ -114,16 +120,26 @@ fn hides_in(
 ) -> Result<Vec<Hide>, Stop<BadOption>> {
     let mut hides = Vec::new(alloc);
     for value in values {
-        match hide_in(alloc, value, server) {
-            Ok(hide) => add_hide(hide, &mut hides)?,
-            Err(Stop::Refused(unfit)) => {
-                let naming = Naming::Hide;
-                return Err(Stop::Refused(BadOption { naming, unfit }));
-            }
-            Err(Stop::NoMemory) => return Err(Stop::NoMemory),
-        }
+        add_value(alloc, value, server, &mut hides)?;
     }
     Ok(hides)
+}
+
+// Adds what a value hides, unless it is there.
+fn add_value(
+    alloc: Global,
+    value: &str,
+    server: Option<&str>,
+    hides: &mut Vec<Hide>,
+) -> Result<(), Stop<BadOption>> {
+    match hide_in(alloc, value, server) {
+        Ok(hide) => Ok(add_hide(hide, hides)?),
+        Err(Stop::Refused(unfit)) => {
+            let naming = Naming::Hide;
+            Err(Stop::Refused(BadOption { naming, unfit }))
+        }
+        Err(Stop::NoMemory) => Err(Stop::NoMemory),
+    }
 }
 
 // Adds what is to be hidden, unless it is there.

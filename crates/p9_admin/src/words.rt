@@ -151,10 +151,7 @@ const COMMANDS: [CommandShape; 5] = [
 
 /// The program's command line: a command and its options.
 pub(crate) fn program<'a>(alloc: Global) -> Result<Command<'a>, AllocError> {
-    let mut commands = Vec::new(alloc);
-    for shape in &COMMANDS {
-        commands.push(command_of(alloc, shape)?)?;
-    }
+    let commands = commands(alloc)?;
     Command::new(alloc, "p9_admin")
         .version("1.0")
         .about("What an administrator of an export does")
@@ -163,15 +160,56 @@ pub(crate) fn program<'a>(alloc: Global) -> Result<Command<'a>, AllocError> {
         .subcommands(commands)
 }
 
+// The commands.
+fn commands<'a>(alloc: Global) -> Result<Vec<Command<'a>>, AllocError> {
+    let mut commands = Vec::new(alloc);
+    push_commands(alloc, &mut commands)?;
+    Ok(commands)
+}
+
+// Adds the commands.
+fn push_commands(alloc: Global, commands: &mut Vec<Command<'_>>) -> Result<(), AllocError> {
+    for shape in &COMMANDS {
+        push_command(alloc, commands, shape)?;
+    }
+    Ok(())
+}
+
+// Adds a command.
+fn push_command(
+    alloc: Global,
+    commands: &mut Vec<Command<'_>>,
+    shape: &CommandShape,
+) -> Result<(), AllocError> {
+    let command = command_of(alloc, shape)?;
+    Ok(commands.push(command)?)
+}
+
 // A command with its options and words.
 fn command_of<'a>(alloc: Global, shape: &CommandShape) -> Result<Command<'a>, AllocError> {
-    let mut args = Vec::new(alloc);
-    for arg in shape.args {
-        args.push(arg_of(alloc, arg))?;
-    }
+    let args = args_of(alloc, shape.args)?;
     Command::new(alloc, shape.name)
         .about(shape.about)
         .args(args)
+}
+
+// The options and words of a command.
+fn args_of<'a>(alloc: Global, shapes: &[ArgShape]) -> Result<Vec<Arg<'a>>, AllocError> {
+    let mut args = Vec::new(alloc);
+    push_args(alloc, &mut args, shapes)?;
+    Ok(args)
+}
+
+// Adds the options and words of a command.
+fn push_args(
+    alloc: Global,
+    args: &mut Vec<Arg<'_>>,
+    shapes: &[ArgShape],
+) -> Result<(), AllocError> {
+    for shape in shapes {
+        args.push(arg_of(alloc, shape))?;
+    }
+    Ok(())
 }
 
 // An option or a word.

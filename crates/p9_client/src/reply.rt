@@ -145,7 +145,7 @@ pub fn written_count(tag: u16, frame: &[u8], most: usize) -> Result<usize, Clien
 }
 
 /// What was asked of a file: to be read, or to be written.
-#[derive(Clone, Copy, Debug, PartialEq, Eq)]
+#[derive(Clone, Copy)]
 pub enum Asked {
     Read,
     Write,

@@ -4,7 +4,7 @@ ghost use Rattle.std.specs.Prelude.{◌≡◌, ◌++◌, IfOk, codes};
 ghost use Rattle.std.specs.String.{string_bytes};
 ghost use Rattle.p9_explain.specs.Told.{IsBreachTold, IsStepTold, IsWalkTold};
 
-use crate::column::{column_of, prefix_width, push_blanks, width};
+use crate::column::{column_of, path_width, prefix_width, push_blanks, width};
 use crate::member::{Found, hidden_dir, push_found};
 use crate::right::{Class, TO_USE, class_of, has, ruling_class};
 use crate::source::Source;
@@ -65,22 +65,35 @@ fn end_words<T: Tree>(
     breach: &Breach<T::Alloc>,
     column: usize,
 ) -> Result<String<T::Alloc>, NoMemory> {
+    let mut text = String::new(alloc);
+    let left = path_width(alloc, teller.world, breach.member)?;
+    push_blanks(&mut text, left.saturating_add(2), column)?;
+    push_end(&mut text, teller, breach)?;
+    Ok(text)
+}
+
+// Adds what is wrong with the member that the walk leads to, and how to mend that.
+fn push_end<T: Tree>(
+    text: &mut String<T::Alloc>,
+    teller: &Teller<'_, '_, T>,
+    breach: &Breach<T::Alloc>,
+) -> Result<(), NoMemory> {
+    push_found(text, teller, found_of(teller.world, breach))?;
+    let mend = Part::Text(mend(teller.world, breach));
+    teller.say(text, &[Part::Text("mend: "), mend, Part::Text("\n")])
+}
+
+// The member that the walk leads to, at the place after the last step.
+fn found_of<T: Tree>(world: &World<T>, breach: &Breach<T::Alloc>) -> Found {
     let place = match breach.steps.last() {
-        Some(step) => place_after(teller.world, step),
+        Some(step) => place_after(world, step),
         None => Some(ROOT_PLACE),
     };
-    let found = Found {
+    Found {
         member: breach.member,
         place,
         fault: fault_of(breach.kind),
-    };
-    let mut text = String::new(alloc);
-    let left = width(path_of(alloc, teller.world, breach.member)?.as_str()).saturating_add(2);
-    push_blanks(&mut text, left, column)?;
-    push_found(&mut text, teller, found)?;
-    let mend = Part::Text(mend(teller.world, breach));
-    teller.say(&mut text, &[Part::Text("mend: "), mend, Part::Text("\n")])?;
-    Ok(text)
+    }
 }
 
 // What is wrong with the member of a breach, as of a certificate's gap.
@@ -100,18 +113,28 @@ fn head_words<T: Tree>(
     breach: &Breach<T::Alloc>,
 ) -> Result<String<T::Alloc>, NoMemory> {
     let mut text = String::new(alloc);
+    push_head(&mut text, teller, breach)?;
+    Ok(text)
+}
+
+// Adds what is within reach, and who attaches.
+fn push_head<T: Tree>(
+    text: &mut String<T::Alloc>,
+    teller: &Teller<'_, '_, T>,
+    breach: &Breach<T::Alloc>,
+) -> Result<(), NoMemory> {
     let dir = Part::Path(hidden_dir(teller.world, breach.member));
     let reach = Part::Text(" is within reach\n");
-    teller.say(&mut text, &[Part::Text("the inside of "), dir, reach])?;
-    if let Some(step) = breach.steps.first() {
-        let user = Part::User(step.user);
-        teller.say(
-            &mut text,
-            &[Part::Text("  "), user, Part::Text(" attaches at ")],
-        )?;
-        teller.say(&mut text, &[Part::Path(ROOT_PLACE), Part::Text("\n")])?;
-    }
-    Ok(text)
+    teller.say(text, &[Part::Text("the inside of "), dir, reach])?;
+    let Some(step) = breach.steps.first() else {
+        return Ok(());
+    };
+    let (user, root) = (Part::User(step.user), Part::Path(ROOT_PLACE));
+    let attaches = Part::Text(" attaches at ");
+    teller.say(
+        text,
+        &[Part::Text("  "), user, attaches, root, Part::Text("\n")],
+    )
 }
 
 // How a breach is mended.
@@ -216,28 +239,30 @@ fn pass_words<T: Tree>(
 ) -> Result<String<T::Alloc>, NoMemory> {
     let mut text = String::new(alloc);
     push_blanks(&mut text, 0, blanks)?;
-    teller.say(&mut text, &[Part::Text("("), Part::Made(step.member)])?;
-    push_pass_right(&mut text, teller, step)?;
-    let bound = Part::Bound(place, step.member);
-    teller.say(&mut text, &[Part::Text(")"), bound, Part::Text("\n")])?;
+    push_pass(&mut text, teller, step, place)?;
     Ok(text)
 }
 
-// Adds by which right the user of a step passes its directory, after a colon.
-fn push_pass_right<T: Tree>(
+// Adds the line that made the directory of a step, by which right it is passed, and where it is bound.
+fn push_pass<T: Tree>(
     text: &mut String<T::Alloc>,
     teller: &Teller<'_, '_, T>,
     step: &Step,
+    place: Option<NodeRef>,
 ) -> Result<(), NoMemory> {
-    let world = teller.world;
-    let Some(node) = world.forest.node(step.member) else {
-        return Ok(());
-    };
-    let Some((class, deed)) = passing_class(world, &step.user, node) else {
-        return Ok(());
-    };
-    let class = Part::Class(class, *node.gid());
-    teller.say(text, &[Part::Text(": "), class, Part::Text(deed)])
+    teller.say(text, &[Part::Text("("), Part::Made(step.member)])?;
+    if let Some((class, deed)) = pass_right(teller.world, step) {
+        teller.say(text, &[Part::Text(": "), class, Part::Text(deed)])?;
+    }
+    let bound = Part::Bound(place, step.member);
+    teller.say(text, &[Part::Text(")"), bound, Part::Text("\n")])
+}
+
+// As what the user of a step passes its directory, and what that is.
+fn pass_right<T: Tree>(world: &World<T>, step: &Step) -> Option<(Part, &'static str)> {
+    let node = world.forest.node(step.member)?;
+    let (class, deed) = passing_class(world, &step.user, node)?;
+    Some((Part::Class(class, *node.gid()), deed))
 }
 
 // As what a user passes a directory, and what that is.

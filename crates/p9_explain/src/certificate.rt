@@ -1,13 +1,14 @@
 //! What is said of the certificate of an input: whether it is accepted, and its first gap in words.
 
 use crate::head::Section;
-use crate::member::{Found, push_found, push_inside};
+use crate::member::{Found, push_found};
 use crate::source::Source;
 use crate::teller::{Part, Teller};
-use p9_base::{NoMemory, NodeRef, statements};
+use p9_base::{NoMemory, NodeRef, Statement, statements};
 use p9_cert::{Certificate, Gap, MemberFault, RowFault};
 use p9_space::ROOT_PLACE;
 use p9_tree::Tree;
+use p9_world::World;
 use std::alloc::Allocator;
 
 /// Adds to a text what is said of the input's own certificate: that there is none, that it is accepted,
@@ -19,14 +20,21 @@ pub(crate) fn push_certificate<T: Tree>(
     gap: Option<Gap>,
 ) -> Result<(), NoMemory> {
     match (certificate, gap) {
-        (None, _) => text.push_str("certificate: none\n")?,
-        (Some(_), None) => text.push_str("certificate: accepted\n")?,
-        (Some(certificate), Some(gap)) => {
-            text.push_str("certificate: not accepted: ")?;
-            push_gap(text, teller, certificate.rows(), gap)?;
-        }
+        (None, _) => teller.say(text, &[Part::Text("certificate: none\n")]),
+        (Some(_), None) => teller.say(text, &[Part::Text("certificate: accepted\n")]),
+        (Some(certificate), Some(gap)) => push_first_gap(text, teller, certificate.rows(), gap),
     }
-    Ok(())
+}
+
+// Adds that these rows are not accepted, and their first gap.
+fn push_first_gap<T: Tree>(
+    text: &mut String<T::Alloc>,
+    teller: &Teller<'_, '_, T>,
+    rows: &[NodeRef],
+    gap: Gap,
+) -> Result<(), NoMemory> {
+    teller.say(text, &[Part::Text("certificate: not accepted: ")])?;
+    push_gap(text, teller, rows, gap)
 }
 
 // Adds a gap in words.
@@ -40,8 +48,8 @@ fn push_gap<T: Tree>(
         Gap::Table(at) => push_table_gap(text, at),
         Gap::Row { row, kind } => push_row_gap(text, teller, rows, row, kind),
         Gap::Root { member, kind } => {
-            text.push_str("a walk begins at")?;
-            push_unsafe(text, teller, found(ROOT_PLACE, member, kind))
+            let found = found(ROOT_PLACE, member, kind);
+            push_unsafe(text, teller, "a walk begins at ", found)
         }
         Gap::Child {
             row,
@@ -50,8 +58,7 @@ fn push_gap<T: Tree>(
             kind,
         } => {
             push_row(text, teller, rows, row)?;
-            text.push_str(" leads to")?;
-            push_unsafe(text, teller, found(child, member, kind))
+            push_unsafe(text, teller, " leads to ", found(child, member, kind))
         }
     }
 }
@@ -85,15 +92,12 @@ fn push_row_gap<T: Tree>(
 ) -> Result<(), NoMemory> {
     push_row(text, teller, rows, row)?;
     match (kind, row_at(rows, row)) {
-        (RowFault::Absent, _) => text.push_str(" is no directory")?,
+        (RowFault::Absent, _) => teller.say(text, &[Part::Text(" is no directory\n")]),
         (RowFault::Inside, Some(at)) => {
-            text.push_str(" ")?;
-            push_inside(text, teller, at)?;
+            teller.say(text, &[Part::Text(" "), Part::Inside(at), Part::Text("\n")])
         }
-        _ => text.push_str(" is a hidden directory")?,
+        _ => teller.say(text, &[Part::Text(" is a hidden directory\n")]),
     }
-    text.push_str("\n")?;
-    Ok(())
 }
 
 // The row of this number, from 1.
@@ -102,15 +106,19 @@ fn row_at(rows: &[NodeRef], row: u64) -> Option<NodeRef> {
     rows.get(position).copied()
 }
 
-// Adds a place that a walk begins at or a row leads to, and what is wrong with what is found there.
+// Adds that a walk begins at a place, or a row leads to it, and what is wrong with what is found there.
 fn push_unsafe<T: Tree>(
     text: &mut String<T::Alloc>,
     teller: &Teller<'_, '_, T>,
+    leads: &'static str,
     found: Found,
 ) -> Result<(), NoMemory> {
     let place = Part::Path(found.place.unwrap_or(found.member));
-    teller.say(text, &[Part::Text(" "), place, Part::Text("\n  ")])?;
-    teller.say(text, &[Part::Path(found.member), Part::Text(" ")])?;
+    let (leads, member) = (Part::Text(leads), Part::Path(found.member));
+    teller.say(
+        text,
+        &[leads, place, Part::Text("\n  "), member, Part::Text(" ")],
+    )?;
     push_found(text, teller, found)
 }
 
@@ -122,18 +130,21 @@ fn push_row<T: Tree>(
     row: u64,
 ) -> Result<(), NoMemory> {
     let line = row_line(*text.allocator(), teller.source, row)?;
-    let line = Part::Line(Section::Cert, line);
-    let world = teller.world;
-    text.push_str("row ")?;
-    match row_at(rows, row) {
-        Some(at) if world.forest.node(at).is_some() => {
-            teller.say(
-                text,
-                &[Part::Path(at), Part::Text(" ("), line, Part::Text(")")],
-            )
+    let (words, line) = (Part::Text("row "), Part::Line(Section::Cert, line));
+    match node_of_row(teller.world, rows, row) {
+        Some(at) => {
+            let (path, end) = (Part::Path(at), Part::Text(")"));
+            teller.say(text, &[words, path, Part::Text(" ("), line, end])
         }
-        _ => teller.say(text, &[line]),
+        None => teller.say(text, &[words, line]),
     }
+}
+
+// The node of the row of this number, from 1, where there is something.
+fn node_of_row<T: Tree>(world: &World<T>, rows: &[NodeRef], row: u64) -> Option<NodeRef> {
+    let at = row_at(rows, row)?;
+    world.forest.node(at)?;
+    Some(at)
 }
 
 // The line of the row of this number, from 1, in its section: that of its statement, after the first.
@@ -144,8 +155,13 @@ fn row_line<A: Allocator + Copy>(
 ) -> Result<u64, NoMemory> {
     let section = source.text(alloc, Section::Cert)?;
     let statements = statements(alloc, section.as_str())?;
-    Ok(match statements.as_slice().get(row as usize) {
+    Ok(line_of_statement(statements.as_slice(), row as usize))
+}
+
+// The line of the statement after so many; 1 where there is none.
+fn line_of_statement<A: Allocator>(statements: &[Statement<'_, A>], before: usize) -> u64 {
+    match statements.get(before) {
         Some(statement) => statement.line,
         None => 1,
-    })
+    }
 }

@@ -9,16 +9,27 @@ pub(crate) fn claim_of<T: Tree>(
     alloc: T::Alloc,
     teller: &Teller<'_, '_, T>,
 ) -> Result<String<T::Alloc>, NoMemory> {
-    let mut text = String::from_str(alloc, "claim: ")?;
-    let world = teller.world;
-    let hidden = world.hidden.as_slice();
-    if hidden.is_empty() {
-        text.push_str("none, since nothing is hidden\n")?;
-    } else {
-        push_users(&mut text, teller, world.users.as_slice())?;
-        push_paths(&mut text, teller, hidden)?;
-    }
+    let mut text = String::new(alloc);
+    push_claim(&mut text, teller)?;
     Ok(text)
+}
+
+// Adds the claim of a world.
+fn push_claim<T: Tree>(
+    text: &mut String<T::Alloc>,
+    teller: &Teller<'_, '_, T>,
+) -> Result<(), NoMemory> {
+    let hidden = teller.world.hidden.as_slice();
+    if hidden.is_empty() {
+        return teller.say(
+            text,
+            &[Part::Text("claim: none, since nothing is hidden\n")],
+        );
+    }
+    teller.say(text, &[Part::Text("claim: ")])?;
+    push_users(text, teller, teller.world.users.as_slice())?;
+    teller.say(text, &[Part::Text(" what is inside ")])?;
+    push_paths(text, teller, hidden)
 }
 
 // Adds of which users something is claimed, and what.
@@ -28,19 +39,27 @@ fn push_users<T: Tree>(
     users: &[User],
 ) -> Result<(), NoMemory> {
     match users {
-        [] => text.push_str("no user is listed, so none sees or changes")?,
-        [user] => teller.say(
+        [] => teller.say(
             text,
-            &[Part::User(*user), Part::Text(" neither sees nor changes")],
-        )?,
-        _ => {
-            text.push_str("of ")?;
-            push_names(text, teller, users)?;
-            text.push_str(", none sees or changes")?;
+            &[Part::Text("no user is listed, so none sees or changes")],
+        ),
+        [user] => {
+            let words = Part::Text(" neither sees nor changes");
+            teller.say(text, &[Part::User(*user), words])
         }
+        _ => push_several(text, teller, users),
     }
-    text.push_str(" what is inside ")?;
-    Ok(())
+}
+
+// Adds that none of several users sees or changes something.
+fn push_several<T: Tree>(
+    text: &mut String<T::Alloc>,
+    teller: &Teller<'_, '_, T>,
+    users: &[User],
+) -> Result<(), NoMemory> {
+    teller.say(text, &[Part::Text("of ")])?;
+    push_names(text, teller, users)?;
+    teller.say(text, &[Part::Text(", none sees or changes")])
 }
 
 // Adds the names of users: `a`, `a and b`, `a, b and c`.

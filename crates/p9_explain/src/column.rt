@@ -1,11 +1,11 @@
 //! The column at which the parentheses of a walk's lines begin.
 
-use p9_base::NoMemory;
+use p9_base::{NoMemory, NodeRef};
 use p9_commands::path_of;
 use p9_judge::{Breach, Step};
 use p9_tree::Tree;
 use p9_world::World;
-use std::alloc::{AllocError, Allocator};
+use std::alloc::Allocator;
 
 /// How many characters a text has.
 pub(crate) fn width(text: &str) -> usize {
@@ -18,6 +18,16 @@ pub(crate) fn prefix_width(step: &Step) -> usize {
     width(step.user.as_str()).saturating_add(10)
 }
 
+/// How many characters the path of a node has.
+pub(crate) fn path_width<T: Tree>(
+    alloc: T::Alloc,
+    world: &World<T>,
+    at: NodeRef,
+) -> Result<usize, NoMemory> {
+    let path = path_of(alloc, world, at)?;
+    Ok(width(path.as_str()))
+}
+
 /// The column at which the parentheses begin: two blanks after the longest user and the longest path.
 pub(crate) fn column_of<T: Tree>(
     alloc: T::Alloc,
@@ -25,10 +35,10 @@ pub(crate) fn column_of<T: Tree>(
     breach: &Breach<T::Alloc>,
 ) -> Result<usize, NoMemory> {
     let mut prefix = 2usize;
-    let mut longest = width(path_of(alloc, world, breach.member)?.as_str());
+    let mut longest = path_width(alloc, world, breach.member)?;
     for step in breach.steps.as_slice() {
         prefix = prefix.max(prefix_width(step));
-        longest = longest.max(width(path_of(alloc, world, step.member)?.as_str()));
+        longest = longest.max(path_width(alloc, world, step.member)?);
     }
     Ok(prefix.saturating_add(longest).saturating_add(2))
 }
@@ -38,7 +48,8 @@ pub(crate) fn push_blanks<A: Allocator + Copy>(
     text: &mut String<A>,
     from: usize,
     to: usize,
-) -> Result<(), AllocError> {
-    let alloc = *text.allocator();
-    text.push_str(" ".repeat(alloc, to.saturating_sub(from))?.as_str())
+) -> Result<(), NoMemory> {
+    let blanks = " ".repeat(*text.allocator(), to.saturating_sub(from))?;
+    text.push_str(blanks.as_str())?;
+    Ok(())
 }

@@ -4,7 +4,7 @@ use p9_base::NoMemory;
 use std::alloc::Allocator;
 
 /// The sections of an input, in the order in which they are.
-#[derive(Clone, Copy, Debug, PartialEq, Eq, PartialOrd, Ord)]
+#[derive(Clone, Copy, PartialEq, Eq, PartialOrd, Ord)]
 pub(crate) enum Section {
     World,
     Ns,
@@ -13,7 +13,7 @@ pub(crate) enum Section {
 }
 
 /// The way in which a line is bad that is to begin a section, or is before the first one.
-#[derive(Clone, Copy, Debug, PartialEq, Eq)]
+#[derive(Clone, Copy)]
 pub(crate) enum Way {
     ByteOrderMark,
     CarriageReturn,
@@ -42,7 +42,7 @@ impl Way {
 }
 
 /// What a line says of sections.
-#[derive(Clone, Copy, Debug, PartialEq, Eq)]
+#[derive(Clone, Copy)]
 pub(crate) enum Head {
     /// Nothing.
     Other,

@@ -10,7 +10,7 @@ use p9_nsfile::OpFault;
 use p9_space::{MountTable, ROOT_PLACE, TO_EXECUTE};
 use p9_tree::Tree;
 use p9_world::World;
-use std::alloc::{AllocError, Allocator};
+use std::alloc::Allocator;
 
 /// Adds the hints on an input to a text, each with its line. `reports` are the operations of its
 /// namespace file that failed.
@@ -36,10 +36,11 @@ fn push_hint<A: Allocator + Copy>(
     (section, line): (Section, u64),
     name: &str,
     what: &str,
-) -> Result<(), AllocError> {
+) -> Result<(), NoMemory> {
     text.push_str("hint: ")?;
     source.push_line(text, section, line)?;
-    writeln!(text, ": {name}{what}")
+    writeln!(text, ": {name}{what}")?;
+    Ok(())
 }
 
 // Adds the owners, group leaders and members who are no listed users, each once.

@@ -28,7 +28,11 @@ pub(crate) fn layout_of<A: Allocator + Copy>(
         number = number.saturating_add(1);
         let head = head_of(alloc, text)?;
         let way = way_of(head, text, begun.as_slice());
-        let section = if head == Head::Other { current } else { None };
+        let section = if matches!(head, Head::Other) {
+            current
+        } else {
+            None
+        };
         if let Head::Begins(section) | Head::Bad(Some(section), _) = head {
             current = new_section(section, begun.as_slice());
             begun.push(section)?;

@@ -2,7 +2,7 @@
 
 use crate::right::{NO_RIGHTS, TO_USE, push_right};
 use crate::teller::{Part, Teller};
-use p9_base::{NoMemory, NodeRef};
+use p9_base::{NoMemory, NodeRef, Rights};
 use p9_cert::{MemberFault, is_hidden};
 use p9_space::{TO_EXECUTE, TO_WRITE};
 use p9_tree::Tree;
@@ -37,25 +37,26 @@ fn push_fault<T: Tree>(
     teller: &Teller<'_, '_, T>,
     found: Found,
 ) -> Result<(), NoMemory> {
-    let (what, wanted) = match found.fault {
-        MemberFault::Inside => return push_inside(text, teller, found.member),
-        MemberFault::Removable => return push_removal(text, teller, found.member),
-        MemberFault::Open => ("is open: ", TO_USE),
-        MemberFault::Owned => ("is owned: ", NO_RIGHTS),
-        MemberFault::Missing => ("is no row: ", TO_EXECUTE),
-    };
-    text.push_str(what)?;
-    push_right(text, teller, found.member, wanted)
+    let at = found.member;
+    match found.fault {
+        MemberFault::Inside => teller.say(text, &[Part::Inside(at)]),
+        MemberFault::Removable => push_removal(text, teller, at),
+        MemberFault::Open => push_use(text, teller, "is open: ", at, TO_USE),
+        MemberFault::Owned => push_use(text, teller, "is owned: ", at, NO_RIGHTS),
+        MemberFault::Missing => push_use(text, teller, "is no row: ", at, TO_EXECUTE),
+    }
 }
 
-/// Adds to a text inside which hidden directory a node is.
-pub(crate) fn push_inside<T: Tree>(
+// What a node is, and who has one of these rights of it.
+fn push_use<T: Tree>(
     text: &mut String<T::Alloc>,
     teller: &Teller<'_, '_, T>,
+    what: &'static str,
     at: NodeRef,
+    wanted: Rights,
 ) -> Result<(), NoMemory> {
-    let dir = hidden_dir(teller.world, at);
-    teller.say(text, &[Part::Text("is inside "), Part::Path(dir)])
+    teller.say(text, &[Part::Text(what)])?;
+    push_right(text, teller, at, wanted)
 }
 
 // Who may remove or rename a node, by the directory that it is in.
@@ -65,15 +66,9 @@ fn push_removal<T: Tree>(
     at: NodeRef,
 ) -> Result<(), NoMemory> {
     let dir = dir_of(teller.world, at).unwrap_or(at);
-    teller.say(
-        text,
-        &[
-            Part::Text("is removable from "),
-            Part::Path(dir),
-            Part::Text(" ("),
-        ],
-    )?;
-    teller.say(text, &[Part::Made(dir), Part::Text("): ")])?;
+    let (path, made) = (Part::Path(dir), Part::Made(dir));
+    let (from, end) = (Part::Text("is removable from "), Part::Text("): "));
+    teller.say(text, &[from, path, Part::Text(" ("), made, end])?;
     push_right(text, teller, dir, TO_WRITE)
 }
 

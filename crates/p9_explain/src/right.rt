@@ -5,7 +5,7 @@ use p9_base::{NoMemory, NodeRef, Rights, User};
 use p9_space::{TO_EXECUTE, TO_READ, TO_WRITE, Who, may};
 use p9_tree::{Node, Tree};
 use p9_world::World;
-use std::alloc::{AllocError, Allocator};
+use std::alloc::Allocator;
 
 /// To read, to write or to search.
 pub(crate) const TO_USE: Rights = Rights {
@@ -22,7 +22,7 @@ pub(crate) const NO_RIGHTS: Rights = Rights {
 };
 
 /// As what a user has a right.
-#[derive(Clone, Copy, Debug, PartialEq, Eq)]
+#[derive(Clone, Copy, PartialEq, Eq)]
 pub(crate) enum Class {
     Other,
     Owner,
@@ -37,13 +37,14 @@ impl Class {
         self,
         text: &mut String<A>,
         group: &User,
-    ) -> Result<(), AllocError> {
+    ) -> Result<(), NoMemory> {
         match self {
-            Class::Other => text.push_str("others"),
-            Class::Owner => text.push_str("its owner"),
-            Class::Member => write!(text, "a member of {group}"),
-            Class::Leader => write!(text, "the leader of {group}"),
+            Class::Other => text.push_str("others")?,
+            Class::Owner => text.push_str("its owner")?,
+            Class::Member => write!(text, "a member of {group}")?,
+            Class::Leader => write!(text, "the leader of {group}")?,
         }
+        Ok(())
     }
 }
 
@@ -104,29 +105,41 @@ pub(crate) fn push_right<T: Tree>(
     at: NodeRef,
     wanted: Rights,
 ) -> Result<(), NoMemory> {
-    let world = teller.world;
-    let Some(node) = world.forest.node(at) else {
-        return Ok(());
-    };
-    let Some(holder) = holder_of(world, node, wanted) else {
-        return Ok(());
-    };
-    let Holder { user, class, deeds } = holder;
-    if class != Class::Other {
-        teller.say(text, &[Part::User(user), Part::Text(", ")])?;
+    match holder_at(teller.world, at, wanted) {
+        Some((holder, group)) => say_holder(text, teller, holder, group),
+        None => Ok(()),
     }
-    let may = if class == Class::Other {
-        " may "
-    } else {
-        ", may "
-    };
-    let group = *node.gid();
+}
+
+// The first listed user who has one of these rights of the node at a place, or else the first who
+// rules it; and the node's group.
+fn holder_at<T: Tree>(world: &World<T>, at: NodeRef, wanted: Rights) -> Option<(Holder, User)> {
+    let node = world.forest.node(at)?;
+    let holder = holder_of(world, node, wanted)?;
+    Some((holder, *node.gid()))
+}
+
+// Says who has a right of a node of this group. For others no user is named.
+fn say_holder<T: Tree>(
+    text: &mut String<T::Alloc>,
+    teller: &Teller<'_, '_, T>,
+    holder: Holder,
+    group: User,
+) -> Result<(), NoMemory> {
+    let Holder { user, class, deeds } = holder;
+    let (class_words, deeds) = (Part::Class(class, group), Part::Text(deeds));
+    if class == Class::Other {
+        return teller.say(text, &[class_words, Part::Text(" may "), deeds]);
+    }
+    let user = Part::User(user);
     teller.say(
         text,
         &[
-            Part::Class(class, group),
-            Part::Text(may),
-            Part::Text(deeds),
+            user,
+            Part::Text(", "),
+            class_words,
+            Part::Text(", may "),
+            deeds,
         ],
     )
 }

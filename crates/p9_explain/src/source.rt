@@ -4,7 +4,7 @@ use crate::head::Section;
 use crate::layout::{Line, layout_of};
 use crate::node_lines::{NodeLine, line_of, node_lines};
 use p9_base::{NoMemory, NodeRef, statements};
-use std::alloc::{AllocError, Allocator};
+use std::alloc::Allocator;
 
 /// An input, by its name.
 #[derive(Drop)]
@@ -35,9 +35,10 @@ impl<'a, A: Allocator + Copy> Source<'a, A> {
         text: &mut String<A>,
         section: Section,
         line: u64,
-    ) -> Result<(), AllocError> {
+    ) -> Result<(), NoMemory> {
         let number = number_in(self.lines.as_slice(), section, line);
-        write!(text, "{}:{number}", self.name)
+        write!(text, "{}:{number}", self.name)?;
+        Ok(())
     }
 
     /// The line of the world that made a node.

@@ -1,10 +1,12 @@
 //! The connection to a server.
 
+ghost use Rattle.std.specs.Prelude.{◌≤◌, IfOk};
+
 use crate::failure::{Failure, report, report_local, report_text};
 use crate::watched::Watched;
 use clap::ArgMatches;
 use p9_client::{ClientError, FileError, Session};
-use std::alloc::Global;
+use std::alloc::{AllocError, Global};
 use std::net::TcpStream;
 use std::{env, io};
 
@@ -29,17 +31,23 @@ pub fn connect(
     is_reported: bool,
 ) -> Result<Client, Failure> {
     let address = words.get_str("addr").unwrap_or("");
+    let msize = msize_of(rt, words)?;
+    let stream = stream_to(rt, address, is_reported)?;
+    let mut client = Session::new(rt.alloc(), stream, msize)?;
+    begin(rt, &mut client, words, address)?;
+    Ok(client)
+}
+
+// The msize that is offered.
+fn msize_of(rt: &HostRuntime, words: &ArgMatches<'_>) -> Result<usize, Failure>
+    ensures enough { IfOk result (λ msize. 256 ≤ msize) }
+    ensures within { IfOk result (λ msize. msize ≤ 1048576) }
+{
     let msize = words.get_one::<usize>("msize").unwrap_or(MSIZE);
     if msize < MSIZE_MIN || msize > MSIZE_MAX {
         return Err(report_text(rt, "an msize is from 256 to 1048576", Failure::BadWords));
     }
-    let stream = match stream_to(rt, address, is_reported) {
-        Ok(stream) => stream,
-        Err(error) => return Err(report_local(rt, address, &error)),
-    };
-    let mut client = Session::new(rt.alloc(), stream, msize)?;
-    begin(rt, &mut client, words, address)?;
-    Ok(client)
+    Ok(msize)
 }
 
 // Begins a session with the server of an address, and attaches its root.
@@ -61,7 +69,15 @@ fn begin(
 }
 
 // A stream to the server of an address.
-fn stream_to(rt: &HostRuntime, address: &str, is_reported: bool) -> io::Result<Watched> {
+fn stream_to(rt: &HostRuntime, address: &str, is_reported: bool) -> Result<Watched, Failure> {
+    match connected(rt, address, is_reported) {
+        Ok(stream) => Ok(stream),
+        Err(error) => Err(report_local(rt, address, &error)),
+    }
+}
+
+// Connects to the server of an address.
+fn connected(rt: &HostRuntime, address: &str, is_reported: bool) -> io::Result<Watched> {
     let stream = TcpStream::connect(rt, address)?;
     let _ = stream.set_nodelay(true);
     Watched::new(*rt, stream, is_reported)
@@ -73,12 +89,12 @@ fn refused(rt: &HostRuntime, address: &str, error: ClientError) -> Failure {
 }
 
 // The user that the words name, or else the one of the environment, or `none`.
-fn user_of(rt: &HostRuntime, words: &ArgMatches<'_>) -> Result<String, Failure> {
+fn user_of(rt: &HostRuntime, words: &ArgMatches<'_>) -> Result<String, AllocError> {
     if let Some(user) = words.get_str("user") {
-        return Ok(String::from_str(rt.alloc(), user)?);
+        return String::from_str(rt.alloc(), user);
     }
     match env::var(rt, "USER") {
         Ok(user) if !user.is_empty() => Ok(user),
-        _ => Ok(String::from_str(rt.alloc(), "none")?),
+        _ => String::from_str(rt.alloc(), "none"),
     }
 }

@@ -1,10 +1,13 @@
 //! Files copied from a server to the system, and back.
 
-use crate::connect::{Client, ROOT};
-use crate::failure::{Failure, report, report_local, report_text};
-use crate::names::{is_inside, joined, names_of};
-use crate::remote::{FILE, PERMISSIONS, entries_of, finish, stat_of, walk_to, walk_to_parent};
-use p9_client::{Entry, FileError};
+use crate::connect::Client;
+use crate::failure::{Failure, report, report_about, report_local};
+use crate::names::{is_inside, joined};
+use crate::remote::{
+    FILE, PERMISSIONS, entries_of, finish, mode_of, walk, walk_to, walk_to_parent,
+};
+use p9_base::DMDIR;
+use p9_client::FileError;
 use std::alloc::{AllocError, Global};
 use std::fs;
 use std::fs::{File, Permissions};
@@ -26,37 +29,46 @@ pub fn get(
     local: &str,
     is_recursive: bool,
 ) -> Result<(), Failure> {
-    let entry = stat_of(rt, client, path)?;
-    if !entry.is_dir() {
-        return get_file(rt, client, &entry, path, local);
+    let mode = mode_of(rt, client, path)?;
+    if mode & DMDIR == 0 {
+        get_file(rt, client, mode, path, local)
+    } else if is_recursive {
+        get_tree(rt, client, path, local)
+    } else {
+        Err(report_about(rt, path, &"is a directory", Failure::Refused))
     }
-    if !is_recursive {
-        let text = format!(in rt.alloc(); "{path}: is a directory")?;
-        return Err(report_text(rt, text.as_str(), Failure::Refused));
-    }
-    get_tree(rt, client, path, local)
 }
 
-// Copies a file with its permissions.
+// Copies a file of this mode.
 fn get_file(
     rt: &HostRuntime,
     client: &mut Client,
-    entry: &Entry<Global>,
+    mode: u32,
     path: &str,
     local: &str,
 ) -> Result<(), Failure> {
     walk_to(rt, client, path)?;
-    let mut file = match File::create(rt, local) {
-        Ok(file) => file,
+    match File::create(rt, local) {
+        Ok(mut file) => fill(rt, client, path, local, &mut file, mode),
         Err(error) => {
             let _ = client.clunk(FILE);
-            return Err(report_local(rt, local, &error));
+            Err(report_local(rt, local, &error))
         }
-    };
-    let done = read_in(client, &mut file);
+    }
+}
+
+// Writes the bytes of the server's file to a file of the system, and gives it this mode.
+fn fill(
+    rt: &HostRuntime,
+    client: &mut Client,
+    path: &str,
+    local: &str,
+    file: &mut File,
+    mode: u32,
+) -> Result<(), Failure> {
+    let done = read_in(client, file);
     finish(rt, client, path, done)?;
-    let permissions = Permissions::from_mode(entry.mode & PERMISSIONS);
-    match file.set_permissions(permissions) {
+    match file.set_permissions(Permissions::from_mode(mode & PERMISSIONS)) {
         Ok(()) => Ok(()),
         Err(error) => Err(report_local(rt, local, &error)),
     }
@@ -76,34 +88,51 @@ struct Pending {
     local: String,
 }
 
+// A tree that is copied: what is still to be copied, and the directories that were made, each with the
+// mode that it gets at the end.
+#[derive(Drop)]
+struct Copying {
+    pending: Vec<Pending>,
+    dirs: Vec<(String, u32)>,
+}
+
 // Copies a directory with all that is in it. What is refused is reported, and the rest is copied.
 fn get_tree(rt: &HostRuntime, client: &mut Client, path: &str, local: &str) -> Result<(), Failure> {
-    let mut pending = Vec::new(rt.alloc());
-    let mut dirs = Vec::new(rt.alloc());
-    pending.push(Pending {
-        path: String::from_str(rt.alloc(), path)?,
-        local: String::from_str(rt.alloc(), local)?,
-    })?;
-    let outcome = get_all(rt, client, &mut pending, &mut dirs);
-    if matches!(outcome, Ok(()) | Err(Failure::Refused)) {
-        set_modes(rt, dirs.as_slice())?;
+    let mut copying = begun(rt.alloc(), path, local)?;
+    let outcome = get_all(rt, client, &mut copying);
+    end_with(rt, outcome, copying.dirs.as_slice())
+}
+
+// A tree of which all is still to be copied.
+fn begun(alloc: Global, path: &str, local: &str) -> Result<Copying, AllocError> {
+    let path = String::from_str(alloc, path)?;
+    let local = String::from_str(alloc, local)?;
+    let pending = Vec::from_array(alloc, [Pending { path, local }])?;
+    let dirs = Vec::new(alloc);
+    Ok(Copying { pending, dirs })
+}
+
+// Gives the directories that were made their permissions, unless the copying had to end.
+fn end_with(
+    rt: &HostRuntime,
+    outcome: Result<(), Failure>,
+    dirs: &[(String, u32)],
+) -> Result<(), Failure> {
+    match outcome {
+        Ok(()) | Err(Failure::Refused) => set_modes(rt, dirs)?,
+        Err(_) => {}
     }
     outcome
 }
 
 // Copies all files that are to be copied, and makes the directories.
-fn get_all(
-    rt: &HostRuntime,
-    client: &mut Client,
-    pending: &mut Vec<Pending>,
-    dirs: &mut Vec<(String, u32)>,
-) -> Result<(), Failure> {
+fn get_all(rt: &HostRuntime, client: &mut Client, copying: &mut Copying) -> Result<(), Failure> {
     let mut outcome = Ok(());
     for _ in 0..u64::MAX {
-        let Some(next) = pending.pop() else {
+        let Some(next) = copying.pending.pop() else {
             break;
         };
-        match get_next(rt, client, next, pending, dirs) {
+        match get_next(rt, client, next, copying) {
             Ok(()) => {}
             Err(Failure::Refused) => outcome = Err(Failure::Refused),
             Err(failure) => return Err(failure),
@@ -126,24 +155,35 @@ fn get_next(
     rt: &HostRuntime,
     client: &mut Client,
     next: Pending,
-    pending: &mut Vec<Pending>,
-    dirs: &mut Vec<(String, u32)>,
+    copying: &mut Copying,
 ) -> Result<(), Failure> {
     let Pending { path, local } = next;
-    let entry = stat_of(rt, client, path.as_str())?;
-    if !entry.is_dir() {
-        return get_file(rt, client, &entry, path.as_str(), local.as_str());
+    let mode = mode_of(rt, client, path.as_str())?;
+    if mode & DMDIR == 0 {
+        return get_file(rt, client, mode, path.as_str(), local.as_str());
     }
-    if let Err(error) = fs::create_dir_all(rt, local.as_str()) {
-        return Err(report_local(rt, local.as_str(), &error));
-    }
-    let outcome = push_entries(rt, client, path.as_str(), local.as_str(), pending);
+    make_dir(rt, local.as_str())?;
+    let added = push_entries(
+        rt,
+        client,
+        path.as_str(),
+        local.as_str(),
+        &mut copying.pending,
+    );
     // A directory that may not be listed has its permissions too.
-    dirs.push((local, entry.mode))?;
-    outcome
+    copying.dirs.push((local, mode))?;
+    added
 }
 
-// Adds the entries of a directory. A name that leads elsewhere is reported, and the others are added.
+// Makes a directory of the system, unless it is there.
+fn make_dir(rt: &HostRuntime, local: &str) -> Result<(), Failure> {
+    match fs::create_dir_all(rt, local) {
+        Ok(()) => Ok(()),
+        Err(error) => Err(report_local(rt, local, &error)),
+    }
+}
+
+// Adds the entries of a directory.
 fn push_entries(
     rt: &HostRuntime,
     client: &mut Client,
@@ -154,15 +194,29 @@ fn push_entries(
     let entries = entries_of(rt, client, path)?;
     let mut outcome = Ok(());
     for entry in entries.as_slice() {
-        let name = entry.name.as_str();
-        if is_inside(name) {
-            pending.push(below(rt.alloc(), path, local, name)?)?;
-        } else {
-            let text = format!(in rt.alloc(); "{path}: a file is named '{name}'")?;
-            outcome = Err(report_text(rt, text.as_str(), Failure::Refused));
+        match push_entry(rt, entry.name.as_str(), path, local, pending) {
+            Ok(()) => {}
+            Err(Failure::Refused) => outcome = Err(Failure::Refused),
+            Err(failure) => return Err(failure),
         }
     }
     outcome
+}
+
+// Adds an entry of a directory. A name that leads elsewhere is reported.
+fn push_entry(
+    rt: &HostRuntime,
+    name: &str,
+    path: &str,
+    local: &str,
+    pending: &mut Vec<Pending>,
+) -> Result<(), Failure> {
+    if is_inside(name) {
+        pending.push(below(rt.alloc(), path, local, name)?)?;
+        return Ok(());
+    }
+    let text = format!(in rt.alloc(); "a file is named '{name}'")?;
+    Err(report_about(rt, path, &text.as_str(), Failure::Refused))
 }
 
 // What is to be copied of a name in a directory.
@@ -184,21 +238,39 @@ fn set_mode(rt: &HostRuntime, local: &str, mode: u32) -> Result<(), Failure> {
 /// Copies a file of the system to a file of the server, which is made with the same permissions where
 /// it is not there.
 pub fn put(rt: &HostRuntime, client: &mut Client, local: &str, path: &str) -> Result<(), Failure> {
-    let bytes = match fs::read(rt, local) {
-        Ok(bytes) => bytes,
-        Err(error) => return Err(report_local(rt, local, &error)),
-    };
-    let names = names_of(rt.alloc(), path)?;
-    let done = match client.walk_path(ROOT, FILE, names.as_slice()) {
-        Ok(()) => opened_to_write(client),
-        Err(error) if error.ends_session() => return Err(report(rt, path, &error)),
-        Err(_) => made(rt, client, local, path)?,
-    };
-    let done = match done {
-        Ok(()) => client.write_whole(FILE, bytes.as_slice()),
+    match fs::read(rt, local) {
+        Ok(bytes) => put_bytes(rt, client, local, path, bytes.as_slice()),
+        Err(error) => Err(report_local(rt, local, &error)),
+    }
+}
+
+// Writes these bytes of a file of the system to a file of the server.
+fn put_bytes(
+    rt: &HostRuntime,
+    client: &mut Client,
+    local: &str,
+    path: &str,
+    bytes: &[u8],
+) -> Result<(), Failure> {
+    let done = match begin_write(rt, client, local, path)? {
+        Ok(()) => client.write_whole(FILE, bytes),
         Err(error) => Err(error),
     };
     finish(rt, client, path, done)
+}
+
+// Opens the file of a path to be written, or makes it.
+fn begin_write(
+    rt: &HostRuntime,
+    client: &mut Client,
+    local: &str,
+    path: &str,
+) -> Result<Result<(), FileError>, Failure> {
+    match walk(rt.alloc(), client, path) {
+        Ok(()) => Ok(opened_to_write(client)),
+        Err(error) if error.ends_session() => Err(report(rt, path, &error)),
+        Err(_) => made(rt, client, local, path),
+    }
 }
 
 // Opens the file that is there, without its bytes.

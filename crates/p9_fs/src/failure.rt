@@ -4,6 +4,7 @@ use crate::names::Printable;
 use p9_base::NoMemory;
 use p9_client::{ClientError, FileError};
 use std::alloc::{AllocError, AllocFailed};
+use std::fmt::Display;
 use std::io;
 use std::io::ErrorKind;
 
@@ -62,10 +63,7 @@ fn failure_of(error: &FileError) -> Failure {
 
 /// Reports why the file of a path is not had, and returns how the command failed.
 pub fn report(rt: &HostRuntime, path: &str, error: &FileError) -> Failure {
-    match format!(in rt.alloc(); "{path}: {error}") {
-        Ok(text) => report_text(rt, text.as_str(), failure_of(error)),
-        Err(_) => Failure::NoMemory,
-    }
+    report_about(rt, path, error, failure_of(error))
 }
 
 /// Reports why a file of the system is not had, and returns how the command failed.
@@ -75,7 +73,17 @@ pub fn report_local(rt: &HostRuntime, path: &str, error: &io::Error) -> Failure 
     } else {
         Failure::Failed
     };
-    match format!(in rt.alloc(); "{path}: {error}") {
+    report_about(rt, path, error, failure)
+}
+
+/// Reports what there is to say of the file of a path, and returns a failure.
+pub fn report_about(
+    rt: &HostRuntime,
+    path: &str,
+    what: &impl Display,
+    failure: Failure,
+) -> Failure {
+    match format!(in rt.alloc(); "{path}: {what}") {
         Ok(text) => report_text(rt, text.as_str(), failure),
         Err(_) => Failure::NoMemory,
     }

@@ -11,10 +11,11 @@ mod shell;
 mod watched;
 mod words;
 
-use crate::connect::connect;
+use crate::connect::{Client, connect};
 use crate::failure::Failure;
 use crate::shell::{run_line, run_lines};
 use crate::words::{Verb, program, verb_of};
+use clap::ArgMatches;
 use clap::error::ErrorKind;
 use std::env;
 use std::io::IsTerminal;
@@ -29,22 +30,35 @@ fn main(rt: HostRuntime) -> ExitCode {
 
 // Does what the words ask for. What keeps it from that is reported where it is met.
 fn run(rt: &HostRuntime) -> Result<(), Failure> {
-    let words = match env::args(rt) {
-        Ok(words) => words,
-        Err(_) => return Err(Failure::BadWords),
-    };
-    let words: Vec<String> = words.collect(rt.alloc())?;
-    let matches = match program(rt.alloc())?.try_get_matches_from(words.as_slice()) {
-        Ok(matches) => matches,
-        Err(error) => return shown(rt, &error),
-    };
-    let Some(verb) = verb_of(&matches) else {
+    let words = words_of(rt)?;
+    match program(rt.alloc())?.try_get_matches_from(words.as_slice()) {
+        Ok(matches) => run_matches(rt, &matches),
+        Err(error) => shown(rt, &error),
+    }
+}
+
+// The words of the command line.
+fn words_of(rt: &HostRuntime) -> Result<Vec<String>, Failure> {
+    match env::args(rt) {
+        Ok(words) => Ok(words.collect(rt.alloc())?),
+        Err(_) => Err(Failure::BadWords),
+    }
+}
+
+// Does what the words ask for that `clap` read.
+fn run_matches(rt: &HostRuntime, matches: &ArgMatches<'_>) -> Result<(), Failure> {
+    let Some(verb) = verb_of(matches) else {
         return Err(Failure::BadWords);
     };
-    let mut client = connect(rt, &matches, is_reported(rt, verb))?;
+    let mut client = connect(rt, matches, is_reported(rt, verb))?;
+    run_verb(rt, &mut client, verb)
+}
+
+// Runs one command, or those of the standard input.
+fn run_verb(rt: &HostRuntime, client: &mut Client, verb: Verb<'_>) -> Result<(), Failure> {
     match verb {
-        Verb::Shell => run_lines(rt, &mut client),
-        verb => run_line(rt, &mut client, verb),
+        Verb::Shell => run_lines(rt, client),
+        verb => run_line(rt, client, verb),
     }
 }
 

@@ -1,19 +1,24 @@
 //! Names and paths.
 
+use p9_base::NoMemory;
 use std::alloc::{AllocError, Global};
 use std::fmt;
 use std::fmt::{Display, Formatter};
 
 /// The names of a path, between its slashes, without empty ones and `.`.
-pub fn names_of(alloc: Global, path: &str) -> Result<Vec<&str>, AllocError> {
-    path.split('/')
-        .filter(|name| !name.is_empty() && *name != ".")
-        .collect(alloc)
+pub fn names_of(alloc: Global, path: &str) -> Result<Vec<&str>, NoMemory> {
+    let names = path.split('/').filter(|name| is_name(name));
+    Ok(names.collect(alloc)?)
+}
+
+// Whether a word between slashes is a name.
+fn is_name(word: &str) -> bool {
+    !word.is_empty() && word != "."
 }
 
 /// Whether a server's name of a file may be one in a directory of the system: it leads nowhere else.
 pub fn is_inside(name: &str) -> bool {
-    !name.is_empty() && name != "." && name != ".." && !name.contains(['/', '\0'])
+    is_name(name) && name != ".." && !name.contains(['/', '\0'])
 }
 
 /// A name after a path.

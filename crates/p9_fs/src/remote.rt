@@ -20,11 +20,16 @@ pub const PERMISSIONS: u32 = 0o777;
 
 /// Makes the fid of the file of a path.
 pub fn walk_to(rt: &HostRuntime, client: &mut Client, path: &str) -> Result<(), Failure> {
-    let names = names_of(rt.alloc(), path)?;
-    match client.walk_path(ROOT, FILE, names.as_slice()) {
+    match walk(rt.alloc(), client, path) {
         Ok(()) => Ok(()),
         Err(error) => Err(report(rt, path, &error)),
     }
+}
+
+/// Makes the fid of the file of a path, and reports nothing.
+pub fn walk(alloc: Global, client: &mut Client, path: &str) -> Result<(), FileError> {
+    let names = names_of(alloc, path)?;
+    client.walk_path(ROOT, FILE, names.as_slice())
 }
 
 /// Makes the fid of the directory that the file of a path is in, and returns the file's name.
@@ -70,6 +75,11 @@ pub fn stat_of(
     finish(rt, client, path, done)
 }
 
+/// The mode of the file of a path.
+pub fn mode_of(rt: &HostRuntime, client: &mut Client, path: &str) -> Result<u32, Failure> {
+    Ok(stat_of(rt, client, path)?.mode)
+}
+
 /// The entries of the directory of a path.
 pub fn entries_of(
     rt: &HostRuntime,
@@ -90,12 +100,18 @@ fn listed(alloc: Global, client: &mut Client) -> Result<Vec<Entry<Global>>, File
 /// Prints the names of a directory's entries, or the name of a file; or their long lines.
 pub fn list(rt: &HostRuntime, client: &mut Client, path: &str, long: bool) -> Result<(), Failure> {
     let entry = stat_of(rt, client, path)?;
-    if !entry.is_dir() {
-        return print_entry(rt, &entry, long);
+    if entry.is_dir() {
+        let entries = entries_of(rt, client, path)?;
+        print_sorted(rt, entries.as_slice(), long)
+    } else {
+        print_entry(rt, &entry, long)
     }
-    let entries = entries_of(rt, client, path)?;
-    let order = by_name(rt.alloc(), entries.as_slice())?;
-    print_entries(rt, entries.as_slice(), order.as_slice(), long)
+}
+
+// Prints entries in the order of their names.
+fn print_sorted(rt: &HostRuntime, entries: &[Entry<Global>], long: bool) -> Result<(), Failure> {
+    let order = by_name(rt.alloc(), entries)?;
+    print_entries(rt, entries, order.as_slice(), long)
 }
 
 // The places of entries, in the order of their names.
@@ -189,9 +205,9 @@ pub fn change_mode(
     path: &str,
     permissions: u32,
 ) -> Result<(), Failure> {
-    let entry = stat_of(rt, client, path)?;
+    let mode = mode_of(rt, client, path)?;
     let mut stat = untouched();
-    stat.mode = entry.mode & !PERMISSIONS | permissions & PERMISSIONS;
+    stat.mode = mode & !PERMISSIONS | permissions & PERMISSIONS;
     change(rt, client, path, stat)
 }
 

@@ -4,7 +4,7 @@ use clap::{Arg, ArgAction, ArgMatches, Command, value_parser};
 use std::alloc::{AllocError, Global};
 
 /// What is asked for.
-#[derive(Clone, Copy, Debug)]
+#[derive(Clone, Copy)]
 pub enum Verb<'a> {
     /// The entries of a directory, or a file; by name, or in long lines.
     List {
@@ -107,18 +107,29 @@ fn mode_of(word: &str) -> Option<u32> {
 
 /// The program's command line.
 pub fn program<'a>(alloc: Global) -> Result<Command<'a>, AllocError> {
-    let mut options = Vec::new(alloc);
-    for shape in &OPTIONS {
-        options.push(option(alloc, shape))?;
-    }
-    let mut commands = file_commands(alloc)?;
-    commands.push(Command::new(alloc, "sh").about("runs the commands of the standard input"))?;
+    let options = options(alloc)?;
+    let commands = all_commands(alloc)?;
     Command::new(alloc, "p9_fs")
         .about("looks at an export of 9P2000, and copies files from it and to it")
         .version("1.0")
         .subcommand_required(true)
         .args(options)?
         .subcommands(commands)
+}
+
+// The options of the program.
+fn options<'a>(alloc: Global) -> Result<Vec<Arg<'a>>, AllocError> {
+    let mut options = Vec::new(alloc);
+    push_options(alloc, &mut options)?;
+    Ok(options)
+}
+
+// Adds the options of the program.
+fn push_options(alloc: Global, options: &mut Vec<Arg<'_>>) -> Result<(), AllocError> {
+    for shape in &OPTIONS {
+        options.push(option(alloc, shape))?;
+    }
+    Ok(())
 }
 
 /// A line of commands, after the program's name.
@@ -311,29 +322,76 @@ const SHAPES: [Shape; 9] = [
     },
 ];
 
+// The commands of the program: those on files, and `sh`.
+fn all_commands<'a>(alloc: Global) -> Result<Vec<Command<'a>>, AllocError> {
+    let mut commands = file_commands(alloc)?;
+    commands.push(Command::new(alloc, "sh").about("runs the commands of the standard input"))?;
+    Ok(commands)
+}
+
 // The commands on files.
 fn file_commands<'a>(alloc: Global) -> Result<Vec<Command<'a>>, AllocError> {
     let mut commands = Vec::new(alloc);
-    for shape in &SHAPES {
-        commands.push(command_of(alloc, shape)?)?;
-    }
+    push_commands(alloc, &mut commands)?;
     Ok(commands)
+}
+
+// Adds the commands on files.
+fn push_commands(alloc: Global, commands: &mut Vec<Command<'_>>) -> Result<(), AllocError> {
+    for shape in &SHAPES {
+        push_command(alloc, commands, shape)?;
+    }
+    Ok(())
+}
+
+// Adds a command.
+fn push_command(
+    alloc: Global,
+    commands: &mut Vec<Command<'_>>,
+    shape: &Shape,
+) -> Result<(), AllocError> {
+    let command = command_of(alloc, shape)?;
+    Ok(commands.push(command)?)
 }
 
 // A command on files.
 fn command_of<'a>(alloc: Global, shape: &Shape) -> Result<Command<'a>, AllocError> {
-    let mut args = Vec::new(alloc);
-    if let Some(flag) = &shape.flag {
-        let arg = Arg::new(alloc, flag.name)
-            .short(flag.letter)
-            .help(flag.help);
-        args.push(arg.action(ArgAction::SetTrue))?;
-    }
-    for word in shape.words {
-        let arg = Arg::new(alloc, word.name).value_name(word.value);
-        args.push(arg.required(word.is_needed).action(ArgAction::Set))?;
-    }
+    let args = args_of(alloc, shape)?;
     Command::new(alloc, shape.name)
         .about(shape.about)
         .args(args)
+}
+
+// The flag and the words of a command on files.
+fn args_of<'a>(alloc: Global, shape: &Shape) -> Result<Vec<Arg<'a>>, AllocError> {
+    let mut args = Vec::new(alloc);
+    push_args(alloc, &mut args, shape)?;
+    Ok(args)
+}
+
+// Adds the flag and the words of a command on files.
+fn push_args(alloc: Global, args: &mut Vec<Arg<'_>>, shape: &Shape) -> Result<(), AllocError> {
+    if let Some(flag) = &shape.flag {
+        args.push(flag_of(alloc, flag))?;
+    }
+    for word in shape.words {
+        args.push(word_of(alloc, word))?;
+    }
+    Ok(())
+}
+
+// A flag of a command.
+fn flag_of<'a>(alloc: Global, flag: &Flag) -> Arg<'a> {
+    Arg::new(alloc, flag.name)
+        .short(flag.letter)
+        .help(flag.help)
+        .action(ArgAction::SetTrue)
+}
+
+// A word of a command.
+fn word_of<'a>(alloc: Global, word: &Word) -> Arg<'a> {
+    Arg::new(alloc, word.name)
+        .value_name(word.value)
+        .required(word.is_needed)
+        .action(ArgAction::Set)
 }

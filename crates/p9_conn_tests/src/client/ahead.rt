@@ -24,7 +24,7 @@ fn file_of(rt: &impl Abort, alloc: Global, len: usize) -> Vec<u8, Global> {
 }
 
 // What is done with the file of a server.
-#[derive(Clone, Copy, Debug)]
+#[derive(Clone, Copy)]
 enum Call {
     Read,
     Write,
@@ -32,7 +32,7 @@ enum Call {
 
 // What is played: a call on a file of so many bytes, what the server does wrong at which request, and
 // the number of the stream's call that fails.
-#[derive(Clone, Copy, Debug)]
+#[derive(Clone, Copy)]
 struct Play {
     call: Call,
     len: usize,
@@ -111,21 +111,22 @@ fn settle(
     wanted: &str,
     play: Play,
 ) -> usize {
-    assert!(rt; came == wanted, "{play:?}: {came}");
     let server = &session.stream().server;
     let (is_whole, ahead) = (bytes == server.file.as_slice(), server.most_waiting);
-    assert!(rt; is_whole || wanted != "done", "{play:?}");
+    let Play { len, place, .. } = play;
+    assert!(rt;
+        came == wanted && (is_whole || wanted != "done"),
+        "{len} bytes, request {place}: {came}, not {wanted}"
+    );
     goes_on_after(rt, session, wanted);
     ahead
 }
 
 // The session has not failed after these, and its next request is answered.
 fn goes_on_after(rt: &impl Abort, session: &mut Session<Answered<Pieces>, Global>, outcome: &str) {
-    let goes_on = matches!(outcome, "done" | "refused" | "stuck" | "output");
-    assert!(rt;
-        session.is_failed() != goes_on && session.clunk(1).is_ok() == goes_on,
-        "{outcome}"
-    );
+    let goes_on = ["done", "refused", "stuck", "output"].contains(&outcome);
+    let came = (session.is_failed(), session.clunk(1).is_ok());
+    assert!(rt; came == (!goes_on, goes_on), "{outcome}");
 }
 
 // How many requests are on their way at once, for a file of so many bytes.
@@ -143,9 +144,9 @@ fn files_of_any_number_of_pieces_are_read_and_written(rt: HostRuntime) {
     for call in [Call::Read, Call::Write] {
         for pieces in 0..20 {
             for more in [0, 1, 231] {
-                let fine = fine(call, pieces * PIECE + more);
-                let ahead = check(&rt, rt.alloc(), fine, "done");
-                assert!(rt; ahead == ahead_of(call, fine.len), "{fine:?}: {ahead}");
+                let len = pieces * PIECE + more;
+                let ahead = check(&rt, rt.alloc(), fine(call, len), "done");
+                assert!(rt; ahead == ahead_of(call, len), "{len} bytes: {ahead}");
             }
         }
     }

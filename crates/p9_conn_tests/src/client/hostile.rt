@@ -18,27 +18,19 @@ enum Call {
     Clunk,
 }
 
-// Asks it: a walk of one name, a read of four bytes, a write of two.
-fn ask(session: &mut Session<Answered<Canned>, Global>, call: Call) -> Result<(), ClientError> {
+// Asks it: a walk of one name, a read of four bytes, a write of two. Returns what that comes to.
+fn ask(session: &mut Session<Answered<Canned>, Global>, call: Call) -> &'static str {
     match call {
-        Call::Version => {
-            session.version()?;
-        }
+        Call::Version => outcome(&session.version()),
         Call::Walk => {
             let mut names = Names::new();
             names.push("a");
-            session.walk(0, 1, names)?;
+            outcome(&session.walk(0, 1, names))
         }
-        Call::Read => {
-            let mut buffer = [0; 4];
-            session.read(0, 0, &mut buffer)?;
-        }
-        Call::Write => {
-            session.write(0, 0, b"hi")?;
-        }
-        Call::Clunk => session.clunk(0)?,
+        Call::Read => outcome(&session.read(0, 0, &mut [0; 4])),
+        Call::Write => outcome(&session.write(0, 0, b"hi")),
+        Call::Clunk => outcome(&session.clunk(0)),
     }
-    Ok(())
 }
 
 // The first call of a session, the reply, and what that comes to.
@@ -107,17 +99,17 @@ const ROWS: [(Call, &str, &str); 29] = [
 ];
 
 // What a call comes to.
-fn outcome(came: Result<(), ClientError>) -> &'static str {
+fn outcome<T>(came: &Result<T, ClientError>) -> &'static str {
     match came {
-        Ok(()) => "done",
-        Err(error) => kind_of(&error),
+        Ok(_) => "done",
+        Err(error) => kind_of(error),
     }
 }
 
 // Asks over a reply without its last few bytes.
 fn check(rt: &impl Abort, alloc: Global, call: Call, reply: &str, missing: usize, wanted: &str) {
     let mut session = session_of(rt, alloc, reply, missing);
-    let came = outcome(ask(&mut session, call));
+    let came = ask(&mut session, call);
     assert!(rt; came == wanted, "{reply}: {came}");
     goes_on_after(rt, &mut session, reply, wanted);
 }
@@ -130,11 +122,14 @@ fn goes_on_after(
     wanted: &str,
 ) {
     let goes_on = wanted == "done" || wanted == "refused";
-    assert!(rt; session.is_failed() != goes_on, "{reply}");
+    let is_failed = session.is_failed();
     let written = session.stream().written;
-    let next = outcome(ask(session, Call::Clunk));
+    let next = ask(session, Call::Clunk);
     let asks_nothing = next == "over" && session.stream().written == written;
-    assert!(rt; goes_on || asks_nothing, "{reply}: {next}");
+    assert!(rt;
+        is_failed != goes_on && (goes_on || asks_nothing),
+        "{reply}: {next}"
+    );
 }
 
 #[test]

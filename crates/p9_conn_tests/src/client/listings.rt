@@ -1,7 +1,7 @@
 //! Listings of a hostile server.
 
 use crate::client::answered::{Answered, Server, reply_frame};
-use crate::client::canned::session_of;
+use crate::client::canned::{Canned, session_of};
 use crate::client::kinds::outcome;
 use p9_client::Session;
 use p9_testing::bytes_of;
@@ -37,12 +37,22 @@ const ROWS: [(&str, &str, usize); 8] = [
 // Lists over the replies. The session has then failed, but where the listing is had.
 fn check(rt: &impl Abort, alloc: Global, replies: &str, wanted: &str, count: usize) {
     let mut session = session_of(rt, alloc, replies, 0);
+    let (came, found) = list(alloc, &mut session);
+    let is_told = came == wanted && found == count;
+    assert!(rt;
+        is_told && session.is_failed() == (wanted != "done"),
+        "{replies}"
+    );
+}
+
+// Lists a directory. Returns what that comes to, and how many entries there are.
+fn list(alloc: Global, session: &mut Session<Answered<Canned>, Global>) -> (&'static str, usize) {
     let listed = session.list(alloc, 0);
-    assert!(rt; outcome(&listed) == wanted, "{replies}");
-    assert!(rt; session.is_failed() == listed.is_err(), "{replies}");
-    if let Ok(entries) = listed {
-        assert!(rt; entries.len() == count, "{replies}");
-    }
+    let count = match &listed {
+        Ok(entries) => entries.len(),
+        Err(_) => 0,
+    };
+    (outcome(&listed), count)
 }
 
 #[test]

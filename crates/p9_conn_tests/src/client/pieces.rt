@@ -6,7 +6,7 @@ use std::alloc::Global;
 use std::io;
 
 /// What the server does wrong at a request.
-#[derive(Clone, Copy, Debug, PartialEq, Eq)]
+#[derive(Clone, Copy, PartialEq, Eq)]
 pub enum Fault {
     /// Nothing.
     Nothing,
@@ -114,15 +114,20 @@ impl Pieces {
         offset: u64,
         bytes: &[u8],
     ) -> io::Result<Vec<u8, Global>> {
-        let start = offset as usize;
         let bytes = moved(fault, bytes);
+        self.store(offset as usize, bytes)?;
+        let count = len_of(bytes).saturating_add(u32::from(fault == Fault::More));
+        reply_frame(*self.file.allocator(), 119, tag, &count.to_le_bytes())
+    }
+
+    // Puts bytes into the file from a place on.
+    fn store(&mut self, start: usize, bytes: &[u8]) -> io::Result<()> {
         let end = start.saturating_add(bytes.len());
         self.file.resize(self.file.len().max(end), 0)?;
         for (place, byte) in self.file.iter_mut().skip(start).zip(bytes) {
             *place = *byte;
         }
-        let count = len_of(bytes).saturating_add(u32::from(fault == Fault::More));
-        reply_frame(*self.file.allocator(), 119, tag, &count.to_le_bytes())
+        Ok(())
     }
 
     // Adds a reply to the output. One that is late waits for the next one.

@@ -6,6 +6,7 @@ use p9_client::Session;
 use p9_guard::Guard;
 use p9_index::IndexTree;
 use p9_space::MountTable;
+use p9_tree::Tree;
 use p9_wire::{Frame, frame_of};
 use p9_world::{World, read_world};
 use std::alloc::{Allocator, Global};
@@ -44,38 +45,54 @@ impl Server for Served {
             return Ok(());
         };
         let size = size.min(input.len());
-        let Some(room) = self.guard.reply_max(SESSION) else {
-            return Ok(());
-        };
-        output.resize(room, 0)?;
-        let len = self
-            .guard
-            .answer(SESSION, &input[..size], 0, output.as_mut_slice());
+        reply(&mut self.guard, &input[..size], output)?;
         *input = input.split_off(size)?;
-        output.truncate(len);
         Ok(())
     }
 }
 
+// Makes the reply of a guard to a request.
+fn reply<T: Tree>(
+    guard: &mut Guard<T>,
+    request: &[u8],
+    output: &mut Vec<u8, Global>,
+) -> io::Result<()> {
+    let room = guard.reply_max(SESSION).unwrap_or(0);
+    output.resize(room, 0)?;
+    let len = guard.answer(SESSION, request, 0, output.as_mut_slice());
+    output.truncate(len);
+    Ok(())
+}
+
 /// A stream to a new guard of the world above.
 pub fn serve(rt: &impl Abort, alloc: Global) -> Answered<Served> {
-    let world: World<IndexTree<Global>> = read_world(alloc, WORLD).expect(rt, "a world");
-    let certificate = read_cert(alloc, CERTIFICATE).expect(rt, "a certificate");
-    let mut guard = Guard::new(world, MountTable::new(alloc), certificate)
-        .ok()
-        .expect(rt, "a guard");
+    let mut guard = guard_of(rt, alloc);
     assert!(rt; guard.open(SESSION).is_ok());
     Answered::new(alloc, Served { guard })
 }
 
+// A guard of the world above.
+fn guard_of(rt: &impl Abort, alloc: Global) -> Guard<IndexTree<Global>> {
+    let world: World<IndexTree<Global>> = read_world(alloc, WORLD).expect(rt, "a world");
+    let certificate = read_cert(alloc, CERTIFICATE).expect(rt, "a certificate");
+    Guard::new(world, MountTable::new(alloc), certificate)
+        .ok()
+        .expect(rt, "a guard")
+}
+
 /// A session over this stream, where glenda has attached fid 0.
-pub fn attach<A: Allocator + Copy>(
+pub fn attach<S: Server, A: Allocator + Copy>(
     rt: &impl Abort,
     alloc: A,
-    stream: Answered<Served>,
-) -> Session<Answered<Served>, A> {
+    stream: Answered<S>,
+) -> Session<Answered<S>, A> {
     let mut session = Session::new(alloc, stream, 8_192).expect(rt, "memory");
+    begin(rt, &mut session);
+    session
+}
+
+// Begins a session, and attaches fid 0.
+fn begin<S: Server, A: Allocator + Copy>(rt: &impl Abort, session: &mut Session<Answered<S>, A>) {
     assert!(rt; session.version().is_ok_and(|msize| msize == 8_192));
     assert!(rt; session.attach(0, "glenda", "").is_ok());
-    session
 }

@@ -1,6 +1,6 @@
 //! A session over a guard: each call once.
 
-use crate::client::answered::Answered;
+use crate::client::answered::{Answered, Server};
 use crate::client::kinds::{file_kind_of, kind_of};
 use crate::client::served::{Served, attach, serve};
 use p9_client::{ClientError, Entry, FileError, Session};
@@ -30,10 +30,10 @@ fn untouched<'a>() -> Stat<'a> {
 }
 
 /// The bytes of the file of a path.
-pub fn contents(
+pub fn contents<S: Server>(
     rt: &impl Abort,
     alloc: Global,
-    session: &mut Session<Answered<Served>, Global>,
+    session: &mut Session<Answered<S>, Global>,
     path: &[&str],
 ) -> Vec<u8> {
     assert!(rt; session.walk_path(0, 1, path).is_ok());
@@ -47,7 +47,7 @@ pub fn contents(
 }
 
 // Makes a file, and writes it.
-fn begins(rt: &impl Abort, session: &mut Session<Answered<Served>, Global>) {
+fn begins<S: Server>(rt: &impl Abort, session: &mut Session<Answered<S>, Global>) {
     assert!(rt; session.walk_path(0, 1, &["pub"]).is_ok());
     let made = session.create(1, "note", 0o644, 1);
     assert!(rt; made.is_ok());
@@ -56,7 +56,11 @@ fn begins(rt: &impl Abort, session: &mut Session<Answered<Served>, Global>) {
 }
 
 // Gives it another name.
-fn is_renamed(rt: &impl Abort, alloc: Global, session: &mut Session<Answered<Served>, Global>) {
+fn is_renamed<S: Server>(
+    rt: &impl Abort,
+    alloc: Global,
+    session: &mut Session<Answered<S>, Global>,
+) {
     assert!(rt; session.walk_path(0, 1, &["pub", "note"]).is_ok());
     let mut stat = untouched();
     stat.name = "other";
@@ -76,7 +80,7 @@ fn is_not_walked(walked: &Result<(), FileError>) -> bool {
 }
 
 // Removes it.
-fn ends(rt: &impl Abort, session: &mut Session<Answered<Served>, Global>) {
+fn ends<S: Server>(rt: &impl Abort, session: &mut Session<Answered<S>, Global>) {
     assert!(rt; session.walk_path(0, 1, &["pub", "other"]).is_ok());
     assert!(rt; session.remove(1).is_ok());
     let gone = session.walk_path(0, 1, &["pub", "other"]);
@@ -85,7 +89,7 @@ fn ends(rt: &impl Abort, session: &mut Session<Answered<Served>, Global>) {
 }
 
 // A file's life.
-fn lives(rt: &impl Abort, alloc: Global, session: &mut Session<Answered<Served>, Global>) {
+fn lives<S: Server>(rt: &impl Abort, alloc: Global, session: &mut Session<Answered<S>, Global>) {
     begins(rt, session);
     is_renamed(rt, alloc, session);
     let note = contents(rt, alloc, session, &["pub", "other"]);
@@ -108,7 +112,7 @@ fn a_file_lives(rt: HostRuntime) {
 }
 
 // A directory that only sys may read is walked to and not opened.
-fn is_refused(rt: &impl Abort, session: &mut Session<Answered<Served>, Global>) {
+fn is_refused<S: Server>(rt: &impl Abort, session: &mut Session<Answered<S>, Global>) {
     assert!(rt; session.walk_path(0, 1, &["shut"]).is_ok());
     let is_denied = match session.open(1, 0) {
         Err(ClientError::Refused(reason)) => reason.as_str() == "permission denied",
@@ -127,13 +131,24 @@ fn a_refusal_has_the_servers_text(rt: HostRuntime) {
 
 #[test]
 fn a_directory_is_listed(rt: HostRuntime) {
-    let alloc = rt.alloc();
-    let mut session = attach_with(&rt, alloc, usize::MAX);
-    is_listed(&rt, entries(&rt, alloc, &mut session, &["pub"]).as_slice());
+    is_listed(
+        &rt,
+        rt.alloc(),
+        &mut attach_with(&rt, rt.alloc(), usize::MAX),
+    );
 }
 
-// The entries of the directory that all may write.
-fn is_listed(rt: &impl Abort, entries: &[Entry<Global>]) {
+// The directory that all may write has its entries.
+fn is_listed<S: Server>(
+    rt: &impl Abort,
+    alloc: Global,
+    session: &mut Session<Answered<S>, Global>,
+) {
+    are_hello_and_sub(rt, entries(rt, alloc, session, &["pub"]).as_slice());
+}
+
+// A file `hello` and a directory `sub`.
+fn are_hello_and_sub(rt: &impl Abort, entries: &[Entry<Global>]) {
     let [hello, sub] = entries else {
         panic!(rt; "two entries");
     };
@@ -142,10 +157,10 @@ fn is_listed(rt: &impl Abort, entries: &[Entry<Global>]) {
 }
 
 /// The entries of the directory of a path.
-pub fn entries(
+pub fn entries<S: Server>(
     rt: &impl Abort,
     alloc: Global,
-    session: &mut Session<Answered<Served>, Global>,
+    session: &mut Session<Answered<S>, Global>,
     path: &[&str],
 ) -> Vec<Entry<Global>> {
     assert!(rt; session.walk_path(0, 1, path).is_ok());

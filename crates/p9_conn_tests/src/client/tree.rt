@@ -1,7 +1,7 @@
 //! A tree of files that is put to a server and got back.
 
-use crate::client::answered::Answered;
-use crate::client::served::{Served, attach, serve};
+use crate::client::answered::{Answered, Server};
+use crate::client::served::{attach, serve};
 use crate::client::sessions::{contents, entries};
 use p9_base::DMDIR;
 use p9_client::{Entry, Session};
@@ -23,17 +23,17 @@ fn bytes_of(rt: &impl Abort, alloc: Global, number: u32) -> Vec<u8> {
 }
 
 // Makes a directory.
-fn make_dir(rt: &impl Abort, session: &mut Session<Answered<Served>, Global>, dir: &str) {
+fn make_dir<S: Server>(rt: &impl Abort, session: &mut Session<Answered<S>, Global>, dir: &str) {
     assert!(rt; session.walk_path(0, 1, &["pub"]).is_ok());
     assert!(rt; session.create(1, dir, DMDIR | 0o755, 0).is_ok());
     assert!(rt; session.clunk(1).is_ok());
 }
 
 // Makes the file of a number, and writes its bytes.
-fn put(
+fn put<S: Server>(
     rt: &impl Abort,
     alloc: Global,
-    session: &mut Session<Answered<Served>, Global>,
+    session: &mut Session<Answered<S>, Global>,
     number: u32,
 ) {
     let dir = DIRS[number as usize % DIRS.len()];
@@ -46,10 +46,10 @@ fn put(
 }
 
 // Gets the file of an entry, whose name is its number, and compares its bytes.
-fn get(
+fn get<S: Server>(
     rt: &impl Abort,
     alloc: Global,
-    session: &mut Session<Answered<Served>, Global>,
+    session: &mut Session<Answered<S>, Global>,
     dir: &str,
     entry: &Entry<Global>,
 ) {
@@ -62,7 +62,7 @@ fn get(
 }
 
 // Makes the directories, and puts all files.
-fn put_all(rt: &impl Abort, alloc: Global, session: &mut Session<Answered<Served>, Global>) {
+fn put_all<S: Server>(rt: &impl Abort, alloc: Global, session: &mut Session<Answered<S>, Global>) {
     for dir in DIRS {
         make_dir(rt, session, dir);
     }
@@ -72,10 +72,10 @@ fn put_all(rt: &impl Abort, alloc: Global, session: &mut Session<Answered<Served
 }
 
 // Gets all files of a directory. Returns how many these are.
-fn get_all(
+fn get_all<S: Server>(
     rt: &impl Abort,
     alloc: Global,
-    session: &mut Session<Answered<Served>, Global>,
+    session: &mut Session<Answered<S>, Global>,
     dir: &str,
 ) -> usize {
     let entries = entries(rt, alloc, session, &["pub", dir]);
@@ -86,7 +86,11 @@ fn get_all(
 }
 
 // Gets the files of all directories.
-fn is_got_back(rt: &impl Abort, alloc: Global, session: &mut Session<Answered<Served>, Global>) {
+fn is_got_back<S: Server>(
+    rt: &impl Abort,
+    alloc: Global,
+    session: &mut Session<Answered<S>, Global>,
+) {
     let mut got = 0usize;
     for dir in DIRS {
         got = got.saturating_add(get_all(rt, alloc, session, dir));
@@ -96,7 +100,12 @@ fn is_got_back(rt: &impl Abort, alloc: Global, session: &mut Session<Answered<Se
 
 #[test]
 fn a_tree_is_put_and_got_back(rt: HostRuntime) {
-    let mut session = attach(&rt, rt.alloc(), serve(&rt, rt.alloc()));
-    put_all(&rt, rt.alloc(), &mut session);
-    is_got_back(&rt, rt.alloc(), &mut session);
+    is_put_and_got_back(&rt, rt.alloc(), serve(&rt, rt.alloc()));
+}
+
+// Puts a tree over this stream, and gets it back.
+fn is_put_and_got_back<S: Server>(rt: &impl Abort, alloc: Global, stream: Answered<S>) {
+    let mut session = attach(rt, alloc, stream);
+    put_all(rt, alloc, &mut session);
+    is_got_back(rt, alloc, &mut session);
 }
