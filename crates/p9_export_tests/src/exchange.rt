@@ -16,19 +16,20 @@ pub fn room(rt: &impl Abort, alloc: Global) -> Vec<u8, Global> {
     room.expect(rt, "memory")
 }
 
-/// Sends a frame, and returns the length of the reply. The reply has room for the longest one.
-pub fn send<T: Tree>(
+/// Sends a frame, and returns the reply, for whose longest one there is room.
+pub fn send<'a, T: Tree>(
     rt: &impl Abort,
     export: &mut Export<T>,
     session: u32,
     now: u32,
     frame: &[u8],
-    reply: &mut [u8],
-) -> usize {
+    room: &'a mut [u8],
+) -> &'a [u8] {
     assert!(rt; is_frame(frame));
-    let room = export.reply_max(session).expect(rt, "a session");
-    assert!(rt; reply.len() >= room);
-    export.message(session, frame, now, reply)
+    let longest = export.reply_max(session).expect(rt, "a session");
+    assert!(rt; room.len() >= longest);
+    let size = export.message(session, frame, now, room);
+    room.get(..size).expect(rt, "a reply")
 }
 
 /// Sends a request, and compares the reply.
@@ -42,8 +43,8 @@ pub fn exchange<T: Tree>(
 ) {
     let (session, request, wanted) = exchange;
     let frame = bytes_of(alloc, request).expect(rt, "hexadecimal digits");
-    let size = send(rt, export, session, now, frame.as_slice(), reply);
-    is_reply(rt, alloc, reply.get(..size).expect(rt, "bytes"), wanted);
+    let answered = send(rt, export, session, now, frame.as_slice(), reply);
+    is_reply(rt, alloc, answered, wanted);
 }
 
 /// Sends requests, and compares the replies.
@@ -66,18 +67,18 @@ pub fn is_reply(rt: &impl Abort, alloc: Global, reply: &[u8], wanted: &str) {
     assert!(rt; reply == wanted.as_slice());
 }
 
-/// Reads a fid of session 1, and returns the length of the reply.
-pub fn read_at<T: Tree>(
+/// Reads a fid of session 1, and returns the reply.
+pub fn read_at<'a, T: Tree>(
     rt: &impl Abort,
     export: &mut Export<T>,
     fid: u8,
     offset: u32,
     count: u32,
-    reply: &mut [u8],
-) -> usize {
+    room: &'a mut [u8],
+) -> &'a [u8] {
     let mut frame = [0u8; 23];
     frame[..8].copy_from_slice(&[23, 0, 0, 0, 116, 1, 0, fid]);
     frame[11..15].copy_from_slice(&offset.to_le_bytes());
     frame[19..].copy_from_slice(&count.to_le_bytes());
-    send(rt, export, 1, 0, &frame, reply)
+    send(rt, export, 1, 0, &frame, room)
 }

@@ -1,18 +1,94 @@
-//! A wstat that makes a file longer, with each request for memory refused in turn: it changes all
-//! that it asks for, or nothing.
+//! Files that grow, with each request for memory refused in turn: a request that makes a file longer
+//! changes all that it asks for, or nothing.
 
-use crate::again::is_answered;
+use crate::again::{grow_refused, is_answered};
 use crate::exchange::{Exchange, exchange, exchange_all, room};
-use crate::worlds::{SMALL, begin, exporter};
+use crate::worlds::{SMALL, exporter};
 use p9_export::Export;
-use p9_index::IndexTree;
-use p9_testing::{Refusing, refuse_each};
-use p9_tree::{PlainTree, Tree};
+use p9_tree::Tree;
 use std::alloc::Global;
 use std::process::Abort;
 
-// Fid 1 is /a, and fid 2 its file.
-const WALKS: [Exchange; 2] = [
+/// What makes a file of the sample world longer.
+#[derive(Clone, Copy)]
+pub struct Growth<'a> {
+    /// The requests of session 1 before memory is refused.
+    pub ready: &'a [Exchange],
+    /// The reading of the clock after them.
+    pub now: u32,
+    /// Requests that need no memory, which come first.
+    pub first: &'a [Exchange],
+    pub steps: &'a [Step<'a>],
+}
+
+/// A request that makes the file longer, and what shows how the file is before it and after it.
+#[derive(Clone, Copy)]
+pub struct Step<'a> {
+    pub before: &'a [Exchange],
+    pub grows: Exchange,
+    pub after: &'a [Exchange],
+}
+
+/// The sample world with session 1.
+pub fn before_growth<T: Tree>(
+    rt: &impl Abort,
+    alloc: Global,
+    memory: T::Alloc,
+    growth: Growth<'_>,
+) -> Export<T> {
+    let mut export = exporter(rt, memory, SMALL, &[]);
+    get_ready(rt, alloc, &mut export, growth.ready);
+    export
+}
+
+fn get_ready<T: Tree>(rt: &impl Abort, alloc: Global, export: &mut Export<T>, ready: &[Exchange]) {
+    let mut room = room(rt, alloc);
+    assert!(rt; export.open(1) == Ok(()));
+    exchange_all(rt, alloc, export, 0, ready, room.as_mut_slice());
+}
+
+/// Makes the file longer at each step.
+pub fn grow_all<T: Tree>(
+    rt: &impl Abort,
+    alloc: Global,
+    export: &mut Export<T>,
+    growth: Growth<'_>,
+    reply: &mut [u8],
+) {
+    exchange_all(rt, alloc, export, growth.now, growth.first, reply);
+    for step in growth.steps {
+        grow_again(rt, alloc, export, growth.now, *step, reply);
+    }
+}
+
+// Sends a request, and again where an allocation failed: all is then as before.
+fn grow_again<T: Tree>(
+    rt: &impl Abort,
+    alloc: Global,
+    export: &mut Export<T>,
+    now: u32,
+    step: Step<'_>,
+    reply: &mut [u8],
+) {
+    if !is_answered(rt, alloc, export, now, step.grows, reply) {
+        exchange_all(rt, alloc, export, now, step.before, reply);
+        exchange(rt, alloc, export, now, step.grows, reply);
+    }
+    exchange_all(rt, alloc, export, now, step.after, reply);
+}
+
+// Glenda's session 1. Fid 1 is /a, and fid 2 its file.
+const READY: [Exchange; 4] = [
+    (
+        1,
+        "13000000 64 ffff 00200000 0600 395032303030",
+        "13000000 65 ffff 00200000 0600 395032303030",
+    ),
+    (
+        1,
+        "19000000 68 0100 00000000 ffffffff 0600 676c656e6461 0000",
+        "14000000 69 0100 80 00000000 0000000000000000",
+    ),
     (
         1,
         "14000000 6e 0200 00000000 01000000 0100 0100 61",
@@ -106,53 +182,25 @@ const TWICE: [Exchange; 2] = [
     ),
 ];
 
-fn ready<T: Tree>(rt: &impl Abort, alloc: Global, memory: T::Alloc) -> Export<T> {
-    let mut export = exporter(rt, memory, SMALL, &[]);
-    let mut room = room(rt, alloc);
-    let reply = room.as_mut_slice();
-    begin(rt, alloc, &mut export, 1, reply);
-    exchange_all(rt, alloc, &mut export, 0, &WALKS, reply);
-    export
-}
-
-// Sends a wstat, and again where an allocation failed: all is then as before.
-fn grow_again<T: Tree>(
-    rt: &impl Abort,
-    alloc: Global,
-    export: &mut Export<T>,
-    wstat: Exchange,
-    before: &[Exchange],
-    after: &[Exchange],
-    reply: &mut [u8],
-) {
-    if !is_answered(rt, alloc, export, 7, wstat, reply) {
-        exchange_all(rt, alloc, export, 7, before, reply);
-        exchange(rt, alloc, export, 7, wstat, reply);
-    }
-    exchange_all(rt, alloc, export, 7, after, reply);
-}
-
-fn grow_twice<T: Tree>(rt: &impl Abort, alloc: Global, export: &mut Export<T>) {
-    let mut room = room(rt, alloc);
-    let reply = room.as_mut_slice();
-    exchange_all(rt, alloc, export, 7, &REFUSED, reply);
-    grow_again(rt, alloc, export, FIRST, &AT_FIRST, &ONCE, reply);
-    grow_again(rt, alloc, export, SECOND, &ONCE, &TWICE, reply);
-}
-
-// Each growth asks for memory once, and nothing else does.
-fn grows<T: Tree>(rt: &impl Abort, alloc: Global, memory: &Refusing<Global>, lent: T::Alloc) {
-    let refusals = refuse_each(
-        memory,
-        || ready::<T>(rt, alloc, lent),
-        |mut export| grow_twice(rt, alloc, &mut export),
-    );
-    assert!(rt; refusals == 2);
-}
-
+// A wstat that makes a file longer asks for memory once, at each of two times.
 #[test]
 fn a_growth_is_done_again_at_each_refusal(rt: HostRuntime) {
-    let memory = Refusing::new(rt.alloc());
-    grows::<PlainTree<&Refusing<Global>>>(&rt, rt.alloc(), &memory, &memory);
-    grows::<IndexTree<&Refusing<Global>>>(&rt, rt.alloc(), &memory, &memory);
+    let growth = Growth {
+        ready: &READY,
+        now: 7,
+        first: &REFUSED,
+        steps: &[
+            Step {
+                before: &AT_FIRST,
+                grows: FIRST,
+                after: &ONCE,
+            },
+            Step {
+                before: &ONCE,
+                grows: SECOND,
+                after: &TWICE,
+            },
+        ],
+    };
+    grow_refused(&rt, rt.alloc(), growth);
 }

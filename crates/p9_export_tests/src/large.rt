@@ -1,12 +1,12 @@
 //! Messages and files of the greatest length.
 
-use crate::again::is_answered;
-use crate::exchange::{Exchange, exchange, exchange_all, is_reply, read_at, room, send};
-use crate::worlds::{SMALL, exporter};
+use crate::again::grow_refused;
+use crate::both::{Work, on_both};
+use crate::exchange::{Exchange, exchange_all, is_reply, read_at, send};
+use crate::growth::{Growth, Step};
+use crate::worlds::SMALL;
 use p9_export::Export;
-use p9_index::IndexTree;
-use p9_testing::{Refusing, refuse_each};
-use p9_tree::{FILE_MAX, PlainTree, Tree};
+use p9_tree::{FILE_MAX, Tree};
 use std::alloc::Global;
 use std::process::Abort;
 
@@ -35,12 +35,9 @@ const BEGINNING: [Exchange; 4] = [
     ),
 ];
 
-// The sample world with session 1.
-fn ready<T: Tree>(rt: &impl Abort, alloc: Global, memory: T::Alloc, reply: &mut [u8]) -> Export<T> {
-    let mut export = exporter(rt, memory, SMALL, &[]);
+fn begin_large<T: Tree>(rt: &impl Abort, alloc: Global, export: &mut Export<T>, reply: &mut [u8]) {
     assert!(rt; export.open(1) == Ok(()));
-    exchange_all(rt, alloc, &mut export, 0, &BEGINNING, reply);
-    export
+    exchange_all(rt, alloc, export, 0, &BEGINNING, reply);
 }
 
 // Bytes that differ from their neighbours.
@@ -52,46 +49,62 @@ fn data_of(rt: &impl Abort, alloc: Global, count: usize) -> Vec<u8, Global> {
 // A write of these bytes at the beginning of fid 1.
 fn write_of(rt: &impl Abort, alloc: Global, data: &[u8]) -> Vec<u8, Global> {
     let count = u32::try_from(data.len()).expect(rt, "a count");
+    let mut header = [0u8; 23];
+    header[..4].copy_from_slice(&count.saturating_add(23).to_le_bytes());
+    header[4..8].copy_from_slice(&[118, 1, 0, 1]);
+    header[19..].copy_from_slice(&count.to_le_bytes());
     let mut frame = Vec::new(alloc);
-    let size = count.saturating_add(23).to_le_bytes();
-    assert!(rt; frame.extend_from_slice(&size).is_ok());
-    let fields = [118, 1, 0, 1, 0, 0, 0, 0, 0, 0, 0, 0, 0, 0, 0];
-    assert!(rt; frame.extend_from_slice(&fields).is_ok());
-    assert!(rt; frame.extend_from_slice(&count.to_le_bytes()).is_ok());
+    assert!(rt; frame.extend_from_slice(&header).is_ok());
     assert!(rt; frame.extend_from_slice(data).is_ok());
     frame
 }
 
-// Whether a reply to a read, of so many bytes, has these data.
-fn gives(reply: &[u8], size: usize, data: &[u8]) -> bool {
-    reply.get(11..size) == Some(data)
+// A frame of 1,048,576 bytes writes 1,048,553.
+fn writes<T: Tree>(
+    rt: &impl Abort,
+    alloc: Global,
+    export: &mut Export<T>,
+    data: &[u8],
+    reply: &mut [u8],
+) {
+    let frame = write_of(rt, alloc, data);
+    assert!(rt; frame.len() == 1_048_576);
+    let written = send(rt, export, 1, 0, frame.as_slice(), reply);
+    is_reply(rt, alloc, written, "0b000000 77 0100 e9ff0f00");
 }
 
-// A frame of 1,048,576 bytes writes 1,048,553, of which a read gives all but one.
-fn reads_back<T: Tree<Alloc = Global>>(rt: &impl Abort, alloc: Global) {
-    let mut room = room(rt, alloc);
-    let reply = room.as_mut_slice();
-    let mut export = ready::<T>(rt, alloc, alloc, reply);
-    let data = data_of(rt, alloc, 1_048_553);
-    let frame = write_of(rt, alloc, data.as_slice());
-    assert!(rt; frame.len() == 1_048_576);
+// A read gives all of these bytes but one, and another read gives the last one.
+fn reads<T: Tree>(
+    rt: &impl Abort,
+    alloc: Global,
+    export: &mut Export<T>,
+    data: &[u8],
+    reply: &mut [u8],
+) {
     assert!(rt; data.len() == 1_048_553);
-    let size = send(rt, &mut export, 1, 0, frame.as_slice(), reply);
-    let written = reply.get(..size).expect(rt, "a reply");
-    is_reply(rt, alloc, written, "0b000000 77 0100 e9ff0f00");
-    let size = read_at(rt, &mut export, 1, 0, u32::MAX, reply);
-    assert!(rt; size == 11 + 1_048_552);
-    let (front, _) = data.as_slice().split_at(1_048_552);
-    assert!(rt; gives(reply, size, front));
-    let size = read_at(rt, &mut export, 1, 1_048_552, u32::MAX, reply);
-    let last = reply.get(..size).expect(rt, "a reply");
+    let front = read_at(rt, export, 1, 0, u32::MAX, reply);
+    assert!(rt; front.len() == 11 + 1_048_552);
+    assert!(rt; front.get(11..) == data.get(..1_048_552));
+    let last = read_at(rt, export, 1, 1_048_552, u32::MAX, reply);
     is_reply(rt, alloc, last, "0c000000 75 0100 01000000 7d");
+}
+
+/// The longest frame writes more than a read gives.
+pub fn reads_back<T: Tree>(
+    rt: &impl Abort,
+    alloc: Global,
+    export: &mut Export<T>,
+    reply: &mut [u8],
+) {
+    begin_large(rt, alloc, export, reply);
+    let data = data_of(rt, alloc, 1_048_553);
+    writes(rt, alloc, export, data.as_slice(), reply);
+    reads(rt, alloc, export, data.as_slice(), reply);
 }
 
 #[test]
 fn the_greatest_write_is_read_back(rt: HostRuntime) {
-    reads_back::<PlainTree<Global>>(&rt, rt.alloc());
-    reads_back::<IndexTree<Global>>(&rt, rt.alloc());
+    on_both(&rt, rt.alloc(), SMALL, &[], Work::GreatestWrite);
 }
 
 // Three files, which are 2, 3 and 4.
@@ -265,21 +278,23 @@ const ALL_GREATEST: [Exchange; 15] = [
     ),
 ];
 
-fn makes_several<T: Tree<Alloc = Global>>(rt: &impl Abort, alloc: Global) {
-    let mut room = room(rt, alloc);
-    let reply = room.as_mut_slice();
-    let mut export = exporter::<T>(rt, alloc, THREE, &[]);
+/// Three sessions make the three files as long as they may be.
+pub fn makes_several<T: Tree>(
+    rt: &impl Abort,
+    alloc: Global,
+    export: &mut Export<T>,
+    reply: &mut [u8],
+) {
     for session in 1..=3 {
         assert!(rt; export.open(session) == Ok(()));
     }
-    exchange_all(rt, alloc, &mut export, 0, &GREATEST, reply);
-    exchange_all(rt, alloc, &mut export, 0, &ALL_GREATEST, reply);
+    exchange_all(rt, alloc, export, 0, &GREATEST, reply);
+    exchange_all(rt, alloc, export, 0, &ALL_GREATEST, reply);
 }
 
 #[test]
 fn several_files_have_the_greatest_length(rt: HostRuntime) {
-    makes_several::<PlainTree<Global>>(&rt, rt.alloc());
-    makes_several::<IndexTree<Global>>(&rt, rt.alloc());
+    on_both(&rt, rt.alloc(), THREE, &[], Work::GreatestFiles);
 }
 
 // The last byte that the file may have.
@@ -289,31 +304,45 @@ const LAST_BYTE: [Exchange; 1] = [(
     "0b000000 77 0400 01000000",
 )];
 
+// Reads so many bytes of fid 1, which are 0.
+fn are_zero<T: Tree>(
+    rt: &impl Abort,
+    export: &mut Export<T>,
+    offset: u32,
+    count: u32,
+    reply: &mut [u8],
+) {
+    let answered = read_at(rt, export, 1, offset, count, reply);
+    let data = answered.get(11..).expect(rt, "data");
+    assert!(rt; data.len() == count as usize);
+    assert!(rt; data.iter().all(|byte| *byte == 0));
+}
+
 // Reads fid 1 from offset 2 up to its last byte: all is 0.
 fn zeros_between<T: Tree>(rt: &impl Abort, export: &mut Export<T>, reply: &mut [u8]) {
     let end = (FILE_MAX - 1) as u32;
     for step in 0..17u32 {
         let offset = 2 + step * 1_048_552;
         let count = end.saturating_sub(offset).min(1_048_552);
-        let size = read_at(rt, export, 1, offset, count, reply);
-        assert!(rt; size == 11 + count as usize);
-        let data = reply.get(11..size).expect(rt, "data");
-        assert!(rt; data.iter().all(|byte| *byte == 0));
+        are_zero(rt, export, offset, count, reply);
     }
 }
 
-fn fills_a_gap<T: Tree<Alloc = Global>>(rt: &impl Abort, alloc: Global) {
-    let mut room = room(rt, alloc);
-    let reply = room.as_mut_slice();
-    let mut export = ready::<T>(rt, alloc, alloc, reply);
-    exchange_all(rt, alloc, &mut export, 0, &LAST_BYTE, reply);
-    zeros_between(rt, &mut export, reply);
+/// The file's last byte is written, and the bytes before it are read.
+pub fn fills_a_gap<T: Tree>(
+    rt: &impl Abort,
+    alloc: Global,
+    export: &mut Export<T>,
+    reply: &mut [u8],
+) {
+    begin_large(rt, alloc, export, reply);
+    exchange_all(rt, alloc, export, 0, &LAST_BYTE, reply);
+    zeros_between(rt, export, reply);
 }
 
 #[test]
 fn a_gap_is_filled_with_zeros(rt: HostRuntime) {
-    fills_a_gap::<PlainTree<Global>>(&rt, rt.alloc());
-    fills_a_gap::<IndexTree<Global>>(&rt, rt.alloc());
+    on_both(&rt, rt.alloc(), SMALL, &[], Work::Gap);
 }
 
 // The file at first: its stat, and its bytes.
@@ -328,51 +357,6 @@ const AT_FIRST: [Exchange; 2] = [
         1,
         "17000000 74 0600 01000000 0000000000000000 64000000",
         "0d000000 75 0600 02000000 6869",
-    ),
-];
-
-// The file of half the greatest length.
-const GROWN: [Exchange; 3] = [
-    (
-        1,
-        "0b000000 7c 0700 01000000",
-        "4d000000 7d 0700 4400 4200 0000 00000000 00 01000000 0300000000000000 a4010000 00000000 \
-        00000000 0000800000000000 0100 66 0600 676c656e6461 0600 676c656e6461 0600 676c656e6461",
-    ),
-    (
-        1,
-        "17000000 74 0800 01000000 0000000000000000 03000000",
-        "0e000000 75 0800 03000000 686900",
-    ),
-    (
-        1,
-        "17000000 74 0900 01000000 feff7f0000000000 64000000",
-        "0d000000 75 0900 02000000 0078",
-    ),
-];
-
-// The file of the greatest length.
-const GROWN_AGAIN: [Exchange; 4] = [
-    (
-        1,
-        "0b000000 7c 0a00 01000000",
-        "4d000000 7d 0a00 4400 4200 0000 00000000 00 02000000 0300000000000000 a4010000 00000000 \
-        00000000 0000000100000000 0100 66 0600 676c656e6461 0600 676c656e6461 0600 676c656e6461",
-    ),
-    (
-        1,
-        "17000000 74 0b00 01000000 0000000000000000 03000000",
-        "0e000000 75 0b00 03000000 686900",
-    ),
-    (
-        1,
-        "17000000 74 0c00 01000000 feff7f0000000000 04000000",
-        "0f000000 75 0c00 04000000 00780000",
-    ),
-    (
-        1,
-        "17000000 74 0d00 01000000 feffff0000000000 64000000",
-        "0d000000 75 0d00 02000000 0000",
     ),
 ];
 
@@ -399,45 +383,72 @@ const TOO_LONG: Exchange = (
     "17000000 6b 0400 0e00 66696c6520746f6f206c61726765",
 );
 
-// Grows the file, and again where an allocation failed: all is then as before.
-fn grow_again<T: Tree>(
-    rt: &impl Abort,
-    alloc: Global,
-    export: &mut Export<T>,
-    growth: Exchange,
-    before: &[Exchange],
-    after: &[Exchange],
-    reply: &mut [u8],
-) {
-    if !is_answered(rt, alloc, export, 0, growth, reply) {
-        exchange_all(rt, alloc, export, 0, before, reply);
-        exchange(rt, alloc, export, 0, growth, reply);
-    }
-    exchange_all(rt, alloc, export, 0, after, reply);
-}
+// The file of half the greatest length, and what is too long for it.
+const GROWN: [Exchange; 4] = [
+    (
+        1,
+        "0b000000 7c 0700 01000000",
+        "4d000000 7d 0700 4400 4200 0000 00000000 00 01000000 0300000000000000 a4010000 00000000 \
+        00000000 0000800000000000 0100 66 0600 676c656e6461 0600 676c656e6461 0600 676c656e6461",
+    ),
+    (
+        1,
+        "17000000 74 0800 01000000 0000000000000000 03000000",
+        "0e000000 75 0800 03000000 686900",
+    ),
+    (
+        1,
+        "17000000 74 0900 01000000 feff7f0000000000 64000000",
+        "0d000000 75 0900 02000000 0078",
+    ),
+    TOO_LONG,
+];
 
-fn grow_twice<T: Tree>(rt: &impl Abort, alloc: Global, export: &mut Export<T>) {
-    let mut room = room(rt, alloc);
-    let reply = room.as_mut_slice();
-    grow_again(rt, alloc, export, WRITE, &AT_FIRST, &GROWN, reply);
-    exchange(rt, alloc, export, 0, TOO_LONG, reply);
-    grow_again(rt, alloc, export, WSTAT, &GROWN, &GROWN_AGAIN, reply);
-    exchange(rt, alloc, export, 0, TOO_LONG, reply);
-}
+// The file of the greatest length, and what is too long for it.
+const GROWN_AGAIN: [Exchange; 5] = [
+    (
+        1,
+        "0b000000 7c 0a00 01000000",
+        "4d000000 7d 0a00 4400 4200 0000 00000000 00 02000000 0300000000000000 a4010000 00000000 \
+        00000000 0000000100000000 0100 66 0600 676c656e6461 0600 676c656e6461 0600 676c656e6461",
+    ),
+    (
+        1,
+        "17000000 74 0b00 01000000 0000000000000000 03000000",
+        "0e000000 75 0b00 03000000 686900",
+    ),
+    (
+        1,
+        "17000000 74 0c00 01000000 feff7f0000000000 04000000",
+        "0f000000 75 0c00 04000000 00780000",
+    ),
+    (
+        1,
+        "17000000 74 0d00 01000000 feffff0000000000 64000000",
+        "0d000000 75 0d00 02000000 0000",
+    ),
+    TOO_LONG,
+];
 
 // Each growth asks for memory once, and nothing else does.
-fn grows<T: Tree>(rt: &impl Abort, alloc: Global, memory: &Refusing<Global>, lent: T::Alloc) {
-    let refusals = refuse_each(
-        memory,
-        || ready::<T>(rt, alloc, lent, room(rt, alloc).as_mut_slice()),
-        |mut export| grow_twice(rt, alloc, &mut export),
-    );
-    assert!(rt; refusals == 2);
-}
-
 #[test]
 fn a_large_file_grows_again_at_each_refusal(rt: HostRuntime) {
-    let memory = Refusing::new(rt.alloc());
-    grows::<PlainTree<&Refusing<Global>>>(&rt, rt.alloc(), &memory, &memory);
-    grows::<IndexTree<&Refusing<Global>>>(&rt, rt.alloc(), &memory, &memory);
+    let growth = Growth {
+        ready: &BEGINNING,
+        now: 0,
+        first: &[],
+        steps: &[
+            Step {
+                before: &AT_FIRST,
+                grows: WRITE,
+                after: &GROWN,
+            },
+            Step {
+                before: &GROWN,
+                grows: WSTAT,
+                after: &GROWN_AGAIN,
+            },
+        ],
+    };
+    grow_refused(&rt, rt.alloc(), growth);
 }

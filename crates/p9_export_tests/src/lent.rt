@@ -43,7 +43,19 @@ const VERSION: Work<'static> = Work {
         19000000 68 0100 00000000 ffffffff 0600 676c656e6461 0000",
 };
 
-// Sends requests of session 1, which all succeed.
+// Sends a request of session 1, which succeeds.
+fn succeeds<T: Tree>(
+    rt: &impl Abort,
+    alloc: Global,
+    export: &mut Export<T>,
+    request: &str,
+    reply: &mut [u8],
+) {
+    let frame = bytes_of(alloc, request).expect(rt, "hexadecimal digits");
+    let answered = send(rt, export, 1, 0, frame.as_slice(), reply);
+    assert!(rt; is_answer(frame.as_slice(), answered), "{request}");
+}
+
 fn succeed<T: Tree>(
     rt: &impl Abort,
     alloc: Global,
@@ -52,10 +64,7 @@ fn succeed<T: Tree>(
     reply: &mut [u8],
 ) {
     for request in requests.lines() {
-        let frame = bytes_of(alloc, request).expect(rt, "hexadecimal digits");
-        let size = send(rt, export, 1, 0, frame.as_slice(), reply);
-        let reply = reply.get(..size).expect(rt, "a reply");
-        assert!(rt; is_answer(frame.as_slice(), reply), "{request}");
+        succeeds(rt, alloc, export, request, reply);
     }
 }
 
@@ -112,16 +121,26 @@ fn begin_and_close<T: Tree>(
     }
 }
 
+// Does all of this.
+fn work_all<T: Tree>(
+    rt: &impl Abort,
+    alloc: Global,
+    heap: &LocalHeap,
+    export: &mut Export<T>,
+    reply: &mut [u8],
+) {
+    begin(rt, alloc, export, 1, reply);
+    repeat(rt, alloc, heap, export, CLUNK, reply);
+    repeat(rt, alloc, heap, export, REMOVE, reply);
+    repeat(rt, alloc, heap, export, VERSION, reply);
+    begin_and_close(rt, alloc, heap, export, reply);
+}
+
 // Does all of this with an exporter, which is then dropped.
 fn serve<T: Tree>(rt: &impl Abort, alloc: Global, heap: &LocalHeap, lent: T::Alloc) {
     let mut room = room(rt, alloc);
-    let reply = room.as_mut_slice();
     let mut export = exporter::<T>(rt, lent, SMALL, &[]);
-    begin(rt, alloc, &mut export, 1, reply);
-    repeat(rt, alloc, heap, &mut export, CLUNK, reply);
-    repeat(rt, alloc, heap, &mut export, REMOVE, reply);
-    repeat(rt, alloc, heap, &mut export, VERSION, reply);
-    begin_and_close(rt, alloc, heap, &mut export, reply);
+    work_all(rt, alloc, heap, &mut export, room.as_mut_slice());
 }
 
 #[test]

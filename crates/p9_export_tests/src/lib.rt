@@ -6,6 +6,8 @@
 #[cfg(test)]
 mod again;
 #[cfg(test)]
+mod both;
+#[cfg(test)]
 mod directory;
 #[cfg(test)]
 mod exchange;

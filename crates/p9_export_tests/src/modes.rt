@@ -1,26 +1,34 @@
 //! Opens in each of the 256 modes.
 
+use crate::both::{Work, on_both_in};
 use crate::exchange::{Exchange, exchange, is_reply, room, send};
-use crate::worlds::begun;
-use p9_index::IndexTree;
-use p9_tree::{PlainTree, Tree};
+use crate::worlds::{SMALL, begin};
+use p9_export::Export;
+use p9_tree::Tree;
 use std::alloc::Global;
 use std::process::Abort;
 
-// Opens fid 1, where a walk took it, by a mode.
-fn open_by<T: Tree<Alloc = Global>>(
-    rt: &impl Abort,
-    alloc: Global,
+/// An open of fid 1, where a walk took it, by a mode, and the reply.
+#[derive(Clone, Copy)]
+pub struct Opening {
     walk: Exchange,
     mode: u8,
-    wanted: &str,
+    wanted: &'static str,
+}
+
+/// Opens fid 1 in session 1.
+pub fn opens<T: Tree>(
+    rt: &impl Abort,
+    alloc: Global,
+    export: &mut Export<T>,
+    opening: Opening,
     reply: &mut [u8],
 ) {
-    let mut export = begun::<T>(rt, alloc, reply);
-    exchange(rt, alloc, &mut export, 0, walk, reply);
-    let frame = [12, 0, 0, 0, 112, 2, 0, 1, 0, 0, 0, mode];
-    let size = send(rt, &mut export, 1, 0, &frame, reply);
-    is_reply(rt, alloc, reply.get(..size).expect(rt, "bytes"), wanted);
+    begin(rt, alloc, export, 1, reply);
+    exchange(rt, alloc, export, 0, opening.walk, reply);
+    let frame = [12, 0, 0, 0, 112, 2, 0, 1, 0, 0, 0, opening.mode];
+    let answered = send(rt, export, 1, 0, &frame, reply);
+    is_reply(rt, alloc, answered, opening.wanted);
 }
 
 // What glenda is answered for her file of mode 644.
@@ -47,40 +55,38 @@ fn of_dir(mode: u8) -> &'static str {
     }
 }
 
-fn opens_a_file<T: Tree<Alloc = Global>>(rt: &impl Abort, alloc: Global) {
-    let walk = (
-        1,
-        "17000000 6e 0700 00000000 01000000 0200 0100 61 0100 66",
-        "23000000 6f 0700 0200 80 00000000 0100000000000000 00 00000000 0300000000000000",
-    );
-    let mut room = room(rt, alloc);
-    let reply = room.as_mut_slice();
-    for mode in 0..=255u8 {
-        open_by::<T>(rt, alloc, walk, mode, of_file(mode), reply);
-    }
+const WALK_TO_FILE: Exchange = (
+    1,
+    "17000000 6e 0700 00000000 01000000 0200 0100 61 0100 66",
+    "23000000 6f 0700 0200 80 00000000 0100000000000000 00 00000000 0300000000000000",
+);
+
+const WALK_TO_DIR: Exchange = (
+    1,
+    "14000000 6e 0700 00000000 01000000 0100 0100 61",
+    "16000000 6f 0700 0100 80 00000000 0100000000000000",
+);
+
+// Opens the file and the directory by a mode, each with a new exporter.
+fn opens_by(rt: &impl Abort, alloc: Global, mode: u8, reply: &mut [u8]) {
+    let file = Opening {
+        walk: WALK_TO_FILE,
+        mode,
+        wanted: of_file(mode),
+    };
+    on_both_in(rt, alloc, SMALL, &[], Work::Opening(file), reply);
+    let directory = Opening {
+        walk: WALK_TO_DIR,
+        mode,
+        wanted: of_dir(mode),
+    };
+    on_both_in(rt, alloc, SMALL, &[], Work::Opening(directory), reply);
 }
 
 #[test]
-fn every_mode_of_a_file(rt: HostRuntime) {
-    opens_a_file::<PlainTree<Global>>(&rt, rt.alloc());
-    opens_a_file::<IndexTree<Global>>(&rt, rt.alloc());
-}
-
-fn opens_a_directory<T: Tree<Alloc = Global>>(rt: &impl Abort, alloc: Global) {
-    let walk = (
-        1,
-        "14000000 6e 0700 00000000 01000000 0100 0100 61",
-        "16000000 6f 0700 0100 80 00000000 0100000000000000",
-    );
-    let mut room = room(rt, alloc);
-    let reply = room.as_mut_slice();
+fn every_mode_of_a_file_and_of_a_directory(rt: HostRuntime) {
+    let mut room = room(&rt, rt.alloc());
     for mode in 0..=255u8 {
-        open_by::<T>(rt, alloc, walk, mode, of_dir(mode), reply);
+        opens_by(&rt, rt.alloc(), mode, room.as_mut_slice());
     }
-}
-
-#[test]
-fn every_mode_of_a_directory(rt: HostRuntime) {
-    opens_a_directory::<PlainTree<Global>>(&rt, rt.alloc());
-    opens_a_directory::<IndexTree<Global>>(&rt, rt.alloc());
 }

@@ -1,11 +1,11 @@
 //! Many files are made, each is given another name, and all are listed.
 
+use crate::both::{Work, on_both};
 use crate::directory::{clunk, list_on, make, name_of, push_entry, walk_to};
-use crate::exchange::{Exchange, exchange_all, room, send};
-use crate::worlds::{begin, exporter};
+use crate::exchange::{Exchange, exchange_all, send};
+use crate::worlds::begin;
 use p9_export::Export;
-use p9_index::IndexTree;
-use p9_tree::{PlainTree, Tree};
+use p9_tree::Tree;
 use std::alloc::Global;
 use std::process::Abort;
 
@@ -55,7 +55,7 @@ fn rename<T: Tree>(rt: &impl Abort, export: &mut Export<T>, number: u32, reply: 
         0, 0, 0,
     ];
     wstat[56..60].copy_from_slice(&new_name_of(number));
-    assert!(rt; send(rt, export, 1, 0, &wstat, reply) == 7);
+    assert!(rt; send(rt, export, 1, 0, &wstat, reply).len() == 7);
     clunk(rt, export, 1, reply);
 }
 
@@ -90,22 +90,23 @@ fn entries(rt: &impl Abort, alloc: Global) -> Vec<u8, Global> {
     entries
 }
 
-fn renames_all<T: Tree<Alloc = Global>>(rt: &impl Abort, alloc: Global) {
-    let mut room = room(rt, alloc);
-    let reply = room.as_mut_slice();
-    let mut export = exporter::<T>(rt, alloc, EMPTY, &[]);
-    begin(rt, alloc, &mut export, 1, reply);
-    make_all(rt, &mut export, reply);
-    rename_all(rt, &mut export, reply);
-    exchange_all(rt, alloc, &mut export, 0, &OPENING, reply);
-    let listing = listed(rt, alloc, &mut export, reply);
-    let wanted = entries(rt, alloc);
+/// Makes all files, gives each its new name, and lists them.
+pub fn renames_all<T: Tree>(
+    rt: &impl Abort,
+    alloc: Global,
+    export: &mut Export<T>,
+    reply: &mut [u8],
+) {
+    begin(rt, alloc, export, 1, reply);
+    make_all(rt, export, reply);
+    rename_all(rt, export, reply);
+    exchange_all(rt, alloc, export, 0, &OPENING, reply);
+    let listing = listed(rt, alloc, export, reply);
     assert!(rt; listing.len() == 71 * 5_000);
-    assert!(rt; listing.as_slice() == wanted.as_slice());
+    assert!(rt; listing.as_slice() == entries(rt, alloc).as_slice());
 }
 
 #[test]
 fn many_files_are_renamed_and_listed(rt: HostRuntime) {
-    renames_all::<PlainTree<Global>>(&rt, rt.alloc());
-    renames_all::<IndexTree<Global>>(&rt, rt.alloc());
+    on_both(&rt, rt.alloc(), EMPTY, &[], Work::NewNames);
 }

@@ -1,13 +1,13 @@
 //! Listings of unions, of which some members may not be read, some were removed and some are files.
 //! What is to be listed is computed here, from the kinds of the members alone.
 
+use crate::both::{Work, on_both};
 use crate::directory::{clunk, list_on, name_of, push_entry};
-use crate::exchange::{Exchange, exchange_all, is_reply, read_at, room, send};
-use crate::worlds::{Bind, VERSION, begin, exporter, in_session};
+use crate::exchange::{Exchange, exchange_all, is_reply, read_at, send};
+use crate::worlds::{Bind, VERSION, begin, in_session};
 use p9_export::Export;
-use p9_index::IndexTree;
 use p9_space::Order;
-use p9_tree::{PlainTree, Tree};
+use p9_tree::Tree;
 use std::alloc::{AllocError, Global};
 use std::process::Abort;
 
@@ -130,7 +130,7 @@ fn walk_to<T: Tree>(
     ];
     walk[11] = fid;
     walk[19..].copy_from_slice(&name_of(number));
-    assert!(rt; send(rt, export, session, 0, &walk, reply) == 22);
+    assert!(rt; send(rt, export, session, 0, &walk, reply).len() == 22);
 }
 
 // Session 2, which is the system's, takes its place from all others.
@@ -140,7 +140,7 @@ fn shut<T: Tree>(rt: &impl Abort, export: &mut Export<T>, place: u32, reply: &mu
     wstat[..15].copy_from_slice(&[62, 0, 0, 0, 126, 1, 0, 1, 0, 0, 0, 49, 0, 47, 0]);
     wstat[34..38].copy_from_slice(&[0xc9, 1, 0, 0x80]);
     wstat[54..].copy_from_slice(&[0; 8]);
-    assert!(rt; send(rt, export, 2, 0, &wstat, reply) == 7);
+    assert!(rt; send(rt, export, 2, 0, &wstat, reply).len() == 7);
     clunk(rt, export, 2, reply);
 }
 
@@ -150,7 +150,7 @@ fn remove_all<T: Tree>(rt: &impl Abort, export: &mut Export<T>, reply: &mut [u8]
     for member in 0..MEMBERS {
         if matches!(kind_of(member), Kind::Removed) {
             walk_to(rt, export, 2, 1, member_number(member), reply);
-            assert!(rt; send(rt, export, 2, 0, &remove, reply) == 7);
+            assert!(rt; send(rt, export, 2, 0, &remove, reply).len() == 7);
         }
     }
 }
@@ -161,22 +161,20 @@ const ATTACH_SYS: (&str, &str) = (
     "14000000 69 0100 80 00000000 0000000000000000",
 );
 
-// Glenda's session 1 and the system's session 2, which has removed what is to be removed.
-fn begun<T: Tree<Alloc = Global>>(
-    rt: &impl Abort,
-    alloc: Global,
-    places: u32,
-    reply: &mut [u8],
-) -> Export<T> {
-    let text = world(alloc, places).expect(rt, "memory");
-    let binds = binds(alloc, places).expect(rt, "memory");
-    let mut export = exporter::<T>(rt, alloc, text.as_str(), binds.as_slice());
-    begin(rt, alloc, &mut export, 1, reply);
+// Begins glenda's session 1 and the system's session 2, which removes what is to be removed.
+fn begin_both<T: Tree>(rt: &impl Abort, alloc: Global, export: &mut Export<T>, reply: &mut [u8]) {
+    begin(rt, alloc, export, 1, reply);
     assert!(rt; export.open(2) == Ok(()));
     let rows: [Exchange; 2] = [in_session(2, VERSION), in_session(2, ATTACH_SYS)];
-    exchange_all(rt, alloc, &mut export, 0, &rows, reply);
-    remove_all(rt, &mut export, reply);
-    export
+    exchange_all(rt, alloc, export, 0, &rows, reply);
+    remove_all(rt, export, reply);
+}
+
+// Does the work with an exporter of so many places.
+fn on_places(rt: &impl Abort, alloc: Global, places: u32, work: Work) {
+    let text = world(alloc, places).expect(rt, "memory");
+    let binds = binds(alloc, places).expect(rt, "memory");
+    on_both(rt, alloc, text.as_str(), binds.as_slice(), work);
 }
 
 // Adds the entry of a directory's file.
@@ -204,10 +202,25 @@ fn wanted(rt: &impl Abort, alloc: Global, place: u32) -> Vec<u8, Global> {
 fn open_place<T: Tree>(rt: &impl Abort, export: &mut Export<T>, place: u32, reply: &mut [u8]) {
     walk_to(rt, export, 1, 2, place_number(place), reply);
     let open = [12, 0, 0, 0, 112, 1, 0, 2, 0, 0, 0, 0];
-    assert!(rt; send(rt, export, 1, 0, &open, reply) == 24);
+    assert!(rt; send(rt, export, 1, 0, &open, reply).len() == 24);
     if place % 3 == 0 {
         shut(rt, export, place, reply);
     }
+}
+
+fn listed<T: Tree>(
+    rt: &impl Abort,
+    alloc: Global,
+    export: &mut Export<T>,
+    reply: &mut [u8],
+) -> Vec<u8, Global> {
+    let mut listing = Vec::new(alloc);
+    for _ in 0..BOUND {
+        if !list_on(rt, export, 200, &mut listing, reply) {
+            break;
+        }
+    }
+    listing
 }
 
 fn lists_place<T: Tree>(
@@ -218,30 +231,28 @@ fn lists_place<T: Tree>(
     reply: &mut [u8],
 ) {
     open_place(rt, export, place, reply);
-    let mut listing = Vec::new(alloc);
-    for _ in 0..BOUND {
-        if !list_on(rt, export, 200, &mut listing, reply) {
-            break;
-        }
-    }
+    let listing = listed(rt, alloc, export, reply);
     assert!(rt; listing.as_slice() == wanted(rt, alloc, place).as_slice());
-    let clunk = [11, 0, 0, 0, 120, 1, 0, 2, 0, 0, 0];
-    assert!(rt; send(rt, export, 1, 0, &clunk, reply) == 7);
 }
 
-fn lists_all<T: Tree<Alloc = Global>>(rt: &impl Abort, alloc: Global) {
-    let mut room = room(rt, alloc);
-    let reply = room.as_mut_slice();
-    let mut export = begun::<T>(rt, alloc, 300, reply);
+/// Lists each of 300 places.
+pub fn lists_places<T: Tree>(
+    rt: &impl Abort,
+    alloc: Global,
+    export: &mut Export<T>,
+    reply: &mut [u8],
+) {
+    begin_both(rt, alloc, export, reply);
+    let clunk = [11, 0, 0, 0, 120, 1, 0, 2, 0, 0, 0];
     for place in 0..300 {
-        lists_place(rt, alloc, &mut export, place, reply);
+        lists_place(rt, alloc, export, place, reply);
+        assert!(rt; send(rt, export, 1, 0, &clunk, reply).len() == 7);
     }
 }
 
 #[test]
 fn each_of_300_unions_is_listed(rt: HostRuntime) {
-    lists_all::<PlainTree<Global>>(&rt, rt.alloc());
-    lists_all::<IndexTree<Global>>(&rt, rt.alloc());
+    on_places(&rt, rt.alloc(), 300, Work::Unions);
 }
 
 // How many bytes the first entries have that fit into so many bytes. An entry begins with the size
@@ -274,8 +285,7 @@ fn reads_on<T: Tree>(
     let offset = u32::try_from(from).expect(rt, "an offset");
     let left = listing.get(from..).expect(rt, "entries");
     let more = fitting(left, count as usize);
-    let size = read_at(rt, export, 2, offset, count, reply);
-    let got = reply.get(..size).expect(rt, "bytes");
+    let got = read_at(rt, export, 2, offset, count, reply);
     if more > 0 {
         assert!(rt; got.get(11..) == left.get(..more));
     } else if left.is_empty() {
@@ -310,19 +320,22 @@ fn reads_all<T: Tree>(
     }
 }
 
-fn reads_at_each_count<T: Tree<Alloc = Global>>(rt: &impl Abort, alloc: Global) {
-    let mut room = room(rt, alloc);
-    let reply = room.as_mut_slice();
-    let mut export = begun::<T>(rt, alloc, 1, reply);
-    open_place(rt, &mut export, 0, reply);
+/// Reads a place by reads of each count of bytes.
+pub fn reads_at_each_count<T: Tree>(
+    rt: &impl Abort,
+    alloc: Global,
+    export: &mut Export<T>,
+    reply: &mut [u8],
+) {
+    begin_both(rt, alloc, export, reply);
+    open_place(rt, export, 0, reply);
     let listing = wanted(rt, alloc, 0);
     for count in 0..=200 {
-        reads_all(rt, alloc, &mut export, listing.as_slice(), count, reply);
+        reads_all(rt, alloc, export, listing.as_slice(), count, reply);
     }
 }
 
 #[test]
 fn a_union_is_read_at_each_count(rt: HostRuntime) {
-    reads_at_each_count::<PlainTree<Global>>(&rt, rt.alloc());
-    reads_at_each_count::<IndexTree<Global>>(&rt, rt.alloc());
+    on_places(&rt, rt.alloc(), 1, Work::UnionCounts);
 }

@@ -88,14 +88,3 @@ pub fn begin<T: Tree>(
 pub fn in_session(session: u32, row: (&'static str, &'static str)) -> Exchange {
     (session, row.0, row.1)
 }
-
-/// The sample world's exporter with session 1.
-pub fn begun<T: Tree<Alloc = Global>>(
-    rt: &impl Abort,
-    alloc: Global,
-    reply: &mut [u8],
-) -> Export<T> {
-    let mut export = exporter(rt, alloc, SMALL, &[]);
-    begin(rt, alloc, &mut export, 1, reply);
-    export
-}

@@ -1,0 +1,83 @@
+//! Work with an exporter, over both kinds of tree.
+
+use crate::exchange::room;
+use crate::fids::has_1024_fids;
+use crate::large::{fills_a_gap, makes_several, reads_back};
+use crate::many::lists_all;
+use crate::modes::{Opening, opens};
+use crate::renamed::renames_all;
+use crate::sessions::opens_and_closes;
+use crate::unions::{lists_places, reads_at_each_count};
+use crate::worlds::{Bind, exporter};
+use p9_export::Export;
+use p9_index::IndexTree;
+use p9_tree::{PlainTree, Tree};
+use std::alloc::Global;
+use std::process::Abort;
+
+/// What is done with an exporter that has no session yet.
+#[derive(Clone, Copy)]
+pub enum Work {
+    Sessions,
+    Fids,
+    Opening(Opening),
+    GreatestWrite,
+    GreatestFiles,
+    Gap,
+    ManyFiles,
+    NewNames,
+    Unions,
+    UnionCounts,
+}
+
+/// Does the work over each kind of tree, with an exporter of the world of a text and its binds.
+pub fn on_both(rt: &impl Abort, alloc: Global, text: &str, binds: &[Bind], work: Work) {
+    let mut room = room(rt, alloc);
+    on_both_in(rt, alloc, text, binds, work, room.as_mut_slice());
+}
+
+/// The same, where the replies are written over this room.
+pub fn on_both_in(
+    rt: &impl Abort,
+    alloc: Global,
+    text: &str,
+    binds: &[Bind],
+    work: Work,
+    reply: &mut [u8],
+) {
+    on_new::<PlainTree<Global>>(rt, alloc, text, binds, work, reply);
+    on_new::<IndexTree<Global>>(rt, alloc, text, binds, work, reply);
+}
+
+fn on_new<T: Tree<Alloc = Global>>(
+    rt: &impl Abort,
+    alloc: Global,
+    text: &str,
+    binds: &[Bind],
+    work: Work,
+    reply: &mut [u8],
+) {
+    let mut export = exporter::<T>(rt, alloc, text, binds);
+    on(rt, alloc, &mut export, work, reply);
+}
+
+fn on<T: Tree>(
+    rt: &impl Abort,
+    alloc: Global,
+    export: &mut Export<T>,
+    work: Work,
+    reply: &mut [u8],
+) {
+    match work {
+        Work::Sessions => opens_and_closes(rt, alloc, export, reply),
+        Work::Fids => has_1024_fids(rt, alloc, export, reply),
+        Work::Opening(opening) => opens(rt, alloc, export, opening, reply),
+        Work::GreatestWrite => reads_back(rt, alloc, export, reply),
+        Work::GreatestFiles => makes_several(rt, alloc, export, reply),
+        Work::Gap => fills_a_gap(rt, alloc, export, reply),
+        Work::ManyFiles => lists_all(rt, alloc, export, reply),
+        Work::NewNames => renames_all(rt, alloc, export, reply),
+        Work::Unions => lists_places(rt, alloc, export, reply),
+        Work::UnionCounts => reads_at_each_count(rt, alloc, export, reply),
+    }
+}
