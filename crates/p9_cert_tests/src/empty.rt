@@ -1,15 +1,14 @@
 //! A world without a server.
 
-use p9_base::{Groups, NoMemory, NodeRef};
-use p9_cert::{Certificate, Gap, RowFault, verify};
+use crate::printing::found;
+use p9_base::Groups;
 use p9_index::IndexTree;
 use p9_judge::{Verdict, judge};
-use p9_space::{MountTable, Order, ROOT_PLACE};
+use p9_space::MountTable;
 use p9_tree::{Forest, PlainTree, Tree};
 use p9_world::World;
 use std::alloc::{Allocator, Global};
 use std::process::Abort;
-use std::test::Fail;
 
 fn no_server<T: Tree>(alloc: T::Alloc) -> World<T> {
     World {
@@ -24,44 +23,40 @@ fn no_server<T: Tree>(alloc: T::Alloc) -> World<T> {
     }
 }
 
-// A certificate of one row, the root.
-fn root<A: Allocator + Copy>(alloc: A) -> Result<Certificate<A>, NoMemory> {
-    let mut certificate = Certificate::new(alloc);
-    certificate.push(ROOT_PLACE)?;
-    Ok(certificate)
+// What is found, and of which mount table and certificate.
+const GAPS: &str = "\
+ok = |
+gap row 1 absent = | dir 0 0
+gap table 0 0 = 0 0 0 0 |";
+
+fn are_found<T: Tree>(rt: &impl Abort, alloc: Global, world: &World<T>) {
+    for row in GAPS.lines() {
+        let (want, rows) = row.split_once(" = ").expect(rt, "a row");
+        let told = found(rt, alloc, world, rows);
+        assert!(rt; told.as_str() == want, "{row}");
+    }
 }
 
-fn is_closed<T: Tree>(rt: &impl Abort, alloc: T::Alloc) -> Result<(), NoMemory> {
-    let world = no_server::<T>(alloc);
-    let mut table = MountTable::new(alloc);
-    assert!(rt; verify(&world, &table, &Certificate::new(alloc)) == Ok(()));
-    let absent = Gap::Row {
-        row: 1,
-        kind: RowFault::Absent,
-    };
-    assert!(rt; verify(&world, &table, &root(alloc)?) == Err(absent));
-    table.bind(ROOT_PLACE, &[ROOT_PLACE], Order::Replace, false)?;
-    let gap = Gap::Table(NodeRef {
-        server: 0,
-        number: 0,
-    });
-    assert!(rt; verify(&world, &table, &Certificate::new(alloc)) == Err(gap));
-    Ok(())
+fn is_closed<T: Tree>(rt: &impl Abort, alloc: Global, lent: T::Alloc) {
+    are_found(rt, alloc, &no_server::<T>(lent));
 }
 
 #[test]
-fn no_row_and_no_server_is_closed(rt: HostRuntime) -> Result<(), Fail> {
-    is_closed::<PlainTree<Global>>(&rt, rt.alloc())?;
-    is_closed::<IndexTree<Global>>(&rt, rt.alloc())?;
-    Ok(())
+fn no_row_and_no_server_is_closed(rt: HostRuntime) {
+    is_closed::<PlainTree<Global>>(&rt, rt.alloc(), rt.alloc());
+    is_closed::<IndexTree<Global>>(&rt, rt.alloc(), rt.alloc());
 }
 
-fn needs_no_row<T: Tree>(rt: &impl Abort, alloc: T::Alloc) {
-    let world = no_server::<T>(alloc);
-    match judge(alloc, &world, &MountTable::new(alloc)).expect(rt, "a verdict") {
+fn has_no_row<A: Allocator>(rt: &impl Abort, verdict: &Verdict<A>) {
+    match verdict {
         Verdict::Yes(certificate) => assert!(rt; certificate.rows().len() == 0),
         Verdict::No(breach) => panic!(rt; "{breach}"),
     }
+}
+
+fn needs_no_row<T: Tree>(rt: &impl Abort, alloc: T::Alloc) {
+    let verdict = judge(alloc, &no_server::<T>(alloc), &MountTable::new(alloc));
+    has_no_row(rt, &verdict.expect(rt, "a verdict"));
 }
 
 #[test]

@@ -1,9 +1,9 @@
 //! Each growth of a certificate is refused in turn.
 
 use p9_base::NoMemory;
-use p9_cert::{ReadError, read_cert, write_cert};
+use p9_cert::{Certificate, ReadError, read_cert, write_cert};
 use p9_testing::{Refusing, refuse_each};
-use std::alloc::Global;
+use std::alloc::{Allocator, Global};
 use std::process::Abort;
 
 const TEXT: &str = "\
@@ -27,18 +27,29 @@ dir 2 0
 dir 3 281474976710655
 ";
 
-// Reads and writes the text, each again where it was refused.
-fn read_again(rt: &impl Abort, memory: &Refusing<Global>) {
-    let certificate = match read_cert(memory, TEXT) {
+// Reads the text, again where an allocation failed.
+fn read_again<'a>(
+    rt: &impl Abort,
+    memory: &'a Refusing<Global>,
+) -> Certificate<&'a Refusing<Global>> {
+    match read_cert(memory, TEXT) {
         Ok(certificate) => certificate,
         Err(error) => {
             assert!(rt; error == ReadError::NoMemory);
             read_cert(memory, TEXT).expect(rt, "a certificate with ample memory")
         }
-    };
-    let written = match write_cert(memory, &certificate) {
+    }
+}
+
+// Writes what was read, again where an allocation failed.
+fn write_again<A: Allocator>(
+    rt: &impl Abort,
+    memory: &Refusing<Global>,
+    certificate: &Certificate<A>,
+) {
+    let written = match write_cert(memory, certificate) {
         Ok(text) => text,
-        Err(NoMemory) => write_cert(memory, &certificate).expect(rt, "a text with ample memory"),
+        Err(NoMemory) => write_cert(memory, certificate).expect(rt, "a text with ample memory"),
     };
     assert!(rt; written.as_str() == WRITTEN);
 }
@@ -46,6 +57,10 @@ fn read_again(rt: &impl Abort, memory: &Refusing<Global>) {
 #[test]
 fn a_certificate_is_read_and_written_after_each_refusal(rt: HostRuntime) {
     let memory = Refusing::new(rt.alloc());
-    let refusals = refuse_each(&memory, || (), |()| read_again(&rt, &memory));
+    let refusals = refuse_each(
+        &memory,
+        || (),
+        |()| write_again(&rt, &memory, &read_again(&rt, &memory)),
+    );
     assert!(rt; refusals > 10);
 }

@@ -1,7 +1,7 @@
 //! Certificates as texts.
 
 use p9_base::NoMemory;
-use p9_cert::{ReadError, read_cert, write_cert};
+use p9_cert::{Certificate, ReadError, read_cert, write_cert};
 use std::alloc::Global;
 use std::process::Abort;
 use std::test::Fail;
@@ -39,31 +39,37 @@ line 3 is bad = cert 1;dir 0 1;dir 0 0
 line 3 is bad = cert 1;dir 1 0;dir 0 1
 line 4 is bad = cert 1;dir 0 1;dir 1 0;dir 0 2;dir 0";
 
+// What is returned for the lines that end at semicolons.
+fn told_of_lines(alloc: Global, lines: &str) -> Result<String, NoMemory> {
+    let text = lines.replace(alloc, ';', "\n")?;
+    told(alloc, text.as_str())
+}
+
 fn told(alloc: Global, text: &str) -> Result<String, NoMemory> {
     match read_cert(alloc, text) {
-        Ok(certificate) => {
-            certificate.well_formed();
-            let text = write_cert(alloc, &certificate)?;
-            Ok(text.as_str().replace(alloc, '\n', ";")?)
-        }
+        Ok(certificate) => written(alloc, &certificate),
         Err(error) => Ok(format!(in alloc; "{error}")?),
     }
 }
 
-fn are_reported(rt: &impl Abort, alloc: Global, rows: &str) -> Result<(), NoMemory> {
+// The lines of a certificate, with semicolons for their ends.
+fn written(alloc: Global, certificate: &Certificate<Global>) -> Result<String, NoMemory> {
+    certificate.well_formed();
+    let text = write_cert(alloc, certificate)?;
+    Ok(text.as_str().replace(alloc, '\n', ";")?)
+}
+
+fn are_reported(rt: &impl Abort, alloc: Global, rows: &str) {
     for row in rows.lines() {
         let (want, text) = row.split_once(" =").expect(rt, "a row");
-        let text = text.replace(alloc, ';', "\n")?;
-        let told = told(alloc, text.as_str())?;
+        let told = told_of_lines(alloc, text).expect(rt, "a text");
         assert!(rt; told.as_str() == want, "{row}");
     }
-    Ok(())
 }
 
 #[test]
-fn texts_are_read_and_written(rt: HostRuntime) -> Result<(), Fail> {
-    are_reported(&rt, rt.alloc(), TEXTS)?;
-    Ok(())
+fn texts_are_read_and_written(rt: HostRuntime) {
+    are_reported(&rt, rt.alloc(), TEXTS);
 }
 
 #[test]
@@ -74,22 +80,30 @@ fn errors_have_texts(rt: HostRuntime) -> Result<(), Fail> {
     Ok(())
 }
 
+const THREE_ROWS: &str = "\
+cert 1
+dir 0 0
+
+# c
+dir 12 345
+dir 65535 281474976710655
+";
+
 // A text that ends early is a certificate or has a bad line, which is its last or the first.
-#[test]
-fn texts_may_end_anywhere(rt: HostRuntime) -> Result<(), Fail> {
-    let mut text = String::new(rt.alloc());
-    let mut line = 1;
-    for byte in "cert 1\ndir 0 0\n\n# c\ndir 12 345\ndir 65535 281474976710655\n".chars() {
-        match read_cert(rt.alloc(), text.as_str()) {
-            Ok(certificate) => assert!(rt; certificate.rows().len() <= 3),
-            Err(error) => assert!(rt; error == ReadError::BadCert { line }),
-        }
-        text.push(byte)?;
-        if byte == '\n' {
-            line = line.saturating_add(1);
-        }
+fn may_end_here(rt: &impl Abort, alloc: Global, text: &str) {
+    let line = text.split('\n').count() as u64;
+    match read_cert(alloc, text) {
+        Ok(certificate) => assert!(rt; certificate.rows().len() <= 3),
+        Err(error) => assert!(rt; error == ReadError::BadCert { line }),
     }
-    let certificate = read_cert(rt.alloc(), text.as_str())?;
+}
+
+#[test]
+fn texts_may_end_anywhere(rt: HostRuntime) {
+    for (end, _) in THREE_ROWS.char_indices() {
+        let (text, _) = THREE_ROWS.split_at_checked(end).expect(&rt, "ASCII");
+        may_end_here(&rt, rt.alloc(), text);
+    }
+    let certificate = read_cert(rt.alloc(), THREE_ROWS).expect(&rt, "a certificate");
     assert!(rt; certificate.rows().len() == 3);
-    Ok(())
 }

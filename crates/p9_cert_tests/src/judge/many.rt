@@ -3,15 +3,14 @@
 
 use super::dice::Dice;
 use p9_base::{NoMemory, NodeRef};
-use p9_cert::{Certificate, verify};
+use p9_cert::{Certificate, read_cert, verify};
 use p9_index::IndexTree;
 use p9_judge::{Verdict, judge};
 use p9_space::{MountTable, Order};
 use p9_tree::{PlainTree, Tree};
 use p9_world::{World, read_world};
-use std::alloc::Global;
+use std::alloc::{AllocError, Global};
 use std::process::Abort;
-use std::test::Fail;
 
 // Nodes 1 to 9 of server 0 are made, beside the root.
 const NODES: u64 = 9;
@@ -42,108 +41,143 @@ fn node(dice: &mut Dice) -> NodeRef {
     }
 }
 
-// The text of a world: a tree of directories, of which some are hidden.
-fn text(rt: &impl Abort, alloc: Global, dice: &mut Dice) -> Result<String, NoMemory> {
-    let mut text = String::from_str(alloc, "server main\nuser glenda\nuser bob\n")?;
-    writeln!(text, "group staff bob glenda")?;
-    let mut paths: Vec<String> = Vec::new(alloc);
-    paths.push(String::new(alloc))?;
-    for i in 1..NODES + 1 {
-        let parent = paths
-            .get(dice.below(i) as usize)
-            .expect(rt, "a directory above");
-        let path = format!(in alloc; "{}/d{i}", parent.as_str())?;
-        let mode = mode(dice);
-        let owner = user(dice);
-        let group = user(dice);
-        writeln!(text, "dir {} {mode} {owner} {group}", path.as_str())?;
-        if dice.below(6) == 0 {
-            writeln!(text, "hide main {}", path.as_str())?;
-        }
-        paths.push(path)?;
+// The path of a node's directory, in the directory of this position.
+fn path(rt: &impl Abort, alloc: Global, paths: &[String], above: u64, number: u64) -> String {
+    let above = paths.get(above as usize).expect(rt, "a directory above");
+    format!(in alloc; "{}/d{number}", above.as_str()).expect(rt, "a path")
+}
+
+// The lines of a directory, which may be hidden.
+fn add_directory(text: &mut String, dice: &mut Dice, path: &str) -> Result<(), AllocError> {
+    let (mode, owner, group) = (mode(dice), user(dice), user(dice));
+    writeln!(text, "dir {path} {mode} {owner} {group}")?;
+    if dice.below(6) == 0 {
+        writeln!(text, "hide main {path}")?;
     }
-    Ok(text)
+    Ok(())
+}
+
+const USERS: &str = "\
+server main
+user glenda
+user bob
+group staff bob glenda
+";
+
+// The text of a world: a tree of directories, of which some are hidden.
+fn text(rt: &impl Abort, alloc: Global, dice: &mut Dice) -> String {
+    let mut text = String::from_str(alloc, USERS).expect(rt, "a text");
+    let mut paths: Vec<String> = Vec::new(alloc);
+    paths.push(String::new(alloc)).expect(rt, "room");
+    for number in 1..NODES + 1 {
+        let path = path(rt, alloc, paths.as_slice(), dice.below(number), number);
+        add_directory(&mut text, dice, path.as_str()).expect(rt, "room");
+        paths.push(path).expect(rt, "room");
+    }
+    text
 }
 
 // A mount table of up to two rows, of one or two members each.
-fn table(alloc: Global, dice: &mut Dice) -> Result<MountTable<Global>, NoMemory> {
+fn table(rt: &impl Abort, alloc: Global, dice: &mut Dice) -> MountTable<Global> {
     let mut table = MountTable::new(alloc);
     for _row in 0..dice.below(3) {
-        let key = node(dice);
-        let members = [node(dice), node(dice)];
-        if dice.below(2) == 0 {
-            table.bind(key, &members, Order::Replace, false)?;
-        } else {
-            table.bind(key, &members[..1], Order::After, false)?;
-        }
+        bind(&mut table, dice).expect(rt, "a row");
     }
-    Ok(table)
+    table
 }
 
-// The certificate without the row of this position.
+fn bind(table: &mut MountTable<Global>, dice: &mut Dice) -> Result<(), NoMemory> {
+    let key = node(dice);
+    let members = [node(dice), node(dice)];
+    if dice.below(2) == 0 {
+        table.bind(key, &members, Order::Replace, false)
+    } else {
+        table.bind(key, &members[..1], Order::After, false)
+    }
+}
+
+// The certificate of these rows without the one of this position.
 fn without(
     rt: &impl Abort,
     alloc: Global,
-    certificate: &Certificate<Global>,
+    rows: &[NodeRef],
     left_out: usize,
-) -> Result<Certificate<Global>, NoMemory> {
+) -> Certificate<Global> {
+    let text = text_without(alloc, rows, left_out).expect(rt, "a text");
+    read_cert(alloc, text.as_str()).expect(rt, "a certificate")
+}
+
+fn text_without(alloc: Global, rows: &[NodeRef], left_out: usize) -> Result<String, AllocError> {
     let mut text = String::from_str(alloc, "cert 1\n")?;
-    for (i, row) in certificate.rows().iter().enumerate() {
+    for (i, row) in rows.iter().enumerate() {
         if i != left_out {
             writeln!(text, "dir {} {}", row.server, row.number)?;
         }
     }
-    Ok(p9_cert::read_cert(alloc, text.as_str()).expect(rt, "a certificate"))
+    Ok(text)
 }
 
-// Asks for a verdict, and says whether it is a certificate. That is accepted, and needs each row.
+// A certificate is accepted, and needs each row.
+fn needs_its_rows<T: Tree>(
+    rt: &impl Abort,
+    alloc: Global,
+    world: &World<T>,
+    table: &MountTable<Global>,
+    certificate: &Certificate<Global>,
+) {
+    assert!(rt; verify(world, table, certificate) == Ok(()));
+    for i in 0..certificate.rows().len() {
+        let fewer = without(rt, alloc, certificate.rows(), i);
+        assert!(rt; verify(world, table, &fewer).is_err());
+    }
+}
+
+// Asks for a verdict, and says whether it is a certificate, which has to need its rows.
 fn is_certified<T: Tree>(
     rt: &impl Abort,
     alloc: Global,
     world: &World<T>,
-    table: &MountTable<T::Alloc>,
-) -> Result<bool, NoMemory> {
-    match judge(alloc, world, table)? {
-        Verdict::No(_breach) => Ok(false),
-        Verdict::Yes(certificate) => {
-            assert!(rt; verify(world, table, &certificate) == Ok(()));
-            for i in 0..certificate.rows().len() {
-                let fewer = without(rt, alloc, &certificate, i)?;
-                assert!(rt; verify(world, table, &fewer).is_err());
-            }
-            Ok(true)
-        }
+    table: &MountTable<Global>,
+) -> bool {
+    let verdict = judge(alloc, world, table).expect(rt, "a verdict");
+    if let Verdict::Yes(certificate) = &verdict {
+        needs_its_rows(rt, alloc, world, table, certificate);
+        return true;
     }
+    false
 }
 
-// Whether the judge's certificate is closed, and no row of it can be left out, over a tree of each
-// kind.
-fn is_certified_over_both(
+fn is_certified_over<T: Tree>(
     rt: &impl Abort,
     alloc: Global,
+    lent: T::Alloc,
     text: &str,
     table: &MountTable<Global>,
-) -> Result<bool, NoMemory> {
-    let plain = read_world::<PlainTree<Global>>(alloc, text).expect(rt, "a world");
-    let index = read_world::<IndexTree<Global>>(alloc, text).expect(rt, "a world");
-    let certified = is_certified(rt, alloc, &plain, table)?;
-    assert!(rt; is_certified(rt, alloc, &index, table)? == certified);
-    Ok(certified)
+) -> bool {
+    let world = read_world::<T>(lent, text).expect(rt, "a world");
+    is_certified(rt, alloc, &world, table)
+}
+
+// Whether the judge's certificate of the next world is closed, and no row of it can be left out,
+// over a tree of each kind.
+fn next_is_certified(rt: &impl Abort, alloc: Global, dice: &mut Dice) -> bool {
+    let text = text(rt, alloc, dice);
+    let table = table(rt, alloc, dice);
+    let plain = is_certified_over::<PlainTree<Global>>(rt, alloc, alloc, text.as_str(), &table);
+    let index = is_certified_over::<IndexTree<Global>>(rt, alloc, alloc, text.as_str(), &table);
+    assert!(rt; plain == index);
+    plain
 }
 
 #[test]
-fn each_certificate_is_accepted_and_needs_its_rows(rt: HostRuntime) -> Result<(), Fail> {
-    let alloc = rt.alloc();
+fn each_certificate_is_accepted_and_needs_its_rows(rt: HostRuntime) {
     let mut dice = Dice::new(1);
     let mut certified = 0;
     for _turn in 0..WORLDS {
-        let text = text(&rt, alloc, &mut dice)?;
-        let table = table(alloc, &mut dice)?;
-        if is_certified_over_both(&rt, alloc, text.as_str(), &table)? {
+        if next_is_certified(&rt, rt.alloc(), &mut dice) {
             certified += 1;
         }
     }
     assert!(rt; certified > 60);
     assert!(rt; WORLDS - certified > 60);
-    Ok(())
 }

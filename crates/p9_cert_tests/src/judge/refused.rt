@@ -6,9 +6,8 @@ use p9_index::IndexTree;
 use p9_judge::{Verdict, judge};
 use p9_testing::{Refusing, refuse_each};
 use p9_tree::{PlainTree, Tree};
-use std::alloc::Global;
+use std::alloc::{AllocError, Allocator, Global};
 use std::process::Abort;
-use std::test::Fail;
 
 // A chain of directories, with a hidden one at its end that its owner may open.
 const DEEP: &str = "\
@@ -41,66 +40,50 @@ fn judge_again<'a, T: Tree>(
     }
 }
 
-fn finds_breach<T: Tree>(
+// The breach, or how many rows the certificate has.
+fn verdict_text<A: Allocator>(alloc: Global, verdict: &Verdict<A>) -> Result<String, AllocError> {
+    match verdict {
+        Verdict::Yes(certificate) => format!(in alloc; "{} rows", certificate.rows().len()),
+        Verdict::No(breach) => format!(in alloc; "{breach}"),
+    }
+}
+
+fn is_judged<T: Tree>(
     rt: &impl Abort,
     memory: &Refusing<Global>,
     space: &Space<T>,
     alloc: Global,
+    want: &str,
 ) {
-    match judge_again(rt, memory, space) {
-        Verdict::Yes(_certificate) => panic!(rt; "a certificate"),
-        Verdict::No(breach) => {
-            let text = format!(in alloc; "{breach}").expect(rt, "a text");
-            assert!(rt; text.as_str() == DEEP_BREACH);
-        }
-    }
+    let verdict = judge_again(rt, memory, space);
+    let text = verdict_text(alloc, &verdict).expect(rt, "a text");
+    assert!(rt; text.as_str() == want);
 }
 
-fn finds_certificate<T: Tree>(rt: &impl Abort, memory: &Refusing<Global>, space: &Space<T>) {
-    match judge_again(rt, memory, space) {
-        Verdict::Yes(certificate) => assert!(rt; certificate.rows().len() == 6),
-        Verdict::No(breach) => panic!(rt; "{breach}"),
-    }
-}
-
-fn breach_after_each<T: Tree>(
-    rt: &impl Abort,
-    alloc: Global,
-    lent: T::Alloc,
-) -> Result<(), NoMemory> {
+// The space of a row is judged with each request of memory refused in turn.
+fn judge_refused<T: Tree>(rt: &impl Abort, alloc: Global, lent: T::Alloc, row: &str, want: &str) {
     let memory = Refusing::new(alloc);
-    let space = space_of::<T>(rt, lent, DEEP)?;
+    let space = space_of::<T>(rt, lent, row);
     let refusals = refuse_each(
         &memory,
         || (),
-        |()| finds_breach(rt, &memory, &space, alloc),
+        |()| is_judged(rt, &memory, &space, alloc, want),
     );
     assert!(rt; refusals > 3);
-    Ok(())
+}
+
+// Over a tree of each kind.
+fn judge_refused_over_both(rt: &impl Abort, alloc: Global, row: &str, want: &str) {
+    judge_refused::<PlainTree<Global>>(rt, alloc, alloc, row, want);
+    judge_refused::<IndexTree<Global>>(rt, alloc, alloc, row, want);
 }
 
 #[test]
-fn a_breach_is_found_after_each_refusal(rt: HostRuntime) -> Result<(), Fail> {
-    breach_after_each::<PlainTree<Global>>(&rt, rt.alloc(), rt.alloc())?;
-    breach_after_each::<IndexTree<Global>>(&rt, rt.alloc(), rt.alloc())?;
-    Ok(())
-}
-
-fn certificate_after_each<T: Tree>(
-    rt: &impl Abort,
-    alloc: Global,
-    lent: T::Alloc,
-) -> Result<(), NoMemory> {
-    let memory = Refusing::new(alloc);
-    let space = space_of::<T>(rt, lent, GUARDED)?;
-    let refusals = refuse_each(&memory, || (), |()| finds_certificate(rt, &memory, &space));
-    assert!(rt; refusals > 3);
-    Ok(())
+fn a_breach_is_found_after_each_refusal(rt: HostRuntime) {
+    judge_refused_over_both(&rt, rt.alloc(), DEEP, DEEP_BREACH);
 }
 
 #[test]
-fn a_certificate_is_found_after_each_refusal(rt: HostRuntime) -> Result<(), Fail> {
-    certificate_after_each::<PlainTree<Global>>(&rt, rt.alloc(), rt.alloc())?;
-    certificate_after_each::<IndexTree<Global>>(&rt, rt.alloc(), rt.alloc())?;
-    Ok(())
+fn a_certificate_is_found_after_each_refusal(rt: HostRuntime) {
+    judge_refused_over_both(&rt, rt.alloc(), GUARDED, "6 rows");
 }

@@ -5,7 +5,6 @@ use p9_tree::{PlainTree, Tree};
 use p9_world::read_world;
 use std::alloc::{AllocError, Global};
 use std::process::Abort;
-use std::test::Fail;
 
 // What is reported of the first bad line, and the text, whose lines end at `;`. After the faults that
 // are alone come lines to which two apply, of which the first is reported.
@@ -191,42 +190,41 @@ fn told_over<T: Tree>(alloc: Global, lent: T::Alloc, text: &str) -> Result<Strin
     }
 }
 
-fn are_bad(rt: &impl Abort, alloc: Global, rows: &str) -> Result<(), AllocError> {
+fn are_bad(rt: &impl Abort, alloc: Global, rows: &str) {
     for row in rows.lines() {
         let (want, text) = row.split_once(" =").expect(rt, "a text");
-        let text = text.replace(alloc, ';', "\n")?;
-        let told = told(alloc, text.as_str().strip_prefix(' ').unwrap_or(""))?;
-        assert!(rt; told.as_str() == want, "{row}");
+        let told = told_of_lines(alloc, text.strip_prefix(' ').unwrap_or(""));
+        assert!(rt; told.expect(rt, "a text").as_str() == want, "{row}");
     }
-    Ok(())
+}
+
+// What is reported of the lines between semicolons.
+fn told_of_lines(alloc: Global, lines: &str) -> Result<String, AllocError> {
+    let text = lines.replace(alloc, ';', "\n")?;
+    told(alloc, text.as_str())
 }
 
 #[test]
-fn bad_words_are_reported(rt: HostRuntime) -> Result<(), Fail> {
-    are_bad(&rt, rt.alloc(), WORDS)?;
-    Ok(())
+fn bad_words_are_reported(rt: HostRuntime) {
+    are_bad(&rt, rt.alloc(), WORDS);
 }
 
 #[test]
-fn bad_names_are_reported(rt: HostRuntime) -> Result<(), Fail> {
-    are_bad(&rt, rt.alloc(), NAMES)?;
-    Ok(())
+fn bad_names_are_reported(rt: HostRuntime) {
+    are_bad(&rt, rt.alloc(), NAMES);
 }
 
 #[test]
-fn bad_entries_are_reported(rt: HostRuntime) -> Result<(), Fail> {
-    are_bad(&rt, rt.alloc(), ENTRIES)?;
-    Ok(())
+fn bad_entries_are_reported(rt: HostRuntime) {
+    are_bad(&rt, rt.alloc(), ENTRIES);
 }
 
 #[test]
-fn bad_places_are_reported(rt: HostRuntime) -> Result<(), Fail> {
-    are_bad(&rt, rt.alloc(), PLACES)?;
-    Ok(())
+fn bad_places_are_reported(rt: HostRuntime) {
+    are_bad(&rt, rt.alloc(), PLACES);
 }
 
 #[test]
-fn bad_groups_are_reported(rt: HostRuntime) -> Result<(), Fail> {
-    are_bad(&rt, rt.alloc(), GROUPS)?;
-    Ok(())
+fn bad_groups_are_reported(rt: HostRuntime) {
+    are_bad(&rt, rt.alloc(), GROUPS);
 }

@@ -2,14 +2,13 @@
 
 use crate::world::faults::told;
 use crate::world::refused::read_again;
-use p9_base::User;
+use p9_base::{Groups, User};
 use p9_index::IndexTree;
 use p9_testing::{Refusing, refuse_each};
 use p9_tree::{PlainTree, Tree};
 use p9_world::{World, read_world};
-use std::alloc::{AllocError, Global};
+use std::alloc::{AllocError, Allocator, Global};
 use std::process::Abort;
-use std::test::Fail;
 
 /// A leader who is no member, one who is, members of several groups, a group without members, a
 /// user who is taken out of the group of his name, and one who is named in it. Of the users only
@@ -51,38 +50,47 @@ sys sys true true
 sys ken false false";
 
 // What is found of each group and user of the rows.
-fn is_asked<T: Tree>(
-    rt: &impl Abort,
-    alloc: Global,
-    world: &World<T>,
-    rows: &str,
-) -> Result<(), AllocError> {
+fn is_asked<T: Tree>(rt: &impl Abort, alloc: Global, world: &World<T>, rows: &str) {
     for row in rows.lines() {
-        let mut words = row.split(' ');
-        let name = words.next().and_then(User::new).expect(rt, "a group");
-        let user = words.next().and_then(User::new).expect(rt, "a user");
-        let (member, leads) = (
-            world.groups.member(&user, &name),
-            world.groups.leads(&user, &name),
-        );
-        let told = format!(in alloc; "{name} {user} {member} {leads}")?;
+        let told = row_of(rt, alloc, &world.groups, row).expect(rt, "a text");
         assert!(rt; told.as_str() == row);
     }
-    Ok(())
+}
+
+// The row that begins with the group and the user of a row.
+fn row_of<A: Allocator + Copy>(
+    rt: &impl Abort,
+    alloc: Global,
+    groups: &Groups<A>,
+    row: &str,
+) -> Result<String, AllocError> {
+    let mut words = row.split(' ');
+    let name = words.next().and_then(User::new).expect(rt, "a group");
+    let user = words.next().and_then(User::new).expect(rt, "a user");
+    let (member, leads) = (groups.member(&user, &name), groups.leads(&user, &name));
+    format!(in alloc; "{name} {user} {member} {leads}")
 }
 
 // What is found of the world of a text, with a tree of each kind.
-fn are_groups_of(rt: &impl Abort, alloc: Global, text: &str, rows: &str) -> Result<(), AllocError> {
-    let plain = read_world::<PlainTree<Global>>(alloc, text).expect(rt, "a world");
-    is_asked(rt, alloc, &plain, rows)?;
-    let index = read_world::<IndexTree<Global>>(alloc, text).expect(rt, "a world");
-    is_asked(rt, alloc, &index, rows)
+fn are_groups_of(rt: &impl Abort, alloc: Global, text: &str, rows: &str) {
+    are_groups_over::<PlainTree<Global>>(rt, alloc, alloc, text, rows);
+    are_groups_over::<IndexTree<Global>>(rt, alloc, alloc, text, rows);
+}
+
+fn are_groups_over<T: Tree>(
+    rt: &impl Abort,
+    alloc: Global,
+    lent: T::Alloc,
+    text: &str,
+    rows: &str,
+) {
+    let world = read_world::<T>(lent, text).expect(rt, "a world");
+    is_asked(rt, alloc, &world, rows);
 }
 
 #[test]
-fn groups_have_members_and_a_leader(rt: HostRuntime) -> Result<(), Fail> {
-    are_groups_of(&rt, rt.alloc(), TEXT, ASKED)?;
-    Ok(())
+fn groups_have_members_and_a_leader(rt: HostRuntime) {
+    are_groups_of(&rt, rt.alloc(), TEXT, ASKED);
 }
 
 /// The world of docs/WORLDS.md that has groups.
@@ -109,9 +117,8 @@ rob rob true true
 rob ken false false";
 
 #[test]
-fn the_example_of_the_guide_has_its_groups(rt: HostRuntime) -> Result<(), Fail> {
-    are_groups_of(&rt, rt.alloc(), EXAMPLE, EXAMPLE_ASKED)?;
-    Ok(())
+fn the_example_of_the_guide_has_its_groups(rt: HostRuntime) {
+    are_groups_of(&rt, rt.alloc(), EXAMPLE, EXAMPLE_ASKED);
 }
 
 // The groups are read with each request of memory refused in turn.
@@ -126,7 +133,7 @@ fn read_refused<T: Tree>(
         || (),
         |()| {
             let world = read_again::<T>(rt, lent, TEXT);
-            is_asked(rt, printing, &world, ASKED).expect(rt, "memory");
+            is_asked(rt, printing, &world, ASKED);
         },
     );
     assert!(rt; refusals > 20);
@@ -149,10 +156,7 @@ fn many_members(alloc: Global, more: &str) -> Result<String, AllocError> {
     Ok(text)
 }
 
-#[test]
-fn a_group_may_have_many_members(rt: HostRuntime) -> Result<(), Fail> {
-    let text = many_members(rt.alloc(), "\ngroup few u9999 u0")?;
-    let rows = "\
+const MANY_ASKED: &str = "\
 many u0 true false
 many u1 true true
 many u9999 true false
@@ -160,21 +164,31 @@ many u10000 false false
 many many false false
 few u0 true false
 few u9999 false true";
-    are_groups_of(&rt, rt.alloc(), text.as_str(), rows)?;
-    Ok(())
+
+#[test]
+fn a_group_may_have_many_members(rt: HostRuntime) {
+    let text = many_members(rt.alloc(), "\ngroup few u9999 u0").expect(&rt, "a text");
+    are_groups_of(&rt, rt.alloc(), text.as_str(), MANY_ASKED);
+}
+
+// What is reported, and the member that is added.
+const TWICE: &str = "\
+line 2: already there = u0
+line 2: already there = u9999
+line 2: bad user = u0 \0
+no fault = u10000";
+
+// What is reported of a group of many members and more of them.
+fn told_of_many(alloc: Global, more: &str) -> Result<String, AllocError> {
+    let text = many_members(alloc, more)?;
+    told(alloc, text.as_str())
 }
 
 #[test]
-fn one_of_many_members_is_there_twice(rt: HostRuntime) -> Result<(), Fail> {
-    for (more, want) in [
-        (" u0", "line 2: already there"),
-        (" u9999", "line 2: already there"),
-        (" u0 \0", "line 2: bad user"),
-        (" u10000", "no fault"),
-    ] {
-        let text = many_members(rt.alloc(), more)?;
-        let told = told(rt.alloc(), text.as_str())?;
-        assert!(rt; told.as_str() == want);
+fn one_of_many_members_is_there_twice(rt: HostRuntime) {
+    for row in TWICE.lines() {
+        let (want, more) = row.split_once(" =").expect(&rt, "a member");
+        let told = told_of_many(rt.alloc(), more).expect(&rt, "a text");
+        assert!(rt; told.as_str() == want, "{row}");
     }
-    Ok(())
 }

@@ -7,12 +7,17 @@ use p9_tree::{FILE_MAX, PlainTree, Tree};
 use p9_world::read_world;
 use std::alloc::{AllocError, Global};
 use std::process::Abort;
-use std::test::Fail;
 
-// Node 1 of a server is made, and the next is 2.
-fn is_next<T: Tree>(rt: &impl Abort, alloc: T::Alloc, text: &str, server: u16) {
+// The text makes one node of the server after its root: node 1, and the next is 2.
+fn makes_one_node<T: Tree>(rt: &impl Abort, alloc: T::Alloc, text: &str, server: u16) {
     let world = read_world::<T>(alloc, text).ok().expect(rt, "a world");
     assert!(rt; world.forest.next_of(server) == 2);
+}
+
+// Over a tree of each kind the text does so.
+fn makes_one_node_over_both(rt: &impl Abort, alloc: Global, text: &str, server: u16) {
+    makes_one_node::<PlainTree<Global>>(rt, alloc, text, server);
+    makes_one_node::<IndexTree<Global>>(rt, alloc, text, server);
 }
 
 // A line of a file of so many bytes.
@@ -26,35 +31,24 @@ fn long_file(alloc: Global, path: &str, count: usize, end: &str) -> Result<Strin
 }
 
 #[test]
-fn the_largest_file_is_made(rt: HostRuntime) -> Result<(), Fail> {
-    let text = long_file(rt.alloc(), "/f", FILE_MAX, "")?;
-    is_next::<PlainTree<Global>>(&rt, rt.alloc(), text.as_str(), 0);
-    is_next::<IndexTree<Global>>(&rt, rt.alloc(), text.as_str(), 0);
-    Ok(())
+fn the_largest_file_is_made(rt: HostRuntime) {
+    let text = long_file(rt.alloc(), "/f", FILE_MAX, "").expect(&rt, "a text");
+    makes_one_node_over_both(&rt, rt.alloc(), text.as_str(), 0);
 }
 
 // A file of a byte more, with its end, is refused so.
-fn is_too_long(
-    rt: &impl Abort,
-    alloc: Global,
-    path: &str,
-    end: &str,
-    want: &str,
-) -> Result<(), AllocError> {
-    let text = long_file(alloc, path, FILE_MAX + 1, end)?;
-    let told = told(alloc, text.as_str())?;
+fn is_too_long(rt: &impl Abort, alloc: Global, path: &str, end: &str, want: &str) {
+    let text = long_file(alloc, path, FILE_MAX + 1, end).expect(rt, "a text");
+    let told = told(alloc, text.as_str()).expect(rt, "a text");
     assert!(rt; told.as_str() == want);
-    Ok(())
 }
 
 #[test]
-fn large_files_are_reported(rt: HostRuntime) -> Result<(), Fail> {
-    let alloc = rt.alloc();
-    is_too_long(&rt, alloc, "/f", "", "line 2: file too large")?;
-    is_too_long(&rt, alloc, "/f/g", "", "line 2: file too large")?;
-    is_too_long(&rt, alloc, "/f", "6", "line 2: bad hex")?;
-    is_too_long(&rt, alloc, "/", "", "line 2: bad path")?;
-    Ok(())
+fn large_files_are_reported(rt: HostRuntime) {
+    is_too_long(&rt, rt.alloc(), "/f", "", "line 2: file too large");
+    is_too_long(&rt, rt.alloc(), "/f/g", "", "line 2: file too large");
+    is_too_long(&rt, rt.alloc(), "/f", "6", "line 2: bad hex");
+    is_too_long(&rt, rt.alloc(), "/", "", "line 2: bad path");
 }
 
 // As many servers as a world has, and a line. Names of one length are few, so that to look for one
@@ -73,38 +67,33 @@ fn all_servers(alloc: Global, line: &str) -> Result<String, AllocError> {
 }
 
 #[test]
-fn all_servers_are_made(rt: HostRuntime) -> Result<(), Fail> {
-    let text = all_servers(rt.alloc(), "dir /a 755 u u")?;
-    is_next::<PlainTree<Global>>(&rt, rt.alloc(), text.as_str(), 65_535);
-    is_next::<IndexTree<Global>>(&rt, rt.alloc(), text.as_str(), 65_535);
-    Ok(())
+fn all_servers_are_made(rt: HostRuntime) {
+    let text = all_servers(rt.alloc(), "dir /a 755 u u").expect(&rt, "a text");
+    makes_one_node_over_both(&rt, rt.alloc(), text.as_str(), 65_535);
 }
 
-fn is_one_too_many(
-    rt: &impl Abort,
-    alloc: Global,
-    line: &str,
-    want: &str,
-) -> Result<(), AllocError> {
-    let told = told(alloc, all_servers(alloc, line)?.as_str())?;
+// What is reported of a line after as many servers as a world has.
+fn told_of_one_more(alloc: Global, line: &str) -> Result<String, AllocError> {
+    let text = all_servers(alloc, line)?;
+    told(alloc, text.as_str())
+}
+
+fn is_one_too_many(rt: &impl Abort, alloc: Global, line: &str, want: &str) {
+    let told = told_of_one_more(alloc, line).expect(rt, "a text");
     assert!(rt; told.as_str() == want);
-    Ok(())
 }
 
 #[test]
-fn one_server_more_is_reported(rt: HostRuntime) -> Result<(), Fail> {
-    is_one_too_many(&rt, rt.alloc(), "server y", "line 65537: too many")?;
-    Ok(())
+fn one_server_more_is_reported(rt: HostRuntime) {
+    is_one_too_many(&rt, rt.alloc(), "server y", "line 65537: too many");
 }
 
 #[test]
-fn a_server_again_is_reported(rt: HostRuntime) -> Result<(), Fail> {
-    is_one_too_many(&rt, rt.alloc(), "server 0", "line 65537: already there")?;
-    Ok(())
+fn a_server_again_is_reported(rt: HostRuntime) {
+    is_one_too_many(&rt, rt.alloc(), "server 0", "line 65537: already there");
 }
 
 #[test]
-fn a_bad_server_more_is_reported(rt: HostRuntime) -> Result<(), Fail> {
-    is_one_too_many(&rt, rt.alloc(), "server $", "line 65537: bad name")?;
-    Ok(())
+fn a_bad_server_more_is_reported(rt: HostRuntime) {
+    is_one_too_many(&rt, rt.alloc(), "server $", "line 65537: bad name");
 }

@@ -4,12 +4,12 @@ use crate::world::printing::world as told_of;
 use crate::world::worlds::{
     BOUND_INSIDE, COVERED_VAULT, DEEP, HOME, SMALL, Sample, TWO_SERVERS, TWO_UNIONS, VAULT,
 };
+use p9_base::{Groups, User};
 use p9_index::IndexTree;
 use p9_tree::{PlainTree, Tree};
 use p9_world::{World, read_world};
 use std::alloc::Global;
 use std::process::Abort;
-use std::test::Fail;
 
 /// The world is the sample's.
 pub fn is_sample<T: Tree>(rt: &impl Abort, alloc: Global, world: &World<T>, sample: &Sample) {
@@ -18,10 +18,13 @@ pub fn is_sample<T: Tree>(rt: &impl Abort, alloc: Global, world: &World<T>, samp
 }
 
 fn is_read(rt: &impl Abort, alloc: Global, sample: &Sample) {
-    let plain = read_world::<PlainTree<Global>>(alloc, sample.text).expect(rt, "a world");
-    is_sample(rt, alloc, &plain, sample);
-    let index = read_world::<IndexTree<Global>>(alloc, sample.text).expect(rt, "a world");
-    is_sample(rt, alloc, &index, sample);
+    is_read_over::<PlainTree<Global>>(rt, alloc, alloc, sample);
+    is_read_over::<IndexTree<Global>>(rt, alloc, alloc, sample);
+}
+
+fn is_read_over<T: Tree>(rt: &impl Abort, alloc: Global, lent: T::Alloc, sample: &Sample) {
+    let world = read_world::<T>(lent, sample.text).expect(rt, "a world");
+    is_sample(rt, alloc, &world, sample);
 }
 
 #[test]
@@ -41,9 +44,7 @@ fn lines_belong_to_the_last_server(rt: HostRuntime) {
 }
 
 // Names and trees come out of a world as many as each other.
-#[test]
-fn parts_of_a_world_fit(rt: HostRuntime) -> Result<(), Fail> {
-    let world = read_world::<PlainTree<Global>>(rt.alloc(), VAULT.text)?;
+fn comes_apart(rt: &impl Abort, world: World<PlainTree<Global>>) {
     world.well_formed();
     let World {
         forest,
@@ -55,6 +56,17 @@ fn parts_of_a_world_fit(rt: HostRuntime) -> Result<(), Fail> {
     } = world;
     prove!(servers.len() == forest.trees.len());
     assert!(rt; (users.len(), hidden.len(), vars.len()) == (1, 1, 0));
-    assert!(rt; users.iter().all(|user| !groups.contains(user)));
-    Ok(())
+    have_no_group(rt, users.as_slice(), &groups);
+}
+
+fn have_no_group(rt: &impl Abort, users: &[User], groups: &Groups<Global>) {
+    for user in users {
+        assert!(rt; !groups.contains(user));
+    }
+}
+
+#[test]
+fn parts_of_a_world_fit(rt: HostRuntime) {
+    let world = read_world::<PlainTree<Global>>(rt.alloc(), VAULT.text);
+    comes_apart(&rt, world.expect(&rt, "a world"));
 }
