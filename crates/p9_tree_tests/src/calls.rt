@@ -27,24 +27,18 @@ pub fn two_servers<T: Tree>(rt: &impl Abort, alloc: T::Alloc) -> Result<Forest<T
     Ok(forest)
 }
 
-/// Makes the calls over the two servers. What a look returns is the text after `=` in its line.
-pub fn plays<T: Tree>(
-    rt: &impl Abort,
-    alloc: T::Alloc,
-    printing: Global,
-    lines: &str,
-) -> Result<(), NoMemory> {
-    let mut forest = two_servers::<T>(rt, alloc)?;
-    for line in lines.lines() {
-        make(rt, printing, &mut forest, line)?;
-    }
-    Ok(())
+/// Makes the calls over the two servers, of a vector of nodes, and of ordered maps. What a look
+/// returns is the text after `=` in its line.
+pub fn plays_in_both(rt: &impl Abort, alloc: Global, lines: &str) {
+    plays::<PlainTree<Global>>(rt, alloc, alloc, lines);
+    plays::<IndexTree<Global>>(rt, alloc, alloc, lines);
 }
 
-/// Makes them over a vector of nodes, and over ordered maps.
-pub fn plays_in_both(rt: &impl Abort, alloc: Global, lines: &str) -> Result<(), NoMemory> {
-    plays::<PlainTree<Global>>(rt, alloc, alloc, lines)?;
-    plays::<IndexTree<Global>>(rt, alloc, alloc, lines)
+fn plays<T: Tree>(rt: &impl Abort, alloc: T::Alloc, printing: Global, lines: &str) {
+    let mut forest = two_servers::<T>(rt, alloc).expect(rt, "memory");
+    for line in lines.lines() {
+        make(rt, printing, &mut forest, line).expect(rt, "memory");
+    }
 }
 
 /// Makes the call, or the look, of a line.

@@ -35,15 +35,17 @@ fn lists_all<T: Tree>(
 ) -> Result<(), Fail> {
     for number in 1..=files {
         let name = u32::MAX - number;
-        let file = format!(in printing;
-            "{number} Some(0) m{name} 1a4 glenda glenda glenda 0 0 0 [hi]"
+        let file = "1a4 glenda glenda glenda 0 0 0 [hi]";
+        let looks = format!(in printing;
+            "\
+0 after 0 {} = {number} Some(0) m{name} {file}
+0 child 0 m{name} = {number} Some(0) m{name} {file}
+0 child 0 n{number} = none",
+            number - 1
         )?;
-        let next = format!(in printing; "0 after 0 {} = {file}", number - 1)?;
-        make(rt, printing, forest, next.as_str())?;
-        let new = format!(in printing; "0 child 0 m{name} = {file}")?;
-        make(rt, printing, forest, new.as_str())?;
-        let old = format!(in printing; "0 child 0 n{number} = none")?;
-        make(rt, printing, forest, old.as_str())?;
+        for look in looks.as_str().lines() {
+            make(rt, printing, forest, look)?;
+        }
     }
     let end = format!(in printing; "0 after 0 {files} = none")?;
     make(rt, printing, forest, end.as_str())?;

@@ -11,7 +11,7 @@ use std::process::Abort;
 use std::test::Fail;
 
 #[test]
-fn each_node_is_found(rt: HostRuntime) -> Result<(), Fail> {
+fn each_node_is_found(rt: HostRuntime) {
     let lines = "\
 1 next = 4
 1 node 0 = 0 None / 800001ed sys sys sys 0 0 0 []
@@ -24,25 +24,23 @@ fn each_node_is_found(rt: HostRuntime) -> Result<(), Fail> {
 1 node 4 = none
 1 child 0 b = none
 1 child 1 a = none";
-    plays_in_both(&rt, rt.alloc(), lines)?;
-    Ok(())
+    plays_in_both(&rt, rt.alloc(), lines);
 }
 
 // The children come by rising number, each once.
 #[test]
-fn children_come_in_order(rt: HostRuntime) -> Result<(), Fail> {
+fn children_come_in_order(rt: HostRuntime) {
     let lines = "\
 1 after 1 - = 2 Some(1) b 800001ed glenda glenda glenda 0 0 0 []
 1 after 1 2 = 3 Some(1) f 1a4 glenda glenda glenda 0 0 0 [hi]
 1 after 1 3 = none
 1 after 2 - = none";
-    plays_in_both(&rt, rt.alloc(), lines)?;
-    Ok(())
+    plays_in_both(&rt, rt.alloc(), lines);
 }
 
 // A file of 16777216 bytes is the longest. The last read is after its end.
 #[test]
-fn bytes_change(rt: HostRuntime) -> Result<(), Fail> {
+fn bytes_change(rt: HostRuntime) {
     let lines = "\
 1 write 3 1 op
 1 node 3 = 3 Some(1) f 1a4 glenda glenda glenda 0 0 0 [hop]
@@ -55,18 +53,16 @@ fn bytes_change(rt: HostRuntime) -> Result<(), Fail> {
 1 read 3 2 3 = 3 \0!\0...
 1 read 3 16777215 6 = 1 *.....
 1 read 3 18446744073709551615 6 = 0 ......";
-    plays_in_both(&rt, rt.alloc(), lines)?;
-    Ok(())
+    plays_in_both(&rt, rt.alloc(), lines);
 }
 
 #[test]
-fn a_node_is_marked_and_read(rt: HostRuntime) -> Result<(), Fail> {
+fn a_node_is_marked_and_read(rt: HostRuntime) {
     let lines = "\
 1 mark 1 7
 1 touch 1 9
 1 node 1 = 1 Some(0) a 800001ed glenda glenda rob 1 9 7 []";
-    plays_in_both(&rt, rt.alloc(), lines)?;
-    Ok(())
+    plays_in_both(&rt, rt.alloc(), lines);
 }
 
 // The root is glenda's and staff's afterwards.
@@ -86,7 +82,7 @@ fn a_root_is_given(rt: HostRuntime) -> Result<(), Fail> {
 }
 
 #[test]
-fn numbers_are_given_once(rt: HostRuntime) -> Result<(), Fail> {
+fn numbers_are_given_once(rt: HostRuntime) {
     let lines = "\
 1 after 3 - = none
 1 drop 3
@@ -94,6 +90,5 @@ fn numbers_are_given_once(rt: HostRuntime) -> Result<(), Fail> {
 1 node 1 = 1 Some(0) a 800001ed glenda glenda glenda 0 0 0 []
 1 add 1 f 1a4 glenda glenda glenda 0 0 hi
 1 child 1 f = 4 Some(1) f 1a4 glenda glenda glenda 0 0 0 [hi]";
-    plays_in_both(&rt, rt.alloc(), lines)?;
-    Ok(())
+    plays_in_both(&rt, rt.alloc(), lines);
 }
