@@ -19,7 +19,8 @@ fn push_claim<T: Tree>(
     text: &mut String<T::Alloc>,
     teller: &Teller<'_, '_, T>,
 ) -> Result<(), NoMemory> {
-    let hidden = teller.world.hidden.as_slice();
+    let world = teller.world;
+    let hidden = world.hidden.as_slice();
     if hidden.is_empty() {
         return teller.say(
             text,
@@ -27,7 +28,7 @@ fn push_claim<T: Tree>(
         );
     }
     teller.say(text, &[Part::Text("claim: ")])?;
-    push_users(text, teller, teller.world.users.as_slice())?;
+    push_users(text, teller, world.users.as_slice())?;
     teller.say(text, &[Part::Text(" what is inside ")])?;
     push_paths(text, teller, hidden)
 }

@@ -105,42 +105,32 @@ pub(crate) fn push_right<T: Tree>(
     at: NodeRef,
     wanted: Rights,
 ) -> Result<(), NoMemory> {
-    match holder_at(teller.world, at, wanted) {
-        Some((holder, group)) => say_holder(text, teller, holder, group),
+    let world = teller.world;
+    let Some(node) = world.forest.node(at) else {
+        return Ok(());
+    };
+    match holder_of(world, node, wanted) {
+        Some(holder) => say_holder(text, teller, &holder, node.gid()),
         None => Ok(()),
     }
-}
-
-// The first listed user who has one of these rights of the node at a place, or else the first who
-// rules it; and the node's group.
-fn holder_at<T: Tree>(world: &World<T>, at: NodeRef, wanted: Rights) -> Option<(Holder, User)> {
-    let node = world.forest.node(at)?;
-    let holder = holder_of(world, node, wanted)?;
-    Some((holder, *node.gid()))
 }
 
 // Says who has a right of a node of this group. For others no user is named.
 fn say_holder<T: Tree>(
     text: &mut String<T::Alloc>,
     teller: &Teller<'_, '_, T>,
-    holder: Holder,
-    group: User,
+    holder: &Holder,
+    group: &User,
 ) -> Result<(), NoMemory> {
-    let Holder { user, class, deeds } = holder;
-    let (class_words, deeds) = (Part::Class(class, group), Part::Text(deeds));
-    if class == Class::Other {
-        return teller.say(text, &[class_words, Part::Text(" may "), deeds]);
+    let class = Part::Class(holder.class, *group);
+    let deeds = Part::Text(holder.deeds);
+    if holder.class == Class::Other {
+        return teller.say(text, &[class, Part::Text(" may "), deeds]);
     }
-    let user = Part::User(user);
+    let user = Part::User(holder.user);
     teller.say(
         text,
-        &[
-            user,
-            Part::Text(", "),
-            class_words,
-            Part::Text(", may "),
-            deeds,
-        ],
+        &[user, Part::Text(", "), class, Part::Text(", may "), deeds],
     )
 }
 

@@ -83,7 +83,8 @@ impl<T: Tree> Teller<'_, '_, T> {
 
     // Adds the line that made a node, and what it says.
     fn say_made(&self, text: &mut String<T::Alloc>, at: NodeRef) -> Result<(), NoMemory> {
-        let Some(node) = self.world.forest.node(at) else {
+        let world = self.world;
+        let Some(node) = world.forest.node(at) else {
             return Ok(());
         };
         self.say_line_of(text, at)?;
