@@ -15,10 +15,14 @@ use std::process::Abort;
 
 /// Over the world of a text, in a tree of each kind, makes the call of each line, and compares what
 /// it prints with the text after `=`.
-pub fn plays(rt: &impl Abort, alloc: Global, text: &str, lines: &str) -> Result<(), NoMemory> {
-    plays_on::<PlainTree<Global>>(rt, alloc, &mut space_of(rt, alloc, text)?, lines);
-    plays_on::<IndexTree<Global>>(rt, alloc, &mut space_of(rt, alloc, text)?, lines);
-    Ok(())
+pub fn plays(rt: &impl Abort, alloc: Global, text: &str, lines: &str) {
+    plays_over::<PlainTree<Global>>(rt, alloc, text, lines);
+    plays_over::<IndexTree<Global>>(rt, alloc, text, lines);
+}
+
+fn plays_over<T: Tree<Alloc = Global>>(rt: &impl Abort, alloc: Global, text: &str, lines: &str) {
+    let mut space = space_of::<T>(rt, alloc, text).expect(rt, "memory");
+    plays_on(rt, alloc, &mut space, lines);
 }
 
 fn plays_on<T: Tree>(rt: &impl Abort, alloc: Global, space: &mut Space<T>, lines: &str) {
@@ -89,23 +93,43 @@ fn walk<T: Tree>(
 ) -> Result<String, NoMemory> {
     let user = take_user(line);
     let names: Vec<&str> = line.split(' ').collect(alloc)?;
-    let by_channels = walk_by_channels(alloc, space, names.as_slice(), &user)?;
-    let told = match resolve(
+    walk_both(rt, alloc, space, names.as_slice(), &user)
+}
+
+// What the walk by channels prints is what the walk by the trail does.
+fn walk_both<T: Tree>(
+    rt: &impl Abort,
+    alloc: Global,
+    space: &mut Space<T>,
+    names: &[&str],
+    user: &Option<User>,
+) -> Result<String, NoMemory> {
+    let by_channels = walk_by_channels(alloc, space, names, user)?;
+    let told = walk_by_trail(alloc, space, names, user)?;
+    assert!(rt; by_channels.as_str() == told.as_str());
+    Ok(told)
+}
+
+// Walks the names by the trail, and goes there.
+fn walk_by_trail<T: Tree>(
+    alloc: Global,
+    space: &mut Space<T>,
+    names: &[&str],
+    user: &Option<User>,
+) -> Result<String, NoMemory> {
+    match resolve(
         &space.forest,
         &space.table,
         &space.trail,
-        names.as_slice(),
-        who(&user, &space.groups),
+        names,
+        who(user, &space.groups),
     ) {
         Ok(found) => {
-            let told = trail(alloc, &space.table, &found)?;
             space.trail = found;
-            told
+            Ok(trail(alloc, &space.table, &space.trail)?)
         }
-        Err(fault) => format!(in alloc; "{fault}")?,
-    };
-    assert!(rt; by_channels.as_str() == told.as_str());
-    Ok(told)
+        Err(fault) => Ok(format!(in alloc; "{fault}")?),
+    }
 }
 
 // Walks the names by channels. The last place's file is printed by its row.

@@ -11,7 +11,6 @@ use p9_fids::{Cursor, FIDS_MAX, Fid, FidTable, OpenMode, Opened};
 use p9_space::{Channels, MountTable, Order, Trail};
 use std::alloc::{Allocator, Global};
 use std::process::Abort;
-use std::test::Fail;
 
 /// A fid of glenda's where the channels lead, not open.
 pub fn fid_on<A: Allocator + Copy>(rt: &impl Abort, channels: Channels<A>) -> Fid<A>
@@ -67,15 +66,17 @@ const TO_READ: Opened = Opened {
     cursor: None,
 };
 
-#[test]
-fn fids_are_kept_by_rising_number(rt: HostRuntime) {
-    let alloc = rt.alloc();
-    let table = MountTable::new(alloc);
-    let mut fids = FidTable::new(alloc);
+// Three fids join, and the first of them is taken.
+fn keeps_order(
+    rt: &impl Abort,
+    fids: &mut FidTable<Global>,
+    table: &MountTable<Global>,
+    alloc: Global,
+) {
     assert!(rt; fids.first() == None);
-    put(&rt, &mut fids, &table, 7, alloc, 1);
-    put(&rt, &mut fids, &table, 3, alloc, 1);
-    put(&rt, &mut fids, &table, 9, alloc, 1);
+    for fid in [7, 3, 9] {
+        put(rt, fids, table, fid, alloc, 1);
+    }
     assert!(rt; fids.len() == 3);
     assert!(rt; fids.first() == Some(3));
     assert!(rt; fids.take(3).is_some());
@@ -83,46 +84,64 @@ fn fids_are_kept_by_rising_number(rt: HostRuntime) {
     assert!(rt; fids.take(3).is_none() && fids.get(3).is_none());
 }
 
+#[test]
+fn fids_are_kept_by_rising_number(rt: HostRuntime) {
+    let table = MountTable::new(rt.alloc());
+    let mut fids = FidTable::new(rt.alloc());
+    keeps_order(&rt, &mut fids, &table, rt.alloc());
+}
+
+const REMOVED_ON_CLOSE: Opened = Opened {
+    mode: OpenMode::Read,
+    remove_on_close: true,
+    next_offset: 0,
+    cursor: Some(Cursor {
+        member: 1,
+        number: 4,
+    }),
+};
+
 // The fid 5 moves to where the channels lead, and then is opened, at once or after that.
 fn move_and_open(
     rt: &impl Abort,
     fids: &mut FidTable<Global>,
     channels: Channels<Global>,
-    opened: Opened,
     at_once: bool,
 ) {
     assert!(rt; fids.get(5).is_some());
     if at_once {
-        fids.open_at(5, channels, opened);
+        fids.open_at(5, channels, REMOVED_ON_CLOSE);
     } else {
         fids.move_to(5, channels);
-        open(rt, fids, 5, opened);
+        open(rt, fids, 5, REMOVED_ON_CLOSE);
     }
 }
 
+fn has_moved(rt: &impl Abort, fid: &Fid<Global>) {
+    assert!(rt; fid.channels.trail().here() == node(2));
+    assert!(rt; fid.opened == Some(REMOVED_ON_CLOSE));
+    assert!(rt; fid.user.as_str() == "glenda");
+}
+
+fn moves_and_is_opened(
+    rt: &impl Abort,
+    fids: &mut FidTable<Global>,
+    table: &MountTable<Global>,
+    alloc: Global,
+    at_once: bool,
+) {
+    put(rt, fids, table, 5, alloc, 1);
+    move_and_open(rt, fids, channels_at(rt, table, alloc, 2), at_once);
+    has_moved(rt, &fids.take(5).expect(rt, "the fid"));
+}
+
 #[test]
-fn a_fid_moves_and_is_opened(rt: HostRuntime) -> Result<(), Fail> {
-    let alloc = rt.alloc();
-    let table = MountTable::new(alloc);
-    let opened = Opened {
-        remove_on_close: true,
-        cursor: Some(Cursor {
-            member: 1,
-            number: 4,
-        }),
-        ..TO_READ
-    };
+fn a_fid_moves_and_is_opened(rt: HostRuntime) {
+    let table = MountTable::new(rt.alloc());
     for at_once in [false, true] {
-        let mut fids = FidTable::new(alloc);
-        put(&rt, &mut fids, &table, 5, alloc, 1);
-        let channels = channels_at(&rt, &table, alloc, 2);
-        move_and_open(&rt, &mut fids, channels, opened, at_once);
-        let fid = fids.take(5).ok_or("the fid")?;
-        assert!(rt; fid.channels.trail().here() == node(2));
-        assert!(rt; fid.opened == Some(opened));
-        assert!(rt; fid.user.as_str() == "glenda");
+        let mut fids = FidTable::new(rt.alloc());
+        moves_and_is_opened(&rt, &mut fids, &table, rt.alloc(), at_once);
     }
-    Ok(())
 }
 
 // The fid is refused for the reason, and none joins.
@@ -140,34 +159,52 @@ fn is_refused(
     assert!(rt; fids.len() == 1024);
 }
 
+fn refuses(
+    rt: &impl Abort,
+    fids: &mut FidTable<Global>,
+    table: &MountTable<Global>,
+    alloc: Global,
+) {
+    for fid in 0..FIDS_MAX as u32 {
+        put(rt, fids, table, fid, alloc, 1);
+    }
+    is_refused(rt, fids, table, NOFID, alloc, Fault::UnknownFid);
+    is_refused(rt, fids, table, 0, alloc, Fault::FidInUse);
+    is_refused(rt, fids, table, 1024, alloc, Fault::TooManyFids);
+}
+
 #[test]
 fn a_fid_is_refused_for_the_first_reason(rt: HostRuntime) {
-    let alloc = rt.alloc();
-    let table = MountTable::new(alloc);
-    let mut fids = FidTable::new(alloc);
-    for fid in 0..FIDS_MAX as u32 {
-        put(&rt, &mut fids, &table, fid, alloc, 1);
-    }
-    is_refused(&rt, &mut fids, &table, NOFID, alloc, Fault::UnknownFid);
-    is_refused(&rt, &mut fids, &table, 0, alloc, Fault::FidInUse);
-    is_refused(&rt, &mut fids, &table, 1024, alloc, Fault::TooManyFids);
+    let table = MountTable::new(rt.alloc());
+    let mut fids = FidTable::new(rt.alloc());
+    refuses(&rt, &mut fids, &table, rt.alloc());
 }
 
 // Two fids are open: one on the file of a union, which is the first member, and one on that member.
+fn counts_open(
+    rt: &impl Abort,
+    fids: &mut FidTable<Global>,
+    table: &MountTable<Global>,
+    alloc: Global,
+)
+    requires { AllFit table.now fids.old }
+{
+    put(rt, fids, table, 1, alloc, 3);
+    put(rt, fids, table, 2, alloc, 1);
+    put(rt, fids, table, 3, alloc, 3);
+    open(rt, fids, 1, TO_READ);
+    open(rt, fids, 2, TO_READ);
+    assert!(rt; fids.open_count(table, node(1)) == 2);
+    assert!(rt; fids.open_count(table, node(3)) == 0);
+}
+
 #[test]
-fn open_fids_are_counted_by_their_files(rt: HostRuntime) -> Result<(), Fail> {
-    let alloc = rt.alloc();
-    let mut table = MountTable::new(alloc);
-    table.bind(node(3), &[node(1)], Order::Before, false)?;
-    let mut fids = FidTable::new(alloc);
-    put(&rt, &mut fids, &table, 1, alloc, 3);
-    put(&rt, &mut fids, &table, 2, alloc, 1);
-    put(&rt, &mut fids, &table, 3, alloc, 3);
-    open(&rt, &mut fids, 1, TO_READ);
-    open(&rt, &mut fids, 2, TO_READ);
-    assert!(rt; fids.open_count(&table, node(1)) == 2);
-    assert!(rt; fids.open_count(&table, node(3)) == 0);
-    Ok(())
+fn open_fids_are_counted_by_their_files(rt: HostRuntime) {
+    let mut table = MountTable::new(rt.alloc());
+    let bound = table.bind(node(3), &[node(1)], Order::Before, false);
+    assert!(rt; bound.is_ok());
+    let mut fids = FidTable::new(rt.alloc());
+    counts_open(&rt, &mut fids, &table, rt.alloc());
 }
 
 fn gives(rt: &impl Abort, mode: OpenMode, reads: bool, writes: bool) {

@@ -5,7 +5,7 @@ use crate::words::node;
 use p9_base::{Fault, NoMemory};
 use p9_fids::{Fid, FidTable};
 use p9_space::{Channels, MountTable, Trail};
-use p9_testing::{Refusing, refuse_each};
+use p9_testing::Refusing;
 use std::alloc::{Allocator, Global};
 use std::process::Abort;
 
@@ -33,17 +33,15 @@ fn put<A: Allocator + Copy>(rt: &impl Abort, memory: A, fids: &mut FidTable<A>, 
     }
 }
 
-fn put_all(rt: &impl Abort, memory: &Refusing<Global>) {
-    let mut fids = FidTable::new(memory);
+fn put_all<A: Allocator + Copy>(rt: &impl Abort, memory: A, fids: &mut FidTable<A>) {
     for number in 0..40u32 {
-        put(rt, memory, &mut fids, number);
+        put(rt, memory, fids, number);
     }
     assert!(rt; fids.len() == 40);
 }
 
-#[test]
-fn the_fids_are_as_before_at_each_refusal(rt: HostRuntime) {
-    let memory = Refusing::new(rt.alloc());
-    let refusals = refuse_each(&memory, || (), |()| put_all(&rt, &memory));
-    assert!(rt; refusals > 40);
+/// Makes 40 fids.
+pub fn make_fids(rt: &impl Abort, memory: &Refusing<Global>) {
+    let mut fids = FidTable::new(memory);
+    put_all(rt, memory, &mut fids);
 }

@@ -54,36 +54,53 @@ fn make_given<T: Tree>(rt: &impl Abort, alloc: T::Alloc) -> Result<Given<T>, NoM
     })
 }
 
-// The table has the row that it had, and one more where there is another text.
-fn has_rows<T: Tree>(rt: &impl Abort, printing: Global, given: &Given<T>, made: &str) {
-    let first = row(printing, &given.table, 0).expect(rt, "memory");
-    assert!(rt; first.as_str() == "3 in 0 is 5");
-    let second = row(printing, &given.table, 1).expect(rt, "memory");
-    assert!(rt; second.as_str() == made);
-    let third = row(printing, &given.table, 2).expect(rt, "memory");
-    assert!(rt; third.as_str() == "none");
+fn has_row<T: Tree>(
+    rt: &impl Abort,
+    printing: Global,
+    given: &Given<T>,
+    position: usize,
+    want: &str,
+) {
+    let made = row(printing, &given.table, position).expect(rt, "memory");
+    assert!(rt; made.as_str() == want);
 }
 
-// Runs the text, which reports that `cd /none` failed and makes a row; or an allocation fails, and
-// the table is as before.
-fn run<T: Tree>(rt: &impl Abort, printing: Global, mut given: Given<T>) {
-    let memory = *given.vars.allocator();
-    match run_file(
-        memory,
+// The table has the row that it had, and one more where there is another text.
+fn has_rows<T: Tree>(rt: &impl Abort, printing: Global, given: &Given<T>, made: &str) {
+    has_row(rt, printing, given, 0, "3 in 0 is 5");
+    has_row(rt, printing, given, 1, made);
+    has_row(rt, printing, given, 2, "none");
+}
+
+// Runs the text.
+fn reports_of<T: Tree>(given: &mut Given<T>) -> Result<Vec<(u64, OpFault), T::Alloc>, NsError> {
+    run_file(
+        *given.vars.allocator(),
         TEXT,
         &given.vars,
         &given.servers,
         &given.forest,
         &mut given.table,
-    ) {
+    )
+}
+
+// The reports are that `cd /none` failed.
+fn are_reported(rt: &impl Abort, reports: &[(u64, OpFault)]) {
+    let expected = [(2, OpFault::Path(Fault::NotFound))];
+    assert!(rt; reports == expected.as_slice());
+}
+
+// Runs the text, which reports that `cd /none` failed and makes a row; or an allocation fails, and
+// the table is as before.
+fn run<T: Tree>(rt: &impl Abort, printing: Global, given: &mut Given<T>) {
+    match reports_of(given) {
         Ok(reports) => {
-            let expected = [(2, OpFault::Path(Fault::NotFound))];
-            assert!(rt; reports.as_slice() == expected.as_slice());
-            has_rows(rt, printing, &given, "1 in 0 is 1 0");
+            are_reported(rt, reports.as_slice());
+            has_rows(rt, printing, given, "1 in 0 is 1 0");
         }
         Err(error) => {
             assert!(rt; error == NsError::NoMemory);
-            has_rows(rt, printing, &given, "none");
+            has_rows(rt, printing, given, "none");
         }
     }
 }
@@ -93,7 +110,7 @@ fn run_refused<T: Tree>(rt: &impl Abort, alloc: Global, memory: &Refusing<Global
     let refusals = refuse_each(
         memory,
         || make_given::<T>(rt, lent).expect(rt, "ample memory"),
-        |given| run(rt, alloc, given),
+        |mut given| run(rt, alloc, &mut given),
     );
     assert!(rt; refusals > 20);
 }

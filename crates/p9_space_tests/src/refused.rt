@@ -1,6 +1,7 @@
 //! Calls in which an allocation fails change nothing, and succeed when made again.
 
 use crate::calls::table_text;
+use crate::fids_refused::make_fids;
 use crate::printing::{row, trail};
 use crate::words::node;
 use crate::worlds::{SMALL, Space, space_of};
@@ -11,6 +12,28 @@ use p9_testing::{Refusing, refuse_each};
 use p9_tree::{PlainTree, Tree};
 use std::alloc::Global;
 use std::process::Abort;
+
+// What is made in memory that refuses.
+#[derive(Clone, Copy)]
+enum Making {
+    Table,
+    Trail,
+    Fids,
+}
+
+// Makes it with each request for memory refused in turn, and returns how many requests there are.
+fn make_refused(rt: &impl Abort, alloc: Global, making: Making) -> u64 {
+    let memory = Refusing::new(alloc);
+    refuse_each(&memory, || (), |()| make(rt, alloc, &memory, making))
+}
+
+fn make(rt: &impl Abort, alloc: Global, memory: &Refusing<Global>, making: Making) {
+    match making {
+        Making::Table => make_table(rt, alloc, memory),
+        Making::Trail => make_trail(rt, memory),
+        Making::Fids => make_fids(rt, memory),
+    }
+}
 
 // What a bind with 1 and 2 returns.
 fn bind(
@@ -53,9 +76,9 @@ fn has_row(
 }
 
 // Binds at three keys, and copies the table.
-fn bind_all(rt: &impl Abort, alloc: Global, mut table: MountTable<&Refusing<Global>>) {
+fn bind_all(rt: &impl Abort, alloc: Global, table: &mut MountTable<&Refusing<Global>>) {
     for key in "5 6 7".split(' ') {
-        bind_again(rt, alloc, &mut table, key);
+        bind_again(rt, alloc, table, key);
     }
     if table.copy().is_err() {
         assert!(rt; table.copy().is_ok());
@@ -63,15 +86,14 @@ fn bind_all(rt: &impl Abort, alloc: Global, mut table: MountTable<&Refusing<Glob
     assert!(rt; table.len() == 3);
 }
 
+fn make_table(rt: &impl Abort, alloc: Global, memory: &Refusing<Global>) {
+    let mut table = MountTable::new(memory);
+    bind_all(rt, alloc, &mut table);
+}
+
 #[test]
 fn a_table_is_as_before_at_each_refusal(rt: HostRuntime) {
-    let memory = Refusing::new(rt.alloc());
-    let refusals = refuse_each(
-        &memory,
-        || MountTable::new(&memory),
-        |table| bind_all(&rt, rt.alloc(), table),
-    );
-    assert!(rt; refusals > 3);
+    assert!(rt; make_refused(&rt, rt.alloc(), Making::Table) > 3);
 }
 
 // A trail's beginning, made again where it was refused.
@@ -92,10 +114,10 @@ fn push(rt: &impl Abort, trail: &mut Trail<&Refusing<Global>>, number: u64) {
     }
 }
 
-fn make_trail(rt: &impl Abort, memory: &Refusing<Global>) {
-    let mut trail = begin(rt, memory);
+// Goes to 39 places, and copies the trail.
+fn push_all(rt: &impl Abort, trail: &mut Trail<&Refusing<Global>>) {
     for number in 1..40 {
-        push(rt, &mut trail, number);
+        push(rt, trail, number);
     }
     if trail.copy().is_err() {
         assert!(rt; trail.copy().is_ok());
@@ -103,11 +125,26 @@ fn make_trail(rt: &impl Abort, memory: &Refusing<Global>) {
     assert!(rt; trail.here() == node(39));
 }
 
+fn make_trail(rt: &impl Abort, memory: &Refusing<Global>) {
+    let mut trail = begin(rt, memory);
+    push_all(rt, &mut trail);
+}
+
 #[test]
 fn a_trail_is_as_before_at_each_refusal(rt: HostRuntime) {
-    let memory = Refusing::new(rt.alloc());
-    let refusals = refuse_each(&memory, || (), |()| make_trail(&rt, &memory));
-    assert!(rt; refusals > 2);
+    assert!(rt; make_refused(&rt, rt.alloc(), Making::Trail) > 2);
+}
+
+#[test]
+fn the_fids_are_as_before_at_each_refusal(rt: HostRuntime) {
+    assert!(rt; make_refused(&rt, rt.alloc(), Making::Fids) > 40);
+}
+
+// By what the names `a` and `b` are walked.
+#[derive(Clone, Copy)]
+enum Way {
+    Trail,
+    Channels,
 }
 
 // No user.
@@ -127,20 +164,7 @@ fn walk<T: Tree>(space: &Space<T>) -> Result<Trail<T::Alloc>, Fault> {
     )
 }
 
-// Walks, again where it was refused.
-fn walk_again<T: Tree>(rt: &impl Abort, alloc: Global, space: &Space<T>) {
-    let found = match walk(space) {
-        Ok(found) => found,
-        Err(fault) => {
-            assert!(rt; fault == Fault::OutOfMemory);
-            walk(space).expect(rt, "a walk")
-        }
-    };
-    let told = trail(alloc, &space.table, &found).expect(rt, "memory");
-    assert!(rt; told.as_str() == "0 1 2 ");
-}
-
-// Walks the names `a` and `b` by channels.
+// Walks to it by channels.
 fn walk_by_channels<T: Tree>(space: &Space<T>) -> Result<Channels<T::Alloc>, Fault> {
     let names = ["a", "b"];
     let mut channels = Channels::of(&space.table, &space.trail)?;
@@ -154,43 +178,56 @@ fn walk_by_channels<T: Tree>(space: &Space<T>) -> Result<Channels<T::Alloc>, Fau
     Ok(channels.copy()?)
 }
 
-// Walks so, again where it was refused.
-fn walk_by_channels_again<T: Tree>(rt: &impl Abort, alloc: Global, space: &Space<T>) {
-    let found = match walk_by_channels(space) {
-        Ok(found) => found,
+// Walks, and prints the places.
+fn told_of<T: Tree>(
+    rt: &impl Abort,
+    alloc: Global,
+    space: &Space<T>,
+    way: Way,
+) -> Result<String, Fault> {
+    let told = match way {
+        Way::Trail => trail(alloc, &space.table, &walk(space)?),
+        Way::Channels => trail(alloc, &space.table, walk_by_channels(space)?.trail()),
+    };
+    Ok(told.expect(rt, "memory"))
+}
+
+// Walks, again where it was refused.
+fn walk_again<T: Tree>(rt: &impl Abort, alloc: Global, space: &Space<T>, way: Way) {
+    let told = match told_of(rt, alloc, space, way) {
+        Ok(told) => told,
         Err(fault) => {
             assert!(rt; fault == Fault::OutOfMemory);
-            walk_by_channels(space).expect(rt, "a walk")
+            told_of(rt, alloc, space, way).expect(rt, "a walk")
         }
     };
-    let told = trail(alloc, &space.table, found.trail()).expect(rt, "memory");
     assert!(rt; told.as_str() == "0 1 2 ");
 }
 
-// Both, with each request of memory refused in turn.
+// Walks with each request of memory refused in turn.
 fn walk_refused<T: Tree>(
     rt: &impl Abort,
     alloc: Global,
     memory: &Refusing<Global>,
     lent: T::Alloc,
+    way: Way,
 ) {
     let refusals = refuse_each(
         memory,
         || space_of::<T>(rt, lent, SMALL).expect(rt, "ample memory"),
-        |space| walk_by_channels_again(rt, alloc, &space),
-    );
-    assert!(rt; refusals > 0);
-    let refusals = refuse_each(
-        memory,
-        || space_of::<T>(rt, lent, SMALL).expect(rt, "ample memory"),
-        |space| walk_again(rt, alloc, &space),
+        |space| walk_again(rt, alloc, &space, way),
     );
     assert!(rt; refusals > 0);
 }
 
+fn walk_refused_on_both(rt: &impl Abort, alloc: Global, way: Way) {
+    let memory = Refusing::new(alloc);
+    walk_refused::<PlainTree<&Refusing<Global>>>(rt, alloc, &memory, &memory, way);
+    walk_refused::<IndexTree<&Refusing<Global>>>(rt, alloc, &memory, &memory, way);
+}
+
 #[test]
 fn a_walk_is_done_again_at_each_refusal(rt: HostRuntime) {
-    let memory = Refusing::new(rt.alloc());
-    walk_refused::<PlainTree<&Refusing<Global>>>(&rt, rt.alloc(), &memory, &memory);
-    walk_refused::<IndexTree<&Refusing<Global>>>(&rt, rt.alloc(), &memory, &memory);
+    walk_refused_on_both(&rt, rt.alloc(), Way::Trail);
+    walk_refused_on_both(&rt, rt.alloc(), Way::Channels);
 }

@@ -3,7 +3,8 @@
 use p9_base::{Fault, NoMemory};
 use p9_nsfile::{BadForm, NsError, OpFault};
 use p9_space::UnmountError;
-use std::test::Fail;
+use std::alloc::Global;
+use std::process::Abort;
 
 const FORMS: [(BadForm, &str); 3] = [
     (BadForm::UnknownWord, "unknown word"),
@@ -24,38 +25,43 @@ const FAULTS: [(OpFault, &str); 10] = [
     (OpFault::TooDeep, "nested too deep"),
 ];
 
+fn form_has_texts(rt: &impl Abort, alloc: Global, kind: BadForm, text: &str) {
+    assert!(rt; kind.text() == text);
+    let error = NsError::BadLine { line: 7, kind };
+    let shown = format!(in alloc; "{kind}, {error}").expect(rt, "memory");
+    let want = format!(in alloc; "{text}, line 7: {text}").expect(rt, "memory");
+    assert!(rt; shown.as_str() == want.as_str());
+}
+
 #[test]
-fn bad_forms_have_texts(rt: HostRuntime) -> Result<(), Fail> {
+fn bad_forms_have_texts(rt: HostRuntime) {
     for (kind, text) in FORMS {
-        assert!(rt; kind.text() == text);
-        let shown = format!(in rt.alloc(); "{kind}")?;
-        assert!(rt; shown.as_str() == text);
-        let error = NsError::BadLine { line: 7, kind };
-        let shown = format!(in rt.alloc(); "{error}")?;
-        assert!(rt; shown.as_str().strip_prefix("line 7: ") == Some(text));
+        form_has_texts(&rt, rt.alloc(), kind, text);
     }
-    Ok(())
+}
+
+fn fault_has_text(rt: &impl Abort, alloc: Global, fault: OpFault, text: &str) {
+    assert!(rt; fault.text() == text);
+    let shown = format!(in alloc; "{fault}").expect(rt, "memory");
+    assert!(rt; shown.as_str() == text);
 }
 
 #[test]
-fn faults_have_texts(rt: HostRuntime) -> Result<(), Fail> {
+fn faults_have_texts(rt: HostRuntime) {
     for (fault, text) in FAULTS {
-        assert!(rt; fault.text() == text);
-        let shown = format!(in rt.alloc(); "{fault}")?;
-        assert!(rt; shown.as_str() == text);
+        fault_has_text(&rt, rt.alloc(), fault, text);
     }
-    Ok(())
 }
 
 #[test]
-fn other_errors_have_texts(rt: HostRuntime) -> Result<(), Fail> {
+fn other_errors_have_texts(rt: HostRuntime) {
     let shown = format!(in rt.alloc();
         "{}, {}, {}, {}",
         UnmountError::NotMounted,
         UnmountError::NotMember,
         NsError::NoMemory,
         NoMemory
-    )?;
+    );
+    let shown = shown.expect(&rt, "memory");
     assert!(rt; shown.as_str() == "not mounted, not in the union, out of memory, out of memory");
-    Ok(())
 }

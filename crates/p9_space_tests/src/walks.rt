@@ -2,31 +2,28 @@
 
 use crate::calls::plays;
 use crate::worlds::{DEEP, SHUT, SMALL, UNIONS};
-use std::test::Fail;
 
 #[test]
-fn a_walk_goes_on_in_a_union(rt: HostRuntime) -> Result<(), Fail> {
+fn a_walk_goes_on_in_a_union(rt: HostRuntime) {
     let lines = "\
 bind 3 after - 1
 walk glenda x n = 0 3 4 
 key 0 = 3 in 0 is 3 1";
-    plays(&rt, rt.alloc(), UNIONS, lines)?;
-    Ok(())
+    plays(&rt, rt.alloc(), UNIONS, lines);
 }
 
 #[test]
-fn dot_dot_is_lexical(rt: HostRuntime) -> Result<(), Fail> {
+fn dot_dot_is_lexical(rt: HostRuntime) {
     let lines = "\
 bind 3 replace - 2
 walk glenda m = 0 2 
 walk glenda .. = 0 ";
-    plays(&rt, rt.alloc(), DEEP, lines)?;
-    Ok(())
+    plays(&rt, rt.alloc(), DEEP, lines);
 }
 
 // The first member can't be searched and is passed over; without a user it is searched.
 #[test]
-fn a_member_is_passed_over(rt: HostRuntime) -> Result<(), Fail> {
+fn a_member_is_passed_over(rt: HostRuntime) {
     let lines = "\
 bind 3 before - 1
 walk glenda u n = permission denied
@@ -34,12 +31,11 @@ walk glenda x n = 0 1 4
 up
 up
 walk - x n = 0 1 2 ";
-    plays(&rt, rt.alloc(), SHUT, lines)?;
-    Ok(())
+    plays(&rt, rt.alloc(), SHUT, lines);
 }
 
 #[test]
-fn each_step_may_be_refused(rt: HostRuntime) -> Result<(), Fail> {
+fn each_step_may_be_refused(rt: HostRuntime) {
     let lines = "\
 step glenda none = file does not exist
 step glenda = file does not exist
@@ -57,13 +53,12 @@ bind 2 replace - 3 2
 up
 up
 walk glenda a b = phase error";
-    plays(&rt, rt.alloc(), SMALL, lines)?;
-    Ok(())
+    plays(&rt, rt.alloc(), SMALL, lines);
 }
 
 // A name that isn't there is reported before the depth.
 #[test]
-fn a_path_may_be_too_deep(rt: HostRuntime) -> Result<(), Fail> {
+fn a_path_may_be_too_deep(rt: HostRuntime) {
     let lines = "\
 bind 1 replace - 0
 walk - a a a a a a a a a a a a a a a a a a a a a a a a a a a a a a a a a a a a a a a a \
@@ -73,6 +68,5 @@ step - a = path too deep
 step - b = file does not exist
 up
 step - a = to 1 in 0";
-    plays(&rt, rt.alloc(), SMALL, lines)?;
-    Ok(())
+    plays(&rt, rt.alloc(), SMALL, lines);
 }
