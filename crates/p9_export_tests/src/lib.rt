@@ -1,6 +1,8 @@
 //! Tests of the exporter that no row of `p9_rows` has: allocations that fail, so many files, fids,
 //! modes or bytes that a loop says it better, and calls that the program's command doesn't make.
 //! Each test runs over both kinds of tree, and requires the same bytes of both.
+//!
+//! `space` has the tests of p9_space, p9_fids and p9_nsfile.
 #![tactic(auto)]
 
 #[cfg(test)]
@@ -31,6 +33,8 @@ mod refused_scripts;
 mod renamed;
 #[cfg(test)]
 mod sessions;
+#[cfg(test)]
+mod space;
 #[cfg(test)]
 mod unions;
 #[cfg(test)]

@@ -1,5 +1,7 @@
 //! Tests of the server: clients on loopback, in one process with it, hostile ones among them, inputs
 //! that are served at an address, and allocations that fail while a client is taken in.
+//!
+//! `guard` has the tests of p9_guard.
 #![tactic(auto)]
 
 #[cfg(test)]
@@ -8,6 +10,8 @@ mod clients;
 mod clock;
 #[cfg(test)]
 mod failures;
+#[cfg(test)]
+mod guard;
 #[cfg(test)]
 mod inputs;
 #[cfg(test)]

@@ -4,6 +4,8 @@
 //!
 //! A test is a text with a call in each line, and its expected result after `=`. So a proof loads
 //! one literal, whatever a test has in it, which costs much less than a table of values.
+//!
+//! `wire` has the tests of p9_wire, p9_words and p9_exchange.
 #![tactic(auto)]
 
 #[cfg(test)]
@@ -32,6 +34,8 @@ mod refused;
 mod testing;
 #[cfg(test)]
 mod text;
+#[cfg(test)]
+mod wire;
 #[cfg(test)]
 mod words;
 #[cfg(test)]

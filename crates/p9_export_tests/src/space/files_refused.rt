@@ -1,8 +1,8 @@
 //! A run of a namespace file in which an allocation fails does not change the table.
 
-use crate::printing::row;
-use crate::words::node;
-use crate::worlds::forest;
+use crate::space::printing::row;
+use crate::space::words::node;
+use crate::space::worlds::forest;
 use p9_base::{Fault, NoMemory};
 use p9_index::IndexTree;
 use p9_nsfile::{NsError, OpFault, run_file};

@@ -1,6 +1,6 @@
 //! Every request and reply of the vectors, read and written back; and each request cut short.
 
-use crate::bytes::{needs_all_bytes, no_request_shorter, reads_r, reads_t};
+use crate::wire::bytes::{needs_all_bytes, no_request_shorter, reads_r, reads_t};
 use p9_testing::bytes_of;
 use p9_wire::{read_r, read_t};
 use std::alloc::Global;

@@ -1,8 +1,8 @@
 //! The calls of mount tables and walks, made from lines.
 
-use crate::printing::{channels_text, members, row, step, trail};
-use crate::words::{nodes, take_node, take_order, take_position, take_user, take_word};
-use crate::worlds::{Space, space_of};
+use crate::space::printing::{channels_text, members, row, step, trail};
+use crate::space::words::{nodes, take_node, take_order, take_position, take_user, take_word};
+use crate::space::worlds::{Space, space_of};
 use p9_base::{Fault, Groups, NoMemory, User};
 use p9_index::IndexTree;
 use p9_space::{

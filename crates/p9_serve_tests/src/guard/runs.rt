@@ -1,6 +1,6 @@
 //! Scripts as lists of events.
 
-use crate::scripts::{Script, Step, step_of};
+use crate::guard::scripts::{Script, Step, step_of};
 use p9_export::Event;
 use p9_testing::bytes_of;
 use std::alloc::Global;

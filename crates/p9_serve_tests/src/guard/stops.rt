@@ -3,10 +3,10 @@
 //! without the openings and the requests that were refused, and at the place of each such request
 //! the reply `out of memory`.
 
-use crate::refusals::{is_refusal, may_run_out};
-use crate::runs::{Run, whole};
-use crate::scripts::{SCRIPTS, Script, Step, step_of};
-use crate::worlds::scripted;
+use crate::guard::refusals::{is_refusal, may_run_out};
+use crate::guard::runs::{Run, whole};
+use crate::guard::scripts::{SCRIPTS, Script, Step, step_of};
+use crate::guard::worlds::scripted;
 use byteorder::{ByteOrder, LittleEndian};
 use p9_export::Event;
 use p9_guard::{Guard, Stopped};

@@ -1,6 +1,6 @@
 //! Requests that come near a hidden directory: what is in it changes no reply.
 
-use crate::worlds::{
+use crate::guard::worlds::{
     Bind, CERTIFICATE, COVERED_VAULT, Row, VAULT, guard_of, replace, replies, run, session,
     world_of,
 };

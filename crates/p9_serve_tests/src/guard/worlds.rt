@@ -1,6 +1,6 @@
 //! Guards of small worlds, and the events of a session.
 
-use crate::scripts::Script;
+use crate::guard::scripts::Script;
 use p9_base::NodeRef;
 use p9_cert::{Certificate, read_cert};
 use p9_export::Event;

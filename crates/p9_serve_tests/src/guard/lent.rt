@@ -1,8 +1,8 @@
 //! A guard that is dropped gives back all that it was lent: over a heap that counts its bytes.
 
-use crate::runs::whole;
-use crate::scripts::{SCRIPTS, Script};
-use crate::worlds::scripted;
+use crate::guard::runs::whole;
+use crate::guard::scripts::{SCRIPTS, Script};
+use crate::guard::worlds::scripted;
 use linked_list_allocator::LocalHeap;
 use p9_index::IndexTree;
 use p9_tree::{PlainTree, Tree};

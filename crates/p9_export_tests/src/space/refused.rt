@@ -1,10 +1,10 @@
 //! Calls in which an allocation fails change nothing, and succeed when made again.
 
-use crate::calls::table_text;
-use crate::fids_refused::make_fids;
-use crate::printing::{row, trail};
-use crate::words::node;
-use crate::worlds::{SMALL, Space, space_of};
+use crate::space::calls::table_text;
+use crate::space::fids_refused::make_fids;
+use crate::space::printing::{row, trail};
+use crate::space::words::node;
+use crate::space::worlds::{SMALL, Space, space_of};
 use p9_base::{Fault, NoMemory};
 use p9_index::IndexTree;
 use p9_space::{Channels, MountTable, PLACES_MAX, Trail, Who, advance, resolve};

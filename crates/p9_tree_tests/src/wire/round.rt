@@ -1,6 +1,6 @@
 //! Each line is printed of its frame, and is read as it.
 
-use crate::lines::{REPLIES, REQUESTS};
+use crate::wire::lines::{REPLIES, REQUESTS};
 use p9_testing::bytes_of;
 use p9_wire::{read_r, read_t};
 use p9_words::{print_reply, print_request, read_words};

@@ -1,7 +1,7 @@
 //! Binds and unmounts, and what a user may do with a file.
 
-use crate::calls::plays;
-use crate::worlds::{GROUPED, SMALL, UNIONS};
+use crate::space::calls::plays;
+use crate::space::worlds::{GROUPED, SMALL, UNIONS};
 
 #[test]
 fn a_bind_replaces(rt: HostRuntime) {

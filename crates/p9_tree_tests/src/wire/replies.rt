@@ -1,6 +1,6 @@
 //! Replies as the vectors spell them.
 
-use crate::bytes::{UNTOUCHED, holds_only, reply};
+use crate::wire::bytes::{UNTOUCHED, holds_only, reply};
 use p9_base::Qid;
 use p9_testing::bytes_of;
 use p9_wire::{HEADER, NOTAG, Qids, RMsg, Stat, finish_read, write_stat};

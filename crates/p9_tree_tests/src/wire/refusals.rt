@@ -1,6 +1,6 @@
 //! Allocations that fail: a call says so and changes nothing, and with memory it does all.
 
-use crate::lines::{REPLIES, REQUESTS};
+use crate::wire::lines::{REPLIES, REQUESTS};
 use p9_testing::{Refusing, bytes_of, refuse_each};
 use p9_wire::{read_r, read_t};
 use p9_words::{WordsError, print_reply, print_request, read_words};

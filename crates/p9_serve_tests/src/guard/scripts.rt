@@ -1,6 +1,6 @@
 //! Scripts of sessions over a guard. Their worlds, requests and replies come from outside.
 
-use crate::worlds::{Bind, CERTIFICATE, COVERED_VAULT};
+use crate::guard::worlds::{Bind, CERTIFICATE, COVERED_VAULT};
 use p9_space::Order;
 use std::process::Abort;
 

@@ -1,7 +1,7 @@
 //! Pairs of worlds that differ only inside a hidden directory: sessions that name what may be there
 //! get the same bytes from both.
 
-use crate::worlds::{CERTIFICATE, Row, guard_of, run, session, world_of};
+use crate::guard::worlds::{CERTIFICATE, Row, guard_of, run, session, world_of};
 use p9_index::IndexTree;
 use p9_tree::{PlainTree, Tree};
 use std::alloc::Global;

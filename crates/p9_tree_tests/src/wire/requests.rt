@@ -1,6 +1,6 @@
 //! Requests as the vectors spell them.
 
-use crate::bytes::request;
+use crate::wire::bytes::request;
 use p9_base::{NOFID, Qid};
 use p9_testing::bytes_of;
 use p9_wire::{NOTAG, Names, Stat, TMsg};

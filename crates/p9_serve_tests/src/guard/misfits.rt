@@ -1,7 +1,7 @@
 //! A list of events with closings, and with events that don't fit: they do nothing and have no
 //! reply.
 
-use crate::worlds::{ATTACH, CERTIFICATE, Row, VAULT, VERSION, certificate_of, world_of};
+use crate::guard::worlds::{ATTACH, CERTIFICATE, Row, VAULT, VERSION, certificate_of, world_of};
 use p9_export::Event;
 use p9_guard::Guard;
 use p9_index::IndexTree;

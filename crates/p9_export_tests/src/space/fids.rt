@@ -5,7 +5,7 @@ ghost use Rattle.p9_space.specs.Channel.{Fits};
 ghost use Rattle.p9_space.specs.Table.{MountRow};
 ghost use Rattle.p9_fids.specs.Held.{AllFit, HeldFits};
 
-use crate::words::node;
+use crate::space::words::node;
 use p9_base::{Fault, NOFID, User};
 use p9_fids::{Cursor, FIDS_MAX, Fid, FidTable, OpenMode, Opened};
 use p9_space::{Channels, MountTable, Order, Trail};

@@ -1,7 +1,7 @@
 //! Fids where an allocation fails.
 
-use crate::fids::fid_on;
-use crate::words::node;
+use crate::space::fids::fid_on;
+use crate::space::words::node;
 use p9_base::{Fault, NoMemory};
 use p9_fids::{Fid, FidTable};
 use p9_space::{Channels, MountTable, Trail};

@@ -1,6 +1,6 @@
 //! Frames that are no message. Each is no whole frame where it is cut short.
 
-use crate::bytes::{needs_all_bytes, no_request_shorter};
+use crate::wire::bytes::{needs_all_bytes, no_request_shorter};
 use p9_testing::bytes_of;
 use p9_wire::{read_r, read_t};
 use std::test::Fail;

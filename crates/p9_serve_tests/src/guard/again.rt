@@ -1,9 +1,9 @@
 //! Scripts over a guard with each request for memory refused in turn: a request that is answered
 //! `out of memory` is sent again, and an opening that was refused is made again.
 
-use crate::refusals::{is_refusal, may_run_out};
-use crate::scripts::{SCRIPTS, Script, Step, step_of};
-use crate::worlds::scripted;
+use crate::guard::refusals::{is_refusal, may_run_out};
+use crate::guard::scripts::{SCRIPTS, Script, Step, step_of};
+use crate::guard::worlds::scripted;
 use p9_export::{OpenError, is_frame};
 use p9_guard::Guard;
 use p9_index::IndexTree;

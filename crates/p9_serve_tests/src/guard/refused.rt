@@ -1,6 +1,6 @@
 //! Allocations that fail while a guard is made.
 
-use crate::worlds::{CERTIFICATE, VAULT, certificate_of, replace, table_of, world_of};
+use crate::guard::worlds::{CERTIFICATE, VAULT, certificate_of, replace, table_of, world_of};
 use p9_base::NodeRef;
 use p9_guard::{Cause, Guard};
 use p9_index::IndexTree;

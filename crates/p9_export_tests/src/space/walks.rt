@@ -1,7 +1,7 @@
 //! Walks from place to place, and why a step may be refused.
 
-use crate::calls::plays;
-use crate::worlds::{DEEP, SHUT, SMALL, UNIONS};
+use crate::space::calls::plays;
+use crate::space::worlds::{DEEP, SHUT, SMALL, UNIONS};
 
 #[test]
 fn a_walk_goes_on_in_a_union(rt: HostRuntime) {

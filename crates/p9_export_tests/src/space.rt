@@ -1,0 +1,14 @@
+//! Tests of p9_space, p9_fids and p9_nsfile: mount tables, walks, fids, namespace files, and
+//! allocations that fail.
+
+mod calls;
+mod fids;
+mod fids_refused;
+mod files_refused;
+mod printing;
+mod refused;
+mod tables;
+mod texts;
+mod walks;
+mod words;
+mod worlds;
