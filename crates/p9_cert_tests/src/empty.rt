@@ -1,6 +1,6 @@
 //! A world without a server.
 
-use crate::printing::found;
+use crate::printing::{found, is_told};
 use p9_base::Groups;
 use p9_index::IndexTree;
 use p9_judge::{Verdict, judge};
@@ -26,14 +26,14 @@ fn no_server<T: Tree>(alloc: T::Alloc) -> World<T> {
 // What is found, and of which mount table and certificate.
 const GAPS: &str = "\
 ok = |
-gap row 1 absent = | dir 0 0
+gap row_1 absent = | dir 0 0
 gap table 0 0 = 0 0 0 0 |";
 
 fn are_found<T: Tree>(rt: &impl Abort, alloc: Global, world: &World<T>) {
     for row in GAPS.lines() {
         let (want, rows) = row.split_once(" = ").expect(rt, "a row");
         let told = found(rt, alloc, world, rows);
-        assert!(rt; told.as_str() == want, "{row}");
+        is_told(rt, alloc, told.as_str(), want);
     }
 }
 

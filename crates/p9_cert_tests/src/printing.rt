@@ -18,6 +18,12 @@ pub fn told(rt: &impl Abort, alloc: Global, row: &str) -> String {
     plain
 }
 
+/// The words that were told are those that are wanted, which have underscores for some blanks.
+pub fn is_told(rt: &impl Abort, alloc: Global, told: &str, want: &str) {
+    let want = want.replace(alloc, '_', " ").expect(rt, "memory");
+    assert!(rt; told == want.as_str(), "{told}");
+}
+
 fn told_over<T: Tree>(rt: &impl Abort, alloc: Global, lent: T::Alloc, row: &str) -> String {
     let (world, rows) = row.split_once('|').expect(rt, "a table");
     found(rt, alloc, &world_of::<T>(rt, lent, world), rows)
