@@ -41,27 +41,29 @@ impl Server for Served {
         input: &mut Vec<u8, Global>,
         output: &mut Vec<u8, Global>,
     ) -> io::Result<()> {
-        let Frame::Whole(size) = frame_of(input.as_slice()) else {
-            return Ok(());
-        };
-        let size = size.min(input.len());
-        reply(&mut self.guard, &input[..size], output)?;
-        *input = input.split_off(size)?;
+        let taken = answer_first(&mut self.guard, input.as_slice(), output)?;
+        *input = input.split_off(taken.min(input.len()))?;
         Ok(())
     }
 }
 
-// Makes the reply of a guard to a request.
-fn reply<T: Tree>(
+// Makes the reply of a guard to the first request, if it is whole. Returns how many bytes that has.
+fn answer_first<T: Tree>(
     guard: &mut Guard<T>,
-    request: &[u8],
+    input: &[u8],
     output: &mut Vec<u8, Global>,
-) -> io::Result<()> {
-    let room = guard.reply_max(SESSION).unwrap_or(0);
+) -> io::Result<usize> {
+    let Frame::Whole(size) = frame_of(input) else {
+        return Ok(0);
+    };
+    let size = size.min(input.len());
+    let Some(room) = guard.reply_max(SESSION) else {
+        return Ok(0);
+    };
     output.resize(room, 0)?;
-    let len = guard.answer(SESSION, request, 0, output.as_mut_slice());
+    let len = guard.answer(SESSION, &input[..size], 0, output.as_mut_slice());
     output.truncate(len);
-    Ok(())
+    Ok(size)
 }
 
 /// A stream to a new guard of the world above.
