@@ -1,5 +1,6 @@
 pub mod Calls
 pub mod Exchanged
+pub mod Listed
 pub mod Parts
 pub mod ReadAhead
 pub mod ReadPieces

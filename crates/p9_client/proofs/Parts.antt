@@ -6,6 +6,7 @@ use Rattle.std.proofs.Math.Seq.{take-add}
 use Rattle.std.proofs.lemmas.List.{drop-append-le}
 use Rattle.std.proofs.lemmas.Slice.{take-put_mid, take-put_mid_below}
 use Rattle.std.specs.Io.KnownBytes.{Appends, Consumes, Keeps}
+use Rattle.p9_wire.specs.Writing.{Writes}
 use borrow.Rule.Slice.PartMut.{put_mid}
 
 -- what is left of bytes
@@ -84,3 +85,9 @@ read-both a b c first size old new ordered kept read more =
     ap (λ (zs : List ℕ). zs ++ drop first (take size new)) (sym kept ∙ sym (take-take first size new ordered))
     ∙ take-append-drop first (take size new) in
     subst (Consumes a c) joined (Consumes-trans a b c _ _ read more)
+
+-- what was written is at the front
+pub written-front : (spelling : List ℕ) (end : ℕ) (old new : List ℕ) → Writes spelling end old new
+    → take end new ≡ spelling
+written-front spelling end old new written =
+    ap (take end) written.bytes ∙ take_at spelling (drop end old) end (sym written.ends)
