@@ -68,19 +68,10 @@ fn end_words<T: Tree>(
     let mut text = String::new(alloc);
     let left = path_width(alloc, teller.world, breach.member)?;
     push_blanks(&mut text, left.saturating_add(2), column)?;
-    push_end(&mut text, teller, breach)?;
-    Ok(text)
-}
-
-// Adds what is wrong with the member that the walk leads to, and how to mend that.
-fn push_end<T: Tree>(
-    text: &mut String<T::Alloc>,
-    teller: &Teller<'_, '_, T>,
-    breach: &Breach<T::Alloc>,
-) -> Result<(), NoMemory> {
-    push_found(text, teller, found_of(teller.world, breach))?;
+    push_found(&mut text, teller, found_of(teller.world, breach))?;
     let mend = Part::Text(mend(teller.world, breach));
-    teller.say(text, &[Part::Text("mend: "), mend, Part::Text("\n")])
+    teller.say(&mut text, &[Part::Text("mend: "), mend, Part::Text("\n")])?;
+    Ok(text)
 }
 
 // The member that the walk leads to, at the place after the last step.
@@ -113,28 +104,15 @@ fn head_words<T: Tree>(
     breach: &Breach<T::Alloc>,
 ) -> Result<String<T::Alloc>, NoMemory> {
     let mut text = String::new(alloc);
-    push_head(&mut text, teller, breach)?;
-    Ok(text)
-}
-
-// Adds what is within reach, and who attaches.
-fn push_head<T: Tree>(
-    text: &mut String<T::Alloc>,
-    teller: &Teller<'_, '_, T>,
-    breach: &Breach<T::Alloc>,
-) -> Result<(), NoMemory> {
     let dir = Part::Path(hidden_dir(teller.world, breach.member));
     let reach = Part::Text(" is within reach\n");
-    teller.say(text, &[Part::Text("the inside of "), dir, reach])?;
-    let Some(step) = breach.steps.first() else {
-        return Ok(());
-    };
-    let (user, root) = (Part::User(step.user), Part::Path(ROOT_PLACE));
-    let attaches = Part::Text(" attaches at ");
-    teller.say(
-        text,
-        &[Part::Text("  "), user, attaches, root, Part::Text("\n")],
-    )
+    teller.say(&mut text, &[Part::Text("the inside of "), dir, reach])?;
+    if let Some(step) = breach.steps.first() {
+        let (user, root) = (Part::User(step.user), Part::Path(ROOT_PLACE));
+        let (attaches, end) = (Part::Text(" attaches at "), Part::Text("\n"));
+        teller.say(&mut text, &[Part::Text("  "), user, attaches, root, end])?;
+    }
+    Ok(text)
 }
 
 // How a breach is mended.
@@ -239,23 +217,13 @@ fn pass_words<T: Tree>(
 ) -> Result<String<T::Alloc>, NoMemory> {
     let mut text = String::new(alloc);
     push_blanks(&mut text, 0, blanks)?;
-    push_pass(&mut text, teller, step, place)?;
-    Ok(text)
-}
-
-// Adds the line that made the directory of a step, by which right it is passed, and where it is bound.
-fn push_pass<T: Tree>(
-    text: &mut String<T::Alloc>,
-    teller: &Teller<'_, '_, T>,
-    step: &Step,
-    place: Option<NodeRef>,
-) -> Result<(), NoMemory> {
-    teller.say(text, &[Part::Text("("), Part::Made(step.member)])?;
+    teller.say(&mut text, &[Part::Text("("), Part::Made(step.member)])?;
     if let Some((class, deed)) = pass_right(teller.world, step) {
-        teller.say(text, &[Part::Text(": "), class, Part::Text(deed)])?;
+        teller.say(&mut text, &[Part::Text(": "), class, Part::Text(deed)])?;
     }
     let bound = Part::Bound(place, step.member);
-    teller.say(text, &[Part::Text(")"), bound, Part::Text("\n")])
+    teller.say(&mut text, &[Part::Text(")"), bound, Part::Text("\n")])?;
+    Ok(text)
 }
 
 // As what the user of a step passes its directory, and what that is.

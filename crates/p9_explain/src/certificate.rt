@@ -4,7 +4,7 @@ use crate::head::Section;
 use crate::member::{Found, push_found};
 use crate::source::Source;
 use crate::teller::{Part, Teller};
-use p9_base::{NoMemory, NodeRef, Statement, statements};
+use p9_base::{NoMemory, NodeRef, statements};
 use p9_cert::{Certificate, Gap, MemberFault, RowFault};
 use p9_space::ROOT_PLACE;
 use p9_tree::Tree;
@@ -22,19 +22,11 @@ pub(crate) fn push_certificate<T: Tree>(
     match (certificate, gap) {
         (None, _) => teller.say(text, &[Part::Text("certificate: none\n")]),
         (Some(_), None) => teller.say(text, &[Part::Text("certificate: accepted\n")]),
-        (Some(certificate), Some(gap)) => push_first_gap(text, teller, certificate.rows(), gap),
+        (Some(certificate), Some(gap)) => {
+            teller.say(text, &[Part::Text("certificate: not accepted: ")])?;
+            push_gap(text, teller, certificate.rows(), gap)
+        }
     }
-}
-
-// Adds that these rows are not accepted, and their first gap.
-fn push_first_gap<T: Tree>(
-    text: &mut String<T::Alloc>,
-    teller: &Teller<'_, '_, T>,
-    rows: &[NodeRef],
-    gap: Gap,
-) -> Result<(), NoMemory> {
-    teller.say(text, &[Part::Text("certificate: not accepted: ")])?;
-    push_gap(text, teller, rows, gap)
 }
 
 // Adds a gap in words.
@@ -155,13 +147,8 @@ fn row_line<A: Allocator + Copy>(
 ) -> Result<u64, NoMemory> {
     let section = source.text(alloc, Section::Cert)?;
     let statements = statements(alloc, section.as_str())?;
-    Ok(line_of_statement(statements.as_slice(), row as usize))
-}
-
-// The line of the statement after so many; 1 where there is none.
-fn line_of_statement<A: Allocator>(statements: &[Statement<'_, A>], before: usize) -> u64 {
-    match statements.get(before) {
+    Ok(match statements.as_slice().get(row as usize) {
         Some(statement) => statement.line,
         None => 1,
-    }
+    })
 }

@@ -10,27 +10,16 @@ pub(crate) fn claim_of<T: Tree>(
     teller: &Teller<'_, '_, T>,
 ) -> Result<String<T::Alloc>, NoMemory> {
     let mut text = String::new(alloc);
-    push_claim(&mut text, teller)?;
-    Ok(text)
-}
-
-// Adds the claim of a world.
-fn push_claim<T: Tree>(
-    text: &mut String<T::Alloc>,
-    teller: &Teller<'_, '_, T>,
-) -> Result<(), NoMemory> {
     let world = teller.world;
     let hidden = world.hidden.as_slice();
     if hidden.is_empty() {
-        return teller.say(
-            text,
-            &[Part::Text("claim: none, since nothing is hidden\n")],
-        );
+        let none = Part::Text("claim: none, since nothing is hidden\n");
+        teller.say(&mut text, &[none])?;
+    } else {
+        push_users(&mut text, teller, world.users.as_slice())?;
+        push_paths(&mut text, teller, hidden)?;
     }
-    teller.say(text, &[Part::Text("claim: ")])?;
-    push_users(text, teller, world.users.as_slice())?;
-    teller.say(text, &[Part::Text(" what is inside ")])?;
-    push_paths(text, teller, hidden)
+    Ok(text)
 }
 
 // Adds of which users something is claimed, and what.
@@ -39,28 +28,14 @@ fn push_users<T: Tree>(
     teller: &Teller<'_, '_, T>,
     users: &[User],
 ) -> Result<(), NoMemory> {
-    match users {
-        [] => teller.say(
-            text,
-            &[Part::Text("no user is listed, so none sees or changes")],
-        ),
-        [user] => {
-            let words = Part::Text(" neither sees nor changes");
-            teller.say(text, &[Part::User(*user), words])
-        }
-        _ => push_several(text, teller, users),
-    }
-}
-
-// Adds that none of several users sees or changes something.
-fn push_several<T: Tree>(
-    text: &mut String<T::Alloc>,
-    teller: &Teller<'_, '_, T>,
-    users: &[User],
-) -> Result<(), NoMemory> {
-    teller.say(text, &[Part::Text("of ")])?;
+    let (before, after) = match users.len() {
+        0 => ("claim: no user is listed, so none sees or changes", ""),
+        1 => ("claim: ", " neither sees nor changes"),
+        _ => ("claim: of ", ", none sees or changes"),
+    };
+    teller.say(text, &[Part::Text(before)])?;
     push_names(text, teller, users)?;
-    teller.say(text, &[Part::Text(", none sees or changes")])
+    teller.say(text, &[Part::Text(after), Part::Text(" what is inside ")])
 }
 
 // Adds the names of users: `a`, `a and b`, `a, b and c`.
