@@ -72,326 +72,258 @@ fn file_verb<'a>(name: &str, words: &ArgMatches<'a>, path: &'a str) -> Option<Ve
         "stat" => Some(Verb::Stat { path }),
         "mkdir" => Some(Verb::MakeDir { path }),
         "rm" => Some(Verb::Remove { path }),
-        _ => verb_of_two(name, words, path),
+        "get" => Some(Verb::Get {
+            path,
+            local: words.get_str("other")?,
+            is_recursive: words.get_flag("recursive"),
+        }),
+        _ => verb_of_two(name, path, words.get_str("other")?),
     }
 }
 
-// What a command of this name asks for that has another word beside the path.
-fn verb_of_two<'a>(name: &str, words: &ArgMatches<'a>, path: &'a str) -> Option<Verb<'a>> {
+// What a command of this name asks for of the file of a path, with another word.
+fn verb_of_two<'a>(name: &str, path: &'a str, other: &'a str) -> Option<Verb<'a>> {
     match name {
-        "get" => Some(Verb::Get {
-            path,
-            local: words.get_str("local")?,
-            is_recursive: words.get_flag("recursive"),
-        }),
-        "put" => Some(Verb::Put {
-            local: words.get_str("local")?,
-            path,
-        }),
-        "mv" => Some(Verb::Rename {
-            path,
-            name: words.get_str("name")?,
-        }),
+        "put" => Some(Verb::Put { local: other, path }),
+        "mv" => Some(Verb::Rename { path, name: other }),
         "chmod" => Some(Verb::ChangeMode {
-            mode: mode_of(words.get_str("mode")?)?,
+            mode: u32::from_str_radix(other, 8).ok()?,
             path,
         }),
         _ => None,
     }
 }
 
-// The mode of an octal number.
-fn mode_of(word: &str) -> Option<u32> {
-    u32::from_str_radix(word, 8).ok()
-}
-
-/// The program's command line.
-pub fn program<'a>(alloc: Global) -> Result<Command<'a>, AllocError> {
-    let options = options(alloc)?;
-    let commands = all_commands(alloc)?;
-    Command::new(alloc, "p9_fs")
-        .about("looks at an export of 9P2000, and copies files from it and to it")
-        .version("1.0")
-        .subcommand_required(true)
-        .args(options)?
-        .subcommands(commands)
-}
-
-// The options of the program.
-fn options<'a>(alloc: Global) -> Result<Vec<Arg<'a>>, AllocError> {
-    let mut options = Vec::new(alloc);
-    push_options(alloc, &mut options)?;
-    Ok(options)
-}
-
-// Adds the options of the program.
-fn push_options(alloc: Global, options: &mut Vec<Arg<'_>>) -> Result<(), AllocError> {
-    for shape in &OPTIONS {
-        options.push(option(alloc, shape))?;
-    }
-    Ok(())
-}
-
-/// A line of commands, after the program's name.
-pub fn line_program<'a>(alloc: Global) -> Result<Command<'a>, AllocError> {
-    Command::new(alloc, "p9_fs")
-        .disable_version_flag(true)
-        .subcommand_required(true)
-        .subcommands(file_commands(alloc)?)
-}
-
-// What the value of an option is.
-#[derive(Clone, Copy)]
-enum Takes {
-    /// A text, and the option has to be there.
-    NeededText,
-    /// A text.
-    Text,
-    /// A number.
-    Number,
-}
-
-// An option with a value: its name, its letter, the value's name for the help, and what it is.
-struct OptionShape {
+// An option or a word: its name, its letter, if it is an option, what its value is, what it is for,
+// and whether it has to be there.
+struct ArgShape {
     name: &'static str,
-    letter: char,
-    value: &'static str,
+    letter: Option<char>,
+    value: Value,
     help: &'static str,
-    takes: Takes,
-}
-
-const OPTIONS: [OptionShape; 4] = [
-    OptionShape {
-        name: "addr",
-        letter: 'a',
-        value: "ADDR",
-        help: "the server's address, HOST:PORT",
-        takes: Takes::NeededText,
-    },
-    OptionShape {
-        name: "user",
-        letter: 'u',
-        value: "USER",
-        help: "the user to attach as, or else $USER, or none",
-        takes: Takes::Text,
-    },
-    OptionShape {
-        name: "aname",
-        letter: 'n',
-        value: "ANAME",
-        help: "the tree to attach",
-        takes: Takes::Text,
-    },
-    OptionShape {
-        name: "msize",
-        letter: 'm',
-        value: "MSIZE",
-        help: "the most bytes of a message",
-        takes: Takes::Number,
-    },
-];
-
-// An option with a value.
-fn option<'a>(alloc: Global, shape: &OptionShape) -> Arg<'a> {
-    let arg = Arg::new(alloc, shape.name)
-        .short(shape.letter)
-        .value_name(shape.value)
-        .help(shape.help)
-        .action(ArgAction::Set);
-    match shape.takes {
-        Takes::NeededText => arg.required(true),
-        Takes::Text => arg,
-        Takes::Number => arg.value_parser(value_parser!(usize)),
-    }
-}
-
-// A flag of a command: its name, its letter, and what it asks for.
-struct Flag {
-    name: &'static str,
-    letter: char,
-    help: &'static str,
-}
-
-// A word of a command: its name, one for the help, and whether it has to be there.
-struct Word {
-    name: &'static str,
-    value: &'static str,
     is_needed: bool,
 }
 
-const PATH: Word = Word {
-    name: "path",
-    value: "PATH",
-    is_needed: true,
-};
-
-const ANY_PATH: Word = Word {
-    is_needed: false,
-    ..PATH
-};
-
-const LOCAL: Word = Word {
-    name: "local",
-    value: "LOCAL",
-    is_needed: true,
-};
-
-const NAME: Word = Word {
-    name: "name",
-    value: "NAME",
-    is_needed: true,
-};
-
-const MODE: Word = Word {
-    name: "mode",
-    value: "MODE",
-    is_needed: true,
-};
-
-// A command on files: its name, what it does, the flag that it may take, and the words after it.
-struct Shape {
-    name: &'static str,
-    about: &'static str,
-    flag: Option<Flag>,
-    words: &'static [Word],
+// What the value of an option or a word is, with its name for the help.
+#[derive(Clone, Copy)]
+enum Value {
+    None,
+    Text(&'static str),
+    Number(&'static str),
 }
 
-// The commands on files.
-const SHAPES: [Shape; 9] = [
-    Shape {
-        name: "ls",
-        about: "lists a directory or a file",
-        flag: Some(Flag {
-            name: "long",
-            letter: 'l',
-            help: "in long lines",
-        }),
-        words: &[ANY_PATH],
+// The options of the program.
+const OPTIONS: [ArgShape; 4] = [
+    ArgShape {
+        name: "addr",
+        letter: Some('a'),
+        value: Value::Text("ADDR"),
+        help: "the server's address, HOST:PORT",
+        is_needed: true,
     },
-    Shape {
-        name: "get",
-        about: "copies a file from the server",
-        flag: Some(Flag {
-            name: "recursive",
-            letter: 'r',
-            help: "a directory with all that is in it",
-        }),
-        words: &[PATH, LOCAL],
+    ArgShape {
+        name: "user",
+        letter: Some('u'),
+        value: Value::Text("USER"),
+        help: "the user to attach as, or else $USER, or none",
+        is_needed: false,
     },
-    Shape {
-        name: "cat",
-        about: "prints a file",
-        flag: None,
-        words: &[PATH],
+    ArgShape {
+        name: "aname",
+        letter: Some('n'),
+        value: Value::Text("ANAME"),
+        help: "the tree to attach",
+        is_needed: false,
     },
-    Shape {
-        name: "stat",
-        about: "prints all that the server reports of a file",
-        flag: None,
-        words: &[PATH],
-    },
-    Shape {
-        name: "put",
-        about: "copies a file to the server",
-        flag: None,
-        words: &[LOCAL, PATH],
-    },
-    Shape {
-        name: "mkdir",
-        about: "makes a directory",
-        flag: None,
-        words: &[PATH],
-    },
-    Shape {
-        name: "rm",
-        about: "removes a file or an empty directory",
-        flag: None,
-        words: &[PATH],
-    },
-    Shape {
-        name: "mv",
-        about: "gives a file another name, in the same directory",
-        flag: None,
-        words: &[PATH, NAME],
-    },
-    Shape {
-        name: "chmod",
-        about: "gives a file the permissions of an octal number",
-        flag: None,
-        words: &[MODE, PATH],
+    ArgShape {
+        name: "msize",
+        letter: Some('m'),
+        value: Value::Number("MSIZE"),
+        help: "the most bytes of a message",
+        is_needed: false,
     },
 ];
 
-// The commands of the program: those on files, and `sh`.
-fn all_commands<'a>(alloc: Global) -> Result<Vec<Command<'a>>, AllocError> {
-    let mut commands = file_commands(alloc)?;
-    commands.push(Command::new(alloc, "sh").about("runs the commands of the standard input"))?;
-    Ok(commands)
+// The path of a file of the server.
+const PATH: ArgShape = ArgShape {
+    name: "path",
+    letter: None,
+    value: Value::Text("PATH"),
+    help: "a path of the server",
+    is_needed: true,
+};
+
+// The word beside the path.
+const LOCAL: ArgShape = ArgShape {
+    name: "other",
+    letter: None,
+    value: Value::Text("LOCAL"),
+    help: "a path of this system",
+    is_needed: true,
+};
+
+// A command: its name, what it does, and its options and words.
+struct CommandShape {
+    name: &'static str,
+    about: &'static str,
+    args: &'static [ArgShape],
 }
 
-// The commands on files.
-fn file_commands<'a>(alloc: Global) -> Result<Vec<Command<'a>>, AllocError> {
-    let mut commands = Vec::new(alloc);
-    push_commands(alloc, &mut commands)?;
-    Ok(commands)
+// The commands. The last one runs the others.
+const COMMANDS: [CommandShape; 10] = [
+    CommandShape {
+        name: "ls",
+        about: "lists a directory or a file",
+        args: &[
+            ArgShape {
+                name: "long",
+                letter: Some('l'),
+                value: Value::None,
+                help: "in long lines",
+                is_needed: false,
+            },
+            ArgShape {
+                is_needed: false,
+                ..PATH
+            },
+        ],
+    },
+    CommandShape {
+        name: "get",
+        about: "copies a file from the server",
+        args: &[
+            ArgShape {
+                name: "recursive",
+                letter: Some('r'),
+                value: Value::None,
+                help: "a directory with all that is in it",
+                is_needed: false,
+            },
+            PATH,
+            LOCAL,
+        ],
+    },
+    CommandShape {
+        name: "cat",
+        about: "prints a file",
+        args: &[PATH],
+    },
+    CommandShape {
+        name: "stat",
+        about: "prints all that the server reports of a file",
+        args: &[PATH],
+    },
+    CommandShape {
+        name: "put",
+        about: "copies a file to the server",
+        args: &[LOCAL, PATH],
+    },
+    CommandShape {
+        name: "mkdir",
+        about: "makes a directory",
+        args: &[PATH],
+    },
+    CommandShape {
+        name: "rm",
+        about: "removes a file or an empty directory",
+        args: &[PATH],
+    },
+    CommandShape {
+        name: "mv",
+        about: "gives a file another name, in the same directory",
+        args: &[
+            PATH,
+            ArgShape {
+                value: Value::Text("NAME"),
+                help: "the new name",
+                ..LOCAL
+            },
+        ],
+    },
+    CommandShape {
+        name: "chmod",
+        about: "gives a file the permissions of an octal number",
+        args: &[
+            ArgShape {
+                value: Value::Text("MODE"),
+                help: "an octal number, as 644",
+                ..LOCAL
+            },
+            PATH,
+        ],
+    },
+    CommandShape {
+        name: "sh",
+        about: "runs the commands of the standard input",
+        args: &[],
+    },
+];
+
+/// The program's command line.
+pub fn program<'a>(alloc: Global) -> Result<Command<'a>, AllocError> {
+    let program = Command::new(alloc, "p9_fs")
+        .about("looks at an export of 9P2000, and copies files from it and to it")
+        .version("1.0")
+        .subcommand_required(true);
+    let program = with_args(alloc, program, &OPTIONS)?;
+    with_commands(alloc, program, &COMMANDS)
 }
 
-// Adds the commands on files.
-fn push_commands(alloc: Global, commands: &mut Vec<Command<'_>>) -> Result<(), AllocError> {
-    for shape in &SHAPES {
-        push_command(alloc, commands, shape)?;
-    }
-    Ok(())
+/// A line of commands, after the program's name. No line runs lines.
+pub fn line_program<'a>(alloc: Global) -> Result<Command<'a>, AllocError> {
+    let program = Command::new(alloc, "p9_fs")
+        .disable_version_flag(true)
+        .subcommand_required(true);
+    with_commands(alloc, program, &COMMANDS[..9])
 }
 
-// Adds a command.
-fn push_command(
+// Adds commands to the program.
+fn with_commands<'a>(
     alloc: Global,
-    commands: &mut Vec<Command<'_>>,
-    shape: &Shape,
-) -> Result<(), AllocError> {
-    let command = command_of(alloc, shape)?;
-    Ok(commands.push(command)?)
-}
-
-// A command on files.
-fn command_of<'a>(alloc: Global, shape: &Shape) -> Result<Command<'a>, AllocError> {
-    let args = args_of(alloc, shape)?;
-    Command::new(alloc, shape.name)
-        .about(shape.about)
-        .args(args)
-}
-
-// The flag and the words of a command on files.
-fn args_of<'a>(alloc: Global, shape: &Shape) -> Result<Vec<Arg<'a>>, AllocError> {
-    let mut args = Vec::new(alloc);
-    push_args(alloc, &mut args, shape)?;
-    Ok(args)
-}
-
-// Adds the flag and the words of a command on files.
-fn push_args(alloc: Global, args: &mut Vec<Arg<'_>>, shape: &Shape) -> Result<(), AllocError> {
-    if let Some(flag) = &shape.flag {
-        args.push(flag_of(alloc, flag))?;
+    program: Command<'a>,
+    shapes: &[CommandShape],
+) -> Result<Command<'a>, AllocError> {
+    let mut program = program;
+    for shape in shapes {
+        program = program.subcommand(command_of(alloc, shape)?)?;
     }
-    for word in shape.words {
-        args.push(word_of(alloc, word))?;
+    Ok(program)
+}
+
+// A command with its options and words.
+fn command_of<'a>(alloc: Global, shape: &CommandShape) -> Result<Command<'a>, AllocError> {
+    let command = Command::new(alloc, shape.name).about(shape.about);
+    with_args(alloc, command, shape.args)
+}
+
+// Adds options and words to the program or a command.
+fn with_args<'a>(
+    alloc: Global,
+    command: Command<'a>,
+    shapes: &[ArgShape],
+) -> Result<Command<'a>, AllocError> {
+    let mut command = command;
+    for shape in shapes {
+        command = command.arg(arg_of(alloc, shape))?;
     }
-    Ok(())
+    Ok(command)
 }
 
-// A flag of a command.
-fn flag_of<'a>(alloc: Global, flag: &Flag) -> Arg<'a> {
-    Arg::new(alloc, flag.name)
-        .short(flag.letter)
-        .help(flag.help)
-        .action(ArgAction::SetTrue)
-}
-
-// A word of a command.
-fn word_of<'a>(alloc: Global, word: &Word) -> Arg<'a> {
-    Arg::new(alloc, word.name)
-        .value_name(word.value)
-        .required(word.is_needed)
-        .action(ArgAction::Set)
+// An option or a word.
+fn arg_of<'a>(alloc: Global, shape: &ArgShape) -> Arg<'a> {
+    let arg = Arg::new(alloc, shape.name)
+        .help(shape.help)
+        .required(shape.is_needed);
+    let arg = match shape.letter {
+        Some(letter) => arg.short(letter),
+        None => arg,
+    };
+    match shape.value {
+        Value::None => arg.action(ArgAction::SetTrue),
+        Value::Text(name) => arg.value_name(name).action(ArgAction::Set),
+        Value::Number(name) => arg
+            .value_name(name)
+            .action(ArgAction::Set)
+            .value_parser(value_parser!(usize)),
+    }
 }
