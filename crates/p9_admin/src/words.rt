@@ -151,65 +151,44 @@ const COMMANDS: [CommandShape; 5] = [
 
 /// The program's command line: a command and its options.
 pub(crate) fn program<'a>(alloc: Global) -> Result<Command<'a>, AllocError> {
-    let commands = commands(alloc)?;
-    Command::new(alloc, "p9_admin")
+    let program = Command::new(alloc, "p9_admin")
         .version("1.0")
         .about("What an administrator of an export does")
         .subcommand_required(true)
-        .arg_required_else_help(true)
-        .subcommands(commands)
+        .arg_required_else_help(true);
+    with_commands(alloc, program, &COMMANDS)
 }
 
-// The commands.
-fn commands<'a>(alloc: Global) -> Result<Vec<Command<'a>>, AllocError> {
-    let mut commands = Vec::new(alloc);
-    push_commands(alloc, &mut commands)?;
-    Ok(commands)
-}
-
-// Adds the commands.
-fn push_commands(alloc: Global, commands: &mut Vec<Command<'_>>) -> Result<(), AllocError> {
-    for shape in &COMMANDS {
-        push_command(alloc, commands, shape)?;
-    }
-    Ok(())
-}
-
-// Adds a command.
-fn push_command(
+// Adds commands to the program.
+fn with_commands<'a>(
     alloc: Global,
-    commands: &mut Vec<Command<'_>>,
-    shape: &CommandShape,
-) -> Result<(), AllocError> {
-    let command = command_of(alloc, shape)?;
-    Ok(commands.push(command)?)
+    program: Command<'a>,
+    shapes: &[CommandShape],
+) -> Result<Command<'a>, AllocError> {
+    let mut program = program;
+    for shape in shapes {
+        program = program.subcommand(command_of(alloc, shape)?)?;
+    }
+    Ok(program)
 }
 
 // A command with its options and words.
 fn command_of<'a>(alloc: Global, shape: &CommandShape) -> Result<Command<'a>, AllocError> {
-    let args = args_of(alloc, shape.args)?;
-    Command::new(alloc, shape.name)
-        .about(shape.about)
-        .args(args)
+    let command = Command::new(alloc, shape.name).about(shape.about);
+    with_args(alloc, command, shape.args)
 }
 
-// The options and words of a command.
-fn args_of<'a>(alloc: Global, shapes: &[ArgShape]) -> Result<Vec<Arg<'a>>, AllocError> {
-    let mut args = Vec::new(alloc);
-    push_args(alloc, &mut args, shapes)?;
-    Ok(args)
-}
-
-// Adds the options and words of a command.
-fn push_args(
+// Adds options and words to a command.
+fn with_args<'a>(
     alloc: Global,
-    args: &mut Vec<Arg<'_>>,
+    command: Command<'a>,
     shapes: &[ArgShape],
-) -> Result<(), AllocError> {
+) -> Result<Command<'a>, AllocError> {
+    let mut command = command;
     for shape in shapes {
-        args.push(arg_of(alloc, shape))?;
+        command = command.arg(arg_of(alloc, shape))?;
     }
-    Ok(())
+    Ok(command)
 }
 
 // An option or a word.
