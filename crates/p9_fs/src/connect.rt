@@ -2,7 +2,7 @@
 
 ghost use Rattle.std.specs.Prelude.{◌≤◌, IfOk};
 
-use crate::failure::{Failure, report, report_local, report_text};
+use crate::failure::{Failure, finish_local, report, report_text};
 use crate::watched::Watched;
 use clap::ArgMatches;
 use p9_client::{ClientError, FileError, Session};
@@ -32,7 +32,7 @@ pub fn connect(
 ) -> Result<Client, Failure> {
     let address = words.get_str("addr").unwrap_or("");
     let msize = msize_of(rt, words)?;
-    let stream = stream_to(rt, address, is_reported)?;
+    let stream = finish_local(rt, address, connected(rt, address, is_reported))?;
     let mut client = Session::new(rt.alloc(), stream, msize)?;
     begin(rt, &mut client, words, address)?;
     Ok(client)
@@ -65,14 +65,6 @@ fn begin(
     match client.attach(ROOT, user.as_str(), aname) {
         Ok(_) => Ok(()),
         Err(error) => Err(refused(rt, address, error)),
-    }
-}
-
-// A stream to the server of an address.
-fn stream_to(rt: &HostRuntime, address: &str, is_reported: bool) -> Result<Watched, Failure> {
-    match connected(rt, address, is_reported) {
-        Ok(stream) => Ok(stream),
-        Err(error) => Err(report_local(rt, address, &error)),
     }
 }
 

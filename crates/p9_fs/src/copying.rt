@@ -1,7 +1,7 @@
 //! Files copied from a server to the system, and back.
 
 use crate::connect::Client;
-use crate::failure::{Failure, report, report_about, report_local};
+use crate::failure::{Failure, finish_local, report, report_about, report_local};
 use crate::names::{is_inside, joined};
 use crate::remote::{
     FILE, PERMISSIONS, entries_of, finish, mode_of, walk, walk_to, walk_to_parent,
@@ -68,10 +68,8 @@ fn fill(
 ) -> Result<(), Failure> {
     let done = read_in(client, file);
     finish(rt, client, path, done)?;
-    match file.set_permissions(Permissions::from_mode(mode & PERMISSIONS)) {
-        Ok(()) => Ok(()),
-        Err(error) => Err(report_local(rt, local, &error)),
-    }
+    let permissions = Permissions::from_mode(mode & PERMISSIONS);
+    finish_local(rt, local, file.set_permissions(permissions))
 }
 
 // Opens the file, and writes its bytes to a file of the system.
@@ -145,7 +143,9 @@ fn get_all(rt: &HostRuntime, client: &mut Client, copying: &mut Copying) -> Resu
 // owner only after those in it have theirs.
 fn set_modes(rt: &HostRuntime, dirs: &[(String, u32)]) -> Result<(), Failure> {
     for (dir, mode) in dirs.iter().rev() {
-        set_mode(rt, dir.as_str(), *mode)?;
+        let dir = dir.as_str();
+        let permissions = Permissions::from_mode(*mode & PERMISSIONS);
+        finish_local(rt, dir, fs::set_permissions(rt, dir, permissions))?;
     }
     Ok(())
 }
@@ -162,7 +162,8 @@ fn get_next(
     if mode & DMDIR == 0 {
         return get_file(rt, client, mode, path.as_str(), local.as_str());
     }
-    make_dir(rt, local.as_str())?;
+    let made = fs::create_dir_all(rt, local.as_str());
+    finish_local(rt, local.as_str(), made)?;
     let added = push_entries(
         rt,
         client,
@@ -173,14 +174,6 @@ fn get_next(
     // A directory that may not be listed has its permissions too.
     copying.dirs.push((local, mode))?;
     added
-}
-
-// Makes a directory of the system, unless it is there.
-fn make_dir(rt: &HostRuntime, local: &str) -> Result<(), Failure> {
-    match fs::create_dir_all(rt, local) {
-        Ok(()) => Ok(()),
-        Err(error) => Err(report_local(rt, local, &error)),
-    }
 }
 
 // Adds the entries of a directory.
@@ -226,22 +219,11 @@ fn below(alloc: Global, path: &str, local: &str, name: &str) -> Result<Pending, 
     Ok(Pending { path, local })
 }
 
-// Gives a directory of the system the permissions of a mode.
-fn set_mode(rt: &HostRuntime, local: &str, mode: u32) -> Result<(), Failure> {
-    let permissions = Permissions::from_mode(mode & PERMISSIONS);
-    match fs::set_permissions(rt, local, permissions) {
-        Ok(()) => Ok(()),
-        Err(error) => Err(report_local(rt, local, &error)),
-    }
-}
-
 /// Copies a file of the system to a file of the server, which is made with the same permissions where
 /// it is not there.
 pub fn put(rt: &HostRuntime, client: &mut Client, local: &str, path: &str) -> Result<(), Failure> {
-    match fs::read(rt, local) {
-        Ok(bytes) => put_bytes(rt, client, local, path, bytes.as_slice()),
-        Err(error) => Err(report_local(rt, local, &error)),
-    }
+    let bytes = finish_local(rt, local, fs::read(rt, local))?;
+    put_bytes(rt, client, local, path, bytes.as_slice())
 }
 
 // Writes these bytes of a file of the system to a file of the server.
@@ -286,10 +268,8 @@ fn made(
     local: &str,
     path: &str,
 ) -> Result<Result<(), FileError>, Failure> {
-    let mode = match fs::metadata(rt, local) {
-        Ok(metadata) => metadata.permissions().mode(),
-        Err(error) => return Err(report_local(rt, local, &error)),
-    };
+    let metadata = finish_local(rt, local, fs::metadata(rt, local))?;
+    let mode = metadata.permissions().mode();
     let name = walk_to_parent(rt, client, path)?;
     match client.create(FILE, name, mode & PERMISSIONS, OWRITE) {
         Ok(_) => Ok(Ok(())),

@@ -9,7 +9,7 @@ use std::io;
 use std::io::ErrorKind;
 
 /// How a command failed. It was reported where it was met.
-#[derive(Clone, Copy, Debug, PartialEq, Eq)]
+#[derive(Clone, Copy)]
 pub enum Failure {
     /// The server refused what was asked, or a name was refused.
     Refused,
@@ -74,6 +74,18 @@ pub fn report_local(rt: &HostRuntime, path: &str, error: &io::Error) -> Failure 
         Failure::Failed
     };
     report_about(rt, path, error, failure)
+}
+
+/// Returns what was done with a file of the system, of which a failure is reported.
+pub fn finish_local<T: Drop>(
+    rt: &HostRuntime,
+    path: &str,
+    done: io::Result<T>,
+) -> Result<T, Failure> {
+    match done {
+        Ok(value) => Ok(value),
+        Err(error) => Err(report_local(rt, path, &error)),
+    }
 }
 
 /// Reports what there is to say of the file of a path, and returns a failure.
