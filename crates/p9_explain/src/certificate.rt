@@ -145,8 +145,7 @@ fn row_line<A: Allocator + Copy>(
     source: &Source<'_, A>,
     row: u64,
 ) -> Result<u64, NoMemory> {
-    let section = source.text(alloc, Section::Cert)?;
-    let statements = statements(alloc, section.as_str())?;
+    let statements = statements(alloc, source.text(Section::Cert))?;
     Ok(match statements.as_slice().get(row as usize) {
         Some(statement) => statement.line,
         None => 1,

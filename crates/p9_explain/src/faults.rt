@@ -64,7 +64,7 @@ fn push_faults_in<T: Tree>(
     section: Section,
 ) -> Result<(), NoMemory> {
     let alloc = *text.allocator();
-    let mut read = source.text(alloc, section)?;
+    let mut read = String::from_str(alloc, source.text(section))?;
     let mut last = None;
     for _ in 0..FAULTS_MAX {
         let Some(fault) = first_fault::<T>(alloc, section, read.as_str())? else {

@@ -1,8 +1,5 @@
 //! Lines that begin sections, and those that are meant to.
 
-use p9_base::NoMemory;
-use std::alloc::Allocator;
-
 /// The sections of an input, in the order in which they are.
 #[derive(Clone, Copy, PartialEq, Eq, PartialOrd, Ord)]
 pub(crate) enum Section {
@@ -52,39 +49,55 @@ pub(crate) enum Head {
     Bad(Option<Section>, Way),
 }
 
-/// What a line says of sections. The only error is that an allocation fails.
-pub(crate) fn head_of<A: Allocator + Copy>(alloc: A, line: &str) -> Result<Head, NoMemory> {
+/// What a line says of sections.
+pub(crate) fn head_of(line: &str) -> Head {
     if let Some(section) = section_of(line) {
-        return Ok(Head::Begins(section));
+        return Head::Begins(section);
     }
     if let Some(rest) = line.strip_prefix("\u{feff}") {
-        return Ok(Head::Bad(section_of(rest), Way::ByteOrderMark));
+        return Head::Bad(section_of(rest), Way::ByteOrderMark);
     }
     if !line.starts_with("%%") {
-        return Ok(Head::Other);
+        return Head::Other;
     }
     let trimmed = line.trim_end();
-    let lower = trimmed.to_ascii_lowercase(alloc)?;
-    let section = section_of(lower.as_str());
+    let section = section_meant(trimmed);
     let way = if section.is_none() {
         Way::UnknownName
-    } else if lower.as_str() != trimmed {
+    } else if section_of(trimmed).is_none() {
         Way::Capitals
     } else if line.ends_with('\r') {
         Way::CarriageReturn
     } else {
         Way::BlankAfter
     };
-    Ok(Head::Bad(section, way))
+    Head::Bad(section, way)
 }
+
+// The lines that begin sections.
+const HEADS: [(&str, Section); 4] = [
+    ("%% world", Section::World),
+    ("%% ns", Section::Ns),
+    ("%% cert", Section::Cert),
+    ("%% script", Section::Script),
+];
 
 // The section that a line begins.
 fn section_of(line: &str) -> Option<Section> {
-    match line {
-        "%% world" => Some(Section::World),
-        "%% ns" => Some(Section::Ns),
-        "%% cert" => Some(Section::Cert),
-        "%% script" => Some(Section::Script),
-        _ => None,
+    for (head, section) in HEADS {
+        if line == head {
+            return Some(section);
+        }
     }
+    None
+}
+
+// The section that a line is meant to begin, in letters of either case.
+fn section_meant(line: &str) -> Option<Section> {
+    for (head, section) in HEADS {
+        if line.eq_ignore_ascii_case(head) {
+            return Some(section);
+        }
+    }
+    None
 }

@@ -20,8 +20,7 @@ pub(crate) fn push_hints<T: Tree>(
     table: &MountTable<T::Alloc>,
     reports: &[(u64, OpFault)],
 ) -> Result<(), NoMemory> {
-    let section = teller.source.text(*text.allocator(), Section::World)?;
-    let statements = statements(*text.allocator(), section.as_str())?;
+    let statements = statements(*text.allocator(), teller.source.text(Section::World))?;
     push_strangers(text, teller, statements.as_slice())?;
     push_odd_names(text, teller.source, statements.as_slice())?;
     push_carriage_returns(text, teller.source)?;
@@ -49,17 +48,28 @@ fn push_strangers<T: Tree>(
     teller: &Teller<'_, '_, T>,
     statements: &[Statement<'_, T::Alloc>],
 ) -> Result<(), NoMemory> {
-    let world = teller.world;
     let mut told = Vec::new(*text.allocator());
     for statement in statements {
-        for name in names_of(statement.words.as_slice()) {
-            if told.contains(name) || is_listed(world.users.as_slice(), name) {
-                continue;
-            }
-            told.push(*name)?;
-            let at = (Section::World, statement.line);
-            push_hint(text, teller.source, at, name, " is no listed user")?;
+        push_strangers_in(text, teller, statement, &mut told)?;
+    }
+    Ok(())
+}
+
+// Adds the owner, leader and members of a line who are no listed users, but for those that were told.
+fn push_strangers_in<'a, T: Tree>(
+    text: &mut String<T::Alloc>,
+    teller: &Teller<'_, '_, T>,
+    statement: &Statement<'a, T::Alloc>,
+    told: &mut Vec<&'a str, T::Alloc>,
+) -> Result<(), NoMemory> {
+    let world = teller.world;
+    for name in names_of(statement.words.as_slice()) {
+        if told.contains(name) || is_listed(world.users.as_slice(), name) {
+            continue;
         }
+        told.push(*name)?;
+        let at = (Section::World, statement.line);
+        push_hint(text, teller.source, at, name, " is no listed user")?;
     }
     Ok(())
 }
@@ -193,10 +203,12 @@ pub(crate) fn push_unneeded_rows<A: Allocator + Copy>(
     certificate: &Certificate<A>,
     least: &Certificate<A>,
 ) -> Result<(), NoMemory> {
-    let section = source.text(*text.allocator(), Section::Cert)?;
-    let statements = statements(*text.allocator(), section.as_str())?;
-    let lines = statements.as_slice().iter().skip(1);
-    for (row, statement) in certificate.rows().iter().zip(lines) {
+    let statements = statements(*text.allocator(), source.text(Section::Cert))?;
+    let mut rows = certificate.rows().iter();
+    for statement in statements.as_slice().iter().skip(1) {
+        let Some(row) = rows.next() else {
+            return Ok(());
+        };
         if !least.contains(*row) {
             let at = (Section::Cert, statement.line);
             push_hint(text, source, at, "", "no walk needs this row")?;

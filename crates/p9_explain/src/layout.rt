@@ -4,11 +4,12 @@ use crate::head::{Head, Section, Way, head_of};
 use p9_base::{NoMemory, lines};
 use std::alloc::Allocator;
 
-/// A line: its number, from 1, the section that it belongs to, if to one, and the way in which it is
-/// a bad section line, if it is one.
+/// A line: its number, from 1, the place of its first byte in the input, the section that it belongs
+/// to, if to one, and the way in which it is a bad section line, if it is one.
 #[derive(Clone, Copy)]
 pub(crate) struct Line<'a> {
     pub number: u64,
+    pub start: usize,
     pub text: &'a str,
     pub section: Option<Section>,
     pub way: Option<Way>,
@@ -23,10 +24,10 @@ pub(crate) fn layout_of<A: Allocator + Copy>(
     let mut layout = Vec::new(alloc);
     let mut begun = Vec::new(alloc);
     let mut current = None;
-    let mut number = 0u64;
+    let (mut number, mut start) = (0u64, 0usize);
     for text in lines(alloc, input)?.as_slice() {
         number = number.saturating_add(1);
-        let head = head_of(alloc, text)?;
+        let head = head_of(text);
         let way = way_of(head, text, begun.as_slice());
         let section = if matches!(head, Head::Other) {
             current
@@ -39,10 +40,12 @@ pub(crate) fn layout_of<A: Allocator + Copy>(
         }
         layout.push(Line {
             number,
+            start,
             text,
             section,
             way,
         })?;
+        start = start.saturating_add(text.len()).saturating_add(1);
     }
     Ok(layout)
 }

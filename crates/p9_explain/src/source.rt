@@ -10,6 +10,7 @@ use std::alloc::Allocator;
 #[derive(Drop)]
 pub(crate) struct Source<'a, A: Allocator> {
     pub name: &'a str,
+    input: &'a str,
     pub lines: Vec<Line<'a>, A>,
     nodes: Vec<NodeLine, A>,
 }
@@ -18,15 +19,19 @@ impl<'a, A: Allocator + Copy> Source<'a, A> {
     /// The source of an input, which has this name.
     pub fn of(alloc: A, name: &'a str, input: &'a str) -> Result<Source<'a, A>, NoMemory> {
         let lines = layout_of(alloc, input)?;
-        let world = section_text(alloc, lines.as_slice(), Section::World)?;
-        let statements = statements(alloc, world.as_str())?;
-        let nodes = node_lines(alloc, statements.as_slice())?;
-        Ok(Source { name, lines, nodes })
+        let world = section_text(input, lines.as_slice(), Section::World);
+        let nodes = node_lines(alloc, statements(alloc, world)?.as_slice())?;
+        Ok(Source {
+            name,
+            input,
+            lines,
+            nodes,
+        })
     }
 
     /// The text of a section; an empty one where it isn't there.
-    pub fn text(&self, alloc: A, section: Section) -> Result<String<A>, NoMemory> {
-        section_text(alloc, self.lines.as_slice(), section)
+    pub fn text(&self, section: Section) -> &'a str {
+        section_text(self.input, self.lines.as_slice(), section)
     }
 
     /// Adds `NAME:L` for this line of a section to a text.
@@ -47,20 +52,18 @@ impl<'a, A: Allocator + Copy> Source<'a, A> {
     }
 }
 
-// The text of a section, each line with a newline; an empty one where it isn't there.
-fn section_text<A: Allocator + Copy>(
-    alloc: A,
-    lines: &[Line<'_>],
-    section: Section,
-) -> Result<String<A>, NoMemory> {
-    let mut text = String::new(alloc);
+// The text of a section, whose lines follow one another; an empty one where it isn't there.
+fn section_text<'a>(input: &'a str, lines: &[Line<'a>], section: Section) -> &'a str {
+    let mut found = None;
     for line in lines {
         if line.section == Some(section) {
-            text.push_str(line.text)?;
-            text.push('\n')?;
+            let end = line.start.saturating_add(line.text.len()).saturating_add(1);
+            let (start, _) = found.unwrap_or((line.start, end));
+            found = Some((start, end.min(input.len())));
         }
     }
-    Ok(text)
+    let (start, end) = found.unwrap_or((0, 0));
+    input.get(start..end).unwrap_or("")
 }
 
 // The number of a section's line among all lines.
