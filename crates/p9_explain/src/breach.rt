@@ -4,17 +4,17 @@ ghost use Rattle.std.specs.Prelude.{◌≡◌, ◌++◌, IfOk, codes};
 ghost use Rattle.std.specs.String.{string_bytes};
 ghost use Rattle.p9_explain.specs.Told.{IsBreachTold, IsStepTold, IsWalkTold};
 
-use crate::column::{column_of, path_width, prefix_width, push_blanks, width};
+use crate::column::{column_of, path_width, prefix_width, width};
 use crate::member::{Found, hidden_dir, push_found};
-use crate::right::{Class, TO_USE, class_of, has, ruling_class};
+use crate::right::{TO_USE, has};
 use crate::source::Source;
 use crate::teller::{Part, Teller};
-use p9_base::{NoMemory, NodeRef, User};
+use p9_base::{NoMemory, NodeRef};
 use p9_cert::MemberFault;
 use p9_commands::path_of;
 use p9_judge::{Breach, BreachKind, Step};
-use p9_space::{ROOT_PLACE, TO_EXECUTE};
-use p9_tree::{Node, Tree};
+use p9_space::ROOT_PLACE;
+use p9_tree::Tree;
 use p9_world::World;
 use std::alloc::{AllocError, Allocator};
 
@@ -66,8 +66,8 @@ fn end_words<T: Tree>(
     column: usize,
 ) -> Result<String<T::Alloc>, NoMemory> {
     let mut text = String::new(alloc);
-    let left = path_width(alloc, teller.world, breach.member)?;
-    push_blanks(&mut text, left.saturating_add(2), column)?;
+    let left = path_width(alloc, teller.world, breach.member)?.saturating_add(2);
+    teller.say(&mut text, &[Part::Blanks(column.saturating_sub(left))])?;
     push_found(&mut text, teller, found_of(teller.world, breach))?;
     let mend = Part::Text(mend(teller.world, breach));
     teller.say(&mut text, &[Part::Text("mend: "), mend, Part::Text("\n")])?;
@@ -216,31 +216,20 @@ fn pass_words<T: Tree>(
     blanks: usize,
 ) -> Result<String<T::Alloc>, NoMemory> {
     let mut text = String::new(alloc);
-    push_blanks(&mut text, 0, blanks)?;
-    teller.say(&mut text, &[Part::Text("("), Part::Made(step.member)])?;
-    if let Some((class, deed)) = pass_right(teller.world, step) {
-        teller.say(&mut text, &[Part::Text(": "), class, Part::Text(deed)])?;
-    }
+    let (made, right) = (Part::Made(step.member), Part::Pass(step.user, step.member));
     let bound = Part::Bound(place, step.member);
-    teller.say(&mut text, &[Part::Text(")"), bound, Part::Text("\n")])?;
+    let (open, close) = (Part::Text("("), Part::Text(")"));
+    teller.say(
+        &mut text,
+        &[
+            Part::Blanks(blanks),
+            open,
+            made,
+            right,
+            close,
+            bound,
+            Part::Text("\n"),
+        ],
+    )?;
     Ok(text)
-}
-
-// As what the user of a step passes its directory, and what that is.
-fn pass_right<T: Tree>(world: &World<T>, step: &Step) -> Option<(Part, &'static str)> {
-    let node = world.forest.node(step.member)?;
-    let (class, deed) = passing_class(world, &step.user, node)?;
-    Some((Part::Class(class, *node.gid()), deed))
-}
-
-// As what a user passes a directory, and what that is.
-fn passing_class<T: Tree>(
-    world: &World<T>,
-    user: &User,
-    node: &Node<T::Alloc>,
-) -> Option<(Class, &'static str)> {
-    match class_of(world, user, node, TO_EXECUTE) {
-        Some(class) => Some((class, " may search")),
-        None => Some((ruling_class(world, user, node)?, " may change its mode")),
-    }
 }

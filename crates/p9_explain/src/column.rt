@@ -5,7 +5,6 @@ use p9_commands::path_of;
 use p9_judge::{Breach, Step};
 use p9_tree::Tree;
 use p9_world::World;
-use std::alloc::Allocator;
 
 /// How many characters a text has.
 pub(crate) fn width(text: &str) -> usize {
@@ -41,15 +40,4 @@ pub(crate) fn column_of<T: Tree>(
         longest = longest.max(path_width(alloc, world, step.member)?);
     }
     Ok(prefix.saturating_add(longest).saturating_add(2))
-}
-
-/// Adds blanks to a text, from one column to another.
-pub(crate) fn push_blanks<A: Allocator + Copy>(
-    text: &mut String<A>,
-    from: usize,
-    to: usize,
-) -> Result<(), NoMemory> {
-    let blanks = " ".repeat(*text.allocator(), to.saturating_sub(from))?;
-    text.push_str(blanks.as_str())?;
-    Ok(())
 }

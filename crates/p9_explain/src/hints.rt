@@ -1,13 +1,13 @@
 //! Hints: what is allowed and may not be meant.
 
 use crate::head::Section;
-use crate::right::{class_of, ruling_class};
+use crate::right::passing_class;
 use crate::source::Source;
 use crate::teller::Teller;
 use p9_base::{NoMemory, NodeRef, Statement, User, statements};
 use p9_cert::Certificate;
 use p9_nsfile::OpFault;
-use p9_space::{MountTable, ROOT_PLACE, TO_EXECUTE};
+use p9_space::{MountTable, ROOT_PLACE};
 use p9_tree::Tree;
 use p9_world::World;
 use std::alloc::Allocator;
@@ -174,7 +174,7 @@ fn passes<T: Tree>(world: &World<T>, user: &User, at: NodeRef) -> bool {
     let Some(node) = world.forest.node(at) else {
         return false;
     };
-    class_of(world, user, node, TO_EXECUTE).is_some() || ruling_class(world, user, node).is_some()
+    passing_class(world, user, node).is_some()
 }
 
 // The operations of the namespace file that failed.

@@ -89,6 +89,18 @@ pub(crate) fn ruling_class<T: Tree>(
     }
 }
 
+/// As what a user passes a directory, and what that is.
+pub(crate) fn passing_class<T: Tree>(
+    world: &World<T>,
+    user: &User,
+    node: &Node<T::Alloc>,
+) -> Option<(Class, &'static str)> {
+    match class_of(world, user, node, TO_EXECUTE) {
+        Some(class) => Some((class, " may search")),
+        None => Some((ruling_class(world, user, node)?, " may change its mode")),
+    }
+}
+
 // A user who has a right of a node: as what, and what for.
 #[derive(Clone, Copy)]
 struct Holder {

@@ -2,7 +2,7 @@
 
 use crate::head::Section;
 use crate::member::hidden_dir;
-use crate::right::Class;
+use crate::right::{Class, passing_class};
 use crate::source::Source;
 use p9_base::{NoMemory, NodeRef, User};
 use p9_commands::path_of;
@@ -28,8 +28,12 @@ pub(crate) enum Part {
     Made(NodeRef),
     /// `is inside PATH`, for the hidden directory that a node is inside of.
     Inside(NodeRef),
+    /// `: CLASS DEED` for a user who passes a directory: as what, and what that is.
+    Pass(User, NodeRef),
     /// `, bound at PATH` for a place and a node that is bound there, if that isn't its own place.
     Bound(Option<NodeRef>, NodeRef),
+    /// So many blanks.
+    Blanks(usize),
 }
 
 /// Tells of a world, and of the input that it was read from.
@@ -58,6 +62,8 @@ impl<T: Tree> Teller<'_, '_, T> {
             Part::Line(section, line) => self.source.push_line(text, *section, *line),
             Part::Made(at) => self.say_made(text, *at),
             Part::Inside(at) => self.say_inside(text, *at),
+            Part::Pass(user, at) => self.say_pass(text, user, *at),
+            Part::Blanks(count) => push_blanks(text, *count),
             Part::Bound(Some(place), at) if *place != *at => self.say_bound(text, *place),
             Part::Bound(..) => Ok(()),
         }
@@ -67,6 +73,25 @@ impl<T: Tree> Teller<'_, '_, T> {
     fn say_inside(&self, text: &mut String<T::Alloc>, at: NodeRef) -> Result<(), NoMemory> {
         push(text, "is inside ")?;
         self.say_path(text, hidden_dir(self.world, at))
+    }
+
+    // Adds as what a user passes a directory, and what that is.
+    fn say_pass(
+        &self,
+        text: &mut String<T::Alloc>,
+        user: &User,
+        at: NodeRef,
+    ) -> Result<(), NoMemory> {
+        let world = self.world;
+        let Some(node) = world.forest.node(at) else {
+            return Ok(());
+        };
+        let Some((class, deed)) = passing_class(world, user, node) else {
+            return Ok(());
+        };
+        push(text, ": ")?;
+        class.push(text, node.gid())?;
+        push(text, deed)
     }
 
     // Adds the place where a node is bound.
@@ -105,6 +130,11 @@ fn push_rights<A: Allocator + Copy>(text: &mut String<A>, node: &Node<A>) -> Res
     let bits = node.mode().permissions.bits();
     write!(text, ", {bits:03o} {} {}", node.uid(), node.gid())?;
     Ok(())
+}
+
+// Adds so many blanks.
+fn push_blanks<A: Allocator + Copy>(text: &mut String<A>, count: usize) -> Result<(), NoMemory> {
+    push(text, " ".repeat(*text.allocator(), count)?.as_str())
 }
 
 // Adds words.
