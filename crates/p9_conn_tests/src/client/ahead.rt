@@ -1,6 +1,6 @@
 //! Whole files in pieces, of which several are on their way at once.
 
-use crate::client::answered::Answered;
+use crate::client::answered::{Answered, Server};
 use crate::client::kinds::outcome;
 use crate::client::pieces::{Fault, Pieces};
 use p9_client::{AHEAD_MAX, Session};
@@ -69,23 +69,34 @@ fn session_with(rt: &impl Abort, alloc: Global, play: Play) -> Session<Answered<
 // once.
 fn check(rt: &impl Abort, alloc: Global, play: Play, wanted: &str) -> usize {
     let mut session = session_with(rt, alloc, play);
-    match play.call {
-        Call::Read => read(rt, alloc, &mut session, play, wanted),
-        Call::Write => write(rt, alloc, &mut session, play, wanted),
-    }
+    is_played(rt, alloc, &mut session, play, wanted);
+    session.stream().server.most_waiting
 }
 
-// Reads the file.
-fn read(
+// What a call over this session comes to is what is wanted, and so is whether the session goes on.
+fn is_played(
     rt: &impl Abort,
     alloc: Global,
     session: &mut Session<Answered<Pieces>, Global>,
     play: Play,
     wanted: &str,
-) -> usize {
+) {
+    let Play { len, place, .. } = play;
+    let came = match play.call {
+        Call::Read => read(alloc, session),
+        Call::Write => write(rt, alloc, session, len),
+    };
+    assert!(rt;
+        came == wanted && is_as_after(session, wanted),
+        "{len} bytes, request {place}"
+    );
+}
+
+// Reads the file.
+fn read(alloc: Global, session: &mut Session<Answered<Pieces>, Global>) -> &'static str {
     let mut out = Vec::new(alloc);
     let came = outcome(&session.read_to(1, &mut out));
-    settle(rt, session, out.as_slice(), came, wanted, play)
+    told(&session.stream().server, out.as_slice(), came)
 }
 
 // Writes the file.
@@ -93,40 +104,27 @@ fn write(
     rt: &impl Abort,
     alloc: Global,
     session: &mut Session<Answered<Pieces>, Global>,
-    play: Play,
-    wanted: &str,
-) -> usize {
-    let bytes = file_of(rt, alloc, play.len);
+    len: usize,
+) -> &'static str {
+    let bytes = file_of(rt, alloc, len);
     let came = outcome(&session.write_whole(1, bytes.as_slice()));
-    settle(rt, session, bytes.as_slice(), came, wanted, play)
+    told(&session.stream().server, bytes.as_slice(), came)
 }
 
-// What a call came to is what is wanted. Where all is done the bytes are those of the file. The
-// session then goes on, and so it does after a refusal.
-fn settle(
-    rt: &impl Abort,
-    session: &mut Session<Answered<Pieces>, Global>,
-    bytes: &[u8],
-    came: &str,
-    wanted: &str,
-    play: Play,
-) -> usize {
-    let server = &session.stream().server;
-    let (is_whole, ahead) = (bytes == server.file.as_slice(), server.most_waiting);
-    let Play { len, place, .. } = play;
-    assert!(rt;
-        came == wanted && (is_whole || wanted != "done"),
-        "{len} bytes, request {place}: {came}, not {wanted}"
-    );
-    goes_on_after(rt, session, wanted);
-    ahead
+// What a call came to. Where all is done, but these bytes are not those of the file, it is
+// `other bytes`.
+fn told(server: &Pieces, bytes: &[u8], came: &'static str) -> &'static str {
+    if came == "done" && bytes != server.file.as_slice() {
+        return "other bytes";
+    }
+    came
 }
 
-// The session has not failed after these, and its next request is answered.
-fn goes_on_after(rt: &impl Abort, session: &mut Session<Answered<Pieces>, Global>, outcome: &str) {
-    let goes_on = ["done", "refused", "stuck", "output"].contains(&outcome);
-    let came = (session.is_failed(), session.clunk(1).is_ok());
-    assert!(rt; came == (!goes_on, goes_on), "{outcome}");
+// Whether the session is as it should be after a call that came to this: after some it has not failed,
+// and its next request is answered, and after all others it has failed.
+fn is_as_after<S: Server>(session: &mut Session<Answered<S>, Global>, came: &str) -> bool {
+    let goes_on = matches!(came, "done" | "refused" | "stuck" | "output");
+    session.is_failed() != goes_on && session.clunk(1).is_ok() == goes_on
 }
 
 // How many requests are on their way at once, for a file of so many bytes.
@@ -177,12 +175,12 @@ const ROWS: [(Call, Fault, usize, usize, &str); 16] = [
 
 #[test]
 fn a_fault_of_the_server_comes_to_what_it_is(rt: HostRuntime) {
-    for (call, fault, first, end, wanted) in ROWS {
-        for place in first..end {
+    for (call, fault, first, end, wanted) in &ROWS {
+        for place in *first..*end {
             let faulty = Play {
-                fault,
+                fault: *fault,
                 place,
-                ..fine(call, 17 * PIECE)
+                ..fine(*call, 17 * PIECE)
             };
             check(&rt, rt.alloc(), faulty, wanted);
         }
@@ -259,16 +257,18 @@ impl Write for Narrow {
     }
 }
 
-// A file of 17 pieces is read by a writer that has room for fewer.
-fn is_output_error(
+// A file is read by a writer that has room for fewer pieces.
+fn is_output_error<S: Server>(
     rt: &impl Abort,
-    session: &mut Session<Answered<Pieces>, Global>,
+    session: &mut Session<Answered<S>, Global>,
     pieces: usize,
 ) {
     let room = pieces.saturating_mul(PIECE);
     let came = outcome(&session.read_to(1, &mut Narrow { room }));
-    assert!(rt; came == "output", "{pieces}: {came}");
-    goes_on_after(rt, session, came);
+    assert!(rt;
+        came == "output" && is_as_after(session, came),
+        "{pieces} pieces"
+    );
 }
 
 #[test]

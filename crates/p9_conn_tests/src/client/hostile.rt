@@ -1,8 +1,8 @@
 //! Replies of a hostile server, each of which is an error.
 
-use crate::client::answered::Answered;
-use crate::client::canned::{Canned, session_of};
-use crate::client::kinds::kind_of;
+use crate::client::answered::{Answered, Server};
+use crate::client::canned::session_of;
+use crate::client::kinds::answer_kind;
 use p9_client::{ClientError, Session};
 use p9_wire::Names;
 use std::alloc::Global;
@@ -18,18 +18,25 @@ enum Call {
     Clunk,
 }
 
-// Asks it: a walk of one name, a read of four bytes, a write of two. Returns what that comes to.
-fn ask(session: &mut Session<Answered<Canned>, Global>, call: Call) -> &'static str {
+// Asks it: a walk of one name, a read of four bytes, a write of two. Returns the number that is
+// answered.
+fn ask<S: Server>(
+    session: &mut Session<Answered<S>, Global>,
+    call: Call,
+) -> Result<usize, ClientError> {
     match call {
-        Call::Version => outcome(&session.version()),
+        Call::Version => session.version(),
         Call::Walk => {
             let mut names = Names::new();
             names.push("a");
-            outcome(&session.walk(0, 1, names))
+            Ok(session.walk(0, 1, names)?.len())
         }
-        Call::Read => outcome(&session.read(0, 0, &mut [0; 4])),
-        Call::Write => outcome(&session.write(0, 0, b"hi")),
-        Call::Clunk => outcome(&session.clunk(0)),
+        Call::Read => session.read(0, 0, &mut [0; 4]),
+        Call::Write => session.write(0, 0, b"hi"),
+        Call::Clunk => {
+            session.clunk(0)?;
+            Ok(0)
+        }
     }
 }
 
@@ -98,38 +105,26 @@ const ROWS: [(Call, &str, &str); 29] = [
     ),
 ];
 
-// What a call comes to.
-fn outcome<T>(came: &Result<T, ClientError>) -> &'static str {
-    match came {
-        Ok(_) => "done",
-        Err(error) => kind_of(error),
-    }
-}
-
 // Asks over a reply without its last few bytes.
 fn check(rt: &impl Abort, alloc: Global, call: Call, reply: &str, missing: usize, wanted: &str) {
     let mut session = session_of(rt, alloc, reply, missing);
-    let came = ask(&mut session, call);
-    assert!(rt; came == wanted, "{reply}: {came}");
-    goes_on_after(rt, &mut session, reply, wanted);
+    let came = answer_kind(&ask(&mut session, call));
+    assert!(rt;
+        came == wanted && is_as_after(&mut session, wanted),
+        "{reply}"
+    );
 }
 
-// The session has failed but for a value or a refusal, and asks nothing more.
-fn goes_on_after(
-    rt: &impl Abort,
-    session: &mut Session<Answered<Canned>, Global>,
-    reply: &str,
-    wanted: &str,
-) {
-    let goes_on = wanted == "done" || wanted == "refused";
+// Whether the session is as it should be after a call that came to this: after a value or a refusal it
+// has not failed, and after all else it has, and asks nothing more.
+fn is_as_after<S: Server>(session: &mut Session<Answered<S>, Global>, came: &str) -> bool {
     let is_failed = session.is_failed();
+    if came == "done" || came == "refused" {
+        return !is_failed;
+    }
     let written = session.stream().written;
-    let next = ask(session, Call::Clunk);
-    let asks_nothing = next == "over" && session.stream().written == written;
-    assert!(rt;
-        is_failed != goes_on && (goes_on || asks_nothing),
-        "{reply}: {next}"
-    );
+    let is_over = matches!(session.clunk(0), Err(ClientError::Over));
+    is_failed && is_over && session.stream().written == written
 }
 
 #[test]

@@ -31,7 +31,15 @@ pub fn file_kind_of(error: &FileError) -> &'static str {
     }
 }
 
-/// What a call comes to: the name of its error, or `done`.
+/// What a call of a session comes to: the name of its error, or `done`.
+pub fn answer_kind<T>(came: &Result<T, ClientError>) -> &'static str {
+    match came {
+        Ok(_) => "done",
+        Err(error) => kind_of(error),
+    }
+}
+
+/// What a call of a file comes to: the name of its error, or `done`.
 pub fn outcome<T>(came: &Result<T, FileError>) -> &'static str {
     match came {
         Ok(_) => "done",

@@ -6,7 +6,7 @@ use std::alloc::Global;
 use std::io;
 
 /// What the server does wrong at a request.
-#[derive(Clone, Copy, PartialEq, Eq)]
+#[derive(Clone, Copy)]
 pub enum Fault {
     /// Nothing.
     Nothing,
@@ -98,7 +98,7 @@ impl Pieces {
         let rest = self.file.get(offset as usize..).unwrap_or(&[]);
         let rest = &rest[..rest.len().min(count as usize)];
         let mut data = Vec::from_slice(alloc, moved(fault, rest))?;
-        if fault == Fault::More {
+        if matches!(fault, Fault::More) {
             data.resize((count as usize).saturating_add(1), 0)?;
         }
         let mut body = Vec::from_slice(alloc, &len_of(data.as_slice()).to_le_bytes())?;
@@ -116,7 +116,7 @@ impl Pieces {
     ) -> io::Result<Vec<u8, Global>> {
         let bytes = moved(fault, bytes);
         self.store(offset as usize, bytes)?;
-        let count = len_of(bytes).saturating_add(u32::from(fault == Fault::More));
+        let count = len_of(bytes).saturating_add(u32::from(matches!(fault, Fault::More)));
         reply_frame(*self.file.allocator(), 119, tag, &count.to_le_bytes())
     }
 
@@ -137,18 +137,18 @@ impl Pieces {
         mut reply: Vec<u8, Global>,
         output: &mut Vec<u8, Global>,
     ) -> io::Result<()> {
-        if fault == Fault::Late {
-            self.late = reply;
-            return Ok(());
+        match fault {
+            Fault::Late => self.late = reply,
+            Fault::Backwards => {
+                reply.extend_from_slice(output.as_slice())?;
+                *output = reply;
+            }
+            _ => {
+                output.extend_from_slice(reply.as_slice())?;
+                output.extend_from_slice(self.late.as_slice())?;
+                self.late.clear();
+            }
         }
-        if fault == Fault::Backwards {
-            reply.extend_from_slice(output.as_slice())?;
-            *output = reply;
-            return Ok(());
-        }
-        output.extend_from_slice(reply.as_slice())?;
-        output.extend_from_slice(self.late.as_slice())?;
-        self.late.clear();
         Ok(())
     }
 }
@@ -185,9 +185,8 @@ fn tag_for(fault: Fault, tag: u16) -> u16 {
 
 // Those of the bytes that are read or written.
 fn moved(fault: Fault, bytes: &[u8]) -> &[u8] {
-    if fault == Fault::Short {
-        &bytes[..bytes.len() / 2]
-    } else {
-        bytes
+    match fault {
+        Fault::Short => &bytes[..bytes.len() / 2],
+        _ => bytes,
     }
 }

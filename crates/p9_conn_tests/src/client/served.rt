@@ -68,18 +68,19 @@ fn answer_first<T: Tree>(
 
 /// A stream to a new guard of the world above.
 pub fn serve(rt: &impl Abort, alloc: Global) -> Answered<Served> {
-    let mut guard = guard_of(rt, alloc);
-    assert!(rt; guard.open(SESSION).is_ok());
+    let guard = guard_of(rt, alloc);
     Answered::new(alloc, Served { guard })
 }
 
-// A guard of the world above.
-fn guard_of(rt: &impl Abort, alloc: Global) -> Guard<IndexTree<Global>> {
-    let world: World<IndexTree<Global>> = read_world(alloc, WORLD).expect(rt, "a world");
+// A guard of the world above, whose session is opened.
+fn guard_of<T: Tree>(rt: &impl Abort, alloc: T::Alloc) -> Guard<T> {
+    let world: World<T> = read_world(alloc, WORLD).expect(rt, "a world");
     let certificate = read_cert(alloc, CERTIFICATE).expect(rt, "a certificate");
-    Guard::new(world, MountTable::new(alloc), certificate)
+    let mut guard = Guard::new(world, MountTable::new(alloc), certificate)
         .ok()
-        .expect(rt, "a guard")
+        .expect(rt, "a guard");
+    assert!(rt; guard.open(SESSION).is_ok());
+    guard
 }
 
 /// A session over this stream, where glenda has attached fid 0.

@@ -2,7 +2,7 @@
 
 use crate::client::answered::{Answered, Server};
 use crate::client::served::{attach, serve};
-use crate::client::sessions::{contents, entries};
+use crate::client::sessions::{contents, entries, make};
 use p9_base::DMDIR;
 use p9_client::{Entry, Session};
 use std::alloc::Global;
@@ -22,13 +22,6 @@ fn bytes_of(rt: &impl Abort, alloc: Global, number: u32) -> Vec<u8> {
     bytes
 }
 
-// Makes a directory.
-fn make_dir<S: Server>(rt: &impl Abort, session: &mut Session<Answered<S>, Global>, dir: &str) {
-    assert!(rt; session.walk_path(0, 1, &["pub"]).is_ok());
-    assert!(rt; session.create(1, dir, DMDIR | 0o755, 0).is_ok());
-    assert!(rt; session.clunk(1).is_ok());
-}
-
 // Makes the file of a number, and writes its bytes.
 fn put<S: Server>(
     rt: &impl Abort,
@@ -39,10 +32,15 @@ fn put<S: Server>(
     let dir = DIRS[number as usize % DIRS.len()];
     let name = format!(in alloc; "{number}").expect(rt, "memory");
     let bytes = bytes_of(rt, alloc, number);
-    assert!(rt; session.walk_path(0, 1, &["pub", dir]).is_ok());
-    assert!(rt; session.create(1, name.as_str(), 0o644, 1).is_ok());
-    assert!(rt; session.write_whole(1, bytes.as_slice()).is_ok());
-    assert!(rt; session.clunk(1).is_ok());
+    let made = make(
+        session,
+        &["pub", dir],
+        name.as_str(),
+        0o644,
+        1,
+        bytes.as_slice(),
+    );
+    made.expect(rt, "a file");
 }
 
 // Gets the file of an entry, whose name is its number, and compares its bytes.
@@ -55,16 +53,18 @@ fn get<S: Server>(
 ) {
     let name = entry.name.as_str();
     let number = name.parse::<u32>().ok().expect(rt, "a number");
-    let bytes = contents(rt, alloc, session, &["pub", dir, name]);
+    let bytes = contents(rt, alloc, session, &["pub", dir, name]).expect(rt, "a file");
     let wanted = bytes_of(rt, alloc, number);
-    assert!(rt; entry.length == wanted.len() as u64, "{dir}/{number}");
-    assert!(rt; bytes.as_slice() == wanted.as_slice(), "{dir}/{number}");
+    assert!(rt;
+        entry.length == wanted.len() as u64 && bytes.as_slice() == wanted.as_slice(),
+        "{dir}/{name}"
+    );
 }
 
 // Makes the directories, and puts all files.
 fn put_all<S: Server>(rt: &impl Abort, alloc: Global, session: &mut Session<Answered<S>, Global>) {
     for dir in DIRS {
-        make_dir(rt, session, dir);
+        make(session, &["pub"], dir, DMDIR | 0o755, 0, &[]).expect(rt, "a directory");
     }
     for number in 0..FILES {
         put(rt, alloc, session, number);
@@ -78,7 +78,7 @@ fn get_all<S: Server>(
     session: &mut Session<Answered<S>, Global>,
     dir: &str,
 ) -> usize {
-    let entries = entries(rt, alloc, session, &["pub", dir]);
+    let entries = entries(alloc, session, &["pub", dir]).expect(rt, "a listing");
     for entry in &entries {
         get(rt, alloc, session, dir, entry);
     }
