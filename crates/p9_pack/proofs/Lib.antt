@@ -4,6 +4,9 @@ pub mod Paths
 pub mod Modes
 pub mod Digits
 pub mod Puts
+pub mod Rows
+pub mod Lines
+pub mod Loops
 pub mod Meanings
 pub mod Written
 pub mod WordFaults

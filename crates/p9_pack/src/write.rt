@@ -59,8 +59,7 @@ pub fn write_dir<A: Allocator + Copy>(
     text.extend_from_slice(b"dir")?;
     put_path(dir.path, &mut text)?;
     put_permissions(dir.permissions, &mut text)?;
-    put_word(dir.uid.as_str(), &mut text)?;
-    put_word(dir.gid.as_str(), &mut text)?;
+    put_users(&[dir.uid, dir.gid], &mut text)?;
     append(text, out)
 }
 
@@ -77,8 +76,7 @@ pub fn write_file<A: Allocator + Copy>(
     text.extend_from_slice(b"file")?;
     put_path(file.path, &mut text)?;
     put_file_mode(file.flags, file.permissions, &mut text)?;
-    put_word(file.uid.as_str(), &mut text)?;
-    put_word(file.gid.as_str(), &mut text)?;
+    put_users(&[file.uid, file.gid], &mut text)?;
     put_bytes(alloc, file.bytes, &mut text)?;
     append(text, out)
 }

@@ -1,0 +1,86 @@
+-- What one step of a loop over a list adds to what was made of the items before.
+use Rattle.std.proofs.Common.{◌≡◌, ℕ, ◌+◌, ◌<◌, Bool, true, false, List, [], ◌∷◌, ◌++◌, Bor}
+use Rattle.std.proofs.Common.{length, drop, get_or, map, refl, sym, ap, ◌∙◌, append_assoc}
+use Rattle.std.specs.List.{flat_map, fold, list_any}
+use Rattle.std.specs.Str.{bytes_eq}
+use Rattle.std.proofs.lemmas.List.{drop_more, map-append}
+use Rattle.p9_pack.specs.Once.{with_text}
+
+module _ {X : Type 0} (items : List X) (i : ℕ) (x d : X) where
+  -- the item is the first of those that are left
+  next-left : i < length items → x ≡ get_or items i d → drop i items ≡ x ∷ drop (i + 1) items
+  next-left l at = drop_more items i d l ∙ ap (λ y. y ∷ drop (i + 1) items) (sym at)
+
+  -- what is made of the item is added
+  pub list-more : {Y : Type 0} (made_of : List X → List Y) (before part after whole : List Y)
+      → i < length items → x ≡ get_or items i d
+      → made_of (x ∷ drop (i + 1) items) ≡ part ++ made_of (drop (i + 1) items)
+      → after ≡ before ++ part → before ++ made_of (drop i items) ≡ whole
+      → after ++ made_of (drop (i + 1) items) ≡ whole
+  list-more made_of before part after whole l at one more kept =
+      ap (λ made. made ++ made_of (drop (i + 1) items)) more
+      ∙ append_assoc before part (made_of (drop (i + 1) items))
+      ∙ ap (λ made. before ++ made) (sym one)
+      ∙ ap (λ left. before ++ made_of left) (sym (next-left l at))
+      ∙ kept
+
+  -- nothing is made of the item
+  pub list-same : {Y : Type 0} (made_of : List X → List Y) (before after whole : List Y)
+      → i < length items → x ≡ get_or items i d
+      → made_of (x ∷ drop (i + 1) items) ≡ made_of (drop (i + 1) items)
+      → after ≡ before → before ++ made_of (drop i items) ≡ whole
+      → after ++ made_of (drop (i + 1) items) ≡ whole
+  list-same made_of before after whole l at none same kept =
+      ap (λ made. made ++ made_of (drop (i + 1) items)) same
+      ∙ ap (λ made. before ++ made) (sym none)
+      ∙ ap (λ left. before ++ made_of left) (sym (next-left l at))
+      ∙ kept
+
+  -- the text of the item is added
+  pub text-more : (text_of : X → List ℕ) (before after whole : List ℕ) → i < length items
+      → x ≡ get_or items i d → after ≡ before ++ text_of x
+      → before ++ flat_map text_of (drop i items) ≡ whole
+      → after ++ flat_map text_of (drop (i + 1) items) ≡ whole
+  text-more text_of before after whole l at more kept =
+      list-more (flat_map text_of) before (text_of x) after whole l at refl more kept
+
+  -- the item joins what is folded
+  pub fold-more : {Y Z : Type 0} (step : Z → Y → Z) (view : X → Y) (before after whole : Z)
+      → i < length items → x ≡ get_or items i d → after ≡ step before (view x)
+      → fold step before (map view (drop i items)) ≡ whole
+      → fold step after (map view (drop (i + 1) items)) ≡ whole
+  fold-more step view before after whole l at more kept =
+      ap (λ made. fold step made (map view (drop (i + 1) items))) more
+      ∙ ap (λ left. fold step before (map view left)) (sym (next-left l at))
+      ∙ kept
+
+-- a byte and a word are added
+pub word-more : (code : ℕ) (word put before half after : List ℕ) → half ≡ before ++ code ∷ []
+    → after ≡ half ++ put → put ≡ word → after ≡ before ++ code ∷ word
+word-more code word put before half after first second is =
+    second ∙ ap (λ text. text ++ put) first ∙ append_assoc before (code ∷ []) put
+    ∙ ap (λ text. before ++ code ∷ text) is
+
+-- a text that is not among those that were found joins them
+pub with_text-new : (found others pushed after : List (Bor (List ℕ))) (text : Bor (List ℕ))
+    (among : Bool) → others ≡ found
+    → among ≡ list_any (λ other. bytes_eq other text.now) (map (λ other. other.now) others)
+    → among ≡ false → after ≡ pushed → pushed ≡ found ++ text ∷ []
+    → map (λ other. other.now) after ≡ with_text (map (λ other. other.now) found) text.now
+with_text-new found others pushed after text among same is absent kept more =
+    let texts : List (Bor (List ℕ)) → List (List ℕ) = map (λ other. other.now) in
+    let tested : list_any (λ other. bytes_eq other text.now) (texts found) ≡ false =
+    ap (λ xs. list_any (λ other. bytes_eq other text.now) (texts xs)) (sym same) ∙ sym is ∙ absent in
+    ap texts (kept ∙ more) ∙ map-append (λ other. other.now) found (text ∷ []) ∙ rw tested refl
+
+-- a text that is among them does not
+pub with_text-old : (found others after : List (Bor (List ℕ))) (text : List ℕ) (among : Bool)
+    → others ≡ found
+    → among ≡ list_any (λ other. bytes_eq other text) (map (λ other. other.now) others)
+    → among ≡ true → after ≡ found
+    → map (λ other. other.now) after ≡ with_text (map (λ other. other.now) found) text
+with_text-old found others after text among same is present kept =
+    let texts : List (Bor (List ℕ)) → List (List ℕ) = map (λ other. other.now) in
+    let tested : list_any (λ other. bytes_eq other text) (texts found) ≡ true =
+    ap (λ xs. list_any (λ other. bytes_eq other text) (texts xs)) (sym same) ∙ sym is ∙ present in
+    ap texts kept ∙ rw tested refl
