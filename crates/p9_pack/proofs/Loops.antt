@@ -1,9 +1,9 @@
 -- What one step of a loop over a list adds to what was made of the items before.
-use Rattle.std.proofs.Common.{◌≡◌, ℕ, ◌+◌, ◌<◌, Bool, true, false, List, [], ◌∷◌, ◌++◌, Bor}
+use Rattle.std.proofs.Common.{◌≡◌, ℕ, ◌+◌, ◌<◌, ◌≤◌, Bool, true, false, List, [], ◌∷◌, ◌++◌, Bor}
 use Rattle.std.proofs.Common.{length, drop, get_or, map, refl, sym, ap, ◌∙◌, append_assoc}
 use Rattle.std.specs.List.{flat_map, fold, list_any}
 use Rattle.std.specs.Str.{bytes_eq}
-use Rattle.std.proofs.lemmas.List.{drop_more, map-append}
+use Rattle.std.proofs.lemmas.List.{append-nil, drop_all, drop_more, map-append}
 use Rattle.p9_pack.specs.Once.{with_text}
 
 module _ {X : Type 0} (items : List X) (i : ℕ) (x d : X) where
@@ -53,6 +53,13 @@ module _ {X : Type 0} (items : List X) (i : ℕ) (x d : X) where
       ap (λ made. fold step made (map view (drop (i + 1) items))) more
       ∙ ap (λ left. fold step before (map view left)) (sym (next-left l at))
       ∙ kept
+
+-- the texts of all items are added
+pub text-all : {X : Type 0} (text_of : X → List ℕ) (items : List X) (i : ℕ) (text whole : List ℕ)
+    → length items ≤ i → text ++ flat_map text_of (drop i items) ≡ whole → text ≡ whole
+text-all text_of items i text whole l kept =
+    sym (append-nil text) ∙ ap (λ left. text ++ flat_map text_of left) (sym (drop_all i items l))
+    ∙ kept
 
 -- a byte and a word are added
 pub word-more : (code : ℕ) (word put before half after : List ℕ) → half ≡ before ++ code ∷ []

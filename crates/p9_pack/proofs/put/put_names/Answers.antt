@@ -1,5 +1,5 @@
 use Rattle.std.proofs.Common.{◌∷◌, ◌∙◌}
-use Rattle.p9_pack.proofs.Loops.{text-more, word-more}
+use Rattle.p9_pack.proofs.Loops.{text-all, text-more, word-more}
 use Rattle.p9_pack.proofs.put.put_names.Goals as goal
 
 pub loop-name-preserved : goal.loop-name-preserved
@@ -10,3 +10,8 @@ loop-name-preserved g c =
     c.push.new.self.items _ c.in_ok-push.ensures.items c.in_ok-extend_from_slice.ensures.items
     (c.as_bytes.ensures.value ∙ c.as_str.ensures.text))
     c.loop-name.invariant
+
+pub returns : goal.returns
+returns g c =
+    text-all (λ name. 47 ∷ name) c.args.names.now c.loop-name.name-index c.loop-name.text.items _
+    c.loop-name-test.false c.loop-name.invariant

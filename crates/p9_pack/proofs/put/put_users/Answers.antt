@@ -1,5 +1,5 @@
 use Rattle.std.proofs.Common.{◌∷◌, ◌++◌, ◌∙◌, ap}
-use Rattle.p9_pack.proofs.Loops.{text-more}
+use Rattle.p9_pack.proofs.Loops.{text-all, text-more}
 use Rattle.p9_pack.proofs.put.put_users.Goals as goal
 
 pub loop-user-preserved : goal.loop-user-preserved
@@ -9,3 +9,8 @@ loop-user-preserved g c =
     (c.in_ok-put_word.ensures
     ∙ ap (λ word. c.loop-user.text.items ++ 32 ∷ word) c.as_str.ensures.text)
     c.loop-user.invariant
+
+pub returns : goal.returns
+returns g c =
+    text-all (λ user. 32 ∷ user) c.args.users.now c.loop-user.user-index c.loop-user.text.items _
+    c.loop-user-test.false c.loop-user.invariant
