@@ -1,9 +1,10 @@
 //! Streams that fail, at each of their calls.
 
-use crate::rows::{ASIDE, FOUND, GONE, LOOK, WORK};
+use crate::rows::{FOUND, GONE, LOOK, WORK};
 use crate::scripted::{Answer, Scripted};
-use crate::serving::{Served, connect, is_answered, is_closed, new_guard, serve, stream_of};
-use p9_conn::Conn;
+use crate::serving::{
+    Pair, Served, are_answered, one_is_closed, serve_session, served_beside, stream_of,
+};
 use p9_testing::bytes_of;
 use std::alloc::Global;
 use std::process::Abort;
@@ -17,9 +18,9 @@ const WRITES: u64 = 9;
 // One more read would block.
 const CALLS: u64 = READS + WRITES + 1;
 
+// All was read and written.
 fn has_moved(rt: &impl Abort, stream: &Scripted) {
-    assert!(rt; stream.moving_reads() == READS);
-    assert!(rt; stream.moving_writes() == WRITES);
+    assert!(rt; stream.moving_reads() == READS && stream.moving_writes() == WRITES);
 }
 
 // A stream of the work, whose call after so many others has this answer.
@@ -32,45 +33,40 @@ fn stream_with(rt: &impl Abort, alloc: Global, before: u64, answer: Answer) -> S
     stream
 }
 
-// The work is done over a stream, beside an undisturbed connection.
-fn work(
-    rt: &impl Abort,
-    alloc: Global,
-    guard: &mut Served,
-    stream: Scripted,
-) -> [Conn<Scripted, Global>; 2] {
-    let two = stream_of(rt, alloc, &ASIDE, 16);
-    let mut conns = [
-        connect(rt, alloc, guard, 1, stream),
-        connect(rt, alloc, guard, 2, two),
-    ];
-    serve(guard, &mut conns);
-    conns
-}
-
 // A third session looks for the file, and the last of its replies is this.
 fn look(rt: &impl Abort, alloc: Global, guard: &mut Served, last: &str) {
-    let stream = Scripted::new(
-        alloc,
-        bytes_of(alloc, LOOK).expect(rt, "hexadecimal digits"),
-        100,
-    );
-    let mut conns = [connect(rt, alloc, guard, 3, stream)];
-    serve(guard, &mut conns);
+    let input = bytes_of(alloc, LOOK).expect(rt, "hexadecimal digits");
+    let conn = serve_session(rt, alloc, guard, 3, Scripted::new(alloc, input, 100));
+    ends_with(rt, alloc, conn.stream(), last);
+    drop(conn);
+}
+
+// The last bytes that were written to a stream are these.
+fn ends_with(rt: &impl Abort, alloc: Global, stream: &Scripted, last: &str) {
     let wanted = bytes_of(alloc, last).expect(rt, "hexadecimal digits");
-    assert!(rt; conns[0].stream().output().ends_with(wanted.as_slice()));
+    assert!(rt; stream.output().ends_with(wanted.as_slice()));
+}
+
+// The work is done, and the other connection is undisturbed.
+fn is_done(rt: &impl Abort, alloc: Global, pair: &mut Pair) {
+    are_answered(rt, alloc, pair, &WORK);
+    has_moved(rt, pair.one.stream());
+    look(rt, alloc, &mut pair.guard, FOUND);
+}
+
+// The work came to an end after so many calls, and the other connection is undisturbed.
+fn is_ended(rt: &impl Abort, alloc: Global, pair: &mut Pair, calls: u64) {
+    one_is_closed(rt, alloc, pair, &WORK);
+    assert!(rt; pair.one.stream().calls() == calls);
+    look(rt, alloc, &mut pair.guard, GONE);
 }
 
 #[test]
 fn without_a_fault_the_file_is_there(rt: HostRuntime) {
-    let alloc = rt.alloc();
-    let mut guard = new_guard(&rt, alloc);
-    let stream = stream_of(&rt, alloc, &WORK, 16);
-    let conns = work(&rt, alloc, &mut guard, stream);
-    is_answered(&rt, alloc, &guard, &conns[0], &WORK);
-    is_answered(&rt, alloc, &guard, &conns[1], &ASIDE);
-    has_moved(&rt, conns[0].stream());
-    look(&rt, alloc, &mut guard, FOUND);
+    let stream = stream_of(&rt, rt.alloc(), &WORK, 16);
+    let mut pair = served_beside(&rt, rt.alloc(), stream, 16);
+    is_done(&rt, rt.alloc(), &mut pair);
+    drop(pair);
 }
 
 #[test]
@@ -87,14 +83,12 @@ fn a_stream_that_moves_nothing_closes_its_connection_alone(rt: HostRuntime) {
     }
 }
 
+// The call after so many others has an answer that closes the connection.
 fn ends_at(rt: &impl Abort, alloc: Global, before: u64, answer: Answer) {
-    let mut guard = new_guard(rt, alloc);
     let stream = stream_with(rt, alloc, before, answer);
-    let conns = work(rt, alloc, &mut guard, stream);
-    is_closed(rt, alloc, &guard, &conns[0], &WORK);
-    assert!(rt; conns[0].stream().calls() == before.saturating_add(1));
-    is_answered(rt, alloc, &guard, &conns[1], &ASIDE);
-    look(rt, alloc, &mut guard, GONE);
+    let mut pair = served_beside(rt, alloc, stream, 16);
+    is_ended(rt, alloc, &mut pair, before.saturating_add(1));
+    drop(pair);
 }
 
 #[test]
@@ -105,12 +99,10 @@ fn a_stream_that_is_waited_for_changes_nothing(rt: HostRuntime) {
     }
 }
 
+// The call after so many others has an answer that closes no connection.
 fn waits_at(rt: &impl Abort, alloc: Global, before: u64, answer: Answer) {
-    let mut guard = new_guard(rt, alloc);
     let stream = stream_with(rt, alloc, before, answer);
-    let conns = work(rt, alloc, &mut guard, stream);
-    is_answered(rt, alloc, &guard, &conns[0], &WORK);
-    is_answered(rt, alloc, &guard, &conns[1], &ASIDE);
-    has_moved(rt, conns[0].stream());
-    look(rt, alloc, &mut guard, FOUND);
+    let mut pair = served_beside(rt, alloc, stream, 16);
+    is_done(rt, alloc, &mut pair);
+    drop(pair);
 }

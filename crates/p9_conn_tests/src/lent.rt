@@ -3,7 +3,7 @@
 
 use crate::rows::{ATTACH, Row, VERSION, WALK, add, requests};
 use crate::scripted::{Answer, Scripted};
-use crate::serving::{connect, guard_over, is_answered, is_closed, serve_alone};
+use crate::serving::{connect_over, guard_over, is_answered_over, is_closed_over, serve_alone};
 use linked_list_allocator::LocalHeap;
 use p9_conn::Conn;
 use p9_guard::Guard;
@@ -79,7 +79,7 @@ fn end_by_caller<T: Tree>(
     conn: &Conn<Scripted, T::Alloc>,
     rows: &[Row],
 ) {
-    is_answered(rt, alloc, guard, conn, rows);
+    is_answered_over(rt, alloc, guard, conn, rows);
     let session = conn.session();
     assert!(rt; guard.live(session));
     guard.close(session, 0);
@@ -97,19 +97,19 @@ fn serve_and_drop<T: Tree>(
 ) {
     let stream = stream_to(rt, alloc, rows, end);
     let used = heap.used();
-    let mut conn = connect(rt, lent, guard, 1, stream);
+    let mut conn = connect_over(rt, lent, guard, 1, stream);
     assert!(rt; heap.used().saturating_sub(used) >= 1 << 21);
     serve_alone(guard, &mut conn);
     if end == End::Caller {
         end_by_caller(rt, alloc, guard, &conn, rows);
     } else {
-        is_closed(rt, alloc, guard, &conn, rows);
+        is_closed_over(rt, alloc, guard, &conn, rows);
     }
     assert!(rt; !guard.live(1));
+    drop(conn);
 }
 
-// Serves the rows again and again on one guard: what is lent after each time is what was lent before
-// it. At the first time a collection may keep room.
+// Serves the rows again and again on one guard, over trees of this kind, and drops the guard.
 fn repeat<T: Tree>(
     rt: &impl Abort,
     alloc: Global,
@@ -119,10 +119,25 @@ fn repeat<T: Tree>(
     end: End,
 ) {
     let mut guard = guard_over::<T>(rt, lent);
-    serve_and_drop(rt, alloc, heap, &mut guard, lent, rows, end);
+    repeat_on(rt, alloc, heap, &mut guard, lent, rows, end);
+    drop(guard);
+}
+
+// What is lent after each time is what was lent before it. At the first time a collection may keep
+// room.
+fn repeat_on<T: Tree>(
+    rt: &impl Abort,
+    alloc: Global,
+    heap: &LocalHeap,
+    guard: &mut Guard<T>,
+    lent: T::Alloc,
+    rows: &[Row],
+    end: End,
+) {
+    serve_and_drop(rt, alloc, heap, guard, lent, rows, end);
     let used = heap.used();
     for _ in 0..10 {
-        serve_and_drop(rt, alloc, heap, &mut guard, lent, rows, end);
+        serve_and_drop(rt, alloc, heap, guard, lent, rows, end);
         assert!(rt; heap.used() == used, "{end:?}");
     }
 }
@@ -132,11 +147,15 @@ fn repeat<T: Tree>(
 fn a_dropped_connection_gives_all_back(rt: HostRuntime) {
     let heap = LocalHeap::new(rt.alloc(), 1 << 22).expect(&rt, "memory");
     for end in ENDS {
-        for rows in [CLUNKED.as_slice(), LEFT_OPEN.as_slice()] {
-            repeat::<PlainTree<&LocalHeap>>(&rt, rt.alloc(), &heap, &heap, rows, end);
-            assert!(rt; heap.used() == 0);
-            repeat::<IndexTree<&LocalHeap>>(&rt, rt.alloc(), &heap, &heap, rows, end);
-            assert!(rt; heap.used() == 0);
-        }
+        gives_all_back(&rt, rt.alloc(), &heap, &CLUNKED, end);
+        gives_all_back(&rt, rt.alloc(), &heap, &LEFT_OPEN, end);
     }
+}
+
+// Over both kinds of trees, all is given back when the guard is dropped.
+fn gives_all_back(rt: &impl Abort, alloc: Global, heap: &LocalHeap, rows: &[Row], end: End) {
+    repeat::<PlainTree<&LocalHeap>>(rt, alloc, heap, heap, rows, end);
+    assert!(rt; heap.used() == 0);
+    repeat::<IndexTree<&LocalHeap>>(rt, alloc, heap, heap, rows, end);
+    assert!(rt; heap.used() == 0);
 }

@@ -1,8 +1,8 @@
 //! Bytes that come and go in pieces.
 
-use crate::rows::{ASIDE, ATTACH, Row, VERSION, WORK};
-use crate::scripted::Answer;
-use crate::serving::{connect, is_answered, new_guard, serve, stream_of};
+use crate::rows::{ATTACH, Row, VERSION, WORK};
+use crate::scripted::{Answer, Scripted};
+use crate::serving::{Alone, are_answered, is_answered, served, served_beside, stream_of};
 use std::alloc::Global;
 use std::process::Abort;
 
@@ -17,9 +17,15 @@ fn two_frames_are_cut_at_each_place(rt: HostRuntime) {
     }
 }
 
-// The first read moves so many bytes, and the next read and the first write would block.
+// The first read moves so many bytes.
 fn cut_at(rt: &impl Abort, alloc: Global, cut: usize) {
-    let mut guard = new_guard(rt, alloc);
+    let alone = served(rt, alloc, cut_stream(rt, alloc, cut));
+    is_read_twice(rt, alloc, &alone);
+    drop(alone);
+}
+
+// A stream whose first read moves so many bytes. The next read and the first write would block.
+fn cut_stream(rt: &impl Abort, alloc: Global, cut: usize) -> Scripted {
     let mut stream = stream_of(rt, alloc, &TWO, 100);
     for answer in [
         Answer::Moves(cut),
@@ -29,10 +35,13 @@ fn cut_at(rt: &impl Abort, alloc: Global, cut: usize) {
     ] {
         stream.then(rt, answer);
     }
-    let mut conns = [connect(rt, alloc, &mut guard, 1, stream)];
-    serve(&mut guard, &mut conns);
-    is_answered(rt, alloc, &guard, &conns[0], &TWO);
-    assert!(rt; conns[0].stream().moving_reads() == 2);
+    stream
+}
+
+// Two reads moved the requests, which are answered.
+fn is_read_twice(rt: &impl Abort, alloc: Global, alone: &Alone) {
+    is_answered(rt, alloc, &alone.guard, &alone.conn, &TWO);
+    assert!(rt; alone.conn.stream().moving_reads() == 2);
 }
 
 // Two sessions beside one another, with pieces of each length, down to one byte a call.
@@ -43,15 +52,10 @@ fn every_length_of_a_piece_makes_the_same_bytes(rt: HostRuntime) {
     }
 }
 
+// Each call moves at most so many bytes.
 fn moves_at_most(rt: &impl Abort, alloc: Global, most: usize) {
-    let mut guard = new_guard(rt, alloc);
-    let one = stream_of(rt, alloc, &WORK, most);
-    let two = stream_of(rt, alloc, &ASIDE, most);
-    let mut conns = [
-        connect(rt, alloc, &mut guard, 1, one),
-        connect(rt, alloc, &mut guard, 2, two),
-    ];
-    serve(&mut guard, &mut conns);
-    is_answered(rt, alloc, &guard, &conns[0], &WORK);
-    is_answered(rt, alloc, &guard, &conns[1], &ASIDE);
+    let stream = stream_of(rt, alloc, &WORK, most);
+    let pair = served_beside(rt, alloc, stream, most);
+    are_answered(rt, alloc, &pair, &WORK);
+    drop(pair);
 }

@@ -2,7 +2,7 @@
 
 use crate::rows::{WORK, replies, requests};
 use crate::scripted::Scripted;
-use crate::serving::{new_guard, serve};
+use crate::serving::{Served, new_guard, serve_alone};
 use p9_base::NoMemory;
 use p9_conn::Conn;
 use p9_testing::{Refusing, bytes_of, refuse_each};
@@ -27,18 +27,32 @@ fn is_untouched(stream: &Scripted) -> bool {
 }
 
 // A connection that was just made is open, and does the work.
-fn does_work(rt: &impl Abort, alloc: Global, conn: Conn<Scripted, &Refusing<Global>>) {
-    assert!(rt; conn.session() == 7);
-    assert!(rt; !conn.is_closed());
-    assert!(rt; is_untouched(conn.stream()));
+fn does_work(rt: &impl Abort, alloc: Global, mut conn: Conn<Scripted, &Refusing<Global>>) {
     let mut guard = new_guard(rt, alloc);
+    is_worked(rt, alloc, &mut guard, &mut conn);
+    drop(conn);
+    drop(guard);
+}
+
+// The connection is open and untouched, and does the work as session 7, which is opened here.
+fn is_worked(
+    rt: &impl Abort,
+    alloc: Global,
+    guard: &mut Served,
+    conn: &mut Conn<Scripted, &Refusing<Global>>,
+) {
+    assert!(rt; conn.session() == 7 && !conn.is_closed() && is_untouched(conn.stream()));
     assert!(rt; guard.open(7) == Ok(()));
-    let mut conns = [conn];
-    serve(&mut guard, &mut conns);
+    serve_alone(guard, conn);
+    assert!(rt; conn.stream().output() == all_written(rt, alloc).as_slice());
+}
+
+// What was written to the stream when the work is done.
+fn all_written(rt: &impl Abort, alloc: Global) -> Vec<u8, Global> {
     let mut wanted = bytes_of(alloc, "040506").expect(rt, "hexadecimal digits");
     let work = replies(rt, alloc, &WORK);
     assert!(rt; wanted.extend_from_slice(work.as_slice()).is_ok());
-    assert!(rt; conns[0].stream().output() == wanted.as_slice());
+    wanted
 }
 
 // Makes a connection, again where an allocation failed: the stream comes back as it was.

@@ -1,8 +1,8 @@
 //! Sizes that no frame has.
 
-use crate::rows::{ASIDE, VERSION, add, requests};
+use crate::rows::{VERSION, add, requests};
 use crate::scripted::Scripted;
-use crate::serving::{connect, is_answered, is_closed, new_guard, serve, stream_of};
+use crate::serving::{Pair, one_is_closed, served_beside};
 use p9_conn::Turn;
 use std::alloc::Global;
 use std::process::Abort;
@@ -18,21 +18,26 @@ fn a_broken_size_closes_its_connection(rt: HostRuntime) {
     }
 }
 
+// The size is read beside an undisturbed connection.
 fn breaks_off(rt: &impl Abort, alloc: Global, size: &str) {
-    let mut guard = new_guard(rt, alloc);
+    let stream = Scripted::new(alloc, version_and(rt, alloc, size), 16);
+    let mut pair = served_beside(rt, alloc, stream, 16);
+    one_is_closed(rt, alloc, &pair, &[VERSION]);
+    stays_closed(rt, &mut pair);
+    drop(pair);
+}
+
+// The request of a version, and a size.
+fn version_and(rt: &impl Abort, alloc: Global, size: &str) -> Vec<u8, Global> {
     let mut input = requests(rt, alloc, &[VERSION]);
     add(rt, alloc, &mut input, size);
-    let one = Scripted::new(alloc, input, 16);
-    let two = stream_of(rt, alloc, &ASIDE, 16);
-    let mut conns = [
-        connect(rt, alloc, &mut guard, 1, one),
-        connect(rt, alloc, &mut guard, 2, two),
-    ];
-    serve(&mut guard, &mut conns);
-    is_closed(rt, alloc, &guard, &conns[0], &[VERSION]);
-    assert!(rt; conns[0].stream().output().len() == 19);
-    is_answered(rt, alloc, &guard, &conns[1], &ASIDE);
-    let calls = conns[0].stream().calls();
-    assert!(rt; conns[0].turn(&mut guard, 0) == Turn::Closed);
-    assert!(rt; conns[0].stream().calls() == calls);
+    input
+}
+
+// The first connection wrote the reply to the version, and one more turn makes no call of its stream.
+fn stays_closed(rt: &impl Abort, pair: &mut Pair) {
+    let calls = pair.one.stream().calls();
+    assert!(rt; pair.one.stream().output().len() == 19);
+    let turn = pair.one.turn(&mut pair.guard, 0);
+    assert!(rt; turn == Turn::Closed && pair.one.stream().calls() == calls);
 }
