@@ -1,5 +1,6 @@
 -- The sealing of an input, from what its steps say.
-use Rattle.std.proofs.Common.{◌≡◌, ℕ, Bool, true, false, List, [], None, Ok, Err}
+use Rattle.std.proofs.Common.{◌≡◌, ℕ, Bool, true, false, List, [], None, Result, Ok, Err}
+use Rattle.std.proofs.Common.{IfErr, IfOk, OnOk}
 use Rattle.std.proofs.Common.{refl, sym, ap, ◌∙◌, subst, arith}
 use Rattle.std.specs.Str.{is_utf8}
 use Rattle.p9_base.specs.declared.node_ref.NodeRef.{NodeRef}
@@ -19,7 +20,10 @@ use Rattle.p9_commands.specs.declared.prepared.Needs.TheVariants.{Nothing}
 use Rattle.p9_commands.specs.declared.refusal.Refusal.{Refusal}
 use Rattle.p9_commands.specs.declared.refusal.Refusal.TheVariants.{BadSection, NotUtf8}
 use Rattle.p9_seal.specs.Error.{vacuity_against}
-use Rattle.p9_seal.specs.Sealing.{IsBundle, IsSealed, IsYes, space_of}
+use Rattle.p9_seal.specs.declared.error.SealError.{SealError}
+use Rattle.p9_seal.specs.declared.error.SealError.TheVariants.{Refused as RefusedInput, No, Vacuous}
+use Rattle.p9_seal.specs.declared.error.SealError.TheVariants.{NoMemory as OutOfMemory}
+use Rattle.p9_seal.specs.Sealing.{IsBundle, IsSealError, IsSealable, IsSealed, IsUnsealed, IsYes, space_of}
 use Rattle.p9_seal.specs.Sections.{HasCertificate}
 use Rattle.p9_seal.specs.Text.{sealed_text}
 use Rattle.p9_seal.proofs.Certificates.{cert_lines, cert_lines-begin, cert_lines-clean}
@@ -124,3 +128,25 @@ sealed-ok input output anyway space rows utf8 utf8_output bundle read is_yes tel
           (subst (λ t. is_utf8 t ≡ true) written utf8_output)
           ∙ found.1;
     }
+
+-- What is said of a certificate over a name space, of the input that it is read from.
+module _ {A : Type 0} (input : List ℕ) (anyway : Bool) (space : NameSpace)
+    (read : space_of input ≡ Ok space) where
+  pub sealable : IsBundle input → (result : Result (List NodeRef) (SealError A))
+      → IfOk result (λ rows. IsYes space rows) → OnOk result (vacuity_against anyway space ≡ None)
+      → IfOk result (IsSealable input anyway)
+  sealable bundle (Ok rows) is_yes telling =
+      record { space = space; bundle = bundle; read = read; yes = is_yes; telling = telling }
+  sealable bundle (Err error) is_yes telling = tt
+
+  unsealed-error : (error : SealError A) → IsUnsealed anyway space error
+      → IsSealError input anyway error
+  unsealed-error (RefusedInput refusal) none = absurd none
+  unsealed-error (No breach) none = (space, read, none)
+  unsealed-error (Vacuous vacuity) none = (space, read, none)
+  unsealed-error OutOfMemory none = tt
+
+  pub unsealed : (result : Result (List NodeRef) (SealError A))
+      → IfErr result (IsUnsealed anyway space) → IfErr result (IsSealError input anyway)
+  unsealed (Ok rows) none = tt
+  unsealed (Err error) none = unsealed-error error none

@@ -68,6 +68,14 @@ pub record IsSealed (input : List ℕ) (anyway : Bool) (output : List ℕ) : Typ
 abbrev pub IsBundle : List ℕ → Type 0
 IsBundle text = (texts : Texts) × (bundle_of text ≡ Ok texts)
 
+-- the input is a bundle, and the rows are a certificate over its name space that says something
+pub record IsSealable (input : List ℕ) (anyway : Bool) (rows : List NodeRef) : Type 0 where
+  pub space : NameSpace
+  pub bundle : IsBundle input
+  pub read : space_of input ≡ Ok space
+  pub yes : IsYes space rows
+  pub telling : vacuity_against anyway space ≡ None
+
 -- Why nothing is written.
 
 -- the yes, which these rows show, says little

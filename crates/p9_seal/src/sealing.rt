@@ -9,7 +9,8 @@ ghost use Rattle.p9_commands.specs.Bundle.{bundle_of};
 ghost use Rattle.p9_commands.specs.Refusal.{IsStop, or_refused};
 ghost use Rattle.p9_commands.specs.declared.refusal.Refusal.TheVariants.{BadSection};
 ghost use Rattle.p9_seal.specs.Error.{vacuity_against};
-ghost use Rattle.p9_seal.specs.Sealing.{IsBundle, IsSealError, IsSealed, IsUnsealed, IsYes, space_of};
+ghost use Rattle.p9_seal.specs.Sealing.{IsBundle, IsSealError, IsSealable, IsSealed, IsUnsealed, IsYes};
+ghost use Rattle.p9_seal.specs.Sealing.{space_of};
 ghost use Rattle.p9_seal.specs.Text.{sealed_text};
 
 use crate::error::{SealError, vacuity_against};
@@ -47,9 +48,23 @@ pub fn seal<T: Tree>(
     let Ok(text) = str::from_utf8(input) else {
         return Err(SealError::Refused(Refusal::NotUtf8));
     };
-    let space = name_space::<T>(alloc, text)?;
-    let certificate = certificate_over(alloc, &space, anyway)?;
+    let certificate = certificate_of::<T>(alloc, text, anyway)?;
     Ok(sealed(alloc, text, &certificate)?)
+}
+
+// The judge's certificate over the name space of an input, if the verdict is a yes that says something.
+fn certificate_of<T: Tree>(
+    alloc: T::Alloc,
+    text: &str,
+    anyway: bool,
+) -> Result<Certificate<T::Alloc>, SealError<T::Alloc>>
+    ensures ok { IfOk result (IsSealable text.now anyway) }
+    ensures err { IfErr result (IsSealError text.now anyway) }
+{
+    let space = name_space::<T>(alloc, text)?;
+    let certificate = certificate_over(alloc, &space, anyway);
+    drop(space);
+    certificate
 }
 
 // The name space of an input. Its certificate is not read.

@@ -24,9 +24,9 @@ returns-clause-ok g c =
     let same = c.in-Ok.ensures.cases.0 in
     subst (λ input. IsSealed input c.args.anyway (string_bytes c.in_ok-sealed.field-0)) same
     (sealed-ok c.in-Ok.text.now (string_bytes c.in_ok-sealed.field-0) c.args.anyway
-    c.in_ok-space.space c.in_ok-certificate.certificate
+    c.in_ok-certificate.ensures.ok.space c.in_ok-certificate.certificate
     (subst (λ text. is_utf8 text ≡ true) (sym same)
     (is_utf8-from_IsUtf8 _ c.in-Ok.ensures.cases.1))
     c.in_ok-sealed.ensures.utf8
-    c.in_ok-space.ensures.bundle c.in_ok-space.ensures.ok c.in_ok-certificate.ensures.yes
-    c.in_ok-certificate.ensures.telling c.sealed.ensures.sound c.in_ok-sealed.ensures.written)
+    c.in_ok-certificate.ensures.ok.bundle c.in_ok-certificate.ensures.ok.read
+    c.in_ok-certificate.ensures.ok.yes c.in_ok-certificate.ensures.ok.telling c.sealed.ensures.sound c.in_ok-sealed.ensures.written)
