@@ -47,7 +47,11 @@ pub fn explain<T: Tree>(
     ensures no_memory { OnErr result (out.new.items ≡ out.old.items) }
 {
     match prepare::<T>(*out.allocator(), input, Needs::Nothing) {
-        Ok(prepared) => explain_prepared(name, input, &prepared, out),
+        Ok(prepared) => {
+            let status = explain_prepared(name, input, &prepared, out);
+            drop(prepared);
+            status
+        }
         Err(error) => explain_refusal::<T>(name, input, error.stop, out),
     }
 }
@@ -85,15 +89,7 @@ fn explain_prepared<T: Tree>(
 {
     let alloc = *out.allocator();
     let source = Source::of(alloc, name, str::from_utf8(input).unwrap_or(""))?;
-    let further = further_words(alloc, &source, prepared)?;
-    let certificate = prepared.certificate.as_ref();
-    let told = verdict_words(
-        alloc,
-        &source,
-        &prepared.space,
-        certificate,
-        further.as_str(),
-    )?;
+    let told = told_of(alloc, &source, prepared)?;
     out.extend_from_slice(told.text.as_bytes())?;
     Ok(told.status)
 }
@@ -105,27 +101,43 @@ struct Told<A: Allocator> {
     status: u8,
 }
 
-// The verdict over a name space, with what follows it.
+// The verdict over an input's name space, after the claim, with what follows it.
+fn told_of<T: Tree>(
+    alloc: T::Alloc,
+    source: &Source<'_, T::Alloc>,
+    prepared: &Prepared<T>,
+) -> Result<Told<T::Alloc>, NoMemory>
+    ensures { IfOk result (λ told. IsVerdictTold prepared.now.space told.status
+        (string_bytes told.text)) }
+{
+    let space = &prepared.space;
+    let world = &space.world;
+    let claim = claim_of(alloc, &Teller { source, world })?;
+    let further = further_words(alloc, source, prepared)?;
+    let certificate = prepared.certificate.as_ref();
+    verdict_words(alloc, source, space, certificate, &claim, further.as_str())
+}
+
+// The verdict over a name space, between the claim and what follows.
 fn verdict_words<T: Tree>(
     alloc: T::Alloc,
     source: &Source<'_, T::Alloc>,
     space: &NameSpace<T>,
     certificate: Option<&Certificate<T::Alloc>>,
+    claim: &String<T::Alloc>,
     further: &str,
 ) -> Result<Told<T::Alloc>, NoMemory>
     ensures { IfOk result (λ told. IsVerdictTold space.now told.status (string_bytes told.text)) }
 {
-    let world = &space.world;
-    let claim = claim_of(alloc, &Teller { source, world })?;
     match judge(alloc, &space.world, &space.table)? {
         Verdict::Yes(least) => {
             let words = yes_words(alloc, source, certificate, &least)?;
-            let text = told_text(alloc, &claim, "yes: ", &words, further)?;
+            let text = told_text(alloc, claim, "yes: ", &words, further)?;
             Ok(Told { text, status: DONE })
         }
         Verdict::No(breach) => {
             let words = breach_words(alloc, source, &space.world, &breach)?;
-            let text = told_text(alloc, &claim, "no: ", &words, further)?;
+            let text = told_text(alloc, claim, "no: ", &words, further)?;
             Ok(Told {
                 text,
                 status: REFUSED,

@@ -7,9 +7,9 @@ use Rattle.p9_explain.specs.Told.{IsBreachTold}
 use Rattle.p9_explain.proofs.Verdicts.{no-told, yes-told}
 use Rattle.p9_explain.proofs.explained.verdict_words.Goals as goal
 
-pub returns-in-Yes : goal.returns-in-Yes
-returns-in-Yes g c =
-    yes-told c.args.space.now c.in_ok-least.field-0 c.in-Yes.least (string_bytes c.in_ok-claim.claim)
+pub returns-in_ok-text-in-Yes : goal.returns-in_ok-text-in-Yes
+returns-in_ok-text-in-Yes g c =
+    yes-told c.args.space.now c.in_ok-least.field-0 c.in-Yes.least (string_bytes c.args.claim.now)
     (string_bytes c.in_ok-words-in-Yes.words) c.args.further.now
     (string_bytes c.in_ok-text-in-Yes.text) c.in-Yes.is
     (subst (λ s. IsTrue (is_table_given s.world.forest s.table)) c.space.view_is c.space.invariant)
@@ -17,9 +17,9 @@ returns-in-Yes g c =
     c.space.view_is c.in_ok-least.ensures)
     c.in_ok-text-in-Yes.ensures
 
-pub returns : goal.returns
-returns g c =
-    no-told c.args.space.now c.in_ok-least.field-0 c.in-No.breach (string_bytes c.in_ok-claim.claim)
+pub returns-in_ok-text-in-No : goal.returns-in_ok-text-in-No
+returns-in_ok-text-in-No g c =
+    no-told c.args.space.now c.in_ok-least.field-0 c.in-No.breach (string_bytes c.args.claim.now)
     (string_bytes c.in_ok-words-in-No.words) c.args.further.now
     (string_bytes c.in_ok-text-in-No.text) c.in-No.is
     (subst (λ s. IsVerdict (policy_of s.world) s.world.forest s.table c.in_ok-least.field-0)
