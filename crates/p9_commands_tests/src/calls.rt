@@ -1,79 +1,129 @@
 //! What a row doesn't say of the public calls.
 
-use p9_commands::{BundleError, ScriptError, read_script, run_command, split_bundle};
+use p9_commands::{Bundle, BundleError, ScriptError, read_script, run_command, split_bundle};
 use p9_export::Event;
-use std::test::Fail;
+use std::alloc::{Allocator, Global};
+use std::process::Abort;
 
 // What is printed is appended to what is there.
 #[test]
-fn output_is_appended(rt: HostRuntime) -> Result<(), Fail> {
-    let mut out = Vec::from_slice(rt.alloc(), b"out ")?;
-    let mut err = Vec::from_slice(rt.alloc(), b"err ")?;
-    let status = run_command("play", b"%% script\nclose 1 1", &mut out, &mut err)?;
-    assert!(rt; status == 0);
-    let status = run_command("play", b"%%", &mut out, &mut err)?;
-    assert!(rt; status == 1);
-    assert!(rt; str::from_utf8(out.as_slice()) == Ok("out skip\n"));
-    assert!(rt; str::from_utf8(err.as_slice()) == Ok("err bundle:1: bad section\n"));
-    Ok(())
+fn output_is_appended(rt: HostRuntime) {
+    let mut out = Vec::from_slice(rt.alloc(), b"out ").expect(&rt, "ample memory");
+    let mut err = Vec::from_slice(rt.alloc(), b"err ").expect(&rt, "ample memory");
+    let played = run_command("play", b"%% script\nclose 1 1", &mut out, &mut err);
+    let refused = run_command("play", b"%%", &mut out, &mut err);
+    assert!(rt;
+        played == Ok(0)
+            && refused == Ok(1)
+            && out.as_slice() == b"out skip\n".as_slice()
+            && err.as_slice() == b"err bundle:1: bad section\n".as_slice()
+    );
 }
 
+// A text with all sections.
+const SECTIONS: &str = "
+%% world
+%% ns
+clear
+ %% ns
+%% cert
+cert 1
+%% script
+open 01
+
+# x
+close 1 2";
+
+// A section, if there is one.
 fn section(text: &Option<String>) -> Option<&str> {
     text.as_deref()
 }
 
-#[test]
-fn sections_and_events(rt: HostRuntime) -> Result<(), Fail> {
-    let text = "\n%% world\n%% ns\nclear\n %% ns\n%% cert\ncert 1\n%% script\n\
-        open 01\n\n# x\nclose 1 2";
-    let bundle = split_bundle(rt.alloc(), text)?;
-    assert!(rt; section(&bundle.world) == Some(""));
-    assert!(rt; section(&bundle.ns) == Some("clear\n %% ns\n"));
-    assert!(rt; section(&bundle.cert) == Some("cert 1\n"));
-    assert!(rt; section(&bundle.script) == Some("open 01\n\n# x\nclose 1 2\n"));
-    let none = split_bundle(rt.alloc(), " \n\t")?;
-    assert!(rt; none.world.is_none() && none.ns.is_none());
-    assert!(rt; none.cert.is_none() && none.script.is_none());
-    let second = BundleError::BadBundle { line: 2 };
-    assert!(rt; split_bundle(rt.alloc(), "\n%% certs").err() == Some(second));
-    let third = BundleError::BadBundle { line: 3 };
-    let twice = split_bundle(rt.alloc(), "%% cert\ncert 1\n%% cert");
-    assert!(rt; twice.err() == Some(third));
-    let events = read_script(rt.alloc(), "open 01\nmsg 2 03 aB0c\nclose 4294967295 5")?;
-    assert!(rt; events.len() == 3);
-    assert!(rt; matches!(&events[0], Event::Open(1)));
-    let Event::Message(2, frame, 3) = &events[1] else {
-        return Err(Fail::from("no message"));
+// The sections of the text are these.
+fn has_sections(bundle: &Bundle<Global>) -> bool {
+    section(&bundle.world) == Some("")
+        && section(&bundle.ns) == Some("clear\n %% ns\n")
+        && section(&bundle.cert) == Some("cert 1\n")
+        && section(&bundle.script) == Some("open 01\n\n# x\nclose 1 2\n")
+}
+
+// There is no section.
+fn has_none<A: Allocator>(bundle: &Bundle<A>) -> bool {
+    bundle.world.is_none()
+        && bundle.ns.is_none()
+        && bundle.cert.is_none()
+        && bundle.script.is_none()
+}
+
+// Texts are split into their sections.
+fn are_split(rt: &impl Abort, alloc: Global) {
+    let bundle = split_bundle(alloc, SECTIONS).expect(rt, "sections");
+    assert!(rt; has_sections(&bundle));
+    let none = split_bundle(alloc, " \n\t").expect(rt, "no section");
+    assert!(rt; has_none(&none));
+}
+
+// The line of a text begins no section.
+fn is_bad_bundle(rt: &impl Abort, alloc: Global, text: &str, line: u64) {
+    let error = split_bundle(alloc, text).err();
+    assert!(rt; error == Some(BundleError::BadBundle { line }));
+}
+
+const EVENTS: &str = "open 01\nmsg 2 03 aB0c\nclose 4294967295 5";
+
+// The events of the script are these.
+fn has_events<A: Allocator>(events: &[Event<A>]) -> bool {
+    let [
+        Event::Open(1),
+        Event::Message(2, frame, 3),
+        Event::Close(4_294_967_295, 5),
+    ] = events
+    else {
+        return false;
     };
-    assert!(rt; frame.as_slice() == [0xab, 0x0c].as_slice());
-    assert!(rt; matches!(&events[2], Event::Close(4_294_967_295, 5)));
-    let fourth = ScriptError::BadScript { line: 4 };
-    assert!(rt; read_script(rt.alloc(), "open 1\n\n#\nopen").err() == Some(fourth));
-    Ok(())
+    frame.as_slice() == b"\xab\x0c".as_slice()
+}
+
+// Scripts are read as their events.
+fn are_read(rt: &impl Abort, alloc: Global) {
+    let events = read_script(alloc, EVENTS).expect(rt, "events");
+    assert!(rt; has_events(events.as_slice()));
+    let error = read_script(alloc, "open 1\n\n#\nopen").err();
+    assert!(rt; error == Some(ScriptError::BadScript { line: 4 }));
 }
 
 #[test]
-fn errors_have_texts(rt: HostRuntime) -> Result<(), Fail> {
-    let (bundle, script) = (
-        BundleError::BadBundle { line: 7 },
-        ScriptError::BadScript { line: 8 },
+fn sections_and_events(rt: HostRuntime) {
+    are_split(&rt, rt.alloc());
+    is_bad_bundle(&rt, rt.alloc(), "\n%% certs", 2);
+    is_bad_bundle(&rt, rt.alloc(), "%% cert\ncert 1\n%% cert", 3);
+    are_read(&rt, rt.alloc());
+}
+
+const BAD_BUNDLE: BundleError = BundleError::BadBundle { line: 7 };
+
+const BAD_SCRIPT: ScriptError = ScriptError::BadScript { line: 8 };
+
+#[test]
+fn errors_have_texts(rt: HostRuntime) {
+    let shown = format!(in rt.alloc();
+        "{BAD_BUNDLE}, {BAD_SCRIPT}, {}, {}",
+        BundleError::NoMemory,
+        ScriptError::NoMemory
     );
-    let shown = format!(in rt.alloc(); "{bundle}, {script}")?;
-    assert!(rt; shown.as_str() == "line 7 begins no section, line 8 is bad");
-    let shown = format!(in rt.alloc(); "{}, {}", BundleError::NoMemory, ScriptError::NoMemory)?;
-    assert!(rt; shown.as_str() == "out of memory, out of memory");
-    Ok(())
+    let shown = shown.expect(&rt, "ample memory");
+    assert!(rt;
+        shown.as_str() == "line 7 begins no section, line 8 is bad, out of memory, out of memory"
+    );
 }
 
 // The name of a command with a blank after it names none.
 #[test]
-fn a_command_is_exact(rt: HostRuntime) -> Result<(), Fail> {
+fn a_command_is_exact(rt: HostRuntime) {
     let mut out = Vec::new(rt.alloc());
     let mut err = Vec::new(rt.alloc());
-    let status = run_command("play ", b"\xff", &mut out, &mut err)?;
-    assert!(rt; status == 2);
-    assert!(rt; out.len() == 0);
-    let reported = str::from_utf8(err.as_slice());
-    assert!(rt; reported == Ok("p9: bad command line\n"));
-    Ok(())
+    let status = run_command("play ", b"\xff", &mut out, &mut err);
+    assert!(rt;
+        status == Ok(2) && out.is_empty() && err.as_slice() == b"p9: bad command line\n".as_slice()
+    );
 }

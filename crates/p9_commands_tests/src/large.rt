@@ -2,7 +2,6 @@
 
 use p9_commands::run_command;
 use std::alloc::{AllocError, Global};
-use std::test::Fail;
 
 // Version, attach, walk to a/f, and an open for reading and writing.
 const BEGINNING: &str = "\
@@ -24,34 +23,39 @@ skip
 0b000000770600e9ff0f00
 ";
 
-// The line of a write of so many bytes, by its first 23 bytes.
-fn write_line(
-    alloc: Global,
-    text: &mut String,
-    front: &str,
-    count: usize,
-) -> Result<(), AllocError> {
-    text.push_str("msg 1 0 ")?;
-    text.push_str(front)?;
-    text.push_str("78".repeat(alloc, count)?.as_str())?;
-    text.push_str("\n")
+// Writes of so many bytes, each by the first 23 bytes of its frame: one of the greatest size, one
+// that is larger, and the first again.
+const WRITES: [(&str, usize); 3] = [
+    ("00001000760400010000000000000000000000e9ff0f00", 1_048_553),
+    ("01001000760500010000000000000000000000eaff0f00", 1_048_554),
+    ("00001000760600010000000000000000000000e9ff0f00", 1_048_553),
+];
+
+// Adds the lines of the writes.
+fn add_writes(alloc: Global, text: &mut String) -> Result<(), AllocError> {
+    for (front, count) in &WRITES {
+        let data = "78".repeat(alloc, *count)?;
+        text.push_str("msg 1 0 ")?;
+        text.push_str(front)?;
+        text.push_str(data.as_str())?;
+        text.push_str("\n")?;
+    }
+    Ok(())
+}
+
+// The script with the writes.
+fn script(alloc: Global) -> Result<String, AllocError> {
+    let mut text = String::from_str(alloc, BEGINNING)?;
+    add_writes(alloc, &mut text)?;
+    Ok(text)
 }
 
 // A frame of 1,048,576 bytes is answered, and one of a byte more prints `skip`.
 #[test]
-fn frames_of_the_greatest_size(rt: HostRuntime) -> Result<(), Fail> {
-    let mut script = String::from_str(rt.alloc(), BEGINNING)?;
-    let greatest = "00001000760400010000000000000000000000e9ff0f00";
-    write_line(rt.alloc(), &mut script, greatest, 1_048_553)?;
-    let larger = "01001000760500010000000000000000000000eaff0f00";
-    write_line(rt.alloc(), &mut script, larger, 1_048_554)?;
-    let again = "00001000760600010000000000000000000000e9ff0f00";
-    write_line(rt.alloc(), &mut script, again, 1_048_553)?;
+fn frames_of_the_greatest_size(rt: HostRuntime) {
+    let script = script(rt.alloc()).expect(&rt, "ample memory");
     let mut out = Vec::new(rt.alloc());
     let mut err = Vec::new(rt.alloc());
-    let status = run_command("play", script.as_bytes(), &mut out, &mut err)?;
-    assert!(rt; status == 0);
-    assert!(rt; str::from_utf8(out.as_slice()) == Ok(ANSWERED));
-    assert!(rt; err.len() == 0);
-    Ok(())
+    let status = run_command("play", script.as_bytes(), &mut out, &mut err);
+    assert!(rt; status == Ok(0) && out.as_slice() == ANSWERED.as_bytes() && err.is_empty());
 }

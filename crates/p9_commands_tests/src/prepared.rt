@@ -1,12 +1,14 @@
 //! An input that is prepared, and one that is refused, for other programs than p9.
 
 use p9_base::NodeRef;
-use p9_commands::{BadCommandLine, Command, Needs, PrepareError, Prepared, Refusal, Stop, prepare};
+use p9_commands::{
+    BadCommandLine, Command, NameSpace, Needs, PrepareError, Prepared, Refusal, Stop, prepare,
+};
 use p9_index::IndexTree;
 use p9_nsfile::OpFault;
-use std::alloc::Global;
+use p9_tree::Tree;
+use std::alloc::{Allocator, Global};
 use std::process::Abort;
-use std::test::Fail;
 
 // A vault with its certificate, a namespace file of which an operation fails, and a script.
 const INPUT: &[u8] = b"%% world
@@ -28,26 +30,52 @@ open 1
 close 1 2
 ";
 
+const HIDDEN: [NodeRef; 1] = [NodeRef {
+    server: 0,
+    number: 2,
+}];
+
+const REPORTS: [(u64, OpFault); 1] = [(2, OpFault::NotMounted)];
+
+// The name space of the input.
+fn check_space<T: Tree>(rt: &impl Abort, space: &NameSpace<T>) {
+    assert!(rt;
+        space.world.hidden.as_slice() == HIDDEN.as_slice()
+            && space.table.len() == 1
+            && space.reports.as_slice() == REPORTS.as_slice()
+    );
+}
+
 // The parts of the input.
-fn check_parts(rt: &impl Abort, prepared: &Prepared<IndexTree<Global>>) {
-    let vault = NodeRef {
-        server: 0,
-        number: 2,
-    };
-    let space = &prepared.space;
-    assert!(rt; space.world.hidden.as_slice() == [vault].as_slice());
-    assert!(rt; space.table.len() == 1);
-    assert!(rt; space.reports.as_slice() == [(2, OpFault::NotMounted)].as_slice());
-    assert!(rt; prepared.certificate.is_some() && prepared.gap().is_none());
-    assert!(rt; prepared.events.len() == 2);
+fn check_parts<T: Tree>(rt: &impl Abort, prepared: &Prepared<T>) {
+    check_space(rt, &prepared.space);
+    assert!(rt;
+        prepared.certificate.is_some() && prepared.gap().is_none() && prepared.events.len() == 2
+    );
+}
+
+// What is prepared of the input.
+fn prepared<T: Tree>(rt: &impl Abort, alloc: T::Alloc) -> Prepared<T> {
+    prepare::<T>(alloc, INPUT, Needs::Certificate)
+        .ok()
+        .expect(rt, "an input")
+}
+
+// A guard is made of the input.
+fn is_guarded<T: Tree>(prepared: Prepared<T>) -> bool {
+    prepared.guard().is_ok()
+}
+
+// The input is prepared with its parts, and guarded.
+fn is_prepared<T: Tree>(rt: &impl Abort, alloc: T::Alloc) {
+    let prepared = prepared::<T>(rt, alloc);
+    check_parts(rt, &prepared);
+    assert!(rt; is_guarded(prepared));
 }
 
 #[test]
 fn all_parts_of_an_input(rt: HostRuntime) {
-    let prepared = prepare::<IndexTree<Global>>(rt.alloc(), INPUT, Needs::Certificate);
-    let prepared = prepared.ok().expect(&rt, "an input");
-    check_parts(&rt, &prepared);
-    assert!(rt; prepared.guard().is_ok());
+    is_prepared::<IndexTree<Global>>(&rt, rt.alloc());
 }
 
 // An input with more than one fault.
@@ -63,28 +91,37 @@ const FAULTS: [(Needs, Refusal, &str); 2] = [
     ),
 ];
 
+const REPORTS_BEFORE: [(u64, OpFault); 1] = [(1, OpFault::NotMounted)];
+
 // The error of the input has this fault, and what failed before it.
-fn check_error(rt: &impl Abort, error: &PrepareError<Global>, fault: Refusal) {
-    assert!(rt; error.stop == Stop::Refused(fault));
-    assert!(rt; error.reports.as_slice() == [(1, OpFault::NotMounted)].as_slice());
+fn check_error<A: Allocator>(rt: &impl Abort, error: &PrepareError<A>, fault: Refusal) {
+    assert!(rt;
+        error.stop == Stop::Refused(fault) && error.reports.as_slice() == REPORTS_BEFORE.as_slice()
+    );
+}
+
+// The input is refused for this fault.
+fn is_refused<T: Tree>(rt: &impl Abort, alloc: T::Alloc, needs: Needs, fault: Refusal) {
+    let prepared = prepare::<T>(alloc, FAULTY, needs);
+    let error = prepared.err().expect(rt, "a fault");
+    check_error(rt, &error, fault);
 }
 
 #[test]
 fn the_first_fault_and_the_reports_before_it(rt: HostRuntime) {
-    for (needs, fault, line) in FAULTS {
-        let prepared = prepare::<IndexTree<Global>>(rt.alloc(), FAULTY, needs);
-        let error = prepared.err().expect(&rt, "a fault");
-        check_error(&rt, &error, fault);
-        let text = fault.text(rt.alloc());
-        assert!(rt; text.is_ok_and(|text| text.as_str() == line));
+    for (needs, fault, line) in &FAULTS {
+        is_refused::<IndexTree<Global>>(&rt, rt.alloc(), *needs, *fault);
+        let text = fault.text(rt.alloc()).expect(&rt, "a text");
+        assert!(rt; text.as_str() == *line);
     }
 }
 
 #[test]
-fn a_word_names_a_command(rt: HostRuntime) -> Result<(), Fail> {
-    assert!(rt; "verify".parse::<Command>() == Ok(Command::Verify));
-    assert!(rt; "Verify".parse::<Command>() == Err(BadCommandLine));
-    let shown = format!(in rt.alloc(); "{BadCommandLine}")?;
+fn a_word_names_a_command(rt: HostRuntime) {
+    assert!(rt;
+        matches!("verify".parse::<Command>(), Ok(Command::Verify))
+            && matches!("Verify".parse::<Command>(), Err(BadCommandLine))
+    );
+    let shown = format!(in rt.alloc(); "{BadCommandLine}").expect(&rt, "a text");
     assert!(rt; shown.as_str() == "p9: bad command line");
-    Ok(())
 }

@@ -17,32 +17,29 @@ const ATTACH_OUT: &str = "1300000065ffff002000000600395032303030
 1400000069010080000000000000000000000000
 ";
 
+// The replies where an allocation of the attach failed.
+const ATTACH_REFUSED: &str = "1300000065ffff002000000600395032303030
+160000006b01000d006f7574206f66206d656d6f7279
+";
+
 // Plays an input whose script is the first attach, with what is reported of its namespace file. Where
 // an allocation fails, the command says so, or the attach's reply does.
 fn play_again<A: Allocator + Copy>(rt: &impl Abort, alloc: A, input: &str, reported: &str) {
     let mut out = Vec::new(alloc);
     let mut err = Vec::new(alloc);
     let outcome = run_command("play", input.as_bytes(), &mut out, &mut err);
-    if outcome == Err(NoMemory) {
-        assert!(rt; out.len() == 0);
-        assert!(rt; err.len() == 0);
-        let run = Run {
-            word: "play",
-            input,
-            out: ATTACH_OUT,
-            err: reported,
-            status: 0,
-        };
-        run_again(rt, alloc, run);
-        return;
-    }
-    assert!(rt; outcome == Ok(0));
-    assert!(rt; str::from_utf8(err.as_slice()) == Ok(reported));
-    let refused = "1300000065ffff002000000600395032303030
-160000006b01000d006f7574206f66206d656d6f7279
-";
-    let text = str::from_utf8(out.as_slice());
-    assert!(rt; text == Ok(ATTACH_OUT) || text == Ok(refused));
+    let run = Run {
+        word: "play",
+        input,
+        out: if out.as_slice() == ATTACH_REFUSED.as_bytes() {
+            ATTACH_REFUSED
+        } else {
+            ATTACH_OUT
+        },
+        err: reported,
+        status: 0,
+    };
+    ends_again(rt, run, outcome, &mut out, &mut err);
 }
 
 #[test]
@@ -106,15 +103,29 @@ fn refusals_of(rt: &impl Abort, alloc: Global, run: Run<'_>) -> u64 {
 fn run_again<A: Allocator + Copy>(rt: &impl Abort, alloc: A, run: Run<'_>) {
     let mut out = Vec::new(alloc);
     let mut err = Vec::new(alloc);
-    let mut outcome = run_command(run.word, run.input.as_bytes(), &mut out, &mut err);
-    if outcome == Err(NoMemory) {
-        assert!(rt; out.len() == 0);
-        assert!(rt; err.len() == 0);
-        outcome = run_command(run.word, run.input.as_bytes(), &mut out, &mut err);
+    let outcome = run_command(run.word, run.input.as_bytes(), &mut out, &mut err);
+    ends_again(rt, run, outcome, &mut out, &mut err);
+}
+
+// A command that was run ends as it is to, or where an allocation failed and it printed nothing, when
+// it is run again.
+fn ends_again<A: Allocator + Copy>(
+    rt: &impl Abort,
+    run: Run<'_>,
+    outcome: Result<u8, NoMemory>,
+    out: &mut Vec<u8, A>,
+    err: &mut Vec<u8, A>,
+) {
+    let mut outcome = outcome;
+    if outcome.is_err() {
+        assert!(rt; out.is_empty() && err.is_empty());
+        outcome = run_command(run.word, run.input.as_bytes(), out, err);
     }
-    assert!(rt; outcome == Ok(run.status));
-    assert!(rt; str::from_utf8(out.as_slice()) == Ok(run.out));
-    assert!(rt; str::from_utf8(err.as_slice()) == Ok(run.err));
+    assert!(rt;
+        outcome == Ok(run.status)
+            && out.as_slice() == run.out.as_bytes()
+            && err.as_slice() == run.err.as_bytes()
+    );
 }
 
 // A vault, with a namespace file of which an operation fails.

@@ -25,19 +25,44 @@ wheel:x:0:rob
 nine:x:9
 ";
 
-// What the accounts say, a line for each question.
+// Numbers, with groups that they have nothing to do with.
+const QUESTIONS: [(u32, &str); 6] = [
+    (0, "root"),
+    (100, "users"),
+    (1000, "glenda"),
+    (7, "wheel"),
+    (9, "none"),
+    (1001, "rob"),
+];
+
+// What the accounts say: the names of the user and the group of a number, and of a group whether a
+// user has its name, and its members.
 const TOLD: &str = "\
-0 root root
-100 - users
-1000 glenda glenda
-7 - -
-9 - -
-root: root,toor,
-users: glenda,rob,
-glenda: glenda,
-wheel: rob,root,toor,
-none:
+0 root root, root true [\"root\", \"toor\"]
+100 - users, users false [\"glenda\", \"rob\"]
+1000 glenda glenda, glenda true [\"glenda\"]
+7 - -, wheel false [\"rob\", \"root\", \"toor\"]
+9 - -, none false []
+1001 rob -, rob true []
 ";
+
+// Adds what the accounts say of a number and of a group.
+fn tell_row<A: Allocator + Copy>(
+    alloc: A,
+    accounts: &Accounts<'_, A>,
+    (id, group): (u32, &str),
+    told: &mut String<A>,
+) -> Result<(), NoMemory> {
+    let user_name = accounts.user_name(id).unwrap_or("-");
+    let group_name = accounts.group_name(id).unwrap_or("-");
+    let is_user = accounts.has_user(group);
+    let members = accounts.members(alloc, group)?;
+    writeln!(
+        told,
+        "{id} {user_name} {group_name}, {group} {is_user} {members:?}"
+    )?;
+    Ok(())
+}
 
 // Adds what the accounts say.
 fn tell<A: Allocator + Copy>(
@@ -45,18 +70,8 @@ fn tell<A: Allocator + Copy>(
     accounts: &Accounts<'_, A>,
     told: &mut String<A>,
 ) -> Result<(), NoMemory> {
-    for id in [0, 100, 1000, 7, 9] {
-        let user = accounts.user_name(id).unwrap_or("-");
-        let group = accounts.group_name(id).unwrap_or("-");
-        writeln!(told, "{id} {user} {group}")?;
-    }
-    for group in ["root", "users", "glenda", "wheel", "none"] {
-        write!(told, "{group}:")?;
-        for (i, member) in accounts.members(alloc, group)?.iter().enumerate() {
-            let space = if i == 0 { " " } else { "" };
-            write!(told, "{space}{member},")?;
-        }
-        writeln!(told)?;
+    for question in &QUESTIONS {
+        tell_row(alloc, accounts, *question, told)?;
     }
     Ok(())
 }
@@ -69,30 +84,18 @@ fn told<A: Allocator + Copy>(alloc: A) -> Result<String<A>, NoMemory> {
     Ok(told)
 }
 
-// The same, again where an allocation failed.
-fn told_again<A: Allocator + Copy>(rt: &impl Abort, alloc: A) -> String<A> {
-    match told(alloc) {
-        Ok(told) => told,
-        Err(NoMemory) => told_again_with_memory(rt, alloc),
-    }
-}
-
-fn told_again_with_memory<A: Allocator + Copy>(rt: &impl Abort, alloc: A) -> String<A> {
-    told(alloc).expect(rt, "accounts with ample memory")
+// The accounts say what they are to, again where an allocation failed.
+fn are_told_again<A: Allocator + Copy>(rt: &impl Abort, alloc: A) {
+    let text = match told(alloc) {
+        Ok(text) => text,
+        Err(NoMemory) => told(alloc).expect(rt, "accounts with ample memory"),
+    };
+    assert!(rt; text.as_str() == TOLD);
 }
 
 #[test]
 fn accounts_are_read_after_each_refusal(rt: HostRuntime) {
     let memory = Refusing::new(rt.alloc());
-    let refusals = refuse_each(
-        &memory,
-        || (),
-        |()| assert!(rt; told_again(&rt, &memory).as_str() == TOLD),
-    );
+    let refusals = refuse_each(&memory, || (), |()| are_told_again(&rt, &memory));
     assert!(rt; refusals > 20);
-    let names = Accounts::read(rt.alloc(), PASSWD, GROUP).map(|a| (
-        a.has_user("rob"),
-        a.has_user("wheel"),
-    ));
-    assert!(rt; names == Ok((true, false)));
 }

@@ -7,11 +7,10 @@ use p9_pack::{
 };
 use p9_testing::{Refusing, refuse_each};
 use p9_tree::{Node, Tree};
-use p9_world::{World, read_world};
+use p9_world::read_world;
 use std::alloc::{Allocator, Global};
 use std::process::Abort;
 use std::str::from_utf8;
-use std::test::Fail;
 
 const TEXT: &str = "\
 server main
@@ -177,38 +176,51 @@ fn write_group<A: Allocator + Copy>(
 }
 
 // Adds what a node is.
-fn tell<A: Allocator>(told: &mut String, node: &Node<A>) -> Result<(), Fail> {
+fn tell<A: Allocator>(told: &mut String<A>, node: &Node<A>) -> Result<(), NoMemory> {
     let (number, name, mode) = (node.number(), node.name(), node.mode().bits());
     let (uid, bytes) = (node.uid().as_str(), node.bytes());
     writeln!(told, "{number} {name} {mode:o} {uid} {bytes:?}")?;
     Ok(())
 }
 
-// What the nodes of a world are.
-fn told_of(alloc: Global, world: &World<IndexTree<Global>>) -> Result<String, Fail> {
-    let mut told = String::new(alloc);
-    let forest = &world.forest;
-    for tree in forest.trees.as_slice() {
-        for number in 0..tree.next() {
-            if let Some(node) = tree.node(number) {
-                tell(&mut told, node)?;
-            }
+// Adds what the nodes of a tree are.
+fn tell_tree<T: Tree>(told: &mut String<T::Alloc>, tree: &T) -> Result<(), NoMemory> {
+    for number in 0..tree.next() {
+        if let Some(node) = tree.node(number) {
+            tell(told, node)?;
         }
     }
-    Ok(told)
+    Ok(())
+}
+
+// The nodes of a world's trees are those of `TOLD`.
+fn are_told<T: Tree>(rt: &impl Abort, alloc: T::Alloc, trees: &[T]) {
+    let mut told = String::new(alloc);
+    for tree in trees {
+        assert!(rt; tell_tree(&mut told, tree).is_ok());
+    }
+    is_text(rt, alloc, told.as_str(), TOLD);
+}
+
+// A text is the other one, with the name of 255 bytes in it.
+fn is_text<A: Allocator + Copy>(rt: &impl Abort, alloc: A, text: &str, other: &str) {
+    let other = other.replace(alloc, "LONG", LONG).expect(rt, "a text");
+    assert!(rt; text == other.as_str());
+}
+
+// A text is read as a world.
+fn is_read<T: Tree>(rt: &impl Abort, alloc: T::Alloc, text: &str) {
+    let world = read_world::<T>(alloc, text).expect(rt, "a world");
+    are_told(rt, alloc, world.forest.trees.as_slice());
 }
 
 #[test]
-fn lines_are_written_and_read_back(rt: HostRuntime) -> Result<(), Fail> {
-    let alloc = rt.alloc();
-    let mut out = Vec::new(alloc);
-    write_lines(&rt, alloc, &mut out);
-    let text = from_utf8(out.as_slice())?;
-    assert!(rt; text == TEXT.replace(alloc, "LONG", LONG)?.as_str());
-    let world = read_world::<IndexTree<Global>>(alloc, text)?;
-    let told = told_of(alloc, &world)?;
-    assert!(rt; told.as_str() == TOLD.replace(alloc, "LONG", LONG)?.as_str());
-    Ok(())
+fn lines_are_written_and_read_back(rt: HostRuntime) {
+    let mut out = Vec::new(rt.alloc());
+    write_lines(&rt, rt.alloc(), &mut out);
+    let text = from_utf8(out.as_slice()).expect(&rt, "a text");
+    is_text(&rt, rt.alloc(), text, TEXT);
+    is_read::<IndexTree<Global>>(&rt, rt.alloc(), text);
 }
 
 #[test]

@@ -12,6 +12,11 @@ fn drawn(rt: &impl Abort, alloc: Global, input: &str) -> String {
         .expect(rt, "a picture")
 }
 
+// The picture of an input is as it is wanted.
+fn is_as_wanted(rt: &impl Abort, input: &str, svg: &str, is_it: bool) {
+    assert!(rt; is_it, "{input}{svg}");
+}
+
 // How often a text has another.
 fn count(text: &str, part: &str) -> usize {
     text.split(part).count().saturating_sub(1)
@@ -102,18 +107,19 @@ const WORLDS: [(&str, usize, usize, usize); 12] = [
 
 // The legend has three boxes and an arrow, and another box where there is a walk; the page is a
 // rectangle too.
+fn has(svg: &str, boxes: usize, arrows: usize, walked: usize) -> bool {
+    let legend = if walked > 0 { 5 } else { 4 };
+    count(svg, "<rect ") == boxes.saturating_add(legend)
+        && count(svg, "<path class=\"member") == arrows.saturating_add(1)
+        && count(svg, "<circle ") == walked
+}
+
 #[test]
 fn nodes_have_boxes_and_members_arrows(rt: HostRuntime) {
-    for (input, boxes, arrows, walked) in WORLDS {
+    for (input, boxes, arrows, walked) in &WORLDS {
         let svg = drawn(&rt, rt.alloc(), input);
         let svg = svg.as_str();
-        let legend = if walked > 0 { 5 } else { 4 };
-        assert!(rt;
-            count(svg, "<rect ") == boxes + legend
-                && count(svg, "<path class=\"member") == arrows + 1
-                && count(svg, "<circle ") == walked,
-            "{input}{svg}"
-        );
+        is_as_wanted(&rt, input, svg, has(svg, *boxes, *arrows, *walked));
     }
 }
 
@@ -123,9 +129,12 @@ fn names_are_text(rt: HostRuntime) {
     let input = "%% world\nserver a&b\ndir /<x>\" 755 sys sys\nuser u\n%% ns\nbind -ac /<x>\" /\n";
     let svg = drawn(&rt, rt.alloc(), input);
     let svg = svg.as_str();
-    assert!(rt; svg.contains(">a&amp;b:/</text>"));
-    assert!(rt; svg.contains(">&lt;x&gt;&quot;/</text>"));
-    assert!(rt; svg.contains(">1</text>") && svg.contains(">2c</text>"));
+    assert!(rt;
+        svg.contains(">a&amp;b:/</text>")
+            && svg.contains(">&lt;x&gt;&quot;/</text>")
+            && svg.contains(">1</text>")
+            && svg.contains(">2c</text>")
+    );
 }
 
 // Two inputs with their pictures, before and after the styles. The numbers are worked out by hand: a
@@ -192,12 +201,14 @@ const WHOLE: [(&str, &str, &str); 2] = [
 
 #[test]
 fn pictures_are_these(rt: HostRuntime) {
-    for (input, head, rest) in WHOLE {
+    for (input, head, rest) in &WHOLE {
         let svg = drawn(&rt, rt.alloc(), input);
         let svg = svg.as_str();
-        assert!(rt;
+        is_as_wanted(
+            &rt,
+            input,
+            svg,
             svg.starts_with(head) && svg.ends_with(rest),
-            "{input}{svg}"
         );
     }
 }

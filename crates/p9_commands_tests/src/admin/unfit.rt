@@ -45,15 +45,14 @@ const TEXTS: [(&str, Option<Unfit>, Option<Unfit>, Option<Unfit>); 12] = [
 
 #[test]
 fn texts_are_unfit_for_a_reason(rt: HostRuntime) {
-    for (text, name, user, server) in TEXTS {
-        let found = (
-            PlainName::new(text).err(),
-            PlainUser::new(text).err(),
-            ServerName::new(text).err(),
+    for (text, name, user, server) in &TEXTS {
+        assert!(rt;
+            PlainName::new(text).err() == *name
+                && PlainUser::new(text).err() == *user
+                && ServerName::new(text).err() == *server,
+            "{text:?}"
         );
-        assert!(rt; found == (name, user, server), "{text:?}");
     }
-    let sizes = (fit_size(16_777_216), fit_size(16_777_217));
-    assert!(rt; sizes == (Ok(()), Err(Unfit::TooLarge)));
+    assert!(rt; fit_size(16_777_216).is_ok() && fit_size(16_777_217) == Err(Unfit::TooLarge));
     assert!(rt; PlainUser::sys().as_str() == "sys");
 }
