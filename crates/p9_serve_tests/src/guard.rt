@@ -2,9 +2,11 @@
 //! memory that is freed.
 
 mod again;
+mod both;
 mod lent;
 mod misfits;
 mod pairs;
+mod plays;
 mod refusals;
 mod refused;
 mod rows;

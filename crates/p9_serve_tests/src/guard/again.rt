@@ -1,14 +1,13 @@
 //! Scripts over a guard with each request for memory refused in turn: a request that is answered
 //! `out of memory` is sent again, and an opening that was refused is made again.
 
+use crate::guard::plays::{Play, play_refused};
 use crate::guard::refusals::{is_refusal, may_run_out};
 use crate::guard::scripts::{SCRIPTS, Script, Step, step_of};
-use crate::guard::worlds::scripted;
 use p9_export::{OpenError, is_frame};
 use p9_guard::Guard;
-use p9_index::IndexTree;
-use p9_testing::{Refusing, bytes_of, refuse_each};
-use p9_tree::{PlainTree, Tree};
+use p9_testing::bytes_of;
+use p9_tree::Tree;
 use std::alloc::Global;
 use std::process::Abort;
 
@@ -76,34 +75,17 @@ fn step_again<T: Tree>(
     }
 }
 
-fn play_again<T: Tree>(rt: &impl Abort, alloc: Global, mut guard: Guard<T>, script: &Script) {
+/// Plays the script, and compares each reply.
+pub fn play_again<T: Tree>(rt: &impl Abort, alloc: Global, guard: &mut Guard<T>, script: &Script) {
     let mut room = vec![in alloc; 0u8; 8_192].expect(rt, "memory");
     for line in script.steps.lines() {
-        step_again(rt, alloc, &mut guard, line, script.now, room.as_mut_slice());
+        step_again(rt, alloc, guard, line, script.now, room.as_mut_slice());
     }
-}
-
-// Plays the script with each request for memory refused in turn. There are several.
-fn plays<T: Tree>(
-    rt: &impl Abort,
-    alloc: Global,
-    memory: &Refusing<Global>,
-    lent: T::Alloc,
-    script: &Script,
-) {
-    let refusals = refuse_each(
-        memory,
-        || scripted::<T>(rt, lent, script),
-        |guard| play_again(rt, alloc, guard, script),
-    );
-    assert!(rt; refusals > 4);
 }
 
 #[test]
 fn a_guard_answers_again_at_each_refusal(rt: HostRuntime) {
-    let memory = Refusing::new(rt.alloc());
     for script in &SCRIPTS {
-        plays::<PlainTree<&Refusing<Global>>>(&rt, rt.alloc(), &memory, &memory, script);
-        plays::<IndexTree<&Refusing<Global>>>(&rt, rt.alloc(), &memory, &memory, script);
+        play_refused(&rt, rt.alloc(), script, Play::Again, 4);
     }
 }

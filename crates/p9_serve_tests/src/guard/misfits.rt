@@ -1,15 +1,20 @@
 //! A list of events with closings, and with events that don't fit: they do nothing and have no
 //! reply.
 
-use crate::guard::worlds::{ATTACH, CERTIFICATE, Row, VAULT, VERSION, certificate_of, world_of};
+use crate::guard::both::is_answered;
+use crate::guard::runs::Run;
+use crate::guard::worlds::{ATTACH, CERTIFICATE, Row, Scene, VAULT, VERSION};
 use p9_export::Event;
-use p9_guard::Guard;
-use p9_index::IndexTree;
-use p9_space::MountTable;
-use p9_testing::bytes_of;
-use p9_tree::{PlainTree, Tree};
 use std::alloc::Global;
 use std::process::Abort;
+
+// The world of the vault.
+const OVER_THE_VAULT: Scene<'static> = Scene {
+    world: VAULT,
+    without_last: false,
+    certificate: CERTIFICATE,
+    bind: None,
+};
 
 /// Glenda walks fid 0 to /pub, as fid 1.
 const WALK: Row = (
@@ -32,80 +37,33 @@ const NO_VERSION: Row = (
 /// A size that is more than the bytes, so no whole frame.
 const SHORT: &str = "14000000 64 ffff";
 
-// The events of a list, and the replies that are expected.
-#[derive(Drop)]
-struct Played {
-    events: Vec<Event<Global>, Global>,
-    replies: Vec<u8, Global>,
-}
-
-impl Played {
-    fn new(alloc: Global) -> Played {
-        Played {
-            events: Vec::new(alloc),
-            replies: Vec::new(alloc),
-        }
-    }
-
-    fn add(&mut self, rt: &impl Abort, event: Event<Global>) {
-        assert!(rt; self.events.push(event).is_ok());
-    }
-
-    fn send(&mut self, rt: &impl Abort, alloc: Global, session: u32, row: Row) {
-        self.send_unanswered(rt, alloc, session, row.0);
-        let reply = bytes_of(alloc, row.1).expect(rt, "hexadecimal digits");
-        assert!(rt; self.replies.extend_from_slice(reply.as_slice()).is_ok());
-    }
-
-    fn send_unanswered(&mut self, rt: &impl Abort, alloc: Global, session: u32, digits: &str) {
-        let frame = bytes_of(alloc, digits).expect(rt, "hexadecimal digits");
-        self.add(rt, Event::Message(session, frame, 7));
-    }
-}
-
 // Two sessions, among events of each kind that do not fit.
-fn two_sessions(rt: &impl Abort, alloc: Global) -> Played {
-    let mut list = Played::new(alloc);
-    list.send_unanswered(rt, alloc, 1, VERSION.0);
+fn two_sessions(rt: &impl Abort, alloc: Global) -> Run {
+    let mut list = Run::new(alloc);
+    list.ask(rt, alloc, 1, VERSION.0, 7);
     list.add(rt, Event::Close(1, 7));
     list.add(rt, Event::Open(1));
-    list.send(rt, alloc, 1, VERSION);
+    list.send(rt, alloc, 1, &VERSION, 7);
     list.add(rt, Event::Open(1));
-    list.send(rt, alloc, 1, ATTACH);
-    list.send(rt, alloc, 1, WALK);
-    list.send_unanswered(rt, alloc, 1, SHORT);
-    list.send_unanswered(rt, alloc, 2, VERSION.0);
+    list.send(rt, alloc, 1, &ATTACH, 7);
+    list.send(rt, alloc, 1, &WALK, 7);
+    list.ask(rt, alloc, 1, SHORT, 7);
+    list.ask(rt, alloc, 2, VERSION.0, 7);
     list.add(rt, Event::Open(2));
     list.add(rt, Event::Close(1, 7));
     list.add(rt, Event::Close(1, 7));
-    list.send_unanswered(rt, alloc, 1, VERSION.0);
+    list.ask(rt, alloc, 1, VERSION.0, 7);
     list.add(rt, Event::Open(1));
-    list.send(rt, alloc, 1, NO_VERSION);
-    list.send(rt, alloc, 1, VERSION);
-    list.send(rt, alloc, 1, NO_FID);
-    list.send(rt, alloc, 2, VERSION);
+    list.send(rt, alloc, 1, &NO_VERSION, 7);
+    list.send(rt, alloc, 1, &VERSION, 7);
+    list.send(rt, alloc, 1, &NO_FID, 7);
+    list.send(rt, alloc, 2, &VERSION, 7);
     list
-}
-
-fn plays<T: Tree>(rt: &impl Abort, alloc: Global, lent: T::Alloc) {
-    let world = world_of::<T>(rt, lent, VAULT);
-    let certificate = certificate_of(rt, lent, CERTIFICATE);
-    match Guard::new(world, MountTable::new(lent), certificate) {
-        Ok(mut guard) => {
-            let list = two_sessions(rt, alloc);
-            let mut bytes = Vec::new(lent);
-            assert!(rt; guard.run(list.events.as_slice(), &mut bytes) == Ok(()));
-            assert!(rt; bytes.as_slice() == list.replies.as_slice());
-            assert!(rt; guard.live(1));
-            assert!(rt; guard.live(2));
-            assert!(rt; !guard.live(0));
-        }
-        Err((_, _, cause)) => panic!(rt; "{cause}"),
-    }
 }
 
 #[test]
 fn closings_and_misfits_are_passed(rt: HostRuntime) {
-    plays::<PlainTree<Global>>(&rt, rt.alloc(), rt.alloc());
-    plays::<IndexTree<Global>>(&rt, rt.alloc(), rt.alloc());
+    let list = two_sessions(&rt, rt.alloc());
+    is_answered(&rt, rt.alloc(), &OVER_THE_VAULT, &list, 3);
+    drop(list);
 }

@@ -1,9 +1,10 @@
 //! Pairs of worlds that differ only inside a hidden directory: sessions that name what may be there
 //! get the same bytes from both.
 
-use crate::guard::worlds::{CERTIFICATE, Row, guard_of, run, session, world_of};
-use p9_index::IndexTree;
-use p9_tree::{PlainTree, Tree};
+use crate::guard::both::replies_to;
+use crate::guard::runs::session;
+use crate::guard::worlds::{CERTIFICATE, Row, Scene};
+use p9_export::Event;
 use std::alloc::Global;
 use std::process::Abort;
 
@@ -108,42 +109,34 @@ const ROWS: &[Row] = &[
 
 #[test]
 fn what_is_inside_changes_no_byte(rt: HostRuntime) {
+    let run = session(&rt, rt.alloc(), ROWS);
     for number in 0..200 {
-        are_alike(&rt, rt.alloc(), number, (number * 37 + 11) % 512);
+        let other = (number * 37 + 11) % 512;
+        are_alike(&rt, rt.alloc(), run.events.as_slice(), number, other);
     }
+    drop(run);
 }
 
 // Two worlds get the same replies.
-fn are_alike(rt: &impl Abort, alloc: Global, one: usize, other: usize) {
-    let first = replies_of(rt, alloc, one);
-    let second = replies_of(rt, alloc, other);
-    assert!(rt; first.len() > 400);
-    assert!(rt; first.as_str() == second.as_str());
+fn are_alike(rt: &impl Abort, alloc: Global, events: &[Event<Global>], one: usize, other: usize) {
+    let first = replies_of(rt, alloc, events, one);
+    let second = replies_of(rt, alloc, events, other);
+    assert!(rt; first.len() > 200 && first.as_slice() == second.as_slice());
 }
 
 // The replies of the world of a number, the same over a tree of each kind.
-fn replies_of(rt: &impl Abort, alloc: Global, number: usize) -> String<Global> {
-    let text = world_text(rt, alloc, number);
-    let plain = replies_over::<PlainTree<Global>>(rt, alloc, alloc, text.as_str());
-    let index = replies_over::<IndexTree<Global>>(rt, alloc, alloc, text.as_str());
-    assert!(rt; plain.as_str() == index.as_str());
-    plain
-}
-
-fn replies_over<T: Tree>(
+fn replies_of(
     rt: &impl Abort,
     alloc: Global,
-    lent: T::Alloc,
-    text: &str,
-) -> String<Global> {
-    let world = world_of::<T>(rt, lent, text);
-    let mut guard = guard_of(rt, lent, world, None, CERTIFICATE);
-    let events = session(rt, alloc, ROWS);
-    run(
-        rt,
-        alloc,
-        &mut guard,
-        events.as_slice(),
-        &mut Vec::new(lent),
-    )
+    events: &[Event<Global>],
+    number: usize,
+) -> Vec<u8, Global> {
+    let text = world_text(rt, alloc, number);
+    let scene = Scene {
+        world: text.as_str(),
+        without_last: false,
+        certificate: CERTIFICATE,
+        bind: None,
+    };
+    replies_to(rt, alloc, &scene, events, 2)
 }

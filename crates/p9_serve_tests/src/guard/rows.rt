@@ -1,13 +1,8 @@
 //! Requests that come near a hidden directory: what is in it changes no reply.
 
-use crate::guard::worlds::{
-    Bind, CERTIFICATE, COVERED_VAULT, Row, VAULT, guard_of, replace, replies, run, session,
-    world_of,
-};
-use p9_base::NodeRef;
-use p9_index::IndexTree;
-use p9_tree::{PlainTree, Tree};
-use p9_world::World;
+use crate::guard::both::is_answered;
+use crate::guard::runs::session;
+use crate::guard::worlds::{Bind, CERTIFICATE, COVER, COVERED_VAULT, Row, Scene, VAULT};
 use std::alloc::Global;
 use std::process::Abort;
 
@@ -46,42 +41,19 @@ hide main /vault
 hide main /store
 ";
 
+const VAULTS: [&str; 3] = [VAULT, KEY_IN_THE_VAULT, KEY_IN_THE_STORE];
+
 #[test]
 fn a_vault_does_not_tell_whether_it_is_empty(rt: HostRuntime) {
-    for text in [VAULT, KEY_IN_THE_VAULT, KEY_IN_THE_STORE] {
-        is_like_a_vault::<PlainTree<Global>>(&rt, rt.alloc(), rt.alloc(), text);
-        is_like_a_vault::<IndexTree<Global>>(&rt, rt.alloc(), rt.alloc(), text);
+    for world in &VAULTS {
+        are_replies(&rt, rt.alloc(), world, false, None, NEAR_THE_VAULT);
     }
 }
 
-fn is_like_a_vault<T: Tree>(rt: &impl Abort, alloc: Global, lent: T::Alloc, text: &str) {
-    let world = world_of::<T>(rt, lent, text);
-    are_replies(rt, alloc, lent, world, None, NEAR_THE_VAULT);
-}
-
+// The key is the last node of the world.
 #[test]
 fn a_vault_does_not_tell_that_its_key_is_gone(rt: HostRuntime) {
-    is_like_a_vault_without_its_key::<PlainTree<Global>>(&rt, rt.alloc(), rt.alloc());
-    is_like_a_vault_without_its_key::<IndexTree<Global>>(&rt, rt.alloc(), rt.alloc());
-}
-
-fn is_like_a_vault_without_its_key<T: Tree>(rt: &impl Abort, alloc: Global, lent: T::Alloc) {
-    let key = NodeRef {
-        server: 0,
-        number: 3,
-    };
-    let mut world = world_of::<T>(rt, lent, VAULT);
-    remove(rt, &mut world, key);
-    assert!(rt; world.forest.node(key).is_none());
-    assert!(rt; world.forest.next_of(0) == 4);
-    are_replies(rt, alloc, lent, world, None, NEAR_THE_VAULT);
-}
-
-// Takes a file or an empty directory out of its server.
-fn remove<T: Tree>(rt: &impl Abort, world: &mut World<T>, at: NodeRef) {
-    assert!(rt; at.number != 0);
-    assert!(rt; world.forest.after(at, None).is_none());
-    world.forest.drop_leaf(at);
+    are_replies(&rt, rt.alloc(), VAULT, true, None, NEAR_THE_VAULT);
 }
 
 // A directory is bound over the vault: a file beside it is made and renamed, the bound directory is
@@ -126,33 +98,31 @@ user glenda
 hide main /vault
 ";
 
+const COVERED_VAULTS: [&str; 2] = [COVERED_VAULT, COVERED_DIRECTORY];
+
 #[test]
 fn a_covered_vault_is_out_of_reach(rt: HostRuntime) {
-    for text in [COVERED_VAULT, COVERED_DIRECTORY] {
-        is_covered::<PlainTree<Global>>(&rt, rt.alloc(), rt.alloc(), text);
-        is_covered::<IndexTree<Global>>(&rt, rt.alloc(), rt.alloc(), text);
+    for world in &COVERED_VAULTS {
+        are_replies(&rt, rt.alloc(), world, false, Some(COVER), COVERED);
     }
 }
 
-fn is_covered<T: Tree>(rt: &impl Abort, alloc: Global, lent: T::Alloc, text: &str) {
-    let world = world_of::<T>(rt, lent, text);
-    are_replies(rt, alloc, lent, world, Some(replace(2, 1)), COVERED);
-}
-
-// Compares the replies to a session's requests.
-fn are_replies<T: Tree>(
+// Compares the replies to a session's requests, over a tree of each kind.
+fn are_replies(
     rt: &impl Abort,
     alloc: Global,
-    lent: T::Alloc,
-    world: World<T>,
+    world: &str,
+    without_last: bool,
     bind: Option<Bind>,
     rows: &[Row],
 ) {
-    let mut guard = guard_of(rt, lent, world, bind, CERTIFICATE);
-    let mut bytes = Vec::new(lent);
-    let events = session(rt, alloc, rows);
-    let text = run(rt, alloc, &mut guard, events.as_slice(), &mut bytes);
-    let wanted = replies(rt, alloc, rows);
-    assert!(rt; text.as_str() == wanted.as_str());
-    assert!(rt; guard.live(1));
+    let scene = Scene {
+        world,
+        without_last,
+        certificate: CERTIFICATE,
+        bind,
+    };
+    let run = session(rt, alloc, rows);
+    is_answered(rt, alloc, &scene, &run, 2);
+    drop(run);
 }

@@ -1,16 +1,14 @@
 //! Scripts of sessions over a guard. Their worlds, requests and replies come from outside.
 
-use crate::guard::worlds::{Bind, CERTIFICATE, COVERED_VAULT};
+use crate::guard::worlds::{Bind, CERTIFICATE, COVER, COVERED_VAULT, Scene};
 use p9_space::Order;
 use std::process::Abort;
 
-/// A world with its certificate and a bind, the reading of the clock, and the steps: each line
-/// opens a session, or has a session, a request of it, `>` and the reply, in hexadecimal digits.
+/// A scene, the reading of the clock, and the steps: each line opens a session, or has a session, a
+/// request of it, `>` and the reply, in hexadecimal digits.
 #[derive(Clone, Copy)]
 pub struct Script {
-    pub world: &'static str,
-    pub certificate: &'static str,
-    pub bind: Option<Bind>,
+    pub scene: Scene<'static>,
     pub now: u32,
     pub steps: &'static str,
 }
@@ -18,59 +16,72 @@ pub struct Script {
 /// The scripts that are played with each request for memory refused in turn.
 pub const SCRIPTS: [Script; 6] = [
     Script {
-        world: TWO_UNIONS,
-        certificate: "cert 1\ndir 0 0\ndir 0 1\ndir 0 3\n",
-        bind: Some(Bind {
-            key: 3,
-            node: 1,
-            order: Order::After,
-            create: true,
-        }),
+        scene: Scene {
+            world: TWO_UNIONS,
+            without_last: false,
+            certificate: "cert 1\ndir 0 0\ndir 0 1\ndir 0 3\n",
+            bind: Some(Bind {
+                key: 3,
+                node: 1,
+                order: Order::After,
+                create: true,
+            }),
+        },
         now: 0,
         steps: UNION,
     },
     Script {
-        world: TWO_UNIONS,
-        certificate: "cert 1\ndir 0 0\ndir 0 1\ndir 0 3\n",
-        bind: Some(Bind {
-            key: 3,
-            node: 1,
-            order: Order::After,
-            create: false,
-        }),
+        scene: Scene {
+            world: TWO_UNIONS,
+            without_last: false,
+            certificate: "cert 1\ndir 0 0\ndir 0 1\ndir 0 3\n",
+            bind: Some(Bind {
+                key: 3,
+                node: 1,
+                order: Order::After,
+                create: false,
+            }),
+        },
         now: 0,
         steps: CLOSED_UNION,
     },
     Script {
-        world: SMALL,
-        certificate: ALL_OF_SMALL,
-        bind: None,
+        scene: Scene {
+            world: SMALL,
+            without_last: false,
+            certificate: ALL_OF_SMALL,
+            bind: None,
+        },
         now: 0,
         steps: REMOVED,
     },
     Script {
-        world: COVERED_VAULT,
-        certificate: CERTIFICATE,
-        bind: Some(Bind {
-            key: 2,
-            node: 1,
-            order: Order::Replace,
-            create: false,
-        }),
+        scene: Scene {
+            world: COVERED_VAULT,
+            without_last: false,
+            certificate: CERTIFICATE,
+            bind: Some(COVER),
+        },
         now: 0,
         steps: COVERED,
     },
     Script {
-        world: SMALL,
-        certificate: ALL_OF_SMALL,
-        bind: None,
+        scene: Scene {
+            world: SMALL,
+            without_last: false,
+            certificate: ALL_OF_SMALL,
+            bind: None,
+        },
         now: 0,
         steps: APPENDED,
     },
     Script {
-        world: SMALL,
-        certificate: ALL_OF_SMALL,
-        bind: None,
+        scene: Scene {
+            world: SMALL,
+            without_last: false,
+            certificate: ALL_OF_SMALL,
+            bind: None,
+        },
         now: 7,
         steps: CHANGED,
     },

@@ -3,16 +3,16 @@
 //! without the openings and the requests that were refused, and at the place of each such request
 //! the reply `out of memory`.
 
+use crate::guard::both::{plain_replies, run};
+use crate::guard::plays::{Play, play_refused};
 use crate::guard::refusals::{is_refusal, may_run_out};
 use crate::guard::runs::{Run, whole};
 use crate::guard::scripts::{SCRIPTS, Script, Step, step_of};
-use crate::guard::worlds::scripted;
 use byteorder::{ByteOrder, LittleEndian};
 use p9_export::Event;
 use p9_guard::{Guard, Stopped};
-use p9_index::IndexTree;
-use p9_testing::{Refusing, bytes_of, refuse_each};
-use p9_tree::{PlainTree, Tree};
+use p9_testing::bytes_of;
+use p9_tree::Tree;
 use std::alloc::Global;
 use std::process::Abort;
 
@@ -27,16 +27,20 @@ fn split_reply<'a>(rt: &impl Abort, replies: &'a [u8]) -> (&'a [u8], &'a [u8]) {
 // Adds a request that was not refused, with its reply. Returns the replies to the later requests.
 fn keep_message<'a>(
     rt: &impl Abort,
+    alloc: Global,
     kept: &mut Run,
-    event: Event<Global>,
-    request: &[u8],
+    session: u32,
+    request: &str,
+    now: u32,
     replies: &'a [u8],
 ) -> &'a [u8] {
     let (reply, behind) = split_reply(rt, replies);
-    if is_refusal(request, reply) {
-        assert!(rt; may_run_out(request));
+    let frame = bytes_of(alloc, request).expect(rt, "hexadecimal digits");
+    if is_refusal(frame.as_slice(), reply) {
+        assert!(rt; may_run_out(frame.as_slice()));
     } else {
-        kept.push(rt, event, reply);
+        kept.ask(rt, alloc, session, request, now);
+        kept.answer(rt, reply);
     }
     behind
 }
@@ -56,7 +60,7 @@ fn kept<T: Tree>(
         match step_of(rt, line) {
             Step::Open(session) => {
                 if guard.live(session) {
-                    kept.push(rt, Event::Open(session), b"");
+                    kept.add(rt, Event::Open(session));
                 }
             }
             Step::Send {
@@ -64,16 +68,10 @@ fn kept<T: Tree>(
                 request,
                 ..
             } => {
-                let frame = bytes_of(alloc, request).expect(rt, "hexadecimal digits");
-                let event = Event::Message(
-                    session,
-                    bytes_of(alloc, request).expect(rt, "hexadecimal digits"),
-                    script.now,
-                );
                 if guard.live(session) {
-                    rest = keep_message(rt, &mut kept, event, frame.as_slice(), rest);
+                    rest = keep_message(rt, alloc, &mut kept, session, request, script.now, rest);
                 } else {
-                    kept.push(rt, event, b"");
+                    kept.ask(rt, alloc, session, request, script.now);
                 }
             }
         }
@@ -92,54 +90,44 @@ fn run_on<T: Tree>(
     if let Err(Stopped { done }) = guard.run(events, bytes) {
         let rest = events.get(done..).expect(rt, "events");
         assert!(rt; matches!(rest.first(), Some(Event::Message(_, _, _))));
-        assert!(rt; guard.run(rest, bytes) == Ok(()));
+        run(rt, guard, rest, bytes);
     }
 }
 
 // Does events where memory is not refused, and compares the replies.
 fn is_undisturbed(rt: &impl Abort, alloc: Global, script: &Script, run: &Run) {
-    let mut guard = scripted::<PlainTree<Global>>(rt, alloc, script);
-    let mut bytes = Vec::new(alloc);
-    assert!(rt; guard.run(run.events.as_slice(), &mut bytes) == Ok(()));
-    assert!(rt; bytes.as_slice() == run.replies.as_slice());
+    let replies = plain_replies(rt, alloc, &script.scene, run.events.as_slice(), 1);
+    assert!(rt; replies.as_slice() == run.replies.as_slice());
 }
 
-fn run_refused<T: Tree>(
+/// Runs the script, and what was not refused of it where memory is not refused.
+pub fn run_refused<T: Tree>(
     rt: &impl Abort,
     alloc: Global,
-    mut guard: Guard<T>,
+    guard: &mut Guard<T>,
     lent: T::Alloc,
     script: &Script,
 ) {
     let whole = whole(rt, alloc, script);
     let mut bytes = Vec::new(lent);
-    run_on(rt, &mut guard, whole.events.as_slice(), &mut bytes);
-    let kept = kept(rt, alloc, &guard, script, bytes.as_slice());
+    run_on(rt, guard, whole.events.as_slice(), &mut bytes);
+    drop(whole);
+    let kept = kept(rt, alloc, guard, script, bytes.as_slice());
     is_undisturbed(rt, alloc, script, &kept);
+    drop(kept);
 }
 
-// Runs the script with each request for memory refused in turn. There are several.
-fn runs<T: Tree>(
-    rt: &impl Abort,
-    alloc: Global,
-    memory: &Refusing<Global>,
-    lent: T::Alloc,
-    script: &Script,
-) {
-    is_undisturbed(rt, alloc, script, &whole(rt, alloc, script));
-    let refusals = refuse_each(
-        memory,
-        || scripted::<T>(rt, lent, script),
-        |guard| run_refused(rt, alloc, guard, lent, script),
-    );
-    assert!(rt; refusals > 5);
+// The whole script gives its replies.
+fn is_whole(rt: &impl Abort, alloc: Global, script: &Script) {
+    let whole = whole(rt, alloc, script);
+    is_undisturbed(rt, alloc, script, &whole);
+    drop(whole);
 }
 
 #[test]
 fn a_run_goes_on_after_each_refusal(rt: HostRuntime) {
-    let memory = Refusing::new(rt.alloc());
     for script in &SCRIPTS {
-        runs::<PlainTree<&Refusing<Global>>>(&rt, rt.alloc(), &memory, &memory, script);
-        runs::<IndexTree<&Refusing<Global>>>(&rt, rt.alloc(), &memory, &memory, script);
+        is_whole(&rt, rt.alloc(), script);
+        play_refused(&rt, rt.alloc(), script, Play::List, 5);
     }
 }

@@ -1,15 +1,15 @@
-//! Guards of small worlds, and the events of a session.
+//! Guards of small worlds.
+//!
+//! Who owns a guard or a world gives it to `drop` at the end, so that how it is dropped is proved
+//! once, and not in each owner.
 
-use crate::guard::scripts::Script;
 use p9_base::NodeRef;
 use p9_cert::{Certificate, read_cert};
-use p9_export::Event;
 use p9_guard::Guard;
 use p9_space::{MountTable, Order};
-use p9_testing::bytes_of;
 use p9_tree::Tree;
 use p9_world::{World, read_world};
-use std::alloc::{Allocator, Global};
+use std::alloc::Allocator;
 use std::process::Abort;
 
 /// A request and its reply, as hexadecimal digits from outside.
@@ -52,14 +52,6 @@ pub const ATTACH: Row = (
     "14000000 69 0100 80 00000000 0000000000000000",
 );
 
-/// The world of a text, read again where an allocation failed.
-pub fn world_of<T: Tree>(rt: &impl Abort, alloc: T::Alloc, text: &str) -> World<T> {
-    match read_world(alloc, text) {
-        Ok(world) => world,
-        Err(_) => read_world(alloc, text).expect(rt, "a world"),
-    }
-}
-
 /// A node of server 0 that is bound at the place of another, in this order, with or without
 /// creation.
 #[derive(Clone, Copy)]
@@ -70,14 +62,44 @@ pub struct Bind {
     pub create: bool,
 }
 
-/// A bind of a node in the place of another.
-pub fn replace(key: u64, node: u64) -> Bind {
-    Bind {
-        key,
-        node,
-        order: Order::Replace,
-        create: false,
+/// Node 1 in the place of node 2.
+pub const COVER: Bind = Bind {
+    key: 2,
+    node: 1,
+    order: Order::Replace,
+    create: false,
+};
+
+/// A world, with or without node 3, which is its last and a leaf; its certificate, and a bind.
+#[derive(Clone, Copy)]
+pub struct Scene<'a> {
+    pub world: &'a str,
+    pub without_last: bool,
+    pub certificate: &'a str,
+    pub bind: Option<Bind>,
+}
+
+/// The world of a text, read again where an allocation failed.
+pub fn world_of<T: Tree>(rt: &impl Abort, alloc: T::Alloc, text: &str) -> World<T> {
+    match read_world(alloc, text) {
+        Ok(world) => world,
+        Err(_) => read_world(alloc, text).expect(rt, "a world"),
     }
+}
+
+// Takes node 3 out of a world, if the scene is without it.
+fn take_out<T: Tree>(rt: &impl Abort, world: &mut World<T>, scene: &Scene<'_>) {
+    if scene.without_last {
+        drop_leaf(rt, world, node_ref(3));
+        assert!(rt; world.forest.node(node_ref(3)).is_none() && world.forest.next_of(0) == 4);
+    }
+}
+
+// Takes a file or an empty directory out of its server.
+fn drop_leaf<T: Tree>(rt: &impl Abort, world: &mut World<T>, at: NodeRef) {
+    assert!(rt; at.number != 0);
+    assert!(rt; world.forest.after(at, None).is_none());
+    world.forest.drop_leaf(at);
 }
 
 /// A mount table with a bind, if there is one. It is bound again where an allocation failed.
@@ -113,90 +135,28 @@ pub fn certificate_of<A: Allocator + Copy>(
     }
 }
 
-/// The guard of a world that the certificate is good for, made again where an allocation failed.
-pub fn guard_of<T: Tree>(
+/// The guard of a scene, whose certificate is good. It is made again where an allocation failed.
+pub fn guard_of<T: Tree>(rt: &impl Abort, alloc: T::Alloc, scene: &Scene<'_>) -> Guard<T> {
+    let mut world = world_of::<T>(rt, alloc, scene.world);
+    take_out(rt, &mut world, scene);
+    let table = table_of(rt, alloc, scene.bind);
+    let certificate = certificate_of(rt, alloc, scene.certificate);
+    match Guard::new(world, table, certificate) {
+        Ok(guard) => guard,
+        Err((world, table, _)) => guard_with(rt, alloc, world, table, scene.certificate),
+    }
+}
+
+/// The guard of a world and a mount table for which the certificate is good.
+pub fn guard_with<T: Tree>(
     rt: &impl Abort,
     alloc: T::Alloc,
     world: World<T>,
-    bind: Option<Bind>,
+    table: MountTable<T::Alloc>,
     certificate: &str,
 ) -> Guard<T> {
-    let table = table_of(rt, alloc, bind);
-    let rows = certificate_of(rt, alloc, certificate);
-    match Guard::new(world, table, rows) {
-        Ok(guard) => guard,
-        Err((world, table, _)) => {
-            let certificate = certificate_of(rt, alloc, certificate);
-            Guard::new(world, table, certificate)
-                .ok()
-                .expect(rt, "a guard")
-        }
-    }
-}
-
-/// The guard of a script's world.
-pub fn scripted<T: Tree>(rt: &impl Abort, alloc: T::Alloc, script: &Script) -> Guard<T> {
-    let world = world_of(rt, alloc, script.world);
-    guard_of(rt, alloc, world, script.bind, script.certificate)
-}
-
-/// The events of session 1: it is opened, its version is set, glenda attaches fid 0, and the rows'
-/// requests come.
-pub fn session(rt: &impl Abort, alloc: Global, rows: &[Row]) -> Vec<Event<Global>, Global> {
-    let mut events = Vec::new(alloc);
-    push(rt, &mut events, Event::Open(1));
-    push(rt, &mut events, message(rt, alloc, VERSION.0));
-    push(rt, &mut events, message(rt, alloc, ATTACH.0));
-    for row in rows {
-        push(rt, &mut events, message(rt, alloc, row.0));
-    }
-    events
-}
-
-fn push(rt: &impl Abort, events: &mut Vec<Event<Global>, Global>, event: Event<Global>) {
-    assert!(rt; events.push(event).is_ok());
-}
-
-// A frame of session 1.
-fn message(rt: &impl Abort, alloc: Global, frame: &str) -> Event<Global> {
-    let frame = bytes_of(alloc, frame).expect(rt, "hexadecimal digits");
-    Event::Message(1, frame, 0)
-}
-
-/// What is wanted of these events: the replies of the version, the attach and the rows.
-pub fn replies(rt: &impl Abort, alloc: Global, rows: &[Row]) -> String<Global> {
-    let mut bytes = bytes_of(alloc, VERSION.1).expect(rt, "hexadecimal digits");
-    append(
-        rt,
-        &mut bytes,
-        bytes_of(alloc, ATTACH.1)
-            .expect(rt, "hexadecimal digits")
-            .as_slice(),
-    );
-    for row in rows {
-        append(
-            rt,
-            &mut bytes,
-            bytes_of(alloc, row.1)
-                .expect(rt, "hexadecimal digits")
-                .as_slice(),
-        );
-    }
-    hex::encode(alloc, bytes.as_slice()).expect(rt, "a text")
-}
-
-fn append(rt: &impl Abort, bytes: &mut Vec<u8, Global>, more: &[u8]) {
-    assert!(rt; bytes.extend_from_slice(more).is_ok());
-}
-
-/// Does the events, and returns their replies as hexadecimal digits.
-pub fn run<T: Tree>(
-    rt: &impl Abort,
-    alloc: Global,
-    guard: &mut Guard<T>,
-    events: &[Event<Global>],
-    bytes: &mut Vec<u8, T::Alloc>,
-) -> String<Global> {
-    assert!(rt; guard.run(events, bytes) == Ok(()));
-    hex::encode(alloc, bytes.as_slice()).expect(rt, "a text")
+    let certificate = certificate_of(rt, alloc, certificate);
+    Guard::new(world, table, certificate)
+        .ok()
+        .expect(rt, "a guard")
 }
