@@ -1,46 +1,70 @@
 //! Clients beside one another.
 
-use crate::loopback::{Loopback, bytes, send};
-use crate::rows::{
-    ATTACH, OPEN, OPEN_TO_WRITE, READ, REMOVE, REMOVED, SMALL, VERSION, WALK, WRITE,
-};
+use crate::loopback::{Loopback, replies, requests, send};
+use crate::rows::{ATTACH, OPEN, OPEN_TO_WRITE, REMOVE, REMOVED, Row, SMALL, VERSION, WALK};
 use mio::net::TcpStream;
 use std::net::Net;
 use std::process::Abort;
 
-// One client removes the file that another one has open. All is done within 10,000 rounds, those in
-// which nothing moved among them.
 #[test]
 fn two_clients_are_served(rt: HostRuntime) {
     let mut loopback = Loopback::new(&rt, SMALL);
     let mut one = loopback.connect(&rt);
     let mut two = loopback.connect(&rt);
-    loopback.ask(&rt, &mut one, &[VERSION, ATTACH]);
-    loopback.ask(&rt, &mut two, &[VERSION, ATTACH, WALK, OPEN]);
-    loopback.ask(&rt, &mut one, &[WALK, REMOVE]);
-    loopback.ask(&rt, &mut two, &REMOVED);
-    loopback.has_taken(&rt, 2, 0);
-    assert!(rt; loopback.rounds <= 10_000);
+    remove_what_is_open(&rt, &mut loopback, &mut one, &mut two);
     loopback.finish(&rt, 2);
+    drop(one);
+    drop(two);
+}
+
+// One client removes the file that another one has open. All is done within 10,000 rounds, those in
+// which nothing moved among them.
+fn remove_what_is_open(
+    rt: &(impl Abort + AllocGlobal),
+    loopback: &mut Loopback,
+    one: &mut TcpStream,
+    two: &mut TcpStream,
+) {
+    loopback.ask(rt, one, &[VERSION, ATTACH]);
+    loopback.ask(rt, two, &[VERSION, ATTACH, WALK, OPEN]);
+    loopback.ask(rt, one, &[WALK, REMOVE]);
+    loopback.ask(rt, two, &REMOVED);
+    loopback.has_taken(rt, 2, 0);
+    assert!(rt; loopback.rounds <= 10_000);
 }
 
 #[test]
 fn a_client_that_says_nothing_keeps_nobody_waiting(rt: HostRuntime) {
     let mut loopback = Loopback::new(&rt, SMALL);
-    let _silent = loopback.connect(&rt);
-    let mut other = loopback.connect(&rt);
-    loopback.ask(&rt, &mut other, &[VERSION, ATTACH, WALK, REMOVE]);
-    loopback.has_taken(&rt, 2, 0);
+    ask_beside_a_silent_one(&rt, &mut loopback);
+    drop(loopback);
+}
+
+// A client is served beside one that says nothing.
+fn ask_beside_a_silent_one(rt: &(impl Abort + AllocGlobal + Net), loopback: &mut Loopback) {
+    let silent = loopback.connect(rt);
+    let mut other = loopback.connect(rt);
+    loopback.ask(rt, &mut other, &[VERSION, ATTACH, WALK, REMOVE]);
+    loopback.has_taken(rt, 2, 0);
+    drop(silent);
+    drop(other);
 }
 
 #[test]
 fn a_client_that_closes_within_a_frame_ends_alone(rt: HostRuntime) {
     let mut loopback = Loopback::new(&rt, SMALL);
-    let mut other = loopback.connect(&rt);
-    loopback.ask(&rt, &mut other, &[VERSION, ATTACH]);
-    close_within_a_frame(&rt, &mut loopback);
-    loopback.has_taken(&rt, 2, 1);
-    loopback.ask(&rt, &mut other, &[WALK, REMOVE]);
+    ask_beside_one_that_closes(&rt, &mut loopback);
+    drop(loopback);
+}
+
+// A client is served while another one comes, and closes within a frame.
+fn ask_beside_one_that_closes(rt: &(impl Abort + AllocGlobal + Net), loopback: &mut Loopback) {
+    let mut other = loopback.connect(rt);
+    loopback.ask(rt, &mut other, &[VERSION, ATTACH]);
+    close_within_a_frame(rt, loopback);
+    loopback.has_taken(rt, 2, 1);
+    loopback.ask(rt, &mut other, &[WALK, REMOVE]);
+    drop(other);
 }
 
 fn close_within_a_frame(rt: &(impl Abort + AllocGlobal + Net), loopback: &mut Loopback) {
@@ -51,62 +75,63 @@ fn close_within_a_frame(rt: &(impl Abort + AllocGlobal + Net), loopback: &mut Lo
     loopback.close(rt, 1);
 }
 
-// The replies to 2,000 reads are 16,022,000 bytes, more than the system keeps for a client that reads
-// none of them.
 #[test]
 fn a_client_that_never_reads_keeps_nobody_waiting(rt: HostRuntime) {
     let mut loopback = Loopback::new(&rt, SMALL);
-    let mut deaf = loopback.connect(&rt);
-    let mut other = loopback.connect(&rt);
-    loopback.ask(&rt, &mut other, &[VERSION, ATTACH, WALK]);
-    loopback.ask(&rt, &mut deaf, &[VERSION, ATTACH, WALK, OPEN_TO_WRITE]);
-    let mut write = bytes(&rt, WRITE.0);
-    assert!(rt; write.resize(8_023, b'x').is_ok());
-    send(&rt, &mut deaf, write.as_slice());
-    loopback.reply(&rt, &mut deaf, WRITE.1);
-    read_on(&rt, &mut loopback, &mut deaf);
-    loopback.ask(&rt, &mut other, &[REMOVE]);
-    loopback.has_taken(&rt, 2, 0);
+    ask_beside_a_deaf_one(&rt, &mut loopback);
+    drop(loopback);
 }
 
-// Sends reads, and takes rounds until nothing moves. That is before all replies are written, of
-// which each takes two turns.
-fn read_on(rt: &(impl Abort + AllocGlobal), loopback: &mut Loopback, client: &mut TcpStream) {
-    let read = bytes(rt, READ);
-    for _ in 0..2_000 {
-        send(rt, client, read.as_slice());
-    }
+// A client is served beside one that never reads. The replies to its 2,000 reads are 16,022,000
+// bytes, more than the system keeps for it: nothing moves any more before all replies are written,
+// of which each takes two turns.
+fn ask_beside_a_deaf_one(rt: &(impl Abort + AllocGlobal + Net), loopback: &mut Loopback) {
+    let mut deaf = loopback.connect(rt);
+    let mut other = loopback.connect(rt);
+    loopback.ask(rt, &mut other, &[VERSION, ATTACH, WALK]);
+    loopback.ask(rt, &mut deaf, &[VERSION, ATTACH, WALK, OPEN_TO_WRITE]);
+    loopback.ask_on(rt, &mut deaf);
     loopback.settle();
-    assert!(rt; loopback.moved > 100);
-    assert!(rt; loopback.moved < 4_000);
+    assert!(rt; loopback.moved > 100 && loopback.moved < 4_000);
+    loopback.ask(rt, &mut other, &[REMOVE]);
+    loopback.has_taken(rt, 2, 0);
+    drop(deaf);
+    drop(other);
 }
 
 #[test]
 fn clients_come_one_after_another(rt: HostRuntime) {
     let mut loopback = Loopback::new(&rt, SMALL);
+    come_and_go(&rt, &mut loopback);
+    drop(loopback);
+}
+
+// A hundred clients come and go.
+fn come_and_go(rt: &(impl Abort + AllocGlobal + Net), loopback: &mut Loopback) {
     for count in 1..101 {
-        let mut client = loopback.connect(&rt);
-        loopback.ask(&rt, &mut client, &[VERSION]);
+        let mut client = loopback.connect(rt);
+        loopback.ask(rt, &mut client, &[VERSION]);
         drop(client);
-        loopback.close(&rt, count);
+        loopback.close(rt, count);
     }
     assert!(rt; loopback.accepted == 100);
 }
 
-// The replies to requests that came together come in one read.
+// Requests that come together.
+const TOGETHER: [Row; 4] = [VERSION, ATTACH, WALK, OPEN];
+
 #[test]
 fn replies_leave_together(rt: HostRuntime) {
     let mut loopback = Loopback::new(&rt, SMALL);
-    let mut client = loopback.connect(&rt);
-    let mut requests = bytes(&rt, VERSION.0);
-    let mut replies = bytes(&rt, VERSION.1);
-    for row in [ATTACH, WALK, OPEN] {
-        let more = requests.extend_from_slice(bytes(&rt, row.0).as_slice());
-        assert!(rt; more.is_ok());
-        let more = replies.extend_from_slice(bytes(&rt, row.1).as_slice());
-        assert!(rt; more.is_ok());
-    }
-    send(&rt, &mut client, requests.as_slice());
-    let got = loopback.first_read(&rt, &mut client);
-    assert!(rt; got.as_slice() == replies.as_slice());
+    come_together(&rt, &mut loopback);
+    drop(loopback);
+}
+
+// The replies to requests that came together come in one read.
+fn come_together(rt: &(impl Abort + AllocGlobal + Net), loopback: &mut Loopback) {
+    let mut client = loopback.connect(rt);
+    send(rt, &mut client, requests(rt, &TOGETHER).as_slice());
+    let got = loopback.first_read(rt, &mut client);
+    assert!(rt; got.as_slice() == replies(rt, &TOGETHER).as_slice());
+    drop(client);
 }

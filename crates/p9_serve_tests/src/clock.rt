@@ -23,41 +23,40 @@ fn serve_on<R: AllocGlobal + Net>(rt: &R, machine: &Machine<'_, R>, rounds: u64)
     )
 }
 
-// Serves an input for so many rounds, where the clock can be read so many times. Returns the exit
+// Serves an input for so many rounds, where the clock can be read so many times. Compares the exit
 // status, and how often the clock was read.
-fn serve(rt: &(impl Abort + AllocGlobal + Net), rounds: u64, most: u64) -> (u8, u64) {
+fn reads(rt: &(impl Abort + AllocGlobal + Net), rounds: u64, most: u64, status: u8, readings: u64) {
     let machine = Machine::new(rt, 0, most);
-    let status = serve_on(rt, &machine, rounds);
-    (status, machine.readings())
+    assert!(rt; serve_on(rt, &machine, rounds) == status && machine.readings() == readings);
 }
 
-// Serves an input without clients for so many rounds. Returns how often the server rested, and how
+// Serves an input without clients for so many rounds. Compares how often the server rested, and how
 // many microseconds in all.
-fn rests(rt: &(impl Abort + AllocGlobal + Net), rounds: u64) -> (u64, Duration) {
+fn rests(rt: &(impl Abort + AllocGlobal + Net), rounds: u64, sleeps: u64, micros: u64) {
     let machine = Machine::new(rt, 0, rounds);
-    assert!(rt; serve_on(rt, &machine, rounds) == 0);
-    (machine.sleeps(), machine.slept())
+    assert!(rt; serve_on(rt, &machine, rounds) == 0 && machine.sleeps() == sleeps);
+    assert!(rt; machine.slept() == Duration::from_micros(micros));
 }
 
 #[test]
 fn the_clock_is_read_once_a_round(rt: HostRuntime) {
-    assert!(rt; serve(&rt, 1, 1_000) == (0, 1));
-    assert!(rt; serve(&rt, 2, 1_000) == (0, 2));
-    assert!(rt; serve(&rt, 1_000, 1_000) == (0, 1_000));
+    reads(&rt, 1, 1_000, 0, 1);
+    reads(&rt, 2, 1_000, 0, 2);
+    reads(&rt, 1_000, 1_000, 0, 1_000);
 }
 
 #[test]
 fn a_clock_that_fails_ends_the_serving(rt: HostRuntime) {
-    assert!(rt; serve(&rt, 1_000, 7) == (4, 7));
+    reads(&rt, 1_000, 7, 4, 7);
 }
 
 // There is a rest before each round after 5,000 quiet ones: 50, 100, 200, 400, 800, 1,600, 3,200,
 // and then 4,000 microseconds each time.
 #[test]
 fn a_server_without_clients_rests(rt: HostRuntime) {
-    assert!(rt; rests(&rt, 5_000) == (0, Duration::ZERO));
-    assert!(rt; rests(&rt, 5_001) == (1, Duration::from_micros(50)));
-    assert!(rt; rests(&rt, 5_007) == (7, Duration::from_micros(6_350)));
-    assert!(rt; rests(&rt, 5_010) == (10, Duration::from_micros(18_350)));
-    assert!(rt; rests(&rt, 6_000) == (1_000, Duration::from_micros(3_978_350)));
+    rests(&rt, 5_000, 0, 0);
+    rests(&rt, 5_001, 1, 50);
+    rests(&rt, 5_007, 7, 6_350);
+    rests(&rt, 5_010, 10, 18_350);
+    rests(&rt, 6_000, 1_000, 3_978_350);
 }

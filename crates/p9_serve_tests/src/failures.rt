@@ -4,6 +4,7 @@ use p9_serve::report_failure;
 use std::alloc::Global;
 use std::io;
 use std::io::{ErrorKind, Write};
+use std::process::Abort;
 
 // A writer that takes a byte a call, of which every second one is interrupted. It fails where its
 // room is used up.
@@ -31,15 +32,22 @@ impl Write for Narrow {
     }
 }
 
-// The status of a failure, and what a writer of so much room got.
-fn reported(alloc: Global, kind: ErrorKind, room: usize) -> (u8, Vec<u8, Global>) {
+// Compares the status of a failure, and what a writer of so much room got.
+fn is_reported(
+    rt: &impl Abort,
+    alloc: Global,
+    kind: ErrorKind,
+    room: usize,
+    status: u8,
+    text: &str,
+) {
     let mut narrow = Narrow {
         taken: Vec::new(alloc),
         room,
         is_interrupted: false,
     };
-    let status = report_failure(&io::Error::from(kind), &mut narrow);
-    (status, narrow.taken)
+    assert!(rt; report_failure(&io::Error::from(kind), &mut narrow) == status);
+    assert!(rt; narrow.taken.as_slice() == text.as_bytes());
 }
 
 const FAILURES: [(ErrorKind, u8, &str); 4] = [
@@ -51,16 +59,12 @@ const FAILURES: [(ErrorKind, u8, &str); 4] = [
 
 #[test]
 fn a_failure_is_reported_by_its_text(rt: HostRuntime) {
-    for (kind, status, text) in FAILURES {
-        let (got, taken) = reported(rt.alloc(), kind, 100);
-        assert!(rt; got == status);
-        assert!(rt; taken.as_slice() == text.as_bytes());
+    for row in &FAILURES {
+        is_reported(&rt, rt.alloc(), row.0, 100, row.1, row.2);
     }
 }
 
 #[test]
 fn a_failure_is_reported_as_far_as_the_writer_takes_it(rt: HostRuntime) {
-    let (status, taken) = reported(rt.alloc(), ErrorKind::OutOfMemory, 6);
-    assert!(rt; status == 3);
-    assert!(rt; taken.as_slice() == b"out of".as_slice());
+    is_reported(&rt, rt.alloc(), ErrorKind::OutOfMemory, 6, 3, "out of");
 }

@@ -3,25 +3,41 @@
 use crate::loopback::any_port;
 use crate::rows::{SMALL, VAULT};
 use p9_serve::run_serve;
-use std::alloc::Global;
 use std::net::{Net, SocketAddr, TcpListener};
 use std::process::Abort;
 use std::rt::Clock;
 
-// Serves an input for one round, and returns the exit status, the output and the errors.
-fn serve(
-    rt: &(impl Abort + AllocGlobal + Net + Clock),
-    address: SocketAddr,
-    input: &str,
-) -> (u8, String, String) {
+// The exit status, the output and the errors of a server.
+#[derive(Drop)]
+struct Served {
+    status: u8,
+    out: Vec<u8>,
+    err: Vec<u8>,
+}
+
+// Serves an input for one round.
+fn serve(rt: &(impl AllocGlobal + Net + Clock), address: SocketAddr, input: &str) -> Served {
     let mut out = Vec::new(rt.alloc());
     let mut err = Vec::new(rt.alloc());
     let status = run_serve(rt, address, 1, input.as_bytes(), &mut out, &mut err);
-    (status, text(rt, out), text(rt, err))
+    Served { status, out, err }
 }
 
-fn text(rt: &impl Abort, bytes: Vec<u8, Global>) -> String {
-    String::from_utf8(bytes).ok().expect(rt, "a text")
+// An input that is not served for one round: the exit status and the error are these, and there is no
+// output.
+fn is_refused(
+    rt: &(impl Abort + AllocGlobal + Net + Clock),
+    address: SocketAddr,
+    input: &str,
+    status: u8,
+    reported: &str,
+) {
+    let served = serve(rt, address, input);
+    assert!(rt;
+        served.status == status && served.out.is_empty(),
+        "at {reported}"
+    );
+    assert!(rt; served.err.as_slice() == reported.as_bytes());
 }
 
 // The vault with these further sections.
@@ -35,15 +51,18 @@ fn vault(rt: &(impl Abort + AllocGlobal), certificate: &str) -> String {
 #[test]
 fn the_vault_is_served_with_its_certificate(rt: HostRuntime) {
     let input = vault(&rt, "%% cert\ncert 1\ndir 0 0\ndir 0 1\n");
-    let (status, out, err) = serve(&rt, any_port(), input.as_str());
-    assert!(rt; status == 0);
-    assert!(rt; err.as_str() == "");
-    let port = out
-        .as_str()
-        .strip_prefix("listening 127.0.0.1:")
-        .and_then(|rest| rest.strip_suffix("\n"))
-        .expect(&rt, "one line");
-    assert!(rt; port.parse::<u16>().is_ok_and(|port| port > 0));
+    let served = serve(&rt, any_port(), input.as_str());
+    assert!(rt; served.status == 0 && served.err.is_empty());
+    assert!(rt; port_in(served.out.as_slice()).is_some_and(|port| port > 0));
+}
+
+// The port in the line that is printed.
+fn port_in(line: &[u8]) -> Option<u16> {
+    let line = str::from_utf8(line).ok()?;
+    let port = line
+        .strip_prefix("listening 127.0.0.1:")?
+        .strip_suffix("\n")?;
+    port.parse::<u16>().ok()
 }
 
 // Sections after the vault's, and what is reported of the input.
@@ -67,11 +86,9 @@ const REFUSED: [(&str, &str); 5] = [
 
 #[test]
 fn an_input_is_refused_for_the_first_reason(rt: HostRuntime) {
-    for (certificate, reported) in REFUSED {
-        let (status, out, err) = serve(&rt, any_port(), vault(&rt, certificate).as_str());
-        assert!(rt; status == 1, "at {certificate}");
-        assert!(rt; out.as_str() == "");
-        assert!(rt; err.as_str() == reported);
+    for row in &REFUSED {
+        let input = vault(&rt, row.0);
+        is_refused(&rt, any_port(), input.as_str(), 1, row.1);
     }
 }
 
@@ -79,8 +96,5 @@ fn an_input_is_refused_for_the_first_reason(rt: HostRuntime) {
 fn a_port_that_is_in_use_is_not_served(rt: HostRuntime) {
     let other = TcpListener::bind(&rt, any_port()).expect(&rt, "a listener");
     let address = other.local_addr().expect(&rt, "an address");
-    let (status, out, err) = serve(&rt, address, SMALL);
-    assert!(rt; status == 4);
-    assert!(rt; out.as_str() == "");
-    assert!(rt; err.as_str() == "input or output failed\n");
+    is_refused(&rt, address, SMALL, 4, "input or output failed\n");
 }

@@ -1,10 +1,16 @@
 //! A server on loopback, and clients of it in the same process.
+//!
+//! Who owns a server gives it to `drop` at the end, or to [`Loopback::finish`], so that how it is
+//! dropped is proved once, and not in each owner.
 
-use crate::rows::Row;
+use crate::rows::{READ, Row, WRITE};
+use byteorder::{ByteOrder, LittleEndian};
 use mio::net::{TcpListener, TcpStream};
+use p9_guard::Guard;
 use p9_index::IndexTree;
 use p9_serve::{Server, served_guard};
 use p9_testing::bytes_of;
+use p9_tree::Tree;
 use std::alloc::Global;
 use std::io::{ErrorKind, Read, Write};
 use std::net::{Ipv4Addr, Net, SocketAddr};
@@ -84,35 +90,38 @@ impl Loopback {
         assert!(rt; self.accepted == accepted && self.closed == closed);
     }
 
+    // Takes rounds until at least so many bytes have come to a client.
+    fn gather(&mut self, rt: &impl Abort, client: &mut TcpStream, got: &mut Vec<u8>, count: usize) {
+        for _ in self.rounds..ROUNDS {
+            if got.len() >= count {
+                break;
+            }
+            let _ = self.round();
+            receive(rt, client, got);
+        }
+    }
+
     /// Takes rounds until a client has got a reply, which is to be this one.
     pub fn reply(&mut self, rt: &(impl Abort + AllocGlobal), client: &mut TcpStream, digits: &str) {
         let wanted = bytes(rt, digits);
         let mut got = Vec::new(rt.alloc());
-        for _ in self.rounds..ROUNDS {
-            let _ = self.round();
-            receive(rt, client, &mut got);
-            if got.len() >= wanted.len() {
-                break;
-            }
-        }
+        self.gather(rt, client, &mut got, wanted.len());
         assert!(rt; got.as_slice() == wanted.as_slice());
     }
 
-    /// Takes rounds until a client has got a whole reply, and returns it.
+    /// Takes rounds until a client has got a whole reply, which has as many bytes as the size at its
+    /// front says, and returns it.
     pub fn any_reply(
         &mut self,
         rt: &(impl Abort + AllocGlobal),
         client: &mut TcpStream,
     ) -> Vec<u8> {
         let mut got = Vec::new(rt.alloc());
-        for _ in self.rounds..ROUNDS {
-            let _ = self.round();
-            receive(rt, client, &mut got);
-            if is_whole(got.as_slice()) {
-                break;
-            }
-        }
-        assert!(rt; is_whole(got.as_slice()));
+        self.gather(rt, client, &mut got, 4);
+        assert!(rt; got.len() >= 4);
+        let size = LittleEndian::read_u32(got.as_slice()) as usize;
+        self.gather(rt, client, &mut got, size);
+        assert!(rt; got.len() == size);
         got
     }
 
@@ -123,13 +132,7 @@ impl Loopback {
         client: &mut TcpStream,
     ) -> Vec<u8> {
         let mut got = Vec::new(rt.alloc());
-        for _ in self.rounds..ROUNDS {
-            let _ = self.round();
-            receive(rt, client, &mut got);
-            if !got.is_empty() {
-                break;
-            }
-        }
+        self.gather(rt, client, &mut got, 1);
         got
     }
 
@@ -138,6 +141,18 @@ impl Loopback {
         for row in rows {
             send(rt, client, bytes(rt, row.0).as_slice());
             self.reply(rt, client, row.1);
+        }
+    }
+
+    /// A client writes 8,000 bytes, asks for them 2,000 times, and reads no reply.
+    pub fn ask_on(&mut self, rt: &(impl Abort + AllocGlobal), client: &mut TcpStream) {
+        let mut write = bytes(rt, WRITE.0);
+        assert!(rt; write.resize(8_023, b'x').is_ok());
+        send(rt, client, write.as_slice());
+        self.reply(rt, client, WRITE.1);
+        let read = bytes(rt, READ);
+        for _ in 0..2_000 {
+            send(rt, client, read.as_slice());
         }
     }
 
@@ -174,11 +189,16 @@ impl Loopback {
 
     /// Closes all, and compares that no session of the first keys is open.
     pub fn finish(self, rt: &impl Abort, keys: u32) {
-        let Loopback { server, .. } = self;
-        let guard = server.finish(0);
-        for key in 0..keys {
-            assert!(rt; !guard.live(key));
-        }
+        let guard = self.server.finish(0);
+        are_closed(rt, &guard, keys);
+        drop(guard);
+    }
+}
+
+// No session of the first keys is open.
+fn are_closed<T: Tree>(rt: &impl Abort, guard: &Guard<T>, keys: u32) {
+    for key in 0..keys {
+        assert!(rt; !guard.live(key));
     }
 }
 
@@ -196,11 +216,6 @@ fn receive(rt: &impl Abort, client: &mut TcpStream, got: &mut Vec<u8>) {
     }
 }
 
-// Whether bytes are as many as the size at their front says.
-fn is_whole(bytes: &[u8]) -> bool {
-    u32::try_from(bytes.len()).is_ok_and(|size| bytes.starts_with(&size.to_le_bytes()))
-}
-
 /// Whether a client's connection is ended, by the server. No byte has come.
 pub fn is_ended(rt: &impl Abort, client: &mut TcpStream) -> bool {
     match client.read(&mut [0; 8]) {
@@ -213,6 +228,30 @@ pub fn is_ended(rt: &impl Abort, client: &mut TcpStream) -> bool {
             false
         }
     }
+}
+
+/// The requests of rows.
+pub fn requests(rt: &(impl Abort + AllocGlobal), rows: &[Row]) -> Vec<u8> {
+    let mut all = Vec::new(rt.alloc());
+    for row in rows {
+        add(rt, &mut all, row.0);
+    }
+    all
+}
+
+/// The replies of rows.
+pub fn replies(rt: &(impl Abort + AllocGlobal), rows: &[Row]) -> Vec<u8> {
+    let mut all = Vec::new(rt.alloc());
+    for row in rows {
+        add(rt, &mut all, row.1);
+    }
+    all
+}
+
+// Adds the bytes of hexadecimal digits.
+fn add(rt: &(impl Abort + AllocGlobal), all: &mut Vec<u8>, digits: &str) {
+    let more = bytes(rt, digits);
+    assert!(rt; all.extend_from_slice(more.as_slice()).is_ok());
 }
 
 /// The bytes of hexadecimal digits, which blanks may part.

@@ -1,9 +1,9 @@
 //! A client of an input that is served: it is the server's output, and connects when the address is
 //! printed.
 
-use crate::loopback::{any_port, bytes};
+use crate::loopback::{any_port, replies, requests};
 use crate::machine::Machine;
-use crate::rows::{HOME, Row, TIMED};
+use crate::rows::{HOME, TIMED};
 use p9_serve::run_serve;
 use std::alloc::Global;
 use std::io::{ErrorKind, Read, Write};
@@ -57,28 +57,35 @@ fn address_in(line: &[u8]) -> Option<SocketAddr> {
     address.parse::<SocketAddr>().ok()
 }
 
-// Serves the world of glenda's directory to a client, and returns all that the client got.
+// Serves the world of glenda's directory to a client.
+fn serve<R: AllocGlobal + Clock + Net<Stream = TcpStream>>(
+    rt: &R,
+    client: &mut Client<'_, R>,
+) -> u8 {
+    let machine = Machine::new(rt, FIRST_SECOND, ROUNDS);
+    let mut err = Vec::new(rt.alloc());
+    run_serve(
+        &machine,
+        any_port(),
+        ROUNDS,
+        HOME.as_bytes(),
+        client,
+        &mut err,
+    )
+}
+
+// Serves a client with these requests, and returns all that it got.
 fn replies_to(
     rt: &(impl Abort + AllocGlobal + Clock + Net<Stream = TcpStream>),
     requests: &[u8],
 ) -> Vec<u8> {
-    let machine = Machine::new(rt, FIRST_SECOND, ROUNDS);
     let mut client = Client {
         host: rt,
         requests,
         printed: Vec::new(rt.alloc()),
         stream: None,
     };
-    let mut err = Vec::new(rt.alloc());
-    let status = run_serve(
-        &machine,
-        any_port(),
-        ROUNDS,
-        HOME.as_bytes(),
-        &mut client,
-        &mut err,
-    );
-    assert!(rt; status == 0);
+    assert!(rt; serve(rt, &mut client) == 0);
     all_of(rt, client.stream)
 }
 
@@ -90,30 +97,11 @@ fn all_of(rt: &(impl Abort + AllocGlobal), stream: Option<TcpStream>) -> Vec<u8>
     got
 }
 
-// The requests of rows, and their replies.
-fn parts_of(rt: &(impl Abort + AllocGlobal), rows: &[Row]) -> (Vec<u8>, Vec<u8>) {
-    let mut requests = Vec::new(rt.alloc());
-    let mut replies = Vec::new(rt.alloc());
-    for (request, reply) in rows {
-        add(rt, &mut requests, request);
-        add(rt, &mut replies, reply);
-    }
-    (requests, replies)
-}
-
-fn add(rt: &(impl Abort + AllocGlobal), frames: &mut Vec<u8>, digits: &str) {
-    assert!(rt;
-        frames
-            .extend_from_slice(bytes(rt, digits).as_slice())
-            .is_ok()
-    );
-}
-
 // Each request is answered at the clock's reading in its round, modulo 2^32. Behind the last round
 // the connection is ended.
 #[test]
 fn each_round_has_its_time(rt: HostRuntime) {
-    let (requests, replies) = parts_of(&rt, &TIMED);
+    let requests = requests(&rt, &TIMED);
     let got = replies_to(&rt, requests.as_slice());
-    assert!(rt; got.as_slice() == replies.as_slice());
+    assert!(rt; got.as_slice() == replies(&rt, &TIMED).as_slice());
 }

@@ -3,9 +3,7 @@
 ghost use Rattle.std.specs.Prelude.{◌<◌};
 
 use crate::loopback::{Loopback, bytes, is_ended, send};
-use crate::rows::{
-    ATTACH, ATTACH_ROB, FIRST, HOME, OPEN_OWN, READ, Row, STAT, TO_HOME, VERSION, WORK, WRITE,
-};
+use crate::rows::{ATTACH, ATTACH_ROB, FIRST, HOME, OPEN_OWN, Row, STAT, TO_HOME, VERSION, WORK};
 use mio::net::TcpStream;
 use std::net::Net;
 use std::process::Abort;
@@ -54,9 +52,8 @@ struct Soak {
 
 impl Soak {
     fn new(rt: &(impl Abort + AllocGlobal + Net)) -> Soak {
-        let mut loopback = Loopback::new(rt, HOME);
-        let mut honest = loopback.connect(rt);
-        loopback.ask(rt, &mut honest, &[VERSION, ATTACH, TO_HOME]);
+        let loopback = Loopback::new(rt, HOME);
+        let honest = loopback.connect(rt);
         Soak {
             loopback,
             honest,
@@ -65,9 +62,31 @@ impl Soak {
         }
     }
 
+    // The honest client comes, then one that never reads, which goes after all other hostile ones.
+    fn run(&mut self, rt: &(impl Abort + AllocGlobal + Net)) {
+        self.loopback
+            .ask(rt, &mut self.honest, &[VERSION, ATTACH, TO_HOME]);
+        let deaf = self.never_reads(rt);
+        for _ in 0..STEPS {
+            self.step(rt);
+        }
+        drop(deaf);
+        self.goes_on_alone(rt);
+    }
+
+    // A client writes 8,000 bytes, asks for them 2,000 times, and reads no reply. The server can't
+    // write all of these.
+    fn never_reads(&mut self, rt: &(impl Abort + AllocGlobal + Net)) -> TcpStream {
+        let mut client = self.loopback.connect(rt);
+        self.loopback.ask(rt, &mut client, &[VERSION, ATTACH_ROB]);
+        self.loopback.ask(rt, &mut client, &OPEN_OWN);
+        self.loopback.ask_on(rt, &mut client);
+        client
+    }
+
     // The honest client makes a file, works with it, and removes it.
     fn work(&mut self, rt: &(impl Abort + AllocGlobal)) {
-        for row in WORK {
+        for row in &WORK {
             let wanted = reply_of(rt, row, self.number);
             send(rt, &mut self.honest, bytes(rt, row.0).as_slice());
             self.loopback.reply(rt, &mut self.honest, wanted.as_str());
@@ -140,25 +159,30 @@ impl Soak {
         self.work(rt);
     }
 
-    // Every hostile client is gone, of which there was one more. Then all is closed.
-    fn finish(mut self, rt: &(impl Abort + AllocGlobal)) {
+    // Every hostile client is gone, of which there was one more.
+    fn goes_on_alone(&mut self, rt: &(impl Abort + AllocGlobal)) {
         self.loopback.close(rt, STEPS + 1);
         self.work(rt);
         assert!(rt; self.number == FIRST + STEPS + 1);
+        self.loopback.has_taken(rt, STEPS + 2, STEPS + 1);
+        assert!(rt; !is_ended(rt, &mut self.honest));
+    }
+
+    // All is closed.
+    fn finish(self, rt: &impl Abort) {
         let Soak {
             loopback,
             mut honest,
             ..
         } = self;
-        loopback.has_taken(rt, STEPS + 2, STEPS + 1);
-        assert!(rt; !is_ended(rt, &mut honest));
         loopback.finish(rt, 100);
         assert!(rt; is_ended(rt, &mut honest));
+        drop(honest);
     }
 }
 
 // The reply of a row, as hexadecimal digits, with a file's number in it.
-fn reply_of(rt: &(impl Abort + AllocGlobal), row: Row, number: u64) -> String {
+fn reply_of(rt: &(impl Abort + AllocGlobal), row: &Row, number: u64) -> String {
     let mut reply = String::new(rt.alloc());
     match row.1.split_once('#') {
         Some((front, behind)) => {
@@ -190,44 +214,21 @@ fn random_frame(rt: &(impl Abort + AllocGlobal), dice: &mut Dice) -> Vec<u8> {
 // Whether a reply has the tag of a frame, and is of its type or an error. There is memory, so no
 // error is that there is none.
 fn is_reply(frame: &[u8], reply: &[u8]) -> bool {
-    match (frame, reply) {
-        ([_, _, _, _, asked, low, high, ..], [_, _, _, _, answered, first, second, rest @ ..]) => {
-            (first, second) == (low, high)
-                && (*answered == ERROR || asked.wrapping_add(1) == *answered)
-                && !(*answered == ERROR && rest == NO_MEMORY)
-        }
-        _ => false,
-    }
-}
-
-// A client writes 8,000 bytes, asks for them 2,000 times, and reads no reply. The server can't
-// write all of these.
-fn never_reads(rt: &(impl Abort + AllocGlobal + Net), loopback: &mut Loopback) -> TcpStream {
-    let mut client = loopback.connect(rt);
-    loopback.ask(rt, &mut client, &[VERSION, ATTACH_ROB]);
-    loopback.ask(rt, &mut client, &OPEN_OWN);
-    let mut write = bytes(rt, WRITE.0);
-    assert!(rt; write.resize(8_023, b'x').is_ok());
-    send(rt, &mut client, write.as_slice());
-    loopback.reply(rt, &mut client, WRITE.1);
-    ask_on(rt, &mut client);
-    client
-}
-
-fn ask_on(rt: &(impl Abort + AllocGlobal), client: &mut TcpStream) {
-    let read = bytes(rt, READ);
-    for _ in 0..2_000 {
-        send(rt, client, read.as_slice());
-    }
+    let [_, _, _, _, asked, low, high, ..] = frame else {
+        return false;
+    };
+    let [_, _, _, _, answered, first, second, rest @ ..] = reply else {
+        return false;
+    };
+    first == low
+        && second == high
+        && (*answered == ERROR || asked.wrapping_add(1) == *answered)
+        && !(*answered == ERROR && rest == NO_MEMORY)
 }
 
 #[test]
 fn an_honest_client_is_served_beside_hostile_ones(rt: HostRuntime) {
     let mut soak = Soak::new(&rt);
-    let deaf = never_reads(&rt, &mut soak.loopback);
-    for _ in 0..STEPS {
-        soak.step(&rt);
-    }
-    drop(deaf);
+    soak.run(&rt);
     soak.finish(&rt);
 }
