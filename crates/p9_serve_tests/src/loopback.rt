@@ -6,7 +6,6 @@
 use crate::rows::{READ, Row, WRITE};
 use byteorder::{ByteOrder, LittleEndian};
 use mio::net::{TcpListener, TcpStream};
-use p9_guard::Guard;
 use p9_index::IndexTree;
 use p9_serve::{Server, served_guard};
 use p9_testing::bytes_of;
@@ -75,14 +74,14 @@ impl Loopback {
         }
     }
 
-    /// Whether the server is to rest now.
-    pub fn is_resting(&self) -> bool {
-        self.server.rest() > Duration::ZERO
+    /// How long the server is to rest now.
+    pub fn rest(&self) -> Duration {
+        self.server.rest()
     }
 
     /// The server is to rest so many microseconds now.
     pub fn rests(&self, rt: &impl Abort, micros: u64) {
-        assert!(rt; self.server.rest() == Duration::from_micros(micros));
+        assert!(rt; self.rest() == Duration::from_micros(micros));
     }
 
     /// So many clients were taken in, and so many closed.
@@ -189,17 +188,17 @@ impl Loopback {
 
     /// Closes all, and compares that no session of the first keys is open.
     pub fn finish(self, rt: &impl Abort, keys: u32) {
-        let guard = self.server.finish(0);
-        are_closed(rt, &guard, keys);
-        drop(guard);
+        finish(rt, self.server, keys);
     }
 }
 
-// No session of the first keys is open.
-fn are_closed<T: Tree>(rt: &impl Abort, guard: &Guard<T>, keys: u32) {
+// The same, of a server over trees of any kind.
+fn finish<T: Tree>(rt: &impl Abort, server: Server<T>, keys: u32) {
+    let guard = server.finish(0);
     for key in 0..keys {
         assert!(rt; !guard.live(key));
     }
+    drop(guard);
 }
 
 /// Sends bytes, of which the system takes all at once.

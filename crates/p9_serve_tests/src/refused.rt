@@ -4,6 +4,7 @@ use crate::rows::SMALL;
 use p9_index::IndexTree;
 use p9_serve::{Clients, Stream, Tally, served_guard};
 use p9_testing::{Refusing, refuse_each};
+use p9_tree::Tree;
 use std::alloc::Global;
 use std::io;
 use std::io::{Read, Write};
@@ -52,7 +53,7 @@ fn no_clients<'a>(rt: &impl Abort, memory: &'a Refusing<Global>) -> EndedClients
 }
 
 // Takes a client in, and closes all.
-fn take_in_and_finish(rt: &impl Abort, mut clients: EndedClients<'_>) {
+fn take_in_and_finish<T: Tree>(rt: &impl Abort, mut clients: Clients<Ended, T>) {
     take_in_again(rt, &mut clients);
     let guard = clients.finish(0);
     assert!(rt; !guard.live(0));
@@ -61,7 +62,7 @@ fn take_in_and_finish(rt: &impl Abort, mut clients: EndedClients<'_>) {
 
 // Takes a client in, again where an allocation failed: there are no clients then. The turn of the
 // one that is taken in closes its connection.
-fn take_in_again(rt: &impl Abort, clients: &mut EndedClients<'_>) {
+fn take_in_again<T: Tree>(rt: &impl Abort, clients: &mut Clients<Ended, T>) {
     if !clients.take_in(Ended) {
         assert!(rt; clients.turns(0) == closings(0));
         assert!(rt; clients.take_in(Ended));
