@@ -1,13 +1,13 @@
 //! Messages in a world where allocations fail: a request that is answered `out of memory` is sent
 //! again.
 
-use crate::exchange::{Exchange, exchange, is_reply, room, send};
+use crate::both::{Trial, refusals};
+use crate::exchange::{Row, exchange, in_session, is_reply, room, row_of, send};
 use crate::growth::{Growth, before_growth, grow_all};
-use crate::worlds::{ATTACH, Bind, VERSION, exporter, in_session};
-use p9_export::{Export, OpenError};
-use p9_index::IndexTree;
+use crate::worlds::{ATTACH, Bind, VERSION, exporter};
+use p9_export::Export;
 use p9_testing::{Refusing, bytes_of, refuse_each};
-use p9_tree::{PlainTree, Tree};
+use p9_tree::Tree;
 use std::alloc::Global;
 use std::process::Abort;
 
@@ -19,12 +19,12 @@ pub struct Script<'a> {
     pub binds: &'a [Bind],
     pub sessions: u32,
     pub now: u32,
-    pub rows: &'a [Exchange],
+    pub rows: &'a str,
 }
 
-// What is played with each request for memory refused in turn.
+/// What is played with each request for memory refused in turn.
 #[derive(Clone, Copy)]
-enum Play<'a> {
+pub enum Play<'a> {
     Script(Script<'a>),
     Growth(Growth<'a>),
 }
@@ -32,26 +32,20 @@ enum Play<'a> {
 /// Plays the script over each kind of tree with each request for memory refused in turn, and
 /// returns how many requests there are: the fewer of both.
 pub fn play_refused(rt: &impl Abort, alloc: Global, script: Script<'_>) -> u64 {
-    let (plain, index) = refusals(rt, alloc, Play::Script(script));
+    let (plain, index) = refusals(rt, alloc, Trial::Play(Play::Script(script)));
     plain.min(index)
 }
 
 /// A file grows twice over each kind of tree with each request for memory refused in turn. Each
 /// growth asks for memory once, and nothing else does.
 pub fn grow_refused(rt: &impl Abort, alloc: Global, growth: Growth<'_>) {
-    assert!(rt; refusals(rt, alloc, Play::Growth(growth)) == (2, 2));
+    let (plain, index) = refusals(rt, alloc, Trial::Play(Play::Growth(growth)));
+    assert!(rt; plain == 2 && index == 2);
 }
 
-// How many requests for memory there are over each kind of tree.
-fn refusals(rt: &impl Abort, alloc: Global, play: Play<'_>) -> (u64, u64) {
-    let memory = Refusing::new(alloc);
-    let plain = play_over::<PlainTree<&Refusing<Global>>>(rt, alloc, &memory, &memory, play);
-    let index = play_over::<IndexTree<&Refusing<Global>>>(rt, alloc, &memory, &memory, play);
-    (plain, index)
-}
-
-// Plays over one kind of tree, in the memory that refuses.
-fn play_over<T: Tree>(
+/// Plays over one kind of tree, in the memory that refuses, and returns how many requests for
+/// memory there are.
+pub fn play_over<T: Tree>(
     rt: &impl Abort,
     alloc: Global,
     memory: &Refusing<Global>,
@@ -61,7 +55,10 @@ fn play_over<T: Tree>(
     refuse_each(
         memory,
         || ready::<T>(rt, alloc, lent, play),
-        |export| play_again(rt, alloc, export, play),
+        |mut export| {
+            play_again(rt, alloc, &mut export, play);
+            drop(export);
+        },
     )
 }
 
@@ -73,12 +70,13 @@ fn ready<T: Tree>(rt: &impl Abort, alloc: Global, lent: T::Alloc, play: Play<'_>
     }
 }
 
-fn play_again<T: Tree>(rt: &impl Abort, alloc: Global, mut export: Export<T>, play: Play<'_>) {
+// Plays with the exporter.
+fn play_again<T: Tree>(rt: &impl Abort, alloc: Global, export: &mut Export<T>, play: Play<'_>) {
     let mut room = room(rt, alloc);
     let reply = room.as_mut_slice();
     match play {
-        Play::Script(script) => play_script(rt, alloc, &mut export, script, reply),
-        Play::Growth(growth) => grow_all(rt, alloc, &mut export, growth, reply),
+        Play::Script(script) => play_script(rt, alloc, export, script, reply),
+        Play::Growth(growth) => grow_all(rt, alloc, export, growth, reply),
     }
 }
 
@@ -93,8 +91,8 @@ fn play_script<T: Tree>(
     for session in 1..=script.sessions {
         begin_again(rt, alloc, export, session, script.now, reply);
     }
-    for row in script.rows {
-        exchange_again(rt, alloc, export, script.now, *row, reply);
+    for line in script.rows.lines() {
+        exchange_again(rt, alloc, export, script.now, row_of(rt, line), reply);
     }
 }
 
@@ -107,12 +105,26 @@ fn begin_again<T: Tree>(
     now: u32,
     reply: &mut [u8],
 ) {
-    if export.open(session) == Err(OpenError::NoMemory) {
+    if export.open(session).is_err() {
         assert!(rt; !export.live(session));
-        assert!(rt; export.open(session) == Ok(()));
+        assert!(rt; export.open(session).is_ok());
     }
-    exchange_again(rt, alloc, export, now, in_session(session, VERSION), reply);
-    exchange_again(rt, alloc, export, now, in_session(session, ATTACH), reply);
+    exchange_again(
+        rt,
+        alloc,
+        export,
+        now,
+        in_session(rt, session, VERSION),
+        reply,
+    );
+    exchange_again(
+        rt,
+        alloc,
+        export,
+        now,
+        in_session(rt, session, ATTACH),
+        reply,
+    );
 }
 
 // Sends a request, again where an allocation failed, and compares the reply.
@@ -121,7 +133,7 @@ fn exchange_again<T: Tree>(
     alloc: Global,
     export: &mut Export<T>,
     now: u32,
-    row: Exchange,
+    row: Row<'_>,
     reply: &mut [u8],
 ) {
     if !is_answered(rt, alloc, export, now, row, reply) {
@@ -136,13 +148,12 @@ pub fn is_answered<T: Tree>(
     alloc: Global,
     export: &mut Export<T>,
     now: u32,
-    row: Exchange,
+    row: Row<'_>,
     reply: &mut [u8],
 ) -> bool {
-    let (session, request, wanted) = row;
-    let frame = bytes_of(alloc, request).expect(rt, "hexadecimal digits");
-    let answered = send(rt, export, session, now, frame.as_slice(), reply);
-    is_reply_or_refusal(rt, alloc, frame.as_slice(), answered, wanted)
+    let frame = bytes_of(alloc, row.request).expect(rt, "hexadecimal digits");
+    let answered = send(rt, export, row.session, now, frame.as_slice(), reply);
+    is_reply_or_refusal(rt, alloc, frame.as_slice(), answered, row.reply)
 }
 
 // Compares the reply to a request unless that is `out of memory`. Returns whether it is another

@@ -1,5 +1,6 @@
-//! Work with an exporter, over both kinds of tree.
+//! Work over both kinds of tree.
 
+use crate::again::{Play, play_over};
 use crate::exchange::room;
 use crate::fids::has_1024_fids;
 use crate::large::{fills_a_gap, makes_several, reads_back};
@@ -7,10 +8,12 @@ use crate::many::lists_all;
 use crate::modes::{Opening, opens};
 use crate::renamed::renames_all;
 use crate::sessions::opens_and_closes;
+use crate::space::{Way, run_over, walk_over};
 use crate::unions::{lists_places, reads_at_each_count};
 use crate::worlds::{Bind, exporter};
 use p9_export::Export;
 use p9_index::IndexTree;
+use p9_testing::Refusing;
 use p9_tree::{PlainTree, Tree};
 use std::alloc::Global;
 use std::process::Abort;
@@ -49,6 +52,7 @@ pub fn on_both_in(
     on_new::<IndexTree<Global>>(rt, alloc, text, binds, work, reply);
 }
 
+// Does the work over one kind of tree.
 fn on_new<T: Tree<Alloc = Global>>(
     rt: &impl Abort,
     alloc: Global,
@@ -59,8 +63,10 @@ fn on_new<T: Tree<Alloc = Global>>(
 ) {
     let mut export = exporter::<T>(rt, alloc, text, binds);
     on(rt, alloc, &mut export, work, reply);
+    drop(export);
 }
 
+// Does the work with an exporter.
 fn on<T: Tree>(
     rt: &impl Abort,
     alloc: Global,
@@ -79,5 +85,36 @@ fn on<T: Tree>(
         Work::NewNames => renames_all(rt, alloc, export, reply),
         Work::Unions => lists_places(rt, alloc, export, reply),
         Work::UnionCounts => reads_at_each_count(rt, alloc, export, reply),
+    }
+}
+
+/// What is done with each request for memory refused in turn.
+#[derive(Clone, Copy)]
+pub enum Trial<'a> {
+    Play(Play<'a>),
+    Walk(Way),
+    File,
+}
+
+/// How many requests for memory there are over each kind of tree.
+pub fn refusals(rt: &impl Abort, alloc: Global, trial: Trial<'_>) -> (u64, u64) {
+    let memory = Refusing::new(alloc);
+    let plain = refusals_over::<PlainTree<&Refusing<Global>>>(rt, alloc, &memory, &memory, trial);
+    let index = refusals_over::<IndexTree<&Refusing<Global>>>(rt, alloc, &memory, &memory, trial);
+    (plain, index)
+}
+
+// How many there are over one kind of tree, in the memory that refuses.
+fn refusals_over<T: Tree>(
+    rt: &impl Abort,
+    alloc: Global,
+    memory: &Refusing<Global>,
+    lent: T::Alloc,
+    trial: Trial<'_>,
+) -> u64 {
+    match trial {
+        Trial::Play(play) => play_over::<T>(rt, alloc, memory, lent, play),
+        Trial::Walk(way) => walk_over::<T>(rt, alloc, memory, lent, way),
+        Trial::File => run_over::<T>(rt, alloc, memory, lent),
     }
 }

@@ -83,6 +83,24 @@ pub fn list_on<T: Tree>(
     !entries.is_empty()
 }
 
+/// Reads fid 2 of session 1 to its end by reads of so many bytes. There are at most so many reads.
+pub fn listed<T: Tree>(
+    rt: &impl Abort,
+    alloc: Global,
+    export: &mut Export<T>,
+    count: u32,
+    reads: u32,
+    reply: &mut [u8],
+) -> Vec<u8, Global> {
+    let mut listing = Vec::new(alloc);
+    for _ in 0..reads {
+        if !list_on(rt, export, count, &mut listing, reply) {
+            break;
+        }
+    }
+    listing
+}
+
 /// Adds the entry of glenda's empty file of this number and name, of mode 644 and at the time 0, as
 /// stat(5) has it. The name has at most 190 bytes.
 pub fn push_entry(rt: &impl Abort, number: u32, name: &[u8], listing: &mut Vec<u8, Global>) {

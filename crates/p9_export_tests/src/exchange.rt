@@ -7,8 +7,29 @@ use p9_wire::MSIZE_MAX;
 use std::alloc::Global;
 use std::process::Abort;
 
-/// A session, a request and its reply, as hexadecimal digits from outside.
-pub type Exchange = (u32, &'static str, &'static str);
+/// A request of a session and its reply, as hexadecimal digits from outside.
+#[derive(Clone, Copy)]
+pub struct Row<'a> {
+    pub session: u32,
+    pub request: &'a str,
+    pub reply: &'a str,
+}
+
+/// The row of a line: the session, a blank, and the request with its reply.
+pub fn row_of<'a>(rt: &impl Abort, line: &'a str) -> Row<'a> {
+    let (session, rest) = line.split_once(' ').expect(rt, "a session");
+    in_session(rt, session.parse::<u32>().expect(rt, "a number"), rest)
+}
+
+/// The row of a request, ` = ` and its reply, in a session.
+pub fn in_session<'a>(rt: &impl Abort, session: u32, text: &'a str) -> Row<'a> {
+    let (request, reply) = text.split_once(" = ").expect(rt, "a reply");
+    Row {
+        session,
+        request,
+        reply,
+    }
+}
 
 /// Room for the longest reply. A test has one, which every reply is written over.
 pub fn room(rt: &impl Abort, alloc: Global) -> Vec<u8, Global> {
@@ -38,26 +59,25 @@ pub fn exchange<T: Tree>(
     alloc: Global,
     export: &mut Export<T>,
     now: u32,
-    exchange: Exchange,
+    row: Row<'_>,
     reply: &mut [u8],
 ) {
-    let (session, request, wanted) = exchange;
-    let frame = bytes_of(alloc, request).expect(rt, "hexadecimal digits");
-    let answered = send(rt, export, session, now, frame.as_slice(), reply);
-    is_reply(rt, alloc, answered, wanted);
+    let frame = bytes_of(alloc, row.request).expect(rt, "hexadecimal digits");
+    let answered = send(rt, export, row.session, now, frame.as_slice(), reply);
+    is_reply(rt, alloc, answered, row.reply);
 }
 
-/// Sends requests, and compares the replies.
+/// Sends the requests of lines, and compares the replies.
 pub fn exchange_all<T: Tree>(
     rt: &impl Abort,
     alloc: Global,
     export: &mut Export<T>,
     now: u32,
-    rows: &[Exchange],
+    lines: &str,
     reply: &mut [u8],
 ) {
-    for row in rows {
-        exchange(rt, alloc, export, now, *row, reply);
+    for line in lines.lines() {
+        exchange(rt, alloc, export, now, row_of(rt, line), reply);
     }
 }
 

@@ -2,7 +2,7 @@
 //! changes all that it asks for, or nothing.
 
 use crate::again::{grow_refused, is_answered};
-use crate::exchange::{Exchange, exchange, exchange_all, room};
+use crate::exchange::{exchange, exchange_all, room, row_of};
 use crate::worlds::{SMALL, exporter};
 use p9_export::Export;
 use p9_tree::Tree;
@@ -13,20 +13,20 @@ use std::process::Abort;
 #[derive(Clone, Copy)]
 pub struct Growth<'a> {
     /// The requests of session 1 before memory is refused.
-    pub ready: &'a [Exchange],
+    pub ready: &'a str,
     /// The reading of the clock after them.
     pub now: u32,
     /// Requests that need no memory, which come first.
-    pub first: &'a [Exchange],
+    pub first: &'a str,
     pub steps: &'a [Step<'a>],
 }
 
 /// A request that makes the file longer, and what shows how the file is before it and after it.
 #[derive(Clone, Copy)]
 pub struct Step<'a> {
-    pub before: &'a [Exchange],
-    pub grows: Exchange,
-    pub after: &'a [Exchange],
+    pub before: &'a str,
+    pub grows: &'a str,
+    pub after: &'a str,
 }
 
 /// The sample world with session 1.
@@ -41,9 +41,10 @@ pub fn before_growth<T: Tree>(
     export
 }
 
-fn get_ready<T: Tree>(rt: &impl Abort, alloc: Global, export: &mut Export<T>, ready: &[Exchange]) {
+// Begins session 1.
+fn get_ready<T: Tree>(rt: &impl Abort, alloc: Global, export: &mut Export<T>, ready: &str) {
     let mut room = room(rt, alloc);
-    assert!(rt; export.open(1) == Ok(()));
+    assert!(rt; export.open(1).is_ok());
     exchange_all(rt, alloc, export, 0, ready, room.as_mut_slice());
 }
 
@@ -70,135 +71,88 @@ fn grow_again<T: Tree>(
     step: Step<'_>,
     reply: &mut [u8],
 ) {
-    if !is_answered(rt, alloc, export, now, step.grows, reply) {
+    let grows = row_of(rt, step.grows);
+    if !is_answered(rt, alloc, export, now, grows, reply) {
         exchange_all(rt, alloc, export, now, step.before, reply);
-        exchange(rt, alloc, export, now, step.grows, reply);
+        exchange(rt, alloc, export, now, grows, reply);
     }
     exchange_all(rt, alloc, export, now, step.after, reply);
 }
 
 // Glenda's session 1. Fid 1 is /a, and fid 2 its file.
-const READY: [Exchange; 4] = [
-    (
-        1,
-        "13000000 64 ffff 00200000 0600 395032303030",
-        "13000000 65 ffff 00200000 0600 395032303030",
-    ),
-    (
-        1,
-        "19000000 68 0100 00000000 ffffffff 0600 676c656e6461 0000",
-        "14000000 69 0100 80 00000000 0000000000000000",
-    ),
-    (
-        1,
-        "14000000 6e 0200 00000000 01000000 0100 0100 61",
-        "16000000 6f 0200 0100 80 00000000 0100000000000000",
-    ),
-    (
-        1,
-        "17000000 6e 0300 00000000 02000000 0200 0100 61 0100 66",
-        "23000000 6f 0300 0200 80 00000000 0100000000000000 00 00000000 0300000000000000",
-    ),
-];
+const READY: &str = "\
+1 13000000 64 ffff 00200000 0600 395032303030 = 13000000 65 ffff 00200000 0600 395032303030
+1 19000000 68 0100 00000000 ffffffff 0600 676c656e6461 0000 = 14000000 69 0100 80 00000000 \
+0000000000000000
+1 14000000 6e 0200 00000000 01000000 0100 0100 61 = 16000000 6f 0200 0100 80 00000000 \
+0100000000000000
+1 17000000 6e 0300 00000000 02000000 0200 0100 61 0100 66 = 23000000 6f 0300 0200 80 00000000 \
+0100000000000000 00 00000000 0300000000000000";
 
 // With an atime, and with a group that glenda may not give: a refusal is the same where memory
 // would run out.
-const REFUSED: [Exchange; 2] = [
-    (
-        1,
-        "3f000000 7e 0100 02000000 3200 3000 ffff ffffffff ff ffffffff ffffffffffffffff 80010000 \
-        05000000 ffffffff 2823000000000000 0100 67 0000 0000 0000",
-        "1f000000 6b 0100 1600 7773746174206f662061206669786564206669656c64",
-    ),
-    (
-        1,
-        "42000000 7e 0100 02000000 3500 3300 ffff ffffffff ff ffffffff ffffffffffffffff 80010000 \
-        ffffffff ffffffff 2823000000000000 0100 67 0000 0300 737973 0000",
-        "1a000000 6b 0100 1100 7065726d697373696f6e2064656e696564",
-    ),
-];
+const REFUSED: &str = "\
+1 3f000000 7e 0100 02000000 3200 3000 ffff ffffffff ff ffffffff ffffffffffffffff 80010000 \
+05000000 ffffffff 2823000000000000 0100 67 0000 0000 0000 = 1f000000 6b 0100 1600 \
+7773746174206f662061206669786564206669656c64
+1 42000000 7e 0100 02000000 3500 3300 ffff ffffffff ff ffffffff ffffffffffffffff 80010000 \
+ffffffff ffffffff 2823000000000000 0100 67 0000 0300 737973 0000 = 1a000000 6b 0100 1100 \
+7065726d697373696f6e2064656e696564";
 
 // At the time 7 the file gets the mode 600, the name g and 9,000 bytes.
-const FIRST: Exchange = (
-    1,
-    "3f000000 7e 0100 02000000 3200 3000 ffff ffffffff ff ffffffff ffffffffffffffff 80010000 \
-    ffffffff ffffffff 2823000000000000 0100 67 0000 0000 0000",
-    "07000000 7f 0100",
-);
+const FIRST: &str = "\
+1 3f000000 7e 0100 02000000 3200 3000 ffff ffffffff ff ffffffff ffffffffffffffff 80010000 \
+ffffffff ffffffff 2823000000000000 0100 67 0000 0000 0000 = 07000000 7f 0100";
 
 // Then it gets 20,000 bytes and the mtime 9.
-const SECOND: Exchange = (
-    1,
-    "3e000000 7e 0100 02000000 3100 2f00 ffff ffffffff ff ffffffff ffffffffffffffff ffffffff \
-    ffffffff 09000000 204e000000000000 0000 0000 0000 0000",
-    "07000000 7f 0100",
-);
+const SECOND: &str = "\
+1 3e000000 7e 0100 02000000 3100 2f00 ffff ffffffff ff ffffffff ffffffffffffffff ffffffff \
+ffffffff 09000000 204e000000000000 0000 0000 0000 0000 = 07000000 7f 0100";
 
 // The stats of the directory and the file at first.
-const AT_FIRST: [Exchange; 2] = [
-    (
-        1,
-        "0b000000 7c 0100 01000000",
-        "4d000000 7d 0100 4400 4200 0000 00000000 80 00000000 0100000000000000 ed010080 00000000 \
-        00000000 0000000000000000 0100 61 0600 676c656e6461 0600 676c656e6461 0600 676c656e6461",
-    ),
-    (
-        1,
-        "0b000000 7c 0100 02000000",
-        "4d000000 7d 0100 4400 4200 0000 00000000 00 00000000 0300000000000000 a4010000 00000000 \
-        00000000 0200000000000000 0100 66 0600 676c656e6461 0600 676c656e6461 0600 676c656e6461",
-    ),
-];
+const AT_FIRST: &str = "\
+1 0b000000 7c 0100 01000000 = 4d000000 7d 0100 4400 4200 0000 00000000 80 00000000 \
+0100000000000000 ed010080 00000000 00000000 0000000000000000 0100 61 0600 676c656e6461 0600 \
+676c656e6461 0600 676c656e6461
+1 0b000000 7c 0100 02000000 = 4d000000 7d 0100 4400 4200 0000 00000000 00 00000000 \
+0300000000000000 a4010000 00000000 00000000 0200000000000000 0100 66 0600 676c656e6461 0600 \
+676c656e6461 0600 676c656e6461";
 
 // Their stats after the first wstat.
-const ONCE: [Exchange; 2] = [
-    (
-        1,
-        "0b000000 7c 0100 01000000",
-        "4d000000 7d 0100 4400 4200 0000 00000000 80 01000000 0100000000000000 ed010080 07000000 \
-        07000000 0000000000000000 0100 61 0600 676c656e6461 0600 676c656e6461 0600 676c656e6461",
-    ),
-    (
-        1,
-        "0b000000 7c 0100 02000000",
-        "4d000000 7d 0100 4400 4200 0000 00000000 00 01000000 0300000000000000 80010000 07000000 \
-        07000000 2823000000000000 0100 67 0600 676c656e6461 0600 676c656e6461 0600 676c656e6461",
-    ),
-];
+const ONCE: &str = "\
+1 0b000000 7c 0100 01000000 = 4d000000 7d 0100 4400 4200 0000 00000000 80 01000000 \
+0100000000000000 ed010080 07000000 07000000 0000000000000000 0100 61 0600 676c656e6461 0600 \
+676c656e6461 0600 676c656e6461
+1 0b000000 7c 0100 02000000 = 4d000000 7d 0100 4400 4200 0000 00000000 00 01000000 \
+0300000000000000 80010000 07000000 07000000 2823000000000000 0100 67 0600 676c656e6461 0600 \
+676c656e6461 0600 676c656e6461";
 
 // Their stats after the second.
-const TWICE: [Exchange; 2] = [
-    (
-        1,
-        "0b000000 7c 0100 01000000",
-        "4d000000 7d 0100 4400 4200 0000 00000000 80 02000000 0100000000000000 ed010080 07000000 \
-        07000000 0000000000000000 0100 61 0600 676c656e6461 0600 676c656e6461 0600 676c656e6461",
-    ),
-    (
-        1,
-        "0b000000 7c 0100 02000000",
-        "4d000000 7d 0100 4400 4200 0000 00000000 00 02000000 0300000000000000 80010000 07000000 \
-        09000000 204e000000000000 0100 67 0600 676c656e6461 0600 676c656e6461 0600 676c656e6461",
-    ),
-];
+const TWICE: &str = "\
+1 0b000000 7c 0100 01000000 = 4d000000 7d 0100 4400 4200 0000 00000000 80 02000000 \
+0100000000000000 ed010080 07000000 07000000 0000000000000000 0100 61 0600 676c656e6461 0600 \
+676c656e6461 0600 676c656e6461
+1 0b000000 7c 0100 02000000 = 4d000000 7d 0100 4400 4200 0000 00000000 00 02000000 \
+0300000000000000 80010000 07000000 09000000 204e000000000000 0100 67 0600 676c656e6461 0600 \
+676c656e6461 0600 676c656e6461";
 
 // A wstat that makes a file longer asks for memory once, at each of two times.
 #[test]
 fn a_growth_is_done_again_at_each_refusal(rt: HostRuntime) {
     let growth = Growth {
-        ready: &READY,
+        ready: READY,
         now: 7,
-        first: &REFUSED,
+        first: REFUSED,
         steps: &[
             Step {
-                before: &AT_FIRST,
+                before: AT_FIRST,
                 grows: FIRST,
-                after: &ONCE,
+                after: ONCE,
             },
             Step {
-                before: &ONCE,
+                before: ONCE,
                 grows: SECOND,
-                after: &TWICE,
+                after: TWICE,
             },
         ],
     };

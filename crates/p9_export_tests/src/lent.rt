@@ -2,7 +2,7 @@
 //! bytes that are lent.
 
 use crate::exchange::{room, send};
-use crate::worlds::{SMALL, begin, exporter};
+use crate::worlds::{SMALL, begin, close, exporter};
 use linked_list_allocator::LocalHeap;
 use p9_export::Export;
 use p9_index::IndexTree;
@@ -56,6 +56,7 @@ fn succeeds<T: Tree>(
     assert!(rt; is_answer(frame.as_slice(), answered), "{request}");
 }
 
+// Sends requests of session 1, which succeed.
 fn succeed<T: Tree>(
     rt: &impl Abort,
     alloc: Global,
@@ -97,11 +98,6 @@ fn repeat<T: Tree>(
     }
 }
 
-fn close<T: Tree>(rt: &impl Abort, export: &mut Export<T>) {
-    assert!(rt; export.live(2));
-    export.close(2, 0);
-}
-
 // The same of session 2: it begins, and is closed.
 fn begin_and_close<T: Tree>(
     rt: &impl Abort,
@@ -111,24 +107,20 @@ fn begin_and_close<T: Tree>(
     reply: &mut [u8],
 ) {
     begin(rt, alloc, export, 2, reply);
-    close(rt, export);
+    close(rt, export, 2);
     let used = heap.used();
     for _ in 0..50 {
         begin(rt, alloc, export, 2, reply);
         assert!(rt; heap.used() > used);
-        close(rt, export);
+        close(rt, export, 2);
         assert!(rt; heap.used() == used);
     }
 }
 
 // Does all of this.
-fn work_all<T: Tree>(
-    rt: &impl Abort,
-    alloc: Global,
-    heap: &LocalHeap,
-    export: &mut Export<T>,
-    reply: &mut [u8],
-) {
+fn work_all<T: Tree>(rt: &impl Abort, alloc: Global, heap: &LocalHeap, export: &mut Export<T>) {
+    let mut room = room(rt, alloc);
+    let reply = room.as_mut_slice();
     begin(rt, alloc, export, 1, reply);
     repeat(rt, alloc, heap, export, CLUNK, reply);
     repeat(rt, alloc, heap, export, REMOVE, reply);
@@ -138,9 +130,9 @@ fn work_all<T: Tree>(
 
 // Does all of this with an exporter, which is then dropped.
 fn serve<T: Tree>(rt: &impl Abort, alloc: Global, heap: &LocalHeap, lent: T::Alloc) {
-    let mut room = room(rt, alloc);
     let mut export = exporter::<T>(rt, lent, SMALL, &[]);
-    work_all(rt, alloc, heap, &mut export, room.as_mut_slice());
+    work_all(rt, alloc, heap, &mut export);
+    drop(export);
 }
 
 #[test]

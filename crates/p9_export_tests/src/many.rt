@@ -2,25 +2,25 @@
 
 use crate::both::{Work, on_both};
 use crate::directory::{list_on, make, name_of, push_entry, walk_to};
-use crate::exchange::{Exchange, exchange_all, send};
+use crate::exchange::{exchange_all, send};
 use crate::worlds::begin;
 use p9_export::Export;
 use p9_tree::Tree;
-use std::alloc::{AllocError, Global};
+use std::alloc::Global;
 use std::process::Abort;
 
 // How many files there are at first.
 const COUNT: u32 = 5_000;
 
 // A world whose /a is glenda's directory of the files, with the numbers from 2 on.
-fn world(alloc: Global) -> Result<String, AllocError> {
-    let mut text = String::from_str(alloc, "server main\ndir /a 755 glenda glenda\n")?;
+fn world(rt: &impl Abort, alloc: Global) -> String {
+    let text = String::from_str(alloc, "server main\ndir /a 755 glenda glenda\n");
+    let mut text = text.expect(rt, "memory");
     for number in 2..COUNT + 2 {
-        let line = format!(in alloc; "file /a/{number:04} 644 glenda glenda -\n")?;
-        text.push_str(line.as_str())?;
+        writeln!(&mut text, "file /a/{number:04} 644 glenda glenda -").expect(rt, "memory");
     }
-    text.push_str("user glenda\n")?;
-    Ok(text)
+    text.push_str("user glenda\n").expect(rt, "memory");
+    text
 }
 
 // Session 2 removes the file of this number.
@@ -67,18 +67,10 @@ fn push_range(rt: &impl Abort, from: u32, to: u32, listing: &mut Vec<u8, Global>
 }
 
 // Fid 2 of session 1 is opened at the directory.
-const OPENING: [Exchange; 2] = [
-    (
-        1,
-        "14000000 6e 0200 00000000 02000000 0100 0100 61",
-        "16000000 6f 0200 0100 80 00000000 0100000000000000",
-    ),
-    (
-        1,
-        "0c000000 70 0300 02000000 00",
-        "18000000 71 0300 80 00000000 0100000000000000 e81f0000",
-    ),
-];
+const OPENING: &str = "\
+1 14000000 6e 0200 00000000 02000000 0100 0100 61 = 16000000 6f 0200 0100 80 00000000 \
+0100000000000000
+1 0c000000 70 0300 02000000 00 = 18000000 71 0300 80 00000000 0100000000000000 e81f0000";
 
 // The entries that are listed. A file that was given before it was removed is listed, one that was
 // removed before isn't, and each that was made is.
@@ -98,13 +90,13 @@ pub fn lists_all<T: Tree>(
 ) {
     begin(rt, alloc, export, 1, reply);
     begin(rt, alloc, export, 2, reply);
-    exchange_all(rt, alloc, export, 0, &OPENING, reply);
+    exchange_all(rt, alloc, export, 0, OPENING, reply);
     let listing = listed(rt, alloc, export, reply);
     assert!(rt; listing.as_slice() == entries(rt, alloc).as_slice());
 }
 
 #[test]
 fn many_files_are_listed(rt: HostRuntime) {
-    let text = world(rt.alloc()).expect(&rt, "memory");
+    let text = world(&rt, rt.alloc());
     on_both(&rt, rt.alloc(), text.as_str(), &[], Work::ManyFiles);
 }

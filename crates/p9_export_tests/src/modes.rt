@@ -1,7 +1,7 @@
 //! Opens in each of the 256 modes.
 
 use crate::both::{Work, on_both_in};
-use crate::exchange::{Exchange, exchange, is_reply, room, send};
+use crate::exchange::{exchange_all, is_reply, room, send};
 use crate::worlds::{SMALL, begin};
 use p9_export::Export;
 use p9_tree::Tree;
@@ -11,7 +11,7 @@ use std::process::Abort;
 /// An open of fid 1, where a walk took it, by a mode, and the reply.
 #[derive(Clone, Copy)]
 pub struct Opening {
-    walk: Exchange,
+    walk: &'static str,
     mode: u8,
     wanted: &'static str,
 }
@@ -25,7 +25,7 @@ pub fn opens<T: Tree>(
     reply: &mut [u8],
 ) {
     begin(rt, alloc, export, 1, reply);
-    exchange(rt, alloc, export, 0, opening.walk, reply);
+    exchange_all(rt, alloc, export, 0, opening.walk, reply);
     let frame = [12, 0, 0, 0, 112, 2, 0, 1, 0, 0, 0, opening.mode];
     let answered = send(rt, export, 1, 0, &frame, reply);
     is_reply(rt, alloc, answered, opening.wanted);
@@ -55,17 +55,13 @@ fn of_dir(mode: u8) -> &'static str {
     }
 }
 
-const WALK_TO_FILE: Exchange = (
-    1,
-    "17000000 6e 0700 00000000 01000000 0200 0100 61 0100 66",
-    "23000000 6f 0700 0200 80 00000000 0100000000000000 00 00000000 0300000000000000",
-);
+const WALK_TO_FILE: &str = "\
+1 17000000 6e 0700 00000000 01000000 0200 0100 61 0100 66 = 23000000 6f 0700 0200 80 00000000 \
+0100000000000000 00 00000000 0300000000000000";
 
-const WALK_TO_DIR: Exchange = (
-    1,
-    "14000000 6e 0700 00000000 01000000 0100 0100 61",
-    "16000000 6f 0700 0100 80 00000000 0100000000000000",
-);
+const WALK_TO_DIR: &str = "\
+1 14000000 6e 0700 00000000 01000000 0100 0100 61 = 16000000 6f 0700 0100 80 00000000 \
+0100000000000000";
 
 // Opens the file and the directory by a mode, each with a new exporter.
 fn opens_by(rt: &impl Abort, alloc: Global, mode: u8, reply: &mut [u8]) {

@@ -1,8 +1,8 @@
 //! Many files are made, each is given another name, and all are listed.
 
 use crate::both::{Work, on_both};
-use crate::directory::{clunk, list_on, make, name_of, push_entry, walk_to};
-use crate::exchange::{Exchange, exchange_all, send};
+use crate::directory::{clunk, listed, make, name_of, push_entry, walk_to};
+use crate::exchange::{exchange_all, send};
 use crate::worlds::begin;
 use p9_export::Export;
 use p9_tree::Tree;
@@ -20,18 +20,10 @@ user glenda
 const END: u32 = 5_002;
 
 // The directory was marked 10,000 times. Fid 2 is opened at it.
-const OPENING: [Exchange; 2] = [
-    (
-        1,
-        "14000000 6e 0200 00000000 02000000 0100 0100 61",
-        "16000000 6f 0200 0100 80 10270000 0100000000000000",
-    ),
-    (
-        1,
-        "0c000000 70 0300 02000000 00",
-        "18000000 71 0300 80 10270000 0100000000000000 e81f0000",
-    ),
-];
+const OPENING: &str = "\
+1 14000000 6e 0200 00000000 02000000 0100 0100 61 = 16000000 6f 0200 0100 80 10270000 \
+0100000000000000
+1 0c000000 70 0300 02000000 00 = 18000000 71 0300 80 10270000 0100000000000000 e81f0000";
 
 // The new names fall while the numbers rise, and none of them was in use.
 fn new_name_of(number: u32) -> [u8; 4] {
@@ -65,22 +57,6 @@ fn rename_all<T: Tree>(rt: &impl Abort, export: &mut Export<T>, reply: &mut [u8]
     }
 }
 
-// Reads the whole listing.
-fn listed<T: Tree>(
-    rt: &impl Abort,
-    alloc: Global,
-    export: &mut Export<T>,
-    reply: &mut [u8],
-) -> Vec<u8, Global> {
-    let mut listing = Vec::new(alloc);
-    for _ in 0..END {
-        if !list_on(rt, export, 8_168, &mut listing, reply) {
-            break;
-        }
-    }
-    listing
-}
-
 // The entries of all files under their new names, by rising number.
 fn entries(rt: &impl Abort, alloc: Global) -> Vec<u8, Global> {
     let mut entries = Vec::new(alloc);
@@ -100,8 +76,8 @@ pub fn renames_all<T: Tree>(
     begin(rt, alloc, export, 1, reply);
     make_all(rt, export, reply);
     rename_all(rt, export, reply);
-    exchange_all(rt, alloc, export, 0, &OPENING, reply);
-    let listing = listed(rt, alloc, export, reply);
+    exchange_all(rt, alloc, export, 0, OPENING, reply);
+    let listing = listed(rt, alloc, export, 8_168, END, reply);
     assert!(rt; listing.len() == 71 * 5_000);
     assert!(rt; listing.as_slice() == entries(rt, alloc).as_slice());
 }

@@ -1,22 +1,12 @@
 //! Calls that open and close sessions.
 
 use crate::both::{Work, on_both};
-use crate::exchange::exchange_all;
-use crate::worlds::{ATTACH, VERSION, in_session};
+use crate::exchange::{exchange, in_session};
+use crate::worlds::{ATTACH, VERSION, close};
 use p9_export::{Export, OpenError};
 use p9_tree::Tree;
 use std::alloc::Global;
 use std::process::Abort;
-use std::test::Fail;
-
-fn are_live<T: Tree>(rt: &impl Abort, export: &Export<T>, live: (bool, bool)) {
-    assert!(rt; (export.live(1), export.live(2)) == live);
-}
-
-fn close<T: Tree>(rt: &impl Abort, export: &mut Export<T>) {
-    assert!(rt; export.live(1));
-    export.close(1, 0);
-}
 
 /// Opens two sessions, and closes one of them.
 pub fn opens_and_closes<T: Tree>(
@@ -25,14 +15,14 @@ pub fn opens_and_closes<T: Tree>(
     export: &mut Export<T>,
     reply: &mut [u8],
 ) {
-    are_live(rt, export, (false, false));
-    assert!(rt; export.open(1) == Ok(()));
-    assert!(rt; export.open(1) == Err(OpenError::Live));
-    assert!(rt; export.open(2) == Ok(()));
-    let rows = &[in_session(1, VERSION), in_session(1, ATTACH)];
-    exchange_all(rt, alloc, export, 0, rows, reply);
-    close(rt, export);
-    are_live(rt, export, (false, true));
+    assert!(rt; !export.live(1) && !export.live(2));
+    assert!(rt; export.open(1).is_ok());
+    assert!(rt; matches!(export.open(1), Err(OpenError::Live)));
+    assert!(rt; export.open(2).is_ok());
+    exchange(rt, alloc, export, 0, in_session(rt, 1, VERSION), reply);
+    exchange(rt, alloc, export, 0, in_session(rt, 1, ATTACH), reply);
+    close(rt, export, 1);
+    assert!(rt; !export.live(1) && export.live(2));
 }
 
 #[test]
@@ -42,8 +32,8 @@ fn a_session_is_opened_once_and_closed(rt: HostRuntime) {
 }
 
 #[test]
-fn errors_have_texts(rt: HostRuntime) -> Result<(), Fail> {
-    let shown = format!(in rt.alloc(); "{}, {}", OpenError::Live, OpenError::NoMemory)?;
+fn errors_have_texts(rt: HostRuntime) {
+    let shown = format!(in rt.alloc(); "{}, {}", OpenError::Live, OpenError::NoMemory);
+    let shown = shown.expect(&rt, "memory");
     assert!(rt; shown.as_str() == "session is open, out of memory");
-    Ok(())
 }

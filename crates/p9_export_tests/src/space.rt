@@ -12,3 +12,6 @@ mod texts;
 mod walks;
 mod words;
 mod worlds;
+
+pub use files_refused::run_over;
+pub use refused::{Way, walk_over};

@@ -2,9 +2,9 @@
 //! What is to be listed is computed here, from the kinds of the members alone.
 
 use crate::both::{Work, on_both};
-use crate::directory::{clunk, list_on, name_of, push_entry};
-use crate::exchange::{Exchange, exchange_all, is_reply, read_at, send};
-use crate::worlds::{Bind, VERSION, begin, in_session};
+use crate::directory::{clunk, listed, name_of, push_entry};
+use crate::exchange::{exchange, in_session, is_reply, read_at, send};
+use crate::worlds::{Bind, VERSION, begin};
 use p9_export::Export;
 use p9_space::Order;
 use p9_tree::Tree;
@@ -63,57 +63,71 @@ fn file_name(alloc: Global, number: u32) -> Result<String, AllocError> {
     format!(in alloc; "{number:04}{tail}")
 }
 
-// Two lines: a directory and its file, or two nodes of the root.
-fn pair(alloc: Global, number: u32, kind: Kind) -> Result<String, AllocError> {
+// The lines of a directory of this mode and of its file.
+fn push_directory(rt: &impl Abort, alloc: Global, text: &mut String, number: u32, mode: &str) {
+    let name = file_name(alloc, number.saturating_add(1)).expect(rt, "memory");
+    let pushed = writeln!(
+        text,
+        "dir /{number:04} {mode} sys sys\nfile /{number:04}/{name} 644 glenda glenda -"
+    );
+    pushed.expect(rt, "memory");
+}
+
+// The lines of two nodes of the root, of which the second is a directory.
+fn push_nodes(rt: &impl Abort, text: &mut String, number: u32, word: &str, rights: &str) {
     let next = number.saturating_add(1);
-    let name = file_name(alloc, next)?;
+    let pushed = writeln!(
+        text,
+        "{word} /{number:04} {rights}\ndir /{next:04} 755 sys sys"
+    );
+    pushed.expect(rt, "memory");
+}
+
+// Two lines: a directory and its file, or two nodes of the root.
+fn push_pair(rt: &impl Abort, alloc: Global, text: &mut String, number: u32, kind: Kind) {
     match kind {
-        Kind::Listed => format!(in alloc;
-            "dir /{number:04} 755 sys sys\nfile /{number:04}/{name} 644 glenda glenda -\n"
-        ),
-        Kind::Unreadable => format!(in alloc;
-            "dir /{number:04} 711 sys sys\nfile /{number:04}/{name} 644 glenda glenda -\n"
-        ),
-        Kind::Removed => format!(in alloc;
-            "dir /{number:04} 755 sys sys\ndir /{next:04} 755 sys sys\n"
-        ),
-        Kind::File => format!(in alloc;
-            "file /{number:04} 644 sys sys -\ndir /{next:04} 755 sys sys\n"
-        ),
+        Kind::Listed => push_directory(rt, alloc, text, number, "755"),
+        Kind::Unreadable => push_directory(rt, alloc, text, number, "711"),
+        Kind::Removed => push_nodes(rt, text, number, "dir", "755 sys sys"),
+        Kind::File => push_nodes(rt, text, number, "file", "644 sys sys -"),
     }
 }
 
-fn world(alloc: Global, places: u32) -> Result<String, AllocError> {
-    let mut text = String::from_str(alloc, "server main\ndir / 755 sys sys\n")?;
+// The text of the world, with so many places.
+fn world(rt: &impl Abort, alloc: Global, places: u32) -> String {
+    let text = String::from_str(alloc, "server main\ndir / 755 sys sys\n");
+    let mut text = text.expect(rt, "memory");
     for member in 0..MEMBERS {
-        text.push_str(pair(alloc, member_number(member), kind_of(member))?.as_str())?;
+        push_pair(rt, alloc, &mut text, member_number(member), kind_of(member));
     }
     for place in 0..places {
-        text.push_str(pair(alloc, place_number(place), Kind::Listed)?.as_str())?;
+        push_pair(rt, alloc, &mut text, place_number(place), Kind::Listed);
     }
-    text.push_str("user glenda\nuser sys\n")?;
-    Ok(text)
+    text.push_str("user glenda\nuser sys\n")
+        .expect(rt, "memory");
+    text
 }
 
 // The binds after a place.
-fn push_binds(place: u32, binds: &mut Vec<Bind, Global>) -> Result<(), AllocError> {
+fn push_binds(rt: &impl Abort, place: u32, binds: &mut Vec<Bind, Global>) {
     for position in 0..BOUND {
-        binds.push(Bind {
+        let pushed = binds.push(Bind {
             key: u64::from(place_number(place)),
             node: u64::from(member_number(bound_member(place, position))),
             order: Order::After,
             create: false,
-        })?;
+        });
+        pushed.expect(rt, "memory");
     }
-    Ok(())
 }
 
-fn binds(alloc: Global, places: u32) -> Result<Vec<Bind, Global>, AllocError> {
+// The binds after all places.
+fn binds(rt: &impl Abort, alloc: Global, places: u32) -> Vec<Bind, Global> {
     let mut binds = Vec::new(alloc);
     for place in 0..places {
-        push_binds(place, &mut binds)?;
+        push_binds(rt, place, &mut binds);
     }
-    Ok(binds)
+    binds
 }
 
 // A session walks from fid 0 to a node of the root.
@@ -156,24 +170,23 @@ fn remove_all<T: Tree>(rt: &impl Abort, export: &mut Export<T>, reply: &mut [u8]
 }
 
 // The system attaches fid 0.
-const ATTACH_SYS: (&str, &str) = (
-    "16000000 68 0100 00000000 ffffffff 0300 737973 0000",
-    "14000000 69 0100 80 00000000 0000000000000000",
-);
+const ATTACH_SYS: &str = "\
+16000000 68 0100 00000000 ffffffff 0300 737973 0000 = 14000000 69 0100 80 00000000 \
+0000000000000000";
 
 // Begins glenda's session 1 and the system's session 2, which removes what is to be removed.
 fn begin_both<T: Tree>(rt: &impl Abort, alloc: Global, export: &mut Export<T>, reply: &mut [u8]) {
     begin(rt, alloc, export, 1, reply);
-    assert!(rt; export.open(2) == Ok(()));
-    let rows: [Exchange; 2] = [in_session(2, VERSION), in_session(2, ATTACH_SYS)];
-    exchange_all(rt, alloc, export, 0, &rows, reply);
+    assert!(rt; export.open(2).is_ok());
+    exchange(rt, alloc, export, 0, in_session(rt, 2, VERSION), reply);
+    exchange(rt, alloc, export, 0, in_session(rt, 2, ATTACH_SYS), reply);
     remove_all(rt, export, reply);
 }
 
 // Does the work with an exporter of so many places.
 fn on_places(rt: &impl Abort, alloc: Global, places: u32, work: Work) {
-    let text = world(alloc, places).expect(rt, "memory");
-    let binds = binds(alloc, places).expect(rt, "memory");
+    let text = world(rt, alloc, places);
+    let binds = binds(rt, alloc, places);
     on_both(rt, alloc, text.as_str(), binds.as_slice(), work);
 }
 
@@ -208,21 +221,7 @@ fn open_place<T: Tree>(rt: &impl Abort, export: &mut Export<T>, place: u32, repl
     }
 }
 
-fn listed<T: Tree>(
-    rt: &impl Abort,
-    alloc: Global,
-    export: &mut Export<T>,
-    reply: &mut [u8],
-) -> Vec<u8, Global> {
-    let mut listing = Vec::new(alloc);
-    for _ in 0..BOUND {
-        if !list_on(rt, export, 200, &mut listing, reply) {
-            break;
-        }
-    }
-    listing
-}
-
+// Opens a place, and lists it.
 fn lists_place<T: Tree>(
     rt: &impl Abort,
     alloc: Global,
@@ -231,7 +230,7 @@ fn lists_place<T: Tree>(
     reply: &mut [u8],
 ) {
     open_place(rt, export, place, reply);
-    let listing = listed(rt, alloc, export, reply);
+    let listing = listed(rt, alloc, export, 200, BOUND, reply);
     assert!(rt; listing.as_slice() == wanted(rt, alloc, place).as_slice());
 }
 

@@ -1,6 +1,6 @@
 //! Exporters of small worlds, and the beginnings of sessions.
 
-use crate::exchange::{Exchange, exchange};
+use crate::exchange::{exchange, in_session};
 use p9_base::NodeRef;
 use p9_export::Export;
 use p9_space::{MountTable, Order, is_table_given};
@@ -41,8 +41,13 @@ pub fn exporter<T: Tree>(
         forest,
         users,
         groups,
-        ..
+        hidden,
+        vars,
+        servers,
     } = world;
+    drop(hidden);
+    drop(vars);
+    drop(servers);
     Export::new(forest, users, groups, table)
 }
 
@@ -60,16 +65,13 @@ fn node(number: u64) -> NodeRef {
 }
 
 /// A client asks for an msize of 8,192.
-pub const VERSION: (&str, &str) = (
-    "13000000 64 ffff 00200000 0600 395032303030",
-    "13000000 65 ffff 00200000 0600 395032303030",
-);
+pub const VERSION: &str = "\
+13000000 64 ffff 00200000 0600 395032303030 = 13000000 65 ffff 00200000 0600 395032303030";
 
 /// Glenda attaches fid 0.
-pub const ATTACH: (&str, &str) = (
-    "19000000 68 0100 00000000 ffffffff 0600 676c656e6461 0000",
-    "14000000 69 0100 80 00000000 0000000000000000",
-);
+pub const ATTACH: &str = "\
+19000000 68 0100 00000000 ffffffff 0600 676c656e6461 0000 = 14000000 69 0100 80 00000000 \
+0000000000000000";
 
 /// A session with its version, and glenda's fid 0 at the root.
 pub fn begin<T: Tree>(
@@ -79,12 +81,20 @@ pub fn begin<T: Tree>(
     session: u32,
     reply: &mut [u8],
 ) {
-    assert!(rt; export.open(session) == Ok(()));
-    exchange(rt, alloc, export, 0, in_session(session, VERSION), reply);
-    exchange(rt, alloc, export, 0, in_session(session, ATTACH), reply);
+    assert!(rt; export.open(session).is_ok());
+    exchange(
+        rt,
+        alloc,
+        export,
+        0,
+        in_session(rt, session, VERSION),
+        reply,
+    );
+    exchange(rt, alloc, export, 0, in_session(rt, session, ATTACH), reply);
 }
 
-/// A request and its reply in a session.
-pub fn in_session(session: u32, row: (&'static str, &'static str)) -> Exchange {
-    (session, row.0, row.1)
+/// Closes a session, which is open.
+pub fn close<T: Tree>(rt: &impl Abort, export: &mut Export<T>, session: u32) {
+    assert!(rt; export.live(session));
+    export.close(session, 0);
 }

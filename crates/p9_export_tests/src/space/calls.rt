@@ -3,14 +3,15 @@
 use crate::space::printing::{channels_text, members, row, step, trail};
 use crate::space::words::{nodes, take_node, take_order, take_position, take_user, take_word};
 use crate::space::worlds::{Space, space_of};
-use p9_base::{Fault, Groups, NoMemory, User};
+use p9_base::{Groups, NoMemory, User};
 use p9_index::IndexTree;
 use p9_space::{
-    Channels, MountTable, ROOT_PLACE, TO_EXECUTE, TO_READ, TO_WRITE, Trail, Who, advance,
-    find_arrival, is_table_given, may, resolve, rules,
+    Channels, MountTable, TO_EXECUTE, TO_READ, TO_WRITE, Who, advance, find_arrival,
+    is_table_given, may, resolve, rules,
 };
 use p9_tree::{Forest, PlainTree, Tree};
-use std::alloc::{AllocError, Allocator, Global};
+use std::alloc::{Allocator, Global};
+use std::mem;
 use std::process::Abort;
 
 /// Over the world of a text, in a tree of each kind, makes the call of each line, and compares what
@@ -20,47 +21,61 @@ pub fn plays(rt: &impl Abort, alloc: Global, text: &str, lines: &str) {
     plays_over::<IndexTree<Global>>(rt, alloc, text, lines);
 }
 
+// Makes the calls in a tree of one kind.
 fn plays_over<T: Tree<Alloc = Global>>(rt: &impl Abort, alloc: Global, text: &str, lines: &str) {
-    let mut space = space_of::<T>(rt, alloc, text).expect(rt, "memory");
+    let mut space = space_of::<T>(rt, alloc, text);
     plays_on(rt, alloc, &mut space, lines);
+    drop(space);
 }
 
+// Makes the call of each line.
 fn plays_on<T: Tree>(rt: &impl Abort, alloc: Global, space: &mut Space<T>, lines: &str) {
     for line in lines.lines() {
         let (words, want) = line.split_once(" = ").unwrap_or((line, ""));
-        let told = told(rt, alloc, space, words).expect(rt, "memory");
-        assert!(rt; told.as_str() == want, "{words}");
+        is_told(rt, alloc, space, words, want);
     }
 }
 
-fn told<T: Tree>(
+// Makes the call of the words, and compares what it prints.
+fn is_told<T: Tree>(rt: &impl Abort, alloc: Global, space: &mut Space<T>, words: &str, want: &str) {
+    let mut told = String::new(alloc);
+    tell(rt, alloc, space, words, &mut told);
+    assert!(rt; told.as_str() == want, "{words}");
+}
+
+// Makes the call of the words, and writes what it returns.
+fn tell<T: Tree>(
     rt: &impl Abort,
     alloc: Global,
     space: &mut Space<T>,
     words: &str,
-) -> Result<String, NoMemory> {
+    told: &mut String,
+) {
     let mut rest = words;
     let word = take_word(&mut rest);
     match word {
-        "walk" => walk(rt, alloc, space, &mut rest),
-        "step" => find(alloc, space, &mut rest),
-        "up" => {
-            space.trail.step_up();
-            Ok(String::new(alloc))
-        }
-        "remove" => {
-            remove(rt, &mut space.forest, &mut rest);
-            Ok(String::new(alloc))
-        }
-        "keep" => {
-            space.kept = space.table.copy()?;
-            Ok(String::new(alloc))
-        }
-        "kept" => Ok(row(alloc, &space.kept, take_position(rt, &mut rest))?),
-        "given" => Ok(format!(in alloc; "{}", is_table_given(&space.forest, &space.table))?),
-        "may" => Ok(rights(rt, alloc, &space.forest, &space.groups, &mut rest)?),
-        _ => table_text(rt, alloc, &mut space.table, word, &mut rest),
+        "walk" => walk(rt, alloc, space, &mut rest, told),
+        "step" => find(rt, space, &mut rest, told),
+        "up" => space.trail.step_up(),
+        "remove" => remove(rt, &mut space.forest, &mut rest),
+        "keep" => keep(rt, space),
+        "kept" => row(rt, told, &space.kept, take_position(rt, &mut rest)),
+        "given" => tell_given(rt, space, told),
+        "may" => rights(rt, space, &mut rest, told),
+        _ => tell_table(rt, alloc, &mut space.table, word, &mut rest, told),
     }
+}
+
+// Keeps a copy of the table in the place of the one that was kept.
+fn keep<T: Tree>(rt: &impl Abort, space: &mut Space<T>) {
+    let copy = space.table.copy().expect(rt, "memory");
+    drop(mem::replace(&mut space.kept, copy));
+}
+
+// Writes whether the table names nodes that were made.
+fn tell_given<T: Tree>(rt: &impl Abort, space: &Space<T>, told: &mut String) {
+    let is_given = is_table_given(&space.forest, &space.table);
+    write!(told, "{is_given}").expect(rt, "memory");
 }
 
 // The user, with the groups.
@@ -72,7 +87,7 @@ fn who<'a, A: Allocator + Copy>(
 }
 
 // Looks where one step leads.
-fn find<T: Tree>(alloc: Global, space: &Space<T>, line: &mut &str) -> Result<String, NoMemory> {
+fn find<T: Tree>(rt: &impl Abort, space: &Space<T>, line: &mut &str, told: &mut String) {
     let user = take_user(line);
     let found = find_arrival(
         &space.forest,
@@ -81,7 +96,7 @@ fn find<T: Tree>(alloc: Global, space: &Space<T>, line: &mut &str) -> Result<Str
         line,
         who(&user, &space.groups),
     );
-    Ok(step(alloc, found.map(|arrival| arrival.step))?)
+    step(rt, told, found.map(|arrival| arrival.step));
 }
 
 // Walks on along names, by the trail and by channels, and goes there.
@@ -90,10 +105,11 @@ fn walk<T: Tree>(
     alloc: Global,
     space: &mut Space<T>,
     line: &mut &str,
-) -> Result<String, NoMemory> {
+    told: &mut String,
+) {
     let user = take_user(line);
-    let names: Vec<&str> = line.split(' ').collect(alloc)?;
-    walk_both(rt, alloc, space, names.as_slice(), &user)
+    let names: Vec<&str> = line.split(' ').collect(alloc).expect(rt, "memory");
+    walk_both(rt, alloc, space, names.as_slice(), &user, told);
 }
 
 // What the walk by channels prints is what the walk by the trail does.
@@ -103,20 +119,22 @@ fn walk_both<T: Tree>(
     space: &mut Space<T>,
     names: &[&str],
     user: &Option<User>,
-) -> Result<String, NoMemory> {
-    let by_channels = walk_by_channels(alloc, space, names, user)?;
-    let told = walk_by_trail(alloc, space, names, user)?;
+    told: &mut String,
+) {
+    let mut by_channels = String::new(alloc);
+    walk_by_channels(rt, space, names, user, &mut by_channels);
+    walk_by_trail(rt, space, names, user, told);
     assert!(rt; by_channels.as_str() == told.as_str());
-    Ok(told)
 }
 
 // Walks the names by the trail, and goes there.
 fn walk_by_trail<T: Tree>(
-    alloc: Global,
+    rt: &impl Abort,
     space: &mut Space<T>,
     names: &[&str],
     user: &Option<User>,
-) -> Result<String, NoMemory> {
+    told: &mut String,
+) {
     match resolve(
         &space.forest,
         &space.table,
@@ -125,21 +143,22 @@ fn walk_by_trail<T: Tree>(
         who(user, &space.groups),
     ) {
         Ok(found) => {
-            space.trail = found;
-            Ok(trail(alloc, &space.table, &space.trail)?)
+            drop(mem::replace(&mut space.trail, found));
+            trail(rt, told, &space.table, &space.trail);
         }
-        Err(fault) => Ok(format!(in alloc; "{fault}")?),
+        Err(fault) => write!(told, "{fault}").expect(rt, "memory"),
     }
 }
 
 // Walks the names by channels. The last place's file is printed by its row.
 fn walk_by_channels<T: Tree>(
-    alloc: Global,
+    rt: &impl Abort,
     space: &Space<T>,
     names: &[&str],
     user: &Option<User>,
-) -> Result<String, NoMemory> {
-    let mut channels = Channels::of(&space.table, &space.trail)?;
+    told: &mut String,
+) {
+    let mut channels = Channels::of(&space.table, &space.trail).expect(rt, "memory");
     match advance(
         &space.forest,
         &space.table,
@@ -147,9 +166,10 @@ fn walk_by_channels<T: Tree>(
         names,
         who(user, &space.groups),
     ) {
-        Ok(()) => Ok(channels_text(alloc, &space.table, &channels)?),
-        Err(fault) => Ok(format!(in alloc; "{fault}")?),
+        Ok(()) => channels_text(rt, told, &space.table, &channels),
+        Err(fault) => write!(told, "{fault}").expect(rt, "memory"),
     }
+    drop(channels);
 }
 
 // Takes a file out of its server.
@@ -161,45 +181,52 @@ fn remove<T: Tree>(rt: &impl Abort, forest: &mut Forest<T>, line: &mut &str) {
 }
 
 // Whether a user may read, write and execute a file, and whether the user rules it.
-fn rights<T: Tree>(
-    rt: &impl Abort,
-    alloc: Global,
-    forest: &Forest<T>,
-    groups: &Groups<T::Alloc>,
-    line: &mut &str,
-) -> Result<String, AllocError> {
+fn rights<T: Tree>(rt: &impl Abort, space: &Space<T>, line: &mut &str, told: &mut String) {
     let user = &take_user(line).expect(rt, "a user");
+    let groups = &space.groups;
     let who = Who { user, groups };
-    let file = forest.node(take_node(rt, line)).expect(rt, "a file");
+    let file = space.forest.node(take_node(rt, line)).expect(rt, "a file");
     let (read, write) = (may(who, file, TO_READ), may(who, file, TO_WRITE));
     let execute = may(who, file, TO_EXECUTE);
-    format!(in alloc; "{read} {write} {execute} {}", rules(who, file))
+    let written = write!(told, "{read} {write} {execute} {}", rules(who, file));
+    written.expect(rt, "memory");
 }
 
-/// Makes the call of a table, and writes what it returns.
-pub fn table_text<A: Allocator + Copy>(
+// Makes the call of a table, and writes what it returns.
+fn tell_table<A: Allocator + Copy>(
     rt: &impl Abort,
     alloc: Global,
     table: &mut MountTable<A>,
     word: &str,
     line: &mut &str,
-) -> Result<String, NoMemory> {
+    told: &mut String,
+) {
     match word {
-        "bind" => {
-            bind(rt, alloc, table, line)?;
-            Ok(String::new(alloc))
-        }
-        "unmount" => Ok(unmount(rt, alloc, table, line)?),
-        "clear" => {
-            table.clear();
-            Ok(String::new(alloc))
-        }
-        _ => Ok(look(rt, alloc, table, word, line)?),
+        "bind" => bind(rt, alloc, table, line).expect(rt, "memory"),
+        "unmount" => unmount(rt, table, line, told),
+        "clear" => table.clear(),
+        _ => look(rt, table, word, line, told),
     }
 }
 
-// Binds at a key, in an order, with or without creation, and nodes.
-fn bind<A: Allocator + Copy>(
+// Writes the count of rows, the key and members of one, or the members of a key.
+fn look<A: Allocator + Copy>(
+    rt: &impl Abort,
+    table: &MountTable<A>,
+    word: &str,
+    line: &mut &str,
+    told: &mut String,
+) {
+    match word {
+        "rows" => write!(told, "{} {}", table.len(), table.is_empty()).expect(rt, "memory"),
+        "key" => row(rt, told, table, take_position(rt, line)),
+        "members" => members(rt, told, &table.members(take_node(rt, line))),
+        _ => panic!(rt; "no call"),
+    }
+}
+
+/// Binds at a key, in an order, with or without creation, and nodes.
+pub fn bind<A: Allocator + Copy>(
     rt: &impl Abort,
     alloc: Global,
     table: &mut MountTable<A>,
@@ -208,7 +235,7 @@ fn bind<A: Allocator + Copy>(
     let key = take_node(rt, line);
     let order = take_order(line);
     let create = take_word(line) == "create";
-    let nodes = nodes(rt, alloc, line)?;
+    let nodes = nodes(rt, alloc, line);
     assert!(rt; nodes.len() > 0);
     table.bind(key, nodes.as_slice(), order, create)
 }
@@ -216,34 +243,17 @@ fn bind<A: Allocator + Copy>(
 // Unmounts a member, or all.
 fn unmount<A: Allocator + Copy>(
     rt: &impl Abort,
-    alloc: Global,
     table: &mut MountTable<A>,
     line: &mut &str,
-) -> Result<String, AllocError> {
+    told: &mut String,
+) {
     let key = take_node(rt, line);
     let member = if line.is_empty() {
         None
     } else {
         Some(take_node(rt, line))
     };
-    match table.unmount(key, member) {
-        Ok(()) => Ok(String::new(alloc)),
-        Err(error) => format!(in alloc; "{error}"),
-    }
-}
-
-// The count of rows, the key and members of one, or the members of a key.
-fn look<A: Allocator + Copy>(
-    rt: &impl Abort,
-    alloc: Global,
-    table: &MountTable<A>,
-    word: &str,
-    line: &mut &str,
-) -> Result<String, AllocError> {
-    match word {
-        "rows" => format!(in alloc; "{} {}", table.len(), table.is_empty()),
-        "key" => row(alloc, table, take_position(rt, line)),
-        "members" => members(alloc, &table.members(take_node(rt, line))),
-        _ => panic!(rt; "no call"),
+    if let Err(error) = table.unmount(key, member) {
+        write!(told, "{error}").expect(rt, "memory");
     }
 }

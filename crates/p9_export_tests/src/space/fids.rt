@@ -77,11 +77,17 @@ fn keeps_order(
     for fid in [7, 3, 9] {
         put(rt, fids, table, fid, alloc, 1);
     }
-    assert!(rt; fids.len() == 3);
-    assert!(rt; fids.first() == Some(3));
-    assert!(rt; fids.take(3).is_some());
-    assert!(rt; fids.first() == Some(7));
-    assert!(rt; fids.take(3).is_none() && fids.get(3).is_none());
+    assert!(rt; fids.len() == 3 && fids.first() == Some(3));
+    assert!(rt; is_taken(fids, 3) && fids.first() == Some(7));
+    assert!(rt; !is_taken(fids, 3) && fids.get(3).is_none());
+}
+
+// Takes a fid, and says whether it was there.
+fn is_taken(fids: &mut FidTable<Global>, fid: u32) -> bool {
+    let taken = fids.take(fid);
+    let is_taken = taken.is_some();
+    drop(taken);
+    is_taken
 }
 
 #[test]
@@ -89,6 +95,8 @@ fn fids_are_kept_by_rising_number(rt: HostRuntime) {
     let table = MountTable::new(rt.alloc());
     let mut fids = FidTable::new(rt.alloc());
     keeps_order(&rt, &mut fids, &table, rt.alloc());
+    drop(fids);
+    drop(table);
 }
 
 const REMOVED_ON_CLOSE: Opened = Opened {
@@ -117,12 +125,13 @@ fn move_and_open(
     }
 }
 
+// The fid has moved and is open.
 fn has_moved(rt: &impl Abort, fid: &Fid<Global>) {
     assert!(rt; fid.channels.trail().here() == node(2));
-    assert!(rt; fid.opened == Some(REMOVED_ON_CLOSE));
-    assert!(rt; fid.user.as_str() == "glenda");
+    assert!(rt; fid.opened == Some(REMOVED_ON_CLOSE) && fid.user.as_str() == "glenda");
 }
 
+// A fid joins, moves and is opened.
 fn moves_and_is_opened(
     rt: &impl Abort,
     fids: &mut FidTable<Global>,
@@ -132,7 +141,9 @@ fn moves_and_is_opened(
 ) {
     put(rt, fids, table, 5, alloc, 1);
     move_and_open(rt, fids, channels_at(rt, table, alloc, 2), at_once);
-    has_moved(rt, &fids.take(5).expect(rt, "the fid"));
+    let fid = fids.take(5).expect(rt, "the fid");
+    has_moved(rt, &fid);
+    drop(fid);
 }
 
 #[test]
@@ -141,7 +152,9 @@ fn a_fid_moves_and_is_opened(rt: HostRuntime) {
     for at_once in [false, true] {
         let mut fids = FidTable::new(rt.alloc());
         moves_and_is_opened(&rt, &mut fids, &table, rt.alloc(), at_once);
+        drop(fids);
     }
+    drop(table);
 }
 
 // The fid is refused for the reason, and none joins.
@@ -159,6 +172,7 @@ fn is_refused(
     assert!(rt; fids.len() == 1024);
 }
 
+// As many fids join as there may be, and each more is refused.
 fn refuses(
     rt: &impl Abort,
     fids: &mut FidTable<Global>,
@@ -178,6 +192,8 @@ fn a_fid_is_refused_for_the_first_reason(rt: HostRuntime) {
     let table = MountTable::new(rt.alloc());
     let mut fids = FidTable::new(rt.alloc());
     refuses(&rt, &mut fids, &table, rt.alloc());
+    drop(fids);
+    drop(table);
 }
 
 // Two fids are open: one on the file of a union, which is the first member, and one on that member.
@@ -194,8 +210,7 @@ fn counts_open(
     put(rt, fids, table, 3, alloc, 3);
     open(rt, fids, 1, TO_READ);
     open(rt, fids, 2, TO_READ);
-    assert!(rt; fids.open_count(table, node(1)) == 2);
-    assert!(rt; fids.open_count(table, node(3)) == 0);
+    assert!(rt; fids.open_count(table, node(1)) == 2 && fids.open_count(table, node(3)) == 0);
 }
 
 #[test]
@@ -205,10 +220,13 @@ fn open_fids_are_counted_by_their_files(rt: HostRuntime) {
     assert!(rt; bound.is_ok());
     let mut fids = FidTable::new(rt.alloc());
     counts_open(&rt, &mut fids, &table, rt.alloc());
+    drop(fids);
+    drop(table);
 }
 
+// A mode gives these rights.
 fn gives(rt: &impl Abort, mode: OpenMode, reads: bool, writes: bool) {
-    assert!(rt; (mode.reads(), mode.writes()) == (reads, writes));
+    assert!(rt; mode.reads() == reads && mode.writes() == writes);
 }
 
 #[test]

@@ -9,6 +9,7 @@ use p9_testing::Refusing;
 use std::alloc::{Allocator, Global};
 use std::process::Abort;
 
+// Channels at the root.
 fn channels_at<A: Allocator + Copy>(memory: A) -> Result<Channels<A>, NoMemory> {
     Channels::of(&MountTable::new(memory), &Trail::at(memory, node(1))?)
 }
@@ -33,6 +34,7 @@ fn put<A: Allocator + Copy>(rt: &impl Abort, memory: A, fids: &mut FidTable<A>, 
     }
 }
 
+// Adds 40 fids.
 fn put_all<A: Allocator + Copy>(rt: &impl Abort, memory: A, fids: &mut FidTable<A>) {
     for number in 0..40u32 {
         put(rt, memory, fids, number);
@@ -44,4 +46,5 @@ fn put_all<A: Allocator + Copy>(rt: &impl Abort, memory: A, fids: &mut FidTable<
 pub fn make_fids(rt: &impl Abort, memory: &Refusing<Global>) {
     let mut fids = FidTable::new(memory);
     put_all(rt, memory, &mut fids);
+    drop(fids);
 }

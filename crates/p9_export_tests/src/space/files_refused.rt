@@ -1,15 +1,15 @@
 //! A run of a namespace file in which an allocation fails does not change the table.
 
-use crate::space::printing::row;
+use crate::both::{Trial, refusals};
+use crate::space::printing::is_row;
 use crate::space::words::node;
-use crate::space::worlds::forest;
-use p9_base::{Fault, NoMemory};
-use p9_index::IndexTree;
+use p9_base::Fault;
 use p9_nsfile::{NsError, OpFault, run_file};
 use p9_space::{MountTable, Order};
 use p9_testing::{Refusing, refuse_each};
-use p9_tree::{Forest, PlainTree, Tree};
-use std::alloc::Global;
+use p9_tree::Tree;
+use p9_world::{World, read_world};
+use std::alloc::{Allocator, Global};
 use std::process::Abort;
 
 // Nodes 1 to 6: /a, /a/b and /a/f, and three files. One includes itself, one acts and has an
@@ -32,54 +32,57 @@ unmount /a/b";
 // What a file is run over, and the table, which has a row: /acts is bound at /a/f.
 #[derive(Drop)]
 struct Given<T: Tree> {
+    world: World<T>,
     vars: Vec<(String<T::Alloc>, String<T::Alloc>), T::Alloc>,
-    servers: Vec<String<T::Alloc>, T::Alloc>,
-    forest: Forest<T>,
     table: MountTable<T::Alloc>,
 }
 
-fn make_given<T: Tree>(rt: &impl Abort, alloc: T::Alloc) -> Result<Given<T>, NoMemory> {
-    let mut servers = Vec::new(alloc);
-    servers.push(String::from_str(alloc, "main")?)?;
-    let mut vars = Vec::new(alloc);
-    vars.push((String::from_str(alloc, "home")?, String::new(alloc)))?;
-    let forest = forest(rt, alloc, INCLUDES);
-    let mut table = MountTable::new(alloc);
-    table.bind(node(3), &[node(5)], Order::Replace, false)?;
-    Ok(Given {
-        vars,
-        servers,
-        forest,
-        table,
-    })
+// Makes what a file is run over.
+fn make_given<T: Tree>(rt: &impl Abort, alloc: T::Alloc) -> Given<T> {
+    Given {
+        world: read_world(alloc, INCLUDES).expect(rt, "a world"),
+        vars: vars(rt, alloc),
+        table: table(rt, alloc),
+    }
 }
 
-fn has_row<T: Tree>(
-    rt: &impl Abort,
-    printing: Global,
-    given: &Given<T>,
-    position: usize,
-    want: &str,
-) {
-    let made = row(printing, &given.table, position).expect(rt, "memory");
-    assert!(rt; made.as_str() == want);
+// One variable, which is empty.
+fn vars<A: Allocator + Copy>(rt: &impl Abort, alloc: A) -> Vec<(String<A>, String<A>), A> {
+    let mut vars = Vec::new(alloc);
+    let name = String::from_str(alloc, "home").expect(rt, "memory");
+    vars.push((name, String::new(alloc))).expect(rt, "memory");
+    vars
+}
+
+// The table with its row.
+fn table<A: Allocator + Copy>(rt: &impl Abort, alloc: A) -> MountTable<A> {
+    let mut table = MountTable::new(alloc);
+    let bound = table.bind(node(3), &[node(5)], Order::Replace, false);
+    bound.expect(rt, "memory");
+    table
 }
 
 // The table has the row that it had, and one more where there is another text.
-fn has_rows<T: Tree>(rt: &impl Abort, printing: Global, given: &Given<T>, made: &str) {
-    has_row(rt, printing, given, 0, "3 in 0 is 5");
-    has_row(rt, printing, given, 1, made);
-    has_row(rt, printing, given, 2, "none");
+fn has_rows<A: Allocator + Copy>(
+    rt: &impl Abort,
+    printing: Global,
+    table: &MountTable<A>,
+    made: &str,
+) {
+    is_row(rt, printing, table, 0, "3 in 0 is 5");
+    is_row(rt, printing, table, 1, made);
+    is_row(rt, printing, table, 2, "none");
 }
 
 // Runs the text.
 fn reports_of<T: Tree>(given: &mut Given<T>) -> Result<Vec<(u64, OpFault), T::Alloc>, NsError> {
+    let world = &given.world;
     run_file(
         *given.vars.allocator(),
         TEXT,
         &given.vars,
-        &given.servers,
-        &given.forest,
+        &world.servers,
+        &world.forest,
         &mut given.table,
     )
 }
@@ -96,28 +99,35 @@ fn run<T: Tree>(rt: &impl Abort, printing: Global, given: &mut Given<T>) {
     match reports_of(given) {
         Ok(reports) => {
             are_reported(rt, reports.as_slice());
-            has_rows(rt, printing, given, "1 in 0 is 1 0");
+            has_rows(rt, printing, &given.table, "1 in 0 is 1 0");
         }
         Err(error) => {
             assert!(rt; error == NsError::NoMemory);
-            has_rows(rt, printing, given, "none");
+            has_rows(rt, printing, &given.table, "none");
         }
     }
 }
 
-// With each request of memory refused in turn. Some growths go on with less when they are refused.
-fn run_refused<T: Tree>(rt: &impl Abort, alloc: Global, memory: &Refusing<Global>, lent: T::Alloc) {
-    let refusals = refuse_each(
+/// Runs the text over a tree of one kind with each request of memory refused in turn, and returns
+/// how many requests there are. Some growths go on with less when they are refused.
+pub fn run_over<T: Tree>(
+    rt: &impl Abort,
+    alloc: Global,
+    memory: &Refusing<Global>,
+    lent: T::Alloc,
+) -> u64 {
+    refuse_each(
         memory,
-        || make_given::<T>(rt, lent).expect(rt, "ample memory"),
-        |mut given| run(rt, alloc, &mut given),
-    );
-    assert!(rt; refusals > 20);
+        || make_given::<T>(rt, lent),
+        |mut given| {
+            run(rt, alloc, &mut given);
+            drop(given);
+        },
+    )
 }
 
 #[test]
 fn a_table_is_as_before_at_each_refusal(rt: HostRuntime) {
-    let memory = Refusing::new(rt.alloc());
-    run_refused::<PlainTree<&Refusing<Global>>>(&rt, rt.alloc(), &memory, &memory);
-    run_refused::<IndexTree<&Refusing<Global>>>(&rt, rt.alloc(), &memory, &memory);
+    let (plain, index) = refusals(&rt, rt.alloc(), Trial::File);
+    assert!(rt; plain > 20 && index > 20);
 }

@@ -4,74 +4,86 @@ ghost use Rattle.p9_space.specs.Channel.{Fits};
 
 use p9_base::Fault;
 use p9_space::{Channels, Members, MountTable, Step, Trail};
-use std::alloc::{AllocError, Allocator, Global};
+use std::alloc::{Allocator, Global};
+use std::process::Abort;
 
-/// The numbers of the files of a trail's places, each before a blank.
+/// Writes the numbers of the files of a trail's places, each before a blank.
 pub fn trail<A: Allocator + Copy>(
-    alloc: Global,
+    rt: &impl Abort,
+    told: &mut String,
     table: &MountTable<A>,
     trail: &Trail<A>,
-) -> Result<String, AllocError> {
-    let mut told = String::new(alloc);
+) {
     for position in 0..trail.len() {
         if let Some(place) = trail.get(position) {
-            write!(&mut told, "{} ", table.file(place).number)?;
+            write!(told, "{} ", table.file(place).number).expect(rt, "memory");
         }
     }
-    Ok(told)
 }
 
-/// The numbers of the files of the places of channels that fit the table, each before a blank. The
-/// last file is found by the row of its place.
+/// Writes the numbers of the files of the places of channels that fit the table, each before a
+/// blank. The last file is found by the row of its place.
 pub fn channels_text<A: Allocator + Copy>(
-    alloc: Global,
+    rt: &impl Abort,
+    told: &mut String,
     table: &MountTable<A>,
     channels: &Channels<A>,
-) -> Result<String, AllocError>
+)
     requires { Fits table.now channels.now }
 {
     let places = channels.trail();
     places.well_formed();
-    let mut told = String::new(alloc);
     for position in 0..places.len() - 1 {
         if let Some(place) = places.get(position) {
-            write!(&mut told, "{} ", table.file(place).number)?;
+            write!(told, "{} ", table.file(place).number).expect(rt, "memory");
         }
     }
-    write!(&mut told, "{} ", channels.file(table).number)?;
-    Ok(told)
+    write!(told, "{} ", channels.file(table).number).expect(rt, "memory");
 }
 
-/// A row's key and its members.
+/// Writes a row's key and its members.
 pub fn row<A: Allocator + Copy>(
+    rt: &impl Abort,
+    told: &mut String,
+    table: &MountTable<A>,
+    position: usize,
+) {
+    match table.row(position) {
+        Some((key, row)) => {
+            write!(told, "{} in {} is", key.number, key.server).expect(rt, "memory");
+            members(rt, told, &row);
+        }
+        None => told.push_str("none").expect(rt, "memory"),
+    }
+}
+
+/// Compares what is written of a row.
+pub fn is_row<A: Allocator + Copy>(
+    rt: &impl Abort,
     alloc: Global,
     table: &MountTable<A>,
     position: usize,
-) -> Result<String, AllocError> {
-    match table.row(position) {
-        Some((key, row)) => {
-            let members = members(alloc, &row)?;
-            format!(in alloc; "{} in {} is{members}", key.number, key.server)
-        }
-        None => String::from_str(alloc, "none"),
-    }
+    want: &str,
+) {
+    let mut told = String::new(alloc);
+    row(rt, &mut told, table, position);
+    assert!(rt; told.as_str() == want);
 }
 
-/// Members, each with a `+` where it permits creation.
-pub fn members(alloc: Global, row: &Members<'_>) -> Result<String, AllocError> {
-    let mut told = String::new(alloc);
+/// Writes members, each with a `+` where it permits creation.
+pub fn members(rt: &impl Abort, told: &mut String, row: &Members<'_>) {
     for member in row.as_slice() {
         let mark = if member.create { "+" } else { "" };
-        write!(&mut told, " {}{mark}", member.node.number)?;
+        write!(told, " {}{mark}", member.node.number).expect(rt, "memory");
     }
-    Ok(told)
 }
 
-/// A step, or the text of why there is none.
-pub fn step(alloc: Global, step: Result<Step, Fault>) -> Result<String, AllocError> {
-    match step {
-        Ok(Step::Up) => String::from_str(alloc, "up"),
-        Ok(Step::To(node)) => format!(in alloc; "to {} in {}", node.number, node.server),
-        Err(fault) => format!(in alloc; "{fault}"),
-    }
+/// Writes a step, or the text of why there is none.
+pub fn step(rt: &impl Abort, told: &mut String, step: Result<Step, Fault>) {
+    let written = match step {
+        Ok(Step::Up) => told.push_str("up"),
+        Ok(Step::To(node)) => write!(told, "to {} in {}", node.number, node.server),
+        Err(fault) => write!(told, "{fault}"),
+    };
+    written.expect(rt, "memory");
 }

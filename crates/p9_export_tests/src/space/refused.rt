@@ -1,15 +1,15 @@
 //! Calls in which an allocation fails change nothing, and succeed when made again.
 
-use crate::space::calls::table_text;
+use crate::both::{Trial, refusals};
+use crate::space::calls::bind;
 use crate::space::fids_refused::make_fids;
-use crate::space::printing::{row, trail};
+use crate::space::printing::{is_row, trail};
 use crate::space::words::node;
 use crate::space::worlds::{SMALL, Space, space_of};
-use p9_base::{Fault, NoMemory};
-use p9_index::IndexTree;
+use p9_base::Fault;
 use p9_space::{Channels, MountTable, PLACES_MAX, Trail, Who, advance, resolve};
 use p9_testing::{Refusing, refuse_each};
-use p9_tree::{PlainTree, Tree};
+use p9_tree::Tree;
 use std::alloc::Global;
 use std::process::Abort;
 
@@ -27,6 +27,7 @@ fn make_refused(rt: &impl Abort, alloc: Global, making: Making) -> u64 {
     refuse_each(&memory, || (), |()| make(rt, alloc, &memory, making))
 }
 
+// Makes it once.
 fn make(rt: &impl Abort, alloc: Global, memory: &Refusing<Global>, making: Making) {
     match making {
         Making::Table => make_table(rt, alloc, memory),
@@ -35,60 +36,54 @@ fn make(rt: &impl Abort, alloc: Global, memory: &Refusing<Global>, making: Makin
     }
 }
 
-// What a bind with 1 and 2 returns.
-fn bind(
-    rt: &impl Abort,
-    alloc: Global,
-    table: &mut MountTable<&Refusing<Global>>,
-    key: &str,
-) -> Result<String, NoMemory> {
-    let line = format!(in alloc; "{key} after create 1 2")?;
-    let mut rest = line.as_str();
-    table_text(rt, alloc, table, "bind", &mut rest)
-}
-
-// Binds, again where it was refused: the table has as many rows as before then.
+// Binds by a line, again where it was refused: the table has as many rows as before then. The row
+// is printed like this.
 fn bind_again(
     rt: &impl Abort,
     alloc: Global,
     table: &mut MountTable<&Refusing<Global>>,
-    key: &str,
+    line: &str,
+    want: &str,
 ) {
     let count = table.len();
-    if bind(rt, alloc, table, key).is_err() {
+    let mut rest = line;
+    if bind(rt, alloc, table, &mut rest).is_err() {
         assert!(rt; table.len() == count);
-        assert!(rt; bind(rt, alloc, table, key).is_ok());
+        rest = line;
+        assert!(rt; bind(rt, alloc, table, &mut rest).is_ok());
     }
-    has_row(rt, alloc, table, count, key);
+    is_row(rt, alloc, table, count, want);
 }
 
-// The row is the bind's.
-fn has_row(
-    rt: &impl Abort,
-    alloc: Global,
-    table: &MountTable<&Refusing<Global>>,
-    position: usize,
-    key: &str,
-) {
-    let want = format!(in alloc; "{key} in 0 is {key} 1+ 2").expect(rt, "memory");
-    let made = row(alloc, table, position).expect(rt, "memory");
-    assert!(rt; made.as_str() == want.as_str());
-}
+// What is bound, and the row that this makes.
+const BINDS: &str = "\
+5 after create 1 2 = 5 in 0 is 5 1+ 2
+6 after create 1 2 = 6 in 0 is 6 1+ 2
+7 after create 1 2 = 7 in 0 is 7 1+ 2";
 
-// Binds at three keys, and copies the table.
+// Binds at three keys.
 fn bind_all(rt: &impl Abort, alloc: Global, table: &mut MountTable<&Refusing<Global>>) {
-    for key in "5 6 7".split(' ') {
-        bind_again(rt, alloc, table, key);
-    }
-    if table.copy().is_err() {
-        assert!(rt; table.copy().is_ok());
+    for row in BINDS.lines() {
+        let (line, want) = row.split_once(" = ").expect(rt, "a row");
+        bind_again(rt, alloc, table, line, want);
     }
     assert!(rt; table.len() == 3);
 }
 
+// Copies the table, again where it was refused.
+fn copy_table(rt: &impl Abort, table: &MountTable<&Refusing<Global>>) {
+    match table.copy() {
+        Ok(copy) => drop(copy),
+        Err(_) => drop(table.copy().expect(rt, "a copy")),
+    }
+}
+
+// Makes a table, and copies it.
 fn make_table(rt: &impl Abort, alloc: Global, memory: &Refusing<Global>) {
     let mut table = MountTable::new(memory);
     bind_all(rt, alloc, &mut table);
+    copy_table(rt, &table);
+    drop(table);
 }
 
 #[test]
@@ -106,28 +101,35 @@ fn begin<'a>(rt: &impl Abort, memory: &'a Refusing<Global>) -> Trail<&'a Refusin
 
 // Goes to a place, again where it was refused: the trail leads to the place before then.
 fn push(rt: &impl Abort, trail: &mut Trail<&Refusing<Global>>, number: u64) {
-    assert!(rt; (trail.len() as u64) == number);
-    assert!(rt; trail.len() < PLACES_MAX);
+    assert!(rt; (trail.len() as u64) == number && trail.len() < PLACES_MAX);
     if trail.push(node(number)).is_err() {
         assert!(rt; trail.here() == node(number.saturating_sub(1)));
         assert!(rt; trail.push(node(number)).is_ok());
     }
 }
 
-// Goes to 39 places, and copies the trail.
+// Goes to 39 places.
 fn push_all(rt: &impl Abort, trail: &mut Trail<&Refusing<Global>>) {
     for number in 1..40 {
         push(rt, trail, number);
     }
-    if trail.copy().is_err() {
-        assert!(rt; trail.copy().is_ok());
-    }
     assert!(rt; trail.here() == node(39));
 }
 
+// Copies the trail, again where it was refused.
+fn copy_trail(rt: &impl Abort, trail: &Trail<&Refusing<Global>>) {
+    match trail.copy() {
+        Ok(copy) => drop(copy),
+        Err(_) => drop(trail.copy().expect(rt, "a copy")),
+    }
+}
+
+// Makes a trail, and copies it.
 fn make_trail(rt: &impl Abort, memory: &Refusing<Global>) {
     let mut trail = begin(rt, memory);
     push_all(rt, &mut trail);
+    copy_trail(rt, &trail);
+    drop(trail);
 }
 
 #[test]
@@ -140,9 +142,9 @@ fn the_fids_are_as_before_at_each_refusal(rt: HostRuntime) {
     assert!(rt; make_refused(&rt, rt.alloc(), Making::Fids) > 40);
 }
 
-// By what the names `a` and `b` are walked.
+/// By what the names `a` and `b` are walked.
 #[derive(Clone, Copy)]
-enum Way {
+pub enum Way {
     Trail,
     Channels,
 }
@@ -178,56 +180,57 @@ fn walk_by_channels<T: Tree>(space: &Space<T>) -> Result<Channels<T::Alloc>, Fau
     Ok(channels.copy()?)
 }
 
-// Walks, and prints the places.
-fn told_of<T: Tree>(
+// Walks, and writes the places. Where the walk is refused, nothing is written.
+fn tell_walk<T: Tree>(
     rt: &impl Abort,
-    alloc: Global,
     space: &Space<T>,
     way: Way,
-) -> Result<String, Fault> {
-    let told = match way {
-        Way::Trail => trail(alloc, &space.table, &walk(space)?),
-        Way::Channels => trail(alloc, &space.table, walk_by_channels(space)?.trail()),
-    };
-    Ok(told.expect(rt, "memory"))
+    told: &mut String,
+) -> Result<(), Fault> {
+    match way {
+        Way::Trail => trail(rt, told, &space.table, &walk(space)?),
+        Way::Channels => trail(rt, told, &space.table, walk_by_channels(space)?.trail()),
+    }
+    Ok(())
 }
 
 // Walks, again where it was refused.
 fn walk_again<T: Tree>(rt: &impl Abort, alloc: Global, space: &Space<T>, way: Way) {
-    let told = match told_of(rt, alloc, space, way) {
-        Ok(told) => told,
-        Err(fault) => {
-            assert!(rt; fault == Fault::OutOfMemory);
-            told_of(rt, alloc, space, way).expect(rt, "a walk")
-        }
-    };
+    let mut told = String::new(alloc);
+    if let Err(fault) = tell_walk(rt, space, way, &mut told) {
+        assert!(rt; fault == Fault::OutOfMemory);
+        tell_walk(rt, space, way, &mut told).expect(rt, "a walk");
+    }
     assert!(rt; told.as_str() == "0 1 2 ");
 }
 
-// Walks with each request of memory refused in turn.
-fn walk_refused<T: Tree>(
+/// Walks over a tree of one kind with each request of memory refused in turn, and returns how many
+/// requests there are.
+pub fn walk_over<T: Tree>(
     rt: &impl Abort,
     alloc: Global,
     memory: &Refusing<Global>,
     lent: T::Alloc,
     way: Way,
-) {
-    let refusals = refuse_each(
+) -> u64 {
+    refuse_each(
         memory,
-        || space_of::<T>(rt, lent, SMALL).expect(rt, "ample memory"),
-        |space| walk_again(rt, alloc, &space, way),
-    );
-    assert!(rt; refusals > 0);
+        || space_of::<T>(rt, lent, SMALL),
+        |space| {
+            walk_again(rt, alloc, &space, way);
+            drop(space);
+        },
+    )
 }
 
-fn walk_refused_on_both(rt: &impl Abort, alloc: Global, way: Way) {
-    let memory = Refusing::new(alloc);
-    walk_refused::<PlainTree<&Refusing<Global>>>(rt, alloc, &memory, &memory, way);
-    walk_refused::<IndexTree<&Refusing<Global>>>(rt, alloc, &memory, &memory, way);
+// Walks over both kinds of tree.
+fn is_walked(rt: &impl Abort, alloc: Global, way: Way) {
+    let (plain, index) = refusals(rt, alloc, Trial::Walk(way));
+    assert!(rt; plain > 0 && index > 0);
 }
 
 #[test]
 fn a_walk_is_done_again_at_each_refusal(rt: HostRuntime) {
-    walk_refused_on_both(&rt, rt.alloc(), Way::Trail);
-    walk_refused_on_both(&rt, rt.alloc(), Way::Channels);
+    is_walked(&rt, rt.alloc(), Way::Trail);
+    is_walked(&rt, rt.alloc(), Way::Channels);
 }

@@ -25,6 +25,7 @@ const FAULTS: [(OpFault, &str); 10] = [
     (OpFault::TooDeep, "nested too deep"),
 ];
 
+// A bad form has its text alone, and with its line.
 fn form_has_texts(rt: &impl Abort, alloc: Global, kind: BadForm, text: &str) {
     assert!(rt; kind.text() == text);
     let error = NsError::BadLine { line: 7, kind };
@@ -35,11 +36,12 @@ fn form_has_texts(rt: &impl Abort, alloc: Global, kind: BadForm, text: &str) {
 
 #[test]
 fn bad_forms_have_texts(rt: HostRuntime) {
-    for (kind, text) in FORMS {
-        form_has_texts(&rt, rt.alloc(), kind, text);
+    for (kind, text) in &FORMS {
+        form_has_texts(&rt, rt.alloc(), *kind, text);
     }
 }
 
+// A fault has its text.
 fn fault_has_text(rt: &impl Abort, alloc: Global, fault: OpFault, text: &str) {
     assert!(rt; fault.text() == text);
     let shown = format!(in alloc; "{fault}").expect(rt, "memory");
@@ -48,8 +50,8 @@ fn fault_has_text(rt: &impl Abort, alloc: Global, fault: OpFault, text: &str) {
 
 #[test]
 fn faults_have_texts(rt: HostRuntime) {
-    for (fault, text) in FAULTS {
-        fault_has_text(&rt, rt.alloc(), fault, text);
+    for (fault, text) in &FAULTS {
+        fault_has_text(&rt, rt.alloc(), *fault, text);
     }
 }
 

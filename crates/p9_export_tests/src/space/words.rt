@@ -2,7 +2,7 @@
 
 use p9_base::{NodeRef, User};
 use p9_space::Order;
-use std::alloc::{AllocError, Global};
+use std::alloc::Global;
 use std::process::Abort;
 
 /// The node of this number at the one server.
@@ -48,12 +48,12 @@ pub fn take_order(line: &mut &str) -> Order {
 }
 
 /// The nodes whose numbers a line has.
-pub fn nodes(rt: &impl Abort, alloc: Global, line: &str) -> Result<Vec<NodeRef>, AllocError> {
+pub fn nodes(rt: &impl Abort, alloc: Global, line: &str) -> Vec<NodeRef> {
     let mut nodes = Vec::new(alloc);
     for word in line.split(' ') {
-        nodes.push(node(number(rt, word)))?;
+        nodes.push(node(number(rt, word))).expect(rt, "memory");
     }
-    Ok(nodes)
+    nodes
 }
 
 fn number(rt: &impl Abort, word: &str) -> u64 {

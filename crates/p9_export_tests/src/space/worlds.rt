@@ -1,6 +1,6 @@
 //! The sample worlds, each of one server, as texts.
 
-use p9_base::{Groups, NoMemory};
+use p9_base::Groups;
 use p9_space::{MountTable, ROOT_PLACE, Trail};
 use p9_tree::{Forest, Tree};
 use p9_world::{World, read_world};
@@ -53,26 +53,25 @@ pub struct Space<T: Tree> {
     pub trail: Trail<T::Alloc>,
 }
 
-/// The forest of a text.
-pub fn forest<T: Tree>(rt: &impl Abort, alloc: T::Alloc, text: &str) -> Forest<T> {
-    let world = read_world(alloc, text).expect(rt, "a world");
-    let World { forest, .. } = world;
-    forest
-}
-
-/// The forest of a text, empty tables, and a walk at the root.
-pub fn space_of<T: Tree>(
-    rt: &impl Abort,
-    alloc: T::Alloc,
-    text: &str,
-) -> Result<Space<T>, NoMemory> {
-    let world = read_world(alloc, text).expect(rt, "a world");
-    let World { forest, groups, .. } = world;
-    Ok(Space {
+/// The forest of a text, its groups, empty tables, and a walk at the root.
+pub fn space_of<T: Tree>(rt: &impl Abort, alloc: T::Alloc, text: &str) -> Space<T> {
+    let World {
+        forest,
+        users,
+        groups,
+        hidden,
+        vars,
+        servers,
+    } = read_world(alloc, text).expect(rt, "a world");
+    drop(users);
+    drop(hidden);
+    drop(vars);
+    drop(servers);
+    Space {
         forest,
         groups,
         table: MountTable::new(alloc),
         kept: MountTable::new(alloc),
-        trail: Trail::at(alloc, ROOT_PLACE)?,
-    })
+        trail: Trail::at(alloc, ROOT_PLACE).expect(rt, "a trail"),
+    }
 }
