@@ -1,15 +1,16 @@
 //! A world without a server.
 
+use crate::both::{Work, on_both};
 use crate::printing::{found, is_told};
 use p9_base::Groups;
-use p9_index::IndexTree;
 use p9_judge::{Verdict, judge};
 use p9_space::MountTable;
-use p9_tree::{Forest, PlainTree, Tree};
+use p9_tree::{Forest, Tree};
 use p9_world::World;
 use std::alloc::{Allocator, Global};
 use std::process::Abort;
 
+// The world without a server.
 fn no_server<T: Tree>(alloc: T::Alloc) -> World<T> {
     World {
         forest: Forest {
@@ -29,6 +30,7 @@ ok = |
 gap row_1 absent = | dir 0 0
 gap table 0 0 = 0 0 0 0 |";
 
+// Of each row this is found.
 fn are_found<T: Tree>(rt: &impl Abort, alloc: Global, world: &World<T>) {
     for row in GAPS.lines() {
         let (want, rows) = row.split_once(" = ").expect(rt, "a row");
@@ -37,16 +39,19 @@ fn are_found<T: Tree>(rt: &impl Abort, alloc: Global, world: &World<T>) {
     }
 }
 
-fn is_closed<T: Tree>(rt: &impl Abort, alloc: Global, lent: T::Alloc) {
-    are_found(rt, alloc, &no_server::<T>(lent));
+/// Rows over the world without a server are closed or have a gap.
+pub fn is_closed<T: Tree>(rt: &impl Abort, alloc: Global, lent: T::Alloc) {
+    let world = no_server::<T>(lent);
+    are_found(rt, alloc, &world);
+    drop(world);
 }
 
 #[test]
 fn no_row_and_no_server_is_closed(rt: HostRuntime) {
-    is_closed::<PlainTree<Global>>(&rt, rt.alloc(), rt.alloc());
-    is_closed::<IndexTree<Global>>(&rt, rt.alloc(), rt.alloc());
+    on_both(&rt, rt.alloc(), Work::NoServer);
 }
 
+// The verdict is a certificate without rows.
 fn has_no_row<A: Allocator>(rt: &impl Abort, verdict: &Verdict<A>) {
     match verdict {
         Verdict::Yes(certificate) => assert!(rt; certificate.rows().len() == 0),
@@ -54,13 +59,18 @@ fn has_no_row<A: Allocator>(rt: &impl Abort, verdict: &Verdict<A>) {
     }
 }
 
-fn needs_no_row<T: Tree>(rt: &impl Abort, alloc: T::Alloc) {
-    let verdict = judge(alloc, &no_server::<T>(alloc), &MountTable::new(alloc));
-    has_no_row(rt, &verdict.expect(rt, "a verdict"));
+/// The verdict on the world without a server needs no row.
+pub fn needs_no_row<T: Tree>(rt: &impl Abort, alloc: Global, lent: T::Alloc) {
+    let world = no_server::<T>(lent);
+    let table = MountTable::new(alloc);
+    let verdict = judge(alloc, &world, &table).expect(rt, "a verdict");
+    has_no_row(rt, &verdict);
+    drop(verdict);
+    drop(table);
+    drop(world);
 }
 
 #[test]
 fn no_row_is_needed_where_there_is_no_server(rt: HostRuntime) {
-    needs_no_row::<PlainTree<Global>>(&rt, rt.alloc());
-    needs_no_row::<IndexTree<Global>>(&rt, rt.alloc());
+    on_both(&rt, rt.alloc(), Work::NoRow);
 }

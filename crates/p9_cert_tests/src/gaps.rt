@@ -1,6 +1,6 @@
 //! The first gap of a certificate, if it has one.
 
-use crate::printing::{is_told, told};
+use crate::both::{Work, on_both};
 use std::alloc::Global;
 use std::process::Abort;
 
@@ -109,10 +109,10 @@ fn places_are_tested_by_their_members(rt: HostRuntime) {
     are_reported(&rt, rt.alloc(), PLACES);
 }
 
+// Of each row this gap is found.
 fn are_reported(rt: &impl Abort, alloc: Global, rows: &str) {
     for row in rows.lines() {
         let (want, row) = row.split_once(" = ").expect(rt, "a row");
-        let told = told(rt, alloc, row);
-        is_told(rt, alloc, told.as_str(), want);
+        on_both(rt, alloc, Work::Gap { row, want });
     }
 }

@@ -6,3 +6,6 @@ mod many;
 mod printing;
 mod refused;
 mod verdicts;
+
+pub use printing::is_judged;
+pub use refused::is_refused;

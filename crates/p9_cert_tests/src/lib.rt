@@ -6,6 +6,8 @@
 #![tactic(auto)]
 
 #[cfg(test)]
+mod both;
+#[cfg(test)]
 mod empty;
 #[cfg(test)]
 mod gaps;

@@ -2,31 +2,26 @@
 
 use crate::tables::table_of;
 use p9_cert::{Certificate, Gap, read_cert, verify};
-use p9_index::IndexTree;
-use p9_tree::{PlainTree, Tree};
+use p9_tree::Tree;
 use p9_world::{World, read_world};
 use std::alloc::{AllocError, Allocator, Global};
 use std::process::Abort;
 
-/// Tells what `verify` returns of a row: the lines of a world, as `world_of` takes them, and the
+/// Compares what `verify` returns of a row: the lines of a world, as `world_of` takes them, and the
 /// rows of a mount table and the lines of a certificate, as `found` takes them. Bars are between
-/// the three. Over a tree of each kind the same is printed.
-pub fn told(rt: &impl Abort, alloc: Global, row: &str) -> String {
-    let plain = told_over::<PlainTree<Global>>(rt, alloc, alloc, row);
-    let index = told_over::<IndexTree<Global>>(rt, alloc, alloc, row);
-    assert!(rt; plain.as_str() == index.as_str());
-    plain
+/// the three.
+pub fn is_found<T: Tree>(rt: &impl Abort, alloc: Global, lent: T::Alloc, row: &str, want: &str) {
+    let (world, rows) = row.split_once('|').expect(rt, "a table");
+    let world = world_of::<T>(rt, lent, world);
+    let told = found(rt, alloc, &world, rows);
+    drop(world);
+    is_told(rt, alloc, told.as_str(), want);
 }
 
 /// The words that were told are those that are wanted, which have underscores for some blanks.
 pub fn is_told(rt: &impl Abort, alloc: Global, told: &str, want: &str) {
     let want = want.replace(alloc, '_', " ").expect(rt, "memory");
     assert!(rt; told == want.as_str(), "{told}");
-}
-
-fn told_over<T: Tree>(rt: &impl Abort, alloc: Global, lent: T::Alloc, row: &str) -> String {
-    let (world, rows) = row.split_once('|').expect(rt, "a table");
-    found(rt, alloc, &world_of::<T>(rt, lent, world), rows)
 }
 
 /// The world whose server is `main` and whose first user is `glenda`, with these lines after them,
@@ -55,9 +50,12 @@ pub fn found<T: Tree>(rt: &impl Abort, alloc: Global, world: &World<T>, rows: &s
     let table = table_of(rt, alloc, table);
     let certificate = certificate_of(rt, alloc, rows);
     let gap = verify(world, &table, &certificate).err();
+    drop(certificate);
+    drop(table);
     text_of(alloc, gap).expect(rt, "a text")
 }
 
+// The text of a gap, or that there is none.
 fn text_of(alloc: Global, gap: Option<Gap>) -> Result<String, AllocError> {
     match gap {
         None => String::from_str(alloc, "ok"),
@@ -65,6 +63,7 @@ fn text_of(alloc: Global, gap: Option<Gap>) -> Result<String, AllocError> {
     }
 }
 
+// The certificate of these lines after `cert 1`.
 fn certificate_of(rt: &impl Abort, alloc: Global, rows: &str) -> Certificate<Global> {
     let text = lines_of(alloc, "cert 1\n", rows).expect(rt, "a text");
     read_cert(alloc, text.as_str()).expect(rt, "a certificate")

@@ -4,7 +4,6 @@ use p9_base::NoMemory;
 use p9_cert::{Certificate, ReadError, read_cert, write_cert};
 use std::alloc::Global;
 use std::process::Abort;
-use std::test::Fail;
 
 // What is returned for a text whose lines end at semicolons: the lines that are written of it, or why it
 // is no certificate.
@@ -45,6 +44,7 @@ fn told_of_lines(alloc: Global, lines: &str) -> Result<String, NoMemory> {
     told(alloc, text.as_str())
 }
 
+// What is returned for a text.
 fn told(alloc: Global, text: &str) -> Result<String, NoMemory> {
     match read_cert(alloc, text) {
         Ok(certificate) => written(alloc, &certificate),
@@ -59,6 +59,7 @@ fn written(alloc: Global, certificate: &Certificate<Global>) -> Result<String, N
     Ok(text.as_str().replace(alloc, '\n', ";")?)
 }
 
+// This is returned for each row.
 fn are_reported(rt: &impl Abort, alloc: Global, rows: &str) {
     for row in rows.lines() {
         let (want, text) = row.split_once(" =").expect(rt, "a row");
@@ -73,11 +74,10 @@ fn texts_are_read_and_written(rt: HostRuntime) {
 }
 
 #[test]
-fn errors_have_texts(rt: HostRuntime) -> Result<(), Fail> {
+fn errors_have_texts(rt: HostRuntime) {
     let bad = ReadError::BadCert { line: 7 };
-    let shown = format!(in rt.alloc(); "{bad}, {}", ReadError::NoMemory)?;
+    let shown = format!(in rt.alloc(); "{bad}, {}", ReadError::NoMemory).expect(&rt, "memory");
     assert!(rt; shown.as_str() == "line 7 is bad, out of memory");
-    Ok(())
 }
 
 const THREE_ROWS: &str = "\

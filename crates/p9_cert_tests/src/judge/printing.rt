@@ -4,10 +4,9 @@ use crate::printing::world_of;
 use crate::tables::{nodes_of, table_of};
 use p9_base::{NoMemory, NodeRef};
 use p9_cert::{verify, write_cert};
-use p9_index::IndexTree;
 use p9_judge::{Verdict, judge};
 use p9_space::MountTable;
-use p9_tree::{PlainTree, Tree};
+use p9_tree::Tree;
 use p9_world::World;
 use std::alloc::Global;
 use std::process::Abort;
@@ -31,6 +30,7 @@ pub fn space_of<T: Tree>(rt: &impl Abort, alloc: T::Alloc, row: &str) -> Space<T
     Space { world, table }
 }
 
+// The world of these lines, without these nodes.
 fn world_without<T: Tree>(
     rt: &impl Abort,
     alloc: T::Alloc,
@@ -42,24 +42,21 @@ fn world_without<T: Tree>(
     world
 }
 
-/// Tells what `judge` returns of a row: `yes` and the certificate, or `no` and the breach, with
-/// semicolons between lines. A certificate has to be one that `verify` accepts. Over a tree of
-/// each kind the same is told.
-pub fn told(rt: &impl Abort, alloc: Global, row: &str) -> String {
-    let plain = told_over::<PlainTree<Global>>(rt, alloc, alloc, row);
-    let index = told_over::<IndexTree<Global>>(rt, alloc, alloc, row);
-    assert!(rt; plain.as_str() == index.as_str());
-    plain
+/// Compares what `judge` returns of a row: `yes` and the certificate, or `no` and the breach, with
+/// semicolons between lines. A certificate has to be one that `verify` accepts.
+pub fn is_judged<T: Tree>(rt: &impl Abort, alloc: Global, lent: T::Alloc, row: &str, want: &str) {
+    let space = space_of::<T>(rt, lent, row);
+    let told = told_of(rt, alloc, &space);
+    drop(space);
+    assert!(rt; told.as_str() == want, "{row}");
 }
 
-fn told_over<T: Tree>(rt: &impl Abort, alloc: Global, lent: T::Alloc, row: &str) -> String {
-    told_of(rt, alloc, &space_of::<T>(rt, lent, row))
-}
-
+// Tells what `judge` returns.
 fn told_of<T: Tree>(rt: &impl Abort, alloc: Global, space: &Space<T>) -> String {
     let verdict = judge(alloc, &space.world, &space.table).expect(rt, "a verdict");
     is_right(rt, space, &verdict);
     let text = verdict_text(alloc, &verdict).expect(rt, "a text");
+    drop(verdict);
     text.as_str().replace(alloc, '\n', ";").expect(rt, "a text")
 }
 
@@ -70,6 +67,7 @@ fn is_right<T: Tree>(rt: &impl Abort, space: &Space<T>, verdict: &Verdict<Global
     }
 }
 
+// The text of a verdict.
 fn verdict_text(alloc: Global, verdict: &Verdict<Global>) -> Result<String, NoMemory> {
     match verdict {
         Verdict::Yes(certificate) => {
@@ -80,6 +78,7 @@ fn verdict_text(alloc: Global, verdict: &Verdict<Global>) -> Result<String, NoMe
     }
 }
 
+// Takes the nodes out of their servers.
 fn remove_all<T: Tree>(rt: &impl Abort, world: &mut World<T>, nodes: &[NodeRef]) {
     for at in nodes {
         remove(rt, world, *at);

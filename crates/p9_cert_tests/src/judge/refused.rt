@@ -1,11 +1,11 @@
 //! Each allocation of a judgement fails in turn.
 
 use super::printing::{Space, space_of};
+use crate::both::{Work, on_both};
 use p9_base::NoMemory;
-use p9_index::IndexTree;
 use p9_judge::{Verdict, judge};
 use p9_testing::{Refusing, refuse_each};
-use p9_tree::{PlainTree, Tree};
+use p9_tree::Tree;
 use std::alloc::{AllocError, Allocator, Global};
 use std::process::Abort;
 
@@ -26,6 +26,7 @@ const GUARDED: &str = "\
 dir /a 755 sys sys;dir /a/b 755 sys sys;dir /a/c 755 sys sys;dir /a/d 755 sys sys;\
 dir /a/b/e 755 sys sys;dir /a/b/e/v 000 sys sys;hide main /a/b/e/v | 0 4 0 4 0 3 |";
 
+// Judges, again where an allocation failed.
 fn judge_again<'a, T: Tree>(
     rt: &impl Abort,
     memory: &'a Refusing<Global>,
@@ -48,6 +49,7 @@ fn verdict_text<A: Allocator>(alloc: Global, verdict: &Verdict<A>) -> Result<Str
     }
 }
 
+// Judges so, and compares what is found.
 fn is_judged<T: Tree>(
     rt: &impl Abort,
     memory: &Refusing<Global>,
@@ -57,33 +59,36 @@ fn is_judged<T: Tree>(
 ) {
     let verdict = judge_again(rt, memory, space);
     let text = verdict_text(alloc, &verdict).expect(rt, "a text");
+    drop(verdict);
     assert!(rt; text.as_str() == want);
 }
 
-// The space of a row is judged with each request of memory refused in turn.
-fn judge_refused<T: Tree>(rt: &impl Abort, alloc: Global, lent: T::Alloc, row: &str, want: &str) {
+// Judges with each request of memory refused in turn.
+fn judge_refused<T: Tree>(rt: &impl Abort, alloc: Global, space: &Space<T>, want: &str) {
     let memory = Refusing::new(alloc);
-    let space = space_of::<T>(rt, lent, row);
     let refusals = refuse_each(
         &memory,
         || (),
-        |()| is_judged(rt, &memory, &space, alloc, want),
+        |()| is_judged(rt, &memory, space, alloc, want),
     );
     assert!(rt; refusals > 3);
 }
 
-// Over a tree of each kind.
-fn judge_refused_over_both(rt: &impl Abort, alloc: Global, row: &str, want: &str) {
-    judge_refused::<PlainTree<Global>>(rt, alloc, alloc, row, want);
-    judge_refused::<IndexTree<Global>>(rt, alloc, alloc, row, want);
+/// The space of a row is judged with each request of memory refused in turn.
+pub fn is_refused<T: Tree>(rt: &impl Abort, alloc: Global, lent: T::Alloc, row: &str, want: &str) {
+    let space = space_of::<T>(rt, lent, row);
+    judge_refused(rt, alloc, &space, want);
+    drop(space);
 }
 
 #[test]
 fn a_breach_is_found_after_each_refusal(rt: HostRuntime) {
-    judge_refused_over_both(&rt, rt.alloc(), DEEP, DEEP_BREACH);
+    let (row, want) = (DEEP, DEEP_BREACH);
+    on_both(&rt, rt.alloc(), Work::VerdictAgain { row, want });
 }
 
 #[test]
 fn a_certificate_is_found_after_each_refusal(rt: HostRuntime) {
-    judge_refused_over_both(&rt, rt.alloc(), GUARDED, "6 rows");
+    let (row, want) = (GUARDED, "6 rows");
+    on_both(&rt, rt.alloc(), Work::VerdictAgain { row, want });
 }

@@ -1,7 +1,7 @@
 //! What is wrong with a line: each fault once, and which of two it is.
 
-use p9_index::IndexTree;
-use p9_tree::{PlainTree, Tree};
+use crate::both::{Work, on_both};
+use p9_tree::Tree;
 use p9_world::read_world;
 use std::alloc::{AllocError, Global};
 use std::process::Abort;
@@ -172,36 +172,44 @@ line 0: no server = group g u v
 no fault = group g u v;group h u v;server m
 no fault = group g g g;group u v;server m;user g;user u";
 
-/// What is reported of the text: one text where trees of both kinds agree, or both texts.
-pub fn told(alloc: Global, text: &str) -> Result<String, AllocError> {
-    let plain = told_over::<PlainTree<Global>>(alloc, alloc, text)?;
-    let index = told_over::<IndexTree<Global>>(alloc, alloc, text)?;
-    if plain.as_str() == index.as_str() {
-        Ok(plain)
-    } else {
-        format!(in alloc; "{plain}, and over an IndexTree {index}")
-    }
+/// This is reported of the text.
+pub fn is_reported<T: Tree>(
+    rt: &impl Abort,
+    alloc: Global,
+    lent: T::Alloc,
+    text: &str,
+    want: &str,
+) {
+    let told = told_over::<T>(alloc, lent, text).expect(rt, "a text");
+    assert!(rt; told.as_str() == want, "{told}, not {want}");
 }
 
+// What is reported of the text.
 fn told_over<T: Tree>(alloc: Global, lent: T::Alloc, text: &str) -> Result<String, AllocError> {
     match read_world::<T>(lent, text) {
-        Ok(_) => String::from_str(alloc, "no fault"),
+        Ok(world) => {
+            drop(world);
+            String::from_str(alloc, "no fault")
+        }
         Err(error) => format!(in alloc; "{error}"),
     }
 }
 
+// Of the lines of each row this is reported.
 fn are_bad(rt: &impl Abort, alloc: Global, rows: &str) {
     for row in rows.lines() {
-        let (want, text) = row.split_once(" =").expect(rt, "a text");
-        let told = told_of_lines(alloc, text.strip_prefix(' ').unwrap_or(""));
-        assert!(rt; told.expect(rt, "a text").as_str() == want, "{row}");
+        let (want, lines) = row.split_once(" =").expect(rt, "a text");
+        let lines = lines.strip_prefix(' ').unwrap_or("");
+        let text = lines.replace(alloc, ';', "\n").expect(rt, "a text");
+        on_both(
+            rt,
+            alloc,
+            Work::Report {
+                text: text.as_str(),
+                want,
+            },
+        );
     }
-}
-
-// What is reported of the lines between semicolons.
-fn told_of_lines(alloc: Global, lines: &str) -> Result<String, AllocError> {
-    let text = lines.replace(alloc, ';', "\n")?;
-    told(alloc, text.as_str())
 }
 
 #[test]

@@ -1,12 +1,9 @@
 //! Groups of a world: who is a member, and who leads.
 
-use crate::world::faults::told;
-use crate::world::refused::read_again;
+use crate::both::{Reading, Work, on_both, read_refused};
 use p9_base::{Groups, User};
-use p9_index::IndexTree;
-use p9_testing::{Refusing, refuse_each};
-use p9_tree::{PlainTree, Tree};
-use p9_world::{World, read_world};
+use p9_tree::Tree;
+use p9_world::read_world;
 use std::alloc::{AllocError, Allocator, Global};
 use std::process::Abort;
 
@@ -49,10 +46,15 @@ rob glenda false false
 sys sys true true
 sys ken false false";
 
-// What is found of each group and user of the rows.
-fn is_asked<T: Tree>(rt: &impl Abort, alloc: Global, world: &World<T>, rows: &str) {
+/// What is found of each group and user of the rows.
+pub fn is_asked<A: Allocator + Copy>(
+    rt: &impl Abort,
+    alloc: Global,
+    groups: &Groups<A>,
+    rows: &str,
+) {
     for row in rows.lines() {
-        let told = row_of(rt, alloc, &world.groups, row).expect(rt, "a text");
+        let told = row_of(rt, alloc, groups, row).expect(rt, "a text");
         assert!(rt; told.as_str() == row);
     }
 }
@@ -71,26 +73,17 @@ fn row_of<A: Allocator + Copy>(
     format!(in alloc; "{name} {user} {member} {leads}")
 }
 
-// What is found of the world of a text, with a tree of each kind.
-fn are_groups_of(rt: &impl Abort, alloc: Global, text: &str, rows: &str) {
-    are_groups_over::<PlainTree<Global>>(rt, alloc, alloc, text, rows);
-    are_groups_over::<IndexTree<Global>>(rt, alloc, alloc, text, rows);
-}
-
-fn are_groups_over<T: Tree>(
-    rt: &impl Abort,
-    alloc: Global,
-    lent: T::Alloc,
-    text: &str,
-    rows: &str,
-) {
+/// What is found of the world of a text.
+pub fn are_groups<T: Tree>(rt: &impl Abort, alloc: Global, lent: T::Alloc, text: &str, rows: &str) {
     let world = read_world::<T>(lent, text).expect(rt, "a world");
-    is_asked(rt, alloc, &world, rows);
+    is_asked(rt, alloc, &world.groups, rows);
+    drop(world);
 }
 
 #[test]
 fn groups_have_members_and_a_leader(rt: HostRuntime) {
-    are_groups_of(&rt, rt.alloc(), TEXT, ASKED);
+    let (text, rows) = (TEXT, ASKED);
+    on_both(&rt, rt.alloc(), Work::Groups { text, rows });
 }
 
 /// The world of docs/WORLDS.md that has groups.
@@ -118,32 +111,14 @@ rob ken false false";
 
 #[test]
 fn the_example_of_the_guide_has_its_groups(rt: HostRuntime) {
-    are_groups_of(&rt, rt.alloc(), EXAMPLE, EXAMPLE_ASKED);
-}
-
-// The groups are read with each request of memory refused in turn.
-fn read_refused<T: Tree>(
-    rt: &impl Abort,
-    printing: Global,
-    memory: &Refusing<Global>,
-    lent: T::Alloc,
-) {
-    let refusals = refuse_each(
-        memory,
-        || (),
-        |()| {
-            let world = read_again::<T>(rt, lent, TEXT);
-            is_asked(rt, printing, &world, ASKED);
-        },
-    );
-    assert!(rt; refusals > 20);
+    let (text, rows) = (EXAMPLE, EXAMPLE_ASKED);
+    on_both(&rt, rt.alloc(), Work::Groups { text, rows });
 }
 
 #[test]
 fn groups_are_read_after_each_refusal(rt: HostRuntime) {
-    let memory = Refusing::new(rt.alloc());
-    read_refused::<PlainTree<&Refusing<Global>>>(&rt, rt.alloc(), &memory, &memory);
-    read_refused::<IndexTree<&Refusing<Global>>>(&rt, rt.alloc(), &memory, &memory);
+    let (text, rows) = (TEXT, ASKED);
+    read_refused(&rt, rt.alloc(), Reading::Groups { text, rows });
 }
 
 // A world with a group of 10,000 members, and more words after them.
@@ -168,7 +143,8 @@ few u9999 false true";
 #[test]
 fn a_group_may_have_many_members(rt: HostRuntime) {
     let text = many_members(rt.alloc(), "\ngroup few u9999 u0").expect(&rt, "a text");
-    are_groups_of(&rt, rt.alloc(), text.as_str(), MANY_ASKED);
+    let (text, rows) = (text.as_str(), MANY_ASKED);
+    on_both(&rt, rt.alloc(), Work::Groups { text, rows });
 }
 
 // What is reported, and the member that is added.
@@ -178,17 +154,18 @@ line 2: already there = u9999
 line 2: bad user = u0 \0
 no fault = u10000";
 
-// What is reported of a group of many members and more of them.
-fn told_of_many(alloc: Global, more: &str) -> Result<String, AllocError> {
-    let text = many_members(alloc, more)?;
-    told(alloc, text.as_str())
-}
-
 #[test]
 fn one_of_many_members_is_there_twice(rt: HostRuntime) {
     for row in TWICE.lines() {
         let (want, more) = row.split_once(" =").expect(&rt, "a member");
-        let told = told_of_many(rt.alloc(), more).expect(&rt, "a text");
-        assert!(rt; told.as_str() == want, "{row}");
+        let text = many_members(rt.alloc(), more).expect(&rt, "a text");
+        on_both(
+            &rt,
+            rt.alloc(),
+            Work::Report {
+                text: text.as_str(),
+                want,
+            },
+        );
     }
 }

@@ -1,23 +1,17 @@
 //! The largest file and the most servers.
 
-use crate::world::faults::told;
+use crate::both::{Work, on_both};
 use p9_base::SERVERS_MAX;
-use p9_index::IndexTree;
-use p9_tree::{FILE_MAX, PlainTree, Tree};
+use p9_tree::{FILE_MAX, Tree};
 use p9_world::read_world;
 use std::alloc::{AllocError, Global};
 use std::process::Abort;
 
-// The text makes one node of the server after its root: node 1, and the next is 2.
-fn makes_one_node<T: Tree>(rt: &impl Abort, alloc: T::Alloc, text: &str, server: u16) {
-    let world = read_world::<T>(alloc, text).ok().expect(rt, "a world");
+/// The text makes one node of the server after its root: node 1, and the next is 2.
+pub fn makes_one_node<T: Tree>(rt: &impl Abort, alloc: T::Alloc, text: &str, server: u16) {
+    let world = read_world::<T>(alloc, text).expect(rt, "a world");
     assert!(rt; world.forest.next_of(server) == 2);
-}
-
-// Over a tree of each kind the text does so.
-fn makes_one_node_over_both(rt: &impl Abort, alloc: Global, text: &str, server: u16) {
-    makes_one_node::<PlainTree<Global>>(rt, alloc, text, server);
-    makes_one_node::<IndexTree<Global>>(rt, alloc, text, server);
+    drop(world);
 }
 
 // A line of a file of so many bytes.
@@ -33,14 +27,15 @@ fn long_file(alloc: Global, path: &str, count: usize, end: &str) -> Result<Strin
 #[test]
 fn the_largest_file_is_made(rt: HostRuntime) {
     let text = long_file(rt.alloc(), "/f", FILE_MAX, "").expect(&rt, "a text");
-    makes_one_node_over_both(&rt, rt.alloc(), text.as_str(), 0);
+    let text = text.as_str();
+    on_both(&rt, rt.alloc(), Work::OneNode { text, server: 0 });
 }
 
 // A file of a byte more, with its end, is refused so.
 fn is_too_long(rt: &impl Abort, alloc: Global, path: &str, end: &str, want: &str) {
     let text = long_file(alloc, path, FILE_MAX + 1, end).expect(rt, "a text");
-    let told = told(alloc, text.as_str()).expect(rt, "a text");
-    assert!(rt; told.as_str() == want);
+    let text = text.as_str();
+    on_both(rt, alloc, Work::Report { text, want });
 }
 
 #[test]
@@ -69,18 +64,22 @@ fn all_servers(alloc: Global, line: &str) -> Result<String, AllocError> {
 #[test]
 fn all_servers_are_made(rt: HostRuntime) {
     let text = all_servers(rt.alloc(), "dir /a 755 u u").expect(&rt, "a text");
-    makes_one_node_over_both(&rt, rt.alloc(), text.as_str(), 65_535);
+    let text = text.as_str();
+    on_both(
+        &rt,
+        rt.alloc(),
+        Work::OneNode {
+            text,
+            server: 65_535,
+        },
+    );
 }
 
-// What is reported of a line after as many servers as a world has.
-fn told_of_one_more(alloc: Global, line: &str) -> Result<String, AllocError> {
-    let text = all_servers(alloc, line)?;
-    told(alloc, text.as_str())
-}
-
+// This is reported of a line after as many servers as a world has.
 fn is_one_too_many(rt: &impl Abort, alloc: Global, line: &str, want: &str) {
-    let told = told_of_one_more(alloc, line).expect(rt, "a text");
-    assert!(rt; told.as_str() == want);
+    let text = all_servers(alloc, line).expect(rt, "a text");
+    let text = text.as_str();
+    on_both(rt, alloc, Work::Report { text, want });
 }
 
 #[test]

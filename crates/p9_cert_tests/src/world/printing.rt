@@ -1,27 +1,53 @@
 //! Texts of a world.
 
+use p9_base::{NodeRef, User};
 use p9_tree::{Node, Tree};
 use p9_world::World;
-use std::alloc::{AllocError, Allocator, Global};
+use std::alloc::{AllocError, Allocator};
 
-/// The servers' names and nodes, the users, the hidden directories and the variables.
-pub fn world<T: Tree>(alloc: Global, world: &World<T>) -> Result<String, AllocError> {
-    let mut told = String::new(alloc);
-    for name in world.servers.as_slice() {
-        writeln!(&mut told, "server {}", name.as_str())?;
-    }
+/// Writes the servers' names and nodes, the users, the hidden directories and the variables.
+pub fn tell_world<T: Tree>(told: &mut String, world: &World<T>) -> Result<(), AllocError> {
+    servers(told, world.servers.as_slice())?;
     let forest = &world.forest;
-    trees(&mut told, forest.trees.as_slice())?;
-    for user in world.users.as_slice() {
-        writeln!(&mut told, "user {}", user.as_str())?;
+    trees(told, forest.trees.as_slice())?;
+    users(told, world.users.as_slice())?;
+    hidden(told, world.hidden.as_slice())?;
+    vars(told, world.vars.as_slice())
+}
+
+// The servers' names.
+fn servers<A: Allocator>(told: &mut String, servers: &[String<A>]) -> Result<(), AllocError> {
+    for name in servers {
+        writeln!(told, "server {}", name.as_str())?;
     }
-    for at in world.hidden.as_slice() {
-        writeln!(&mut told, "hide {} {}", at.server, at.number)?;
+    Ok(())
+}
+
+// The users.
+fn users(told: &mut String, users: &[User]) -> Result<(), AllocError> {
+    for user in users {
+        writeln!(told, "user {}", user.as_str())?;
     }
-    for (name, value) in world.vars.as_slice() {
-        writeln!(&mut told, "set {} {}", name.as_str(), value.as_str())?;
+    Ok(())
+}
+
+// The hidden directories.
+fn hidden(told: &mut String, hidden: &[NodeRef]) -> Result<(), AllocError> {
+    for at in hidden {
+        writeln!(told, "hide {} {}", at.server, at.number)?;
     }
-    Ok(told)
+    Ok(())
+}
+
+// The variables with their values.
+fn vars<A: Allocator>(
+    told: &mut String,
+    vars: &[(String<A>, String<A>)],
+) -> Result<(), AllocError> {
+    for (name, value) in vars {
+        writeln!(told, "set {} {}", name.as_str(), value.as_str())?;
+    }
+    Ok(())
 }
 
 // Each tree's next number, and its nodes.
@@ -33,6 +59,7 @@ fn trees<T: Tree>(told: &mut String, trees: &[T]) -> Result<(), AllocError> {
     Ok(())
 }
 
+// The nodes of a tree.
 fn nodes<T: Tree>(told: &mut String, tree: &T) -> Result<(), AllocError> {
     for number in 0..=tree.next() {
         if let Some(node) = tree.node(number) {

@@ -1,11 +1,11 @@
 //! The sample worlds are read, each with its nodes.
 
-use crate::world::printing::world as told_of;
+use crate::both::{Work, on_both};
+use crate::world::printing::tell_world;
 use crate::world::worlds::{
     BOUND_INSIDE, COVERED_VAULT, DEEP, HOME, SMALL, Sample, TWO_SERVERS, TWO_UNIONS, VAULT,
 };
 use p9_base::{Groups, User};
-use p9_index::IndexTree;
 use p9_tree::{PlainTree, Tree};
 use p9_world::{World, read_world};
 use std::alloc::Global;
@@ -13,34 +13,32 @@ use std::process::Abort;
 
 /// The world is the sample's.
 pub fn is_sample<T: Tree>(rt: &impl Abort, alloc: Global, world: &World<T>, sample: &Sample) {
-    let told = told_of(alloc, world).expect(rt, "memory");
+    let mut told = String::new(alloc);
+    tell_world(&mut told, world).expect(rt, "memory");
     assert!(rt; told.as_str() == sample.told);
 }
 
-fn is_read(rt: &impl Abort, alloc: Global, sample: &Sample) {
-    is_read_over::<PlainTree<Global>>(rt, alloc, alloc, sample);
-    is_read_over::<IndexTree<Global>>(rt, alloc, alloc, sample);
-}
-
-fn is_read_over<T: Tree>(rt: &impl Abort, alloc: Global, lent: T::Alloc, sample: &Sample) {
+/// The sample is read.
+pub fn is_read<T: Tree>(rt: &impl Abort, alloc: Global, lent: T::Alloc, sample: &Sample) {
     let world = read_world::<T>(lent, sample.text).expect(rt, "a world");
     is_sample(rt, alloc, &world, sample);
+    drop(world);
 }
 
 #[test]
 fn samples_have_their_nodes(rt: HostRuntime) {
-    is_read(&rt, rt.alloc(), &SMALL);
-    is_read(&rt, rt.alloc(), &TWO_UNIONS);
-    is_read(&rt, rt.alloc(), &DEEP);
-    is_read(&rt, rt.alloc(), &VAULT);
-    is_read(&rt, rt.alloc(), &COVERED_VAULT);
-    is_read(&rt, rt.alloc(), &BOUND_INSIDE);
-    is_read(&rt, rt.alloc(), &HOME);
+    on_both(&rt, rt.alloc(), Work::Sample(&SMALL));
+    on_both(&rt, rt.alloc(), Work::Sample(&TWO_UNIONS));
+    on_both(&rt, rt.alloc(), Work::Sample(&DEEP));
+    on_both(&rt, rt.alloc(), Work::Sample(&VAULT));
+    on_both(&rt, rt.alloc(), Work::Sample(&COVERED_VAULT));
+    on_both(&rt, rt.alloc(), Work::Sample(&BOUND_INSIDE));
+    on_both(&rt, rt.alloc(), Work::Sample(&HOME));
 }
 
 #[test]
 fn lines_belong_to_the_last_server(rt: HostRuntime) {
-    is_read(&rt, rt.alloc(), &TWO_SERVERS);
+    on_both(&rt, rt.alloc(), Work::Sample(&TWO_SERVERS));
 }
 
 // Names and trees come out of a world as many as each other.
