@@ -6,7 +6,7 @@ use crate::exchange::{Row, exchange, in_session, is_reply, room, row_of, send};
 use crate::growth::{Growth, before_growth, grow_all};
 use crate::worlds::{ATTACH, Bind, VERSION, exporter};
 use p9_export::Export;
-use p9_testing::{Refusing, bytes_of, refuse_each};
+use p9_testing::bytes_of;
 use p9_tree::Tree;
 use std::alloc::Global;
 use std::process::Abort;
@@ -43,35 +43,16 @@ pub fn grow_refused(rt: &impl Abort, alloc: Global, growth: Growth<'_>) {
     assert!(rt; plain == 2 && index == 2);
 }
 
-/// Plays over one kind of tree, in the memory that refuses, and returns how many requests for
-/// memory there are.
-pub fn play_over<T: Tree>(
-    rt: &impl Abort,
-    alloc: Global,
-    memory: &Refusing<Global>,
-    lent: T::Alloc,
-    play: Play<'_>,
-) -> u64 {
-    refuse_each(
-        memory,
-        || ready::<T>(rt, alloc, lent, play),
-        |mut export| {
-            play_again(rt, alloc, &mut export, play);
-            drop(export);
-        },
-    )
-}
-
-// The exporter before memory is refused.
-fn ready<T: Tree>(rt: &impl Abort, alloc: Global, lent: T::Alloc, play: Play<'_>) -> Export<T> {
+/// The exporter before memory is refused.
+pub fn ready<T: Tree>(rt: &impl Abort, alloc: Global, lent: T::Alloc, play: Play<'_>) -> Export<T> {
     match play {
         Play::Script(script) => exporter(rt, lent, script.world, script.binds),
         Play::Growth(growth) => before_growth(rt, alloc, lent, growth),
     }
 }
 
-// Plays with the exporter.
-fn play_again<T: Tree>(rt: &impl Abort, alloc: Global, export: &mut Export<T>, play: Play<'_>) {
+/// Plays with the exporter.
+pub fn play_again<T: Tree>(rt: &impl Abort, alloc: Global, export: &mut Export<T>, play: Play<'_>) {
     let mut room = room(rt, alloc);
     let reply = room.as_mut_slice();
     match play {

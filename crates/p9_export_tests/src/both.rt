@@ -1,6 +1,6 @@
 //! Work over both kinds of tree.
 
-use crate::again::{Play, play_over};
+use crate::again::{Play, play_again, ready};
 use crate::exchange::room;
 use crate::fids::has_1024_fids;
 use crate::large::{fills_a_gap, makes_several, reads_back};
@@ -8,12 +8,12 @@ use crate::many::lists_all;
 use crate::modes::{Opening, opens};
 use crate::renamed::renames_all;
 use crate::sessions::opens_and_closes;
-use crate::space::{Way, run_over, walk_over};
+use crate::space::{Given, SMALL, Space, Way, make_given, run, space_of, walk_again};
 use crate::unions::{lists_places, reads_at_each_count};
 use crate::worlds::{Bind, exporter};
 use p9_export::Export;
 use p9_index::IndexTree;
-use p9_testing::Refusing;
+use p9_testing::{Refusing, refuse_each};
 use p9_tree::{PlainTree, Tree};
 use std::alloc::Global;
 use std::process::Abort;
@@ -112,9 +112,46 @@ fn refusals_over<T: Tree>(
     lent: T::Alloc,
     trial: Trial<'_>,
 ) -> u64 {
+    refuse_each(
+        memory,
+        || make::<T>(rt, alloc, lent, trial),
+        |mut made| {
+            try_once(rt, alloc, &mut made, trial);
+            drop(made);
+        },
+    )
+}
+
+// What is made before memory is refused.
+#[derive(Drop)]
+enum Made<T: Tree> {
+    Export(Export<T>),
+    Space(Space<T>, Way),
+    Given(Given<T>),
+}
+
+// Makes it.
+fn make<T: Tree>(rt: &impl Abort, alloc: Global, lent: T::Alloc, trial: Trial<'_>) -> Made<T> {
     match trial {
-        Trial::Play(play) => play_over::<T>(rt, alloc, memory, lent, play),
-        Trial::Walk(way) => walk_over::<T>(rt, alloc, memory, lent, way),
-        Trial::File => run_over::<T>(rt, alloc, memory, lent),
+        Trial::Play(play) => Made::Export(ready(rt, alloc, lent, play)),
+        Trial::Walk(way) => Made::Space(space_of(rt, lent, SMALL), way),
+        Trial::File => Made::Given(make_given(rt, lent)),
+    }
+}
+
+// Does once with it what is tried.
+fn try_once<T: Tree>(rt: &impl Abort, alloc: Global, made: &mut Made<T>, trial: Trial<'_>) {
+    match made {
+        Made::Export(export) => play_again(rt, alloc, export, play_of(rt, trial)),
+        Made::Space(space, way) => walk_again(rt, alloc, space, *way),
+        Made::Given(given) => run(rt, alloc, given),
+    }
+}
+
+// What is played with an exporter.
+fn play_of<'a>(rt: &impl Abort, trial: Trial<'a>) -> Play<'a> {
+    match trial {
+        Trial::Play(play) => play,
+        _ => panic!(rt; "no play"),
     }
 }

@@ -13,5 +13,6 @@ mod walks;
 mod words;
 mod worlds;
 
-pub use files_refused::run_over;
-pub use refused::{Way, walk_over};
+pub use files_refused::{Given, make_given, run};
+pub use refused::{Way, walk_again};
+pub use worlds::{SMALL, Space, space_of};

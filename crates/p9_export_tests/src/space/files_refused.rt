@@ -6,7 +6,6 @@ use crate::space::words::node;
 use p9_base::Fault;
 use p9_nsfile::{NsError, OpFault, run_file};
 use p9_space::{MountTable, Order};
-use p9_testing::{Refusing, refuse_each};
 use p9_tree::Tree;
 use p9_world::{World, read_world};
 use std::alloc::{Allocator, Global};
@@ -29,16 +28,16 @@ bind /a $home/a/b
 mount -a main /a $home
 unmount /a/b";
 
-// What a file is run over, and the table, which has a row: /acts is bound at /a/f.
+/// What a file is run over, and the table, which has a row: /acts is bound at /a/f.
 #[derive(Drop)]
-struct Given<T: Tree> {
+pub struct Given<T: Tree> {
     world: World<T>,
     vars: Vec<(String<T::Alloc>, String<T::Alloc>), T::Alloc>,
     table: MountTable<T::Alloc>,
 }
 
-// Makes what a file is run over.
-fn make_given<T: Tree>(rt: &impl Abort, alloc: T::Alloc) -> Given<T> {
+/// Makes what a file is run over.
+pub fn make_given<T: Tree>(rt: &impl Abort, alloc: T::Alloc) -> Given<T> {
     Given {
         world: read_world(alloc, INCLUDES).expect(rt, "a world"),
         vars: vars(rt, alloc),
@@ -93,9 +92,9 @@ fn are_reported(rt: &impl Abort, reports: &[(u64, OpFault)]) {
     assert!(rt; reports == expected.as_slice());
 }
 
-// Runs the text, which reports that `cd /none` failed and makes a row; or an allocation fails, and
-// the table is as before.
-fn run<T: Tree>(rt: &impl Abort, printing: Global, given: &mut Given<T>) {
+/// Runs the text, which reports that `cd /none` failed and makes a row; or an allocation fails, and
+/// the table is as before. Some growths go on with less when they are refused.
+pub fn run<T: Tree>(rt: &impl Abort, printing: Global, given: &mut Given<T>) {
     match reports_of(given) {
         Ok(reports) => {
             are_reported(rt, reports.as_slice());
@@ -106,24 +105,6 @@ fn run<T: Tree>(rt: &impl Abort, printing: Global, given: &mut Given<T>) {
             has_rows(rt, printing, &given.table, "none");
         }
     }
-}
-
-/// Runs the text over a tree of one kind with each request of memory refused in turn, and returns
-/// how many requests there are. Some growths go on with less when they are refused.
-pub fn run_over<T: Tree>(
-    rt: &impl Abort,
-    alloc: Global,
-    memory: &Refusing<Global>,
-    lent: T::Alloc,
-) -> u64 {
-    refuse_each(
-        memory,
-        || make_given::<T>(rt, lent),
-        |mut given| {
-            run(rt, alloc, &mut given);
-            drop(given);
-        },
-    )
 }
 
 #[test]

@@ -5,7 +5,7 @@ use crate::space::calls::bind;
 use crate::space::fids_refused::make_fids;
 use crate::space::printing::{is_row, trail};
 use crate::space::words::node;
-use crate::space::worlds::{SMALL, Space, space_of};
+use crate::space::worlds::Space;
 use p9_base::Fault;
 use p9_space::{Channels, MountTable, PLACES_MAX, Trail, Who, advance, resolve};
 use p9_testing::{Refusing, refuse_each};
@@ -194,33 +194,14 @@ fn tell_walk<T: Tree>(
     Ok(())
 }
 
-// Walks, again where it was refused.
-fn walk_again<T: Tree>(rt: &impl Abort, alloc: Global, space: &Space<T>, way: Way) {
+/// Walks, again where it was refused.
+pub fn walk_again<T: Tree>(rt: &impl Abort, alloc: Global, space: &Space<T>, way: Way) {
     let mut told = String::new(alloc);
     if let Err(fault) = tell_walk(rt, space, way, &mut told) {
         assert!(rt; fault == Fault::OutOfMemory);
         tell_walk(rt, space, way, &mut told).expect(rt, "a walk");
     }
     assert!(rt; told.as_str() == "0 1 2 ");
-}
-
-/// Walks over a tree of one kind with each request of memory refused in turn, and returns how many
-/// requests there are.
-pub fn walk_over<T: Tree>(
-    rt: &impl Abort,
-    alloc: Global,
-    memory: &Refusing<Global>,
-    lent: T::Alloc,
-    way: Way,
-) -> u64 {
-    refuse_each(
-        memory,
-        || space_of::<T>(rt, lent, SMALL),
-        |space| {
-            walk_again(rt, alloc, &space, way);
-            drop(space);
-        },
-    )
 }
 
 // Walks over both kinds of tree.
