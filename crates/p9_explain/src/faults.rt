@@ -64,7 +64,7 @@ fn push_faults_in<T: Tree>(
     section: Section,
 ) -> Result<(), NoMemory> {
     let alloc = *text.allocator();
-    let mut read = String::from_str(alloc, source.text(section))?;
+    let mut read = text_of(alloc, source, section)?;
     let mut last = None;
     for _ in 0..FAULTS_MAX {
         let Some(fault) = first_fault::<T>(alloc, section, read.as_str())? else {
@@ -83,6 +83,19 @@ fn push_faults_in<T: Tree>(
     }
     writeln!(text, "{}: there may be more bad lines", source.name)?;
     Ok(())
+}
+
+// The text of a section, each line with a newline; an empty one where it has no line.
+fn text_of<A: Allocator + Copy>(
+    alloc: A,
+    source: &Source<'_, A>,
+    section: Section,
+) -> Result<String<A>, NoMemory> {
+    let mut text = String::from_str(alloc, source.text(section))?;
+    if source.has_lines(section) && !text.ends_with('\n') {
+        text.push('\n')?;
+    }
+    Ok(text)
 }
 
 // The first bad line of a section of this text. A section without lines has none.

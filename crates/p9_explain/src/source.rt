@@ -19,7 +19,7 @@ impl<'a, A: Allocator + Copy> Source<'a, A> {
     /// The source of an input, which has this name.
     pub fn of(alloc: A, name: &'a str, input: &'a str) -> Result<Source<'a, A>, NoMemory> {
         let lines = layout_of(alloc, input)?;
-        let world = section_text(input, lines.as_slice(), Section::World);
+        let world = section_text(input, lines.as_slice(), Section::World).unwrap_or("");
         let nodes = node_lines(alloc, statements(alloc, world)?.as_slice())?;
         Ok(Source {
             name,
@@ -29,9 +29,15 @@ impl<'a, A: Allocator + Copy> Source<'a, A> {
         })
     }
 
-    /// The text of a section; an empty one where it isn't there.
+    /// The text of a section, without a newline at the end of the input; an empty one where it has no
+    /// line.
     pub fn text(&self, section: Section) -> &'a str {
-        section_text(self.input, self.lines.as_slice(), section)
+        section_text(self.input, self.lines.as_slice(), section).unwrap_or("")
+    }
+
+    /// Whether a section has a line. The line after the last newline of the input is one.
+    pub fn has_lines(&self, section: Section) -> bool {
+        section_text(self.input, self.lines.as_slice(), section).is_some()
     }
 
     /// Adds `NAME:L` for this line of a section to a text.
@@ -52,8 +58,8 @@ impl<'a, A: Allocator + Copy> Source<'a, A> {
     }
 }
 
-// The text of a section, whose lines follow one another; an empty one where it isn't there.
-fn section_text<'a>(input: &'a str, lines: &[Line<'a>], section: Section) -> &'a str {
+// The text of a section, whose lines follow one another, if it has one.
+fn section_text<'a>(input: &'a str, lines: &[Line<'a>], section: Section) -> Option<&'a str> {
     let mut found = None;
     for line in lines {
         if line.section == Some(section) {
@@ -62,8 +68,8 @@ fn section_text<'a>(input: &'a str, lines: &[Line<'a>], section: Section) -> &'a
             found = Some((start, end.min(input.len())));
         }
     }
-    let (start, end) = found.unwrap_or((0, 0));
-    input.get(start..end).unwrap_or("")
+    let (start, end) = found?;
+    input.get(start..end)
 }
 
 // The number of a section's line among all lines.

@@ -69,27 +69,29 @@ fn session_with(rt: &impl Abort, alloc: Global, play: Play) -> Session<Answered<
 // once.
 fn check(rt: &impl Abort, alloc: Global, play: Play, wanted: &str) -> usize {
     let mut session = session_with(rt, alloc, play);
-    is_played(rt, alloc, &mut session, play, wanted);
-    session.stream().server.most_waiting
+    is_played(rt, alloc, &mut session, play, wanted)
 }
 
 // What a call over this session comes to is what is wanted, and so is whether the session goes on.
+// Returns the most requests of the call that were on their way at once.
 fn is_played(
     rt: &impl Abort,
     alloc: Global,
     session: &mut Session<Answered<Pieces>, Global>,
     play: Play,
     wanted: &str,
-) {
+) -> usize {
     let Play { len, place, .. } = play;
     let came = match play.call {
         Call::Read => read(alloc, session),
         Call::Write => write(rt, alloc, session, len),
     };
+    let ahead = session.stream().server.most_waiting;
     assert!(rt;
         came == wanted && is_as_after(session, wanted),
         "{len} bytes, request {place}"
     );
+    ahead
 }
 
 // Reads the file.
