@@ -113,7 +113,7 @@ impl<S: Stream + Drop, A: Allocator + Copy> Session<S, A> {
 
 // Takes the replies to reads of the parts of so many bytes, the first with this tag. Their bytes are
 // written to the writer, up to those of the first that is short, and what those after it give is
-// dropped. Returns how many bytes were written.
+// dropped. Returns how many bytes were written. After a refusal the others are looked at too.
 fn take_reads<W: Write, A: Allocator + Copy>(
     replies: &Replies<A>,
     first: u16,
@@ -129,7 +129,16 @@ fn take_reads<W: Write, A: Allocator + Copy>(
     let mut total = 0;
     for at in 0..replies.len() {
         let size = most.min(len - total);
-        let read = take_read(replies, tag, size, out)?;
+        let read = match take_read(replies, tag, size, out) {
+            Ok(read) => read,
+            Err(error) => {
+                if !error.ends_session() {
+                    let behind = replies.len() - at - 1;
+                    replies.drop_from(Asked::Read, tag_after(tag), behind, most)?;
+                }
+                return Err(error);
+            }
+        };
         tag = tag_after(tag);
         total += read;
         if read < size {

@@ -109,7 +109,7 @@ impl<S: Stream + Drop, A: Allocator + Copy> Session<S, A> {
 
 // Takes the replies to writes of the parts of so many bytes, the first with this tag. Returns how many
 // bytes were written up to the end of the first part that was not written whole. What the replies
-// after it say does not matter.
+// after it say does not matter. After a refusal the others are looked at too.
 fn take_writes<A: Allocator + Copy>(
     replies: &Replies<A>,
     first: u16,
@@ -122,7 +122,16 @@ fn take_writes<A: Allocator + Copy>(
     let mut total = 0;
     for at in 0..replies.len() {
         let size = most.min(len - total);
-        let written = written_count(tag, replies.with_tag(tag)?, size)?;
+        let written = match written_count(tag, replies.with_tag(tag)?, size) {
+            Ok(written) => written,
+            Err(error) => {
+                if !error.ends_session() {
+                    let behind = replies.len() - at - 1;
+                    replies.drop_from(Asked::Write, tag_after(tag), behind, most)?;
+                }
+                return Err(error);
+            }
+        };
         tag = tag_after(tag);
         total += written;
         if written < size {

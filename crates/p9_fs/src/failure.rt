@@ -107,3 +107,8 @@ pub fn report_text(rt: &HostRuntime, text: &str, failure: Failure) -> Failure {
     let _ = eprintln!(rt; "p9_fs: {text}");
     failure
 }
+
+/// Reports that a mode is none, and returns how a command fails then.
+pub fn report_mode(rt: &HostRuntime) -> Failure {
+    report_text(rt, "a mode is an octal number up to 777, as 755", Failure::BadWords)
+}

@@ -12,7 +12,7 @@ mod watched;
 mod words;
 
 use crate::connect::{Client, connect};
-use crate::failure::Failure;
+use crate::failure::{Failure, report_mode};
 use crate::shell::{run_line, run_lines};
 use crate::words::{Verb, program, verb_of};
 use clap::ArgMatches;
@@ -48,7 +48,7 @@ fn words_of(rt: &HostRuntime) -> Result<Vec<String>, Failure> {
 // Does what the words ask for that `clap` read.
 fn run_matches(rt: &HostRuntime, matches: &ArgMatches<'_>) -> Result<(), Failure> {
     let Some(verb) = verb_of(matches) else {
-        return Err(Failure::BadWords);
+        return Err(report_mode(rt));
     };
     let mut client = connect(rt, matches, is_reported(rt, verb))?;
     run_verb(rt, &mut client, verb)

@@ -2,7 +2,7 @@
 
 use crate::connect::Client;
 use crate::copying::{get, put};
-use crate::failure::Failure;
+use crate::failure::{Failure, report_mode};
 use crate::remote::{cat, change_mode, list, make_dir, print_stat, remove, rename};
 use crate::words::{Verb, line_program, verb_of};
 use p9_base::{NoMemory, is_skipped, words};
@@ -80,6 +80,6 @@ fn run_words(rt: &HostRuntime, client: &mut Client, words: &[&str]) -> Result<()
     };
     match verb_of(&matches) {
         Some(verb) => run_line(rt, client, verb),
-        None => Err(Failure::BadWords),
+        None => Err(report_mode(rt)),
     }
 }

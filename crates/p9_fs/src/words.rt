@@ -52,7 +52,7 @@ pub enum Verb<'a> {
     Shell,
 }
 
-/// What the words ask for that `clap` read, or `None` where a mode is no octal number.
+/// What the words ask for that `clap` read, or `None` where a mode is no octal number up to 777.
 pub fn verb_of<'a>(words: &ArgMatches<'a>) -> Option<Verb<'a>> {
     let (name, words) = words.subcommand()?;
     match name {
@@ -87,9 +87,17 @@ fn verb_of_two<'a>(name: &str, path: &'a str, other: &'a str) -> Option<Verb<'a>
         "put" => Some(Verb::Put { local: other, path }),
         "mv" => Some(Verb::Rename { path, name: other }),
         "chmod" => Some(Verb::ChangeMode {
-            mode: u32::from_str_radix(other, 8).ok()?,
+            mode: permissions_in(other)?,
             path,
         }),
+        _ => None,
+    }
+}
+
+// The permissions that a text writes, which are an octal number up to 777.
+fn permissions_in(text: &str) -> Option<u32> {
+    match u32::from_str_radix(text, 8) {
+        Ok(permissions) if permissions <= 0o777 => Some(permissions),
         _ => None,
     }
 }

@@ -20,6 +20,11 @@ use std::io::Write;
 use std::net::{Net, SocketAddr};
 use std::rt::Clock;
 
+// A block of so many bytes is allocated and freed before the rounds. An allocator as glibc's keeps
+// freed memory up to twice the greatest block that was freed, and gives the rest back to the system.
+// So the buffers of a client that has left are kept for the next one.
+const LARGEST_BLOCK: usize = 1 << 24;
+
 /// Serves an input at an address for a number of rounds, and returns the exit status.
 ///
 /// What the input offers is that of [`served_guard`], and so is what is reported on `err`; where
@@ -104,7 +109,13 @@ fn serve<R: Net + Clock + AllocGlobal, W: Write>(
     let listener = TcpListener::bind(rt, address)?;
     let server = Server::new(rt.alloc(), listener, guard);
     print_address(rt, server.local_addr()?, out)?;
+    free_block(rt.alloc());
     run_rounds(rt, server, rounds)
+}
+
+// Allocates the largest block, and frees it. That there may be no memory for it changes nothing.
+fn free_block(alloc: Global) {
+    let _block: Result<Vec<u8>, _> = Vec::with_capacity(alloc, LARGEST_BLOCK);
 }
 
 // Prints the line with an address, and flushes.

@@ -155,8 +155,9 @@ fn files_of_any_number_of_pieces_are_read_and_written(rt: HostRuntime) {
 // What a call on a file of 17 pieces comes to, where the server does this wrong at one of the
 // requests from the first of these numbers up to the second. A short reply is not the end. After a
 // tag that nobody waits for no further reply is waited for. A refusal of a read behind the end is
-// dropped.
-const ROWS: [(Call, Fault, usize, usize, &str); 16] = [
+// dropped. After a refusal the replies to the requests that were sent with it are looked at: the
+// requests from 1 to 8 are sent together.
+const ROWS: [(Call, Fault, usize, usize, &str); 18] = [
     (Call::Read, Fault::Short, 0, 20, "done"),
     (Call::Write, Fault::Short, 0, 20, "done"),
     (Call::Read, Fault::Late, 0, 25, "done"),
@@ -168,6 +169,8 @@ const ROWS: [(Call, Fault, usize, usize, &str); 16] = [
     (Call::Read, Fault::Refused, 0, 17, "refused"),
     (Call::Write, Fault::Refused, 0, 17, "refused"),
     (Call::Read, Fault::Refused, 18, 25, "done"),
+    (Call::Read, Fault::RefusedAndOther, 1, 8, "other type"),
+    (Call::Write, Fault::RefusedAndOther, 1, 8, "other type"),
     (Call::Read, Fault::More, 0, 17, "unasked"),
     (Call::Write, Fault::More, 0, 17, "unasked"),
     (Call::Read, Fault::More, 18, 25, "unasked"),

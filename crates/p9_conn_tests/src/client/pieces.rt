@@ -14,6 +14,8 @@ pub enum Fault {
     Short,
     /// It refuses the request.
     Refused,
+    /// It refuses the request, and answers the one behind it with another type.
+    RefusedAndOther,
     /// It answers the request after the one behind it, if that is there.
     Late,
     /// It answers each request that waits before those that came earlier.
@@ -64,6 +66,7 @@ impl Pieces {
         match self.fault {
             Fault::Backwards => Fault::Backwards,
             fault if request == self.place => fault,
+            Fault::RefusedAndOther if request == self.place.saturating_add(1) => Fault::OtherType,
             Fault::OtherTag | Fault::Again if self.place < request => Fault::Silent,
             _ => Fault::Nothing,
         }
@@ -84,7 +87,9 @@ impl Pieces {
         let alloc = *self.file.allocator();
         match (fault, message) {
             (Fault::Silent, _) => Ok(Vec::new(alloc)),
-            (Fault::Refused, _) => reply_frame(alloc, 107, tag, &[2, 0, b'n', b'o']),
+            (Fault::Refused | Fault::RefusedAndOther, _) => {
+                reply_frame(alloc, 107, tag, &[2, 0, b'n', b'o'])
+            }
             (Fault::OtherType, _) | (_, TMsg::Clunk { .. }) => reply_frame(alloc, 121, tag, &[]),
             (_, TMsg::Read { offset, count, .. }) => self.read(fault, tag, *offset, *count),
             (_, TMsg::Write { offset, bytes, .. }) => self.write(fault, tag, *offset, bytes),
