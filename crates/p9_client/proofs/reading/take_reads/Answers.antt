@@ -21,10 +21,10 @@ pub returns-then-read-size : goal.returns-then-read-size
 returns-then-read-size g c =
     let arrived = c.args.replies.now in
     let before = c.loop-at.invariant.taken in
-    let piece = c.in_ok-read.ensures.1 in
+    let piece = c.in-Ok.ensures.1 in
     let left : ℕ = length arrived - c.loop-at.at - 1 in
     let drops : FindsReplies arrived c.tag_after-tag.result left =
-    subst (λ (n : ℕ). FindsReplies arrived c.tag_after-tag.result (n - c.loop-at.at - 1)) c.len.ensures
+    subst (λ (n : ℕ). FindsReplies arrived c.tag_after-tag.result (n - c.loop-at.at - 1)) c.len-then-read-size.ensures
     c.in_ok-drop_from.ensures in (
       omega (arith, c.if-read-size.true, c.min-size.ensures, c.loop-at.invariant.within),
       (
@@ -43,7 +43,7 @@ pub loop-at-preserved : goal.loop-at-preserved
 loop-at-preserved g c =
     let arrived = c.args.replies.now in
     let before = c.loop-at.invariant.taken in
-    let ok = c.in_ok-read.ensures in
+    let ok = c.in-Ok.ensures in
     let piece = ok.1 in
     let bytes = before.0 ++ piece.0 in
     let whole : length piece.0 ≡ part_size c.args.most c.args.len c.loop-at.total =
@@ -54,7 +54,7 @@ loop-at-preserved g c =
         bytes,
         omega (arith, length-append before.0 piece.0, before.1, piece.1),
         subst (λ (t : ℕ). HasTakenReads arrived c.args.most c.args.len c.args.first t (c.loop-at.at + 1)
-            (c.loop-at.total + c.in_ok-read.read) bytes) (sym c.tag_after-tag.ensures)
+            (c.loop-at.total + c.in-Ok.read) bytes) (sym c.tag_after-tag.ensures)
             (subst (λ (n : ℕ). HasTakenReads arrived c.args.most c.args.len c.args.first
             (next_tag c.loop-at.tag) (c.loop-at.at + 1) (c.loop-at.total + n) bytes) piece.1
             (read-taken arrived c.args.most c.args.len c.args.first c.loop-at.tag c.loop-at.at

@@ -15,17 +15,17 @@ loop-at-init g c =
 pub returns-then-written-size : goal.returns-then-written-size
 returns-then-written-size g c =
     let arrived = c.args.replies.now in
-    let reply = c.in_ok-written.ensures in
-    let next : FindsReply arrived c.loop-at.tag (Rwrite c.in_ok-written.written) =
+    let reply = c.in-Ok.ensures in
+    let next : FindsReply arrived c.loop-at.tag (Rwrite c.in-Ok.written) =
     found-reply arrived c.loop-at.tag c.in_ok-with_tag.field-0.now reply.0 _
     c.in_ok-with_tag.ensures.there c.in_ok-with_tag.ensures.size reply.1 reply.2.is in
     let left : ℕ = length arrived - c.loop-at.at - 1 in
     let drops : FindsReplies arrived c.tag_after-tag.result left =
-    subst (λ (n : ℕ). FindsReplies arrived c.tag_after-tag.result (n - c.loop-at.at - 1)) c.len.ensures
+    subst (λ (n : ℕ). FindsReplies arrived c.tag_after-tag.result (n - c.loop-at.at - 1)) c.len-then-written-size.ensures
     c.in_ok-drop_from.ensures in (
       omega (arith, c.if-written-size.true, c.min-size.ensures, c.loop-at.invariant.within),
       short-write-taken arrived c.args.most c.args.len c.args.first c.loop-at.tag c.loop-at.at
-          c.loop-at.total c.in_ok-written.written left c.loop-at.invariant.taken next
+          c.loop-at.total c.in-Ok.written left c.loop-at.invariant.taken next
           (omega (arith, c.if-written-size.true, c.min-size.ensures))
           (subst (λ (t : ℕ). FindsReplies arrived t left) c.tag_after-tag.ensures drops)
           (omega (arith, c.loop-at-test.true, c.len-at-end.ensures)),
@@ -34,16 +34,16 @@ returns-then-written-size g c =
 pub loop-at-preserved : goal.loop-at-preserved
 loop-at-preserved g c =
     let arrived = c.args.replies.now in
-    let reply = c.in_ok-written.ensures in
-    let next : FindsReply arrived c.loop-at.tag (Rwrite c.in_ok-written.written) =
+    let reply = c.in-Ok.ensures in
+    let next : FindsReply arrived c.loop-at.tag (Rwrite c.in-Ok.written) =
     found-reply arrived c.loop-at.tag c.in_ok-with_tag.field-0.now reply.0 _
     c.in_ok-with_tag.ensures.there c.in_ok-with_tag.ensures.size reply.1 reply.2.is in
     record {
       within = omega (arith, reply.2.within, c.min-size.ensures, c.loop-at.invariant.within);
       taken = subst (λ (t : ℕ). HasTakenWrites arrived c.args.most c.args.len c.args.first t
-          (c.loop-at.at + 1) (c.loop-at.total + c.in_ok-written.written)) (sym c.tag_after-tag.ensures)
+          (c.loop-at.at + 1) (c.loop-at.total + c.in-Ok.written)) (sym c.tag_after-tag.ensures)
           (write-taken arrived c.args.most c.args.len c.args.first c.loop-at.tag c.loop-at.at
-          c.loop-at.total c.in_ok-written.written c.loop-at.invariant.taken next
+          c.loop-at.total c.in-Ok.written c.loop-at.invariant.taken next
           (omega (arith, reply.2.within, c.if-written-size.false, c.min-size.ensures)));
     }
 
