@@ -1,5 +1,6 @@
 mod Arrivals
 mod Rows
+mod Walks
 pub mod Tables
 pub mod Names
 pub mod GivenLists

@@ -1,9 +1,10 @@
-use Rattle.std.proofs.Common.{◌≡◌, Ok, Err, IfOk, IfErr, sym, ap, subst, codes, ◌∙◌}
+use Rattle.std.proofs.Common.{◌≡◌, ◌≤◌, Ok, Err, IfOk, IfErr, length, sym, ap, subst, codes, ◌∙◌}
 use Rattle.std.specs.Option.{option_map}
 use Rattle.std.proofs.lemmas.Slice.Eq.{bytes_eq-Decides}
-use Rattle.p9_space.specs.Channel.{Channels, rows_of}
+use Rattle.p9_space.specs.Channel.{Channels, row_position, rows_of}
+use Rattle.p9_space.specs.Place.{file_ref}
 use Rattle.p9_space.specs.Rights.{who_view}
-use Rattle.p9_space.specs.Trail.{here, upward}
+use Rattle.p9_space.specs.Trail.{here, places_max, stepped, upward}
 use Rattle.p9_space.specs.Walk.{step_of}
 use Rattle.p9_space.proofs.Rows.{row-at}
 use Rattle.p9_space.proofs.channel.find_arrival_from.Goals as goal
@@ -39,3 +40,55 @@ returns-then-eq-clause-err g c =
     (subst (λ trail. IfErr c.arrive_up.result (λ fault. step_of c.args.forest.now
     c.args.table.now who trail (codes "..") ≡ Err fault)) c.trail-trail.ensures
     (c.arrive_up.ensures.err who))
+
+pub returns-then-eq-clause-row : goal.returns-then-eq-clause-row
+returns-then-eq-clause-row g c =
+    subst (λ trail. IfOk c.arrive_up.result (λ arrival. arrival.row
+    ≡ row_position (here (stepped trail arrival.step)) c.args.table.now)) c.trail-trail.ensures
+    c.arrive_up.ensures.row
+
+pub returns-then-eq-clause-at : goal.returns-then-eq-clause-at
+returns-then-eq-clause-at g c =
+    subst (λ trail. IfOk c.arrive_up.result (λ arrival. arrival.at
+    ≡ file_ref (here (stepped trail arrival.step)) c.args.table.now)) c.trail-trail.ensures
+    c.arrive_up.ensures.at
+
+pub returns-then-eq-clause-file : goal.returns-then-eq-clause-file
+returns-then-eq-clause-file g c = c.arrive_up.ensures.file
+
+pub returns-then-eq-clause-places : goal.returns-then-eq-clause-places
+returns-then-eq-clause-places g c =
+    subst (λ trail. IfOk c.arrive_up.result (λ arrival. length (stepped trail arrival.step)
+    ≤ places_max)) c.trail-trail.ensures c.arrive_up.ensures.places
+
+pub returns-else-eq-clause-ok : goal.returns-else-eq-clause-ok
+returns-else-eq-clause-ok g c =
+    subst (λ trail. IfOk c.arrive_down.result (λ arrival. step_of c.args.forest.now
+    c.args.table.now (option_map who_view c.args.who) trail c.args.name.now ≡ Ok arrival.step))
+    c.trail-trail.ensures c.arrive_down.ensures.ok
+
+pub returns-else-eq-clause-err : goal.returns-else-eq-clause-err
+returns-else-eq-clause-err g c =
+    subst (λ trail. IfErr c.arrive_down.result (λ fault. step_of c.args.forest.now
+    c.args.table.now (option_map who_view c.args.who) trail c.args.name.now ≡ Err fault))
+    c.trail-trail.ensures c.arrive_down.ensures.err
+
+pub returns-else-eq-clause-row : goal.returns-else-eq-clause-row
+returns-else-eq-clause-row g c =
+    subst (λ trail. IfOk c.arrive_down.result (λ arrival. arrival.row
+    ≡ row_position (here (stepped trail arrival.step)) c.args.table.now)) c.trail-trail.ensures
+    c.arrive_down.ensures.row
+
+pub returns-else-eq-clause-at : goal.returns-else-eq-clause-at
+returns-else-eq-clause-at g c =
+    subst (λ trail. IfOk c.arrive_down.result (λ arrival. arrival.at
+    ≡ file_ref (here (stepped trail arrival.step)) c.args.table.now)) c.trail-trail.ensures
+    c.arrive_down.ensures.at
+
+pub returns-else-eq-clause-file : goal.returns-else-eq-clause-file
+returns-else-eq-clause-file g c = c.arrive_down.ensures.file
+
+pub returns-else-eq-clause-places : goal.returns-else-eq-clause-places
+returns-else-eq-clause-places g c =
+    subst (λ trail. IfOk c.arrive_down.result (λ arrival. length (stepped trail arrival.step)
+    ≤ places_max)) c.trail-trail.ensures c.arrive_down.ensures.places
