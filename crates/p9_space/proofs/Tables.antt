@@ -2,7 +2,7 @@
 use Rattle.std.proofs.Common.{◌≡◌, ℕ, ◌<◌, ◌≤◌, Bool, true, false, List, [], ◌∷◌, Option, Some, None}
 use Rattle.std.proofs.Common.{IfSome, is_some, unwrap_or, cond, length, position, remove, Ok, refl}
 use Rattle.std.proofs.Common.{sym, ap, ◌∙◌, true≢false, arith, length-append}
-use Rattle.std.specs.List.{All, IsDistinct}
+use Rattle.std.specs.List.{All, AllZip, IsDistinct}
 use Rattle.std.specs.Map.{lookup, remove_entry, set_value, keys_of}
 use Rattle.std.proofs.lemmas.List.Elements.{All-cons, All-head, All-tail}
 use Rattle.std.proofs.lemmas.Map.Entries.{All-lookup}
@@ -137,3 +137,12 @@ pub without_member-one : (key node : NodeRef) (table : List MountRow) (ms : List
 without_member-one key node table ms i row first within one =
     let e = with_members-one key ms i table (omega arith) within in
     rw (row, first, e)
+
+-- entries that are each equal to those of a list are the list
+pub entries-same : {K X : Type 0} (xs ys : List (K × X))
+    → AllZip (λ p q. (q.0 ≡ p.0) × (q.1 ≡ p.1)) xs ys → ys ≡ xs
+entries-same [] [] same = refl
+entries-same [] (y ∷ ys) same = absurd same
+entries-same (x ∷ xs) [] same = absurd same
+entries-same (x ∷ xs) (y ∷ ys) same =
+    λ i. (same.0.0 i, same.0.1 i) ∷ entries-same xs ys same.1 i

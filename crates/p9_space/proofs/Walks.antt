@@ -2,12 +2,14 @@
 use Rattle.std.proofs.Common.{◌≡◌, ℕ, suc, ◌+◌, ◌<◌, ◌≤◌, ◌&&◌, ◌||◌, Bool, true}
 use Rattle.std.proofs.Common.{false, cond, is_some, List, ◌∷◌, Option}
 use Rattle.std.proofs.Common.{Some, None, Result, Ok, Err, IfErr, IsErrAnd, Bor, map, drop, get_or, true≢false}
-use Rattle.std.proofs.Common.{[], length, refl, sym, ap, ◌∙◌, subst, add-one, drop-cons}
+use Rattle.std.proofs.Common.{[], length, not, refl, sym, ap, ap₂, ◌∙◌, subst, add-one, drop-cons}
+use Rattle.std.specs.Prelude.{if◌then◌else◌}
 use Rattle.std.specs.List.{list_any}
 use Rattle.std.specs.Option.{option_and_then, option_map, option_map_or, option_or}
 use Rattle.std.proofs.lemmas.Bool.{and_parts}
 use Rattle.std.proofs.lemmas.List.{drop_all}
 use Rattle.p9_base.specs.declared.fault.Fault.{Fault}
+use Rattle.p9_base.specs.declared.fault.Fault.TheVariants.{NotDirectory, PhaseError}
 use Rattle.p9_base.specs.declared.node_ref.NodeRef.{NodeRef}
 use Rattle.p9_base.specs.Results.{and_then}
 use Rattle.p9_tree.specs.Node.{Node, is_dir}
@@ -16,10 +18,18 @@ use Rattle.p9_tree.specs.Forest.{node_of}
 use Rattle.p9_space.specs.Rights.{Who}
 use Rattle.p9_space.specs.Table.{MountRow}
 use Rattle.p9_space.specs.Trail.{stepped}
-use Rattle.p9_space.specs.Walk.{child_among, child_ref, is_alive, is_alive_dir}
+use Rattle.p9_space.specs.Walk.{child_among, child_ref, dir_fault, is_alive, is_alive_dir}
 use Rattle.p9_space.specs.Walk.{is_searched, may_search, named_among, named_child, step_of, walk}
 use Rattle.p9_space.specs.declared.row.Member.{Member}
 use Rattle.p9_space.specs.declared.trail.Step.{Step}
+
+pub or-true : (b : Bool) → (b || true) ≡ true
+or-true true = refl
+or-true false = refl
+
+pub or-false : (b : Bool) → b ≡ (b || false)
+or-false true = refl
+or-false false = refl
 
 -- what is true of the error that a `?` passes on
 pub passed_on : {T E : Type 0} (r : Result T E) (e : E) (P : E → Type 0) → IsErrAnd r (λ y. y ≡ e)
@@ -98,20 +108,12 @@ module _ {X : Type 0} (p : X → Bool) where
   any-here xs i d some all within passes is =
       sym is ∙ ap (λ left. some || list_any p left) (drop-cons xs i d within)
       ∙ ap (λ b. some || (b || list_any p (drop (suc i) xs))) passes ∙ or-true some
-    where
-      or-true : (b : Bool) → (b || true) ≡ true
-      or-true true = refl
-      or-true false = refl
 
   -- where no item is left
   pub any-done : (xs : List X) (i : ℕ) (some all : Bool) → length xs ≤ i
       → (some || list_any p (drop i xs)) ≡ all → some ≡ all
   any-done xs i some all past is =
       or-false some ∙ ap (λ left. some || list_any p left) (sym (drop_all i xs past)) ∙ is
-    where
-      or-false : (b : Bool) → b ≡ (b || false)
-      or-false true = refl
-      or-false false = refl
 
 module _ (forest : List Server) (who : Option Who) where
   -- a member without a child of the name is passed over
@@ -221,3 +223,22 @@ module _ (forest : List Server) (who : Option Who) where
       let m = get_or ms i d in
       let passes = dir-alive m (searched-dir m (named-searched name m found)) in
       is ∙ passes ∙ sym (any-here (is_alive forest) ms i d some all within passes before)
+
+module _ (forest : List Server) (ms : List Member) where
+  -- why no walk goes on from members
+  pub fault-dead : list_any (is_alive forest) ms ≡ false → Some PhaseError ≡ dir_fault forest ms
+  fault-dead dead =
+      sym (ap (λ alive. if not alive then Some PhaseError
+      else if not (list_any (is_alive_dir forest) ms) then Some NotDirectory else None) dead)
+
+  pub fault-files : list_any (is_alive forest) ms ≡ true → list_any (is_alive_dir forest) ms ≡ false
+      → Some NotDirectory ≡ dir_fault forest ms
+  fault-files alive files =
+      sym (ap₂ (λ alive dir. if not alive then Some PhaseError
+      else if not dir then Some NotDirectory else None) alive files)
+
+  pub fault-none : list_any (is_alive forest) ms ≡ true → list_any (is_alive_dir forest) ms ≡ true
+      → None ≡ dir_fault forest ms
+  fault-none alive dir =
+      sym (ap₂ (λ alive dir. if not alive then Some PhaseError
+      else if not dir then Some NotDirectory else None) alive dir)
