@@ -146,3 +146,19 @@ entries-same [] (y ∷ ys) same = absurd same
 entries-same (x ∷ xs) [] same = absurd same
 entries-same (x ∷ xs) (y ∷ ys) same =
     λ i. (same.0.0 i, same.0.1 i) ∷ entries-same xs ys same.1 i
+
+-- the same of items that may be there, by whatever says that two are equal
+pub options-same : (X : Type 0) (R : Option X → Option X → Type 0)
+    → ((x y : X) → R (Some x) (Some y) → y ≡ x) → ((y : X) → R None (Some y) → ⊥)
+    → ((x : X) → R (Some x) None → ⊥) → (xs ys : List (Option X)) → AllZip R xs ys → ys ≡ xs
+options-same X R both new gone [] [] same = refl
+options-same X R both new gone [] (y ∷ ys) same = absurd same
+options-same X R both new gone (x ∷ xs) [] same = absurd same
+options-same X R both new gone (x ∷ xs) (y ∷ ys) same =
+    λ i. by x y same.0 i ∷ options-same X R both new gone xs ys same.1 i
+  where
+    by : (x y : Option X) → R x y → y ≡ x
+    by None None same = refl
+    by None (Some y) same = absurd (new y same)
+    by (Some x) None same = absurd (gone x same)
+    by (Some x) (Some y) same = ap Some (both x y same)

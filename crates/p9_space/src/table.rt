@@ -215,7 +215,8 @@ impl<A: Allocator + Copy> MountTable<A> {
     fn members_of_row(&self, position: usize) -> Option<&[Member]>
         ensures { option_copied result ≡ option_map (λ row. row.1) (slice_get self.now position) }
     {
-        self.rows.get_index(position).map(|(_, row)| row.as_slice())
+        let (_, row) = self.rows.get_index(position)?;
+        Some(row.as_slice())
     }
 
     /// The file of a place: its first member, whether it exists or not.
