@@ -97,6 +97,7 @@ module _ {X : Type 0} (p : X → Bool) where
           ap (list_any p) (drop-cons xs i d within)
           ∙ ap (λ b. b || list_any p (drop (suc i) xs)) (sym is)
           ∙ ap (λ k. here || list_any p (drop k xs)) (sym (add-one i))
+
       by : (some : Bool) → (some || list_any p (drop i xs)) ≡ all
           → ((some || here) || list_any p (drop (i + 1) xs)) ≡ all
       by true before = before
@@ -147,9 +148,11 @@ module _ (forest : List Server) (who : Option Who) where
       nothing : (b : Bool) → is_some {T = NodeRef} (cond b None None) ≡ true → ⊥
       nothing true is = true≢false (sym is)
       nothing false is = true≢false (sym is)
+
       first : (o other : Option NodeRef) → is_some o ≡ true → option_or o other ≡ o
       first None other is = absurd (true≢false (sym is))
       first (Some child) other is = refl
+
       by : (name : Option (List ℕ)) → is_some (named_child forest who name (get_or ms i d)) ≡ true
           → named_among forest who name (get_or ms i d ∷ drop (suc i) ms)
           ≡ named_child forest who name (get_or ms i d)

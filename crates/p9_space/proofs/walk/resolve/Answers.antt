@@ -21,7 +21,7 @@ loop-name-preserved g c = (
       c.loop-name-test.true c.in_ok-arrival.ensures.ok c.in_ok-take.ensures.ok
       c.loop-name.invariant.0,
   c.in_ok-arrival.ensures.row
-  ∙ ap (λ trail. row_position (here trail) c.args.table.now) (sym c.in_ok-take.ensures.ok),
+      ∙ ap (λ trail. row_position (here trail) c.args.table.now) (sym c.in_ok-take.ensures.ok),
 )
 
 pub returns-clause-ok : goal.returns-clause-ok

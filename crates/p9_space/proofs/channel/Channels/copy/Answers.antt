@@ -1,5 +1,4 @@
 use Rattle.std.proofs.Common.{ℕ, ap₂, ◌∙◌}
-use Rattle.p9_space.specs.Channel.{Channels}
 use Rattle.p9_space.proofs.Tables.{options-same}
 use Rattle.p9_space.proofs.channel.Channels.copy.Goals as goal
 
