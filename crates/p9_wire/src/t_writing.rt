@@ -1,7 +1,7 @@
 //! Requests into bytes.
 
 ghost use Rattle.std.specs.Prelude.{◌≡◌, ◌≤◌, ◌+◌, length};
-ghost use Rattle.p9_wire.specs.Message.{t_view};
+ghost use Rattle.p9_wire.specs.Message.{Tauth, Tattach, Twalk, Tcreate, Tread, Twrite, t_view};
 ghost use Rattle.p9_wire.specs.Spelling.{t_type, t_body, t_len, TFits, t_spelling};
 ghost use Rattle.p9_wire.specs.Writing.{Puts, Writes};
 
@@ -10,6 +10,7 @@ use crate::constants::{
     TWRITE, TWSTAT,
 };
 use crate::message::TMsg;
+use crate::names::Names;
 use crate::put::{
     put_counted, put_header, put_names, put_sized_stat, put_text, put_u8, put_u16, put_u32, put_u64,
 };
@@ -35,6 +36,73 @@ fn kind_of(message: &TMsg<'_>) -> u8
     }
 }
 
+/// Puts the body of a Tauth as `put_body` does.
+fn put_auth(out: &mut [u8], afid: u32, uname: &str, aname: &str) -> usize
+    requires fits { TFits (Tauth afid uname.now aname.now) }
+    requires room { 7 + t_len (Tauth afid uname.now aname.now) ≤ length out.old }
+    ensures { Puts (t_body (Tauth afid uname.now aname.now)) 7 result out.old out.new }
+{
+    let at = put_u32(out, HEADER, afid);
+    let at = put_text(out, at, uname);
+    put_text(out, at, aname)
+}
+
+/// Puts the body of a Tattach as `put_body` does.
+fn put_attach(out: &mut [u8], fid: u32, afid: u32, uname: &str, aname: &str) -> usize
+    requires fits { TFits (Tattach fid afid uname.now aname.now) }
+    requires room { 7 + t_len (Tattach fid afid uname.now aname.now) ≤ length out.old }
+    ensures { Puts (t_body (Tattach fid afid uname.now aname.now)) 7 result out.old out.new }
+{
+    let at = put_u32(out, HEADER, fid);
+    let at = put_u32(out, at, afid);
+    let at = put_text(out, at, uname);
+    put_text(out, at, aname)
+}
+
+/// Puts the body of a Twalk as `put_body` does.
+fn put_walk(out: &mut [u8], fid: u32, newfid: u32, names: &Names<'_>) -> usize
+    requires fits { TFits (Twalk fid newfid names.now) }
+    requires room { 7 + t_len (Twalk fid newfid names.now) ≤ length out.old }
+    ensures { Puts (t_body (Twalk fid newfid names.now)) 7 result out.old out.new }
+{
+    let at = put_u32(out, HEADER, fid);
+    let at = put_u32(out, at, newfid);
+    put_names(out, at, names)
+}
+
+/// Puts the body of a Tcreate as `put_body` does.
+fn put_create(out: &mut [u8], fid: u32, name: &str, perm: u32, mode: u8) -> usize
+    requires fits { TFits (Tcreate fid name.now perm mode) }
+    requires room { 7 + t_len (Tcreate fid name.now perm mode) ≤ length out.old }
+    ensures { Puts (t_body (Tcreate fid name.now perm mode)) 7 result out.old out.new }
+{
+    let at = put_u32(out, HEADER, fid);
+    let at = put_text(out, at, name);
+    let at = put_u32(out, at, perm);
+    put_u8(out, at, mode)
+}
+
+/// Puts the body of a Tread as `put_body` does.
+fn put_read(out: &mut [u8], fid: u32, offset: u64, count: u32) -> usize
+    requires { 7 + t_len (Tread fid offset count) ≤ length out.old }
+    ensures { Puts (t_body (Tread fid offset count)) 7 result out.old out.new }
+{
+    let at = put_u32(out, HEADER, fid);
+    let at = put_u64(out, at, offset);
+    put_u32(out, at, count)
+}
+
+/// Puts the body of a Twrite as `put_body` does.
+fn put_write(out: &mut [u8], fid: u32, offset: u64, bytes: &[u8]) -> usize
+    requires fits { TFits (Twrite fid offset bytes.now) }
+    requires room { 7 + t_len (Twrite fid offset bytes.now) ≤ length out.old }
+    ensures { Puts (t_body (Twrite fid offset bytes.now)) 7 result out.old out.new }
+{
+    let at = put_u32(out, HEADER, fid);
+    let at = put_u64(out, at, offset);
+    put_counted(out, at, bytes)
+}
+
 /// Puts the body after the bytes of the header, and returns the index after it.
 fn put_body(message: &TMsg<'_>, out: &mut [u8]) -> usize
     requires fits { TFits (t_view message.now) }
@@ -46,28 +114,15 @@ fn put_body(message: &TMsg<'_>, out: &mut [u8]) -> usize
             let at = put_u32(out, HEADER, *msize);
             put_text(out, at, version)
         }
-        TMsg::Auth { afid, uname, aname } => {
-            let at = put_u32(out, HEADER, *afid);
-            let at = put_text(out, at, uname);
-            put_text(out, at, aname)
-        }
+        TMsg::Auth { afid, uname, aname } => put_auth(out, *afid, uname, aname),
         TMsg::Attach {
             fid,
             afid,
             uname,
             aname,
-        } => {
-            let at = put_u32(out, HEADER, *fid);
-            let at = put_u32(out, at, *afid);
-            let at = put_text(out, at, uname);
-            put_text(out, at, aname)
-        }
+        } => put_attach(out, *fid, *afid, uname, aname),
         TMsg::Flush { oldtag } => put_u16(out, HEADER, *oldtag),
-        TMsg::Walk { fid, newfid, names } => {
-            let at = put_u32(out, HEADER, *fid);
-            let at = put_u32(out, at, *newfid);
-            put_names(out, at, names)
-        }
+        TMsg::Walk { fid, newfid, names } => put_walk(out, *fid, *newfid, names),
         TMsg::Open { fid, mode } => {
             let at = put_u32(out, HEADER, *fid);
             put_u8(out, at, *mode)
@@ -77,22 +132,9 @@ fn put_body(message: &TMsg<'_>, out: &mut [u8]) -> usize
             name,
             perm,
             mode,
-        } => {
-            let at = put_u32(out, HEADER, *fid);
-            let at = put_text(out, at, name);
-            let at = put_u32(out, at, *perm);
-            put_u8(out, at, *mode)
-        }
-        TMsg::Read { fid, offset, count } => {
-            let at = put_u32(out, HEADER, *fid);
-            let at = put_u64(out, at, *offset);
-            put_u32(out, at, *count)
-        }
-        TMsg::Write { fid, offset, bytes } => {
-            let at = put_u32(out, HEADER, *fid);
-            let at = put_u64(out, at, *offset);
-            put_counted(out, at, bytes)
-        }
+        } => put_create(out, *fid, name, *perm, *mode),
+        TMsg::Read { fid, offset, count } => put_read(out, *fid, *offset, *count),
+        TMsg::Write { fid, offset, bytes } => put_write(out, *fid, *offset, bytes),
         TMsg::Clunk { fid } => put_u32(out, HEADER, *fid),
         TMsg::Remove { fid } => put_u32(out, HEADER, *fid),
         TMsg::Stat { fid } => put_u32(out, HEADER, *fid),

@@ -1,7 +1,8 @@
 -- Fields put after the bytes before them, one after the other, as loops do.
 use Rattle.std.proofs.Common.{◌≡◌, ℕ, zero, suc, ◌-◌, ◌+◌, ◌<◌, List, [], ◌++◌, Result, Ok, Err}
-use Rattle.std.proofs.Common.{refl, sym, ap, ◌∙◌, arith, append_assoc}
-use Rattle.p9_words.specs.Reading.{◌>>=◌, Fails, indexed_at, items_from, put_after}
+use Rattle.std.proofs.Common.{refl, sym, ap, ◌∙◌, arith, append_assoc, ◌∷◌, length, get_or, drop}
+use Rattle.std.proofs.Common.{drop-cons}
+use Rattle.p9_words.specs.Reading.{◌>>=◌, Fails, Reader, indexed_at, items_from, put_after}
 use Rattle.p9_words.specs.declared.error.Fault.{Fault}
 use Rattle.p9_base.specs.declared.stop.Stop.{Stop}
 use Rattle.p9_base.specs.declared.stop.Stop.TheVariants.{Refused, NoMemory}
@@ -53,3 +54,45 @@ fails item bytes i count text (Refused fault) total lt read so_far =
     let k : count - i ≡ suc (count - (i + 1)) = omega arith in
     let one : items_from item bytes i (count - i) text ≡ Err fault = rw (k, read) refl in
     sym so_far ∙ one
+
+-- a reader of one field after the other, by a reader of each
+abbrev pub ReadsEach : {A : Type 0} → (A → Reader (List ℕ)) → (List ℕ → List A → Reader (List ℕ))
+    → Type 0
+ReadsEach {A} read all =
+    (bytes : List ℕ) (x : A) (xs : List A) (text : List ℕ)
+    → all bytes (x ∷ xs) text ≡ (put_after bytes (read x text) >>= λ y. all y.0 xs y.1)
+
+-- what is read from an index on is what is there, and then what is behind it
+field-first : {A : Type 0} (read : A → Reader (List ℕ))
+    (all : List ℕ → List A → Reader (List ℕ)) → ReadsEach read all
+    → (bytes : List ℕ) (xs : List A) (i : ℕ) (d : A) (text : List ℕ)
+    (r : Result (List ℕ × List ℕ) Fault) → i < length xs
+    → put_after bytes (read (get_or xs i d) text) ≡ r
+    → all bytes (drop i xs) text ≡ (r >>= λ y. all y.0 (drop (i + 1) xs) y.1)
+field-first read all each bytes xs i d text r lt is =
+    let k : suc i ≡ i + 1 = omega arith in
+    ap (λ l. all bytes l text) (drop-cons xs i d lt)
+    ∙ each bytes (get_or xs i d) (drop (suc i) xs) text
+    ∙ ap (λ q. q >>= λ y. all y.0 (drop (suc i) xs) y.1) is
+    ∙ ap (λ n. r >>= λ y. all y.0 (drop n xs) y.1) k
+
+-- where one more field is read, what is still read is one fewer
+pub field-goes_on : {A : Type 0} (read : A → Reader (List ℕ))
+    (all : List ℕ → List A → Reader (List ℕ)) → ReadsEach read all
+    → (bytes : List ℕ) (xs : List A) (i : ℕ) (d : A) (text more after : List ℕ)
+    (total : Result (List ℕ × List ℕ) Fault) → i < length xs
+    → put_after bytes (read (get_or xs i d) text) ≡ Ok (more, after)
+    → all bytes (drop i xs) text ≡ total → all more (drop (i + 1) xs) after ≡ total
+field-goes_on read all each bytes xs i d text more after total lt is so_far =
+    sym (field-first read all each bytes xs i d text (Ok (more, after)) lt is) ∙ so_far
+
+-- where a field is not read, all are not
+pub field-fails : {A : Type 0} (read : A → Reader (List ℕ))
+    (all : List ℕ → List A → Reader (List ℕ)) → ReadsEach read all
+    → (bytes : List ℕ) (xs : List A) (i : ℕ) (d : A) (text : List ℕ) (e : Stop Fault)
+    (total : Result (List ℕ × List ℕ) Fault) → i < length xs
+    → Fails e (put_after bytes (read (get_or xs i d) text))
+    → all bytes (drop i xs) text ≡ total → Fails e total
+field-fails read all each bytes xs i d text NoMemory total lt is so_far = tt
+field-fails read all each bytes xs i d text (Refused fault) total lt is so_far =
+    sym so_far ∙ field-first read all each bytes xs i d text (Err fault) lt is

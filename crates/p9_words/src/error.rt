@@ -49,7 +49,7 @@ pub enum Expected {
 impl fmt::Display for Expected {
     fn fmt<W: fmt::Write>(&self, f: &mut fmt::Formatter<W>) -> fmt::Result {
         match self {
-            Expected::Verb => write!(f, "the name of a message"),
+            Expected::Verb => f.write_str("the name of a message"),
             Expected::Key(key) => {
                 let word = key.text();
                 write!(f, "'{word}'")
@@ -58,19 +58,19 @@ impl fmt::Display for Expected {
                 let digits = base.name();
                 write!(f, "a number in {digits} digits, at most {most},")
             }
-            Expected::Word => write!(f, "a text"),
-            Expected::Quote => write!(f, "a quote"),
-            Expected::Pairs => write!(f, "pairs of hexadecimal digits"),
-            Expected::Text => write!(f, "UTF-8 without NUL of at most 65535 bytes"),
+            Expected::Word => f.write_str("a text"),
+            Expected::Quote => f.write_str("a quote"),
+            Expected::Pairs => f.write_str("pairs of hexadecimal digits"),
+            Expected::Text => f.write_str("UTF-8 without NUL of at most 65535 bytes"),
             Expected::Count(count) => write!(f, "{count} bytes"),
-            Expected::Open => write!(f, "'('"),
-            Expected::Close => write!(f, "')'"),
+            Expected::Open => f.write_str("'('"),
+            Expected::Close => f.write_str("')'"),
             Expected::Index(index) => write!(f, "the index {index}"),
-            Expected::Colon => write!(f, "':'"),
-            Expected::ShortStat => write!(f, "a stat of at most 65535 bytes"),
-            Expected::ShortMessage => write!(f, "a message of less than 4294967296 bytes"),
-            Expected::End => write!(f, "the end of the line"),
-            Expected::Event => write!(f, "'open', 'close', 'msg' or the number of a session"),
+            Expected::Colon => f.write_str("':'"),
+            Expected::ShortStat => f.write_str("a stat of at most 65535 bytes"),
+            Expected::ShortMessage => f.write_str("a message of less than 4294967296 bytes"),
+            Expected::End => f.write_str("the end of the line"),
+            Expected::Event => f.write_str("'open', 'close', 'msg' or the number of a session"),
         }
     }
 }
