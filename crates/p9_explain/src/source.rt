@@ -50,7 +50,7 @@ impl<'a, A: Allocator + Copy> Source<'a, A> {
         alloc: A,
         section: Section,
     ) -> Result<Vec<Statement<'a, A>, A>, NoMemory> {
-        statements(alloc, self.text(section).unwrap_or(""))
+        Ok(statements(alloc, self.text(section).unwrap_or(""))?)
     }
 
     /// Adds `NAME:L` for this line of a section to a text.

@@ -81,6 +81,11 @@ is_none-of : {X : Type 0} (o : Option X) → is_none o ≡ true → o ≡ None
 is_none-of None e = refl
 is_none-of (Some x) e = let no : false ≡ true = e in absurd (cc)
 
+-- what is there
+pub some-of : {X : Type 0} (o : Option X) → is_some o ≡ true → is_none o ≡ false
+some-of (Some x) e = refl
+some-of None e = let no : false ≡ true = e in absurd (cc)
+
 -- what is not there
 pub none-of : {X : Type 0} (o : Option X) → is_some o ≡ false → is_none o ≡ true
 none-of None e = refl
@@ -226,6 +231,46 @@ module _ (setting : Setting) (forest : List Server) (session : Session) (now fid
           ∙ obtain-same (permitting members) CreationForbidden _ _ (λ member.
           obtain-same (node_of member.node forest) PhaseError _ _ (λ dir.
           inside v asked member.node dir))))
+
+  -- where the fid is not there
+  pub steps-unknown : fid_at fid session.fids ≡ None
+      → create_steps setting forest session now fid name perm bits ≡ Err UnknownFid
+  unfolding obtain
+  steps-unknown none =
+      ap (λ o. obtain o UnknownFid (λ v. need (is_none v.opened) FidOpen
+      (and_then (asked_of name perm bits) (λ asked.
+      and_then (target_among forest (members_of (here v.trail) setting.table))
+      (created_in setting forest session now fid v asked))))) none
+
+  -- where it is open
+  pub steps-open : (v : Fid) → fid_at fid session.fids ≡ Some v → is_none v.opened ≡ false
+      → create_steps setting forest session now fid name perm bits ≡ Err FidOpen
+  unfolding obtain need
+  steps-open v found used =
+      ap (λ o. obtain o UnknownFid (λ v. need (is_none v.opened) FidOpen
+      (and_then (asked_of name perm bits) (λ asked.
+      and_then (target_among forest (members_of (here v.trail) setting.table))
+      (created_in setting forest session now fid v asked))))) found
+      ∙ ap (λ b. need b FidOpen (and_then (asked_of name perm bits) (λ asked.
+      and_then (target_among forest (members_of (here v.trail) setting.table))
+      (created_in setting forest session now fid v asked)))) used
+
+  -- where what is asked means nothing
+  pub steps-meaningless : (v : Fid) (fault : Fault) → fid_at fid session.fids ≡ Some v
+      → is_none v.opened ≡ true → asked_of name perm bits ≡ Err fault
+      → create_steps setting forest session now fid name perm bits ≡ Err fault
+  unfolding obtain need
+  steps-meaningless v fault found shut means =
+      ap (λ o. obtain o UnknownFid (λ v. need (is_none v.opened) FidOpen
+      (and_then (asked_of name perm bits) (λ asked.
+      and_then (target_among forest (members_of (here v.trail) setting.table))
+      (created_in setting forest session now fid v asked))))) found
+      ∙ ap (λ b. need b FidOpen (and_then (asked_of name perm bits) (λ asked.
+      and_then (target_among forest (members_of (here v.trail) setting.table))
+      (created_in setting forest session now fid v asked)))) shut
+      ∙ ap (λ r. and_then r (λ asked.
+      and_then (target_among forest (members_of (here v.trail) setting.table))
+      (created_in setting forest session now fid v asked))) means
 
   -- where the tests before the directory pass
   steps-before : (v : Fid) (asked : Asked) → fid_at fid session.fids ≡ Some v
