@@ -172,6 +172,27 @@ module _ (setting : Setting) (forest : List Server) (v : Fid) (now : ℕ) (asked
       its ∙ as_made
       ∙ ap (λ t. plan_answer forest session fid target new t asked.opening) (sym way)
 
+module _ (setting : Setting) (forest : List Server) (session : Session) (now fid : ℕ) (v : Fid)
+    (asked : Asked) (target : NodeRef) where
+  -- where the directory is not there
+  pub in-missing : node_of target forest ≡ None
+      → created_in setting forest session now fid v asked target ≡ Err PhaseError
+  unfolding obtain
+  in-missing none = rw none refl
+
+  module _ (dir : Node) (found : node_of target forest ≡ Some dir) where
+    -- where something in it refuses the node
+    pub in-refused : (fault : Fault) → place_in setting forest v asked.name target dir ≡ Err fault
+        → created_in setting forest session now fid v asked target ≡ Err fault
+    unfolding obtain
+    in-refused fault refused = rw (found, refused) refl
+
+    -- where nothing does
+    pub in-done : (at : NodeRef) → place_in setting forest v asked.name target dir ≡ Ok at
+        → is_done (created_in setting forest session now fid v asked target) ≡ true
+    unfolding obtain
+    in-done at placed = rw (found, placed) refl
+
 module _ (setting : Setting) (forest : List Server) (session : Session) (now fid : ℕ)
     (name : List ℕ) (perm bits : ℕ) where
   -- the tests in their parts are the one list of tests
