@@ -193,9 +193,21 @@ fn work<T: Tree>(
 {
     match command {
         Command::Play => play(prepared, out, err),
-        Command::Check => prepared.space.check(out),
-        Command::Verify => print_verified(prepared.gap(), out),
-        Command::Ns => prepared.space.list(out),
+        Command::Check => {
+            let status = prepared.space.check(out);
+            drop(prepared);
+            status
+        }
+        Command::Verify => {
+            let status = print_verified(prepared.gap(), out);
+            drop(prepared);
+            status
+        }
+        Command::Ns => {
+            let status = prepared.space.list(out);
+            drop(prepared);
+            status
+        }
     }
 }
 
@@ -214,15 +226,23 @@ fn play<T: Tree>(
         events,
     } = prepared;
     let Some(certificate) = certificate else {
-        play_events(&mut space.export(), events.as_slice(), out)?;
+        let mut export = space.export();
+        let played = play_events(&mut export, events.as_slice(), out);
+        drop(export);
+        drop(events);
+        played?;
         return Ok(DONE);
     };
     match space.guard(certificate) {
         Ok(mut guard) => {
-            play_events(&mut guard, events.as_slice(), out)?;
+            let played = play_events(&mut guard, events.as_slice(), out);
+            drop(guard);
+            drop(events);
+            played?;
             Ok(DONE)
         }
         Err(stop) => {
+            drop(events);
             print_stop(stop, err)?;
             Ok(REFUSED)
         }

@@ -82,12 +82,17 @@ impl<T: Tree> NameSpace<T> {
     {
         world.well_formed();
         let mut table = MountTable::new(alloc);
-        let reports = run(alloc, text, &world, &mut table)?;
-        Ok(NameSpace {
-            world,
-            table,
-            reports,
-        })
+        match run(alloc, text, &world, &mut table) {
+            Ok(reports) => Ok(NameSpace {
+                world,
+                table,
+                reports,
+            }),
+            Err(stop) => {
+                drop(world);
+                Err(stop)
+            }
+        }
     }
 
     /// Prints the mount table, a line for each member of each row. Returns the exit status. Where
@@ -123,8 +128,14 @@ impl<T: Tree> NameSpace<T> {
         } = self;
         match Guard::new(world, table, certificate) {
             Ok(guard) => Ok(guard),
-            Err((_, _, Cause::Gap(gap))) => Err(Stop::Refused(Refusal::Unverified(gap))),
-            Err((_, _, Cause::NoMemory)) => Err(Stop::NoMemory),
+            Err((world, table, cause)) => {
+                drop(world);
+                drop(table);
+                match cause {
+                    Cause::Gap(gap) => Err(Stop::Refused(Refusal::Unverified(gap))),
+                    Cause::NoMemory => Err(Stop::NoMemory),
+                }
+            }
         }
     }
 

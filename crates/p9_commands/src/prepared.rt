@@ -114,10 +114,13 @@ pub(crate) fn prepare_and_report<T: Tree>(
     ensures { IfOk result (IsReported (prepared_of needs input.now) err.old.items err.new.items) }
 {
     match prepare::<T>(*err.allocator(), input, needs) {
-        Ok(prepared) => {
-            print_reports(prepared.space.reports.as_slice(), err)?;
-            Ok(Some(prepared))
-        }
+        Ok(prepared) => match print_reports(prepared.space.reports.as_slice(), err) {
+            Ok(()) => Ok(Some(prepared)),
+            Err(NoMemory) => {
+                drop(prepared);
+                Err(NoMemory)
+            }
+        },
         Err(PrepareError { reports, stop }) => {
             print_reports(reports.as_slice(), err)?;
             print_stop(stop, err)?;

@@ -4,7 +4,7 @@ use crate::head::Section;
 use crate::member::{Found, push_found};
 use crate::source::Source;
 use crate::teller::{Part, Teller};
-use p9_base::{NoMemory, NodeRef, statements};
+use p9_base::{NoMemory, NodeRef};
 use p9_cert::{Certificate, Gap, MemberFault, RowFault};
 use p9_space::ROOT_PLACE;
 use p9_tree::Tree;
@@ -145,7 +145,7 @@ fn row_line<A: Allocator + Copy>(
     source: &Source<'_, A>,
     row: u64,
 ) -> Result<u64, NoMemory> {
-    let statements = statements(alloc, source.text(Section::Cert))?;
+    let statements = source.statements(alloc, Section::Cert)?;
     Ok(match statements.as_slice().get(row as usize) {
         Some(statement) => statement.line,
         None => 1,

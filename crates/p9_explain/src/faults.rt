@@ -63,8 +63,11 @@ fn push_faults_in<T: Tree>(
     source: &Source<'_, T::Alloc>,
     section: Section,
 ) -> Result<(), NoMemory> {
+    let Some(first) = source.text(section) else {
+        return Ok(());
+    };
     let alloc = *text.allocator();
-    let mut read = text_of(alloc, source, section)?;
+    let mut read = with_newline(alloc, first)?;
     let mut last = None;
     for _ in 0..FAULTS_MAX {
         let Some(fault) = first_fault::<T>(alloc, section, read.as_str())? else {
@@ -85,28 +88,21 @@ fn push_faults_in<T: Tree>(
     Ok(())
 }
 
-// The text of a section, each line with a newline; an empty one where it has no line.
-fn text_of<A: Allocator + Copy>(
-    alloc: A,
-    source: &Source<'_, A>,
-    section: Section,
-) -> Result<String<A>, NoMemory> {
-    let mut text = String::from_str(alloc, source.text(section))?;
-    if source.has_lines(section) && !text.ends_with('\n') {
-        text.push('\n')?;
+// A text with a newline at its end.
+fn with_newline<A: Allocator + Copy>(alloc: A, text: &str) -> Result<String<A>, NoMemory> {
+    let mut whole = String::from_str(alloc, text)?;
+    if !text.ends_with('\n') {
+        whole.push('\n')?;
     }
-    Ok(text)
+    Ok(whole)
 }
 
-// The first bad line of a section of this text. A section without lines has none.
+// The first bad line of a section of this text.
 fn first_fault<T: Tree>(
     alloc: T::Alloc,
     section: Section,
     text: &str,
 ) -> Result<Option<Fault<T::Alloc>>, NoMemory> {
-    if text.is_empty() {
-        return Ok(None);
-    }
     match section {
         Section::World => world_fault::<T>(alloc, text),
         Section::Ns => ns_fault::<T>(alloc, text),

@@ -4,7 +4,7 @@ use crate::head::Section;
 use crate::right::passing_class;
 use crate::source::Source;
 use crate::teller::Teller;
-use p9_base::{NoMemory, NodeRef, Statement, User, statements};
+use p9_base::{NoMemory, NodeRef, Statement, User};
 use p9_cert::Certificate;
 use p9_nsfile::OpFault;
 use p9_space::{MountTable, ROOT_PLACE};
@@ -20,7 +20,7 @@ pub(crate) fn push_hints<T: Tree>(
     table: &MountTable<T::Alloc>,
     reports: &[(u64, OpFault)],
 ) -> Result<(), NoMemory> {
-    let statements = statements(*text.allocator(), teller.source.text(Section::World))?;
+    let statements = teller.source.statements(*text.allocator(), Section::World)?;
     push_strangers(text, teller, statements.as_slice())?;
     push_odd_names(text, teller.source, statements.as_slice())?;
     push_carriage_returns(text, teller.source)?;
@@ -203,7 +203,7 @@ pub(crate) fn push_unneeded_rows<A: Allocator + Copy>(
     certificate: &Certificate<A>,
     least: &Certificate<A>,
 ) -> Result<(), NoMemory> {
-    let statements = statements(*text.allocator(), source.text(Section::Cert))?;
+    let statements = source.statements(*text.allocator(), Section::Cert)?;
     let mut rows = certificate.rows().iter();
     for statement in statements.as_slice().iter().skip(1) {
         let Some(row) = rows.next() else {

@@ -3,7 +3,7 @@
 use crate::head::Section;
 use crate::layout::{Line, layout_of};
 use crate::node_lines::{NodeLine, line_of, node_lines};
-use p9_base::{NoMemory, NodeRef, statements};
+use p9_base::{NoMemory, NodeRef, Statement, statements};
 use std::alloc::Allocator;
 
 /// An input, by its name.
@@ -18,26 +18,39 @@ pub(crate) struct Source<'a, A: Allocator> {
 impl<'a, A: Allocator + Copy> Source<'a, A> {
     /// The source of an input, which has this name.
     pub fn of(alloc: A, name: &'a str, input: &'a str) -> Result<Source<'a, A>, NoMemory> {
-        let lines = layout_of(alloc, input)?;
-        let world = section_text(input, lines.as_slice(), Section::World).unwrap_or("");
-        let nodes = node_lines(alloc, statements(alloc, world)?.as_slice())?;
-        Ok(Source {
+        let mut source = Source {
             name,
             input,
-            lines,
-            nodes,
-        })
+            lines: layout_of(alloc, input)?,
+            nodes: Vec::new(alloc),
+        };
+        let world = source.statements(alloc, Section::World)?;
+        source.nodes = node_lines(alloc, world.as_slice())?;
+        Ok(source)
     }
 
-    /// The text of a section, without a newline at the end of the input; an empty one where it has no
-    /// line.
-    pub fn text(&self, section: Section) -> &'a str {
-        section_text(self.input, self.lines.as_slice(), section).unwrap_or("")
+    /// The text of a section, whose lines follow one another, if it has a line. The line after the last
+    /// newline of the input is one, so the last line of the text may lack its newline.
+    pub fn text(&self, section: Section) -> Option<&'a str> {
+        let mut found = None;
+        for line in self.lines.as_slice() {
+            if line.section == Some(section) {
+                let end = line.start.saturating_add(line.text.len()).saturating_add(1);
+                let (start, _) = found.unwrap_or((line.start, end));
+                found = Some((start, end.min(self.input.len())));
+            }
+        }
+        let (start, end) = found?;
+        self.input.get(start..end)
     }
 
-    /// Whether a section has a line. The line after the last newline of the input is one.
-    pub fn has_lines(&self, section: Section) -> bool {
-        section_text(self.input, self.lines.as_slice(), section).is_some()
+    /// The statements of a section.
+    pub fn statements(
+        &self,
+        alloc: A,
+        section: Section,
+    ) -> Result<Vec<Statement<'a, A>, A>, NoMemory> {
+        Ok(statements(alloc, self.text(section).unwrap_or(""))?)
     }
 
     /// Adds `NAME:L` for this line of a section to a text.
@@ -56,20 +69,6 @@ impl<'a, A: Allocator + Copy> Source<'a, A> {
     pub fn line_of(&self, at: NodeRef) -> Option<u64> {
         line_of(self.nodes.as_slice(), at)
     }
-}
-
-// The text of a section, whose lines follow one another, if it has one.
-fn section_text<'a>(input: &'a str, lines: &[Line<'a>], section: Section) -> Option<&'a str> {
-    let mut found = None;
-    for line in lines {
-        if line.section == Some(section) {
-            let end = line.start.saturating_add(line.text.len()).saturating_add(1);
-            let (start, _) = found.unwrap_or((line.start, end));
-            found = Some((start, end.min(input.len())));
-        }
-    }
-    let (start, end) = found?;
-    input.get(start..end)
 }
 
 // The number of a section's line among all lines.

@@ -81,6 +81,11 @@ is_none-of : {X : Type 0} (o : Option X) → is_none o ≡ true → o ≡ None
 is_none-of None e = refl
 is_none-of (Some x) e = let no : false ≡ true = e in absurd (cc)
 
+-- what is there
+pub some-of : {X : Type 0} (o : Option X) → is_some o ≡ true → is_none o ≡ false
+some-of (Some x) e = refl
+some-of None e = let no : false ≡ true = e in absurd (cc)
+
 -- what is not there
 pub none-of : {X : Type 0} (o : Option X) → is_some o ≡ false → is_none o ≡ true
 none-of None e = refl
@@ -167,6 +172,27 @@ module _ (setting : Setting) (forest : List Server) (v : Fid) (now : ℕ) (asked
       its ∙ as_made
       ∙ ap (λ t. plan_answer forest session fid target new t asked.opening) (sym way)
 
+module _ (setting : Setting) (forest : List Server) (session : Session) (now fid : ℕ) (v : Fid)
+    (asked : Asked) (target : NodeRef) where
+  -- where the directory is not there
+  pub in-missing : node_of target forest ≡ None
+      → created_in setting forest session now fid v asked target ≡ Err PhaseError
+  unfolding obtain
+  in-missing none = rw none refl
+
+  module _ (dir : Node) (found : node_of target forest ≡ Some dir) where
+    -- where something in it refuses the node
+    pub in-refused : (fault : Fault) → place_in setting forest v asked.name target dir ≡ Err fault
+        → created_in setting forest session now fid v asked target ≡ Err fault
+    unfolding obtain
+    in-refused fault refused = rw (found, refused) refl
+
+    -- where nothing does
+    pub in-done : (at : NodeRef) → place_in setting forest v asked.name target dir ≡ Ok at
+        → is_done (created_in setting forest session now fid v asked target) ≡ true
+    unfolding obtain
+    in-done at placed = rw (found, placed) refl
+
 module _ (setting : Setting) (forest : List Server) (session : Session) (now fid : ℕ)
     (name : List ℕ) (perm bits : ℕ) where
   -- the tests in their parts are the one list of tests
@@ -226,6 +252,46 @@ module _ (setting : Setting) (forest : List Server) (session : Session) (now fid
           ∙ obtain-same (permitting members) CreationForbidden _ _ (λ member.
           obtain-same (node_of member.node forest) PhaseError _ _ (λ dir.
           inside v asked member.node dir))))
+
+  -- where the fid is not there
+  pub steps-unknown : fid_at fid session.fids ≡ None
+      → create_steps setting forest session now fid name perm bits ≡ Err UnknownFid
+  unfolding obtain
+  steps-unknown none =
+      ap (λ o. obtain o UnknownFid (λ v. need (is_none v.opened) FidOpen
+      (and_then (asked_of name perm bits) (λ asked.
+      and_then (target_among forest (members_of (here v.trail) setting.table))
+      (created_in setting forest session now fid v asked))))) none
+
+  -- where it is open
+  pub steps-open : (v : Fid) → fid_at fid session.fids ≡ Some v → is_none v.opened ≡ false
+      → create_steps setting forest session now fid name perm bits ≡ Err FidOpen
+  unfolding obtain need
+  steps-open v found used =
+      ap (λ o. obtain o UnknownFid (λ v. need (is_none v.opened) FidOpen
+      (and_then (asked_of name perm bits) (λ asked.
+      and_then (target_among forest (members_of (here v.trail) setting.table))
+      (created_in setting forest session now fid v asked))))) found
+      ∙ ap (λ b. need b FidOpen (and_then (asked_of name perm bits) (λ asked.
+      and_then (target_among forest (members_of (here v.trail) setting.table))
+      (created_in setting forest session now fid v asked)))) used
+
+  -- where what is asked means nothing
+  pub steps-meaningless : (v : Fid) (fault : Fault) → fid_at fid session.fids ≡ Some v
+      → is_none v.opened ≡ true → asked_of name perm bits ≡ Err fault
+      → create_steps setting forest session now fid name perm bits ≡ Err fault
+  unfolding obtain need
+  steps-meaningless v fault found shut means =
+      ap (λ o. obtain o UnknownFid (λ v. need (is_none v.opened) FidOpen
+      (and_then (asked_of name perm bits) (λ asked.
+      and_then (target_among forest (members_of (here v.trail) setting.table))
+      (created_in setting forest session now fid v asked))))) found
+      ∙ ap (λ b. need b FidOpen (and_then (asked_of name perm bits) (λ asked.
+      and_then (target_among forest (members_of (here v.trail) setting.table))
+      (created_in setting forest session now fid v asked)))) shut
+      ∙ ap (λ r. and_then r (λ asked.
+      and_then (target_among forest (members_of (here v.trail) setting.table))
+      (created_in setting forest session now fid v asked))) means
 
   -- where the tests before the directory pass
   steps-before : (v : Fid) (asked : Asked) → fid_at fid session.fids ≡ Some v

@@ -110,5 +110,9 @@ pub fn report_text(rt: &HostRuntime, text: &str, failure: Failure) -> Failure {
 
 /// Reports that a mode is none, and returns how a command fails then.
 pub fn report_mode(rt: &HostRuntime) -> Failure {
-    report_text(rt, "a mode is an octal number up to 777, as 755", Failure::BadWords)
+    report_text(
+        rt,
+        "a mode is an octal number up to 777, as 755",
+        Failure::BadWords,
+    )
 }

@@ -2,6 +2,8 @@
 
 ghost use Rattle.std.specs.Prelude.{IfOk};
 ghost use Rattle.p9_cert.specs.Policy.{policy_of};
+ghost use Rattle.p9_judge.specs.Listed.{Lists};
+ghost use Rattle.p9_judge.specs.Search.{IsSearch};
 ghost use Rattle.p9_judge.specs.Verdict.{IsVerdict};
 
 use crate::breach::Breach;
@@ -53,13 +55,32 @@ pub fn judge<T: Tree, A: Allocator + Copy, B: Allocator + Copy>(
 ) -> Result<Verdict<A>, NoMemory>
     ensures { IfOk result (IsVerdict (policy_of world.now) world.now.forest table.now) }
 {
-    world.forest.well_formed();
     let listed = Listed::of(alloc, world)?;
     let mut search = Search::new(alloc)?;
+    let verdict = verdict_of(alloc, world, &listed, table, &mut search);
+    drop(search);
+    drop(listed);
+    verdict
+}
+
+// Judges by a search that has tested no place so far.
+fn verdict_of<T: Tree, A: Allocator + Copy, B: Allocator + Copy>(
+    alloc: A,
+    world: &World<T>,
+    listed: &Listed<A>,
+    table: &MountTable<B>,
+    search: &mut Search<A>,
+) -> Result<Verdict<A>, NoMemory>
+    requires listed { Lists world.now.users world.now.groups listed.now }
+    requires search { IsSearch (policy_of world.now) world.now.forest table.now
+        search.old.places.items search.old.passed.keys }
+    ensures { IfOk result (IsVerdict (policy_of world.now) world.now.forest table.now) }
+{
+    world.forest.well_formed();
     let mut tested = 0;
     while let Some(place) = search.place(tested) {
         let parent = place.parent();
-        let fault = place_breach(world, &listed, table, parent.as_slice(), place.key);
+        let fault = place_breach(world, listed, table, parent.as_slice(), place.key);
         if let Some((member, kind)) = fault {
             return Ok(Verdict::No(Breach {
                 steps: search.steps_to(alloc, world, tested)?,
@@ -67,7 +88,7 @@ pub fn judge<T: Tree, A: Allocator + Copy, B: Allocator + Copy>(
                 kind,
             }));
         }
-        search.pass(world, &listed, table, tested, place.key)?;
+        search.pass(world, listed, table, tested, place.key)?;
         tested += 1;
     }
     Ok(Verdict::Yes(search.certificate(alloc)?))

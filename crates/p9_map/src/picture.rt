@@ -41,8 +41,9 @@ pub fn map<T: Tree>(alloc: T::Alloc, input: &[u8]) -> Result<String<T::Alloc>, S
     match prepare::<T>(alloc, input, Needs::Nothing) {
         Ok(prepared) => {
             let certificate = prepared.certificate.as_ref();
-            let svg = space_picture(alloc, &prepared.space, certificate)?;
-            Ok(svg)
+            let svg = space_picture(alloc, &prepared.space, certificate);
+            drop(prepared);
+            Ok(svg?)
         }
         Err(error) => Err(error.stop),
     }

@@ -1,5 +1,5 @@
 -- When a server accepts, and how long it rests between rounds.
-use Rattle.std.specs.Prelude.{ℕ, ◌+◌, ◌-◌, ◌*◌, ◌^◌, ◌%◌, ◌&&◌, ◌||◌, Bool, min, nat_eq, nat_le}
+use Rattle.std.specs.Prelude.{ℕ, ◌+◌, ◌-◌, ◌*◌, ◌^◌, ◌&&◌, ◌||◌, Bool, min, nat_eq, nat_le}
 use Rattle.std.specs.Prelude.{nat_lt, if◌then◌else◌}
 use Rattle.p9_serve.specs.declared.server.Round.{Round}
 
@@ -13,10 +13,6 @@ pub record Pacing : Type 0 where
 -- how many rounds pass at most between two accepts
 abbrev pub longest_wait : ℕ
 longest_wait = 63
-
--- how many quiet rounds come between two accepts
-abbrev pub accept_each : ℕ
-accept_each = 16
 
 -- after this many quiet rounds a server rests before each further one
 abbrev pub rest_from : ℕ
@@ -37,9 +33,7 @@ rest_of quiet = if nat_lt quiet rest_from then 0 else min 4_000 (50 * 2 ^ (quiet
 
 -- whether the next round accepts
 abbrev pub is_due : Pacing → Bool
-is_due p =
-    nat_eq p.left 0 || nat_le rest_from p.quiet
-    || (nat_lt 0 p.quiet && nat_eq (p.quiet % accept_each) 0)
+is_due p = nat_eq p.left 0 || nat_le rest_from p.quiet
 
 -- whether nothing was taken in, moved or closed
 abbrev pub is_quiet : Round → Bool

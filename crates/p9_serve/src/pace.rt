@@ -12,9 +12,6 @@ use std::time::Duration;
 // How many rounds pass at most between two accepts.
 const LONGEST_WAIT: u64 = 63;
 
-// How many quiet rounds come between two accepts.
-const ACCEPT_EACH: u64 = 16;
-
 // After this many quiet rounds a server rests before each further one.
 const REST_FROM: u64 = 5_000;
 
@@ -26,10 +23,9 @@ const MOST_QUIET: u64 = 5_007;
 ///
 /// A round accepts if it is the first, or if the one before it took in or closed a client. After
 /// accepts that find nobody one round passes until the next, then three, seven, and so on up to
-/// 63. A round accepts also if the quiet rounds just before it are 16 or a multiple of that, and
-/// after each rest. There is a rest after 5,000 quiet rounds and after each further one: 50
-/// microseconds at first, then each time twice as long, up to 4,000. A round that is not quiet
-/// ends the rests.
+/// 63. A round accepts also after each rest. There is a rest after 5,000 quiet rounds and after
+/// each further one: 50 microseconds at first, then each time twice as long, up to 4,000. A round
+/// that is not quiet ends the rests.
 #[derive(Drop)]
 pub struct Pace {
     // The quiet rounds in a row that were the last ones, up to `MOST_QUIET`.
@@ -67,9 +63,7 @@ impl Pace {
     pub fn is_due(&self) -> bool
         ensures { result ≡ is_due self.now }
     {
-        self.left == 0
-            || self.quiet >= REST_FROM
-            || (self.quiet > 0 && self.quiet % ACCEPT_EACH == 0)
+        self.left == 0 || self.quiet >= REST_FROM
     }
 
     /// How long to rest before the next round.

@@ -84,10 +84,9 @@ impl<T: Tree> Server<T> {
 
     /// Accepts, if that is due: in the first round; in the round after one that took in or closed a
     /// client, and then, while nobody waits, after one round more, three, seven and so on, at least
-    /// once in 256; if nothing was taken in, moved or closed in the 16 rounds before it or in a
-    /// multiple of 16; and after each rest ([`Pace`]). One client is taken in then, if one is
-    /// waiting. Then each client's connection has a turn, by rising key, at the clock reading
-    /// `clock`, in seconds since 1970, modulo 2^32. Returns what came of it.
+    /// once in 64; and after each rest ([`Pace`]). One client is taken in then, if one is waiting.
+    /// Then each client's connection has a turn, by rising key, at the clock reading `clock`, in
+    /// seconds since 1970, modulo 2^32. Returns what came of it.
     ///
     /// A client is dropped, and not counted, where [`Clients::take_in`] drops it. An accept that
     /// fails takes in nobody, as one does that finds nobody waiting.

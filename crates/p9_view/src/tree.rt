@@ -36,7 +36,11 @@ pub fn show_tree<T: Tree>(
         err.new.items) }
 {
     match prepare::<T>(*out.allocator(), input, Needs::Nothing) {
-        Ok(prepared) => show(space_of(&prepared), user, out, err),
+        Ok(prepared) => {
+            let status = show(space_of(&prepared), user, out, err);
+            drop(prepared);
+            status
+        }
         Err(PrepareError { reports, stop }) => {
             print_reports(reports.as_slice(), err)?;
             print_stop(stop, err)?;

@@ -5,8 +5,8 @@ use Rattle.p9_commands.specs.Prepared.{Prepared, gap_in}
 use Rattle.p9_commands.specs.Refusal.{IsUnverified}
 use Rattle.p9_commands.proofs.command.play.Goals as goal
 
-pub returns : goal.returns
-returns g c =
+pub returns-in_ok-print_stop-in-Err : goal.returns-in_ok-print_stop-in-Err
+returns-in_ok-print_stop-in-Err g c =
     unplayed c.args.prepared (gap_in c.args.prepared)
     (printed c.args.out.now c.args.out.now c.args.err.now c.print_stop.new.err) c.in-Err.stop
     (subst (λ (prepared : Prepared). IsUnverified (gap_in prepared) c.in-Err.stop)

@@ -1,7 +1,7 @@
 use Rattle.std.proofs.Common.{◌-◌, ◌^◌}
 use Rattle.p9_cert.specs.Policy.{policy_of}
 use Rattle.p9_judge.specs.Search.{AreTested, IsSearch}
-use Rattle.p9_judge.proofs.verdict.judge.Given as goal
+use Rattle.p9_judge.proofs.verdict.verdict_of.Given as goal
 
 -- what was discovered had to be, and the places so far are tested
 abbrev pub invariant-loop-place : goal.invariant-loop-place
