@@ -149,17 +149,40 @@ fn rest<T: Tree>(
     labels: &[Label<T::Alloc>],
     left_out: usize,
 ) -> Result<Svg<T::Alloc>, NoMemory> {
-    let claim = cut(alloc, claim_of(alloc, scene.world)?.as_str(), TITLE_MAX)?;
     let mut svg = Svg::new(alloc);
-    svg.push("</text>\n")?;
-    svg.line("name", 24, 52, claim.as_str())?;
-    draw_lines(&mut svg, scene, layout, false)?;
-    draw_lines(&mut svg, scene, layout, true)?;
-    draw_numbers(&mut svg, layout)?;
-    draw_boxes(&mut svg, scene, layout, labels)?;
-    draw_legend(&mut svg, layout.height, scene.breach.is_some(), left_out)?;
-    svg.push("</svg>\n")?;
+    push_rest(alloc, &mut svg, scene, layout, labels, left_out)?;
     Ok(svg)
+}
+
+// Adds what comes after the verdict.
+fn push_rest<T: Tree>(
+    alloc: T::Alloc,
+    svg: &mut Svg<T::Alloc>,
+    scene: &Scene<'_, T>,
+    layout: &Layout<T::Alloc>,
+    labels: &[Label<T::Alloc>],
+    left_out: usize,
+) -> Result<(), NoMemory> {
+    svg.push("</text>\n")?;
+    push_claim(alloc, svg, scene)?;
+    draw_lines(svg, scene, layout, false)?;
+    draw_lines(svg, scene, layout, true)?;
+    draw_numbers(svg, layout)?;
+    draw_boxes(svg, scene, layout, labels)?;
+    draw_legend(svg, layout.height, scene.breach.is_some(), left_out)?;
+    svg.push("</svg>\n")?;
+    Ok(())
+}
+
+// Adds the claim.
+fn push_claim<T: Tree>(
+    alloc: T::Alloc,
+    svg: &mut Svg<T::Alloc>,
+    scene: &Scene<'_, T>,
+) -> Result<(), NoMemory> {
+    let claim = cut(alloc, claim_of(alloc, scene.world)?.as_str(), TITLE_MAX)?;
+    svg.line("name", 24, 52, claim.as_str())?;
+    Ok(())
 }
 
 // What is laid out: the nodes with how wide their labels are.
