@@ -49,6 +49,9 @@ returns-in_err-channels-clause-err g c =
     let r = c.from_residual-in_err-channels in
     let p = err_from_is_err_and r.result r.ensures.1 in
     λ session fid. rw (p.1, p.2)
-    (inr (refl, in-done c.args.setting.now c.args.forest.now session c.args.clock fid
-    c.args.held.now.fid c.args.asked c.args.target c.in-Some.dir.now (sym c.in-Some.ensures)
-    c.in_ok-place.place (sym c.in_ok-place.ensures)))
+    (inr (
+      refl,
+      in-done c.args.setting.now c.args.forest.now session c.args.clock fid
+          c.args.held.now.fid c.args.asked c.args.target c.in-Some.dir.now (sym c.in-Some.ensures)
+          c.in_ok-place.place (sym c.in_ok-place.ensures),
+    ))
