@@ -4,6 +4,7 @@ use Rattle.std.proofs.lemmas.Slice.Eq.{bytes_eq-Decides}
 use Rattle.p9_space.specs.Channel.{Channels, row_position, rows_of}
 use Rattle.p9_space.specs.Place.{file_ref}
 use Rattle.p9_space.specs.Rights.{who_view}
+use Rattle.p9_space.specs.Table.{members_of}
 use Rattle.p9_space.specs.Trail.{here, places_max, stepped, upward}
 use Rattle.p9_space.specs.Walk.{step_of}
 use Rattle.p9_space.proofs.Rows.{row-at}
@@ -92,3 +93,19 @@ pub returns-else-eq-clause-places : goal.returns-else-eq-clause-places
 returns-else-eq-clause-places g c =
     subst (λ trail. IfOk c.arrive_down.result (λ arrival. length (stepped trail arrival.step)
     ≤ places_max)) c.trail-trail.ensures c.arrive_down.ensures.places
+
+pub members-members-requires : goal.members-members-requires
+members-members-requires g c = c.requires
+
+pub arrive_up-requires-clause-members : goal.arrive_up-requires-clause-members
+arrive_up-requires-clause-members g c =
+    c.as_slice.ensures ∙ c.members-members.ensures.members
+    ∙ ap (λ trail. members_of (here trail) c.args.table.now) (sym c.trail-trail.ensures)
+
+pub arrive_down-requires-clause-members : goal.arrive_down-requires-clause-members
+arrive_down-requires-clause-members g c =
+    c.as_slice-else-eq.ensures ∙ c.members-members.ensures.members
+    ∙ ap (λ trail. members_of (here trail) c.args.table.now) (sym c.trail-trail.ensures)
+
+pub arrive_down-requires-clause-other : goal.arrive_down-requires-clause-other
+arrive_down-requires-clause-other g c = sym c.eq.ensures ∙ c.if-eq.false

@@ -44,3 +44,9 @@ returns-in_err-take-clause-err g c =
 pub returns-in_err-trail-clause-err : goal.returns-in_err-trail-clause-err
 returns-in_err-trail-clause-err g c =
     passed_on c.from_residual.result _ _ c.from_residual.ensures.1 (inl refl)
+
+pub find_arrival_at-requires : goal.find_arrival_at-requires
+find_arrival_at-requires g c = c.loop-name.invariant.1
+
+pub take-requires : goal.take-requires
+take-requires g c = c.in_ok-arrival.ensures.places
