@@ -3,4 +3,5 @@ use Rattle.p9_wire.proofs.t_writing.put_walk.Goals as goal
 
 pub returns : goal.returns
 returns c =
-    puts_then (puts_then c.put_u32-at.ensures.bytes c.put_u32-at-2.ensures.bytes) c.put_names.ensures.bytes
+    puts_then (puts_then c.put_u32-at.ensures.bytes c.put_u32-at-2.ensures.bytes)
+    c.put_names.ensures.bytes

@@ -3,4 +3,5 @@ use Rattle.p9_wire.proofs.t_writing.put_write.Goals as goal
 
 pub returns : goal.returns
 returns c =
-    puts_then (puts_then c.put_u32-at.ensures.bytes c.put_u64-at.ensures.bytes) c.put_counted.ensures.bytes
+    puts_then (puts_then c.put_u32-at.ensures.bytes c.put_u64-at.ensures.bytes)
+    c.put_counted.ensures.bytes

@@ -12,7 +12,7 @@ use Rattle.p9_words.proofs.word.take_quoted.Goals.{else-not-quote-via-else-not-q
 use Rattle.p9_words.proofs.word.take_quoted.Goals.{else-quote-via-then-quote+else-byte-ne39}
 use Rattle.p9_words.proofs.word.take_quoted.Goals.{else-quote-via-else-quote}
 
--- the byte at an index, and those behind it
+-- a quote at an index, and the bytes behind it
 quote-here : (text : List ℕ) (i : ℕ) → i < length text → get_or text i 0 ≡ 39
     → drop i text ≡ 39 ∷ drop (i + 1) text
 quote-here text i lt is = drop_more text i 0 lt ∙ ap (λ b. b ∷ drop (i + 1) text) is
