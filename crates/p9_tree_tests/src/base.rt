@@ -79,7 +79,7 @@ const TOLD: &str = "\
 #[test]
 fn faults_have_their_numbers_and_texts(rt: HostRuntime) {
     let mut told = String::new(rt.alloc());
-    for fault in FAULTS {
+    for fault in &FAULTS {
         let (number, text) = (fault.number(), fault.text());
         writeln!(told, "{number} {text} = {fault}").expect(&rt, "memory");
     }
@@ -119,23 +119,21 @@ fn names_and_users_are_bounded(rt: HostRuntime) {
     }
 }
 
-// Numbers of letters, and whether so many are a name, and a user.
-const LENGTHS: &str = "\
-63 = name, user
-64 = name
-255 = name
-256 = nothing";
-
 #[test]
 fn names_and_users_have_a_greatest_length(rt: HostRuntime) {
-    for line in LENGTHS.lines() {
-        let (length, want) = line.split_once(" = ").expect(&rt, "a length");
-        let length = length.parse::<usize>().expect(&rt, "a length");
-        let text = "n".repeat(rt.alloc(), length).expect(&rt, "memory");
-        assert!(rt; told_of(text.as_str()) == want);
-    }
+    is_told(&rt, rt.alloc(), 63, "name, user");
+    is_told(&rt, rt.alloc(), 64, "name");
+    is_told(&rt, rt.alloc(), 255, "name");
+    is_told(&rt, rt.alloc(), 256, "nothing");
 }
 
+// This is told of a text of so many letters.
+fn is_told(rt: &impl Abort, alloc: Global, letters: usize, want: &str) {
+    let text = "n".repeat(alloc, letters).expect(rt, "memory");
+    assert!(rt; told_of(text.as_str()) == want);
+}
+
+// Whether a text is a name, and a user.
 fn told_of(text: &str) -> &'static str {
     let name = Name::new(text);
     let user = User::new(text);
@@ -294,6 +292,7 @@ fn plays(rt: &impl Abort, alloc: Global, lines: &str) {
     for line in lines.lines() {
         play(rt, alloc, &mut groups, line);
     }
+    drop(groups);
 }
 
 fn play(rt: &impl Abort, alloc: Global, groups: &mut Groups<Global>, line: &str) {
@@ -313,10 +312,9 @@ fn list(rt: &impl Abort, alloc: Global, groups: &mut Groups<Global>, line: &str)
 
 fn add(rt: &impl Abort, group: &mut Group<Global>, members: &str) {
     for word in members.split_whitespace() {
-        let (is_new, name) = match word.strip_prefix("+") {
-            Some(name) => (true, name),
-            None => (false, word.strip_prefix("-").expect(rt, "a member")),
-        };
+        let is_new = word.starts_with('+');
+        let sign = if is_new { "+" } else { "-" };
+        let name = word.strip_prefix(sign).expect(rt, "a member");
         assert!(rt; group.add_member(user(rt, name)) == Ok(is_new));
     }
 }
@@ -352,19 +350,34 @@ fn the_groups_that_are_listed_can_be_read(rt: HostRuntime) {
     list(&rt, rt.alloc(), &mut groups, "list staff rob +glenda +ken");
     list(&rt, rt.alloc(), &mut groups, "list none ken");
     are_found(&rt, &groups);
-    let told = told_in_order(rt.alloc(), &groups).expect(&rt, "memory");
-    assert!(rt; told.as_str() == "2\nstaff rob [\"glenda\", \"ken\"]\nnone ken []\n");
+    are_in_order(&rt, rt.alloc(), &groups);
+    drop(groups);
 }
 
-// How many there are, and those at the first three positions.
-fn told_in_order(alloc: Global, groups: &Groups<Global>) -> Result<String, AllocError> {
-    let mut told = format!(in alloc; "{}\n", groups.len())?;
+// There are two groups, these, and none at the third position.
+fn are_in_order(rt: &impl Abort, alloc: Global, groups: &Groups<Global>) {
+    assert!(rt; groups.len() == 2);
+    let mut told = String::new(alloc);
     for position in 0..3 {
-        if let Some((name, group)) = groups.at(position) {
-            writeln!(told, "{name} {} {:?}", group.leader(), group.members())?;
-        }
+        assert!(rt; tell_in_order(groups, position, &mut told).is_ok());
     }
-    Ok(told)
+    assert!(rt; told.as_str() == "staff rob \"glenda\" \"ken\"\nnone ken\n");
+}
+
+// Adds the name, the leader and the members of the group at a position, if there is one.
+fn tell_in_order(
+    groups: &Groups<Global>,
+    position: usize,
+    told: &mut String,
+) -> Result<(), AllocError> {
+    let Some((name, group)) = groups.at(position) else {
+        return Ok(());
+    };
+    write!(told, "{name} {}", group.leader())?;
+    for member in group.members() {
+        write!(told, " {member:?}")?;
+    }
+    writeln!(told)
 }
 
 fn are_found(rt: &impl Abort, groups: &Groups<Global>) {

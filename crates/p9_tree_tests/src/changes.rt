@@ -8,7 +8,7 @@ ghost use Rattle.p9_tree.specs.Forest.{server_at};
 ghost use Rattle.p9_tree.specs.Node.{is_dir};
 ghost use Rattle.p9_tree.specs.Server.{child_of};
 
-use crate::words::{mode_of, take_given, take_word, user};
+use crate::words::{mode_of, take_word, user};
 use p9_base::{Mode, Name, NodeRef, User};
 use p9_tree::{Change, FILE_MAX, Forest, Node, Tree};
 use std::alloc::Allocator;
@@ -17,10 +17,11 @@ use std::process::Abort;
 /// A wstat of rob's at the time 7, of a line: new name, mode, group, length and time of change.
 /// What is `-` stays.
 pub fn take_change(rt: &impl Abort, line: &mut &str) -> Change {
+    let (name, mode, gid) = (take_word(line), take_word(line), take_word(line));
     Change {
-        name: take_given(line).and_then(Name::new),
-        mode: take_given(line).and_then(mode_of),
-        gid: take_given(line).and_then(User::new),
+        name: if name == "-" { None } else { Name::new(name) },
+        mode: mode_of(mode),
+        gid: if gid == "-" { None } else { User::new(gid) },
         length: take_word(line).parse::<u64>().ok(),
         mtime: take_word(line).parse::<u32>().ok(),
         user: user(rt, "rob"),

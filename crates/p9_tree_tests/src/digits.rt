@@ -11,7 +11,8 @@ fn blanks_part_fields(rt: HostRuntime) {
 
 #[test]
 fn no_digits_are_no_bytes(rt: HostRuntime) {
-    assert!(rt; bytes_of(rt.alloc(), "").is_ok_and(|bytes| bytes.is_empty()));
+    let bytes = bytes_of(rt.alloc(), "").expect(&rt, "bytes");
+    assert!(rt; bytes.is_empty());
 }
 
 #[test]

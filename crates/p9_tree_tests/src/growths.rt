@@ -5,7 +5,7 @@ ghost use Rattle.std.specs.Option.{option_copied, option_map_or};
 ghost use Rattle.p9_tree.specs.Node.{is_dir as is_dir_node};
 
 use crate::changes::{may_change, take_change};
-use crate::words::{mode_of, name, take_number, take_time, take_word, user};
+use crate::words::{mode_of, name, take_number, take_u32, take_word, user};
 use p9_base::{NoMemory, NodeRef};
 use p9_tree::{FILE_MAX, Forest, NEXT_MAX, New, Node, Tree};
 use std::alloc::Allocator;
@@ -37,8 +37,8 @@ fn take_new<'a>(rt: &impl Abort, line: &mut &'a str) -> New<'a> {
         uid: user(rt, take_word(line)),
         gid: user(rt, take_word(line)),
         muid: user(rt, take_word(line)),
-        atime: take_time(rt, line),
-        mtime: take_time(rt, line),
+        atime: take_u32(rt, line),
+        mtime: take_u32(rt, line),
         bytes: line.as_bytes(),
     }
 }
@@ -51,14 +51,16 @@ fn add<T: Tree>(
     new: &New<'_>,
 ) -> Result<(), NoMemory> {
     let number = forest.next_of(dir.server);
-    assert!(rt; number < NEXT_MAX);
-    assert!(rt; is_dir(forest.node(dir)));
-    assert!(rt; forest.child(dir, &new.name).is_none());
-    assert!(rt; new.bytes.len() <= FILE_MAX);
+    assert!(rt; number < NEXT_MAX && new.bytes.len() <= FILE_MAX);
+    assert!(rt; is_dir(forest.node(dir)) && forest.child(dir, &new.name).is_none());
     assert!(rt; !new.mode.is_dir() || new.bytes.is_empty());
-    let made = forest.add(dir, new)?;
-    assert!(rt; (made.server, made.number) == (dir.server, number));
-    Ok(())
+    match forest.add(dir, new) {
+        Ok(made) => {
+            assert!(rt; made.server == dir.server && made.number == number);
+            Ok(())
+        }
+        Err(NoMemory) => Err(NoMemory),
+    }
 }
 
 fn is_dir<A: Allocator>(found: Option<&Node<A>>) -> bool

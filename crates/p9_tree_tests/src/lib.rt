@@ -11,6 +11,8 @@
 #[cfg(test)]
 mod base;
 #[cfg(test)]
+mod both;
+#[cfg(test)]
 mod calls;
 #[cfg(test)]
 mod changes;
@@ -34,6 +36,8 @@ mod refused;
 mod testing;
 #[cfg(test)]
 mod text;
+#[cfg(test)]
+mod trials;
 #[cfg(test)]
 mod wire;
 #[cfg(test)]

@@ -1,95 +1,136 @@
 //! What look-ups return of a forest.
 
-use crate::words::{name, take_number, take_word};
+use crate::words::{name, take_number, take_u16, take_usize, take_word};
 use p9_base::NodeRef;
 use p9_tree::{Forest, Node, Tree};
-use std::alloc::{AllocError, Allocator, Global};
+use std::alloc::{AllocError, Allocator};
 use std::process::Abort;
 
-/// What the look finds: `next`, `node`, `child`, `after`, `length` or `read`.
-pub fn look<T: Tree>(
-    rt: &impl Abort,
-    alloc: Global,
-    forest: &Forest<T>,
-    server: u16,
-    word: &str,
-    line: &mut &str,
-) -> Result<String, AllocError> {
+/// Adds what the look of a line finds: `next`, `node`, `child`, `after`, `length` or `read` of its
+/// server.
+pub fn look<T: Tree>(rt: &impl Abort, forest: &Forest<T>, line: &str, told: &mut String) {
+    let mut rest = line;
+    let server = take_u16(rt, &mut rest);
+    let word = take_word(&mut rest);
     if word == "next" {
-        return format!(in alloc; "{}", forest.next_of(server));
+        let next = forest.next_of(server);
+        assert!(rt; write!(told, "{next}").is_ok());
+    } else {
+        let number = take_number(rt, &mut rest);
+        look_at(
+            rt,
+            forest,
+            word,
+            NodeRef { server, number },
+            &mut rest,
+            told,
+        );
     }
-    let number = take_number(rt, line);
-    let at = NodeRef { server, number };
+}
+
+// Adds what the look finds at a node.
+fn look_at<T: Tree>(
+    rt: &impl Abort,
+    forest: &Forest<T>,
+    word: &str,
+    at: NodeRef,
+    line: &mut &str,
+    told: &mut String,
+) {
     match word {
-        "node" => fields(alloc, forest.node(at)),
-        "child" => fields(alloc, forest.child(at, &name(rt, take_word(line)))),
-        "after" => fields(alloc, forest.after(at, take_word(line).parse::<u64>().ok())),
-        "length" => length(alloc, forest.node(at)),
-        "read" => read(rt, alloc, forest, at, line),
+        "node" => tell(rt, forest.node(at), told),
+        "child" => tell(rt, forest.child(at, &name(rt, take_word(line))), told),
+        "after" => tell(
+            rt,
+            forest.after(at, take_word(line).parse::<u64>().ok()),
+            told,
+        ),
+        "length" => length(rt, forest.node(at), told),
+        "read" => read(rt, forest, at, line, told),
         _ => panic!(rt; "no look"),
     }
 }
 
-/// A node's number, parent, name, mode, owner, group, last changer, version, times and bytes.
-pub fn fields<A: Allocator>(alloc: Global, found: Option<&Node<A>>) -> Result<String, AllocError> {
-    let Some(node) = found else {
-        return String::from_str(alloc, "none");
+/// Adds a node's number, parent, name, mode, owner, group, last changer, version, times and bytes.
+pub fn tell<A: Allocator>(rt: &impl Abort, found: Option<&Node<A>>, told: &mut String) {
+    let written = match found {
+        Some(node) => write_node(node, told),
+        None => told.push_str("none"),
     };
-    let mut told = format!(in alloc; "{} {:?} ", node.number(), node.parent())?;
-    told.push_str(node.name())?;
-    users(&mut told, node)?;
-    let version = node.version();
-    let text = str::from_utf8(node.bytes()).unwrap_or("?");
-    write!(
-        &mut told,
-        " {version} {} {} [{text}]",
-        node.atime(),
-        node.mtime()
-    )?;
-    Ok(told)
+    assert!(rt; written.is_ok());
 }
 
-fn users<A: Allocator>(told: &mut String, node: &Node<A>) -> Result<(), AllocError> {
-    let (uid, gid, muid) = (
+// Adds what a node is.
+fn write_node<A: Allocator>(node: &Node<A>, told: &mut String) -> Result<(), AllocError> {
+    write!(told, "{} {:?} ", node.number(), node.parent())?;
+    told.push_str(node.name())?;
+    let (mode, uid, gid, muid) = (
+        node.mode().bits(),
         node.uid().as_str(),
         node.gid().as_str(),
         node.muid().as_str(),
     );
-    write!(told, " {:x} {uid} {gid} {muid}", node.mode().bits())
+    write!(told, " {mode:x} {uid} {gid} {muid}")?;
+    let (version, atime, mtime) = (node.version(), node.atime(), node.mtime());
+    let text = str::from_utf8(node.bytes()).unwrap_or("?");
+    write!(told, " {version} {atime} {mtime} [{text}]")
 }
 
-fn length<A: Allocator>(alloc: Global, found: Option<&Node<A>>) -> Result<String, AllocError> {
+// Adds how many bytes a node has.
+fn length<A: Allocator>(rt: &impl Abort, found: Option<&Node<A>>, told: &mut String) {
     let length = match found {
         Some(node) => node.bytes().len(),
         None => 0,
     };
-    format!(in alloc; "{length}")
+    assert!(rt; write!(told, "{length}").is_ok());
 }
 
-// The count and the whole buffer of six bytes, after a read at the offset over its first bytes, as
-// many as there is room for. A tree reads as its forest does.
+// Adds the count and the whole buffer of six bytes, after a read at the offset over its first bytes,
+// as many as there is room for. A tree reads as its forest does.
 fn read<T: Tree>(
     rt: &impl Abort,
-    alloc: Global,
     forest: &Forest<T>,
     at: NodeRef,
     line: &mut &str,
-) -> Result<String, AllocError> {
+    told: &mut String,
+) {
     let offset = take_number(rt, line);
-    let room = take_word(line).parse::<usize>().expect(rt, "room");
+    let room = take_usize(rt, line);
     let mut buffer = *b"......";
-    let count = match buffer.split_at_mut_checked(room) {
+    let mut again = *b"......";
+    let count = read_forest(forest, at, offset, room, &mut buffer);
+    assert!(rt; read_tree(forest, at, offset, room, &mut again) == count && buffer == again);
+    let text = str::from_utf8(&buffer).unwrap_or("?");
+    assert!(rt; write!(told, "{count} {text}").is_ok());
+}
+
+// Reads over so many bytes of a buffer.
+fn read_forest<T: Tree>(
+    forest: &Forest<T>,
+    at: NodeRef,
+    offset: u64,
+    room: usize,
+    buffer: &mut [u8],
+) -> usize {
+    match buffer.split_at_mut_checked(room) {
         Some((front, _)) => forest.read_into(at, offset, front),
         None => 0,
-    };
-    let mut again = *b"......";
-    if let (Some(tree), Some((front, _))) = (
-        forest.trees.get(at.server as usize),
-        again.split_at_mut_checked(room),
-    ) {
-        assert!(rt; tree.read_into(at.number, offset, front) == count);
     }
-    assert!(rt; buffer == again);
-    let text = str::from_utf8(&buffer).unwrap_or("?");
-    format!(in alloc; "{count} {text}")
+}
+
+// Reads so in the tree of the node's server, if there is one.
+fn read_tree<T: Tree>(
+    forest: &Forest<T>,
+    at: NodeRef,
+    offset: u64,
+    room: usize,
+    buffer: &mut [u8],
+) -> usize {
+    match (
+        forest.trees.get(at.server as usize),
+        buffer.split_at_mut_checked(room),
+    ) {
+        (Some(tree), Some((front, _))) => tree.read_into(at.number, offset, front),
+        _ => 0,
+    }
 }

@@ -1,75 +1,51 @@
 //! A directory of many files.
 
-use crate::calls::{call, make, two_servers};
-use p9_index::IndexTree;
-use p9_tree::{Forest, PlainTree, Tree};
-use std::alloc::Global;
+use crate::both::{Kind, Work, on};
+use std::alloc::{AllocError, Global};
 use std::process::Abort;
-use std::test::Fail;
 
 // The files are made in the root of the server 0, and each is given another name. The new names
-// fall while the numbers rise.
-fn fill<T: Tree>(
-    rt: &impl Abort,
-    printing: Global,
-    forest: &mut Forest<T>,
-    files: u32,
-) -> Result<(), Fail> {
+// fall while the numbers rise. Then each file comes in the listing at its number, and is found under
+// its new name alone.
+fn write_lines(lines: &mut String, files: u32) -> Result<(), AllocError> {
+    let file = "1a4 glenda glenda glenda 0 0";
     for number in 1..=files {
-        let line = format!(in printing; "0 add 0 n{number} 1a4 glenda glenda glenda 0 0 hi")?;
-        call(rt, forest, line.as_str())?;
+        writeln!(lines, "0 add 0 n{number} {file} hi")?;
     }
-    for number in 1..=files {
-        let line = format!(in printing; "0 change {number} m{} - - - -", u32::MAX - number)?;
-        call(rt, forest, line.as_str())?;
-    }
-    Ok(())
-}
-
-// Each file comes in the listing at its number, and is found under its new name alone.
-fn lists_all<T: Tree>(
-    rt: &impl Abort,
-    printing: Global,
-    forest: &mut Forest<T>,
-    files: u32,
-) -> Result<(), Fail> {
     for number in 1..=files {
         let name = u32::MAX - number;
-        let file = "1a4 glenda glenda glenda 0 0 0 [hi]";
-        let looks = format!(in printing;
-            "\
-0 after 0 {} = {number} Some(0) m{name} {file}
-0 child 0 m{name} = {number} Some(0) m{name} {file}
-0 child 0 n{number} = none",
-            number - 1
-        )?;
-        for look in looks.as_str().lines() {
-            make(rt, printing, forest, look)?;
-        }
+        writeln!(lines, "0 change {number} m{name} - - - -")?;
     }
-    let end = format!(in printing; "0 after 0 {files} = none")?;
-    make(rt, printing, forest, end.as_str())?;
-    Ok(())
+    for number in 1..=files {
+        let (name, before) = (u32::MAX - number, number - 1);
+        let found = "Some(0) m";
+        writeln!(
+            lines,
+            "0 after 0 {before} = {number} {found}{name} {file} 0 [hi]"
+        )?;
+        writeln!(
+            lines,
+            "0 child 0 m{name} = {number} {found}{name} {file} 0 [hi]"
+        )?;
+        writeln!(lines, "0 child 0 n{number} = none")?;
+    }
+    write!(lines, "0 after 0 {files} = none")
 }
 
-fn renames_many<T: Tree>(
-    rt: &impl Abort,
-    alloc: T::Alloc,
-    printing: Global,
-    files: u32,
-) -> Result<(), Fail> {
-    let mut forest = two_servers::<T>(rt, alloc)?;
-    fill(rt, printing, &mut forest, files)?;
-    lists_all(rt, printing, &mut forest, files)
+// So many files are renamed in trees of this kind.
+fn are_renamed(rt: &impl Abort, alloc: Global, kind: Kind, files: u32) {
+    let mut lines = String::new(alloc);
+    assert!(rt; write_lines(&mut lines, files).is_ok());
+    on(rt, alloc, kind, Work::Calls(lines.as_str()));
 }
 
 // A look-up goes over all nodes here, so there are fewer files.
 #[test]
-fn plain_tree_renames_many_files(rt: HostRuntime) -> Result<(), Fail> {
-    renames_many::<PlainTree<Global>>(&rt, rt.alloc(), rt.alloc(), 300)
+fn plain_tree_renames_many_files(rt: HostRuntime) {
+    are_renamed(&rt, rt.alloc(), Kind::Plain, 300);
 }
 
 #[test]
-fn index_tree_renames_many_files(rt: HostRuntime) -> Result<(), Fail> {
-    renames_many::<IndexTree<Global>>(&rt, rt.alloc(), rt.alloc(), 5_000)
+fn index_tree_renames_many_files(rt: HostRuntime) {
+    are_renamed(&rt, rt.alloc(), Kind::Index, 5_000);
 }

@@ -1,14 +1,13 @@
 //! Nodes are found, changed, and made with numbers of their own.
 
+use crate::both::{Work, on_both};
 use crate::calls::plays_in_both;
-use crate::looks::fields;
+use crate::looks::tell;
 use crate::words::user;
 use p9_base::Permissions;
-use p9_index::IndexTree;
-use p9_tree::{PlainTree, Tree};
+use p9_tree::Tree;
 use std::alloc::Global;
 use std::process::Abort;
-use std::test::Fail;
 
 #[test]
 fn each_node_is_found(rt: HostRuntime) {
@@ -65,20 +64,20 @@ fn a_node_is_marked_and_read(rt: HostRuntime) {
     plays_in_both(&rt, rt.alloc(), lines);
 }
 
-// The root is glenda's and staff's afterwards.
-fn gives_root<T: Tree>(rt: &impl Abort, alloc: T::Alloc, printing: Global) -> Result<(), Fail> {
-    let mut tree = T::with_root(alloc)?;
+/// The root is glenda's and staff's afterwards.
+pub fn gives_root<T: Tree>(rt: &impl Abort, alloc: T::Alloc, printing: Global) {
+    let mut tree = T::with_root(alloc).expect(rt, "memory");
     let glenda = user(rt, "glenda");
     tree.set_root(Permissions::from_bits(0o777), glenda, user(rt, "staff"));
-    let root = fields(printing, tree.node(0))?;
-    assert!(rt; root.as_str() == "0 None / 800001ff glenda staff glenda 0 0 0 []");
-    Ok(())
+    let mut told = String::new(printing);
+    tell(rt, tree.node(0), &mut told);
+    drop(tree);
+    assert!(rt; told.as_str() == "0 None / 800001ff glenda staff glenda 0 0 0 []");
 }
 
 #[test]
-fn a_root_is_given(rt: HostRuntime) -> Result<(), Fail> {
-    gives_root::<PlainTree<Global>>(&rt, rt.alloc(), rt.alloc())?;
-    gives_root::<IndexTree<Global>>(&rt, rt.alloc(), rt.alloc())
+fn a_root_is_given(rt: HostRuntime) {
+    on_both(&rt, rt.alloc(), Work::Root);
 }
 
 #[test]

@@ -1,9 +1,10 @@
 //! Calls in which an allocation fails change nothing, and succeed when made again.
 
-use crate::calls::{call, make, tell, two_servers};
-use p9_index::IndexTree;
+use crate::both::{Kind, Trial, refusals};
+use crate::calls::{call, make_all, two_servers};
+use crate::looks::look;
 use p9_testing::{Refusing, refuse_each};
-use p9_tree::{Forest, PlainTree, Tree};
+use p9_tree::{Forest, Tree};
 use std::alloc::{AllocError, Global};
 use std::process::Abort;
 
@@ -21,102 +22,121 @@ const AT_THE_END: &str = "\
 1 after 1 22 = 23 Some(1) m23 1a4 glenda glenda rob 1 7 7 [hi\0\0\0]
 1 after 1 23 = none";
 
-// All that the look-ups tell of the server 1, a line each.
-fn tell_all<T: Tree>(
-    rt: &impl Abort,
-    printing: Global,
-    forest: &Forest<T>,
-) -> Result<String, AllocError> {
-    let mut all = tell(rt, printing, forest, "1 next")?;
-    for number in 0..FILES + 5 {
-        for look in ["node", "after 1", "child 1 n", "child 1 m"] {
-            let gap = if look.starts_with("child") { "" } else { " " };
-            let words = format!(in printing; "1 {look}{gap}{number}")?;
-            let told = tell(rt, printing, forest, words.as_str())?;
-            all.push_str("\n")?;
-            all.push_str(told.as_str())?;
-        }
+// Adds the calls: the files are made, each gets another name and more bytes at once, and two are
+// written into.
+fn write_calls(calls: &mut String) -> Result<(), AllocError> {
+    for number in 4..4 + FILES {
+        writeln!(calls, "1 add 1 n{number} 1a4 glenda glenda glenda 0 0 hi")?;
     }
-    Ok(all)
+    for number in 4..4 + FILES {
+        writeln!(calls, "1 change {number} m{number} - - 5 -")?;
+    }
+    calls.push_str("1 write 4 1 ey\n1 write 5 100 !")
 }
 
-// Makes the call, again where it was refused, when every look-up returns what it returned before.
-fn grow<T: Tree>(
-    rt: &impl Abort,
-    printing: Global,
-    forest: &mut Forest<T>,
-    line: &str,
-) -> Result<(), AllocError> {
-    let before = tell_all(rt, printing, forest)?;
-    if call(rt, forest, line).is_err() {
-        let after = tell_all(rt, printing, forest)?;
-        assert!(rt; after.as_str() == before.as_str(), "{line}");
-        assert!(rt; call(rt, forest, line).is_ok());
+// Adds the looks that tell all of the server 1.
+fn write_looks(looks: &mut String) -> Result<(), AllocError> {
+    looks.push_str("1 next")?;
+    for number in 0..FILES + 5 {
+        write!(looks, "\n1 node {number}\n1 after 1 {number}")?;
+        write!(looks, "\n1 child 1 n{number}\n1 child 1 m{number}")?;
     }
     Ok(())
 }
 
-// Makes the files, gives each another name and more bytes at once, and writes into one.
-fn grow_all<T: Tree>(
+// What the looks find, a line each.
+fn told<T: Tree>(rt: &impl Abort, printing: Global, forest: &Forest<T>, looks: &str) -> String {
+    let mut told = String::new(printing);
+    for words in looks.lines() {
+        look(rt, forest, words, &mut told);
+        assert!(rt; told.push_str("\n").is_ok());
+    }
+    told
+}
+
+// Makes the call, again where it was refused, when every look returns what it returned before.
+fn grow<T: Tree>(
     rt: &impl Abort,
     printing: Global,
     forest: &mut Forest<T>,
-) -> Result<(), AllocError> {
-    for number in 4..4 + FILES {
-        let line = format!(in printing; "1 add 1 n{number} 1a4 glenda glenda glenda 0 0 hi")?;
-        grow(rt, printing, forest, line.as_str())?;
+    looks: &str,
+    line: &str,
+) {
+    let before = told(rt, printing, forest, looks);
+    if call(rt, forest, line).is_err() {
+        let after = told(rt, printing, forest, looks);
+        assert!(rt; after.as_str() == before.as_str(), "{line}");
+        assert!(rt; call(rt, forest, line).is_ok());
     }
-    for number in 4..4 + FILES {
-        let line = format!(in printing; "1 change {number} m{number} - - 5 -")?;
-        grow(rt, printing, forest, line.as_str())?;
-    }
-    grow(rt, printing, forest, "1 write 4 1 ey")?;
-    grow(rt, printing, forest, "1 write 5 100 !")
 }
 
-fn grows<T: Tree>(rt: &impl Abort, printing: Global, mut forest: Forest<T>) {
-    assert!(rt; grow_all(rt, printing, &mut forest).is_ok());
-    for line in AT_THE_END.lines() {
-        assert!(rt; make(rt, printing, &mut forest, line).is_ok());
+// Makes the calls, and looks at the end.
+fn grows<T: Tree>(
+    rt: &impl Abort,
+    printing: Global,
+    forest: &mut Forest<T>,
+    looks: &str,
+    calls: &str,
+) {
+    for line in calls.lines() {
+        grow(rt, printing, forest, looks, line);
     }
+    make_all(rt, printing, forest, AT_THE_END);
+}
+
+/// A forest grows, with each request for memory refused in turn. Returns how many there are.
+pub fn grows_again<T: Tree>(
+    rt: &impl Abort,
+    printing: Global,
+    memory: &Refusing<Global>,
+    lent: T::Alloc,
+) -> u64 {
+    let mut calls = String::new(printing);
+    let mut looks = String::new(printing);
+    assert!(rt; write_calls(&mut calls).is_ok() && write_looks(&mut looks).is_ok());
+    refuse_each(
+        memory,
+        || two_servers::<T>(rt, lent),
+        |mut forest| {
+            grows(rt, printing, &mut forest, looks.as_str(), calls.as_str());
+            drop(forest);
+        },
+    )
 }
 
 // Each request of the growths is refused in turn. A file and its longer bytes ask for one each.
 #[test]
 fn plain_tree_is_as_before_at_each_refusal(rt: HostRuntime) {
-    let memory = Refusing::new(rt.alloc());
-    let refusals = refuse_each(
-        &memory,
-        || two_servers::<PlainTree<&Refusing<Global>>>(&rt, &memory).expect(&rt, "ample memory"),
-        |forest| grows(&rt, rt.alloc(), forest),
-    );
+    let refusals = refusals(&rt, rt.alloc(), Kind::Plain, Trial::Growth);
     assert!(rt; refusals >= 2 * FILES);
 }
 
 // Some of the adds and some of the changes ask for a node of a map, too.
 #[test]
 fn index_tree_is_as_before_at_each_refusal(rt: HostRuntime) {
-    let memory = Refusing::new(rt.alloc());
-    let refusals = refuse_each(
-        &memory,
-        || two_servers::<IndexTree<&Refusing<Global>>>(&rt, &memory).expect(&rt, "ample memory"),
-        |forest| grows(&rt, rt.alloc(), forest),
-    );
+    let refusals = refusals(&rt, rt.alloc(), Kind::Index, Trial::Growth);
     assert!(rt; refusals >= 2 * FILES + 3);
+}
+
+/// A root is made again where its first request for memory is refused. Returns 1, as one request is
+/// refused.
+pub fn asks_again_for_its_root<T: Tree>(
+    rt: &impl Abort,
+    memory: &Refusing<Global>,
+    lent: T::Alloc,
+) -> u64 {
+    memory.refuse(1);
+    assert!(rt; T::with_root(lent).is_err());
+    assert!(rt; T::with_root(lent).is_ok());
+    u64::from(memory.has_refused())
 }
 
 #[test]
 fn plain_tree_asks_again_for_its_root(rt: HostRuntime) {
-    let memory = Refusing::new(rt.alloc());
-    memory.refuse(1);
-    assert!(rt; PlainTree::with_root(&memory).is_err());
-    assert!(rt; PlainTree::with_root(&memory).is_ok());
+    assert!(rt; refusals(&rt, rt.alloc(), Kind::Plain, Trial::Root) == 1);
 }
 
 #[test]
 fn index_tree_asks_again_for_its_root(rt: HostRuntime) {
-    let memory = Refusing::new(rt.alloc());
-    memory.refuse(1);
-    assert!(rt; IndexTree::with_root(&memory).is_err());
-    assert!(rt; IndexTree::with_root(&memory).is_ok());
+    assert!(rt; refusals(&rt, rt.alloc(), Kind::Index, Trial::Root) == 1);
 }

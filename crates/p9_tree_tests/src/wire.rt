@@ -12,3 +12,6 @@ mod replies;
 mod requests;
 mod round;
 mod vectors;
+
+pub use exchange::{shows, writes};
+pub use refusals::{prints, reads};

@@ -18,12 +18,9 @@ pub fn take_word<'a>(line: &mut &'a str) -> &'a str {
     }
 }
 
-/// Takes a word off a line, unless it is `-`.
-pub fn take_given<'a>(line: &mut &'a str) -> Option<&'a str> {
-    match take_word(line) {
-        "-" => None,
-        word => Some(word),
-    }
+/// Takes a number of 16 bits off a line.
+pub fn take_u16(rt: &impl Abort, line: &mut &str) -> u16 {
+    take_word(line).parse::<u16>().expect(rt, "a number")
 }
 
 /// Takes a number off a line.
@@ -31,9 +28,14 @@ pub fn take_number(rt: &impl Abort, line: &mut &str) -> u64 {
     take_word(line).parse::<u64>().expect(rt, "a number")
 }
 
+/// Takes a size off a line.
+pub fn take_usize(rt: &impl Abort, line: &mut &str) -> usize {
+    take_word(line).parse::<usize>().expect(rt, "a size")
+}
+
 /// Takes a number of 32 bits off a line.
-pub fn take_time(rt: &impl Abort, line: &mut &str) -> u32 {
-    take_word(line).parse::<u32>().expect(rt, "a time")
+pub fn take_u32(rt: &impl Abort, line: &mut &str) -> u32 {
+    take_word(line).parse::<u32>().expect(rt, "a number")
 }
 
 /// The mode of these hexadecimal digits.

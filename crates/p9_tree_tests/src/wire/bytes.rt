@@ -1,7 +1,9 @@
 //! The codec against bytes from outside: each message is written from its fields and compared with
 //! the vector, and the vector is read and written back.
 
+use p9_testing::bytes_of;
 use p9_wire::{Frame, RMsg, TMsg, frame_of, read_r, read_t, write_r, write_t};
+use std::alloc::Global;
 use std::process::Abort;
 
 /// More bytes than any vector has.
@@ -22,17 +24,27 @@ pub fn holds_only(out: &[u8], want: &[u8]) -> bool {
 /// Writes the request and compares the whole buffer.
 fn writes_t(rt: &impl Abort, tag: u16, message: &TMsg<'_>, want: &[u8]) {
     let mut out = [UNTOUCHED; ROOM];
-    assert!(rt; message.fits());
-    assert!(rt; message.size() <= ROOM);
+    assert!(rt; message.fits() && message.size() <= ROOM);
     let end = write_t(message, tag, &mut out);
-    assert!(rt; end == want.len());
-    assert!(rt; holds_only(&out, want));
+    assert!(rt; end == want.len() && holds_only(&out, want));
 }
 
-/// The request is written so and read so.
-pub fn request(rt: &impl Abort, tag: u16, message: &TMsg<'_>, want: &[u8]) {
-    writes_t(rt, tag, message, want);
-    reads_t(rt, tag, want);
+/// The request is written as these digits say, and read so.
+pub fn request(rt: &impl Abort, alloc: Global, tag: u16, message: TMsg<'_>, digits: &str) {
+    let want = bytes_of(alloc, digits).expect(rt, "hexadecimal digits");
+    writes_t(rt, tag, &message, &want);
+    drop(message);
+    reads_t(rt, tag, &want);
+}
+
+/// Whether the bytes are a request.
+pub fn is_request(bytes: &[u8]) -> bool {
+    read_t(bytes).is_some()
+}
+
+/// Whether the bytes are a reply.
+pub fn is_reply(bytes: &[u8]) -> bool {
+    read_r(bytes).is_some()
 }
 
 /// The bytes are a request with this tag, which is written back as they are.
@@ -41,6 +53,7 @@ pub fn reads_t(rt: &impl Abort, tag: u16, want: &[u8]) {
         Some((read, again)) => {
             assert!(rt; read == tag);
             writes_t(rt, tag, &again, want);
+            drop(again);
         }
         None => panic!(rt; "it is not read"),
     }
@@ -49,7 +62,10 @@ pub fn reads_t(rt: &impl Abort, tag: u16, want: &[u8]) {
 /// Cut short at each byte it is no whole frame, and whole it is one.
 pub fn needs_all_bytes(rt: &impl Abort, want: &[u8]) {
     for len in 0..want.len() {
-        assert!(rt; frame_of(&want[..len]) == Frame::Need, "{len} bytes");
+        assert!(rt;
+            matches!(frame_of(&want[..len]), Frame::Need),
+            "{len} bytes"
+        );
     }
     assert!(rt; frame_of(want) == Frame::Whole(want.len()));
 }
@@ -62,23 +78,23 @@ pub fn no_request_shorter(rt: &impl Abort, want: &[u8]) {
     bytes[..len].copy_from_slice(want);
     assert!(rt; bytes[0] > 0);
     bytes[0] -= 1;
-    assert!(rt; read_t(&bytes[..len - 1]).is_none());
+    assert!(rt; !is_request(&bytes[..len - 1]));
 }
 
 /// Writes the reply and compares the whole buffer.
 fn writes_r(rt: &impl Abort, tag: u16, message: &RMsg<'_>, want: &[u8]) {
     let mut out = [UNTOUCHED; ROOM];
-    assert!(rt; message.fits());
-    assert!(rt; message.size() <= ROOM);
+    assert!(rt; message.fits() && message.size() <= ROOM);
     let end = write_r(message, tag, &mut out);
-    assert!(rt; end == want.len());
-    assert!(rt; holds_only(&out, want));
+    assert!(rt; end == want.len() && holds_only(&out, want));
 }
 
-/// The reply is written so and read so.
-pub fn reply(rt: &impl Abort, tag: u16, message: &RMsg<'_>, want: &[u8]) {
-    writes_r(rt, tag, message, want);
-    reads_r(rt, tag, want);
+/// The reply is written as these digits say, and read so.
+pub fn reply(rt: &impl Abort, alloc: Global, tag: u16, message: RMsg<'_>, digits: &str) {
+    let want = bytes_of(alloc, digits).expect(rt, "hexadecimal digits");
+    writes_r(rt, tag, &message, &want);
+    drop(message);
+    reads_r(rt, tag, &want);
 }
 
 /// The bytes are a reply with this tag, which is written back as they are.
@@ -87,6 +103,7 @@ pub fn reads_r(rt: &impl Abort, tag: u16, want: &[u8]) {
         Some((read, again)) => {
             assert!(rt; read == tag);
             writes_r(rt, tag, &again, want);
+            drop(again);
         }
         None => panic!(rt; "it is not read"),
     }

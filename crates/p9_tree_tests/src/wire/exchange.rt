@@ -5,3 +5,5 @@ mod exchanges;
 mod faults;
 mod refusals;
 mod scripts;
+
+pub use refusals::{shows, writes};

@@ -2,35 +2,41 @@
 
 use p9_testing::bytes_of;
 use p9_wire::{Frame, frame_of};
-use std::test::Fail;
+use std::alloc::Global;
+use std::process::Abort;
 
-const VERSION: &str = "13000000 64 ffff 00200000 0600 395032303030";
+// Bytes, and what is at their front: more bytes are needed, it is broken, or it is a frame of so many
+// bytes. The longest are the first line of an authentication, whose size says two bytes more than
+// there are; and a Tversion with a byte behind it.
+const SIZES: &str = "\
+= need
+130000 = need
+06000000 = broken
+07000000 = need
+00000100 = need
+01000100 = need
+00001000 = need
+01001000 = broken
+ffffffff = broken
+07000000 6d 0300 = 7
+17000000 66 0200 03000000 0600 676c656e6461 0000 = need
+13000000 64 ffff 00200000 0600 395032303030 00 = 19";
 
 #[test]
-fn row_frame_sizes(rt: HostRuntime) -> Result<(), Fail> {
-    let cases = [
-        ("", Frame::Need),
-        ("130000", Frame::Need),
-        ("06000000", Frame::Broken),
-        ("07000000", Frame::Need),
-        ("00000100", Frame::Need),
-        ("01000100", Frame::Need),
-        ("00001000", Frame::Need),
-        ("01001000", Frame::Broken),
-        ("ffffffff", Frame::Broken),
-        ("07000000 6d 0300", Frame::Whole(7)),
-        // The first line of an authentication, whose size says two bytes more than there are.
-        (
-            "17000000 66 0200 03000000 0600 676c656e6461 0000",
-            Frame::Need,
-        ),
-    ];
-    for (digits, want) in cases {
-        let bytes = bytes_of(rt.alloc(), digits)?;
-        assert!(rt; frame_of(&bytes) == want, "{digits}");
+fn row_frame_sizes(rt: HostRuntime) {
+    for row in SIZES.lines() {
+        has_front(&rt, rt.alloc(), row);
     }
-    let mut version = bytes_of(rt.alloc(), VERSION)?;
-    version.push(0)?;
-    assert!(rt; frame_of(&version) == Frame::Whole(19));
-    Ok(())
+}
+
+// The bytes of a row have that at their front.
+fn has_front(rt: &impl Abort, alloc: Global, row: &str) {
+    let (digits, want) = row.split_once("= ").expect(rt, "digits");
+    let bytes = bytes_of(alloc, digits).expect(rt, "hexadecimal digits");
+    let is_front = match frame_of(&bytes) {
+        Frame::Need => want == "need",
+        Frame::Broken => want == "broken",
+        Frame::Whole(size) => want.parse::<usize>().ok() == Some(size),
+    };
+    assert!(rt; is_front, "{row}");
 }

@@ -1,15 +1,15 @@
 //! Allocations that fail: a call says so and changes nothing, and with memory it does all.
 
+use crate::trials::{Call, refusals};
 use crate::wire::lines::{REPLIES, REQUESTS};
-use p9_testing::{Refusing, bytes_of, refuse_each};
+use p9_testing::{Refusing, bytes_of};
 use p9_wire::{read_r, read_t};
 use p9_words::{WordsError, print_reply, print_request, read_words};
-use std::alloc::Allocator;
+use std::alloc::{Allocator, Global};
 use std::process::Abort;
-use std::test::Fail;
 
-// Reads a line; where an allocation fails, it says so.
-fn reads<A: Allocator + Copy>(rt: &impl Abort, alloc: A, line: &str, frame: &[u8]) -> bool {
+/// Reads a line; where an allocation fails, it says so.
+pub fn reads<A: Allocator + Copy>(rt: &impl Abort, alloc: A, line: &str, frame: &[u8]) -> bool {
     match read_words(alloc, line) {
         Ok(read) => {
             assert!(rt; read.as_slice() == frame);
@@ -22,57 +22,64 @@ fn reads<A: Allocator + Copy>(rt: &impl Abort, alloc: A, line: &str, frame: &[u8
     }
 }
 
-// Prints the message of a frame after a letter; where an allocation fails, the letter is all there
-// is.
-fn prints<A: Allocator + Copy>(rt: &impl Abort, alloc: A, line: &str, frame: &[u8]) -> bool {
+/// Prints the message of a frame after a letter; where an allocation fails, the letter is all there
+/// is.
+pub fn prints<A: Allocator + Copy>(rt: &impl Abort, alloc: A, line: &str, frame: &[u8]) -> bool {
     let mut out = Vec::new(alloc);
     if out.push(b'>').is_err() {
         return false;
     }
-    let printed = match (read_t(frame), read_r(frame)) {
-        (Some((tag, message)), _) => print_request(&message, tag, &mut out),
-        (_, Some((tag, message))) => print_reply(&message, tag, &mut out),
-        (None, None) => panic!(rt; "{line}: no message"),
-    };
-    assert!(rt; out.as_slice().first() == Some(&b'>'));
-    assert!(rt; printed.is_ok() || out.len() == 1);
-    let text = out.as_slice().strip_prefix(b">");
-    assert!(rt; printed.is_err() || text == Some(line.as_bytes()));
-    printed.is_ok()
+    let is_printed = print(rt, line, frame, &mut out);
+    let want = if is_printed { line } else { "" };
+    let text = out.as_slice().strip_prefix(b">").expect(rt, "the letter");
+    assert!(rt; text == want.as_bytes());
+    is_printed
+}
+
+/// Prints the message of a frame. Returns whether it has succeeded.
+pub fn print<A: Allocator + Copy>(
+    rt: &impl Abort,
+    line: &str,
+    frame: &[u8],
+    out: &mut Vec<u8, A>,
+) -> bool {
+    if let Some((tag, message)) = read_t(frame) {
+        let printed = print_request(&message, tag, out);
+        drop(message);
+        return printed.is_ok();
+    }
+    match read_r(frame) {
+        Some((tag, message)) => {
+            let printed = print_reply(&message, tag, out);
+            drop(message);
+            printed.is_ok()
+        }
+        None => panic!(rt; "{line}: no message"),
+    }
+}
+
+// The call of each line and its frame is made with each request refused in turn.
+fn are_refused(rt: &impl Abort, alloc: Global, prints: bool) {
+    let memory = Refusing::new(alloc);
+    for row in REQUESTS.lines().chain(REPLIES.lines()) {
+        let (line, digits) = row.split_once(" = ").expect(rt, "a line");
+        let frame = bytes_of(alloc, digits).expect(rt, "hexadecimal digits");
+        let frame = frame.as_slice();
+        let call = if prints {
+            Call::Print { line, frame }
+        } else {
+            Call::Read { line, frame }
+        };
+        assert!(rt; refusals(rt, &memory, call, false) > 0);
+    }
 }
 
 #[test]
-fn lines_are_read_at_each_refusal(rt: HostRuntime) -> Result<(), Fail> {
-    for (line, digits) in REQUESTS.iter().chain(&REPLIES) {
-        let frame = bytes_of(rt.alloc(), digits)?;
-        let memory = Refusing::new(rt.alloc());
-        let refusals = refuse_each(
-            &memory,
-            || (),
-            |()| {
-                let read = reads(&rt, &memory, line, frame.as_slice());
-                assert!(rt; read != memory.has_refused());
-            },
-        );
-        assert!(rt; refusals > 0);
-    }
-    Ok(())
+fn lines_are_read_at_each_refusal(rt: HostRuntime) {
+    are_refused(&rt, rt.alloc(), false);
 }
 
 #[test]
-fn messages_are_printed_at_each_refusal(rt: HostRuntime) -> Result<(), Fail> {
-    for (line, digits) in REQUESTS.iter().chain(&REPLIES) {
-        let frame = bytes_of(rt.alloc(), digits)?;
-        let memory = Refusing::new(rt.alloc());
-        let refusals = refuse_each(
-            &memory,
-            || (),
-            |()| {
-                let printed = prints(&rt, &memory, line, frame.as_slice());
-                assert!(rt; printed != memory.has_refused());
-            },
-        );
-        assert!(rt; refusals > 0);
-    }
-    Ok(())
+fn messages_are_printed_at_each_refusal(rt: HostRuntime) {
+    are_refused(&rt, rt.alloc(), true);
 }

@@ -1,8 +1,9 @@
 //! Every request and reply of the vectors, read and written back; and each request cut short.
 
-use crate::wire::bytes::{needs_all_bytes, no_request_shorter, reads_r, reads_t};
+use crate::wire::bytes::{
+    is_reply, is_request, needs_all_bytes, no_request_shorter, reads_r, reads_t,
+};
 use p9_testing::bytes_of;
-use p9_wire::{read_r, read_t};
 use std::alloc::Global;
 use std::process::Abort;
 
@@ -43,7 +44,7 @@ authentication 2 15000000 66 0200 03000000 0600 676c656e6461 0000";
 fn vector_requests(rt: HostRuntime) {
     for row in REQUESTS.lines() {
         let (tag, bytes) = vector(&rt, rt.alloc(), row);
-        assert!(rt; read_t(&bytes).is_some(), "{row}");
+        assert!(rt; is_request(&bytes), "{row}");
         reads_t(&rt, tag, &bytes);
         needs_all_bytes(&rt, &bytes);
         no_request_shorter(&rt, &bytes);
@@ -82,7 +83,7 @@ listing_reads 11 0b000000 75 0b00 00000000";
 fn vector_replies(rt: HostRuntime) {
     for row in REPLIES.lines() {
         let (tag, bytes) = vector(&rt, rt.alloc(), row);
-        assert!(rt; read_r(&bytes).is_some(), "{row}");
+        assert!(rt; is_reply(&bytes), "{row}");
         reads_r(&rt, tag, &bytes);
     }
 }

@@ -1,8 +1,8 @@
 //! Exchanges, by hand: what is asked, what comes of it, and each reason of a skip.
 
 use p9_exchange::show_exchange;
-use std::str::from_utf8;
-use std::test::Fail;
+use std::alloc::Global;
+use std::process::Abort;
 
 /// A script in words and what was printed for it.
 pub const PLAYED: &str = "%% script\nopen 1\n1 0 Tflush oldtag 9\n# again\nopen 1\nopen 2\n\
@@ -26,15 +26,16 @@ pub const EXCHANGE: &str = "1 <-1- open\n2 <-1- Tflush tag 0 oldtag 9\n2 -1-> Rf
     13 <-3- close\n13 -3-> skip: no such session\n\
     14 <-2- x'07000000ff0000'\n14 -2-> x'ff'\n";
 
+// An input is shown as this text.
+fn is_shown(rt: &impl Abort, alloc: Global, input: &str, want: &str) {
+    let text = show_exchange(alloc, input.as_bytes())
+        .ok()
+        .expect(rt, "an exchange");
+    assert!(rt; text.as_slice() == want.as_bytes());
+}
+
 #[test]
-fn an_exchange_tells_each_event(rt: HostRuntime) -> Result<(), Fail> {
-    match show_exchange(rt.alloc(), PLAYED.as_bytes()) {
-        Ok(text) => assert!(rt; from_utf8(text.as_slice()) == Ok(EXCHANGE)),
-        Err(stop) => panic!(rt; "{stop:?}"),
-    }
-    match show_exchange(rt.alloc(), b"%% world\n%% replies") {
-        Ok(text) => assert!(rt; text.len() == 0),
-        Err(stop) => panic!(rt; "{stop:?}"),
-    }
-    Ok(())
+fn an_exchange_tells_each_event(rt: HostRuntime) {
+    is_shown(&rt, rt.alloc(), PLAYED, EXCHANGE);
+    is_shown(&rt, rt.alloc(), "%% world\n%% replies", "");
 }

@@ -1,79 +1,103 @@
 //! Inputs that are refused, and what is printed of each.
 
+use crate::wire::faults::take_expected;
+use crate::words::{take_usize, take_word};
 use p9_exchange::{Awaited, Refusal, Stop, show_exchange, write_script};
-use p9_words::{Base, Expected, Key};
-use std::test::Fail;
+use p9_words::{Expected, Key};
+use std::alloc::Global;
+use std::process::Abort;
 
-// A number of 32 bits was expected.
-const SHORT: Expected = Expected::Number(Base::Decimal, 4_294_967_295);
+// Lines of a script, with semicolons between them; the bad one, after how many bytes of it something
+// else was expected, and what.
+const LINES: &str = "\
+x|1 0 event
+; # ;\tOpen 1|3 1 event
+open|1 4 decimal 4294967295
+open 4294967296|1 5 decimal 4294967295
+open 1 2|1 7 end
+close 1|1 7 decimal 4294967295
+close 1 x|1 8 decimal 4294967295
+close 1 2 3|1 10 end
+msg x|1 4 decimal 4294967295
+msg 1 -1 00|1 6 decimal 4294967295
+msg 1 0|1 7 pairs
+msg 1 0 0g|1 8 pairs
+msg 1 0 000|1 8 pairs
+msg 1 0 00 00|1 11 end
+4294967296 0 Tclunk fid 1|1 0 decimal 4294967295
+1 Tclunk fid 1|1 2 decimal 4294967295
+1 0|1 3 verb
+1 0 Rauth|1 4 verb
+1 0 Tclunk tag 65536 fid 1|1 15 decimal 65535
+1 0 Tclunk fd 1|1 11 fid
+1 0 Tversion msise 1|1 13 version
+1 0 Tclunk fid 1 2|1 17 end
+%% script|1 0 event";
 
 #[test]
-fn bad_lines_tell_the_place(rt: HostRuntime) -> Result<(), Fail> {
-    for (text, line, at, expected) in [
-        ("x", 1, 0, Expected::Event),
-        ("\n # \n\tOpen 1", 3, 1, Expected::Event),
-        ("open", 1, 4, SHORT),
-        ("open 4294967296", 1, 5, SHORT),
-        ("open 1 2", 1, 7, Expected::End),
-        ("close 1", 1, 7, SHORT),
-        ("close 1 x", 1, 8, SHORT),
-        ("close 1 2 3", 1, 10, Expected::End),
-        ("msg x", 1, 4, SHORT),
-        ("msg 1 -1 00", 1, 6, SHORT),
-        ("msg 1 0", 1, 7, Expected::Pairs),
-        ("msg 1 0 0g", 1, 8, Expected::Pairs),
-        ("msg 1 0 000", 1, 8, Expected::Pairs),
-        ("msg 1 0 00 00", 1, 11, Expected::End),
-        ("4294967296 0 Tclunk fid 1", 1, 0, SHORT),
-        ("1 Tclunk fid 1", 1, 2, SHORT),
-        ("1 0", 1, 3, Expected::Verb),
-        ("1 0 Rauth", 1, 4, Expected::Verb),
-        (
-            "1 0 Tclunk tag 65536 fid 1",
-            1,
-            15,
-            Expected::Number(Base::Decimal, 65_535),
-        ),
-        ("1 0 Tclunk fd 1", 1, 11, Expected::Key(Key::Fid)),
-        ("1 0 Tversion msise 1", 1, 13, Expected::Key(Key::Version)),
-        ("1 0 Tclunk fid 1 2", 1, 17, Expected::End),
-        ("%% script", 1, 0, Expected::Event),
-    ] {
-        let input = format!(in rt.alloc(); "%% script\n{text}\nx")?;
-        let bad = Stop::Refused(Refusal::BadLine { line, at, expected });
-        assert!(rt;
-            write_script(rt.alloc(), input.as_str().as_bytes()).err() == Some(bad),
-            "{text}"
-        );
-        let input = format!(in rt.alloc(); "%% script\n{text}\n%% replies")?;
-        assert!(rt;
-            show_exchange(rt.alloc(), input.as_str().as_bytes()).err() == Some(bad),
-            "{text}"
-        );
+fn bad_lines_tell_the_place(rt: HostRuntime) {
+    for row in LINES.lines() {
+        let (lines, place) = row.split_once('|').expect(&rt, "lines");
+        let text = lines.replace(rt.alloc(), ';', "\n").expect(&rt, "memory");
+        is_bad(&rt, rt.alloc(), text.as_str(), place);
     }
-    Ok(())
 }
 
+// A script is refused for its bad line, whether it is to be written or shown.
+fn is_bad(rt: &impl Abort, alloc: Global, text: &str, place: &str) {
+    let mut rest = place;
+    let bad = Refusal::BadLine {
+        line: take_usize(rt, &mut rest),
+        at: take_usize(rt, &mut rest),
+        expected: take_expected(rt, &mut rest),
+    };
+    let input = format!(in alloc; "%% script\n{text}\nx").expect(rt, "memory");
+    let written = write_script(alloc, input.as_str().as_bytes()).err();
+    assert!(rt; written == Some(Stop::Refused(bad)), "{text}");
+    let input = format!(in alloc; "%% script\n{text}\n%% replies").expect(rt, "memory");
+    let shown = show_exchange(alloc, input.as_str().as_bytes()).err();
+    assert!(rt; shown == Some(Stop::Refused(bad)), "{text}");
+}
+
+// Inputs, with semicolons between their lines; the bad reply, and what was awaited.
+const REPLIES: &str = "\
+%% script;open 1;1 0 Tclunk fid 0;%% replies;|1 reply 2
+%% script;open 1;1 0 Tclunk fid 0;%% replies;;|1 reply 2
+%% script;open 1;1 0 Tclunk fid 0;%% replies;skip;|1 reply 2
+%% script;open 1;1 0 Tclunk fid 0;%% replies;0;|1 reply 2
+%% script;open 1;1 0 Tclunk fid 0;%% replies;07;;|2 end
+%% script;open 1;open 1;1 0 Tclunk fid 0;%% replies;|1 skip 2
+%% script;open 1;open 1;1 0 Tclunk fid 0;%% replies;Skip;|1 skip 2
+%% script;1 0 Tclunk fid 0;%% replies;07;|1 skip 1
+%% script;1 0 Tclunk fid 0;%% replies;skip;skip|2 end";
+
 #[test]
-fn bad_replies_tell_the_line(rt: HostRuntime) -> Result<(), Fail> {
-    let request = "1 0 Tclunk fid 0\n";
-    for (script, replies, line, awaited) in [
-        ("open 1\n", "", 1, Awaited::Reply(2)),
-        ("open 1\n", "\n", 1, Awaited::Reply(2)),
-        ("open 1\n", "skip\n", 1, Awaited::Reply(2)),
-        ("open 1\n", "0\n", 1, Awaited::Reply(2)),
-        ("open 1\n", "07\n\n", 2, Awaited::End),
-        ("open 1\nopen 1\n", "", 1, Awaited::Skip(2)),
-        ("open 1\nopen 1\n", "Skip\n", 1, Awaited::Skip(2)),
-        ("", "07\n", 1, Awaited::Skip(1)),
-        ("", "skip\nskip", 2, Awaited::End),
-    ] {
-        let input = format!(in rt.alloc(); "%% script\n{script}{request}%% replies\n{replies}")?;
-        let bad = Stop::Refused(Refusal::BadReply { line, awaited });
-        let shown = show_exchange(rt.alloc(), input.as_str().as_bytes());
-        assert!(rt; shown.err() == Some(bad), "{script}{replies}");
+fn bad_replies_tell_the_line(rt: HostRuntime) {
+    for row in REPLIES.lines() {
+        let (lines, place) = row.split_once('|').expect(&rt, "an input");
+        let input = lines.replace(rt.alloc(), ';', "\n").expect(&rt, "memory");
+        is_bad_reply(&rt, rt.alloc(), input.as_str(), place);
     }
-    Ok(())
+}
+
+// An exchange is refused for its bad reply.
+fn is_bad_reply(rt: &impl Abort, alloc: Global, input: &str, place: &str) {
+    let mut rest = place;
+    let bad = Refusal::BadReply {
+        line: take_usize(rt, &mut rest),
+        awaited: take_awaited(rt, &mut rest),
+    };
+    let shown = show_exchange(alloc, input.as_bytes()).err();
+    assert!(rt; shown == Some(Stop::Refused(bad)), "{input}");
+}
+
+// Takes off a line what is awaited.
+fn take_awaited(rt: &impl Abort, line: &mut &str) -> Awaited {
+    match take_word(line) {
+        "reply" => Awaited::Reply(take_usize(rt, line)),
+        "skip" => Awaited::Skip(take_usize(rt, line)),
+        _ => Awaited::End,
+    }
 }
 
 #[test]
@@ -85,51 +109,50 @@ fn an_input_is_a_text_with_replies(rt: HostRuntime) {
     assert!(rt; show_exchange(rt.alloc(), b"%% script\n").err() == Some(none));
 }
 
+// A refusal has this text.
+fn is_line(rt: &impl Abort, alloc: Global, refusal: Refusal, text: &str) {
+    let shown = format!(in alloc; "{refusal}").expect(rt, "memory");
+    assert!(rt; shown.as_str() == text);
+}
+
 #[test]
-fn a_refusal_is_one_line(rt: HostRuntime) -> Result<(), Fail> {
-    let (line, at) = (3, 11);
-    for (refusal, text) in [
-        (Refusal::NotUtf8, "input: not UTF-8"),
-        (Refusal::NoReplies, "replies: missing"),
-        (
-            Refusal::BadLine {
-                line,
-                at,
-                expected: Expected::Key(Key::Fid),
-            },
-            "script:3: 'fid' expected after byte 11",
-        ),
-        (
-            Refusal::BadLine {
-                line,
-                at: 0,
-                expected: Expected::Event,
-            },
-            "script:3: 'open', 'close', 'msg' or the number of a session expected after byte 0",
-        ),
-        (
-            Refusal::BadReply {
-                line,
-                awaited: Awaited::Reply(4),
-            },
-            "replies:3: the reply to line 4 of the script expected",
-        ),
-        (
-            Refusal::BadReply {
-                line,
-                awaited: Awaited::Skip(4),
-            },
-            "replies:3: 'skip' for line 4 of the script expected",
-        ),
-        (
-            Refusal::BadReply {
-                line,
-                awaited: Awaited::End,
-            },
-            "replies:3: the end expected",
-        ),
-    ] {
-        assert!(rt; format!(in rt.alloc(); "{refusal}")?.as_str() == text);
+fn a_refusal_is_one_line(rt: HostRuntime) {
+    let alloc = rt.alloc();
+    is_line(&rt, alloc, Refusal::NotUtf8, "input: not UTF-8");
+    is_line(&rt, alloc, Refusal::NoReplies, "replies: missing");
+    bad_lines_are_lines(&rt, alloc);
+    bad_replies_are_lines(&rt, alloc);
+}
+
+// What is printed of bad lines.
+fn bad_lines_are_lines(rt: &impl Abort, alloc: Global) {
+    let bad = Refusal::BadLine {
+        line: 3,
+        at: 11,
+        expected: Expected::Key(Key::Fid),
+    };
+    is_line(rt, alloc, bad, "script:3: 'fid' expected after byte 11");
+    let bad = Refusal::BadLine {
+        line: 3,
+        at: 0,
+        expected: Expected::Event,
+    };
+    let text = "script:3: 'open', 'close', 'msg' or the number of a session expected after byte 0";
+    is_line(rt, alloc, bad, text);
+}
+
+// What was awaited in a line, and the refusal's text.
+const AWAITED: &str = "\
+reply 4 = replies:3: the reply to line 4 of the script expected
+skip 4 = replies:3: 'skip' for line 4 of the script expected
+end = replies:3: the end expected";
+
+// What is printed of bad replies.
+fn bad_replies_are_lines(rt: &impl Abort, alloc: Global) {
+    for row in AWAITED.lines() {
+        let (words, text) = row.split_once(" = ").expect(rt, "a text");
+        let mut rest = words;
+        let awaited = take_awaited(rt, &mut rest);
+        is_line(rt, alloc, Refusal::BadReply { line: 3, awaited }, text);
     }
-    Ok(())
 }

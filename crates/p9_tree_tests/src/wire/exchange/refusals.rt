@@ -3,13 +3,14 @@
 
 use super::exchanges::{EXCHANGE, PLAYED};
 use super::scripts::{SCRIPT, WORDS};
+use crate::trials::{Call, refusals};
 use p9_exchange::{Stop, show_exchange, write_script};
-use p9_testing::{Refusing, refuse_each};
-use std::alloc::Allocator;
+use p9_testing::Refusing;
+use std::alloc::{Allocator, Global};
 use std::process::Abort;
 
-// Writes a script; where an allocation fails, it says so.
-fn writes<A: Allocator + Copy>(rt: &impl Abort, alloc: A) -> bool {
+/// Writes a script; where an allocation fails, it says so.
+pub fn writes<A: Allocator + Copy>(rt: &impl Abort, alloc: A) -> bool {
     match write_script(alloc, WORDS.as_bytes()) {
         Ok(text) => {
             assert!(rt; text.as_str() == SCRIPT);
@@ -22,8 +23,8 @@ fn writes<A: Allocator + Copy>(rt: &impl Abort, alloc: A) -> bool {
     }
 }
 
-// Shows an exchange; where an allocation fails, it says so.
-fn shows<A: Allocator + Copy>(rt: &impl Abort, alloc: A) -> bool {
+/// Shows an exchange; where an allocation fails, it says so.
+pub fn shows<A: Allocator + Copy>(rt: &impl Abort, alloc: A) -> bool {
     match show_exchange(alloc, PLAYED.as_bytes()) {
         Ok(text) => {
             assert!(rt; text.as_slice() == EXCHANGE.as_bytes());
@@ -36,30 +37,18 @@ fn shows<A: Allocator + Copy>(rt: &impl Abort, alloc: A) -> bool {
     }
 }
 
+// The call is made with each request refused in turn.
+fn are_refused(rt: &impl Abort, alloc: Global, call: Call<'_>) {
+    let memory = Refusing::new(alloc);
+    assert!(rt; refusals(rt, &memory, call, true) > 0);
+}
+
 #[test]
 fn scripts_are_written_at_each_refusal(rt: HostRuntime) {
-    let memory = Refusing::new(rt.alloc());
-    let refusals = refuse_each(
-        &memory,
-        || (),
-        |()| {
-            let written = writes(&rt, &memory);
-            assert!(rt; written || memory.has_refused());
-        },
-    );
-    assert!(rt; refusals > 0);
+    are_refused(&rt, rt.alloc(), Call::Write);
 }
 
 #[test]
 fn exchanges_are_shown_at_each_refusal(rt: HostRuntime) {
-    let memory = Refusing::new(rt.alloc());
-    let refusals = refuse_each(
-        &memory,
-        || (),
-        |()| {
-            let shown = shows(&rt, &memory);
-            assert!(rt; shown || memory.has_refused());
-        },
-    );
-    assert!(rt; refusals > 0);
+    are_refused(&rt, rt.alloc(), Call::Show);
 }

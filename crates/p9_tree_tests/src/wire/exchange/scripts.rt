@@ -1,7 +1,8 @@
 //! Scripts in words, and the scripts that say the same. The frames are by hand from the manual.
 
 use p9_exchange::write_script;
-use std::test::Fail;
+use std::alloc::Global;
+use std::process::Abort;
 
 /// A script in words, with lines of every kind.
 pub const WORDS: &str = "%% world\nserver main\n%% script\n# a session\nopen 1\n\
@@ -16,41 +17,40 @@ pub const SCRIPT: &str = "%% world\nserver main\n%% script\n# a session\nopen 1\
     msg 2 4294967295 0d000000640300000200000000\nmsg 2 0 0b00000078010002000000\n\
     msg 1 0 0b00000078\nclose 1 9\n";
 
+// A text is written as this script.
+fn is_written(rt: &impl Abort, alloc: Global, text: &str, script: &str) {
+    let written = write_script(alloc, text.as_bytes())
+        .ok()
+        .expect(rt, "a script");
+    assert!(rt; written.as_str() == script);
+}
+
 #[test]
-fn words_are_written_as_frames(rt: HostRuntime) -> Result<(), Fail> {
-    match write_script(rt.alloc(), WORDS.as_bytes()) {
-        Ok(text) => assert!(rt; text.as_str() == SCRIPT),
-        Err(stop) => panic!(rt; "{stop:?}"),
-    }
-    Ok(())
+fn words_are_written_as_frames(rt: HostRuntime) {
+    is_written(&rt, rt.alloc(), WORDS, SCRIPT);
 }
 
 // What is a script already stays as it is, and so does a bundle without one.
 #[test]
-fn scripts_stay_as_they_are(rt: HostRuntime) -> Result<(), Fail> {
-    for text in ["", "\n", "%% world\n 1 0 Tversion\n%% scripts\n", SCRIPT] {
-        match write_script(rt.alloc(), text.as_bytes()) {
-            Ok(same) => assert!(rt; same.as_str() == text),
-            Err(stop) => panic!(rt; "{stop:?}"),
-        }
+fn scripts_stay_as_they_are(rt: HostRuntime) {
+    for text in &["", "\n", "%% world\n 1 0 Tversion\n%% scripts\n", SCRIPT] {
+        is_written(&rt, rt.alloc(), text, text);
     }
-    Ok(())
 }
 
 // The tag that follows 65534 is 0.
 #[test]
-fn a_counted_tag_is_never_65535(rt: HostRuntime) -> Result<(), Fail> {
-    let mut words = String::from_str(rt.alloc(), "%% script\n")?;
-    for _ in 0..65_535 {
-        words.push_str("msg 1 0 00\n")?;
-    }
-    words.push_str("1 0 Tclunk fid 1\n")?;
-    match write_script(rt.alloc(), words.as_str().as_bytes()) {
-        Ok(text) => {
-            let last = text.as_str().ends_with("msg 1 0 0b00000078000001000000\n");
-            assert!(rt; last);
-        }
-        Err(stop) => panic!(rt; "{stop:?}"),
-    }
-    Ok(())
+fn a_counted_tag_is_never_65535(rt: HostRuntime) {
+    let frames = "msg 1 0 00\n"
+        .repeat(rt.alloc(), 65_535)
+        .expect(&rt, "memory");
+    let words = format!(in rt.alloc(); "%% script\n{frames}1 0 Tclunk fid 1\n");
+    let words = words.expect(&rt, "memory");
+    let script = write_script(rt.alloc(), words.as_str().as_bytes()).ok();
+    let script = script.expect(&rt, "a script");
+    assert!(rt;
+        script
+            .as_str()
+            .ends_with("msg 1 0 0b00000078000001000000\n")
+    );
 }
