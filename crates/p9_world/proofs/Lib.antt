@@ -6,3 +6,4 @@ pub mod Members
 pub mod TextPositions
 pub mod LastDirs
 pub mod Readers
+mod Refused

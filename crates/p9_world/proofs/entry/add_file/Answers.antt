@@ -1,6 +1,10 @@
-use Rattle.std.proofs.Common.{◌<◌, length, refl, arith}
+use Rattle.std.proofs.Common.{◌≡◌, ◌<◌, ◌∙◌, length, refl, sym, ap, subst, arith}
+use Rattle.std.proofs.lemmas.List.{length-map}
 use Rattle.p9_world.specs.Entry.{file_line}
-use Rattle.p9_world.proofs.Worlds.{IsWorld-last, Makes-last, led-last}
+use Rattle.p9_world.specs.LastDir.{IsWhereNamesLead}
+use Rattle.p9_world.specs.World.{World}
+use Rattle.p9_world.proofs.Refused.{no-last_server, none-counted}
+use Rattle.p9_world.proofs.Worlds.{IsWorld-last, Makes-last, led-last, state-last}
 use Rattle.p9_world.proofs.entry.add_file.Goals as goal
 
 pub invariant_of-world-2 : goal.invariant_of-world-2
@@ -33,3 +37,26 @@ returns g c =
     c.forest.view_is _ _ _ _ _
     (file_line c.args.words.path.now c.args.words.mode.now c.args.words.uid.now c.args.words.gid.now c.args.hex.now)
     c.add_file_to.result c.add_file_to.ensures.made)
+
+pub add_file_to-requires : goal.add_file_to-requires
+add_file_to-requires g c =
+    let some : 0 < length c.forest.inside.trees.items =
+    omega (arith, c.in-Some.ensures.variant.0 refl, c.forest.inside.trees.ok.0) in
+    subst (λ s. IsWhereNamesLead c.world.inside.last_dir s)
+    (state-last g.T.Tree.state c.forest.inside.trees.items c.in-Some.tree.now c.in-Some.tree.now _
+    c.forest.inside.trees.ok.0 some c.in-Some.ensures.value _ c.forest.view_is)
+    c.world.invariant.led
+
+pub invariant_of-world : goal.invariant_of-world
+invariant_of-world g c = rw c.forest.view_is c.world.invariant
+
+pub returns-in_default : goal.returns-in_default
+returns-in_default g c =
+    let none : length c.args.world.now.forest ≡ 0 =
+    sym (ap (λ (w : World). length w.forest) c.world.view_is) ∙ sym (ap length c.forest.view_is)
+    ∙ length-map c.forest.inside.trees.items g.T.Tree.state ∙ sym c.forest.inside.trees.ok.0
+    ∙ none-counted c.forest.inside.trees.len c.in_default.ensures.variant.1 in (
+      no-last_server (file_line c.args.words.path.now c.args.words.mode.now c.args.words.uid.now c.args.words.gid.now c.args.hex.now)
+          c.args.world.now none,
+      rw c.forest.view_is c.world.view_is,
+    )

@@ -1,4 +1,4 @@
-use Rattle.std.proofs.Common.{◌≡◌, ◌<◌, false, true, map, ap, ◌∙◌, sym}
+use Rattle.std.proofs.Common.{◌≡◌, ◌<◌, false, true, map, refl, ap, ◌∙◌, sym}
 use Rattle.std.proofs.Common.{string_bytes, arith, length, is_some}
 use Rattle.std.proofs.lemmas.List.{length-map}
 use Rattle.p9_tree.specs.Server.{rooted}
@@ -7,7 +7,8 @@ use Rattle.p9_base.specs.NodeRef.{servers_max}
 use Rattle.p9_world.proofs.Lists.{map-joined}
 use Rattle.p9_world.specs.Positions.{position_at}
 use Rattle.p9_world.proofs.LastDirs.{led-root}
-use Rattle.p9_world.proofs.Readers.{no-position}
+use Rattle.p9_world.proofs.Readers.{no-position, reader-same}
+use Rattle.p9_world.proofs.Refused.{server_line-again, server_line-bad}
 use Rattle.p9_world.proofs.TextPositions.{Indexes-joined}
 use Rattle.p9_world.proofs.Worlds.{IsWorld-with_server, server_line-ok}
 use Rattle.p9_world.proofs.server.add_server.Goals as goal
@@ -70,3 +71,29 @@ returns g c =
     let valid : is_server_name c.args.name.now ≡ true =
     sym c.is_server_name.ensures ∙ c.if-not-is_server_name.false in
     rw (← c.world.view_is, forest, c.forest.view_is, servers) (server_line-ok c.args.name.now _ valid absent room)
+
+pub returns-then-not-is_server_name : goal.returns-then-not-is_server_name
+returns-then-not-is_server_name g c = (
+  server_line-bad c.args.name.now c.args.world.now
+      (sym c.is_server_name.ensures ∙ c.if-not-is_server_name.true),
+  refl,
+)
+
+pub returns-then-has : goal.returns-then-has
+returns-then-has g c =
+    let there : is_some
+    (server_number c.args.name.now (map string_bytes c.world.inside.servers.items))
+    ≡ true = ap is_some (sym (c.world.invariant.servers c.args.name.now)) ∙ sym c.has.ensures
+    ∙ c.if-has.true in
+    let listed : is_some (server_number c.args.name.now c.args.world.now.servers) ≡ true =
+    rw (← c.world.view_is) there in (
+      server_line-again c.args.name.now c.args.world.now
+          (sym c.is_server_name.ensures ∙ c.if-not-is_server_name.false) listed,
+      refl,
+    )
+
+pub invariant_of-world-in_err-insert : goal.invariant_of-world-in_err-insert
+invariant_of-world-in_err-insert g c =
+    rw (c.reserve.ensures.items, c.forest.view_is, c.reserve-2.ensures.items)
+    (reader-same _ _ _ _ _ _ c.world.invariant _ _ c.insert.new.self (λ q. refl) (λ q. refl)
+    c.in_err-insert.ensures.err)
