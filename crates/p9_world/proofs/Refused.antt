@@ -1,5 +1,5 @@
 -- What lines mean that are refused, and the line of a group.
-use Rattle.std.proofs.Common.{◌≡◌, ℕ, zero, suc, ◌<◌, Bool, true, false, IsTrue, List, Option, Some, None}
+use Rattle.std.proofs.Common.{◌≡◌, ℕ, zero, suc, ◌<◌, Bool, true, false, IsTrue, List, Some, None}
 use Rattle.std.proofs.Common.{[], ◌∷◌, ◌++◌, Result, Ok, Err, is_some, length, not, refl, sym, true≢false}
 use Rattle.std.proofs.Common.{arith}
 use Rattle.std.specs.List.{list_all}

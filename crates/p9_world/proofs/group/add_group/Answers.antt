@@ -1,7 +1,6 @@
 use Rattle.std.proofs.Common.{◌≡◌, ℕ, List, Bor, true, false, is_some, map, refl, sym, ap, ◌∙◌}
 use Rattle.std.proofs.lemmas.Result.{err_from_is_err_and}
 use Rattle.p9_base.specs.Group.{group_of}
-use Rattle.p9_base.specs.User.{is_user}
 use Rattle.p9_world.specs.World.{World}
 use Rattle.p9_world.proofs.Refused.{group_line-bad, group_line-bad_leader, group_line-listed}
 use Rattle.p9_world.proofs.Refused.{group_line-twice}

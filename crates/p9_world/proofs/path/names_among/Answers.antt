@@ -1,4 +1,4 @@
-use Rattle.std.proofs.Common.{◌≡◌, ℕ, List, Bor, refl, sym, ◌∙◌}
+use Rattle.std.proofs.Common.{ℕ, List, Bor, refl, sym, ◌∙◌}
 use Rattle.p9_world.proofs.Names.{names_behind-all, names_behind-next, names_behind-none}
 use Rattle.p9_world.proofs.path.names_among.Goals as goal
 
