@@ -1,12 +1,12 @@
--- An accept that is due.
+-- An accept that is made.
 use Rattle.std.proofs.Common.{◌≡◌, ℕ, Bool, true, false}
 use Rattle.std.specs.Int.{from_bool}
 use Rattle.p9_serve.specs.Rounds.{AcceptsIf}
 use Rattle.p9_serve.specs.Serving.{Serving, TakesIn}
 
 -- it takes in one client, or nobody
-pub accepted : {S : Type 0} (stream : S) (old new : Serving S) (due taken : Bool) (count : ℕ)
-    → due ≡ true → TakesIn stream old new taken → count ≡ from_bool taken
-    → AcceptsIf due old new count
-accepted stream old new due true count is entered counted = rw (is, counted) (stream, entered)
-accepted stream old new due false count is entered counted = rw (is, counted) entered
+pub accepted : {S : Type 0} (stream : S) (old new : Serving S) (made taken : Bool) (count : ℕ)
+    → made ≡ true → TakesIn stream old new taken → count ≡ from_bool taken
+    → AcceptsIf made old new count
+accepted stream old new made true count is entered counted = rw (is, counted) (stream, entered)
+accepted stream old new made false count is entered counted = rw (is, counted) entered

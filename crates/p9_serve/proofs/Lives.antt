@@ -17,8 +17,7 @@ use Rattle.std.proofs.lemmas.List.{map-append}
 use Rattle.p9_serve.specs.Laws.{EveryLifeIsPromised, IsLife}
 use Rattle.p9_serve.specs.Life.{Acts, ArrivesAt, Arrives, HasActed, HasRounds, Leaves, LeavesAt, Moment}
 use Rattle.p9_serve.specs.Life.{Pass, Passes, events_in, history, opening}
-use Rattle.p9_serve.specs.Pace.{is_due}
-use Rattle.p9_serve.specs.Rounds.{Accepts, AcceptsIf, HasRound, Running}
+use Rattle.p9_serve.specs.Rounds.{Accepts, AcceptsIf, HasRound, Running, accepts_now}
 use Rattle.p9_serve.specs.Serving.{EndAt, Ended, Serving, TurnAt, Turned, in_state, slot_at}
 use Rattle.p9_serve.specs.declared.server.Round.{Round}
 
@@ -82,7 +81,7 @@ module _ {S : Type 0} (remaining contents : S → Option (List ℕ)) where
       record { moments = Arrives key ∷ []; passed = (b, arrives, refl); timely = (tt, tt) }
   accept-leads a b (suc (suc more)) t = absurd t
 
-  due-leads : (due : Bool) (a b : Serving S) (accepted : ℕ) → AcceptsIf due a b accepted
+  due-leads : (made : Bool) (a b : Serving S) (accepted : ℕ) → AcceptsIf made a b accepted
       → Leads a b
   due-leads true a b accepted t = accept-leads a b accepted t
   due-leads false a b accepted t = nothing a b t.0
@@ -91,7 +90,7 @@ module _ {S : Type 0} (remaining contents : S → Option (List ℕ)) where
       → HasRound remaining contents now a b round → Leads a.serving b.serving
   round-leads now a b round t =
       leads-both a.serving t.between b.serving
-      (due-leads (is_due a.pace) a.serving t.between round.accepted t.accepted)
+      (due-leads (accepts_now a) a.serving t.between round.accepted t.accepted)
       (turns-lead now t.turned.bound t.between b.serving t.turned.turns t.turned.turned)
 
   rounds-lead : (nows : List ℕ) (a b : Running S) → HasRounds remaining contents nows a b

@@ -1,5 +1,5 @@
 -- When a server accepts, and how long it rests between rounds.
-use Rattle.std.specs.Prelude.{ℕ, ◌+◌, ◌-◌, ◌*◌, ◌^◌, ◌&&◌, ◌||◌, Bool, min, nat_eq, nat_le}
+use Rattle.std.specs.Prelude.{ℕ, ◌+◌, ◌-◌, ◌*◌, ◌^◌, ◌&&◌, ◌||◌, Bool, max, min, nat_eq, nat_le}
 use Rattle.std.specs.Prelude.{nat_lt, if◌then◌else◌}
 use Rattle.p9_serve.specs.declared.server.Round.{Round}
 
@@ -10,7 +10,10 @@ pub record Pacing : Type 0 where
   pub left : ℕ
   pub wait : ℕ
 
--- how many rounds pass at most between two accepts
+-- how many rounds pass at least, and at most, between an accept that finds nobody and the next one
+abbrev pub shortest_wait : ℕ
+shortest_wait = 15
+
 abbrev pub longest_wait : ℕ
 longest_wait = 63
 
@@ -31,7 +34,7 @@ new_pacing = record { quiet = 0; left = 0; wait = 0 }
 abbrev pub rest_of : (quiet : ℕ) → ℕ
 rest_of quiet = if nat_lt quiet rest_from then 0 else min 4_000 (50 * 2 ^ (quiet - rest_from))
 
--- whether the next round accepts
+-- whether the next round accepts, whoever is there
 abbrev pub is_due : Pacing → Bool
 is_due p = nat_eq p.left 0 || nat_le rest_from p.quiet
 
@@ -43,12 +46,12 @@ is_quiet round = nat_eq round.accepted 0 && nat_eq round.moved 0 && nat_eq round
 abbrev pub has_changed : Round → Bool
 has_changed round = nat_lt 0 round.accepted || nat_lt 0 round.closed
 
--- how many rounds pass after an accept: none while clients come and go, and after accepts that find
--- nobody one, then three, seven, and so on
+-- how many rounds pass after an accept: none while clients come and go; after one that finds nobody
+-- the fewest, and after each further one twice as many and one, up to the most
 abbrev pub wait_after : (was_due : Bool) (wait : ℕ) → Round → ℕ
 wait_after was_due wait round =
     if has_changed round then 0
-    else if was_due then min (2 * wait + 1) longest_wait
+    else if was_due then min (max (2 * wait + 1) shortest_wait) longest_wait
     else wait
 
 -- after one round more

@@ -1,7 +1,7 @@
 -- A server's rounds: at most one client is taken in, and then each has a turn.
-use Rattle.std.specs.Prelude.{◌≡◌, ℕ, zero, suc, Bool, true, false, List, Option, None}
+use Rattle.std.specs.Prelude.{◌≡◌, ℕ, zero, suc, ◌||◌, Bool, true, false, List, Option, None}
 use Rattle.p9_serve.specs.Pace.{Pacing, is_due, new_pacing, pacing_after}
-use Rattle.p9_serve.specs.Serving.{HasTurns, IsTakenIn, Serving}
+use Rattle.p9_serve.specs.Serving.{HasTurns, IsTakenIn, Serving, has_nobody}
 use Rattle.p9_serve.specs.declared.clients.Tally.{Tally}
 use Rattle.p9_serve.specs.declared.server.Round.{Round}
 
@@ -14,14 +14,18 @@ pub record Running (S : Type 0) : Type 0 where
 abbrev pub new_server : {S : Type 0} → Serving S → Running S
 new_server serving = record { serving = serving; pace = new_pacing }
 
+-- whether the next round accepts: where that is due, and where there is no client
+abbrev pub accepts_now : {S : Type 0} → Running S → Bool
+accepts_now running = is_due running.pace || has_nobody running.serving
+
 -- an accept took in nobody, or one client, whose stream is this one
 abbrev pub Accepts : {S : Type 0} → Serving S → Serving S → ℕ → Type 0
 Accepts old new zero = new ≡ old
 Accepts {S} old new (suc zero) = (stream : S) × IsTakenIn stream old new
 Accepts {S} old new (suc (suc more)) = ⊥
 
--- an accept where one is due; else nobody is taken in
-abbrev pub AcceptsIf : {S : Type 0} → (due : Bool) → Serving S → Serving S → (accepted : ℕ)
+-- an accept where one is made; else nobody is taken in
+abbrev pub AcceptsIf : {S : Type 0} → (made : Bool) → Serving S → Serving S → (accepted : ℕ)
     → Type 0
 AcceptsIf true old new accepted = Accepts old new accepted
 AcceptsIf false old new accepted = (new ≡ old) × (accepted ≡ 0)
@@ -31,11 +35,11 @@ abbrev pub tally_of : Round → Tally
 tally_of round = record { moved = round.moved; closed = round.closed }
 
 -- a round at this reading of the clock, over streams whose bytes may be known: an accept, if
--- one is due, and then a turn of each connection
+-- one is made, and then a turn of each connection
 pub record HasRound {S : Type 0} (remaining contents : S → Option (List ℕ)) (clock : ℕ)
     (old new : Running S) (round : Round) : Type 0 where
   pub between : Serving S
-  pub accepted : AcceptsIf (is_due old.pace) old.serving between round.accepted
+  pub accepted : AcceptsIf (accepts_now old) old.serving between round.accepted
   pub turned : HasTurns remaining contents clock between new.serving (tally_of round)
   pub pace_is : new.pace ≡ pacing_after old.pace round
 

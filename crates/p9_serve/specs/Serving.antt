@@ -1,7 +1,7 @@
 -- The clients of a guard, and what rounds make of them.
 use Rattle.std.specs.Prelude.{◌≡◌, ◌≢◌, ℕ, zero, suc, ◌≤◌, ◌<◌, ◌^◌, Bool, true, false, List, [], ◌∷◌}
 use Rattle.std.specs.Prelude.{◌++◌, Option, Some, None, IsSome, length, slice_index_or, slice_set}
-use Rattle.std.specs.Prelude.{count_by, if◌then◌else◌}
+use Rattle.std.specs.Prelude.{◌==◌, count_by, if◌then◌else◌, is_some}
 use Rattle.p9_step.specs.Event.{Close, Open}
 use Rattle.p9_step.specs.State.{SessionRow, State, session_at}
 use Rattle.p9_step.specs.Step.{step}
@@ -20,6 +20,10 @@ pub record Serving (S : Type 0) : Type 0 where
 -- the connection at a key
 abbrev pub slot_at : {S : Type 0} → List (Option (Connection S)) → ℕ → Option (Connection S)
 slot_at slots key = slice_index_or slots key None
+
+-- whether there is no client
+abbrev pub has_nobody : {S : Type 0} → Serving S → Bool
+has_nobody serving = count_by is_some serving.slots == 0
 
 -- each connection's session is that of its key, and is open
 abbrev pub AreKeyed : {S : Type 0} → List (Option (Connection S)) → List SessionRow → Type 0

@@ -2,7 +2,7 @@
 
 ghost use Rattle.std.specs.Prelude.{◌≡◌, ◌<◌, ◌≤◌, ◌+◌, ◌^◌, [], None, count_by, length, slice_set};
 ghost use Rattle.p9_serve.specs.Serving.{AreKeyed, EndAt, HasTurns, IsFinished, TakesIn, TurnAt};
-ghost use Rattle.p9_serve.specs.Serving.{is_closed, is_moved, turns_of, slot_at};
+ghost use Rattle.p9_serve.specs.Serving.{has_nobody, is_closed, is_moved, turns_of, slot_at};
 
 use p9_conn::{Conn, Stream, Turn};
 use p9_guard::Guard;
@@ -73,6 +73,13 @@ impl<S: Stream + Drop, T: Tree> Clients<S, T> {
             guard,
             conns: Slab::new(alloc),
         }
+    }
+
+    /// Whether there is no client.
+    pub fn is_empty(&self) -> bool
+        ensures { result ≡ has_nobody self.now }
+    {
+        self.conns.is_empty()
     }
 
     /// The allocator of the connections.

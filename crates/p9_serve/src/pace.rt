@@ -9,7 +9,9 @@ use crate::server::Round;
 use std::marker::Model;
 use std::time::Duration;
 
-// How many rounds pass at most between two accepts.
+// How many rounds pass at least, and at most, between an accept that finds nobody and the next one.
+const SHORTEST_WAIT: u64 = 15;
+
 const LONGEST_WAIT: u64 = 63;
 
 // After this many quiet rounds a server rests before each further one.
@@ -21,11 +23,11 @@ const MOST_QUIET: u64 = 5_007;
 /// What a server's rounds so far say of the next one: whether it accepts, and how long to rest
 /// before it. A round is quiet where nothing was taken in, moved or closed.
 ///
-/// A round accepts if it is the first, or if the one before it took in or closed a client. After
-/// accepts that find nobody one round passes until the next, then three, seven, and so on up to
-/// 63. A round accepts also after each rest. There is a rest after 5,000 quiet rounds and after
-/// each further one: 50 microseconds at first, then each time twice as long, up to 4,000. A round
-/// that is not quiet ends the rests.
+/// A round accepts if it is the first, or if the one before it took in or closed a client. After an
+/// accept that finds nobody 15 rounds pass until the next, then 31, and then 63 each time. A round
+/// accepts also after each rest. There is a rest after 5,000 quiet rounds and after each further
+/// one: 50 microseconds at first, then each time twice as long, up to 4,000. A round that is not
+/// quiet ends the rests.
 #[derive(Drop)]
 pub struct Pace {
     // The quiet rounds in a row that were the last ones, up to `MOST_QUIET`.
@@ -98,7 +100,7 @@ impl Pace {
         if has_changed(round) {
             0
         } else if was_due {
-            (2 * self.wait + 1).min(LONGEST_WAIT)
+            (2 * self.wait + 1).max(SHORTEST_WAIT).min(LONGEST_WAIT)
         } else {
             self.wait
         }

@@ -2,8 +2,8 @@
 
 ghost use Rattle.std.specs.Prelude.{◌≡◌, ◌*◌, []};
 ghost use Rattle.std.specs.Duration.{as_nanos};
-ghost use Rattle.p9_serve.specs.Pace.{is_due, rest_of};
-ghost use Rattle.p9_serve.specs.Rounds.{AcceptsIf, HasRound, new_server, untold};
+ghost use Rattle.p9_serve.specs.Pace.{rest_of};
+ghost use Rattle.p9_serve.specs.Rounds.{AcceptsIf, HasRound, accepts_now, new_server, untold};
 ghost use Rattle.p9_serve.specs.Serving.{AreKeyed, IsFinished};
 
 use crate::clients::Clients;
@@ -82,11 +82,11 @@ impl<T: Tree> Server<T> {
         self.pace.rest()
     }
 
-    /// Accepts, if that is due: in the first round; in the round after one that took in or closed a
-    /// client, and then, while nobody waits, after one round more, three, seven and so on, at least
-    /// once in 64; and after each rest ([`Pace`]). One client is taken in then, if one is waiting.
-    /// Then each client's connection has a turn, by rising key, at the clock reading `clock`, in
-    /// seconds since 1970, modulo 2^32. Returns what came of it.
+    /// Accepts, if there is no client, or if that is due: in the first round; in the round after one
+    /// that took in or closed a client, and then, while nobody waits, after 15 rounds, 31, and 63 each
+    /// time; and after each rest ([`Pace`]). One client is taken in then, if one is waiting. Then each
+    /// client's connection has a turn, by rising key, at the clock reading `clock`, in seconds since
+    /// 1970, modulo 2^32. Returns what came of it.
     ///
     /// A client is dropped, and not counted, where [`Clients::take_in`] drops it. An accept that
     /// fails takes in nobody, as one does that finds nobody waiting.
@@ -120,19 +120,26 @@ impl<T: Tree> Server<T> {
         clients.finish(clock)
     }
 
-    // Takes in a client that waits, if an accept is due; returns how many.
+    // Takes in a client that waits, if the next round accepts; returns how many.
     fn accept(&mut self) -> u64
-        ensures accepted { AcceptsIf (is_due self.old.pace) self.old.serving self.new.serving
+        ensures accepted { AcceptsIf (accepts_now self.old) self.old.serving self.new.serving
             result }
         ensures same { self.new.pace ≡ self.old.pace }
     {
-        if !self.pace.is_due() {
+        if !self.accepts() {
             return 0;
         }
         match self.waiting() {
             Some(stream) => u64::from(self.clients.take_in(stream)),
             None => 0,
         }
+    }
+
+    // Whether the next round accepts.
+    fn accepts(&self) -> bool
+        ensures { result ≡ accepts_now self.now }
+    {
+        self.pace.is_due() || self.clients.is_empty()
     }
 
     // The socket of a client that waits, if there is one, and neither the accept nor an allocation

@@ -42,22 +42,30 @@ fn accepts_that_find_nobody_come_further_apart(rt: HostRuntime) {
     drop(loopback);
 }
 
-// A new server accepts in its first round, and in the round after one in which a client came. Then,
-// where nobody comes, it accepts after one round more, three, and seven.
+// A server without clients accepts in each round, and any server in the round after one in which a
+// client came. Then, where nobody comes, it accepts after 15 rounds, and after 31 more.
 fn come_further_apart(rt: &(impl Abort + AllocGlobal + Net), loopback: &mut Loopback) {
+    loopback.wait(3);
     let first = loopback.connect(rt);
     loopback.wait(1);
     loopback.has_taken(rt, 1, 0);
     let second = loopback.connect(rt);
     loopback.wait(1);
     loopback.has_taken(rt, 2, 0);
-    loopback.wait(7);
+    loopback.wait(1);
     let third = loopback.connect(rt);
-    loopback.wait(7);
+    loopback.wait(15);
     loopback.has_taken(rt, 2, 0);
     loopback.wait(1);
     loopback.has_taken(rt, 3, 0);
+    loopback.wait(17);
+    let fourth = loopback.connect(rt);
+    loopback.wait(31);
+    loopback.has_taken(rt, 3, 0);
+    loopback.wait(1);
+    loopback.has_taken(rt, 4, 0);
     drop(first);
     drop(second);
     drop(third);
+    drop(fourth);
 }
