@@ -4,7 +4,7 @@ use Rattle.std.proofs.Common.{refl, ap, subst, ◌∙◌, append_assoc}
 use Rattle.std.specs.Option.{option_map_or}
 use Rattle.p9_base.specs.Results.{and_then}
 use Rattle.p9_cert.specs.declared.gap.Gap.{Gap}
-use Rattle.p9_nsfile.specs.Space.{Report}
+use Rattle.p9_nsline.specs.Space.{Report}
 use Rattle.p9_commands.specs.Command.{CommandEnds, Printed, Works, Writes, admitted, gap_against}
 use Rattle.p9_commands.specs.Prepared.{IsReported, Prepared, Rejected, prepared_of, rejected_text}
 use Rattle.p9_commands.specs.Refusal.{IsUnverified, ReportsStop, refusal_line}

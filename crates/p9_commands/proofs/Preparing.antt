@@ -4,7 +4,7 @@ use Rattle.std.specs.Prelude.{IfErr, IfOk, OnOk}
 use Rattle.p9_base.specs.Results.{and_then}
 use Rattle.p9_base.specs.declared.node_ref.NodeRef.{NodeRef}
 use Rattle.p9_guard.specs.Guard.{Guarded}
-use Rattle.p9_nsfile.specs.Space.{Report}
+use Rattle.p9_nsline.specs.Space.{Report}
 use Rattle.p9_commands.specs.NameSpace.{NameSpace, gap_over, guard_over}
 use Rattle.p9_commands.specs.Prepared.{Rejected, guarded, with_reports}
 use Rattle.p9_commands.specs.Refusal.{IsStop, IsUnverified}

@@ -8,10 +8,10 @@ use Rattle.p9_cert.specs.declared.gap.Gap.{Gap}
 use Rattle.p9_space.specs.Table.{MountRow}
 use Rattle.p9_world.specs.World.{World}
 use Rattle.p9_world.specs.Read.{world_of}
-use Rattle.p9_nsfile.specs.Line.{BadLineOf}
+use Rattle.p9_nsline.specs.Line.{BadLineOf}
 use Rattle.p9_nsfile.specs.Run.{run_of}
-use Rattle.p9_nsfile.specs.Environment.{Environment}
-use Rattle.p9_nsfile.specs.Space.{Report}
+use Rattle.p9_nsline.specs.Environment.{Environment}
+use Rattle.p9_nsline.specs.Space.{Report}
 use Rattle.p9_step.specs.State.{State}
 use Rattle.p9_guard.specs.Guard.{Guarded, new_guard}
 use Rattle.p9_guard.specs.Served.{served}

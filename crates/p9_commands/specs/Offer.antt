@@ -2,7 +2,7 @@
 use Rattle.std.specs.Prelude.{◌≡◌, ℕ, List, ◌++◌, Option, Some, None, Result, Ok, Err}
 use Rattle.p9_base.specs.Results.{and_then}
 use Rattle.p9_guard.specs.Guard.{Guarded}
-use Rattle.p9_nsfile.specs.Space.{Report}
+use Rattle.p9_nsline.specs.Space.{Report}
 use Rattle.p9_commands.specs.Prepared.{Prepared, Rejected, guard_in, prepared_of, rejected_text}
 use Rattle.p9_commands.specs.Prepared.{with_reports}
 use Rattle.p9_commands.specs.Report.{reports_text}

@@ -7,7 +7,7 @@ use Rattle.p9_base.specs.Results.{and_then, need}
 use Rattle.p9_cert.specs.Text.{certificate_of}
 use Rattle.p9_cert.specs.declared.gap.Gap.{Gap}
 use Rattle.p9_guard.specs.Guard.{Guarded}
-use Rattle.p9_nsfile.specs.Space.{Report}
+use Rattle.p9_nsline.specs.Space.{Report}
 use Rattle.p9_step.specs.Event.{Event}
 use Rattle.p9_commands.specs.Bundle.{Texts, bundle_of}
 use Rattle.p9_commands.specs.NameSpace.{NameSpace, gap_over, guard_over, space_in}

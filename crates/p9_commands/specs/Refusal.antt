@@ -2,7 +2,7 @@
 use Rattle.std.specs.Prelude.{◌≡◌, ℕ, List, [], ◌∷◌, ◌++◌, Option, Some, Result, Ok, Err, codes}
 use Rattle.std.specs.Fmt.{decimal}
 use Rattle.p9_world.specs.Error.{line_fault_text}
-use Rattle.p9_nsfile.specs.Text.{form_text}
+use Rattle.p9_nsline.specs.Text.{form_text}
 use Rattle.p9_cert.specs.Gap.{gap_text}
 use Rattle.p9_cert.specs.declared.gap.Gap.{Gap}
 use Rattle.p9_commands.specs.declared.refusal.Refusal.{Refusal}

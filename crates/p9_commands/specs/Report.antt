@@ -1,8 +1,8 @@
 -- What failed in the making of a name space, as it is reported.
 use Rattle.std.specs.Prelude.{ℕ, List, [], ◌∷◌, ◌++◌, codes}
 use Rattle.std.specs.List.{flat_map}
-use Rattle.p9_nsfile.specs.Space.{Report}
-use Rattle.p9_nsfile.specs.Text.{fault_text}
+use Rattle.p9_nsline.specs.Space.{Report}
+use Rattle.p9_nsline.specs.Text.{fault_text}
 use Rattle.p9_commands.specs.Refusal.{at_line}
 
 -- one line each: the line of the namespace section, and why its operation did nothing

@@ -4,7 +4,7 @@ use Rattle.p9_base.specs.declared.stop.Stop.{Stop}
 use Rattle.p9_base.specs.declared.stop.Stop.TheVariants.{Refused, NoMemory}
 use Rattle.p9_commands.specs.Prepared.{IsPrepareErrorBy, Prepared, Rejected}
 use Rattle.p9_commands.specs.declared.refusal.Refusal.{Refusal}
-use Rattle.p9_nsfile.specs.Space.{Report}
+use Rattle.p9_nsline.specs.Space.{Report}
 use Rattle.p9_explain.specs.Explained.{IsExplained, IsRefusalTold}
 
 pub refusal-explained : {E : Type 0} (asked : Result Prepared Rejected) (reports : List Report)

@@ -2,7 +2,7 @@
 //! modes or bytes that a loop says it better, and calls that the program's command doesn't make.
 //! Each test runs over both kinds of tree, and requires the same bytes of both.
 //!
-//! `space` has the tests of p9_space, p9_fids and p9_nsfile.
+//! `space` has the tests of p9_space, p9_fids, p9_nsline and p9_nsfile.
 #![tactic(auto)]
 
 #[cfg(test)]

@@ -1,5 +1,5 @@
-//! Tests of p9_space, p9_fids and p9_nsfile: mount tables, walks, fids, namespace files, and
-//! allocations that fail.
+//! Tests of p9_space, p9_fids, p9_nsline and p9_nsfile: mount tables, walks, fids, namespace files,
+//! and allocations that fail.
 
 mod calls;
 mod fids;

@@ -16,7 +16,7 @@ use Rattle.p9_commands.specs.Judgement.{no_text, yes_text}
 use Rattle.p9_commands.specs.NameSpace.{NameSpace}
 use Rattle.p9_commands.specs.Prepared.{IsPrepareErrorBy, Prepared, Rejected}
 use Rattle.p9_commands.specs.declared.refusal.Refusal.{Refusal}
-use Rattle.p9_nsfile.specs.Space.{Report}
+use Rattle.p9_nsline.specs.Space.{Report}
 use Rattle.p9_map.specs.Picture.{IsPicture, IsRefused}
 
 module _ {A : Type 0} (space : NameSpace) where

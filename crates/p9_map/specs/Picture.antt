@@ -6,7 +6,7 @@ use Rattle.p9_commands.specs.declared.refusal.Refusal.{Refusal}
 use Rattle.p9_commands.specs.Judgement.{SaysNo, SaysYes}
 use Rattle.p9_commands.specs.NameSpace.{NameSpace}
 use Rattle.p9_commands.specs.Prepared.{Prepared, Rejected}
-use Rattle.p9_nsfile.specs.Space.{Report}
+use Rattle.p9_nsline.specs.Space.{Report}
 
 -- yes: `check` prints some text for the name space that says so
 pub record ShowsYes (space : NameSpace) (svg : List ℕ) : Type 0 where

@@ -2,7 +2,7 @@
 use Rattle.std.specs.Prelude.{◌<◌, ◌≤◌, IsTrue, List, length}
 use Rattle.p9_space.specs.Given.{is_table_given}
 use Rattle.p9_space.specs.Table.{MountRow}
-use Rattle.p9_nsfile.specs.Environment.{Environment}
+use Rattle.p9_nsline.specs.Environment.{Environment}
 
 -- there is a server, and each that has a name is there: if the old table names only nodes that were
 -- made, so does the new one

@@ -1,12 +1,2 @@
-pub mod Flags
-pub mod Operation
-pub mod Line
-pub mod Variable
-pub mod Environment
-pub mod Space
-pub mod Answer
-pub mod Find
-pub mod Bind
 pub mod Run
 pub mod Given
-pub mod Text

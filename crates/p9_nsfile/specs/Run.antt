@@ -1,43 +1,24 @@
 -- What the lines of a namespace file make of a mount table, as namespace(6).
 use Rattle.std.specs.Prelude.{ℕ, zero, suc, List, [], ◌∷◌, ◌++◌, Option, Some, None, Result, Ok}
-use Rattle.std.specs.Prelude.{Err, fold, unwrap_or, if◌then◌else◌}
-use Rattle.std.specs.Str.{is_utf8}
-use Rattle.p9_base.specs.declared.fault.Fault.TheVariants.{NotDirectory, PhaseError}
+use Rattle.std.specs.Prelude.{Err, fold, unwrap_or}
 use Rattle.p9_base.specs.Results.{and_then}
-use Rattle.p9_tree.specs.Node.{Node, is_dir}
-use Rattle.p9_tree.specs.Forest.{is_dir_of, node_of}
-use Rattle.p9_space.specs.Place.{file_ref}
 use Rattle.p9_space.specs.Table.{MountRow}
-use Rattle.p9_space.specs.Trail.{here}
-use Rattle.p9_nsfile.specs.declared.fault.OpFault.{OpFault}
-use Rattle.p9_nsfile.specs.declared.fault.OpFault.TheVariants.{Path, NotOffered, BadInclude}
-use Rattle.p9_nsfile.specs.declared.fault.OpFault.TheVariants.{TooDeep}
-use Rattle.p9_nsfile.specs.declared.operation.Operation.{Operation}
-use Rattle.p9_nsfile.specs.declared.operation.Operation.TheVariants.{Mount, Bind, Cd, Unmount}
-use Rattle.p9_nsfile.specs.declared.operation.Operation.TheVariants.{Clear, Include, Import}
-use Rattle.p9_nsfile.specs.Bind.{bound_by, mounted_by, unmounted_by, with_table}
-use Rattle.p9_nsfile.specs.Find.{found, found_file}
-use Rattle.p9_nsfile.specs.Flags.{Word}
-use Rattle.p9_nsfile.specs.Line.{BadLineOf, NumberedLine, lines_in}
-use Rattle.p9_nsfile.specs.Environment.{Environment}
-use Rattle.p9_nsfile.specs.Space.{Report, Space, beginning}
+use Rattle.p9_nsline.specs.declared.fault.OpFault.{OpFault}
+use Rattle.p9_nsline.specs.declared.fault.OpFault.TheVariants.{NotOffered, TooDeep}
+use Rattle.p9_nsline.specs.declared.operation.Operation.{Operation}
+use Rattle.p9_nsline.specs.declared.operation.Operation.TheVariants.{Mount, Bind, Cd, Unmount}
+use Rattle.p9_nsline.specs.declared.operation.Operation.TheVariants.{Clear, Include, Import}
+use Rattle.p9_nsline.specs.Bind.{bound_by, mounted_by, unmounted_by, with_table}
+use Rattle.p9_nsline.specs.Directory.{entered}
+use Rattle.p9_nsline.specs.Environment.{Environment}
+use Rattle.p9_nsline.specs.Flags.{Word}
+use Rattle.p9_nsline.specs.Include.{included_lines}
+use Rattle.p9_nsline.specs.Line.{BadLineOf, NumberedLine, lines_in}
+use Rattle.p9_nsline.specs.Space.{Report, Space, beginning}
 
 -- how deep included files may be nested
 abbrev pub nested_max : ℕ
 nested_max = 8
-
--- the lines of an included file; if one is of bad form, none of them acts
-abbrev pub or_bad_include : Result (List NumberedLine) BadLineOf
-    → Result (List NumberedLine) OpFault
-or_bad_include (Ok lines) = Ok lines
-or_bad_include (Err bad) = Err BadInclude
-
--- the lines of a file, if it is one and may be included
-abbrev pub file_lines : Option Node → Result (List NumberedLine) OpFault
-file_lines None = Err (Path PhaseError)
-file_lines (Some n) =
-    if is_dir n then Err BadInclude else if is_utf8 n.bytes then or_bad_include (lines_in n.bytes)
-    else Err BadInclude
 
 -- a fault is reported with its line, and the operation does nothing
 abbrev pub reported : ℕ → Space → Result Space OpFault → Space
@@ -45,25 +26,12 @@ reported line space (Ok next) = next
 reported line space (Err fault) = record space { reports = space.reports ++ (line, fault) ∷ [] }
 
 module _ (environment : Environment) where
-  -- `cd`: into a directory, by the trail on which it was found
-  abbrev pub entered : Space → Word → Result Space OpFault
-  entered space dir =
-      and_then (found environment space dir) (λ trail.
-      if is_dir_of (file_ref (here trail) space.table) environment.forest
-      then Ok (record space { current = trail })
-      else Err (Path NotDirectory))
-
-  -- the lines of the file that a word names
-  abbrev pub included_lines : Space → Word → Result (List NumberedLine) OpFault
-  included_lines space path =
-      and_then (found_file environment space path) (λ file. file_lines (node_of file environment.forest))
-
   -- what an operation makes of the name space
   abbrev pub acted : (Space → Word → Result Space OpFault) → Space → Operation Word
       → Result Space OpFault
   acted include space (Mount flags server old spec) = mounted_by environment space flags server old spec
   acted include space (Bind flags new old) = bound_by environment space flags new old
-  acted include space (Cd dir) = entered space dir
+  acted include space (Cd dir) = entered environment space dir
   acted include space (Unmount new old) = unmounted_by environment space new old
   acted include space Clear = Ok (with_table space [])
   acted include space (Include path) = include space path
@@ -80,7 +48,7 @@ module _ (environment : Environment) where
   unfoldable pub included : (left line : ℕ) → Space → Word → Result Space OpFault
   included zero line space path = Err TooDeep
   included (suc left) line space path =
-      and_then (included_lines space path)
+      and_then (included_lines environment space path)
       (λ lines. Ok (fold (line_done (included left) (Some line)) space lines))
 
   -- the lines of a text, one after another

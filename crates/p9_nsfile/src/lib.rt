@@ -1,18 +1,9 @@
 //! Namespace files, as namespace(6): the mounts and binds of a user, run into a mount table.
+//!
+//! What a single line is and does is p9_nsline's.
 #![tactic(auto)]
 
-mod bind;
-mod environment;
-mod error;
-mod fault;
-mod find;
-mod flags;
-mod line;
-mod operation;
 mod run;
-mod space;
-mod variable;
 
-pub use error::{BadForm, NsError};
-pub use fault::OpFault;
+pub use p9_nsline::{BadForm, NsError, OpFault};
 pub use run::{NESTED_MAX, run_file};

@@ -1,27 +1,20 @@
 //! The running of namespace files, as namespace(6).
 
-ghost use Rattle.std.specs.Prelude.{◌≡◌, IfErr, IfOk, Ok, Some, OnErr, OnOk, map};
-ghost use Rattle.p9_nsfile.specs.Answer.{Acts, GivesLines};
+ghost use Rattle.std.specs.Prelude.{◌≡◌, IfErr, IfOk, Ok, OnErr, OnOk, map};
+ghost use Rattle.p9_nsline.specs.Answer.{Acts};
+ghost use Rattle.p9_nsline.specs.Environment.{environment_view};
+ghost use Rattle.p9_nsline.specs.Line.{IsNsFault, line_view};
+ghost use Rattle.p9_nsline.specs.Operation.{operation_view};
 ghost use Rattle.p9_nsfile.specs.Given.{KeepsGiven};
-ghost use Rattle.p9_nsfile.specs.Line.{IsNsFault, line_view, lines_in};
-ghost use Rattle.p9_nsfile.specs.Operation.{operation_view};
-ghost use Rattle.p9_nsfile.specs.Run.{acted, entered, file_lines, included, included_lines};
-ghost use Rattle.p9_nsfile.specs.Run.{line_done, lines_done, or_bad_include, run_of};
-ghost use Rattle.p9_nsfile.specs.Environment.{environment_view};
+ghost use Rattle.p9_nsfile.specs.Run.{acted, included, line_done, lines_done, run_of};
 
-use crate::bind::{bind, mount, unmount};
-use crate::environment::Environment;
-use crate::error::NsError;
-use crate::fault::{OpFault, Stop};
-use crate::find::{find, find_file};
-use crate::line::{Line, read_lines};
-use crate::operation::Operation;
-use crate::space::Space;
-use p9_base::{Fault, NoMemory};
+use p9_base::NoMemory;
+use p9_nsline::bind::{bind, mount, unmount};
+use p9_nsline::{
+    Environment, Line, NsError, OpFault, Operation, Space, Stop, cd, find_lines, read_lines,
+};
 use p9_space::MountTable;
-use p9_tree::{Forest, Node, Tree};
-use std::alloc::Allocator;
-use std::str::from_utf8;
+use p9_tree::{Forest, Tree};
 
 /// How deep included files may be nested. The text itself doesn't count.
 pub const NESTED_MAX: u8 = 8;
@@ -133,22 +126,6 @@ fn act<T: Tree>(
     }
 }
 
-// Makes a directory the current one.
-fn cd<T: Tree>(
-    environment: &Environment<'_, T>,
-    space: &mut Space<T::Alloc>,
-    dir: &str,
-) -> Result<(), Stop>
-    ensures { Acts (entered environment.now space.old dir.now) space.old space.new result }
-{
-    let trail = find(environment, space, dir)?;
-    if !environment.is_dir(space.file(trail.here())) {
-        return Err(Stop::Refused(OpFault::Path(Fault::NotDirectory)));
-    }
-    space.enter(trail);
-    Ok(())
-}
-
 // Runs the lines of a file, for the line that is reported.
 #[cycle(run)]
 fn include<T: Tree>(
@@ -166,42 +143,4 @@ fn include<T: Tree>(
     let lines = find_lines(environment, space, path)?;
     run_lines(environment, left - 1, Some(line), &lines, space)?;
     Ok(())
-}
-
-// The lines of the file that a word names.
-fn find_lines<'a, T: Tree>(
-    environment: &Environment<'a, T>,
-    space: &Space<T::Alloc>,
-    path: &str,
-) -> Result<Vec<Line<'a>, T::Alloc>, Stop>
-    ensures { GivesLines (included_lines environment.now space.now path.now) result }
-{
-    let file = find_file(environment, space, path)?;
-    match environment.node(file) {
-        Some(node) => file_lines(environment.alloc(), node),
-        None => Err(Stop::Refused(OpFault::Path(Fault::PhaseError))),
-    }
-}
-
-// The lines of a file, which has to be text of good form.
-fn file_lines<A: Allocator + Copy>(alloc: A, node: &Node<A>) -> Result<Vec<Line<'_>, A>, Stop>
-    ensures { GivesLines (file_lines (Some node.now)) result }
-{
-    if node.is_dir() {
-        return Err(Stop::Refused(OpFault::BadInclude));
-    }
-    match from_utf8(node.bytes()) {
-        Ok(text) => text_lines(alloc, text),
-        Err(_) => Err(Stop::Refused(OpFault::BadInclude)),
-    }
-}
-
-fn text_lines<A: Allocator + Copy>(alloc: A, text: &str) -> Result<Vec<Line<'_>, A>, Stop>
-    ensures { GivesLines (or_bad_include (lines_in text.now)) result }
-{
-    match read_lines(alloc, text) {
-        Ok(lines) => Ok(lines),
-        Err(NsError::BadLine { .. }) => Err(Stop::Refused(OpFault::BadInclude)),
-        Err(NsError::NoMemory) => Err(Stop::NoMemory),
-    }
 }

@@ -7,7 +7,7 @@ use Rattle.p9_base.specs.declared.node_ref.NodeRef.{NodeRef}
 use Rattle.p9_base.specs.Results.{and_then, need}
 use Rattle.p9_base.specs.Statement.{statements_of}
 use Rattle.p9_cert.specs.Text.{certificate_of}
-use Rattle.p9_nsfile.specs.Line.{lines_in}
+use Rattle.p9_nsline.specs.Line.{lines_in}
 use Rattle.p9_step.specs.Event.{Event}
 use Rattle.p9_world.specs.Read.{world_of}
 use Rattle.p9_world.specs.World.{World}

@@ -12,7 +12,7 @@ use Rattle.p9_cert.specs.Text.{certificate_text}
 use Rattle.p9_cert.proofs.Written.{written_reads_back}
 use Rattle.p9_commands.specs.Bundle.{Texts, bundle_of}
 use Rattle.p9_commands.specs.NameSpace.{NameSpace, space_in}
-use Rattle.p9_nsfile.specs.Space.{Report}
+use Rattle.p9_nsline.specs.Space.{Report}
 use Rattle.p9_commands.specs.Prepared.{IsPrepareErrorBy, Prepared, Rejected, prepared_of, script_in}
 use Rattle.p9_commands.specs.Refusal.{IsStop, or_refused}
 use Rattle.p9_commands.specs.declared.prepared.Needs.{Needs}

@@ -4,7 +4,7 @@ use Rattle.p9_base.specs.declared.node_ref.NodeRef.{NodeRef}
 use Rattle.p9_base.specs.declared.stop.Stop.{Stop}
 use Rattle.p9_base.specs.declared.stop.Stop.TheVariants.{Refused as RefusedInput}
 use Rattle.p9_base.specs.declared.stop.Stop.TheVariants.{NoMemory as OutOfMemory}
-use Rattle.p9_nsfile.specs.Space.{Report}
+use Rattle.p9_nsline.specs.Space.{Report}
 use Rattle.p9_commands.specs.NameSpace.{NameSpace}
 use Rattle.p9_commands.specs.declared.refusal.Refusal.{Refusal}
 use Rattle.p9_seal.specs.declared.error.SealError.{SealError}

@@ -3,7 +3,7 @@ use Rattle.std.proofs.Common.{◌≡◌, ℕ, List, ◌++◌, Option, Result, Ok
 use Rattle.std.proofs.Common.{append_assoc}
 use Rattle.p9_base.specs.declared.stop.Stop.{Stop}
 use Rattle.p9_base.specs.declared.stop.Stop.TheVariants.{NoMemory, Refused}
-use Rattle.p9_nsfile.specs.Space.{Report}
+use Rattle.p9_nsline.specs.Space.{Report}
 use Rattle.p9_commands.specs.Prepared.{IsPrepareErrorBy, Prepared, Rejected}
 use Rattle.p9_commands.specs.Refusal.{ReportsStop, refusal_line}
 use Rattle.p9_commands.specs.Report.{reports_text}

@@ -1,10 +1,12 @@
 use Rattle.std.proofs.Common.{◌-◌, ◌<◌, List, Some, Ok, map, refl, sym, ap, subst, ◌∙◌, arith}
 use Rattle.p9_base.specs.Results.{and_then}
-use Rattle.p9_nsfile.specs.Answer.{Acts}
-use Rattle.p9_nsfile.specs.Line.{NumberedLine, line_view}
-use Rattle.p9_nsfile.specs.Operation.{operation_view}
-use Rattle.p9_nsfile.specs.Run.{acted, included, included_lines, lines_done}
-use Rattle.p9_nsfile.proofs.Running.{Acts-no_lines, included-more, included-none}
+use Rattle.p9_nsline.specs.Answer.{Acts}
+use Rattle.p9_nsline.specs.Line.{NumberedLine, line_view}
+use Rattle.p9_nsline.specs.Operation.{operation_view}
+use Rattle.p9_nsline.specs.Include.{included_lines}
+use Rattle.p9_nsline.proofs.Including.{Acts-no_lines}
+use Rattle.p9_nsfile.specs.Run.{acted, included, lines_done}
+use Rattle.p9_nsfile.proofs.Running.{included-more, included-none}
 use Rattle.p9_nsfile.proofs.run.+run.Goals as goal
 
 pub act-returns-in-Mount : goal.act-returns-in-Mount

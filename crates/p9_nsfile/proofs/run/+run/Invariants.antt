@@ -1,5 +1,5 @@
 use Rattle.std.proofs.Common.{◌≡◌, ◌+◌, ◌*◌, drop, map}
-use Rattle.p9_nsfile.specs.Line.{line_view}
+use Rattle.p9_nsline.specs.Line.{line_view}
 use Rattle.p9_nsfile.specs.Run.{lines_done}
 use Rattle.p9_nsfile.proofs.run.+run.Given as goal
 

@@ -1,6 +1,6 @@
 use Rattle.std.proofs.Common.{map}
-use Rattle.p9_nsfile.specs.Line.{line_view}
-use Rattle.p9_nsfile.specs.Environment.{environment_view}
+use Rattle.p9_nsline.specs.Line.{line_view}
+use Rattle.p9_nsline.specs.Environment.{environment_view}
 use Rattle.p9_nsfile.proofs.GivenRuns.{KeepsGiven-lines}
 use Rattle.p9_nsfile.proofs.run.run_file.Goals as goal
 

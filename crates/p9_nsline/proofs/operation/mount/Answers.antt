@@ -1,0 +1,8 @@
+use Rattle.p9_nsline.specs.Operation.{mount_form}
+use Rattle.p9_nsline.proofs.Words.{flagged_form}
+use Rattle.p9_nsline.proofs.operation.mount.Goals as goal
+
+pub returns : goal.returns
+returns c =
+    flagged_form mount_form c.args.words.now c.flag_count-count.result c.read_flags.result _
+    c.flag_count-count.ensures.count c.read_flags.ensures c.mount_form.ensures

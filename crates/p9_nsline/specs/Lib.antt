@@ -1,0 +1,12 @@
+pub mod Flags
+pub mod Operation
+pub mod Line
+pub mod Variable
+pub mod Environment
+pub mod Space
+pub mod Answer
+pub mod Find
+pub mod Bind
+pub mod Directory
+pub mod Include
+pub mod Text
