@@ -1,17 +1,4 @@
-mod Among
-mod Attaches
-mod Creates
-mod DirectoryReads
-mod Entries
-mod Fillings
-mod Listings
-mod Places
-mod Removals
 mod Rooms
 mod Sessions
 mod Sounds
 mod Steps
-mod Truncation
-mod Walks
-mod Writes
-mod Wstats

@@ -2,37 +2,28 @@
 use Rattle.std.proofs.Common.{◌≡◌, ◌≤◌, ◌+◌, ◌-◌, ℕ, List, Option, Some, None, IfSome, IsSome, Result, Ok}
 use Rattle.std.proofs.Common.{Err, true, false, length, refl, subst, sym, arith}
 use Rattle.std.specs.Prelude.{unwrap_or}
-use Rattle.std.specs.Option.{option_map, option_map_or}
+use Rattle.std.specs.Option.{option_map}
 use Rattle.p9_base.specs.declared.fault.Fault.{Fault}
 use Rattle.p9_tree.specs.Server.{Server}
 use Rattle.p9_wire.specs.Frame.{is_frame, msize_max}
 use Rattle.p9_wire.specs.Frame.{IsBytes}
 use Rattle.p9_wire.specs.Message.{RMessage, r_view}
-use Rattle.p9_wire.specs.Spelling.{r_len, read_header}
+use Rattle.p9_wire.specs.Spelling.{r_len}
 use Rattle.p9_wire.specs.Reply.{r_spelling}
 use Rattle.p9_step.specs.Laws.{refusal_max, reply_max}
 use Rattle.p9_step.specs.Memory.{is_no_memory_reply, frame_may_fail}
 use Rattle.p9_step.specs.Request.{tag_of}
 use Rattle.p9_step.specs.Sound.{IsMsize, IsSession, IsState}
-use Rattle.p9_step.specs.State.{Session, SessionRow, Setting, State, io_header, iounit_of, session_at}
+use Rattle.p9_step.specs.State.{Session, SessionRow, Setting, State, iounit_of, session_at}
 use Rattle.p9_step.proofs.Answering.{every-frame-is-answered, length-spelling}
 use Rattle.p9_step.proofs.Sounds.{session-served}
-use Rattle.p9_export.specs.declared.reply.Reply.{Reply}
-use Rattle.p9_export.specs.declared.reply.Reply.TheVariants.{Message, Data, StatOf}
-use Rattle.p9_export.specs.Answers.{AnswersAmong, frame_among, message_of, replied, reply_view}
-use Rattle.p9_export.specs.Answers.{stat_reply}
-use Rattle.p9_export.specs.Room.{IsDataWithin, IsRoom}
+use Rattle.p9_requests.specs.declared.reply.Reply.{Reply}
+use Rattle.p9_requests.specs.declared.reply.Reply.TheVariants.{Message, Data, StatOf}
+use Rattle.p9_requests.specs.Answers.{AnswersAmong, frame_among, message_of, replied, reply_view}
+use Rattle.p9_requests.specs.Answers.{stat_reply}
+use Rattle.p9_requests.specs.Room.{IsDataWithin, IsRoom}
+use Rattle.p9_requests.proofs.Rooms.{data-room}
 use Rattle.p9_export.proofs.Steps.{among-makes}
-
--- what a read may carry has room behind its header
-pub data-room : (session : Session) → IsMsize session.msize
-    → read_header + iounit_of session ≤ reply_max session
-data-room session is = go session.msize is
-  where
-    go : (msize : Option ℕ) → IsMsize msize
-        → read_header + option_map_or (λ m. m - io_header) msize 0 ≤ unwrap_or msize refusal_max
-    go None is = omega arith
-    go (Some m) is = let low = is.0 in omega arith
 
 -- a session that is open needs no more room than the greatest frame
 small-msize : (msize : Option ℕ) → IsMsize msize → unwrap_or msize refusal_max ≤ msize_max

@@ -1,8 +1,3 @@
 pub mod Event
-pub mod Wstat
-pub mod Answers
-pub mod Create
+pub mod Kept
 pub mod Room
-pub mod Listing
-pub mod Held
-pub mod Taken

@@ -16,12 +16,9 @@ ghost use Rattle.p9_wire.specs.Frame.{is_frame, msize_max};
 ghost use Rattle.p9_export.specs.declared.export.OpenError.TheVariants.{Live};
 ghost use Rattle.p9_export.specs.Room.{reply_room};
 
-use crate::answer::answer;
-use crate::end::end_fids;
-use crate::frame::{tag_of, write_reply};
-use crate::session::Session;
-use crate::setting::Setting;
 use p9_base::{Groups, User};
+use p9_requests::answer::answer;
+use p9_requests::{Session, Setting, end_fids, tag_of, write_reply};
 use p9_space::MountTable;
 use p9_tree::{Forest, Tree};
 use std::collections::BTreeMap;
@@ -50,7 +47,8 @@ pub struct Export<T: Tree> {
 
 impl<T: Tree> Model for Export<T> {
     ghost use Rattle.p9_step.specs.State.{State};
-    ghost use Rattle.p9_export.specs.Held.{IsKept, sessions_in};
+    ghost use Rattle.p9_requests.specs.Held.{sessions_in};
+    ghost use Rattle.p9_export.specs.Kept.{IsKept};
 
     ghost Value = { State };
 

@@ -1,0 +1,15 @@
+mod Among
+mod Attaches
+mod Creates
+mod DirectoryReads
+mod Entries
+mod Fillings
+mod Listings
+mod Places
+pub mod Removals
+pub mod Rooms
+pub mod Sessions
+mod Truncation
+mod Walks
+mod Writes
+mod Wstats

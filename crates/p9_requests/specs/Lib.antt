@@ -1,0 +1,7 @@
+pub mod Wstat
+pub mod Answers
+pub mod Create
+pub mod Room
+pub mod Listing
+pub mod Held
+pub mod Taken
