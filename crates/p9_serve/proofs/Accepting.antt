@@ -1,8 +1,8 @@
 -- An accept that is made.
 use Rattle.std.proofs.Common.{◌≡◌, ℕ, Bool, true, false}
 use Rattle.std.specs.Int.{from_bool}
+use Rattle.p9_clients.specs.Serving.{Serving, TakesIn}
 use Rattle.p9_serve.specs.Rounds.{AcceptsIf}
-use Rattle.p9_serve.specs.Serving.{Serving, TakesIn}
 
 -- it takes in one client, or nobody
 pub accepted : {S : Type 0} (stream : S) (old new : Serving S) (made taken : Bool) (count : ℕ)

@@ -13,11 +13,11 @@ use Rattle.p9_conn.specs.Turn.{Answering, Deeds, Ending, Over, Phase, Receiving,
 use Rattle.p9_conn.specs.Turn.{phase_of}
 use Rattle.p9_conn.proofs.Facts.{common}
 use Rattle.p9_conn.proofs.Orders.{goes-out}
+use Rattle.p9_clients.specs.Serving.{Serving, slot_at}
+use Rattle.p9_clients.proofs.Keyed.{within}
 use Rattle.p9_serve.specs.Laws.{StreamsHoldTheReplies}
 use Rattle.p9_serve.specs.Life.{Acts, Arrives, Leaves, Moment, Pass, answered_at, stay}
 use Rattle.p9_serve.specs.Life.{written_at}
-use Rattle.p9_serve.specs.Serving.{Serving, slot_at}
-use Rattle.p9_serve.proofs.Keyed.{within}
 use Rattle.p9_serve.proofs.Sends.{acted, arrived}
 
 -- One turn.

@@ -1,5 +1,3 @@
-mod Sessions
-mod Keyed
 mod Lives
 mod Sends
 mod Holds

@@ -14,11 +14,11 @@ use Rattle.p9_conn.specs.declared.conn.Turn.{Turn}
 use Rattle.p9_conn.proofs.Facts.{common, no-run}
 use Rattle.p9_conn.proofs.Histories.{both, fine-both}
 use Rattle.std.proofs.lemmas.List.{map-append}
+use Rattle.p9_clients.specs.Serving.{EndAt, Ended, Serving, TurnAt, Turned, in_state, slot_at}
 use Rattle.p9_serve.specs.Laws.{EveryLifeIsPromised, IsLife}
 use Rattle.p9_serve.specs.Life.{Acts, ArrivesAt, Arrives, HasActed, HasRounds, Leaves, LeavesAt, Moment}
 use Rattle.p9_serve.specs.Life.{Pass, Passes, events_in, history, opening}
 use Rattle.p9_serve.specs.Rounds.{Accepts, AcceptsIf, HasRound, Running, accepts_now}
-use Rattle.p9_serve.specs.Serving.{EndAt, Ended, Serving, TurnAt, Turned, in_state, slot_at}
 use Rattle.p9_serve.specs.declared.server.Round.{Round}
 
 -- a reading of the clock at which a connection leaves has 32 bits

@@ -10,11 +10,11 @@ use Rattle.p9_conn.specs.History.{replies_of}
 use Rattle.p9_conn.specs.Turn.{Answered, Deeds}
 use Rattle.p9_conn.proofs.Facts.{common}
 use Rattle.p9_conn.proofs.Orders.{goes-out}
+use Rattle.p9_clients.specs.Serving.{Serving, slot_at}
+use Rattle.p9_clients.proofs.Keyed.{within}
 use Rattle.p9_serve.specs.Laws.{ClientsAreSentTheirReplies, IsSent}
 use Rattle.p9_serve.specs.Life.{Acts, ArrivesAt, Arrives, Leaves, Moment, Pass}
 use Rattle.p9_serve.specs.Life.{answered_at, stay, written_at}
-use Rattle.p9_serve.specs.Serving.{Serving, slot_at}
-use Rattle.p9_serve.proofs.Keyed.{within}
 
 -- what is pending before moments, and the replies in them, are what is written in them and what is
 -- pending then

@@ -9,11 +9,11 @@ use Rattle.p9_guard_laws.specs.Guarded.{IsGuardedState}
 use Rattle.p9_conn.specs.Conn.{Connection}
 use Rattle.p9_conn.specs.History.{events_of, replies_of}
 use Rattle.p9_conn.specs.Laws.{IsRun}
+use Rattle.p9_clients.specs.Serving.{IsFinished, Serving, slot_at}
 use Rattle.p9_serve.specs.Life.{Arrives, ArrivesAt, HasRounds, Moment, Pass, answered_at, history}
 use Rattle.p9_serve.specs.Life.{stay}
 use Rattle.p9_serve.specs.Life.{written_at}
 use Rattle.p9_serve.specs.Rounds.{Running, new_server}
-use Rattle.p9_serve.specs.Serving.{IsFinished, Serving, slot_at}
 
 -- the state and all replies are those of the run of the openings, messages and closings, in their
 -- order; nothing inside a hidden directory has changed, and no byte that any client was answered

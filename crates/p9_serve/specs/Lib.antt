@@ -1,4 +1,3 @@
-pub mod Serving
 pub mod Pace
 pub mod Rounds
 pub mod Run

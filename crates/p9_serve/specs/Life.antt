@@ -6,8 +6,8 @@ use Rattle.p9_conn.specs.Conn.{Connection}
 use Rattle.p9_conn.specs.History.{Happening}
 use Rattle.p9_conn.specs.Turn.{Answered, closing}
 use Rattle.p9_conn.specs.declared.conn.Turn.{Turn}
+use Rattle.p9_clients.specs.Serving.{HasEndedAt, HasTurnAt, IsTakenIn, Serving, slot_at}
 use Rattle.p9_serve.specs.Rounds.{HasRound, Running}
-use Rattle.p9_serve.specs.Serving.{HasEndedAt, HasTurnAt, IsTakenIn, Serving, slot_at}
 use Rattle.p9_serve.specs.declared.server.Round.{Round}
 
 -- a client arrives and gets a key, a connection has a turn and does what it does, or a connection

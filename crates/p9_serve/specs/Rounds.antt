@@ -1,8 +1,8 @@
 -- A server's rounds: at most one client is taken in, and then each has a turn.
 use Rattle.std.specs.Prelude.{◌≡◌, ℕ, zero, suc, ◌||◌, Bool, true, false, List, Option, None}
+use Rattle.p9_clients.specs.Serving.{HasTurns, IsTakenIn, Serving, has_nobody}
+use Rattle.p9_clients.specs.declared.clients.Tally.{Tally}
 use Rattle.p9_serve.specs.Pace.{Pacing, is_due, new_pacing, pacing_after}
-use Rattle.p9_serve.specs.Serving.{HasTurns, IsTakenIn, Serving, has_nobody}
-use Rattle.p9_serve.specs.declared.clients.Tally.{Tally}
 use Rattle.p9_serve.specs.declared.server.Round.{Round}
 
 -- the clients of a server, and what its rounds so far say of when it accepts and rests

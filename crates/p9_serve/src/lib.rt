@@ -1,8 +1,7 @@
-//! A guard served to clients over sockets: connections in a slab, one turn each in a round. And an
-//! input served at an address, for a number of rounds.
+//! A guard served to clients over sockets, in rounds: an accept, and one turn each. And an input
+//! served at an address, for a number of rounds.
 #![tactic(auto)]
 
-mod clients;
 mod clock;
 mod failure;
 pub mod laws;
@@ -11,8 +10,8 @@ mod run;
 mod server;
 mod socket;
 
-pub use clients::{Clients, Tally};
 pub use failure::report_failure;
+pub use p9_clients::{Clients, Tally};
 pub use p9_commands::{read_script, run_command, served_guard, split_bundle};
 pub use p9_conn::{Conn, Stream, Turn};
 pub use pace::Pace;

@@ -2,14 +2,14 @@
 
 ghost use Rattle.std.specs.Prelude.{◌≡◌, ◌*◌, []};
 ghost use Rattle.std.specs.Duration.{as_nanos};
+ghost use Rattle.p9_clients.specs.Serving.{AreKeyed, IsFinished};
 ghost use Rattle.p9_serve.specs.Pace.{rest_of};
 ghost use Rattle.p9_serve.specs.Rounds.{AcceptsIf, HasRound, accepts_now, new_server, untold};
-ghost use Rattle.p9_serve.specs.Serving.{AreKeyed, IsFinished};
 
-use crate::clients::Clients;
 use crate::pace::Pace;
 use crate::socket::Socket;
 use mio::net::TcpListener;
+use p9_clients::Clients;
 use p9_guard::Guard;
 use p9_tree::Tree;
 use std::io;

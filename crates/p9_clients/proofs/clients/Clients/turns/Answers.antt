@@ -1,8 +1,8 @@
 use Rattle.std.proofs.Common.{◌≡◌, ◌+◌, ◌++◌, ◌∙◌, ℕ, ap, arith, refl, subst, suc, sym}
 use Rattle.std.specs.Prelude.{count_by}
-use Rattle.p9_serve.specs.Serving.{Turned, is_closed, is_moved, turns_of}
-use Rattle.p9_serve.proofs.Keyed.{counted}
-use Rattle.p9_serve.proofs.clients.Clients.turns.Goals as goal
+use Rattle.p9_clients.specs.Serving.{Turned, is_closed, is_moved, turns_of}
+use Rattle.p9_clients.proofs.Keyed.{counted}
+use Rattle.p9_clients.proofs.clients.Clients.turns.Goals as goal
 
 pub loop-key-preserved : goal.loop-key-preserved
 loop-key-preserved g c =

@@ -15,8 +15,8 @@ use Rattle.p9_conn.specs.declared.conn.Turn.TheVariants.{Idle, Moved, Closed}
 use Rattle.p9_conn.specs.Conn.{Connection, HasTurned, turn_of}
 use Rattle.p9_conn.specs.Turn.{AnswersFrame, Deeds, Ends, IsIdle, IsTurn, Link, Over, Scene}
 use Rattle.p9_conn.specs.Turn.{Sending, TurnBy, phase_by, phase_of}
-use Rattle.p9_serve.specs.Serving.{AreKeyed, Serving, TurnAt, slot_at}
-use Rattle.p9_serve.proofs.Sessions.{close-there, message-there}
+use Rattle.p9_clients.specs.Serving.{AreKeyed, Serving, TurnAt, slot_at}
+use Rattle.p9_clients.proofs.Sessions.{close-there, message-there}
 
 -- one slot has changed, and the sessions of the others stay open
 pub keyed-updated : {S : Type 0} (old new : List (Option (Connection S))) (n : ℕ)

@@ -1,5 +1,5 @@
-use Rattle.p9_serve.specs.Serving.{Ended}
-use Rattle.p9_serve.proofs.clients.Clients.finish.Given as goal
+use Rattle.p9_clients.specs.Serving.{Ended}
+use Rattle.p9_clients.proofs.clients.Clients.finish.Given as goal
 
 -- the connections of the keys so far are closed
 abbrev pub invariant-loop-key : goal.invariant-loop-key

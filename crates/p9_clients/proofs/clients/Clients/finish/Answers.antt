@@ -1,6 +1,6 @@
 use Rattle.std.proofs.Common.{◌≡◌, ◌+◌, ℕ, arith, subst, suc, sym}
-use Rattle.p9_serve.specs.Serving.{Ended}
-use Rattle.p9_serve.proofs.clients.Clients.finish.Goals as goal
+use Rattle.p9_clients.specs.Serving.{Ended}
+use Rattle.p9_clients.proofs.clients.Clients.finish.Goals as goal
 
 pub loop-key-preserved : goal.loop-key-preserved
 loop-key-preserved g c =

@@ -1,8 +1,8 @@
 use Rattle.std.proofs.Common.{◌≡◌, ◌≤◌, List}
 use Rattle.std.specs.Prelude.{count_by}
 use Rattle.p9_conn.specs.declared.conn.Turn.{Turn}
-use Rattle.p9_serve.specs.Serving.{Turned, is_closed, is_moved}
-use Rattle.p9_serve.proofs.clients.Clients.turns.Given as goal
+use Rattle.p9_clients.specs.Serving.{Turned, is_closed, is_moved}
+use Rattle.p9_clients.proofs.clients.Clients.turns.Given as goal
 
 -- the keys so far had their turns, and the tally counts them
 abbrev pub invariant-loop-key : goal.invariant-loop-key

@@ -10,7 +10,7 @@ use Rattle.p9_conn.specs.declared.conn.Turn.{Turn}
 use Rattle.p9_conn.specs.declared.conn.Turn.TheVariants.{Idle, Moved, Closed}
 use Rattle.p9_conn.specs.Conn.{Connection, HasTurned, new_connection}
 use Rattle.p9_conn.specs.Turn.{phase_of}
-use Rattle.p9_serve.specs.declared.clients.Tally.{Tally}
+use Rattle.p9_clients.specs.declared.clients.Tally.{Tally}
 
 -- a guard, and the connection at each key from 0 on, where there is one
 pub record Serving (S : Type 0) : Type 0 where

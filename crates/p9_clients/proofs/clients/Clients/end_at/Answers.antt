@@ -1,7 +1,7 @@
 use Rattle.std.proofs.Common.{◌≡◌, ◌∙◌, None, rules, sym}
-use Rattle.p9_serve.proofs.Keyed.{keyed-updated}
-use Rattle.p9_serve.proofs.Sessions.{close-there}
-use Rattle.p9_serve.proofs.clients.Clients.end_at.Goals as goal
+use Rattle.p9_clients.proofs.Keyed.{keyed-updated}
+use Rattle.p9_clients.proofs.Sessions.{close-there}
+use Rattle.p9_clients.proofs.clients.Clients.end_at.Goals as goal
 
 pub invariant_of-self : goal.invariant_of-self
 invariant_of-self g c =

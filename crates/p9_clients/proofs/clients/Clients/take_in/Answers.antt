@@ -3,10 +3,10 @@ use Rattle.std.specs.Prelude.{is_err}
 use Rattle.p9_step.specs.Event.{Open}
 use Rattle.p9_step.specs.State.{session_at}
 use Rattle.p9_step.specs.Step.{step}
-use Rattle.p9_serve.specs.Serving.{slot_at}
-use Rattle.p9_serve.proofs.Keyed.{keyed-updated}
-use Rattle.p9_serve.proofs.Sessions.{not-refused, open-here, open-there, was-free}
-use Rattle.p9_serve.proofs.clients.Clients.take_in.Goals as goal
+use Rattle.p9_clients.specs.Serving.{slot_at}
+use Rattle.p9_clients.proofs.Keyed.{keyed-updated}
+use Rattle.p9_clients.proofs.Sessions.{not-refused, open-here, open-there, was-free}
+use Rattle.p9_clients.proofs.clients.Clients.take_in.Goals as goal
 
 pub invariant_of-self-2 : goal.invariant_of-self-2
 invariant_of-self-2 g c =

@@ -1,8 +1,8 @@
 //! The clients of a guard: a connection for each, with a session of its own.
 
 ghost use Rattle.std.specs.Prelude.{◌≡◌, ◌<◌, ◌≤◌, ◌+◌, ◌^◌, [], None, count_by, length, slice_set};
-ghost use Rattle.p9_serve.specs.Serving.{AreKeyed, EndAt, HasTurns, IsFinished, TakesIn, TurnAt};
-ghost use Rattle.p9_serve.specs.Serving.{has_nobody, is_closed, is_moved, turns_of, slot_at};
+ghost use Rattle.p9_clients.specs.Serving.{AreKeyed, EndAt, HasTurns, IsFinished, TakesIn, TurnAt};
+ghost use Rattle.p9_clients.specs.Serving.{has_nobody, is_closed, is_moved, turns_of, slot_at};
 
 use p9_conn::{Conn, Stream, Turn};
 use p9_guard::Guard;
@@ -54,7 +54,7 @@ pub struct Clients<S, T: Tree> {
 }
 
 impl<S, T: Tree> Model for Clients<S, T> {
-    ghost use Rattle.p9_serve.specs.Serving.{AreKeyed, Serving};
+    ghost use Rattle.p9_clients.specs.Serving.{AreKeyed, Serving};
 
     ghost Value = { Serving S };
 
@@ -83,7 +83,7 @@ impl<S: Stream + Drop, T: Tree> Clients<S, T> {
     }
 
     /// The allocator of the connections.
-    pub(crate) fn allocator(&self) -> T::Alloc {
+    pub fn allocator(&self) -> T::Alloc {
         self.alloc
     }
 

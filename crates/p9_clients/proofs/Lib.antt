@@ -1,0 +1,2 @@
+mod Sessions
+pub mod Keyed
