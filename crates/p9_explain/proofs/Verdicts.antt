@@ -1,5 +1,5 @@
 -- A verdict in words.
-use Rattle.std.proofs.Common.{◌≡◌, ℕ, IsTrue, List, ◌++◌, refl, ◌∙◌, append_assoc, inl, inr, subst}
+use Rattle.std.proofs.Common.{◌≡◌, ℕ, IsTrue, List, ◌++◌, refl, ◌∙◌, append_assoc, inl, inr, subst, sym}
 use Rattle.std.specs.Prelude.{codes}
 use Rattle.p9_base.specs.declared.node_ref.NodeRef.{NodeRef}
 use Rattle.p9_cert.specs.Policy.{policy_of}
@@ -19,7 +19,7 @@ module _ {A : Type 0} (space : NameSpace) where
   pub yes-told : (verdict : Verdict A) (rows : List NodeRef) (claim words further text : List ℕ)
       → verdict ≡ Yes rows → IsTrue (is_table_given space.world.forest space.table) →
       IsVerdict (policy_of space.world) space.world.forest space.table verdict
-      → text ≡ claim ++ codes "yes: " ++ words ++ further → IsVerdictTold space 0 text
+      → text ≡ claim ++ (codes "yes: " ++ (words ++ further)) → IsVerdictTold space 0 text
   yes-told verdict rows claim words further text is_yes given judged written =
       let is : IsLeast (policy_of space.world) space.world.forest space.table rows =
       subst (λ (v : Verdict A). IsVerdict (policy_of space.world) space.world.forest space.table v)
@@ -30,14 +30,14 @@ module _ {A : Type 0} (space : NameSpace) where
         said = record { rows = rows; printed = (refl, refl); closed = is.closed given; least = is };
         claim = claim;
         rest = words ++ further;
-        is = written ∙ append_assoc (claim ++ codes "yes: ") words further;
+        is = written ∙ sym (append_assoc claim (codes "yes: ") (words ++ further));
       })
 
   pub no-told : (verdict : Verdict A) (breach : Breach A) (claim words further text : List ℕ)
       → verdict ≡ No breach →
       IsVerdict (policy_of space.world) space.world.forest space.table verdict
       → IsBreachTold space.world breach.steps.items breach.member words
-      → text ≡ claim ++ codes "no: " ++ words ++ further → IsVerdictTold space 1 text
+      → text ≡ claim ++ (codes "no: " ++ (words ++ further)) → IsVerdictTold space 1 text
   no-told verdict breach claim words further text is_no judged told written =
       let is : IsBreach (policy_of space.world) space.world.forest space.table breach.steps.items
       breach.member breach.kind
@@ -59,5 +59,8 @@ module _ {A : Type 0} (space : NameSpace) where
         breach = words;
         rest = further;
         told = told;
-        is = written;
+        is =
+            written
+            ∙ sym (append_assoc claim (codes "no: ") (words ++ further))
+            ∙ sym (append_assoc (claim ++ codes "no: ") words further);
       })

@@ -3,7 +3,7 @@
 use crate::head::Section;
 use crate::member::{Found, push_found};
 use crate::source::Source;
-use crate::teller::{Part, Teller};
+use crate::teller::{Teller, push};
 use p9_base::{NoMemory, NodeRef};
 use p9_cert::{Certificate, Gap, MemberFault, RowFault};
 use p9_space::ROOT_PLACE;
@@ -20,10 +20,10 @@ pub(crate) fn push_certificate<T: Tree>(
     gap: Option<Gap>,
 ) -> Result<(), NoMemory> {
     match (certificate, gap) {
-        (None, _) => teller.say(text, &[Part::Text("certificate: none\n")]),
-        (Some(_), None) => teller.say(text, &[Part::Text("certificate: accepted\n")]),
+        (None, _) => push(text, "certificate: none\n"),
+        (Some(_), None) => push(text, "certificate: accepted\n"),
         (Some(certificate), Some(gap)) => {
-            teller.say(text, &[Part::Text("certificate: not accepted: ")])?;
+            push(text, "certificate: not accepted: ")?;
             push_gap(text, teller, certificate.rows(), gap)
         }
     }
@@ -84,11 +84,13 @@ fn push_row_gap<T: Tree>(
 ) -> Result<(), NoMemory> {
     push_row(text, teller, rows, row)?;
     match (kind, row_at(rows, row)) {
-        (RowFault::Absent, _) => teller.say(text, &[Part::Text(" is no directory\n")]),
+        (RowFault::Absent, _) => push(text, " is no directory\n"),
         (RowFault::Inside, Some(at)) => {
-            teller.say(text, &[Part::Text(" "), Part::Inside(at), Part::Text("\n")])
+            push(text, " ")?;
+            teller.inside(text, at)?;
+            push(text, "\n")
         }
-        _ => teller.say(text, &[Part::Text(" is a hidden directory\n")]),
+        _ => push(text, " is a hidden directory\n"),
     }
 }
 
@@ -105,12 +107,11 @@ fn push_unsafe<T: Tree>(
     leads: &'static str,
     found: Found,
 ) -> Result<(), NoMemory> {
-    let place = Part::Path(found.place.unwrap_or(found.member));
-    let (leads, member) = (Part::Text(leads), Part::Path(found.member));
-    teller.say(
-        text,
-        &[leads, place, Part::Text("\n  "), member, Part::Text(" ")],
-    )?;
+    push(text, leads)?;
+    teller.path(text, found.place.unwrap_or(found.member))?;
+    push(text, "\n  ")?;
+    teller.path(text, found.member)?;
+    push(text, " ")?;
     push_found(text, teller, found)
 }
 
@@ -122,13 +123,15 @@ fn push_row<T: Tree>(
     row: u64,
 ) -> Result<(), NoMemory> {
     let line = row_line(*text.allocator(), teller.source, row)?;
-    let (words, line) = (Part::Text("row "), Part::Line(Section::Cert, line));
+    push(text, "row ")?;
     match node_of_row(teller.world, rows, row) {
         Some(at) => {
-            let (path, end) = (Part::Path(at), Part::Text(")"));
-            teller.say(text, &[words, path, Part::Text(" ("), line, end])
+            teller.path(text, at)?;
+            push(text, " (")?;
+            teller.source.push_line(text, Section::Cert, line)?;
+            push(text, ")")
         }
-        None => teller.say(text, &[words, line]),
+        None => teller.source.push_line(text, Section::Cert, line),
     }
 }
 
@@ -146,8 +149,10 @@ fn row_line<A: Allocator + Copy>(
     row: u64,
 ) -> Result<u64, NoMemory> {
     let statements = source.statements(alloc, Section::Cert)?;
-    Ok(match statements.as_slice().get(row as usize) {
+    let line = match statements.as_slice().get(row as usize) {
         Some(statement) => statement.line,
         None => 1,
-    })
+    };
+    drop(statements);
+    Ok(line)
 }

@@ -9,7 +9,7 @@ ghost use Rattle.p9_explain.specs.Explained.{IsVerdictTold};
 
 use crate::breach::breach_words;
 use crate::certificate::push_certificate;
-use crate::claim::claim_of;
+use crate::claim::push_claim;
 use crate::faults::push_faults;
 use crate::hints::{push_hints, push_unneeded_rows};
 use crate::source::Source;
@@ -20,7 +20,7 @@ use p9_commands::status::{DONE, REFUSED};
 use p9_commands::{NameSpace, Needs, Prepared, Refusal, Stop, prepare};
 use p9_judge::{Verdict, judge};
 use p9_tree::Tree;
-use std::alloc::{AllocError, Allocator};
+use std::alloc::Allocator;
 
 /// Explains an input to a person who has never seen a certificate, and returns the exit status. The
 /// lines are appended to `out`; they name the input by `name`, and its lines by their numbers in it.
@@ -89,79 +89,60 @@ fn explain_prepared<T: Tree>(
 {
     let alloc = *out.allocator();
     let source = Source::of(alloc, name, str::from_utf8(input).unwrap_or(""))?;
-    let told = told_of(alloc, &source, prepared)?;
-    out.extend_from_slice(told.text.as_bytes())?;
-    Ok(told.status)
+    let mut text = String::new(alloc);
+    let told = tell(&mut text, &source, prepared);
+    drop(source);
+    let status = told?;
+    out.extend_from_slice(text.as_bytes())?;
+    Ok(status)
 }
 
-// A verdict in words, and the exit status.
-#[derive(Drop)]
-struct Told<A: Allocator> {
-    text: String<A>,
-    status: u8,
-}
-
-// The verdict over an input's name space, after the claim, with what follows it.
-fn told_of<T: Tree>(
-    alloc: T::Alloc,
+// Adds the claim of a prepared input to a text, the verdict over its name space, and what follows.
+// Returns the exit status.
+fn tell<T: Tree>(
+    text: &mut String<T::Alloc>,
     source: &Source<'_, T::Alloc>,
     prepared: &Prepared<T>,
-) -> Result<Told<T::Alloc>, NoMemory>
-    ensures { IfOk result (λ told. IsVerdictTold prepared.now.space told.status
-        (string_bytes told.text)) }
+) -> Result<u8, NoMemory>
+    ensures { IfOk result (λ status. IsVerdictTold prepared.now.space status
+        (string_bytes text.new)) }
 {
     let space = &prepared.space;
     let world = &space.world;
-    let claim = claim_of(alloc, &Teller { source, world })?;
-    let further = further_words(alloc, source, prepared)?;
+    push_claim(text, &Teller { source, world })?;
+    let mut further = String::new(*text.allocator());
+    push_further(&mut further, source, prepared)?;
     let certificate = prepared.certificate.as_ref();
-    verdict_words(alloc, source, space, certificate, &claim, further.as_str())
+    push_verdict(text, source, space, certificate, further.as_str())
 }
 
-// The verdict over a name space, between the claim and what follows.
-fn verdict_words<T: Tree>(
-    alloc: T::Alloc,
+// Adds the verdict over a name space to a claim, and then this text. Returns the exit status.
+fn push_verdict<T: Tree>(
+    text: &mut String<T::Alloc>,
     source: &Source<'_, T::Alloc>,
     space: &NameSpace<T>,
     certificate: Option<&Certificate<T::Alloc>>,
-    claim: &String<T::Alloc>,
     further: &str,
-) -> Result<Told<T::Alloc>, NoMemory>
-    ensures { IfOk result (λ told. IsVerdictTold space.now told.status (string_bytes told.text)) }
+) -> Result<u8, NoMemory>
+    ensures { IfOk result (λ status. IsVerdictTold space.now status (string_bytes text.new)) }
 {
+    let alloc = *text.allocator();
     match judge(alloc, &space.world, &space.table)? {
         Verdict::Yes(least) => {
-            let words = yes_words(alloc, source, certificate, &least)?;
-            let text = told_text(alloc, claim, "yes: ", &words, further)?;
-            Ok(Told { text, status: DONE })
+            let words = yes_words(alloc, source, certificate, &least);
+            drop(least);
+            let words = words?;
+            write!(text, "yes: {words}{further}")?;
+            Ok(DONE)
         }
         Verdict::No(breach) => {
-            let words = breach_words(alloc, source, &space.world, &breach)?;
-            let text = told_text(alloc, claim, "no: ", &words, further)?;
-            Ok(Told {
-                text,
-                status: REFUSED,
-            })
+            let words = breach_words(alloc, source, &space.world, &breach);
+            drop(breach);
+            let words = words?;
+            write!(text, "no: {words}{further}")?;
+            Ok(REFUSED)
         }
     }
-}
-
-// The claim, the verdict, and what follows it.
-fn told_text<A: Allocator + Copy>(
-    alloc: A,
-    claim: &String<A>,
-    verdict: &str,
-    words: &String<A>,
-    further: &str,
-) -> Result<String<A>, AllocError>
-    ensures { IfOk result (λ text. string_bytes text ≡ string_bytes claim.now ++ verdict.now
-        ++ string_bytes words.now ++ further.now) }
-{
-    let mut text = String::from_str(alloc, claim.as_str())?;
-    text.push_str(verdict)?;
-    text.push_str(words.as_str())?;
-    text.push_str(further)?;
-    Ok(text)
 }
 
 // What follows a yes.
@@ -186,24 +167,17 @@ fn yes_words<A: Allocator + Copy>(
     Ok(text)
 }
 
-// What follows the verdict: what is said of the input's certificate, and hints.
-fn further_words<T: Tree>(
-    alloc: T::Alloc,
+// Adds what follows the verdict: what is said of the input's certificate, and hints.
+fn push_further<T: Tree>(
+    text: &mut String<T::Alloc>,
     source: &Source<'_, T::Alloc>,
     prepared: &Prepared<T>,
-) -> Result<String<T::Alloc>, NoMemory> {
+) -> Result<(), NoMemory> {
     let space = &prepared.space;
     let world = &space.world;
     let teller = Teller { source, world };
-    let mut text = String::new(alloc);
-    push_certificate(
-        &mut text,
-        &teller,
-        prepared.certificate.as_ref(),
-        prepared.gap(),
-    )?;
-    push_hints(&mut text, &teller, &space.table, space.reports.as_slice())?;
-    Ok(text)
+    push_certificate(text, &teller, prepared.certificate.as_ref(), prepared.gap())?;
+    push_hints(text, &teller, &space.table, space.reports.as_slice())
 }
 
 // What is said of an input that has a fault.

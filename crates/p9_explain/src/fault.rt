@@ -5,19 +5,22 @@ use p9_nsfile::BadForm;
 use p9_world::LineFault;
 use std::alloc::Allocator;
 
-/// What is wrong with a line of a world of these words: the word, and what was expected.
-pub(crate) fn world_words<A: Allocator + Copy>(
-    alloc: A,
+/// Adds to a text what is wrong with a line of a world of these words: the word, and what was expected.
+/// That ends the line of the text.
+pub(crate) fn push_world_words<A: Allocator + Copy>(
+    text: &mut String<A>,
     kind: LineFault,
     words: &[&str],
-) -> Result<String<A>, NoMemory> {
+) -> Result<(), NoMemory> {
     let verb = word_at(words, 0);
     let word = word_at(words, place_of(kind, verb, words));
     let expected = expected(kind, verb);
     if word.is_empty() {
-        return Ok(format!(in alloc; "{}: {expected}", kind.text())?);
+        writeln!(text, ": {}: {expected}", kind.text())?;
+    } else {
+        writeln!(text, ": {} '{word}': {expected}", kind.text())?;
     }
-    Ok(format!(in alloc; "{} '{word}': {expected}", kind.text())?)
+    Ok(())
 }
 
 // The word of this place; one that is long is left out.
@@ -96,12 +99,13 @@ fn expected_words(verb: &str) -> &'static str {
     }
 }
 
-/// What is wrong with a line of a namespace file of these words: the word, and what was expected.
-pub(crate) fn form_words<A: Allocator + Copy>(
-    alloc: A,
+/// Adds to a text what is wrong with a line of a namespace file of these words: the word, and what was
+/// expected. That ends the line of the text.
+pub(crate) fn push_form_words<A: Allocator + Copy>(
+    text: &mut String<A>,
     kind: BadForm,
     words: &[&str],
-) -> Result<String<A>, NoMemory> {
+) -> Result<(), NoMemory> {
     let verb = word_at(words, 0);
     let (word, expected) = match kind {
         BadForm::UnknownWord => (verb, "bind, mount, cd, unmount, clear, . or import"),
@@ -111,7 +115,8 @@ pub(crate) fn form_words<A: Allocator + Copy>(
             "letters of abcC after -, and not both a and b",
         ),
     };
-    Ok(format!(in alloc; "{} '{word}': {expected}", kind.text())?)
+    writeln!(text, ": {} '{word}': {expected}", kind.text())?;
+    Ok(())
 }
 
 // The words of an operation of a namespace file.

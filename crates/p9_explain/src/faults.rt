@@ -1,6 +1,6 @@
 //! All bad lines of an input.
 
-use crate::fault::{form_words, world_words};
+use crate::fault::{push_form_words, push_world_words};
 use crate::head::Section;
 use crate::source::Source;
 use p9_base::{NoMemory, Statement, lines, statements};
@@ -15,20 +15,22 @@ use std::alloc::{AllocError, Allocator};
 // How many bad lines of a section are listed at most.
 const FAULTS_MAX: u64 = 100;
 
-// A bad line of a section: its number there, what is wrong with it and what was expected, and what
-// is read in its place, so that the lines below it are read as if it were good.
-#[derive(Drop)]
-struct Fault<A: Allocator> {
+// A bad line of a section: its number there, and what is wrong with it.
+#[derive(Clone, Copy)]
+struct Fault {
     line: u64,
-    words: String<A>,
-    instead: String<A>,
+    kind: Kind,
 }
 
-impl<A: Allocator> Fault<A> {
-    // What is read in its place; nothing where that was bad before.
-    fn instead(&self, again: bool) -> &str {
-        if again { "" } else { self.instead.as_str() }
-    }
+// What is wrong with a line: with one of a world, of a namespace file, with the first line of a
+// certificate, with another of its lines, or with one of a script.
+#[derive(Clone, Copy)]
+enum Kind {
+    World(LineFault),
+    Form(BadForm),
+    First,
+    Row,
+    Event,
 }
 
 /// Adds to a text a line for each bad line of an input: where it is, the word, and what was expected.
@@ -74,12 +76,11 @@ fn push_faults_in<T: Tree>(
             return Ok(());
         };
         let again = last == Some(fault.line);
-        read = with_line(alloc, read.as_str(), fault.line, fault.instead(again))?;
-        last = Some(fault.line);
         if !again {
-            source.push_line(text, section, fault.line)?;
-            writeln!(text, ": {}", fault.words)?;
+            push_fault(text, source, section, fault, read.as_str())?;
         }
+        read = mended(alloc, read.as_str(), fault, again)?;
+        last = Some(fault.line);
         if fault.line == 0 {
             return Ok(());
         }
@@ -97,12 +98,83 @@ fn with_newline<A: Allocator + Copy>(alloc: A, text: &str) -> Result<String<A>, 
     Ok(whole)
 }
 
+// Adds a bad line of the text that is read of a section: where it is, and what was expected.
+fn push_fault<A: Allocator + Copy>(
+    text: &mut String<A>,
+    source: &Source<'_, A>,
+    section: Section,
+    fault: Fault,
+    read: &str,
+) -> Result<(), NoMemory> {
+    source.push_line(text, section, fault.line)?;
+    let statements = statements(*text.allocator(), read)?;
+    push_kind(
+        text,
+        fault.kind,
+        words_at(statements.as_slice(), fault.line),
+    )
+}
+
+// Adds what is wrong with a line of these words, and ends the line of the text.
+fn push_kind<A: Allocator + Copy>(
+    text: &mut String<A>,
+    kind: Kind,
+    words: &[&str],
+) -> Result<(), NoMemory> {
+    match kind {
+        Kind::World(kind) => return push_world_words(text, kind, words),
+        Kind::Form(kind) => return push_form_words(text, kind, words),
+        Kind::First => text.push_str(": bad line: 'cert 1' is to be the first\n")?,
+        Kind::Row => text.push_str(": bad line: 'dir SERVER NUMBER', rising\n")?,
+        Kind::Event => {
+            text.push_str(": bad line: open S, msg S NOW HEX or close S NOW\n")?;
+        }
+    }
+    Ok(())
+}
+
+// The text of a section, in which another line is in the place of a bad one: an empty one, where it
+// was bad before.
+fn mended<A: Allocator + Copy>(
+    alloc: A,
+    text: &str,
+    fault: Fault,
+    again: bool,
+) -> Result<String<A>, NoMemory> {
+    if again {
+        return with_line(alloc, text, fault.line, "");
+    }
+    let statements = statements(alloc, text)?;
+    let instead = instead_of(alloc, fault, words_at(statements.as_slice(), fault.line))?;
+    drop(statements);
+    with_line(alloc, text, fault.line, instead.as_str())
+}
+
+// What is read in the place of a bad line of these words, so that the lines below it are read as if it
+// were good: a server of another name, a directory without rights, or a certificate's first line; else
+// nothing.
+fn instead_of<A: Allocator + Copy>(
+    alloc: A,
+    fault: Fault,
+    words: &[&str],
+) -> Result<String<A>, NoMemory> {
+    Ok(match (fault.kind, words) {
+        (Kind::World(_), ["server", ..]) => format!(in alloc; "server line:{}", fault.line)?,
+        (
+            Kind::World(LineFault::WordCount | LineFault::BadMode | LineFault::BadUser),
+            ["dir", path, ..],
+        ) => format!(in alloc; "dir {path} 000 sys sys")?,
+        (Kind::First, _) => String::from_str(alloc, "cert 1")?,
+        _ => String::new(alloc),
+    })
+}
+
 // The first bad line of a section of this text.
 fn first_fault<T: Tree>(
     alloc: T::Alloc,
     section: Section,
     text: &str,
-) -> Result<Option<Fault<T::Alloc>>, NoMemory> {
+) -> Result<Option<Fault>, NoMemory> {
     match section {
         Section::World => world_fault::<T>(alloc, text),
         Section::Ns => ns_fault::<T>(alloc, text),
@@ -112,38 +184,15 @@ fn first_fault<T: Tree>(
 }
 
 // The first bad line of a world.
-fn world_fault<T: Tree>(alloc: T::Alloc, text: &str) -> Result<Option<Fault<T::Alloc>>, NoMemory> {
-    let (line, kind) = match read_world::<T>(alloc, text) {
-        Ok(_) => return Ok(None),
-        Err(WorldError::BadWorld { line, kind }) => (line, kind),
-        Err(WorldError::NoMemory) => return Err(NoMemory),
-    };
-    let statements = statements(alloc, text)?;
-    let statement = words_at(statements.as_slice(), line);
-    let words = world_words(alloc, kind, statement)?;
-    let instead = world_line(alloc, kind, line, statement)?;
-    Ok(Some(Fault {
-        line,
-        words,
-        instead,
-    }))
-}
-
-// What is read in the place of a bad line of a world: a server of another name, or a directory
-// without rights; else nothing.
-fn world_line<A: Allocator + Copy>(
-    alloc: A,
-    kind: LineFault,
-    line: u64,
-    words: &[&str],
-) -> Result<String<A>, NoMemory> {
-    Ok(match (words, kind) {
-        (["server", ..], _) => format!(in alloc; "server line:{line}")?,
-        (["dir", path, ..], LineFault::WordCount | LineFault::BadMode | LineFault::BadUser) => {
-            format!(in alloc; "dir {path} 000 sys sys")?
-        }
-        _ => String::new(alloc),
-    })
+fn world_fault<T: Tree>(alloc: T::Alloc, text: &str) -> Result<Option<Fault>, NoMemory> {
+    match read_world::<T>(alloc, text) {
+        Ok(_) => Ok(None),
+        Err(WorldError::BadWorld { line, kind }) => Ok(Some(Fault {
+            line,
+            kind: Kind::World(kind),
+        })),
+        Err(WorldError::NoMemory) => Err(NoMemory),
+    }
 }
 
 // The words of the statement of a line.
@@ -156,80 +205,49 @@ fn words_at<'a, 'b, A: Allocator>(statements: &'b [Statement<'a, A>], line: u64)
     &[]
 }
 
-// The first line of bad form of a namespace file.
-fn ns_fault<T: Tree>(alloc: T::Alloc, text: &str) -> Result<Option<Fault<T::Alloc>>, NoMemory> {
+// The first line of bad form of a namespace file, which is run over a forest without servers.
+fn ns_fault<T: Tree>(alloc: T::Alloc, text: &str) -> Result<Option<Fault>, NoMemory> {
     let nowhere = Forest::<T> {
         trees: Vec::new(alloc),
     };
-    let Some((line, kind)) = bad_form(alloc, text, &nowhere)? else {
-        return Ok(None);
-    };
-    let statements = statements(alloc, text)?;
-    let words = form_words(alloc, kind, words_at(statements.as_slice(), line))?;
-    Ok(Some(Fault {
-        line,
-        words,
-        instead: String::new(alloc),
-    }))
-}
-
-// The first line of bad form, and what is wrong with it. The file is run over this forest.
-fn bad_form<T: Tree>(
-    alloc: T::Alloc,
-    text: &str,
-    forest: &Forest<T>,
-) -> Result<Option<(u64, BadForm)>, NoMemory> {
-    let vars = Vec::new(alloc);
-    let servers = Vec::new(alloc);
+    let (vars, servers) = (Vec::new(alloc), Vec::new(alloc));
     let mut table = MountTable::new(alloc);
-    match run_file(alloc, text, &vars, &servers, forest, &mut table) {
+    match run_file(alloc, text, &vars, &servers, &nowhere, &mut table) {
         Ok(_) => Ok(None),
-        Err(NsError::BadLine { line, kind }) => Ok(Some((line, kind))),
+        Err(NsError::BadLine { line, kind }) => Ok(Some(Fault {
+            line,
+            kind: Kind::Form(kind),
+        })),
         Err(NsError::NoMemory) => Err(NoMemory),
     }
 }
 
 // The first bad line of a certificate.
-fn certificate_fault<A: Allocator + Copy>(
-    alloc: A,
-    text: &str,
-) -> Result<Option<Fault<A>>, NoMemory> {
-    let line = match read_cert(alloc, text) {
-        Ok(_) => return Ok(None),
-        Err(ReadError::BadCert { line }) => line,
-        Err(ReadError::NoMemory) => return Err(NoMemory),
-    };
-    let is_first = statements(alloc, text)?
-        .as_slice()
-        .first()
-        .is_none_or(|first| first.line == line);
-    Ok(Some(if is_first {
-        Fault {
-            line,
-            words: String::from_str(alloc, "bad line: 'cert 1' is to be the first")?,
-            instead: String::from_str(alloc, "cert 1")?,
+fn certificate_fault<A: Allocator + Copy>(alloc: A, text: &str) -> Result<Option<Fault>, NoMemory> {
+    match read_cert(alloc, text) {
+        Ok(_) => Ok(None),
+        Err(ReadError::BadCert { line }) => {
+            let statements = statements(alloc, text)?;
+            let kind = match statements.as_slice() {
+                [first, ..] if first.line != line => Kind::Row,
+                _ => Kind::First,
+            };
+            Ok(Some(Fault { line, kind }))
         }
-    } else {
-        Fault {
-            line,
-            words: String::from_str(alloc, "bad line: 'dir SERVER NUMBER', rising")?,
-            instead: String::new(alloc),
-        }
-    }))
+        Err(ReadError::NoMemory) => Err(NoMemory),
+    }
 }
 
 // The first bad line of a script.
-fn script_fault<A: Allocator + Copy>(alloc: A, text: &str) -> Result<Option<Fault<A>>, NoMemory> {
-    let line = match read_script(alloc, text) {
-        Ok(_) => return Ok(None),
-        Err(ScriptError::BadScript { line }) => line,
-        Err(ScriptError::NoMemory) => return Err(NoMemory),
-    };
-    Ok(Some(Fault {
-        line,
-        words: String::from_str(alloc, "bad line: open S, msg S NOW HEX or close S NOW")?,
-        instead: String::new(alloc),
-    }))
+fn script_fault<A: Allocator + Copy>(alloc: A, text: &str) -> Result<Option<Fault>, NoMemory> {
+    match read_script(alloc, text) {
+        Ok(_) => Ok(None),
+        Err(ScriptError::BadScript { line }) => Ok(Some(Fault {
+            line,
+            kind: Kind::Event,
+        })),
+        Err(ScriptError::NoMemory) => Err(NoMemory),
+    }
 }
 
 // A text with another line of this number.

@@ -21,11 +21,23 @@ pub(crate) fn push_hints<T: Tree>(
     reports: &[(u64, OpFault)],
 ) -> Result<(), NoMemory> {
     let statements = teller.source.statements(*text.allocator(), Section::World)?;
-    push_strangers(text, teller, statements.as_slice())?;
-    push_odd_names(text, teller.source, statements.as_slice())?;
-    push_carriage_returns(text, teller.source)?;
-    push_idle_users(text, teller, table, statements.as_slice())?;
+    let pushed = push_world_hints(text, teller, table, statements.as_slice());
+    drop(statements);
+    pushed?;
     push_failed_operations(text, teller.source, reports)
+}
+
+// Adds the hints on the statements of a world.
+fn push_world_hints<T: Tree>(
+    text: &mut String<T::Alloc>,
+    teller: &Teller<'_, '_, T>,
+    table: &MountTable<T::Alloc>,
+    statements: &[Statement<'_, T::Alloc>],
+) -> Result<(), NoMemory> {
+    push_strangers(text, teller, statements)?;
+    push_odd_names(text, teller.source, statements)?;
+    push_carriage_returns(text, teller.source)?;
+    push_idle_users(text, teller, table, statements)
 }
 
 // Adds a hint on a line of a section: a name, which may be empty, and what is said of it.
@@ -204,9 +216,29 @@ pub(crate) fn push_unneeded_rows<A: Allocator + Copy>(
     least: &Certificate<A>,
 ) -> Result<(), NoMemory> {
     let statements = source.statements(*text.allocator(), Section::Cert)?;
-    let mut rows = certificate.rows().iter();
-    for statement in statements.as_slice().iter().skip(1) {
-        let Some(row) = rows.next() else {
+    let pushed = push_unneeded(
+        text,
+        source,
+        statements.as_slice(),
+        certificate.rows(),
+        least,
+    );
+    drop(statements);
+    pushed
+}
+
+// Adds the hints on the rows that are not in the least certificate. The statements are that of its
+// head and then one for each row.
+fn push_unneeded<A: Allocator + Copy>(
+    text: &mut String<A>,
+    source: &Source<'_, A>,
+    statements: &[Statement<'_, A>],
+    rows: &[NodeRef],
+    least: &Certificate<A>,
+) -> Result<(), NoMemory> {
+    let mut statements = statements.iter().skip(1);
+    for row in rows {
+        let Some(statement) = statements.next() else {
             return Ok(());
         };
         if !least.contains(*row) {

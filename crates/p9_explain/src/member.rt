@@ -1,7 +1,7 @@
 //! What is wrong with a directory that a walk leads to: by which user, and by which right.
 
 use crate::right::{NO_RIGHTS, TO_USE, push_right};
-use crate::teller::{Part, Teller};
+use crate::teller::{Teller, push};
 use p9_base::{NoMemory, NodeRef, Rights};
 use p9_cert::{MemberFault, is_hidden};
 use p9_space::{TO_EXECUTE, TO_WRITE};
@@ -24,11 +24,11 @@ pub(crate) fn push_found<T: Tree>(
     teller: &Teller<'_, '_, T>,
     found: Found,
 ) -> Result<(), NoMemory> {
-    let made = Part::Made(found.member);
-    teller.say(text, &[Part::Text("("), made, Part::Text(") ")])?;
+    push(text, "(")?;
+    teller.made(text, found.member)?;
+    push(text, ") ")?;
     push_fault(text, teller, found)?;
-    let bound = Part::Bound(found.place, found.member);
-    teller.say(text, &[bound, Part::Text("\n")])
+    teller.end_line(text, found.place, found.member)
 }
 
 // What is wrong with a directory that a walk leads to.
@@ -39,7 +39,7 @@ fn push_fault<T: Tree>(
 ) -> Result<(), NoMemory> {
     let at = found.member;
     match found.fault {
-        MemberFault::Inside => teller.say(text, &[Part::Inside(at)]),
+        MemberFault::Inside => teller.inside(text, at),
         MemberFault::Removable => push_removal(text, teller, at),
         MemberFault::Open => push_use(text, teller, "is open: ", at, TO_USE),
         MemberFault::Owned => push_use(text, teller, "is owned: ", at, NO_RIGHTS),
@@ -55,7 +55,7 @@ fn push_use<T: Tree>(
     at: NodeRef,
     wanted: Rights,
 ) -> Result<(), NoMemory> {
-    teller.say(text, &[Part::Text(what)])?;
+    push(text, what)?;
     push_right(text, teller, at, wanted)
 }
 
@@ -66,9 +66,11 @@ fn push_removal<T: Tree>(
     at: NodeRef,
 ) -> Result<(), NoMemory> {
     let dir = dir_of(teller.world, at).unwrap_or(at);
-    let (path, made) = (Part::Path(dir), Part::Made(dir));
-    let (from, end) = (Part::Text("is removable from "), Part::Text("): "));
-    teller.say(text, &[from, path, Part::Text(" ("), made, end])?;
+    push(text, "is removable from ")?;
+    teller.path(text, dir)?;
+    push(text, " (")?;
+    teller.made(text, dir)?;
+    push(text, "): ")?;
     push_right(text, teller, dir, TO_WRITE)
 }
 

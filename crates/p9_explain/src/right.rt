@@ -1,6 +1,6 @@
 //! By which right a user may do something with a node.
 
-use crate::teller::{Part, Teller};
+use crate::teller::Teller;
 use p9_base::{NoMemory, NodeRef, Rights, User};
 use p9_space::{TO_EXECUTE, TO_READ, TO_WRITE, Who, may};
 use p9_tree::{Node, Tree};
@@ -122,28 +122,25 @@ pub(crate) fn push_right<T: Tree>(
         return Ok(());
     };
     match holder_of(world, node, wanted) {
-        Some(holder) => say_holder(text, teller, &holder, node.gid()),
+        Some(holder) => say_holder(text, &holder, node.gid()),
         None => Ok(()),
     }
 }
 
 // Says who has a right of a node of this group. For others no user is named.
-fn say_holder<T: Tree>(
-    text: &mut String<T::Alloc>,
-    teller: &Teller<'_, '_, T>,
+fn say_holder<A: Allocator + Copy>(
+    text: &mut String<A>,
     holder: &Holder,
     group: &User,
 ) -> Result<(), NoMemory> {
-    let class = Part::Class(holder.class, *group);
-    let deeds = Part::Text(holder.deeds);
     if holder.class == Class::Other {
-        return teller.say(text, &[class, Part::Text(" may "), deeds]);
+        write!(text, "others may {}", holder.deeds)?;
+        return Ok(());
     }
-    let user = Part::User(holder.user);
-    teller.say(
-        text,
-        &[user, Part::Text(", "), class, Part::Text(", may "), deeds],
-    )
+    write!(text, "{}, ", holder.user)?;
+    holder.class.push(text, group)?;
+    write!(text, ", may {}", holder.deeds)?;
+    Ok(())
 }
 
 // The first listed user who has one of these rights of a node, or else the first who rules it.
