@@ -190,7 +190,9 @@ fn refusal_words<T: Tree>(
     ensures { IfOk result (λ text. IsRefusal (string_bytes text)) }
 {
     let reason = refusal.text(alloc)?;
-    let mut rest = format!(in alloc; "{reason}\n")?;
+    let rest = format!(in alloc; "{reason}\n");
+    drop(reason);
+    let mut rest = rest?;
     if let Ok(input) = str::from_utf8(input) {
         push_faults::<T>(&mut rest, &Source::of(alloc, name, input)?)?;
     }

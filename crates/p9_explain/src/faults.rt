@@ -212,7 +212,12 @@ fn ns_fault<T: Tree>(alloc: T::Alloc, text: &str) -> Result<Option<Fault>, NoMem
     };
     let (vars, servers) = (Vec::new(alloc), Vec::new(alloc));
     let mut table = MountTable::new(alloc);
-    match run_file(alloc, text, &vars, &servers, &nowhere, &mut table) {
+    let ran = run_file(alloc, text, &vars, &servers, &nowhere, &mut table);
+    drop(table);
+    drop(servers);
+    drop(vars);
+    drop(nowhere);
+    match ran {
         Ok(_) => Ok(None),
         Err(NsError::BadLine { line, kind }) => Ok(Some(Fault {
             line,
