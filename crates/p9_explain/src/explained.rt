@@ -189,12 +189,12 @@ fn refusal_words<T: Tree>(
 ) -> Result<String<T::Alloc>, NoMemory>
     ensures { IfOk result (λ text. IsRefusal (string_bytes text)) }
 {
-    let reason = refusal.text(alloc)?;
-    let rest = format!(in alloc; "{reason}\n");
-    drop(reason);
-    let mut rest = rest?;
+    let mut rest = refusal.text(alloc)?;
+    rest.push('\n')?;
     if let Ok(input) = str::from_utf8(input) {
         push_faults::<T>(&mut rest, &Source::of(alloc, name, input)?)?;
     }
-    Ok(format!(in alloc; "refused: {rest}")?)
+    let mut text = String::from_str(alloc, "refused: ")?;
+    text.push_str(rest.as_str())?;
+    Ok(text)
 }

@@ -145,28 +145,35 @@ fn mended<A: Allocator + Copy>(
         return with_line(alloc, text, fault.line, "");
     }
     let statements = statements(alloc, text)?;
-    let instead = instead_of(alloc, fault, words_at(statements.as_slice(), fault.line))?;
+    let mut instead = String::new(alloc);
+    let pushed = push_instead(
+        &mut instead,
+        fault,
+        words_at(statements.as_slice(), fault.line),
+    );
     drop(statements);
+    pushed?;
     with_line(alloc, text, fault.line, instead.as_str())
 }
 
-// What is read in the place of a bad line of these words, so that the lines below it are read as if it
-// were good: a server of another name, a directory without rights, or a certificate's first line; else
-// nothing.
-fn instead_of<A: Allocator + Copy>(
-    alloc: A,
+// Adds what is read in the place of a bad line of these words, so that the lines below it are read as
+// if it were good: a server of another name, a directory without rights, or a certificate's first line;
+// else nothing.
+fn push_instead<A: Allocator + Copy>(
+    text: &mut String<A>,
     fault: Fault,
     words: &[&str],
-) -> Result<String<A>, NoMemory> {
-    Ok(match (fault.kind, words) {
-        (Kind::World(_), ["server", ..]) => format!(in alloc; "server line:{}", fault.line)?,
+) -> Result<(), NoMemory> {
+    match (fault.kind, words) {
+        (Kind::World(_), ["server", ..]) => write!(text, "server line:{}", fault.line)?,
         (
             Kind::World(LineFault::WordCount | LineFault::BadMode | LineFault::BadUser),
             ["dir", path, ..],
-        ) => format!(in alloc; "dir {path} 000 sys sys")?,
-        (Kind::First, _) => String::from_str(alloc, "cert 1")?,
-        _ => String::new(alloc),
-    })
+        ) => write!(text, "dir {path} 000 sys sys")?,
+        (Kind::First, _) => text.push_str("cert 1")?,
+        _ => {}
+    }
+    Ok(())
 }
 
 // The first bad line of a section of this text.
