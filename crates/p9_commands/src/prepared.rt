@@ -183,6 +183,10 @@ fn rest<A: Allocator + Copy>(
 }
 
 impl<T: Tree> Prepared<T> {
+    /// Drops it. A caller in another crate that drops it so has no code of its own that drops its
+    /// parts, and nothing to prove of them.
+    pub fn discard(self) {}
+
     /// The first gap of the certificate, as [`verify`] returns it; none where there is no
     /// certificate.
     pub fn gap(&self) -> Option<Gap>

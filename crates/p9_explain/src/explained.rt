@@ -49,7 +49,7 @@ pub fn explain<T: Tree>(
     match prepare::<T>(*out.allocator(), input, Needs::Nothing) {
         Ok(prepared) => {
             let status = explain_prepared(name, input, &prepared, out);
-            drop(prepared);
+            prepared.discard();
             status
         }
         Err(error) => explain_refusal::<T>(name, input, error.stop, out),

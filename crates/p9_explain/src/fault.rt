@@ -1,7 +1,7 @@
 //! What was expected of a bad line.
 
 use p9_base::{NoMemory, User};
-use p9_nsfile::BadForm;
+use p9_nsline::BadForm;
 use p9_world::LineFault;
 use std::alloc::Allocator;
 

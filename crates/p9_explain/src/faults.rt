@@ -1,15 +1,13 @@
 //! All bad lines of an input.
 
 use crate::fault::{push_form_words, push_world_words};
-use crate::head::Section;
+use crate::head::{SECTIONS, Section};
 use crate::source::Source;
 use p9_base::{NoMemory, Statement, lines, statements};
-use p9_cert::{ReadError, read_cert};
-use p9_commands::{ScriptError, read_script};
-use p9_nsfile::{BadForm, NsError, run_file};
-use p9_space::MountTable;
-use p9_tree::{Forest, Tree};
-use p9_world::{LineFault, WorldError, read_world};
+use p9_commands::{Needs, Refusal, Stop, prepare};
+use p9_nsline::{BadForm, NsError, read_lines};
+use p9_tree::Tree;
+use p9_world::LineFault;
 use std::alloc::{AllocError, Allocator};
 
 // How many bad lines of a section are listed at most.
@@ -39,7 +37,7 @@ pub(crate) fn push_faults<T: Tree>(
     source: &Source<'_, T::Alloc>,
 ) -> Result<(), NoMemory> {
     push_section_lines(text, source)?;
-    for section in [Section::World, Section::Ns, Section::Cert, Section::Script] {
+    for section in SECTIONS {
         push_faults_in::<T>(text, source, section)?;
     }
     Ok(())
@@ -69,7 +67,7 @@ fn push_faults_in<T: Tree>(
         return Ok(());
     };
     let alloc = *text.allocator();
-    let mut read = with_newline(alloc, first)?;
+    let mut read = String::from_str(alloc, first)?;
     let mut last = None;
     for _ in 0..FAULTS_MAX {
         let Some(fault) = first_fault::<T>(alloc, section, read.as_str())? else {
@@ -87,15 +85,6 @@ fn push_faults_in<T: Tree>(
     }
     writeln!(text, "{}: there may be more bad lines", source.name)?;
     Ok(())
-}
-
-// A text with a newline at its end.
-fn with_newline<A: Allocator + Copy>(alloc: A, text: &str) -> Result<String<A>, NoMemory> {
-    let mut whole = String::from_str(alloc, text)?;
-    if !text.ends_with('\n') {
-        whole.push('\n')?;
-    }
-    Ok(whole)
 }
 
 // Adds a bad line of the text that is read of a section: where it is, and what was expected.
@@ -176,29 +165,59 @@ fn push_instead<A: Allocator + Copy>(
     Ok(())
 }
 
-// The first bad line of a section of this text.
+// The first bad line of a section of this text. The lines of a namespace file are read and not run;
+// any other section is prepared as an input of its own.
 fn first_fault<T: Tree>(
     alloc: T::Alloc,
     section: Section,
     text: &str,
 ) -> Result<Option<Fault>, NoMemory> {
-    match section {
-        Section::World => world_fault::<T>(alloc, text),
-        Section::Ns => ns_fault::<T>(alloc, text),
-        Section::Cert => certificate_fault(alloc, text),
-        Section::Script => script_fault(alloc, text),
+    if section == Section::Ns {
+        return form_fault(alloc, text);
+    }
+    let input = format!(in alloc; "{}\n{text}", section.head())?;
+    match prepare::<T>(alloc, input.as_str().as_bytes(), Needs::Nothing) {
+        Ok(prepared) => {
+            prepared.discard();
+            Ok(None)
+        }
+        Err(error) => fault_of(alloc, text, error.stop),
     }
 }
 
-// The first bad line of a world.
-fn world_fault<T: Tree>(alloc: T::Alloc, text: &str) -> Result<Option<Fault>, NoMemory> {
-    match read_world::<T>(alloc, text) {
+// The first line of bad form of a namespace file.
+fn form_fault<A: Allocator + Copy>(alloc: A, text: &str) -> Result<Option<Fault>, NoMemory> {
+    match read_lines(alloc, text) {
         Ok(_) => Ok(None),
-        Err(WorldError::BadWorld { line, kind }) => Ok(Some(Fault {
+        Err(NsError::BadLine { line, kind }) => Ok(Some(Fault {
             line,
-            kind: Kind::World(kind),
+            kind: Kind::Form(kind),
         })),
-        Err(WorldError::NoMemory) => Err(NoMemory),
+        Err(NsError::NoMemory) => Err(NoMemory),
+    }
+}
+
+// The bad line for which a section of this text is refused.
+fn fault_of<A: Allocator + Copy>(
+    alloc: A,
+    text: &str,
+    stop: Stop,
+) -> Result<Option<Fault>, NoMemory> {
+    let (line, kind) = match stop {
+        Stop::Refused(Refusal::BadWorld { line, kind }) => (line, Kind::World(kind)),
+        Stop::Refused(Refusal::BadCertificate { line }) => (line, row_kind(alloc, text, line)?),
+        Stop::Refused(Refusal::BadEvent { line }) => (line, Kind::Event),
+        Stop::Refused(_) => return Ok(None),
+        Stop::NoMemory => return Err(NoMemory),
+    };
+    Ok(Some(Fault { line, kind }))
+}
+
+// What is wrong with this line of a certificate: that its first line is another, or with a row.
+fn row_kind<A: Allocator + Copy>(alloc: A, text: &str, line: u64) -> Result<Kind, NoMemory> {
+    match statements(alloc, text)?.as_slice() {
+        [first, ..] if first.line != line => Ok(Kind::Row),
+        _ => Ok(Kind::First),
     }
 }
 
@@ -210,56 +229,6 @@ fn words_at<'a, 'b, A: Allocator>(statements: &'b [Statement<'a, A>], line: u64)
         }
     }
     &[]
-}
-
-// The first line of bad form of a namespace file, which is run over a forest without servers.
-fn ns_fault<T: Tree>(alloc: T::Alloc, text: &str) -> Result<Option<Fault>, NoMemory> {
-    let nowhere = Forest::<T> {
-        trees: Vec::new(alloc),
-    };
-    let (vars, servers) = (Vec::new(alloc), Vec::new(alloc));
-    let mut table = MountTable::new(alloc);
-    let ran = run_file(alloc, text, &vars, &servers, &nowhere, &mut table);
-    drop(table);
-    drop(servers);
-    drop(vars);
-    drop(nowhere);
-    match ran {
-        Ok(_) => Ok(None),
-        Err(NsError::BadLine { line, kind }) => Ok(Some(Fault {
-            line,
-            kind: Kind::Form(kind),
-        })),
-        Err(NsError::NoMemory) => Err(NoMemory),
-    }
-}
-
-// The first bad line of a certificate.
-fn certificate_fault<A: Allocator + Copy>(alloc: A, text: &str) -> Result<Option<Fault>, NoMemory> {
-    match read_cert(alloc, text) {
-        Ok(_) => Ok(None),
-        Err(ReadError::BadCert { line }) => {
-            let statements = statements(alloc, text)?;
-            let kind = match statements.as_slice() {
-                [first, ..] if first.line != line => Kind::Row,
-                _ => Kind::First,
-            };
-            Ok(Some(Fault { line, kind }))
-        }
-        Err(ReadError::NoMemory) => Err(NoMemory),
-    }
-}
-
-// The first bad line of a script.
-fn script_fault<A: Allocator + Copy>(alloc: A, text: &str) -> Result<Option<Fault>, NoMemory> {
-    match read_script(alloc, text) {
-        Ok(_) => Ok(None),
-        Err(ScriptError::BadScript { line }) => Ok(Some(Fault {
-            line,
-            kind: Kind::Event,
-        })),
-        Err(ScriptError::NoMemory) => Err(NoMemory),
-    }
 }
 
 // A text with another line of this number.

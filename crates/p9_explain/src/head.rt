@@ -9,6 +9,22 @@ pub(crate) enum Section {
     Script,
 }
 
+/// The four sections, in that order.
+pub(crate) const SECTIONS: [Section; 4] =
+    [Section::World, Section::Ns, Section::Cert, Section::Script];
+
+impl Section {
+    /// The line that begins it.
+    pub fn head(self) -> &'static str {
+        match self {
+            Section::World => "%% world",
+            Section::Ns => "%% ns",
+            Section::Cert => "%% cert",
+            Section::Script => "%% script",
+        }
+    }
+}
+
 /// The way in which a line is bad that is to begin a section, or is before the first one.
 #[derive(Clone, Copy)]
 pub(crate) enum Way {
@@ -74,18 +90,10 @@ pub(crate) fn head_of(line: &str) -> Head {
     Head::Bad(section, way)
 }
 
-// The lines that begin sections.
-const HEADS: [(&str, Section); 4] = [
-    ("%% world", Section::World),
-    ("%% ns", Section::Ns),
-    ("%% cert", Section::Cert),
-    ("%% script", Section::Script),
-];
-
 // The section that a line begins.
 fn section_of(line: &str) -> Option<Section> {
-    for (head, section) in HEADS {
-        if line == head {
+    for section in SECTIONS {
+        if line == section.head() {
             return Some(section);
         }
     }
@@ -94,8 +102,8 @@ fn section_of(line: &str) -> Option<Section> {
 
 // The section that a line is meant to begin, in letters of either case.
 fn section_meant(line: &str) -> Option<Section> {
-    for (head, section) in HEADS {
-        if line.eq_ignore_ascii_case(head) {
+    for section in SECTIONS {
+        if line.eq_ignore_ascii_case(section.head()) {
             return Some(section);
         }
     }

@@ -6,7 +6,7 @@ use crate::source::Source;
 use crate::teller::Teller;
 use p9_base::{NoMemory, NodeRef, Statement, User};
 use p9_cert::Certificate;
-use p9_nsfile::OpFault;
+use p9_nsline::OpFault;
 use p9_space::{MountTable, ROOT_PLACE};
 use p9_tree::Tree;
 use p9_world::World;

@@ -42,7 +42,7 @@ pub fn map<T: Tree>(alloc: T::Alloc, input: &[u8]) -> Result<String<T::Alloc>, S
         Ok(prepared) => {
             let certificate = prepared.certificate.as_ref();
             let svg = space_picture(alloc, &prepared.space, certificate);
-            drop(prepared);
+            prepared.discard();
             Ok(svg?)
         }
         Err(error) => Err(error.stop),

@@ -61,32 +61,24 @@ fn certificate_of<T: Tree>(
     ensures ok { IfOk result (IsSealable text.now anyway) }
     ensures err { IfErr result (IsSealError text.now anyway) }
 {
-    let space = name_space::<T>(alloc, text)?;
-    let certificate = certificate_over(alloc, &space, anyway);
-    drop(space);
+    let prepared = prepare_draft::<T>(alloc, text)?;
+    let certificate = certificate_over(alloc, &prepared.space, anyway);
+    prepared.discard();
     certificate
 }
 
-// The name space of an input. Its certificate is not read.
-fn name_space<T: Tree>(alloc: T::Alloc, text: &str) -> Result<NameSpace<T>, Stop>
-    ensures ok { IfOk result (λ space. space_of text.now ≡ Ok space) }
+// The input prepared with a certificate without rows in the place of its own, which is not read.
+fn prepare_draft<T: Tree>(alloc: T::Alloc, text: &str) -> Result<Prepared<T>, Stop>
+    ensures ok { IfOk result (λ prepared. space_of text.now ≡ Ok prepared.space) }
     ensures bundle { OnOk result (IsBundle text.now) }
     ensures stop { IfErr result (IsStop (space_of text.now)) }
 {
     test_bundle(alloc, text)?;
     let draft = with_certificate(alloc, text, "cert 1\n")?;
     match prepare::<T>(alloc, draft.as_str().as_bytes(), Needs::Nothing) {
-        Ok(prepared) => Ok(space_in(prepared)),
+        Ok(prepared) => Ok(prepared),
         Err(error) => Err(error.stop),
     }
-}
-
-// The name space of an input that is prepared.
-fn space_in<T: Tree>(prepared: Prepared<T>) -> NameSpace<T>
-    ensures { result ≡ prepared.space }
-{
-    let Prepared { space, .. } = prepared;
-    space
 }
 
 // Whether the input is a bundle; its first bad line, where it is none.

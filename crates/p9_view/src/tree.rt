@@ -38,7 +38,7 @@ pub fn show_tree<T: Tree>(
     match prepare::<T>(*out.allocator(), input, Needs::Nothing) {
         Ok(prepared) => {
             let status = show(space_of(&prepared), user, out, err);
-            drop(prepared);
+            prepared.discard();
             status
         }
         Err(PrepareError { reports, stop }) => {

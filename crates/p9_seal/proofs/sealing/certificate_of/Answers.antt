@@ -3,11 +3,11 @@ use Rattle.p9_seal.proofs.sealing.certificate_of.Goals as goal
 
 pub returns-clause-ok : goal.returns-clause-ok
 returns-clause-ok g c =
-    sealable c.args.text.now c.args.anyway c.in_ok-space.space c.in_ok-space.ensures.ok
-    c.in_ok-space.ensures.bundle c.certificate_over-certificate.result c.certificate_over-certificate.ensures.yes
+    sealable c.args.text.now c.args.anyway c.in_ok-prepared.prepared.space c.in_ok-prepared.ensures.ok
+    c.in_ok-prepared.ensures.bundle c.certificate_over-certificate.result c.certificate_over-certificate.ensures.yes
     c.certificate_over-certificate.ensures.telling
 
 pub returns-clause-err : goal.returns-clause-err
 returns-clause-err g c =
-    unsealed c.args.text.now c.args.anyway c.in_ok-space.space c.in_ok-space.ensures.ok
+    unsealed c.args.text.now c.args.anyway c.in_ok-prepared.prepared.space c.in_ok-prepared.ensures.ok
     c.certificate_over-certificate.result c.certificate_over-certificate.ensures.err

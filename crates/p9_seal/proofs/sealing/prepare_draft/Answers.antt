@@ -1,10 +1,8 @@
-use Rattle.std.proofs.Common.{IsUtf8, Ok, Result, ap, subst, sym, ◌∙◌}
-use Rattle.p9_commands.specs.NameSpace.{NameSpace}
+use Rattle.std.proofs.Common.{IsUtf8, subst, sym, ◌∙◌}
 use Rattle.std.proofs.lemmas.Result.{err_from_is_err_and}
 use Rattle.std.proofs.lemmas.Str.{is_utf8-from_IsUtf8}
-use Rattle.p9_commands.specs.declared.refusal.Refusal.{Refusal}
 use Rattle.p9_seal.proofs.Sealings.{bad-bundle, read-ok, read-stop}
-use Rattle.p9_seal.proofs.sealing.name_space.Goals as goal
+use Rattle.p9_seal.proofs.sealing.prepare_draft.Goals as goal
 
 pub returns-in_err-test_bundle-clause-stop : goal.returns-in_err-test_bundle-clause-stop
 returns-in_err-test_bundle-clause-stop g c =
@@ -21,7 +19,6 @@ returns-in-Ok-clause-ok g c =
     read-ok c.args.text.now c.as_bytes.result.now bundle.0 (is_utf8-from_IsUtf8 _ c.utf8.text)
     (is_utf8-from_IsUtf8 _ (subst IsUtf8 (sym c.as_bytes.ensures.value) c.as_str.utf8))
     bundle.1 (same ∙ c.in_ok-draft.ensures) c.in-Ok.prepared c.in-Ok.ensures.ok
-    ∙ ap (λ space. let found : Result NameSpace Refusal = Ok space in found) (sym c.space_in.ensures)
 
 pub returns-clause-stop : goal.returns-clause-stop
 returns-clause-stop g c =
