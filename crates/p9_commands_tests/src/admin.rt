@@ -2,10 +2,8 @@
 //! is unfit for a world, inputs that are sealed and explained, pictures, and allocations that fail.
 
 mod accounts;
-mod explains;
 mod lines;
 mod pictures;
 mod sealed_again;
-mod seals;
 mod shown_again;
 mod unfit;

@@ -10,8 +10,12 @@ pub(crate) enum Section {
 }
 
 /// The four sections, in that order.
-pub(crate) const SECTIONS: [Section; 4] =
-    [Section::World, Section::Ns, Section::Cert, Section::Script];
+pub(crate) const SECTIONS: [Section; 4] = [
+    Section::World,
+    Section::Ns,
+    Section::Cert,
+    Section::Script,
+];
 
 impl Section {
     /// The line that begins it.

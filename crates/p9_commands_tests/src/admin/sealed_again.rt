@@ -1,19 +1,49 @@
 //! Allocations that fail: a call says so, and made again it does all that it has to.
 
-use crate::admin::explains::{CERTIFIED, EXPLAINED};
-use crate::admin::seals::{SEALED, VAULT, sealed};
 use p9_explain::explain;
 use p9_index::IndexTree;
-use p9_seal::SealError;
+use p9_seal::{SealError, seal};
 use p9_testing::{Refusing, refuse_each};
 use std::alloc::Allocator;
 use std::process::Abort;
 
+// A vault with a bad certificate, before a script.
+const VAULT: &str = "%% world
+server main
+dir /pub 777 sys sys
+dir /vault 700 sys sys
+user glenda
+hide main /vault
+%% ns
+bind -a /pub /
+%% cert
+none
+%% script
+open 1
+";
+
+// The vault with its certificate.
+const SEALED: &str = "%% world
+server main
+dir /pub 777 sys sys
+dir /vault 700 sys sys
+user glenda
+hide main /vault
+%% ns
+bind -a /pub /
+%% cert
+cert 1
+dir 0 0
+dir 0 1
+%% script
+open 1
+";
+
 // Seals the vault. Where an allocation fails, the call says so.
 fn seal_again<A: Allocator + Copy>(rt: &impl Abort, alloc: A) {
-    let mut text = sealed(alloc, VAULT, false);
+    let mut text = seal::<IndexTree<A>>(alloc, VAULT.as_bytes(), false);
     if matches!(&text, Err(SealError::NoMemory)) {
-        text = sealed(alloc, VAULT, false);
+        text = seal::<IndexTree<A>>(alloc, VAULT.as_bytes(), false);
     }
     let text = text.ok().expect(rt, "a text");
     assert!(rt; text.as_str() == SEALED);
@@ -29,6 +59,24 @@ fn explain_again<A: Allocator + Copy>(rt: &impl Abort, alloc: A, input: &str, wo
     }
     assert!(rt; status.is_ok() && out.as_slice() == words.as_bytes());
 }
+
+// An input whose certificate has a gap.
+const CERTIFIED: &str = "%% world
+server main
+dir /vault 700 ken ken
+user glenda
+hide main /vault
+%% cert
+cert 1
+";
+
+// What is said of it.
+const EXPLAINED: &str = "claim: glenda neither sees nor changes what is inside main:/vault
+yes: clients can reach 1 directory, and nothing hidden
+certificate: not accepted: a walk begins at main:/
+  main:/ (mine:2, 755 sys sys) is no row: others may read and search it
+hint: mine:3: ken is no listed user
+";
 
 // An input that leaks, and what is said of it.
 const LEAK: &str = "%% world\nserver a\ndir /v 755 u u\nuser u\nhide a /v\n%% ns\nbind /x /\n";
