@@ -2,9 +2,7 @@
 
 use p9_base::NoMemory;
 use p9_pack::Accounts;
-use p9_testing::{Refusing, refuse_each};
 use std::alloc::Allocator;
-use std::process::Abort;
 
 const PASSWD: &str = "\
 root:x:0:0:root:/root:/bin/sh
@@ -25,77 +23,100 @@ wheel:x:0:rob
 nine:x:9
 ";
 
-// Numbers, with groups that they have nothing to do with.
-const QUESTIONS: [(u32, &str); 6] = [
-    (0, "root"),
-    (100, "users"),
-    (1000, "glenda"),
-    (7, "wheel"),
-    (9, "none"),
-    (1001, "rob"),
+// What the accounts say: of a number the names of its user and of its group; of a group whether a user
+// has its name, and its members.
+struct Told {
+    id: u32,
+    user_name: Option<&'static str>,
+    group_name: Option<&'static str>,
+    group: &'static str,
+    is_user: bool,
+    members: &'static [&'static str],
+}
+
+const TOLD: [Told; 6] = [
+    Told {
+        id: 0,
+        user_name: Some("root"),
+        group_name: Some("root"),
+        group: "root",
+        is_user: true,
+        members: &["root", "toor"],
+    },
+    Told {
+        id: 100,
+        user_name: None,
+        group_name: Some("users"),
+        group: "users",
+        is_user: false,
+        members: &["glenda", "rob"],
+    },
+    Told {
+        id: 1000,
+        user_name: Some("glenda"),
+        group_name: Some("glenda"),
+        group: "glenda",
+        is_user: true,
+        members: &["glenda"],
+    },
+    Told {
+        id: 7,
+        user_name: None,
+        group_name: None,
+        group: "wheel",
+        is_user: false,
+        members: &["rob", "root", "toor"],
+    },
+    Told {
+        id: 9,
+        user_name: None,
+        group_name: None,
+        group: "none",
+        is_user: false,
+        members: &[],
+    },
+    Told {
+        id: 1001,
+        user_name: Some("rob"),
+        group_name: None,
+        group: "rob",
+        is_user: true,
+        members: &[],
+    },
 ];
 
-// What the accounts say: the names of the user and the group of a number, and of a group whether a
-// user has its name, and its members.
-const TOLD: &str = "\
-0 root root, root true [\"root\", \"toor\"]
-100 - users, users false [\"glenda\", \"rob\"]
-1000 glenda glenda, glenda true [\"glenda\"]
-7 - -, wheel false [\"rob\", \"root\", \"toor\"]
-9 - -, none false []
-1001 rob -, rob true []
-";
-
-// Adds what the accounts say of a number and of a group.
-fn tell_row<A: Allocator + Copy>(
+// Whether the accounts say this.
+fn say<A: Allocator + Copy>(
     alloc: A,
     accounts: &Accounts<'_, A>,
-    (id, group): (u32, &str),
-    told: &mut String<A>,
-) -> Result<(), NoMemory> {
-    let user_name = accounts.user_name(id).unwrap_or("-");
-    let group_name = accounts.group_name(id).unwrap_or("-");
-    let is_user = accounts.has_user(group);
-    let members = accounts.members(alloc, group)?;
-    writeln!(
-        told,
-        "{id} {user_name} {group_name}, {group} {is_user} {members:?}"
-    )?;
-    Ok(())
+    told: &Told,
+) -> Result<bool, NoMemory> {
+    let members = accounts.members(alloc, told.group)?;
+    Ok(
+        members.as_slice() == told.members
+            && accounts.user_name(told.id) == told.user_name
+            && accounts.group_name(told.id) == told.group_name
+            && accounts.has_user(told.group) == told.is_user,
+    )
 }
 
-// Adds what the accounts say.
-fn tell<A: Allocator + Copy>(
-    alloc: A,
-    accounts: &Accounts<'_, A>,
-    told: &mut String<A>,
-) -> Result<(), NoMemory> {
-    for question in &QUESTIONS {
-        tell_row(alloc, accounts, *question, told)?;
+// Whether the accounts say all of it.
+fn say_all<A: Allocator + Copy>(alloc: A, accounts: &Accounts<'_, A>) -> Result<bool, NoMemory> {
+    for told in &TOLD {
+        if !say(alloc, accounts, told)? {
+            return Ok(false);
+        }
     }
-    Ok(())
+    Ok(true)
 }
 
-// What the accounts of the texts say.
-fn told<A: Allocator + Copy>(alloc: A) -> Result<String<A>, NoMemory> {
+// Whether the accounts of the texts say all of it.
+fn texts_say_all<A: Allocator + Copy>(alloc: A) -> Result<bool, NoMemory> {
     let accounts = Accounts::read(alloc, PASSWD, GROUP)?;
-    let mut told = String::new(alloc);
-    tell(alloc, &accounts, &mut told)?;
-    Ok(told)
-}
-
-// The accounts say what they are to, again where an allocation failed.
-fn are_told_again<A: Allocator + Copy>(rt: &impl Abort, alloc: A) {
-    let text = match told(alloc) {
-        Ok(text) => text,
-        Err(NoMemory) => told(alloc).expect(rt, "accounts with ample memory"),
-    };
-    assert!(rt; text.as_str() == TOLD);
+    say_all(alloc, &accounts)
 }
 
 #[test]
-fn accounts_are_read_after_each_refusal(rt: HostRuntime) {
-    let memory = Refusing::new(rt.alloc());
-    let refusals = refuse_each(&memory, || (), |()| are_told_again(&rt, &memory));
-    assert!(rt; refusals > 20);
+fn accounts_are_read(rt: HostRuntime) {
+    assert!(rt; texts_say_all(rt.alloc()) == Ok(true));
 }

@@ -1,14 +1,13 @@
 //! Lines that are written, and the world that is read of them.
 
-use p9_base::{FileFlags, NoMemory, Permissions, Rights};
+use p9_base::{FileFlags, Permissions, Rights};
 use p9_index::IndexTree;
 use p9_pack::{
     DirLine, FileLine, GroupLine, HideLine, PlainName, PlainUser, ServerName, WorldLine, write_line,
 };
-use p9_testing::{Refusing, refuse_each};
-use p9_tree::{Node, Tree};
+use p9_tree::Tree;
 use p9_world::read_world;
-use std::alloc::{Allocator, Global};
+use std::alloc::Global;
 use std::process::Abort;
 use std::str::from_utf8;
 
@@ -25,18 +24,56 @@ hide main /usr
 hide main /
 ";
 
-// The nodes of the world, each by its number, name, permissions, owner and bytes.
-const TOLD: &str = "\
-0 / 20000000755 sys []
-1 usr 20000000750 glenda []
-2 none 644 glenda []
-3 \u{e9} 14400000406 glenda [0, 255, 10]
-4 LONG 4000000000 glenda [104, 105, 10]
-";
-
 // A name of 255 bytes, which is LONG above.
 const LONG: &str =
     "nnnnnnnnnnnnnnnnnnnnnnnnnnnnnnnnnnnnnnnnnnnnnnnnnnnnnnnnnnnnnnnnnnnnnnnnnnnnnnnnnnnnnnnnnnnnnnnnnnnnnnnnnnnnnnnnnnnnnnnnnnnnnnnnnnnnnnnnnnnnnnnnnnnnnnnnnnnnnnnnnnnnnnnnnnnnnnnnnnnnnnnnnnnnnnnnnnnnnnnnnnnnnnnnnnnnnnnnnnnnnnnnnnnnnnnnnnnnnnnnnnnnnnnnnnnnnnn";
+
+// A node of the world: its number, name, mode, owner and bytes.
+struct Made {
+    number: u64,
+    name: &'static str,
+    mode: u32,
+    uid: &'static str,
+    bytes: &'static [u8],
+}
+
+const NODES: [Made; 5] = [
+    Made {
+        number: 0,
+        name: "/",
+        mode: 0o20_000_000_755,
+        uid: "sys",
+        bytes: &[],
+    },
+    Made {
+        number: 1,
+        name: "usr",
+        mode: 0o20_000_000_750,
+        uid: "glenda",
+        bytes: &[],
+    },
+    Made {
+        number: 2,
+        name: "none",
+        mode: 0o644,
+        uid: "glenda",
+        bytes: &[],
+    },
+    Made {
+        number: 3,
+        name: "\u{e9}",
+        mode: 0o14_400_000_406,
+        uid: "glenda",
+        bytes: b"\0\xff\n",
+    },
+    Made {
+        number: 4,
+        name: LONG,
+        mode: 0o4_000_000_000,
+        uid: "glenda",
+        bytes: b"hi\n",
+    },
+];
 
 const NO_FLAGS: FileFlags = FileFlags {
     append_only: false,
@@ -78,18 +115,9 @@ fn user(rt: &impl Abort, text: &str) -> PlainUser {
     PlainUser::new(text).ok().expect(rt, "a user")
 }
 
-// Adds a line, again where an allocation failed: then the text is as before.
-fn write<A: Allocator + Copy>(
-    rt: &impl Abort,
-    alloc: A,
-    line: &WorldLine<'_>,
-    out: &mut Vec<u8, A>,
-) {
-    let len = out.len();
-    if let Err(NoMemory) = write_line(alloc, line, out) {
-        assert!(rt; out.len() == len);
-        assert!(rt; write_line(alloc, line, out).is_ok());
-    }
+// Adds a line.
+fn write(rt: &impl Abort, alloc: Global, line: &WorldLine<'_>, out: &mut Vec<u8>) {
+    assert!(rt; write_line(alloc, line, out) == Ok(()));
 }
 
 // A line of a directory.
@@ -128,7 +156,7 @@ fn hide<'a>(server: ServerName, path: &'a [PlainName]) -> WorldLine<'a> {
 }
 
 // Writes the lines of the text.
-fn write_lines<A: Allocator + Copy>(rt: &impl Abort, alloc: A, out: &mut Vec<u8, A>) {
+fn write_lines(rt: &impl Abort, alloc: Global, out: &mut Vec<u8>) {
     let (sys, glenda) = (user(rt, "sys"), user(rt, "glenda"));
     let server = ServerName::new("main").ok().expect(rt, "a server");
     let usr = [name(rt, "usr")];
@@ -143,11 +171,11 @@ fn write_lines<A: Allocator + Copy>(rt: &impl Abort, alloc: A, out: &mut Vec<u8,
 }
 
 // Writes the lines of the files.
-fn write_files<A: Allocator + Copy>(
+fn write_files(
     rt: &impl Abort,
-    alloc: A,
+    alloc: Global,
     (uid, gid): (PlainUser, PlainUser),
-    out: &mut Vec<u8, A>,
+    out: &mut Vec<u8>,
 ) {
     for (text, mode, bytes) in [
         ("none", (NO_FLAGS, 0o644), b"".as_slice()),
@@ -160,12 +188,12 @@ fn write_files<A: Allocator + Copy>(
 }
 
 // Writes the line of a group, whose leader is its first member.
-fn write_group<A: Allocator + Copy>(
+fn write_group(
     rt: &impl Abort,
-    alloc: A,
+    alloc: Global,
     name: PlainUser,
     members: &[PlainUser; 2],
-    out: &mut Vec<u8, A>,
+    out: &mut Vec<u8>,
 ) {
     let group = GroupLine {
         name,
@@ -175,43 +203,21 @@ fn write_group<A: Allocator + Copy>(
     write(rt, alloc, &WorldLine::Group(group), out);
 }
 
-// Adds what a node is.
-fn tell<A: Allocator>(told: &mut String<A>, node: &Node<A>) -> Result<(), NoMemory> {
-    let (number, name, mode) = (node.number(), node.name(), node.mode().bits());
-    let (uid, bytes) = (node.uid().as_str(), node.bytes());
-    writeln!(told, "{number} {name} {mode:o} {uid} {bytes:?}")?;
-    Ok(())
-}
-
-// Adds what the nodes of a tree are.
-fn tell_tree<T: Tree>(told: &mut String<T::Alloc>, tree: &T) -> Result<(), NoMemory> {
-    for number in 0..tree.next() {
-        if let Some(node) = tree.node(number) {
-            tell(told, node)?;
-        }
+// A tree has these nodes and no other.
+fn are_made<T: Tree>(rt: &impl Abort, tree: &T) {
+    assert!(rt; tree.next() == 5);
+    for made in &NODES {
+        let node = tree.node(made.number).expect(rt, "a node");
+        assert!(rt; node.name() == made.name && node.uid().as_str() == made.uid);
+        assert!(rt; node.mode().bits() == made.mode && node.bytes() == made.bytes);
     }
-    Ok(())
 }
 
-// The nodes of a world's trees are those of `TOLD`.
-fn are_told<T: Tree>(rt: &impl Abort, alloc: T::Alloc, trees: &[T]) {
-    let mut told = String::new(alloc);
-    for tree in trees {
-        assert!(rt; tell_tree(&mut told, tree).is_ok());
-    }
-    is_text(rt, alloc, told.as_str(), TOLD);
-}
-
-// A text is the other one, with the name of 255 bytes in it.
-fn is_text<A: Allocator + Copy>(rt: &impl Abort, alloc: A, text: &str, other: &str) {
-    let other = other.replace(alloc, "LONG", LONG).expect(rt, "a text");
-    assert!(rt; text == other.as_str());
-}
-
-// A text is read as a world.
+// A text is read as a world whose first tree has these nodes.
 fn is_read<T: Tree>(rt: &impl Abort, alloc: T::Alloc, text: &str) {
     let world = read_world::<T>(alloc, text).expect(rt, "a world");
-    are_told(rt, alloc, world.forest.trees.as_slice());
+    let tree = world.forest.trees.first().expect(rt, "a tree");
+    are_made(rt, tree);
 }
 
 #[test]
@@ -219,20 +225,7 @@ fn lines_are_written_and_read_back(rt: HostRuntime) {
     let mut out = Vec::new(rt.alloc());
     write_lines(&rt, rt.alloc(), &mut out);
     let text = from_utf8(out.as_slice()).expect(&rt, "a text");
-    is_text(&rt, rt.alloc(), text, TEXT);
+    let lines = TEXT.replace(rt.alloc(), "LONG", LONG).expect(&rt, "a text");
+    assert!(rt; text == lines.as_str());
     is_read::<IndexTree<Global>>(&rt, rt.alloc(), text);
-}
-
-#[test]
-fn a_line_is_written_after_each_refusal(rt: HostRuntime) {
-    let memory = Refusing::new(rt.alloc());
-    let refusals = refuse_each(
-        &memory,
-        || Vec::new(&memory),
-        |mut out| {
-            write_lines(&rt, &memory, &mut out);
-            assert!(rt; out.len() == TEXT.len() + LONG.len() - 4);
-        },
-    );
-    assert!(rt; refusals > 10);
 }

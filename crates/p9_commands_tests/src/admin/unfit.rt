@@ -49,8 +49,7 @@ fn texts_are_unfit_for_a_reason(rt: HostRuntime) {
         assert!(rt;
             PlainName::new(text).err() == *name
                 && PlainUser::new(text).err() == *user
-                && ServerName::new(text).err() == *server,
-            "{text:?}"
+                && ServerName::new(text).err() == *server
         );
     }
     assert!(rt; fit_size(16_777_216).is_ok() && fit_size(16_777_217) == Err(Unfit::TooLarge));
