@@ -1,3 +1,6 @@
+pub mod Hide
+pub mod Input
+pub mod Mode
 pub mod Owner
 pub mod Server
 pub mod Settings

@@ -2,7 +2,8 @@
 //! to a verdict in words, to its name space, or to a picture.
 #![tactic(auto)]
 
-mod disk;
+mod accounts;
+mod attributes;
 mod explain;
 mod hide;
 mod map;
@@ -13,8 +14,11 @@ mod pack;
 mod reason;
 mod seal;
 mod settings;
+mod sink;
+mod source;
 mod status;
 mod streams;
+mod told;
 mod tree;
 mod view;
 mod words;
@@ -24,6 +28,7 @@ use crate::map::run_map;
 use crate::pack::run_pack;
 use crate::seal::run_seal;
 use crate::status::{BAD_COMMAND_LINE, DONE, INPUT_OR_OUTPUT_FAILED, OUT_OF_MEMORY};
+use crate::told::failed;
 use crate::view::run_tree;
 use crate::words::program;
 use clap::ArgMatches;
@@ -36,7 +41,8 @@ fn main(rt: HostRuntime) -> ExitCode {
     ExitCode::from(status_of(&rt))
 }
 
-// Runs the program, and reports on standard error what kept it from its work.
+// Runs the program, and returns the exit status. Where input or output failed, that was reported with
+// the place.
 fn status_of(rt: &HostRuntime) -> u8 {
     match run(rt) {
         Ok(status) => status,
@@ -44,10 +50,7 @@ fn status_of(rt: &HostRuntime) -> u8 {
             let _ = eprintln!(rt; "out of memory");
             OUT_OF_MEMORY
         }
-        Err(_) => {
-            let _ = eprintln!(rt; "input or output failed");
-            INPUT_OR_OUTPUT_FAILED
-        }
+        Err(_) => INPUT_OR_OUTPUT_FAILED,
     }
 }
 
@@ -87,7 +90,9 @@ fn print_error(rt: &HostRuntime, error: &clap::Error) -> io::Result<u8> {
     if error.kind() == clap::error::ErrorKind::OutOfMemory {
         return Err(io::Error::from(AllocError));
     }
-    error.print(rt)?;
+    if let Err(error) = error.print(rt) {
+        return Err(failed(rt, "standard output", error));
+    }
     Ok(if error.use_stderr() {
         BAD_COMMAND_LINE
     } else {

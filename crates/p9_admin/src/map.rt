@@ -1,26 +1,19 @@
 //! The command `map`: an input as a picture.
 
-use crate::status::{DONE, NOT_DRAWN};
-use crate::streams::{print_all, read_input};
-use p9_base::Stop;
+use crate::streams::{io_result, print_all, read_input};
 use p9_index::IndexTree;
 use p9_map::map;
-use std::alloc::{AllocError, Global};
-use std::io;
+use std::alloc::Global;
+use std::io::{self, Write};
 
-/// Draws the standard input, or reports its first fault as `p9 check` does. Returns the exit status.
+/// Draws the standard input, after the reports of what failed in it. Returns the exit status.
 pub(crate) fn run_map(rt: &HostRuntime) -> io::Result<u8> {
     let input = read_input(rt)?;
-    match map::<IndexTree<Global>>(rt.alloc(), input.as_slice()) {
-        Ok(svg) => {
-            print_all(rt, svg.as_bytes())?;
-            Ok(DONE)
-        }
-        Err(Stop::Refused(refusal)) => {
-            let text = refusal.text(rt.alloc())?;
-            eprintln!(rt; "{text}")?;
-            Ok(NOT_DRAWN)
-        }
-        Err(Stop::NoMemory) => Err(io::Error::from(AllocError)),
-    }
+    let mut out = Vec::new(rt.alloc());
+    let mut err = Vec::new(rt.alloc());
+    let mapped = map::<IndexTree<Global>>(input.as_slice(), &mut out, &mut err);
+    let status = io_result(mapped)?;
+    rt.stderr().write_all(err.as_slice())?;
+    print_all(rt, out.as_slice())?;
+    Ok(status)
 }

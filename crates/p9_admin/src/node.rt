@@ -1,30 +1,34 @@
 //! What is packed of one directory or file.
 
-ghost use Rattle.std.specs.Prelude.{◌≡◌, ◌⊎◌, IfNone, None, Some, false, true};
+ghost use Rattle.std.specs.Prelude.{◌≡◌, ◌⊎◌, IfNone, None, Some};
 ghost use Rattle.std.specs.Fs.{IsDir, IsFile, IsSymlink};
 
-use crate::disk::{contents, listing_of};
-use crate::hide::Hide;
+use crate::attributes::{Attributes, attributes_of};
+use crate::hide::{Hide, is_entered, is_hidden};
 use crate::output::Output;
-use crate::owner::{group_of, owner_of};
 use crate::reason::Reason;
 use crate::settings::{Settings, add_user};
 use crate::streams::io_result;
-use p9_base::{FileFlags, Permissions};
+use p9_base::FileFlags;
+use p9_files::Dir;
 use p9_pack::{
     Accounts, DirLine, FileLine, PlainName, PlainUser, ServerName, fit_size, write_dir, write_file,
     write_server,
 };
+use p9_shown::AsShown;
+use p9_tree::FILE_MAX;
 use std::alloc::Global;
-use std::fs::{FileType, Metadata, symlink_metadata};
-use std::io::{self, ErrorKind};
-use std::os::unix::fs::MetadataExt;
+use std::fs::{File, FileType, Metadata};
+use std::io::{self, ErrorKind, Read};
 
 /// What is packed so far.
-#[derive(Drop)]
 pub(crate) struct Packing {
     pub output: Output,
     pub settings: Settings,
+    /// What is to be hidden, each once.
+    pub hides: Vec<Hide>,
+    /// Whether what is inside a hidden directory is packed too.
+    pub with_hidden: bool,
     /// The groups that occur, each once.
     pub groups: Vec<PlainUser>,
 }
@@ -32,93 +36,107 @@ pub(crate) struct Packing {
 /// A directory of which some entries are still to be packed.
 #[derive(Drop)]
 pub(crate) struct Level {
-    /// Its path on the disk.
+    pub dir: Dir,
+    /// Its path on the disk, as it is shown.
     pub disk: String,
     /// The names of its entries, the next one last.
     pub names: Vec<String>,
 }
 
-// Whose a directory or file is, and its permissions.
+/// A name of an open directory.
 #[derive(Clone, Copy)]
-struct Attributes {
-    uid: PlainUser,
-    gid: PlainUser,
-    permissions: Permissions,
+pub(crate) struct Entry<'a> {
+    pub dir: &'a Dir,
+    pub name: &'a str,
+    /// Its path on the disk, as it is shown.
+    pub disk: &'a str,
 }
 
 impl Packing {
-    /// Packs the directory or file of a path on the disk, which has these names from the root of
-    /// its server on. Of a directory it returns the entries, unless it is left out.
-    pub fn node(
+    /// Packs the directory or file of an entry, which has these names from the root of its server on.
+    /// Of a directory it returns the entries, unless it is left out, or they are not to be packed.
+    pub fn entry(
         &mut self,
         rt: &HostRuntime,
         accounts: &Accounts<'_, Global>,
         server: &ServerName,
         names: &[PlainName],
-        disk: String,
+        entry: Entry<'_>,
     ) -> io::Result<Option<Level>> {
-        let metadata = match symlink_metadata(rt, disk.as_str()) {
-            Ok(metadata) => metadata,
+        let seen = match entry.dir.look(rt, entry.name) {
+            Ok(seen) => seen,
             Err(error) => {
-                self.fail(rt, disk.as_str(), error)?;
+                self.fail(rt, entry.disk, error)?;
                 return Ok(None);
             }
         };
-        let attributes = match self.attributes(accounts, &metadata, names.is_empty()) {
-            Ok(attributes) => attributes,
-            Err(reason) => {
-                self.output.leave_out(rt, disk.as_str(), reason)?;
-                return Ok(None);
-            }
-        };
-        if metadata.is_dir() {
-            return self.dir(rt, server, names, attributes, disk);
+        if let Some(reason) = why_not(seen.file_type()) {
+            self.output.leave_out(rt, entry.disk, reason)?;
+            return Ok(None);
         }
-        self.file(rt, names, attributes, disk.as_str(), metadata.len())?;
+        if !seen.is_dir() {
+            self.file(rt, accounts, names, entry)?;
+            return Ok(None);
+        }
+        if is_entered(self.hides.as_slice(), self.with_hidden, server, names) {
+            return self.open_dir(rt, accounts, server, names, entry);
+        }
+        match attributes_of(&self.settings, accounts, &seen) {
+            Ok(attributes) => self.dir_lines(rt, server, names, attributes, entry.disk)?,
+            Err(reason) => self.output.leave_out(rt, entry.disk, reason)?,
+        }
         Ok(None)
     }
 
-    // Whose a directory or file is and its permissions, or why a world can't have it.
-    fn attributes(
-        &self,
+    // Packs a directory whose entries are to be packed.
+    fn open_dir(
+        &mut self,
+        rt: &HostRuntime,
         accounts: &Accounts<'_, Global>,
-        metadata: &Metadata,
-        is_root: bool,
-    ) -> Result<Attributes, Reason> {
-        if let Some(reason) = why_not(metadata.file_type(), is_root) {
-            return Err(reason);
+        server: &ServerName,
+        names: &[PlainName],
+        entry: Entry<'_>,
+    ) -> io::Result<Option<Level>> {
+        match opened_dir(rt, entry) {
+            Ok((dir, metadata)) => match attributes_of(&self.settings, accounts, &metadata) {
+                Ok(attributes) => {
+                    let disk = String::from_str(rt.alloc(), entry.disk)?;
+                    self.dir(rt, server, names, attributes, dir, disk)
+                }
+                Err(reason) => {
+                    self.output.leave_out(rt, entry.disk, reason)?;
+                    Ok(None)
+                }
+            },
+            Err(error) => {
+                self.fail(rt, entry.disk, error)?;
+                Ok(None)
+            }
         }
-        Ok(Attributes {
-            uid: owner_of(self.settings.owner, accounts, metadata.uid())?,
-            gid: group_of(self.settings.group_owner, accounts, metadata.gid())?,
-            permissions: Permissions::from_bits(metadata.mode() % 0o1000),
-        })
     }
 
-    // Packs a directory, and returns its entries, unless it is left out.
-    fn dir(
+    /// Packs an open directory, and returns its entries, unless it is left out.
+    pub fn dir(
         &mut self,
         rt: &HostRuntime,
         server: &ServerName,
         names: &[PlainName],
         attributes: Attributes,
+        dir: Dir,
         disk: String,
     ) -> io::Result<Option<Level>> {
-        let found = match listing_of(rt, disk.as_str()) {
+        let found = match dir.names(rt) {
             Ok(found) => found,
             Err(error) => {
                 self.fail(rt, disk.as_str(), error)?;
                 return Ok(None);
             }
         };
-        self.dir_lines(rt, server, names, attributes)?;
-        if found.has_others {
-            self.output.leave_out(rt, disk.as_str(), Reason::NotText)?;
-        }
-        Ok(Some(Level {
-            disk,
-            names: found.names,
-        }))
+        self.dir_lines(rt, server, names, attributes, disk.as_str())?;
+        self.output
+            .leave_out_names(rt, disk.as_str(), found.others)?;
+        let names = found.names;
+        Ok(Some(Level { dir, disk, names }))
     }
 
     // Packs a directory without its entries. The line of the server is before that of its root.
@@ -128,6 +146,7 @@ impl Packing {
         server: &ServerName,
         names: &[PlainName],
         attributes: Attributes,
+        disk: &str,
     ) -> io::Result<()> {
         if names.is_empty() {
             let added = write_server(rt.alloc(), *server, &mut self.output.text);
@@ -141,23 +160,62 @@ impl Packing {
         };
         let added = write_dir(rt.alloc(), &line, &mut self.output.text);
         self.output.count(rt, added)?;
-        note_dir(self.settings.hides.as_mut_slice(), server, names);
-        self.note_group(attributes.gid)
+        self.note_hidden(rt, server, names, attributes.uid, disk)?;
+        self.note(rt, attributes, disk)
     }
 
-    // Packs a file of so many bytes.
+    // Notes that a directory is there, where it is to be hidden, and reports an owner who may attach.
+    fn note_hidden(
+        &mut self,
+        rt: &HostRuntime,
+        server: &ServerName,
+        names: &[PlainName],
+        owner: PlainUser,
+        disk: &str,
+    ) -> io::Result<()> {
+        note_dir(self.hides.as_mut_slice(), server, names);
+        if is_hidden(self.hides.as_slice(), server, names) && self.settings.users.contains(&owner) {
+            let (disk, owner) = (AsShown(disk), AsShown(owner.as_str()));
+            eprintln!(rt;
+                "note: {disk} is not out of reach: its owner {owner} is a --user; --owner NAME gives all another owner"
+            )?;
+        }
+        Ok(())
+    }
+
+    // Packs a file.
     fn file(
+        &mut self,
+        rt: &HostRuntime,
+        accounts: &Accounts<'_, Global>,
+        names: &[PlainName],
+        entry: Entry<'_>,
+    ) -> io::Result<()> {
+        match opened_file(rt, entry) {
+            Ok((file, metadata)) => match attributes_of(&self.settings, accounts, &metadata) {
+                Ok(attributes) => {
+                    self.open_file(rt, names, attributes, file, metadata.len(), entry.disk)
+                }
+                Err(reason) => self.output.leave_out(rt, entry.disk, reason),
+            },
+            Err(error) => self.fail(rt, entry.disk, error),
+        }
+    }
+
+    // Packs an open file of so many bytes.
+    fn open_file(
         &mut self,
         rt: &HostRuntime,
         names: &[PlainName],
         attributes: Attributes,
-        disk: &str,
+        file: File,
         len: u64,
+        disk: &str,
     ) -> io::Result<()> {
         if let Err(unfit) = fit_size(len) {
             return self.output.leave_out(rt, disk, Reason::Unfit(unfit));
         }
-        let bytes = match contents(rt, disk, len) {
+        let bytes = match contents(rt, file, len) {
             Ok(bytes) => bytes,
             Err(error) => return self.fail(rt, disk, error),
         };
@@ -178,42 +236,65 @@ impl Packing {
         };
         let added = write_file(rt.alloc(), &line, &mut self.output.text);
         self.output.count(rt, added)?;
-        self.note_group(attributes.gid)
+        self.note(rt, attributes, disk)
     }
 
-    // Notes a group that occurs.
-    fn note_group(&mut self, group: PlainUser) -> io::Result<()> {
-        io_result(add_user(group, &mut self.groups))
+    // Notes a group that occurs, and reports the bits of a mode that are lost.
+    fn note(&mut self, rt: &HostRuntime, attributes: Attributes, disk: &str) -> io::Result<()> {
+        io_result(add_user(attributes.gid, &mut self.groups))?;
+        if let Some(mode) = attributes.lost {
+            let (disk, kept) = (AsShown(disk), attributes.permissions.bits());
+            eprintln!(rt; "note: {disk}: {mode:o} became {kept:o}")?;
+        }
+        Ok(())
     }
 
-    // Leaves out what could not be read, unless an allocation failed.
+    // Leaves out what the system refused, unless an allocation failed.
     fn fail(&mut self, rt: &HostRuntime, disk: &str, error: io::Error) -> io::Result<()> {
         if error.kind() == ErrorKind::OutOfMemory {
             return Err(error);
         }
-        self.output.leave_out(rt, disk, Reason::Unreadable)
+        self.output.leave_out(rt, disk, Reason::System(error))
     }
 }
 
-// Why a world can't have what is of this type: as the root of a server, or below one.
-fn why_not(kind: FileType, is_root: bool) -> Option<Reason>
+// Opens the directory of an entry.
+fn opened_dir(rt: &HostRuntime, entry: Entry<'_>) -> io::Result<(Dir, Metadata)> {
+    let dir = entry.dir.open_dir(entry.name)?;
+    let metadata = dir.metadata(rt)?;
+    Ok((dir, metadata))
+}
+
+// Opens the file of an entry.
+fn opened_file(rt: &HostRuntime, entry: Entry<'_>) -> io::Result<(File, Metadata)> {
+    let file = entry.dir.open_file(rt, entry.name)?;
+    let metadata = file.metadata()?;
+    Ok((file, metadata))
+}
+
+// The bytes of an open file, of which there are `len`. Where it grew, at most one more than
+// [`FILE_MAX`] is read.
+fn contents(rt: &HostRuntime, file: File, len: u64) -> io::Result<Vec<u8>> {
+    let most = FILE_MAX as u64 + 1;
+    let mut bytes = Vec::with_capacity(rt.alloc(), len.min(most) as usize)?;
+    file.take(most).read_to_end(&mut bytes)?;
+    Ok(bytes)
+}
+
+// Why a world can't have what is of this type.
+fn why_not(kind: FileType) -> Option<Reason>
     ensures link { IsSymlink kind → result ≡ Some Reason.Link }
     ensures dir { IfNone result ((¬ IsSymlink kind) × (IsDir kind ⊎ IsFile kind)) }
-    ensures root { is_root ≡ true → IfNone result (IsDir kind) }
     ensures fit { (¬ IsSymlink kind) → IsDir kind → result ≡ None }
-    ensures file { (¬ IsSymlink kind) → IsFile kind → is_root ≡ false → result ≡ None }
+    ensures file { (¬ IsSymlink kind) → IsFile kind → result ≡ None }
 {
     if kind.is_symlink() {
         return Some(Reason::Link);
     }
-    if kind.is_dir() || (kind.is_file() && !is_root) {
+    if kind.is_dir() || kind.is_file() {
         return None;
     }
-    Some(if is_root {
-        Reason::NotDirectory
-    } else {
-        Reason::Device
-    })
+    Some(Reason::Device)
 }
 
 // Notes which of what is to be hidden is this directory.

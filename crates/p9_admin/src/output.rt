@@ -1,21 +1,24 @@
 //! What is printed while directories are packed.
 
 use crate::reason::Reason;
+use crate::sink::Sink;
 use crate::streams::io_result;
 use p9_base::NoMemory;
-use std::io::{self, IsTerminal, Write};
+use p9_shown::AsShown;
+use std::io::{self, IsTerminal};
 use std::time::Instant;
 
 // So many bytes are printed at a time.
 const BLOCK: usize = 65_536;
 
 /// What is printed while directories are packed.
-#[derive(Drop)]
 pub(crate) struct Output {
     /// What is still to be printed.
     pub text: Vec<u8>,
     /// How much was left out.
     pub left_out: u64,
+    /// Where it is printed.
+    pub sink: Sink,
     lines: u64,
     start: Instant,
     // The seconds after which progress is reported next, where it is reported.
@@ -24,14 +27,15 @@ pub(crate) struct Output {
 
 impl Output {
     /// Nothing is printed yet.
-    pub fn new(rt: &HostRuntime) -> io::Result<Output> {
-        Ok(Output {
+    pub fn new(rt: &HostRuntime, sink: Sink, start: Instant) -> Output {
+        Output {
             text: Vec::new(rt.alloc()),
             left_out: 0,
+            sink,
             lines: 0,
-            start: Instant::now(rt)?,
+            start,
             report: rt.stderr().is_terminal().then_some(2),
-        })
+        }
     }
 
     /// Counts a line that was added to the text, and prints what there is, where that is much. The
@@ -47,15 +51,42 @@ impl Output {
 
     /// Prints what there is.
     pub fn flush(&mut self, rt: &HostRuntime) -> io::Result<()> {
-        rt.stdout().write_all(self.text.as_slice())?;
+        self.sink.write_all(rt, self.text.as_slice())?;
         self.text.clear();
         Ok(())
+    }
+
+    /// Ends what is printed. A file takes its place where all is done and whole.
+    pub fn end(self, rt: &HostRuntime, is_done: bool, is_whole: bool) -> io::Result<()> {
+        let Output {
+            text: _,
+            left_out: _,
+            sink,
+            lines: _,
+            start: _,
+            report: _,
+        } = self;
+        if is_done && (is_whole || !sink.is_file()) {
+            return sink.keep(rt);
+        }
+        sink.discard(rt)
     }
 
     /// Reports what is left out, and why.
     pub fn leave_out(&mut self, rt: &HostRuntime, what: &str, reason: Reason) -> io::Result<()> {
         self.left_out = self.left_out.saturating_add(1);
+        let what = AsShown(what);
         eprintln!(rt; "left out: {what}: {reason}")
+    }
+
+    /// Reports how many names of a directory are left out, since they are not UTF-8.
+    pub fn leave_out_names(&mut self, rt: &HostRuntime, dir: &str, count: u64) -> io::Result<()> {
+        if count == 0 {
+            return Ok(());
+        }
+        self.left_out = self.left_out.saturating_add(count);
+        let dir = AsShown(dir);
+        eprintln!(rt; "left out in {dir}: {count} with a name that is not UTF-8")
     }
 
     // Reports how many lines there are, where it is time for that.

@@ -1,96 +1,114 @@
 //! The command `pack`: the text of a world of directories of the disk.
 
 ghost use Rattle.std.specs.Prelude.{◌≡◌};
-ghost use Rattle.p9_admin.specs.Server.{new_server};
 ghost use Rattle.p9_admin.specs.Status.{exit_status};
 
+use crate::accounts::accounts_text;
 use crate::hide::Hide;
 use crate::node::Packing;
 use crate::output::Output;
 use crate::owner::leader_of;
 use crate::reason::Reason;
-use crate::settings::{Settings, settings_in};
+use crate::settings::{Settings, settings_asked};
+use crate::sink::Sink;
+use crate::source::{Source, hides_in, sources_in};
 use crate::status::{BAD_COMMAND_LINE, DONE, LEFT_OUT};
 use crate::streams::io_result;
+use crate::told::refuse;
 use crate::tree::pack_tree;
 use clap::ArgMatches;
-use p9_base::Stop;
-use p9_pack::{
-    Accounts, GroupLine, HideLine, PlainUser, ServerName, write_group, write_hide, write_user,
-};
-use std::alloc::{AllocError, Global};
-use std::path::Path;
-use std::{fs, io};
+use p9_pack::{Accounts, GroupLine, HideLine, PlainUser, write_group, write_hide, write_user};
+use p9_shown::AsShown;
+use std::alloc::Global;
+use std::io;
+use std::time::Instant;
 
 /// Runs the command, and returns the exit status.
 pub(crate) fn run_pack(rt: &HostRuntime, options: &ArgMatches<'_>) -> io::Result<u8> {
     let dirs = options.get_strs("dirs").unwrap_or(&[]);
-    let name = options.get_str("name");
-    if name.is_some() && dirs.len() > 1 {
-        eprintln!(rt; "p9_admin: --name is for one directory")?;
+    if let (Some(name), [_, _, ..]) = (options.get_str("name"), dirs) {
+        refuse(rt, "--name", name, &"it is for one directory")?;
         return Ok(BAD_COMMAND_LINE);
     }
-    let only = match dirs {
-        [dir] => Some(server_text(name, dir)),
-        _ => None,
+    let Some(settings) = settings_asked(rt, options)? else {
+        return Ok(BAD_COMMAND_LINE);
     };
-    match settings_in(rt.alloc(), options, only) {
-        Ok(settings) => pack_with(rt, options, name, dirs, settings),
-        Err(Stop::Refused(bad)) => {
-            let (option, unfit) = (bad.naming.word(), bad.unfit);
-            eprintln!(rt; "p9_admin: {option}: {unfit}")?;
-            Ok(BAD_COMMAND_LINE)
-        }
-        Err(Stop::NoMemory) => Err(io::Error::from(AllocError)),
-    }
+    let passwd = options.get_str("passwd").unwrap_or("/etc/passwd");
+    let Some(passwd) = accounts_text(rt, "--passwd", passwd)? else {
+        return Ok(BAD_COMMAND_LINE);
+    };
+    let group = options.get_str("group").unwrap_or("/etc/group");
+    let Some(group) = accounts_text(rt, "--group", group)? else {
+        return Ok(BAD_COMMAND_LINE);
+    };
+    let accounts = io_result(Accounts::read(rt.alloc(), passwd.as_str(), group.as_str()))?;
+    pack_with(rt, options, dirs, settings, &accounts)
 }
 
 // Packs directories by these settings, and returns the exit status.
 fn pack_with(
     rt: &HostRuntime,
     options: &ArgMatches<'_>,
-    name: Option<&str>,
     dirs: &[&str],
     settings: Settings,
+    accounts: &Accounts<'_, Global>,
 ) -> io::Result<u8> {
+    let name = options.get_str("name");
+    let with_hidden = options.get_flag("with-hidden");
+    let values = options.get_strs("hide").unwrap_or(&[]);
+    let mut servers = Vec::new(rt.alloc());
+    let Some(sources) = sources_in(rt, &settings, accounts, name, dirs, &mut servers)? else {
+        return Ok(BAD_COMMAND_LINE);
+    };
+    let found = hides_in(
+        rt,
+        values,
+        with_hidden,
+        servers.as_slice(),
+        sources.as_slice(),
+    )?;
+    let Some(hides) = found else {
+        return Ok(BAD_COMMAND_LINE);
+    };
+    let start = Instant::now(rt)?;
+    let sink = Sink::open(rt, options.get_str("output"))?;
     let mut packing = Packing {
-        output: Output::new(rt)?,
+        output: Output::new(rt, sink, start),
         settings,
+        hides,
+        with_hidden,
         groups: Vec::new(rt.alloc()),
     };
-    pack_dirs(rt, &mut packing, options, name, dirs)?;
-    let left_out = packing.output.left_out;
-    Ok(exit_status(left_out, options.get_flag("skip")))
+    let done = pack_world(rt, &mut packing, accounts, sources);
+    end(rt, packing, done, options.get_flag("skip"))
 }
 
-// The exit status where so much is left out.
-fn exit_status(left_out: u64, skip: bool) -> u8
-    ensures { result ≡ exit_status left_out skip }
+// Ends what is printed, and returns the exit status. A file stays as it was, where a directory that
+// was to be hidden is not there.
+fn end(rt: &HostRuntime, packing: Packing, done: io::Result<()>, skip: bool) -> io::Result<u8> {
+    let Packing {
+        output,
+        settings: _,
+        hides,
+        with_hidden: _,
+        groups: _,
+    } = packing;
+    let is_whole = hides.iter().all(|hide| hide.is_there);
+    let left_out = output.left_out;
+    output.end(rt, done.is_ok(), is_whole)?;
+    done?;
+    Ok(exit_status(left_out, is_whole, skip))
+}
+
+// The exit status where so much is left out, and all that is to be hidden is there or not.
+fn exit_status(left_out: u64, is_whole: bool, skip: bool) -> u8
+    ensures { result ≡ exit_status left_out is_whole skip }
 {
-    if left_out == 0 || skip {
+    if is_whole && (left_out == 0 || skip) {
         DONE
     } else {
         LEFT_OUT
     }
-}
-
-// The text of the name of a directory's server.
-fn server_text<'a>(name: Option<&'a str>, dir: &'a str) -> &'a str {
-    name.or(Path::new(dir).file_name()).unwrap_or("")
-}
-
-// Packs directories, with the users and groups of the files of accounts.
-fn pack_dirs(
-    rt: &HostRuntime,
-    packing: &mut Packing,
-    options: &ArgMatches<'_>,
-    name: Option<&str>,
-    dirs: &[&str],
-) -> io::Result<()> {
-    let passwd = fs::read_to_string(rt, options.get_str("passwd").unwrap_or("/etc/passwd"))?;
-    let group = fs::read_to_string(rt, options.get_str("group").unwrap_or("/etc/group"))?;
-    let accounts = io_result(Accounts::read(rt.alloc(), passwd.as_str(), group.as_str()))?;
-    pack_world(rt, packing, &accounts, name, dirs)
 }
 
 // Packs all lines of the world.
@@ -98,51 +116,17 @@ fn pack_world(
     rt: &HostRuntime,
     packing: &mut Packing,
     accounts: &Accounts<'_, Global>,
-    name: Option<&str>,
-    dirs: &[&str],
+    sources: Vec<Source>,
 ) -> io::Result<()> {
     packing.output.text.extend_from_slice(b"%% world\n")?;
-    pack_servers(rt, packing, accounts, name, dirs)?;
+    for source in sources {
+        pack_tree(rt, packing, accounts, source)?;
+    }
     pack_groups(rt, packing, accounts)?;
     pack_users(rt, &mut packing.output, packing.settings.users.as_slice())?;
-    pack_hides(rt, &mut packing.output, packing.settings.hides.as_slice())?;
-    packing.output.flush(rt)
-}
-
-// Packs directories, each as a server.
-fn pack_servers(
-    rt: &HostRuntime,
-    packing: &mut Packing,
-    accounts: &Accounts<'_, Global>,
-    name: Option<&str>,
-    dirs: &[&str],
-) -> io::Result<()> {
-    let mut servers = Vec::new(rt.alloc());
-    for dir in dirs {
-        match new_server(server_text(name, dir), servers.as_slice()) {
-            Ok(server) => {
-                if pack_tree(rt, packing, accounts, server, dir)? {
-                    servers.push(server)?;
-                }
-            }
-            Err(reason) => packing.output.leave_out(rt, dir, reason)?,
-        }
-    }
-    Ok(())
-}
-
-// The server of a name, unless a world can't have it or one of these has it.
-fn new_server(name: &str, servers: &[ServerName]) -> Result<ServerName, Reason>
-    ensures { result ≡ new_server name.now servers.now }
-{
-    let server = match ServerName::new(name) {
-        Ok(server) => server,
-        Err(unfit) => return Err(Reason::Unfit(unfit)),
-    };
-    if servers.contains(&server) {
-        return Err(Reason::SameServer);
-    }
-    Ok(server)
+    pack_hides(rt, &mut packing.output, packing.hides.as_slice())?;
+    packing.output.flush(rt)?;
+    eprintln!(rt; "note: times are not packed")
 }
 
 // Packs the groups that occur.
@@ -213,19 +197,33 @@ fn pack_users(rt: &HostRuntime, output: &mut Output, users: &[PlainUser]) -> io:
     Ok(())
 }
 
-// Packs what is to be hidden.
+// Packs what is to be hidden. Where a directory is not there, the line says so to who reads the world:
+// it is refused.
 fn pack_hides(rt: &HostRuntime, output: &mut Output, hides: &[Hide]) -> io::Result<()> {
     for hide in hides {
-        if !hide.is_there {
-            output.leave_out(rt, hide.text.as_str(), Reason::NoDirectory)?;
-            continue;
-        }
         let line = HideLine {
             server: hide.server,
             path: hide.path.as_slice(),
         };
         let added = write_hide(rt.alloc(), &line, &mut output.text);
         output.count(rt, added)?;
+        if !hide.is_there {
+            report_missing(rt, hide)?;
+        }
     }
     Ok(())
+}
+
+// Reports a directory that is to be hidden and is not there.
+fn report_missing(rt: &HostRuntime, hide: &Hide) -> io::Result<()> {
+    let mut path = String::from_str(rt.alloc(), hide.server.as_str())?;
+    path.push(':')?;
+    for name in &hide.path {
+        path.push('/')?;
+        path.push_str(name.as_str())?;
+    }
+    let path = AsShown(path.as_str());
+    eprintln!(rt;
+        "p9_admin: --hide {path}: the directory is not packed, so no program takes this world"
+    )
 }

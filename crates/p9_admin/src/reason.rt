@@ -1,9 +1,10 @@
-//! Why something is left out.
+//! Why something is left out or refused.
 
 use p9_pack::Unfit;
+use std::io;
 use thiserror::Error;
 
-/// Why something of the disk, or what an option names, is left out of a world.
+/// Why something of the disk is left out of a world, or can't be what an option names.
 #[derive(Clone, Copy, Debug, Error)]
 pub(crate) enum Reason {
     /// A world can't have it.
@@ -21,19 +22,19 @@ pub(crate) enum Reason {
     /// The group is no group.
     #[error("no group of number {0}")]
     NoGroup(u32),
-    /// A directory has a name that is not UTF-8.
-    #[error("a name in it is not UTF-8")]
-    NotText,
-    /// It could not be read.
-    #[error("cannot be read")]
-    Unreadable,
-    /// What becomes a server is no directory.
+    /// The system refused it.
+    #[error("{0}")]
+    System(io::Error),
+    /// What is to be a server or hidden is no directory.
     #[error("not a directory")]
     NotDirectory,
     /// Another directory became a server of this name.
     #[error("a server of this name is there already")]
     SameServer,
-    /// What is to be hidden is no directory of the world.
+    /// There is no such directory.
     #[error("no such directory")]
     NoDirectory,
+    /// It is inside of another hidden directory, or has one inside.
+    #[error("another --hide is on its path; with --with-hidden both are there")]
+    Nested,
 }

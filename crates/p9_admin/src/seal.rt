@@ -1,7 +1,8 @@
 //! The command `seal`: an input with its certificate.
 
+use crate::sink::write_text;
 use crate::status::{DONE, NOT_SEALED};
-use crate::streams::{io_result, print_all, read_input};
+use crate::streams::{io_result, read_input};
 use clap::ArgMatches;
 use p9_explain::explain;
 use p9_index::IndexTree;
@@ -9,14 +10,14 @@ use p9_seal::{SealError, seal};
 use std::alloc::Global;
 use std::io::{self, Write};
 
-/// Seals the standard input: prints it with the judge's certificate in its place, or reports why
-/// not. Returns the exit status.
+/// Seals the standard input: prints it with the judge's certificate in its place, or writes it into
+/// the file of the option `--output`, or reports why not. Returns the exit status.
 pub(crate) fn run_seal(rt: &HostRuntime, options: &ArgMatches<'_>) -> io::Result<u8> {
     let input = read_input(rt)?;
     let anyway = options.get_flag("anyway");
     match seal::<IndexTree<Global>>(rt.alloc(), input.as_slice(), anyway) {
         Ok(text) => {
-            print_all(rt, text.as_bytes())?;
+            write_text(rt, options.get_str("output"), text.as_bytes())?;
             Ok(DONE)
         }
         Err(error) => {

@@ -3,11 +3,12 @@
 ghost use Rattle.std.specs.Prelude.{◌≡◌, option_map};
 ghost use Rattle.p9_admin.specs.Settings.{user_asked};
 
-use crate::hide::{Hide, hide_in};
+use crate::told::refuse;
 use clap::ArgMatches;
 use p9_base::{NoMemory, Stop};
 use p9_pack::{PlainUser, Unfit};
-use std::alloc::Global;
+use std::alloc::{AllocError, Global};
+use std::io;
 
 /// What the options ask for, beside the directories and the files of accounts.
 #[derive(Drop)]
@@ -20,8 +21,6 @@ pub(crate) struct Settings {
     pub leader: Option<PlainUser>,
     /// The listed users, each once.
     pub users: Vec<PlainUser>,
-    /// What is to be hidden, each once.
-    pub hides: Vec<Hide>,
 }
 
 /// An option whose value names something that a world can have.
@@ -31,7 +30,6 @@ pub(crate) enum Naming {
     GroupOwner,
     Leader,
     User,
-    Hide,
 }
 
 /// An option whose value a world can't have, and why.
@@ -49,28 +47,60 @@ impl Naming {
             Naming::GroupOwner => "--group-owner",
             Naming::Leader => "--leader",
             Naming::User => "--user",
-            Naming::Hide => "--hide",
         }
     }
 }
 
-/// What the options ask for. A value names a directory of this server, where it names no server.
-pub(crate) fn settings_in(
-    alloc: Global,
+/// What the options ask for. Where a world can't have it, that is reported and there is none.
+pub(crate) fn settings_asked(
+    rt: &HostRuntime,
     options: &ArgMatches<'_>,
-    server: Option<&str>,
-) -> Result<Settings, Stop<BadOption>> {
+) -> io::Result<Option<Settings>> {
+    match settings_in(rt.alloc(), options) {
+        Ok(settings) => Ok(Some(settings)),
+        Err(Stop::Refused(bad)) => {
+            refuse(
+                rt,
+                bad.naming.word(),
+                bad_word(options, bad.naming),
+                &bad.unfit,
+            )?;
+            Ok(None)
+        }
+        Err(Stop::NoMemory) => Err(io::Error::from(AllocError)),
+    }
+}
+
+// The word of an option that a world can't have.
+fn bad_word<'a>(options: &ArgMatches<'a>, naming: Naming) -> &'a str {
+    let word = match naming {
+        Naming::Owner => options.get_str("owner"),
+        Naming::GroupOwner => options.get_str("group-owner"),
+        Naming::Leader => options.get_str("leader"),
+        Naming::User => first_bad(options.get_strs("user").unwrap_or(&[])),
+    };
+    word.unwrap_or("")
+}
+
+// The first of some words that is no user.
+fn first_bad<'a>(words: &[&'a str]) -> Option<&'a str> {
+    words
+        .iter()
+        .find(|word| PlainUser::new(word).is_err())
+        .copied()
+}
+
+// What the options ask for.
+fn settings_in(alloc: Global, options: &ArgMatches<'_>) -> Result<Settings, Stop<BadOption>> {
     let owner = user_in(Naming::Owner, options.get_str("owner"))?;
     let group_owner = user_in(Naming::GroupOwner, options.get_str("group-owner"))?;
     let leader = user_in(Naming::Leader, options.get_str("leader"))?;
     let users = users_in(alloc, options.get_strs("user").unwrap_or(&[]))?;
-    let hides = hides_in(alloc, options.get_strs("hide").unwrap_or(&[]), server)?;
     Ok(Settings {
         owner,
         group_owner,
         leader,
         users,
-        hides,
     })
 }
 
@@ -109,46 +139,5 @@ pub(crate) fn add_user(user: PlainUser, users: &mut Vec<PlainUser>) -> Result<()
     if !users.contains(&user) {
         users.push(user)?;
     }
-    Ok(())
-}
-
-// What the values hide, each once.
-fn hides_in(
-    alloc: Global,
-    values: &[&str],
-    server: Option<&str>,
-) -> Result<Vec<Hide>, Stop<BadOption>> {
-    let mut hides = Vec::new(alloc);
-    for value in values {
-        add_value(alloc, value, server, &mut hides)?;
-    }
-    Ok(hides)
-}
-
-// Adds what a value hides, unless it is there.
-fn add_value(
-    alloc: Global,
-    value: &str,
-    server: Option<&str>,
-    hides: &mut Vec<Hide>,
-) -> Result<(), Stop<BadOption>> {
-    match hide_in(alloc, value, server) {
-        Ok(hide) => Ok(add_hide(hide, hides)?),
-        Err(Stop::Refused(unfit)) => {
-            let naming = Naming::Hide;
-            Err(Stop::Refused(BadOption { naming, unfit }))
-        }
-        Err(Stop::NoMemory) => Err(Stop::NoMemory),
-    }
-}
-
-// Adds what is to be hidden, unless it is there.
-fn add_hide(hide: Hide, hides: &mut Vec<Hide>) -> Result<(), NoMemory> {
-    for other in hides.as_slice() {
-        if other.server == hide.server && other.path == hide.path {
-            return Ok(());
-        }
-    }
-    hides.push(hide)?;
     Ok(())
 }

@@ -9,9 +9,6 @@ pub(crate) const LEFT_OUT: u8 = 1;
 /// The input is not sealed.
 pub(crate) const NOT_SEALED: u8 = 1;
 
-/// The input has a fault, and there is no picture of it.
-pub(crate) const NOT_DRAWN: u8 = 1;
-
 /// The words are no command line.
 pub(crate) const BAD_COMMAND_LINE: u8 = 2;
 

@@ -1,29 +1,31 @@
 //! Directories of the disk, each a server.
 
-use crate::disk::joined;
-use crate::node::{Level, Packing};
+use crate::node::{Entry, Level, Packing};
 use crate::reason::Reason;
+use crate::source::Source;
 use p9_pack::{Accounts, PlainName, ServerName};
-use std::alloc::Global;
+use std::alloc::{AllocError, Global};
 use std::io;
 
-/// Packs the directory of a path on the disk, with everything below it, as a server. It returns
-/// whether there is such a server, and the directory is not left out.
+/// Packs the directory of a source, with everything below it, as a server.
 pub(crate) fn pack_tree(
     rt: &HostRuntime,
     packing: &mut Packing,
     accounts: &Accounts<'_, Global>,
-    server: ServerName,
-    dir: &str,
-) -> io::Result<bool> {
-    let disk = String::from_str(rt.alloc(), dir)?;
-    let Some(root) = packing.node(rt, accounts, &server, &[], disk)? else {
-        return Ok(false);
+    source: Source,
+) -> io::Result<()> {
+    let Source {
+        server,
+        dir,
+        disk,
+        attributes,
+    } = source;
+    let Some(root) = packing.dir(rt, &server, &[], attributes, dir, disk)? else {
+        return Ok(());
     };
     let mut levels = Vec::new(rt.alloc());
     levels.push(root)?;
-    pack_levels(rt, packing, accounts, &server, levels)?;
-    Ok(true)
+    pack_levels(rt, packing, accounts, &server, levels)
 }
 
 // Packs what is below the last of some directories, and then below those before it.
@@ -62,7 +64,12 @@ fn pack_next(
         return Ok(());
     };
     let disk = joined(rt, level.disk.as_str(), name.as_str())?;
-    let below = pack_entry(rt, packing, accounts, server, names, name.as_str(), disk)?;
+    let entry = Entry {
+        dir: &level.dir,
+        name: name.as_str(),
+        disk: disk.as_str(),
+    };
+    let below = pack_entry(rt, packing, accounts, server, names, entry)?;
     if let Some(below) = below {
         levels.push(below)?;
     }
@@ -77,21 +84,30 @@ fn pack_entry(
     accounts: &Accounts<'_, Global>,
     server: &ServerName,
     names: &mut Vec<PlainName>,
-    name: &str,
-    disk: String,
+    entry: Entry<'_>,
 ) -> io::Result<Option<Level>> {
-    match PlainName::new(name) {
+    match PlainName::new(entry.name) {
         Ok(name) => names.push(name)?,
         Err(unfit) => {
             packing
                 .output
-                .leave_out(rt, disk.as_str(), Reason::Unfit(unfit))?;
+                .leave_out(rt, entry.disk, Reason::Unfit(unfit))?;
             return Ok(None);
         }
     }
-    let below = packing.node(rt, accounts, server, names.as_slice(), disk)?;
+    let below = packing.entry(rt, accounts, server, names.as_slice(), entry)?;
     if below.is_none() {
         let _ = names.pop();
     }
     Ok(below)
+}
+
+// The path of a name in a directory.
+fn joined(rt: &HostRuntime, dir: &str, name: &str) -> Result<String, AllocError> {
+    let mut path = String::from_str(rt.alloc(), dir)?;
+    if !dir.ends_with('/') {
+        path.push('/')?;
+    }
+    path.push_str(name)?;
+    Ok(path)
 }

@@ -28,6 +28,8 @@ enum Takes {
     Value,
     /// An option with a value, or else this one is meant.
     ValueOr(&'static str),
+    /// An option with a value, also by this letter.
+    ValueBy(char),
     /// An option with a value, which may be repeated.
     Values,
     /// A word that may be there.
@@ -44,8 +46,16 @@ const INPUT_NAME: ArgShape = ArgShape {
     takes: Takes::ValueOr("input"),
 };
 
+// The option that names the file of the output.
+const OUTPUT: ArgShape = ArgShape {
+    name: "output",
+    value: "FILE",
+    help: "The file of the output, which is replaced once all of it is written",
+    takes: Takes::ValueBy('o'),
+};
+
 // The options of `pack`, and its directories.
-const PACK: [ArgShape; 10] = [
+const PACK: [ArgShape; 12] = [
     ArgShape {
         name: "name",
         value: "NAME",
@@ -91,9 +101,16 @@ const PACK: [ArgShape; 10] = [
     ArgShape {
         name: "hide",
         value: "[SERVER:]PATH",
-        help: "A directory to be hidden",
+        help: "A directory to be hidden, whose inside is not packed",
         takes: Takes::Values,
     },
+    ArgShape {
+        name: "with-hidden",
+        value: "",
+        help: "Packs what is inside hidden directories, too",
+        takes: Takes::Nothing,
+    },
+    OUTPUT,
     ArgShape {
         name: "skip",
         value: "",
@@ -119,6 +136,7 @@ const COMMANDS: [CommandShape; 5] = [
         about: "Prints the input with its certificate, where what is hidden is out of reach",
         args: &[
             INPUT_NAME,
+            OUTPUT,
             ArgShape {
                 name: "anyway",
                 value: "",
@@ -204,6 +222,11 @@ fn arg_of<'a>(alloc: Global, shape: &ArgShape) -> Arg<'a> {
             .long(shape.name)
             .value_name(shape.value)
             .default_value(value)
+            .action(ArgAction::Set),
+        Takes::ValueBy(letter) => arg
+            .long(shape.name)
+            .short(letter)
+            .value_name(shape.value)
             .action(ArgAction::Set),
         Takes::Values => arg
             .long(shape.name)

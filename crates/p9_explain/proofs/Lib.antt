@@ -2,3 +2,4 @@ pub mod Walks
 pub mod Numbers
 pub mod Verdicts
 pub mod Refusals
+pub mod Walkers

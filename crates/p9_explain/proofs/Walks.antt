@@ -6,39 +6,41 @@ use Rattle.std.specs.Prelude.{codes}
 use Rattle.p9_base.specs.declared.node_ref.NodeRef.{NodeRef}
 use Rattle.p9_commands.specs.Path.{path_of}
 use Rattle.p9_judge.specs.declared.breach.Step.{Step}
+use Rattle.p9_shown.specs.Text.{shown_text}
 use Rattle.p9_world.specs.World.{World}
 use Rattle.p9_explain.specs.Told.{IsStepTold, IsWalkTold}
 
 module _ (world : World) where
   -- the line of a step, by its parts
-  pub step-pushed : (step : Step) (old new name path rest : List ℕ) → name ≡ step.user
-      → path ≡ path_of world step.member
+  pub step-pushed : (step : Step) (old new name path rest : List ℕ)
+      → name ≡ shown_text step.user → path ≡ shown_text (path_of world step.member)
       → new ≡ old ++ (codes "  " ++ (name ++ (codes " passes " ++ (path ++ rest))))
       → (line : List ℕ) × IsStepTold world step line × (new ≡ old ++ line)
   step-pushed step old new name path rest name_is path_is written =
       let blanks = codes "  " in
       let passes = codes " passes " in
-      let here = path_of world step.member in
-      let line = blanks ++ step.user ++ passes ++ here ++ rest in (
+      let here = shown_text (path_of world step.member) in
+      let user = shown_text step.user in
+      let line = blanks ++ user ++ passes ++ here ++ rest in (
         line,
         (rest, refl),
         written
             ∙ ap (λ n. old ++ (blanks ++ (n ++ (passes ++ (path ++ rest))))) name_is
-            ∙ ap (λ p. old ++ (blanks ++ (step.user ++ (passes ++ (p ++ rest))))) path_is
+            ∙ ap (λ p. old ++ (blanks ++ (user ++ (passes ++ (p ++ rest))))) path_is
             ∙ ap (λ l. old ++ l)
-            (sym (append_assoc blanks step.user (passes ++ (here ++ rest)))
-            ∙ sym (append_assoc (blanks ++ step.user) passes (here ++ rest))
-            ∙ sym (append_assoc (blanks ++ step.user ++ passes) here rest)),
+            (sym (append_assoc blanks user (passes ++ (here ++ rest)))
+            ∙ sym (append_assoc (blanks ++ user) passes (here ++ rest))
+            ∙ sym (append_assoc (blanks ++ user ++ passes) here rest)),
       )
 
   -- the text of a breach, by its parts
   pub breach-parts : (member : NodeRef) (text head walk path rest : List ℕ)
-      → path ≡ path_of world member
+      → path ≡ shown_text (path_of world member)
       → text ≡ head ++ (walk ++ (codes "  " ++ (path ++ rest)))
-      → text ≡ head ++ walk ++ codes "  " ++ path_of world member ++ rest
+      → text ≡ head ++ walk ++ codes "  " ++ shown_text (path_of world member) ++ rest
   breach-parts member text head walk path rest path_is written =
       let blanks = codes "  " in
-      let here = path_of world member in
+      let here = shown_text (path_of world member) in
       written
       ∙ ap (λ p. head ++ (walk ++ (blanks ++ (p ++ rest)))) path_is
       ∙ sym (append_assoc head walk (blanks ++ (here ++ rest)))

@@ -1,36 +1,41 @@
 -- What is said of an input. It says yes only where `check` may say yes, and no only where `check` may
 -- say no; no input has both.
-use Rattle.std.specs.Prelude.{◌≡◌, ◌⊎◌, ℕ, List, [], ◌++◌, Result, Ok, Err, codes}
+use Rattle.std.specs.Prelude.{◌≡◌, ◌⊎◌, ℕ, List, [], ◌++◌, Option, Some, None, Result, Ok, Err, codes}
 use Rattle.p9_base.specs.declared.stop.Stop.{Stop}
 use Rattle.p9_base.specs.declared.stop.Stop.TheVariants.{Refused, NoMemory}
 use Rattle.p9_commands.specs.declared.refusal.Refusal.{Refusal}
 use Rattle.p9_commands.specs.Judgement.{SaysNo, SaysYes}
-use Rattle.p9_commands.specs.NameSpace.{NameSpace}
-use Rattle.p9_commands.specs.Prepared.{Prepared, Rejected}
+use Rattle.p9_cert.specs.declared.gap.Gap.{Gap}
+use Rattle.p9_commands.specs.Prepared.{Prepared, Rejected, gap_in}
 use Rattle.p9_explain.specs.Told.{IsBreachTold}
 
+-- the exit status of a yes, where the input's own certificate has this gap
+abbrev pub yes_status : Option Gap → ℕ
+yes_status None = 0
+yes_status (Some gap) = 1
+
 -- yes: `check` prints some text for it that says so
-pub record IsYesTold (space : NameSpace) (status : ℕ) (text : List ℕ) : Type 0 where
-  pub status_is : status ≡ 0
+pub record IsYesTold (prepared : Prepared) (status : ℕ) (text : List ℕ) : Type 0 where
+  pub status_is : status ≡ yes_status (gap_in prepared)
   pub printed : List ℕ
-  pub said : SaysYes space [] printed 0
+  pub said : SaysYes prepared.space [] printed 0
   pub claim : List ℕ
   pub rest : List ℕ
   pub is : text ≡ claim ++ codes "yes: " ++ rest
 
 -- no: `check` prints some text for it that says so, and its breach is the one that is told
-pub record IsNoTold (space : NameSpace) (status : ℕ) (text : List ℕ) : Type 0 where
+pub record IsNoTold (prepared : Prepared) (status : ℕ) (text : List ℕ) : Type 0 where
   pub status_is : status ≡ 1
   pub printed : List ℕ
-  pub said : SaysNo space [] printed 1
+  pub said : SaysNo prepared.space [] printed 1
   pub claim : List ℕ
   pub breach : List ℕ
   pub rest : List ℕ
-  pub told : IsBreachTold space.world said.steps said.member breach
+  pub told : IsBreachTold prepared.space.world said.steps said.member breach
   pub is : text ≡ claim ++ codes "no: " ++ breach ++ rest
 
-abbrev pub IsVerdictTold : NameSpace → (status : ℕ) (text : List ℕ) → Type 0
-IsVerdictTold space status text = IsYesTold space status text ⊎ IsNoTold space status text
+abbrev pub IsVerdictTold : Prepared → (status : ℕ) (text : List ℕ) → Type 0
+IsVerdictTold prepared status text = IsYesTold prepared status text ⊎ IsNoTold prepared status text
 
 -- the input is refused
 abbrev pub IsRefusal : List ℕ → Type 0
@@ -42,9 +47,9 @@ IsRefusalTold (Refused refusal) status before after =
     (status ≡ 1) × ((text : List ℕ) × IsRefusal text × (after ≡ before ++ text))
 IsRefusalTold NoMemory status before after = ⊥
 
--- the verdict over an input's name space is appended; or that it is refused, where it has a fault
+-- the verdict over an input is appended; or that it is refused, where it has a fault
 abbrev pub IsExplained : Result Prepared Rejected → (status : ℕ) (before after : List ℕ) → Type 0
 IsExplained (Ok prepared) status before after =
-    (text : List ℕ) × IsVerdictTold prepared.space status text × (after ≡ before ++ text)
+    (text : List ℕ) × IsVerdictTold prepared status text × (after ≡ before ++ text)
 IsExplained (Err rejected) status before after =
     (status ≡ 1) × ((text : List ℕ) × IsRefusal text × (after ≡ before ++ text))

@@ -1,3 +1,4 @@
+pub mod Walker
 pub mod Told
 pub mod Explained
 pub mod NodeLines

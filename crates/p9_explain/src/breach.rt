@@ -8,16 +8,19 @@ use crate::column::{column_of, path_width, prefix_width, width};
 use crate::member::{Found, hidden_dir, push_found};
 use crate::right::{TO_USE, has};
 use crate::source::Source;
-use crate::teller::{Teller, push, push_blanks};
-use p9_base::{NoMemory, NodeRef};
+use crate::teller::{Teller, push, push_blanks, shown_path};
+use crate::walker::{steps_by, walker_of};
+use p9_base::{NoMemory, NodeRef, User};
 use p9_cert::MemberFault;
-use p9_commands::path_of;
 use p9_judge::{Breach, BreachKind, Step};
+use p9_shown::{AsShown, shown};
 use p9_space::ROOT_PLACE;
 use p9_tree::Tree;
 use p9_world::World;
 
-/// A breach in words: what is within reach, the walk to it line by line, and how to mend it.
+/// A breach in words: what is within reach, the walk to it line by line, and how to mend it. The walk
+/// is told of one listed user, where one may take all of it; else each step is told of the first
+/// listed user who may take it.
 pub(crate) fn breach_words<T: Tree>(
     alloc: T::Alloc,
     source: &Source<'_, T::Alloc>,
@@ -28,13 +31,15 @@ pub(crate) fn breach_words<T: Tree>(
         breach.now.member (string_bytes text)) }
 {
     let teller = Teller { source, world };
-    let column = column_of(alloc, world, breach)?;
+    let walker = walker_of(world, breach);
+    let steps = steps_by(alloc, walker, breach.steps.as_slice())?;
+    let column = column_of(alloc, world, steps.as_slice(), breach.member)?;
     let mut head = String::new(alloc);
-    push_head(&mut head, &teller, breach)?;
-    let walk = walk_words(alloc, source, world, breach.steps.as_slice(), column)?;
-    let path = path_of(alloc, world, breach.member)?;
+    push_head(&mut head, &teller, steps.first(), breach.member)?;
+    let walk = walk_words(alloc, source, world, steps.as_slice(), column)?;
+    let path = shown_path(alloc, world, breach.member)?;
     let mut rest = String::new(alloc);
-    push_end(&mut rest, &teller, breach, column)?;
+    push_end(&mut rest, &teller, breach, walker, column)?;
     Ok(format!(in alloc; "{head}{walk}  {path}{rest}")?)
 }
 
@@ -44,18 +49,25 @@ fn push_end<T: Tree>(
     text: &mut String<T::Alloc>,
     teller: &Teller<'_, '_, T>,
     breach: &Breach<T::Alloc>,
+    walker: Option<User>,
     column: usize,
 ) -> Result<(), NoMemory> {
     let world = teller.world;
     let left = path_width(*text.allocator(), world, breach.member)?.saturating_add(2);
     push_blanks(text, column.saturating_sub(left))?;
-    push_found(text, teller, found_of(world, breach))?;
+    push_found(text, teller, &found_of(world, breach, walker))?;
+    if walker.is_none() {
+        push(
+            text,
+            "  no listed user may take this way alone; together they may\n",
+        )?;
+    }
     writeln!(text, "mend: {}", mend(world, breach))?;
     Ok(())
 }
 
 // The member that the walk leads to, at the place after the last step.
-fn found_of<T: Tree>(world: &World<T>, breach: &Breach<T::Alloc>) -> Found {
+fn found_of<T: Tree>(world: &World<T>, breach: &Breach<T::Alloc>, walker: Option<User>) -> Found {
     let place = match breach.steps.last() {
         Some(step) => place_after(world, step),
         None => Some(ROOT_PLACE),
@@ -64,6 +76,7 @@ fn found_of<T: Tree>(world: &World<T>, breach: &Breach<T::Alloc>) -> Found {
         member: breach.member,
         place,
         fault: fault_of(breach.kind),
+        walker,
     }
 }
 
@@ -77,18 +90,19 @@ fn fault_of(kind: BreachKind) -> MemberFault {
     }
 }
 
-// Adds what is within reach, and who attaches.
+// Adds what is within reach, and who attaches: the user of the first step.
 fn push_head<T: Tree>(
     text: &mut String<T::Alloc>,
     teller: &Teller<'_, '_, T>,
-    breach: &Breach<T::Alloc>,
+    first: Option<&Step>,
+    member: NodeRef,
 ) -> Result<(), NoMemory> {
     push(text, "the inside of ")?;
-    teller.path(text, hidden_dir(teller.world, breach.member))?;
+    teller.path(text, hidden_dir(teller.world, member))?;
     push(text, " is within reach\n")?;
-    match breach.steps.first() {
+    match first {
         Some(step) => {
-            write!(text, "  {} attaches at ", step.user)?;
+            write!(text, "  {} attaches at ", AsShown(step.user.as_str()))?;
             teller.path(text, ROOT_PLACE)?;
             push(text, "\n")
         }
@@ -163,12 +177,13 @@ fn push_step<T: Tree>(
         × (string_bytes text.new ≡ string_bytes text.old ++ line)) }
 {
     let alloc = *text.allocator();
-    let path = path_of(alloc, world, step.member)?;
-    let left = prefix_width(step).saturating_add(width(path.as_str()));
+    let path = shown_path(alloc, world, step.member)?;
+    let user = shown(alloc, step.user.as_str())?;
+    let left = prefix_width(alloc, step)?.saturating_add(width(path.as_str()));
     let teller = Teller { source, world };
     let mut rest = String::new(alloc);
     push_pass(&mut rest, &teller, step, place, column.saturating_sub(left))?;
-    write!(text, "  {} passes {path}{rest}", step.user.as_str())?;
+    write!(text, "  {user} passes {path}{rest}")?;
     Ok(())
 }
 

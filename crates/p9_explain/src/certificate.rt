@@ -41,7 +41,7 @@ fn push_gap<T: Tree>(
         Gap::Row { row, kind } => push_row_gap(text, teller, rows, row, kind),
         Gap::Root { member, kind } => {
             let found = found(ROOT_PLACE, member, kind);
-            push_unsafe(text, teller, "a walk begins at ", found)
+            push_unsafe(text, teller, "a walk begins at ", &found)
         }
         Gap::Child {
             row,
@@ -50,7 +50,7 @@ fn push_gap<T: Tree>(
             kind,
         } => {
             push_row(text, teller, rows, row)?;
-            push_unsafe(text, teller, " leads to ", found(child, member, kind))
+            push_unsafe(text, teller, " leads to ", &found(child, member, kind))
         }
     }
 }
@@ -71,6 +71,7 @@ fn found(place: NodeRef, member: NodeRef, fault: MemberFault) -> Found {
         member,
         place: Some(place),
         fault,
+        walker: None,
     }
 }
 
@@ -105,7 +106,7 @@ fn push_unsafe<T: Tree>(
     text: &mut String<T::Alloc>,
     teller: &Teller<'_, '_, T>,
     leads: &'static str,
-    found: Found,
+    found: &Found,
 ) -> Result<(), NoMemory> {
     push(text, leads)?;
     teller.path(text, found.place.unwrap_or(found.member))?;

@@ -2,6 +2,7 @@
 
 use crate::teller::{Teller, push};
 use p9_base::{NoMemory, NodeRef, User};
+use p9_shown::AsShown;
 use p9_tree::Tree;
 use std::alloc::Allocator;
 
@@ -42,7 +43,7 @@ fn push_names<A: Allocator + Copy>(text: &mut String<A>, users: &[User]) -> Resu
             1 => " and ",
             _ => ", ",
         };
-        write!(text, "{user}{next}")?;
+        write!(text, "{}{next}", AsShown(user.as_str()))?;
     }
     Ok(())
 }

@@ -5,34 +5,39 @@ ghost use Rattle.std.specs.String.{string_bytes};
 ghost use Rattle.p9_commands.specs.Prepared.{prepared_of};
 ghost use Rattle.p9_commands.specs.declared.prepared.Needs.TheVariants.{Nothing};
 ghost use Rattle.p9_explain.specs.Explained.{IsExplained, IsRefusal, IsRefusalTold};
-ghost use Rattle.p9_explain.specs.Explained.{IsVerdictTold};
+ghost use Rattle.p9_explain.specs.Explained.{IsVerdictTold, yes_status};
 
 use crate::breach::breach_words;
 use crate::certificate::push_certificate;
 use crate::claim::push_claim;
 use crate::faults::push_faults;
 use crate::hints::{push_hints, push_unneeded_rows};
+use crate::leaks::other_leaks;
+use crate::member::hidden_dir;
 use crate::source::Source;
 use crate::teller::Teller;
-use p9_base::NoMemory;
-use p9_cert::Certificate;
+use p9_base::{NoMemory, NodeRef};
+use p9_cert::{Certificate, Gap};
 use p9_commands::status::{DONE, REFUSED};
-use p9_commands::{NameSpace, Needs, Prepared, Refusal, Stop, prepare};
+use p9_commands::{Needs, Prepared, Refusal, Stop, prepare};
 use p9_judge::{Verdict, judge};
 use p9_tree::Tree;
 use std::alloc::Allocator;
 
 /// Explains an input to a person who has never seen a certificate, and returns the exit status. The
 /// lines are appended to `out`; they name the input by `name`, and its lines by their numbers in it.
+/// What names of the input have that no terminal should get is escaped.
 ///
 /// First is what is claimed: which listed users neither see nor change what is inside which hidden
 /// directories. Then:
 ///
-/// - `yes`, with the number of directories that clients can reach, and what is said of the input's own
-///   certificate: that it is accepted, or its first gap in words. The status is 0.
-/// - `no`, with a walk to what is hidden, line by line, and how to mend it. The status is 1.
+/// - `yes`, with the number of directories that clients can reach. The status is 0 where the input has
+///   no certificate, or one that is accepted, and 1 where its certificate has a gap.
+/// - `no`, with a walk to what is hidden, line by line, and how to mend it; and for each further hidden
+///   directory that is within reach the same, after `also`. The status is 1.
 ///
-/// Hints follow, each with its line. Where the input has a fault there is none of this: the first is
+/// What is said of the input's own certificate follows: that it is accepted, or its first gap in words;
+/// and hints, each with its line. Where the input has a fault there is none of this: the first is
 /// reported as [`Refusal::text`](p9_commands::Refusal::text) says, and all bad lines are listed, each
 /// with what was expected there. The status is 1.
 ///
@@ -47,11 +52,7 @@ pub fn explain<T: Tree>(
     ensures no_memory { OnErr result (out.new.items ≡ out.old.items) }
 {
     match prepare::<T>(*out.allocator(), input, Needs::Nothing) {
-        Ok(prepared) => {
-            let status = explain_prepared(name, input, &prepared, out);
-            prepared.discard();
-            status
-        }
+        Ok(prepared) => explain_prepared(name, input, prepared, out),
         Err(error) => explain_refusal::<T>(name, input, error.stop, out),
     }
 }
@@ -80,68 +81,123 @@ fn explain_refusal<T: Tree>(
 fn explain_prepared<T: Tree>(
     name: &str,
     input: &[u8],
-    prepared: &Prepared<T>,
+    prepared: Prepared<T>,
     out: &mut Vec<u8, T::Alloc>,
 ) -> Result<u8, NoMemory>
-    ensures ok { IfOk result (λ status. (text : List ℕ) × IsVerdictTold prepared.now.space status text
+    ensures ok { IfOk result (λ status. (text : List ℕ) × IsVerdictTold prepared status text
         × (out.new.items ≡ out.old.items ++ text)) }
     ensures no_memory { OnErr result (out.new.items ≡ out.old.items) }
 {
-    let alloc = *out.allocator();
-    let source = Source::of(alloc, name, str::from_utf8(input).unwrap_or(""))?;
-    let mut text = String::new(alloc);
-    let told = tell(&mut text, &source, prepared);
-    drop(source);
-    let status = told?;
-    out.extend_from_slice(text.as_bytes())?;
-    Ok(status)
+    let told = told_of(*out.allocator(), name, input, prepared)?;
+    out.extend_from_slice(told.text.as_bytes())?;
+    Ok(told.status)
 }
 
-// Adds the claim of a prepared input to a text, the verdict over its name space, and what follows.
-// Returns the exit status.
+// What is said of an input: the exit status, the text, and the hidden directory that leaks, if one does.
+#[derive(Drop)]
+struct Told<A: Allocator> {
+    status: u8,
+    text: String<A>,
+    leak: Option<NodeRef>,
+}
+
+// What is said of an input that is prepared.
+fn told_of<T: Tree>(
+    alloc: T::Alloc,
+    name: &str,
+    input: &[u8],
+    prepared: Prepared<T>,
+) -> Result<Told<T::Alloc>, NoMemory>
+    ensures { IfOk result (λ told. IsVerdictTold prepared told.status (string_bytes told.text)) }
+{
+    let source = Source::of(alloc, name, str::from_utf8(input).unwrap_or(""))?;
+    let mut told = tell(alloc, &source, &prepared)?;
+    let rest = rest_of(alloc, &source, prepared, told.leak)?;
+    told.text.push_str(rest.as_str())?;
+    Ok(told)
+}
+
+// What follows the verdict, which names this leak.
+fn rest_of<T: Tree>(
+    alloc: T::Alloc,
+    source: &Source<'_, T::Alloc>,
+    prepared: Prepared<T>,
+    leak: Option<NodeRef>,
+) -> Result<String<T::Alloc>, NoMemory> {
+    let further = further_words(alloc, source, &prepared)?;
+    match leak {
+        Some(dir) => {
+            let Prepared {
+                space,
+                certificate: _,
+                events: _,
+            } = prepared;
+            let others = other_leaks(alloc, source, space, dir)?;
+            Ok(format!(in alloc; "{others}{further}")?)
+        }
+        None => {
+            prepared.discard();
+            Ok(further)
+        }
+    }
+}
+
+// The claim of a prepared input, and the verdict over its name space.
 fn tell<T: Tree>(
-    text: &mut String<T::Alloc>,
+    alloc: T::Alloc,
     source: &Source<'_, T::Alloc>,
     prepared: &Prepared<T>,
-) -> Result<u8, NoMemory>
-    ensures { IfOk result (λ status. IsVerdictTold prepared.now.space status
-        (string_bytes text.new)) }
+) -> Result<Told<T::Alloc>, NoMemory>
+    ensures { IfOk result (λ told. IsVerdictTold prepared.now told.status (string_bytes told.text)) }
 {
-    let space = &prepared.space;
-    let world = &space.world;
-    push_claim(text, &Teller { source, world })?;
-    let mut further = String::new(*text.allocator());
-    push_further(&mut further, source, prepared)?;
-    let certificate = prepared.certificate.as_ref();
-    push_verdict(text, source, space, certificate, further.as_str())
+    let world = &prepared.space.world;
+    let mut claim = String::new(alloc);
+    push_claim(&mut claim, &Teller { source, world })?;
+    verdict_told(alloc, source, prepared, claim.as_str())
 }
 
-// Adds the verdict over a name space to a claim, and then this text. Returns the exit status.
-fn push_verdict<T: Tree>(
-    text: &mut String<T::Alloc>,
+// A claim, and the verdict over a name space.
+fn verdict_told<T: Tree>(
+    alloc: T::Alloc,
     source: &Source<'_, T::Alloc>,
-    space: &NameSpace<T>,
-    certificate: Option<&Certificate<T::Alloc>>,
-    further: &str,
-) -> Result<u8, NoMemory>
-    ensures { IfOk result (λ status. IsVerdictTold space.now status (string_bytes text.new)) }
+    prepared: &Prepared<T>,
+    claim: &str,
+) -> Result<Told<T::Alloc>, NoMemory>
+    ensures { IfOk result (λ told. IsVerdictTold prepared.now told.status (string_bytes told.text)) }
 {
-    let alloc = *text.allocator();
+    let space = &prepared.space;
     match judge(alloc, &space.world, &space.table)? {
         Verdict::Yes(least) => {
-            let words = yes_words(alloc, source, certificate, &least);
+            let words = yes_words(alloc, source, prepared.certificate.as_ref(), &least);
             drop(least);
             let words = words?;
-            write!(text, "yes: {words}{further}")?;
-            Ok(DONE)
+            Ok(Told {
+                status: yes_status(prepared.gap()),
+                text: format!(in alloc; "{claim}yes: {words}")?,
+                leak: None,
+            })
         }
         Verdict::No(breach) => {
             let words = breach_words(alloc, source, &space.world, &breach);
+            let leak = hidden_dir(&space.world, breach.member);
             drop(breach);
             let words = words?;
-            write!(text, "no: {words}{further}")?;
-            Ok(REFUSED)
+            Ok(Told {
+                status: REFUSED,
+                text: format!(in alloc; "{claim}no: {words}")?,
+                leak: Some(leak),
+            })
         }
+    }
+}
+
+// The exit status of a yes, where the input's own certificate has this gap.
+fn yes_status(gap: Option<Gap>) -> u8
+    ensures { result ≡ yes_status gap }
+{
+    match gap {
+        None => DONE,
+        Some(_) => REFUSED,
     }
 }
 
@@ -167,17 +223,20 @@ fn yes_words<A: Allocator + Copy>(
     Ok(text)
 }
 
-// Adds what follows the verdict: what is said of the input's certificate, and hints.
-fn push_further<T: Tree>(
-    text: &mut String<T::Alloc>,
+// What follows the verdict: what is said of the input's certificate, and hints.
+fn further_words<T: Tree>(
+    alloc: T::Alloc,
     source: &Source<'_, T::Alloc>,
     prepared: &Prepared<T>,
-) -> Result<(), NoMemory> {
+) -> Result<String<T::Alloc>, NoMemory> {
     let space = &prepared.space;
     let world = &space.world;
     let teller = Teller { source, world };
-    push_certificate(text, &teller, prepared.certificate.as_ref(), prepared.gap())?;
-    push_hints(text, &teller, &space.table, space.reports.as_slice())
+    let mut text = String::new(alloc);
+    let certificate = prepared.certificate.as_ref();
+    push_certificate(&mut text, &teller, certificate, prepared.gap())?;
+    push_hints(&mut text, &teller, &space.table, space.reports.as_slice())?;
+    Ok(text)
 }
 
 // What is said of an input that has a fault.

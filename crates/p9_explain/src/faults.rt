@@ -1,9 +1,10 @@
 //! All bad lines of an input.
 
+use crate::draft::Draft;
 use crate::fault::{push_form_words, push_world_words};
 use crate::head::{SECTIONS, Section};
 use crate::source::Source;
-use p9_base::{NoMemory, Statement, lines, statements};
+use p9_base::{NoMemory, Statement, statements};
 use p9_commands::{Needs, Refusal, Stop, prepare};
 use p9_nsline::{BadForm, NsError, read_lines};
 use p9_tree::Tree;
@@ -13,17 +14,17 @@ use std::alloc::{AllocError, Allocator};
 // How many bad lines of a section are listed at most.
 const FAULTS_MAX: u64 = 100;
 
-// A bad line of a section: its number there, and what is wrong with it.
+/// A bad line of a section: its number there, and what is wrong with it.
 #[derive(Clone, Copy)]
-struct Fault {
-    line: u64,
-    kind: Kind,
+pub(crate) struct Fault {
+    pub line: u64,
+    pub kind: Kind,
 }
 
-// What is wrong with a line: with one of a world, of a namespace file, with the first line of a
-// certificate, with another of its lines, or with one of a script.
+/// What is wrong with a line: with one of a world, of a namespace file, with the first line of a
+/// certificate, with another of its lines, or with one of a script.
 #[derive(Clone, Copy)]
-enum Kind {
+pub(crate) enum Kind {
     World(LineFault),
     Form(BadForm),
     First,
@@ -67,18 +68,20 @@ fn push_faults_in<T: Tree>(
         return Ok(());
     };
     let alloc = *text.allocator();
-    let mut read = String::from_str(alloc, first)?;
+    let mut draft = Draft::of(alloc, first)?;
     let mut last = None;
     for _ in 0..FAULTS_MAX {
-        let Some(fault) = first_fault::<T>(alloc, section, read.as_str())? else {
+        let Some(fault) = first_fault::<T>(alloc, section, draft.text.as_str())? else {
             return Ok(());
         };
-        let again = last == Some(fault.line);
+        let line = fault.line.saturating_sub(draft.before);
+        let again = last == Some(line);
         if !again {
-            push_fault(text, source, section, fault, read.as_str())?;
+            source.push_line(text, section, line)?;
+            push_fault(text, fault, draft.text.as_str())?;
         }
-        read = mended(alloc, read.as_str(), fault, again)?;
-        last = Some(fault.line);
+        draft.mend(alloc, fault, again)?;
+        last = Some(line);
         if fault.line == 0 {
             return Ok(());
         }
@@ -87,80 +90,25 @@ fn push_faults_in<T: Tree>(
     Ok(())
 }
 
-// Adds a bad line of the text that is read of a section: where it is, and what was expected.
+// Adds what is wrong with a line of the text that is read of a section, and what was expected.
 fn push_fault<A: Allocator + Copy>(
     text: &mut String<A>,
-    source: &Source<'_, A>,
-    section: Section,
     fault: Fault,
     read: &str,
 ) -> Result<(), NoMemory> {
-    source.push_line(text, section, fault.line)?;
     let statements = statements(*text.allocator(), read)?;
-    push_kind(
-        text,
-        fault.kind,
-        words_at(statements.as_slice(), fault.line),
-    )
-}
-
-// Adds what is wrong with a line of these words, and ends the line of the text.
-fn push_kind<A: Allocator + Copy>(
-    text: &mut String<A>,
-    kind: Kind,
-    words: &[&str],
-) -> Result<(), NoMemory> {
-    match kind {
-        Kind::World(kind) => return push_world_words(text, kind, words),
+    let statements = statements.as_slice();
+    let words = words_at(statements, fault.line);
+    match fault.kind {
+        Kind::World(kind) => {
+            return push_world_words(text, kind, words, above(statements, fault.line));
+        }
         Kind::Form(kind) => return push_form_words(text, kind, words),
         Kind::First => text.push_str(": bad line: 'cert 1' is to be the first\n")?,
         Kind::Row => text.push_str(": bad line: 'dir SERVER NUMBER', rising\n")?,
         Kind::Event => {
             text.push_str(": bad line: open S, msg S NOW HEX or close S NOW\n")?;
         }
-    }
-    Ok(())
-}
-
-// The text of a section, in which another line is in the place of a bad one: an empty one, where it
-// was bad before.
-fn mended<A: Allocator + Copy>(
-    alloc: A,
-    text: &str,
-    fault: Fault,
-    again: bool,
-) -> Result<String<A>, NoMemory> {
-    if again {
-        return with_line(alloc, text, fault.line, "");
-    }
-    let statements = statements(alloc, text)?;
-    let mut instead = String::new(alloc);
-    let pushed = push_instead(
-        &mut instead,
-        fault,
-        words_at(statements.as_slice(), fault.line),
-    );
-    drop(statements);
-    pushed?;
-    with_line(alloc, text, fault.line, instead.as_str())
-}
-
-// Adds what is read in the place of a bad line of these words, so that the lines below it are read as
-// if it were good: a server of another name, a directory without rights, or a certificate's first line;
-// else nothing.
-fn push_instead<A: Allocator + Copy>(
-    text: &mut String<A>,
-    fault: Fault,
-    words: &[&str],
-) -> Result<(), NoMemory> {
-    match (fault.kind, words) {
-        (Kind::World(_), ["server", ..]) => write!(text, "server line:{}", fault.line)?,
-        (
-            Kind::World(LineFault::WordCount | LineFault::BadMode | LineFault::BadUser),
-            ["dir", path, ..],
-        ) => write!(text, "dir {path} 000 sys sys")?,
-        (Kind::First, _) => text.push_str("cert 1")?,
-        _ => {}
     }
     Ok(())
 }
@@ -221,8 +169,11 @@ fn row_kind<A: Allocator + Copy>(alloc: A, text: &str, line: u64) -> Result<Kind
     }
 }
 
-// The words of the statement of a line.
-fn words_at<'a, 'b, A: Allocator>(statements: &'b [Statement<'a, A>], line: u64) -> &'b [&'a str] {
+/// The words of the statement of a line.
+pub(crate) fn words_at<'a, 'b, A: Allocator>(
+    statements: &'b [Statement<'a, A>],
+    line: u64,
+) -> &'b [&'a str] {
     for statement in statements {
         if statement.line == line {
             return statement.words.as_slice();
@@ -231,19 +182,16 @@ fn words_at<'a, 'b, A: Allocator>(statements: &'b [Statement<'a, A>], line: u64)
     &[]
 }
 
-// A text with another line of this number.
-fn with_line<A: Allocator + Copy>(
-    alloc: A,
-    text: &str,
-    number: u64,
-    instead: &str,
-) -> Result<String<A>, NoMemory> {
-    let mut changed = String::new(alloc);
-    let mut left = number;
-    for line in lines(alloc, text)?.as_slice() {
-        changed.push_str(if left == 1 { instead } else { line })?;
-        changed.push('\n')?;
-        left = left.saturating_sub(1);
+/// The statements above a line that has a statement.
+pub(crate) fn above<'a, 'b, A: Allocator>(
+    statements: &'b [Statement<'a, A>],
+    line: u64,
+) -> &'b [Statement<'a, A>] {
+    match statements
+        .iter()
+        .position(|statement| statement.line == line)
+    {
+        Some(position) => &statements[..position],
+        None => statements,
     }
-    Ok(changed)
 }

@@ -3,10 +3,12 @@
 use crate::head::Section;
 use crate::right::passing_class;
 use crate::source::Source;
+use crate::strangers::push_strangers;
 use crate::teller::Teller;
 use p9_base::{NoMemory, NodeRef, Statement, User};
 use p9_cert::Certificate;
 use p9_nsline::OpFault;
+use p9_shown::AsShown;
 use p9_space::{MountTable, ROOT_PLACE};
 use p9_tree::Tree;
 use p9_world::World;
@@ -40,8 +42,8 @@ fn push_world_hints<T: Tree>(
     push_idle_users(text, teller, table, statements)
 }
 
-// Adds a hint on a line of a section: a name, which may be empty, and what is said of it.
-fn push_hint<A: Allocator + Copy>(
+/// Adds a hint on a line of a section: a name, which may be empty, and what is said of it.
+pub(crate) fn push_hint<A: Allocator + Copy>(
     text: &mut String<A>,
     source: &Source<'_, A>,
     (section, line): (Section, u64),
@@ -50,59 +52,8 @@ fn push_hint<A: Allocator + Copy>(
 ) -> Result<(), NoMemory> {
     text.push_str("hint: ")?;
     source.push_line(text, section, line)?;
-    writeln!(text, ": {name}{what}")?;
+    writeln!(text, ": {}{what}", AsShown(name))?;
     Ok(())
-}
-
-// Adds the owners, group leaders and members who are no listed users, each once.
-fn push_strangers<T: Tree>(
-    text: &mut String<T::Alloc>,
-    teller: &Teller<'_, '_, T>,
-    statements: &[Statement<'_, T::Alloc>],
-) -> Result<(), NoMemory> {
-    let mut told = Vec::new(*text.allocator());
-    for statement in statements {
-        push_strangers_in(text, teller, statement, &mut told)?;
-    }
-    Ok(())
-}
-
-// Adds the owner, leader and members of a line who are no listed users, but for those that were told.
-fn push_strangers_in<'a, T: Tree>(
-    text: &mut String<T::Alloc>,
-    teller: &Teller<'_, '_, T>,
-    statement: &Statement<'a, T::Alloc>,
-    told: &mut Vec<&'a str, T::Alloc>,
-) -> Result<(), NoMemory> {
-    let world = teller.world;
-    for name in names_of(statement.words.as_slice()) {
-        if told.contains(name) || is_listed(world.users.as_slice(), name) {
-            continue;
-        }
-        told.push(*name)?;
-        let at = (Section::World, statement.line);
-        push_hint(text, teller.source, at, name, " is no listed user")?;
-    }
-    Ok(())
-}
-
-// The names of users in a line: an owner, or a leader and members.
-fn names_of<'a, 'b>(words: &'b [&'a str]) -> &'b [&'a str] {
-    match words {
-        ["dir" | "file", _, _, _, ..] => &words[3..4],
-        ["group", _, names @ ..] => names,
-        _ => &[],
-    }
-}
-
-// Whether a user of this name is listed.
-fn is_listed(users: &[User], name: &str) -> bool {
-    for user in users {
-        if user.as_str() == name {
-            return true;
-        }
-    }
-    false
 }
 
 // The lines of a world with a name that begins with `#` or `%`.

@@ -5,14 +5,23 @@ use p9_base::{NoMemory, lines};
 use std::alloc::Allocator;
 
 /// A line: its number, from 1, the place of its first byte in the input, the section that it belongs
-/// to, if to one, and the way in which it is a bad section line, if it is one.
+/// to, if to one, the section that it begins, if it begins one, and the way in which it is a bad
+/// section line, if it is one.
 #[derive(Clone, Copy)]
 pub(crate) struct Line<'a> {
     pub number: u64,
     pub start: usize,
     pub text: &'a str,
     pub section: Option<Section>,
+    pub begins: Option<Section>,
     pub way: Option<Way>,
+}
+
+impl Line<'_> {
+    /// The place of the byte after the line and its newline.
+    pub fn end(&self) -> usize {
+        self.start.saturating_add(self.text.len()).saturating_add(1)
+    }
 }
 
 /// The lines of an input. A line that is meant to begin a section does so, unless that section was
@@ -34,18 +43,22 @@ pub(crate) fn layout_of<A: Allocator + Copy>(
         } else {
             None
         };
+        let mut begins = None;
         if let Head::Begins(section) | Head::Bad(Some(section), _) = head {
-            current = new_section(section, begun.as_slice());
+            begins = new_section(section, begun.as_slice());
+            current = begins;
             begun.push(section)?;
         }
-        layout.push(Line {
+        let line = Line {
             number,
             start,
             text,
             section,
+            begins,
             way,
-        })?;
-        start = start.saturating_add(text.len()).saturating_add(1);
+        };
+        start = line.end();
+        layout.push(line)?;
     }
     Ok(layout)
 }

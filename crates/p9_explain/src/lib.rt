@@ -2,20 +2,26 @@
 //! an input with faults all bad lines, each with what was expected there.
 #![tactic(auto, unfolding(p9_base::specs::Results::need))]
 
+mod above;
+mod bound;
 mod breach;
 mod certificate;
 mod claim;
 mod column;
+mod draft;
 mod explained;
 mod fault;
 mod faults;
 mod head;
 mod hints;
 mod layout;
+mod leaks;
 mod member;
 mod node_lines;
 mod right;
 mod source;
+mod strangers;
 mod teller;
+mod walker;
 
 pub use explained::explain;

@@ -2,19 +2,20 @@
 
 use crate::right::{NO_RIGHTS, TO_USE, push_right};
 use crate::teller::{Teller, push};
-use p9_base::{NoMemory, NodeRef, Rights};
+use p9_base::{NoMemory, NodeRef, Rights, User};
 use p9_cert::{MemberFault, is_hidden};
 use p9_space::{TO_EXECUTE, TO_WRITE};
 use p9_tree::Tree;
 use p9_world::World;
 
 /// A directory that a walk leads to: which one it is, at which place it is bound, if that is known,
-/// and what is wrong with it.
+/// what is wrong with it, and who walks there, if that is one user.
 #[derive(Clone, Copy)]
 pub(crate) struct Found {
     pub member: NodeRef,
     pub place: Option<NodeRef>,
     pub fault: MemberFault,
+    pub walker: Option<User>,
 }
 
 /// Adds to a text what follows the path of a directory that a walk leads to: the line that made it,
@@ -22,7 +23,7 @@ pub(crate) struct Found {
 pub(crate) fn push_found<T: Tree>(
     text: &mut String<T::Alloc>,
     teller: &Teller<'_, '_, T>,
-    found: Found,
+    found: &Found,
 ) -> Result<(), NoMemory> {
     push(text, "(")?;
     teller.made(text, found.member)?;
@@ -35,15 +36,14 @@ pub(crate) fn push_found<T: Tree>(
 fn push_fault<T: Tree>(
     text: &mut String<T::Alloc>,
     teller: &Teller<'_, '_, T>,
-    found: Found,
+    found: &Found,
 ) -> Result<(), NoMemory> {
-    let at = found.member;
     match found.fault {
-        MemberFault::Inside => teller.inside(text, at),
-        MemberFault::Removable => push_removal(text, teller, at),
-        MemberFault::Open => push_use(text, teller, "is open: ", at, TO_USE),
-        MemberFault::Owned => push_use(text, teller, "is owned: ", at, NO_RIGHTS),
-        MemberFault::Missing => push_use(text, teller, "is no row: ", at, TO_EXECUTE),
+        MemberFault::Inside => teller.inside(text, found.member),
+        MemberFault::Removable => push_removal(text, teller, found),
+        MemberFault::Open => push_use(text, teller, "is open: ", found, TO_USE),
+        MemberFault::Owned => push_use(text, teller, "is owned: ", found, NO_RIGHTS),
+        MemberFault::Missing => push_use(text, teller, "is no row: ", found, TO_EXECUTE),
     }
 }
 
@@ -52,26 +52,26 @@ fn push_use<T: Tree>(
     text: &mut String<T::Alloc>,
     teller: &Teller<'_, '_, T>,
     what: &'static str,
-    at: NodeRef,
+    found: &Found,
     wanted: Rights,
 ) -> Result<(), NoMemory> {
     push(text, what)?;
-    push_right(text, teller, at, wanted)
+    push_right(text, teller, found.member, wanted, found.walker)
 }
 
 // Who may remove or rename a node, by the directory that it is in.
 fn push_removal<T: Tree>(
     text: &mut String<T::Alloc>,
     teller: &Teller<'_, '_, T>,
-    at: NodeRef,
+    found: &Found,
 ) -> Result<(), NoMemory> {
-    let dir = dir_of(teller.world, at).unwrap_or(at);
+    let dir = dir_of(teller.world, found.member).unwrap_or(found.member);
     push(text, "is removable from ")?;
     teller.path(text, dir)?;
     push(text, " (")?;
     teller.made(text, dir)?;
     push(text, "): ")?;
-    push_right(text, teller, dir, TO_WRITE)
+    push_right(text, teller, dir, TO_WRITE, found.walker)
 }
 
 /// The hidden directory that the node is, or is inside of.
@@ -89,8 +89,8 @@ pub(crate) fn hidden_dir<T: Tree>(world: &World<T>, at: NodeRef) -> NodeRef {
     here
 }
 
-// The directory that a node is in.
-fn dir_of<T: Tree>(world: &World<T>, at: NodeRef) -> Option<NodeRef> {
+/// The directory that a node is in.
+pub(crate) fn dir_of<T: Tree>(world: &World<T>, at: NodeRef) -> Option<NodeRef> {
     let parent = world.forest.node(at)?.parent()?;
     Some(at.beside(parent))
 }

@@ -2,6 +2,7 @@
 
 use crate::teller::Teller;
 use p9_base::{NoMemory, NodeRef, Rights, User};
+use p9_shown::AsShown;
 use p9_space::{TO_EXECUTE, TO_READ, TO_WRITE, Who, may};
 use p9_tree::{Node, Tree};
 use p9_world::World;
@@ -38,6 +39,7 @@ impl Class {
         text: &mut String<A>,
         group: &User,
     ) -> Result<(), NoMemory> {
+        let group = AsShown(group.as_str());
         match self {
             Class::Other => text.push_str("others")?,
             Class::Owner => text.push_str("its owner")?,
@@ -109,22 +111,58 @@ struct Holder {
     deeds: &'static str,
 }
 
-/// Adds to a text by which right the first listed user who has one of these rights of a node uses it,
-/// in words; or else the first who rules it.
+/// Adds to a text by which right a user uses a node, in words: by one of these rights, or since he
+/// rules it. It is this user, if he has such a right; or else the first listed user who has one of
+/// these rights, or else the first who rules it.
 pub(crate) fn push_right<T: Tree>(
     text: &mut String<T::Alloc>,
     teller: &Teller<'_, '_, T>,
     at: NodeRef,
     wanted: Rights,
+    walker: Option<User>,
 ) -> Result<(), NoMemory> {
     let world = teller.world;
     let Some(node) = world.forest.node(at) else {
         return Ok(());
     };
-    match holder_of(world, node, wanted) {
+    let asked = match walker {
+        Some(user) => held_by(world, &user, node, wanted),
+        None => None,
+    };
+    let holder = match asked {
+        Some(holder) => Some(holder),
+        None => holder_of(world, node, wanted),
+    };
+    match holder {
         Some(holder) => say_holder(text, &holder, node.gid()),
         None => Ok(()),
     }
+}
+
+/// Whether a user has one of these rights of a node, or rules it.
+pub(crate) fn holds<T: Tree>(world: &World<T>, user: &User, at: NodeRef, wanted: Rights) -> bool {
+    match world.forest.node(at) {
+        Some(node) => held_by(world, user, node, wanted).is_some(),
+        None => false,
+    }
+}
+
+// The right of a user of a node: one of these, or else that he rules it.
+fn held_by<T: Tree>(
+    world: &World<T>,
+    user: &User,
+    node: &Node<T::Alloc>,
+    wanted: Rights,
+) -> Option<Holder> {
+    let (class, deeds) = match class_of(world, user, node, wanted) {
+        Some(class) => (class, deeds(world, user, node)),
+        None => (ruling_class(world, user, node)?, "change its mode"),
+    };
+    Some(Holder {
+        user: *user,
+        class,
+        deeds,
+    })
 }
 
 // Says who has a right of a node of this group. For others no user is named.
@@ -137,7 +175,7 @@ fn say_holder<A: Allocator + Copy>(
         write!(text, "others may {}", holder.deeds)?;
         return Ok(());
     }
-    write!(text, "{}, ", holder.user)?;
+    write!(text, "{}, ", AsShown(holder.user.as_str()))?;
     holder.class.push(text, group)?;
     write!(text, ", may {}", holder.deeds)?;
     Ok(())

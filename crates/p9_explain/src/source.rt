@@ -4,12 +4,13 @@ use crate::head::Section;
 use crate::layout::{Line, layout_of};
 use crate::node_lines::{NodeLine, line_of, node_lines};
 use p9_base::{NoMemory, NodeRef, Statement, statements};
+use p9_shown::AsShown;
 use std::alloc::Allocator;
 
 /// An input, by its name.
 #[derive(Drop)]
 pub(crate) struct Source<'a, A: Allocator> {
-    pub name: &'a str,
+    pub name: AsShown<'a>,
     input: &'a str,
     pub lines: Vec<Line<'a>, A>,
     nodes: Vec<NodeLine, A>,
@@ -19,7 +20,7 @@ impl<'a, A: Allocator + Copy> Source<'a, A> {
     /// The source of an input, which has this name.
     pub fn of(alloc: A, name: &'a str, input: &'a str) -> Result<Source<'a, A>, NoMemory> {
         let mut source = Source {
-            name,
+            name: AsShown(name),
             input,
             lines: layout_of(alloc, input)?,
             nodes: Vec::new(alloc),
@@ -29,19 +30,12 @@ impl<'a, A: Allocator + Copy> Source<'a, A> {
         Ok(source)
     }
 
-    /// The text of a section, whose lines follow one another, if it has a line. The line after the last
-    /// newline of the input is one, so the last line of the text may lack its newline.
+    /// The text of a section, if the section is begun. It is empty where no line follows. The line
+    /// after the last newline of the input is one, so the last line of the text may lack its newline.
     pub fn text(&self, section: Section) -> Option<&'a str> {
-        let mut found = None;
-        for line in self.lines.as_slice() {
-            if line.section == Some(section) {
-                let end = line.start.saturating_add(line.text.len()).saturating_add(1);
-                let (start, _) = found.unwrap_or((line.start, end));
-                found = Some((start, end.min(self.input.len())));
-            }
-        }
-        let (start, end) = found?;
-        self.input.get(start..end)
+        let (start, end) = place_of(self.lines.as_slice(), section)?;
+        let last = self.input.len();
+        self.input.get(start.min(last)..end.min(last))
     }
 
     /// The statements of a section.
@@ -71,12 +65,25 @@ impl<'a, A: Allocator + Copy> Source<'a, A> {
     }
 }
 
-// The number of a section's line among all lines.
+// The number of a section's line among all lines. The line 0 is the one that begins the section.
 fn number_in(lines: &[Line<'_>], section: Section, line: u64) -> u64 {
     for first in lines {
-        if first.section == Some(section) {
-            return first.number.saturating_add(line).saturating_sub(1);
+        if first.begins == Some(section) {
+            return first.number.saturating_add(line);
         }
     }
     line
+}
+
+// Where the lines of a section begin and end.
+fn place_of(lines: &[Line<'_>], section: Section) -> Option<(usize, usize)> {
+    let mut place = None;
+    for line in lines {
+        if line.begins == Some(section) {
+            place = Some((line.end(), line.end()));
+        } else if line.section == Some(section) {
+            place = place.map(|(start, _)| (start, line.end()));
+        }
+    }
+    place
 }

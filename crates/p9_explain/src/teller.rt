@@ -1,11 +1,18 @@
 //! Words about the nodes of a world.
 
+ghost use Rattle.std.specs.Prelude.{◌≡◌, IfOk};
+ghost use Rattle.std.specs.String.{string_bytes};
+ghost use Rattle.p9_commands.specs.Path.{path_of};
+ghost use Rattle.p9_shown.specs.Text.{shown_text};
+
+use crate::bound::bind_line;
 use crate::head::Section;
 use crate::member::hidden_dir;
 use crate::right::passing_class;
 use crate::source::Source;
 use p9_base::{NoMemory, NodeRef, User};
 use p9_commands::path_of;
+use p9_shown::{AsShown, shown};
 use p9_tree::{Node, Tree};
 use p9_world::World;
 use std::alloc::Allocator;
@@ -20,7 +27,7 @@ pub(crate) struct Teller<'a, 'b, T: Tree> {
 impl<T: Tree> Teller<'_, '_, T> {
     /// Adds the path of a node.
     pub fn path(&self, text: &mut String<T::Alloc>, at: NodeRef) -> Result<(), NoMemory> {
-        let path = path_of(*text.allocator(), self.world, at)?;
+        let path = shown_path(*text.allocator(), self.world, at)?;
         push(text, path.as_str())
     }
 
@@ -49,8 +56,8 @@ impl<T: Tree> Teller<'_, '_, T> {
         push(text, deed)
     }
 
-    /// Adds `, bound at PATH` for a place and a node that is bound there, if that isn't its own place,
-    /// and ends the line.
+    /// Adds `, bound at PATH (NAME:L)` for a place and a node that is bound there by this line, if that
+    /// isn't its own place, and ends the line.
     pub fn end_line(
         &self,
         text: &mut String<T::Alloc>,
@@ -61,10 +68,29 @@ impl<T: Tree> Teller<'_, '_, T> {
             Some(place) if place != at => {
                 push(text, ", bound at ")?;
                 self.path(text, place)?;
+                self.bind(text, place, at)?;
             }
             _ => {}
         }
         push(text, "\n")
+    }
+
+    // Adds ` (NAME:L)` for the line of the namespace file that binds a node at a place.
+    fn bind(
+        &self,
+        text: &mut String<T::Alloc>,
+        place: NodeRef,
+        at: NodeRef,
+    ) -> Result<(), NoMemory> {
+        let Some(ns) = self.source.text(Section::Ns) else {
+            return Ok(());
+        };
+        let Some(line) = bind_line(*text.allocator(), self.world, ns, place, at)? else {
+            return Ok(());
+        };
+        push(text, " (")?;
+        self.source.push_line(text, Section::Ns, line)?;
+        push(text, ")")
     }
 
     /// Adds `NAME:L, MODE OWNER GROUP` for a node: the line that made it, and what it says. What isn't
@@ -90,8 +116,21 @@ impl<T: Tree> Teller<'_, '_, T> {
 // Adds the mode, the owner and the group of a node.
 fn push_rights<A: Allocator + Copy>(text: &mut String<A>, node: &Node<A>) -> Result<(), NoMemory> {
     let bits = node.mode().permissions.bits();
-    write!(text, ", {bits:03o} {} {}", node.uid(), node.gid())?;
+    let (owner, group) = (AsShown(node.uid().as_str()), AsShown(node.gid().as_str()));
+    write!(text, ", {bits:03o} {owner} {group}")?;
     Ok(())
+}
+
+/// The path of a node, as it is shown.
+pub(crate) fn shown_path<T: Tree>(
+    alloc: T::Alloc,
+    world: &World<T>,
+    at: NodeRef,
+) -> Result<String<T::Alloc>, NoMemory>
+    ensures { IfOk result (λ path. string_bytes path ≡ shown_text (path_of world.now at)) }
+{
+    let path = path_of(alloc, world, at)?;
+    Ok(shown(alloc, path.as_str())?)
 }
 
 /// Adds so many blanks to a text.

@@ -2,12 +2,14 @@
 
 ghost use Rattle.std.specs.Prelude.{◌≤◌, IfOk};
 
-use crate::failure::{Failure, finish_local, report, report_text};
+use crate::failure::{Failure, report, report_about, report_text};
 use crate::watched::Watched;
 use clap::ArgMatches;
 use p9_client::{ClientError, FileError, Session};
 use std::alloc::{AllocError, Global};
-use std::net::TcpStream;
+use std::io::ErrorKind;
+use std::net::{TcpStream, ToSocketAddrs};
+use std::time::{Duration, Instant};
 use std::{env, io};
 
 /// The session of the program.
@@ -23,6 +25,11 @@ const MSIZE_MIN: usize = 256;
 
 const MSIZE_MAX: usize = 1_048_576;
 
+// The seconds that a reply has where none are given, and the most of them.
+const TIMEOUT: usize = 30;
+
+const TIMEOUT_MAX: usize = 86_400;
+
 /// Connects to the server that the words name, begins a session, and attaches its root. What takes
 /// long is reported, if that is asked for.
 pub fn connect(
@@ -32,7 +39,11 @@ pub fn connect(
 ) -> Result<Client, Failure> {
     let address = words.get_str("addr").unwrap_or("");
     let msize = msize_of(rt, words)?;
-    let stream = finish_local(rt, address, connected(rt, address, is_reported))?;
+    let timeout = timeout_of(rt, words)?;
+    let stream = match connected(rt, address, is_reported, timeout) {
+        Ok(stream) => stream,
+        Err(error) => return Err(not_connected(rt, address, &error)),
+    };
     let mut client = Session::new(rt.alloc(), stream, msize)?;
     begin(rt, &mut client, words, address)?;
     Ok(client)
@@ -50,6 +61,29 @@ fn msize_of(rt: &HostRuntime, words: &ArgMatches<'_>) -> Result<usize, Failure>
     Ok(msize)
 }
 
+// The seconds that a reply has.
+fn timeout_of(rt: &HostRuntime, words: &ArgMatches<'_>) -> Result<u64, Failure> {
+    let seconds = words.get_one::<usize>("timeout").unwrap_or(TIMEOUT);
+    if seconds == 0 || seconds > TIMEOUT_MAX {
+        return Err(report_text(
+            rt,
+            "a timeout is from 1 to 86400 seconds",
+            Failure::BadWords,
+        ));
+    }
+    Ok(seconds as u64)
+}
+
+// Reports why there is no connection to the server of an address.
+fn not_connected(rt: &HostRuntime, address: &str, error: &io::Error) -> Failure {
+    let failure = if error.kind() == ErrorKind::OutOfMemory {
+        Failure::NoMemory
+    } else {
+        Failure::Failed
+    };
+    report_about(rt, address, error, failure)
+}
+
 // Begins a session with the server of an address, and attaches its root.
 fn begin(
     rt: &HostRuntime,
@@ -64,15 +98,37 @@ fn begin(
     let aname = words.get_str("aname").unwrap_or("");
     match client.attach(ROOT, user.as_str(), aname) {
         Ok(_) => Ok(()),
-        Err(error) => Err(refused(rt, address, error)),
+        Err(error) => {
+            let what = format!(in rt.alloc(); "{address}: attach as {user}")?;
+            Err(refused(rt, what.as_str(), error))
+        }
     }
 }
 
-// Connects to the server of an address.
-fn connected(rt: &HostRuntime, address: &str, is_reported: bool) -> io::Result<Watched> {
-    let stream = TcpStream::connect(rt, address)?;
-    let _ = stream.set_nodelay(true);
-    Watched::new(*rt, stream, is_reported)
+// Connects to the server of an address: to the first of its addresses that answers. All of them together
+// have so many seconds.
+fn connected(
+    rt: &HostRuntime,
+    address: &str,
+    is_reported: bool,
+    timeout: u64,
+) -> io::Result<Watched> {
+    let start = Instant::now(rt)?;
+    let mut last = io::Error::from(ErrorKind::InvalidInput);
+    for found in address.to_socket_addrs(rt)? {
+        let left = Duration::from_secs(timeout).saturating_sub(start.elapsed(rt)?);
+        if left.is_zero() {
+            break;
+        }
+        match TcpStream::connect_timeout(rt, &found, left) {
+            Ok(stream) => {
+                let _ = stream.set_nodelay(true);
+                return Watched::new(*rt, stream, is_reported, timeout);
+            }
+            Err(error) => last = error,
+        }
+    }
+    Err(last)
 }
 
 // Reports why the server of an address has no session for the user.

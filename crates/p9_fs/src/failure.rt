@@ -1,8 +1,8 @@
 //! How a command fails, and how that is reported.
 
-use crate::names::Printable;
 use p9_base::NoMemory;
 use p9_client::{ClientError, FileError};
+use p9_shown::AsShown;
 use std::alloc::{AllocError, AllocFailed};
 use std::fmt::Display;
 use std::io;
@@ -17,7 +17,11 @@ pub enum Failure {
     BadWords,
     /// An allocation failed.
     NoMemory,
-    /// Input or output failed, or the connection, or the server sent what it must not.
+    /// A file of this system could not be read or written.
+    Local,
+    /// A limit was met.
+    Limit,
+    /// The output or the connection failed, or the server sent what it must not.
     Failed,
 }
 
@@ -25,10 +29,49 @@ impl Failure {
     /// The exit status.
     pub fn status(self) -> u8 {
         match self {
-            Failure::Refused => 1,
+            Failure::Refused | Failure::Limit => 1,
             Failure::BadWords => 2,
             Failure::NoMemory => 3,
-            Failure::Failed => 4,
+            Failure::Local | Failure::Failed => 4,
+        }
+    }
+
+    /// Whether what comes after it can still be done.
+    pub fn goes_on(self) -> bool {
+        matches!(self, Failure::Refused | Failure::BadWords | Failure::Local)
+    }
+}
+
+/// How a command ends that has several parts. After a failure that concerns one part the others are
+/// done, and the first such failure is that of the command.
+#[derive(Clone, Copy)]
+pub struct Outcome {
+    first: Option<Failure>,
+}
+
+impl Outcome {
+    /// Nothing failed so far.
+    pub fn new() -> Outcome {
+        Outcome { first: None }
+    }
+
+    /// Notes how a part ended. The error is a failure after which no other part can be done.
+    pub fn note(&mut self, done: Result<(), Failure>) -> Result<(), Failure> {
+        match done {
+            Ok(()) => Ok(()),
+            Err(failure) if failure.goes_on() => {
+                self.first = self.first.or(Some(failure));
+                Ok(())
+            }
+            Err(failure) => Err(failure),
+        }
+    }
+
+    /// How the command ends.
+    pub fn end(self) -> Result<(), Failure> {
+        match self.first {
+            Some(failure) => Err(failure),
+            None => Ok(()),
         }
     }
 }
@@ -57,6 +100,7 @@ fn failure_of(error: &FileError) -> Failure {
         FileError::Session(ClientError::Refused(_) | ClientError::TooLong) | FileError::NotWalked =>
             Failure::Refused,
         FileError::Session(ClientError::NoMemory) | FileError::NoMemory => Failure::NoMemory,
+        FileError::Output(_) => Failure::Local,
         _ => Failure::Failed,
     }
 }
@@ -71,7 +115,7 @@ pub fn report_local(rt: &HostRuntime, path: &str, error: &io::Error) -> Failure 
     let failure = if error.kind() == ErrorKind::OutOfMemory {
         Failure::NoMemory
     } else {
-        Failure::Failed
+        Failure::Local
     };
     report_about(rt, path, error, failure)
 }
@@ -85,6 +129,14 @@ pub fn finish_local<T: Drop>(
     match done {
         Ok(value) => Ok(value),
         Err(error) => Err(report_local(rt, path, &error)),
+    }
+}
+
+/// Returns what was done with the standard output, of which a failure is reported.
+pub fn finish_output(rt: &HostRuntime, done: io::Result<()>) -> Result<(), Failure> {
+    match done {
+        Ok(()) => Ok(()),
+        Err(error) => Err(report_about(rt, "standard output", &error, Failure::Failed)),
     }
 }
 
@@ -103,7 +155,7 @@ pub fn report_about(
 
 /// Reports a text, and returns a failure.
 pub fn report_text(rt: &HostRuntime, text: &str, failure: Failure) -> Failure {
-    let text = Printable(text);
+    let text = AsShown(text);
     let _ = eprintln!(rt; "p9_fs: {text}");
     failure
 }

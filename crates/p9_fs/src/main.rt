@@ -2,23 +2,29 @@
 #![tactic(auto)]
 
 mod connect;
-mod copying;
 mod failure;
+mod get;
+mod limits;
 mod names;
+mod owners;
 mod printing;
+mod put;
 mod remote;
+mod removing;
 mod shell;
+mod sink;
+mod usage;
 mod watched;
 mod words;
 
 use crate::connect::{Client, connect};
-use crate::failure::{Failure, report_mode};
+use crate::failure::{Failure, finish_output, report_mode, report_text};
 use crate::shell::{run_line, run_lines};
+use crate::usage::finish_words;
 use crate::words::{Verb, program, verb_of};
 use clap::ArgMatches;
-use clap::error::ErrorKind;
 use std::env;
-use std::io::IsTerminal;
+use std::io::{IsTerminal, Write};
 use std::process::ExitCode;
 
 fn main(rt: HostRuntime) -> ExitCode {
@@ -33,7 +39,7 @@ fn run(rt: &HostRuntime) -> Result<(), Failure> {
     let words = words_of(rt)?;
     match program(rt.alloc())?.try_get_matches_from(words.as_slice()) {
         Ok(matches) => run_matches(rt, &matches),
-        Err(error) => shown(rt, &error),
+        Err(error) => finish_words(rt, &error),
     }
 }
 
@@ -41,7 +47,7 @@ fn run(rt: &HostRuntime) -> Result<(), Failure> {
 fn words_of(rt: &HostRuntime) -> Result<Vec<String>, Failure> {
     match env::args(rt) {
         Ok(words) => Ok(words.collect(rt.alloc())?),
-        Err(_) => Err(Failure::BadWords),
+        Err(_) => Err(report_text(rt, "a word is not UTF-8", Failure::BadWords)),
     }
 }
 
@@ -51,7 +57,10 @@ fn run_matches(rt: &HostRuntime, matches: &ArgMatches<'_>) -> Result<(), Failure
         return Err(report_mode(rt));
     };
     let mut client = connect(rt, matches, is_reported(rt, verb))?;
-    run_verb(rt, &mut client, verb)
+    let done = run_verb(rt, &mut client, verb);
+    let printed = finish_output(rt, rt.stdout().flush());
+    done?;
+    printed
 }
 
 // Runs one command, or those of the standard input.
@@ -67,17 +76,5 @@ fn is_reported(rt: &HostRuntime, verb: Verb<'_>) -> bool {
     match verb {
         Verb::Cat { .. } => rt.stderr().is_terminal() && !rt.stdout().is_terminal(),
         _ => rt.stderr().is_terminal(),
-    }
-}
-
-// Prints what `clap` has to say of the words: their help, the version, or what is wrong with them.
-fn shown(rt: &HostRuntime, error: &clap::Error) -> Result<(), Failure> {
-    if error.print(rt).is_err() {
-        return Err(Failure::Failed);
-    }
-    match error.kind() {
-        ErrorKind::DisplayHelp | ErrorKind::DisplayVersion => Ok(()),
-        ErrorKind::OutOfMemory => Err(Failure::NoMemory),
-        _ => Err(Failure::BadWords),
     }
 }

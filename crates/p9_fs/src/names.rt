@@ -1,24 +1,42 @@
 //! Names and paths.
 
+ghost use Rattle.std.specs.Prelude.{◌==◌, ◌≡◌, ◌||◌, codes};
+ghost use Rattle.std.specs.List.{list_any};
+ghost use Rattle.std.specs.Str.{bytes_eq};
+ghost use Rattle.p9_fs.specs.Names.{is_inside};
+
 use p9_base::NoMemory;
 use std::alloc::{AllocError, Global};
-use std::fmt;
-use std::fmt::{Display, Formatter};
 
 /// The names of a path, between its slashes, without empty ones and `.`.
 pub fn names_of(alloc: Global, path: &str) -> Result<Vec<&str>, NoMemory> {
-    let names = path.split('/').filter(|name| is_name(name));
+    let names = path
+        .split('/')
+        .filter(|name| !name.is_empty() && *name != ".");
     Ok(names.collect(alloc)?)
 }
 
-// Whether a word between slashes is a name.
-fn is_name(word: &str) -> bool {
-    !word.is_empty() && word != "."
+/// Whether a server's name of a file may be one in a directory of the system, so that it leads nowhere
+/// else: it isn't empty, `.` or `..`, and has neither a slash nor a NUL.
+pub fn is_inside(name: &str) -> bool
+    ensures { result ≡ is_inside name.now }
+{
+    !is_dots_or_empty(name) && !has_byte(name, b'/') && !has_byte(name, 0)
 }
 
-/// Whether a server's name of a file may be one in a directory of the system: it leads nowhere else.
-pub fn is_inside(name: &str) -> bool {
-    is_name(name) && name != ".." && !name.contains(['/', '\0'])
+// Whether a name is empty, `.` or `..`.
+fn is_dots_or_empty(name: &str) -> bool
+    ensures { result ≡ (bytes_eq name.now (codes "") || bytes_eq name.now (codes ".")
+        || bytes_eq name.now (codes "..")) }
+{
+    name == "" || name == "." || name == ".."
+}
+
+// Whether a byte is in a name.
+fn has_byte(name: &str, byte: u8) -> bool
+    ensures { result ≡ list_any (λ b. b == byte) name.now }
+{
+    name.as_bytes().contains(&byte)
 }
 
 /// A name after a path.
@@ -29,17 +47,4 @@ pub fn joined(alloc: Global, path: &str, name: &str) -> Result<String, AllocErro
         "/"
     };
     format!(in alloc; "{path}{slash}{name}")
-}
-
-/// A text without control characters, which a terminal might obey: each is a question mark.
-#[derive(Clone, Copy)]
-pub struct Printable<'a>(pub &'a str);
-
-impl Display for Printable<'_> {
-    fn fmt<W: fmt::Write>(&self, f: &mut Formatter<W>) -> fmt::Result {
-        for c in self.0.chars() {
-            f.write_char(if c.is_control() { '?' } else { c })?;
-        }
-        Ok(())
-    }
 }

@@ -1,11 +1,11 @@
 //! Lines about files.
 
-use crate::failure::Failure;
-use crate::names::Printable;
+use crate::failure::{Failure, finish_output};
 use jiff::Timestamp;
 use jiff::tz::TimeZone;
 use p9_base::{DMAPPEND, DMDIR, DMEXCL};
 use p9_client::Entry;
+use p9_shown::AsShown;
 use std::alloc::{AllocError, Global};
 use std::fmt;
 use std::fmt::{Display, Formatter};
@@ -15,19 +15,19 @@ use std::fmt::{Display, Formatter};
 pub fn long_line(alloc: Global, entry: &Entry<Global>) -> Result<String, AllocError> {
     let mode = Letters(entry.mode);
     let (dev, length) = (entry.dev, entry.length);
-    let uid = Printable(entry.uid.as_str());
-    let gid = Printable(entry.gid.as_str());
-    let name = Printable(entry.name.as_str());
+    let uid = AsShown(entry.uid.as_str());
+    let gid = AsShown(entry.gid.as_str());
+    let name = AsShown(entry.name.as_str());
     let day = day_of(alloc, entry.mtime)?;
     format!(in alloc; "{mode} M {dev} {uid} {gid} {length} {day} {name}")
 }
 
 /// All that a server reports of a file, as fcall(2) of Plan 9 prints it.
 pub fn stat_line(alloc: Global, entry: &Entry<Global>) -> Result<String, AllocError> {
-    let name = Printable(entry.name.as_str());
-    let uid = Printable(entry.uid.as_str());
-    let gid = Printable(entry.gid.as_str());
-    let muid = Printable(entry.muid.as_str());
+    let name = AsShown(entry.name.as_str());
+    let uid = AsShown(entry.uid.as_str());
+    let gid = AsShown(entry.gid.as_str());
+    let muid = AsShown(entry.muid.as_str());
     let (path, version, kind) = (entry.qid.path, entry.qid.version, entry.qid.kind);
     let (mode, atime, mtime) = (entry.mode, entry.atime, entry.mtime);
     let (length, device, dev) = (entry.length, entry.kind, entry.dev);
@@ -84,10 +84,7 @@ fn day_of(alloc: Global, seconds: u32) -> Result<String, AllocError> {
     }
 }
 
-/// Prints a line, or a failure of the output.
+/// Prints a line. A failure of the output is reported.
 pub fn print(rt: &HostRuntime, line: &impl Display) -> Result<(), Failure> {
-    match println!(rt; "{line}") {
-        Ok(()) => Ok(()),
-        Err(_) => Err(Failure::Failed),
-    }
+    finish_output(rt, println!(rt; "{line}"))
 }

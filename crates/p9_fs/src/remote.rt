@@ -1,22 +1,29 @@
 //! Commands on the files of a server.
 
 use crate::connect::{Client, ROOT};
-use crate::failure::{Failure, report, report_text};
-use crate::names::{Printable, names_of};
+use crate::failure::{Failure, finish_output, report, report_about, report_text};
+use crate::names::names_of;
 use crate::printing::{long_line, print, stat_line};
-use p9_base::{DMDIR, Qid};
-use p9_client::{Entry, FileError};
+use p9_base::{DMDIR, Name, Qid};
+use p9_client::{ClientError, Entry, FileError, LISTING_MAX, Opened};
+use p9_shown::AsShown;
 use p9_wire::Stat;
 use std::alloc::{AllocError, Global};
 
 /// The fid of the file that a command is about.
 pub const FILE: u32 = 1;
 
-// Modes of open(5).
+// The mode of open(5) to read.
 const OREAD: u8 = 0;
+
+// The bit of a qid's type that a directory has.
+const QTDIR: u8 = 0x80;
 
 /// The bits of a mode that say who may do what.
 pub const PERMISSIONS: u32 = 0o777;
+
+// The permissions of a new directory.
+const NEW_DIR: u32 = 0o755;
 
 /// Makes the fid of the file of a path.
 pub fn walk_to(rt: &HostRuntime, client: &mut Client, path: &str) -> Result<(), Failure> {
@@ -49,6 +56,20 @@ pub fn walk_to_parent<'a>(
     }
 }
 
+/// Forgets the fid of the file after what was done with it, of which a failure was reported.
+pub fn clunk_after<T: Drop>(
+    rt: &HostRuntime,
+    client: &mut Client,
+    path: &str,
+    done: Result<T, Failure>,
+) -> Result<T, Failure> {
+    match (done, client.clunk(FILE)) {
+        (Ok(value), Ok(())) => Ok(value),
+        (Err(failure), _) => Err(failure),
+        (Ok(_), Err(error)) => Err(report(rt, path, &FileError::Session(error))),
+    }
+}
+
 /// Forgets the fid of the file, and returns what was done with it, of which a failure is reported.
 pub fn finish<T: Drop>(
     rt: &HostRuntime,
@@ -75,33 +96,29 @@ pub fn stat_of(
     finish(rt, client, path, done)
 }
 
-/// The mode of the file of a path.
-pub fn mode_of(rt: &HostRuntime, client: &mut Client, path: &str) -> Result<u32, Failure> {
-    Ok(stat_of(rt, client, path)?.mode)
-}
-
-/// The entries of the directory of a path.
+/// The entries of the directory of a path, which are so many bytes at most.
 pub fn entries_of(
     rt: &HostRuntime,
     client: &mut Client,
     path: &str,
+    most: u32,
 ) -> Result<Vec<Entry<Global>>, Failure> {
     walk_to(rt, client, path)?;
-    let done = listed(rt.alloc(), client);
+    let done = listed(rt.alloc(), client, most);
     finish(rt, client, path, done)
 }
 
 // Opens the directory, and lists it.
-fn listed(alloc: Global, client: &mut Client) -> Result<Vec<Entry<Global>>, FileError> {
+fn listed(alloc: Global, client: &mut Client, most: u32) -> Result<Vec<Entry<Global>>, FileError> {
     client.open(FILE, OREAD)?;
-    client.list(alloc, FILE)
+    client.list_within(alloc, FILE, most)
 }
 
 /// Prints the names of a directory's entries, or the name of a file; or their long lines.
 pub fn list(rt: &HostRuntime, client: &mut Client, path: &str, long: bool) -> Result<(), Failure> {
     let entry = stat_of(rt, client, path)?;
     if entry.is_dir() {
-        let entries = entries_of(rt, client, path)?;
+        let entries = entries_of(rt, client, path, LISTING_MAX)?;
         print_sorted(rt, entries.as_slice(), long)
     } else {
         print_entry(rt, &entry, long)
@@ -144,7 +161,7 @@ fn print_entry(rt: &HostRuntime, entry: &Entry<Global>, long: bool) -> Result<()
     if long {
         print(rt, &long_line(rt.alloc(), entry)?)
     } else {
-        print(rt, &Printable(entry.name.as_str()))
+        print(rt, &AsShown(entry.name.as_str()))
     }
 }
 
@@ -154,26 +171,116 @@ pub fn print_stat(rt: &HostRuntime, client: &mut Client, path: &str) -> Result<(
     print(rt, &stat_line(rt.alloc(), &entry)?)
 }
 
-/// Writes the bytes of a file to the standard output.
+/// Writes the bytes of a file to the standard output. A directory is refused.
 pub fn cat(rt: &HostRuntime, client: &mut Client, path: &str) -> Result<(), Failure> {
-    walk_to(rt, client, path)?;
-    let done = read_out(rt, client);
-    finish(rt, client, path, done)
+    if stat_of(rt, client, path)?.is_dir() {
+        return Err(report_about(rt, path, &"is a directory", Failure::Refused));
+    }
+    open_file(rt, client, path)?;
+    let done = read_out(rt, client, path);
+    clunk_after(rt, client, path, done)
 }
 
-// Opens the file, and writes its bytes to the standard output.
-fn read_out(rt: &HostRuntime, client: &mut Client) -> Result<(), FileError> {
-    client.open(FILE, OREAD)?;
-    client.read_to(FILE, &mut rt.stdout())?;
-    Ok(())
+/// Opens the file of a path to read it. One that is a directory now is refused.
+pub fn open_file(rt: &HostRuntime, client: &mut Client, path: &str) -> Result<(), Failure> {
+    walk_to(rt, client, path)?;
+    match client.open(FILE, OREAD) {
+        Ok(Opened { qid, .. }) if qid.kind & QTDIR == 0 => Ok(()),
+        Ok(_) => {
+            let failure = report_about(rt, path, &"is a directory now", Failure::Refused);
+            clunk_after(rt, client, path, Err(failure))
+        }
+        Err(error) => {
+            let failure = report(rt, path, &FileError::Session(error));
+            clunk_after(rt, client, path, Err(failure))
+        }
+    }
+}
+
+// Writes the bytes of the open file to the standard output.
+fn read_out(rt: &HostRuntime, client: &mut Client, path: &str) -> Result<(), Failure> {
+    match client.read_to(FILE, &mut rt.stdout()) {
+        Ok(_) => Ok(()),
+        Err(FileError::Output(error)) => finish_output(rt, Err(error)),
+        Err(error) => Err(report(rt, path, &error)),
+    }
 }
 
 /// Makes a directory.
 pub fn make_dir(rt: &HostRuntime, client: &mut Client, path: &str) -> Result<(), Failure> {
+    match try_make_dir(rt, client, path, NEW_DIR)? {
+        Ok(()) => Ok(()),
+        Err(error) => Err(report(rt, path, &FileError::Session(error))),
+    }
+}
+
+/// Makes a directory with these permissions. The inner error is that the server refuses it.
+pub fn try_make_dir(
+    rt: &HostRuntime,
+    client: &mut Client,
+    path: &str,
+    permissions: u32,
+) -> Result<Result<(), ClientError>, Failure> {
     let name = walk_to_parent(rt, client, path)?;
-    let made = client.create(FILE, name, DMDIR | 0o755, OREAD);
-    finish(rt, client, path, made.map_err(FileError::Session))?;
+    let made = client.create(FILE, name, DMDIR | permissions, OREAD);
+    let clunked = client.clunk(FILE);
+    match (made, clunked) {
+        (Err(error), _) | (Ok(_), Err(error)) => Ok(Err(error)),
+        (Ok(_), Ok(())) => Ok(Ok(())),
+    }
+}
+
+/// Makes a directory, and those above it that are not there. A directory that is there is no error.
+pub fn make_dirs(rt: &HostRuntime, client: &mut Client, path: &str) -> Result<(), Failure> {
+    let names = names_of(rt.alloc(), path)?;
+    let mut here = String::from_str(rt.alloc(), "/")?;
+    for name in names.as_slice() {
+        if here.len() > 1 {
+            here.push('/')?;
+        }
+        here.push_str(name)?;
+        make_missing(rt, client, here.as_str())?;
+    }
     Ok(())
+}
+
+// Makes a directory, unless it is there.
+fn make_missing(rt: &HostRuntime, client: &mut Client, path: &str) -> Result<(), Failure> {
+    if let Some(entry) = found(rt, client, path)? {
+        return need_dir(rt, path, &entry);
+    }
+    match try_make_dir(rt, client, path, NEW_DIR)? {
+        Ok(()) => Ok(()),
+        // Another client may have made it meanwhile.
+        Err(error) => match found(rt, client, path)? {
+            Some(entry) => need_dir(rt, path, &entry),
+            None => Err(report(rt, path, &FileError::Session(error))),
+        },
+    }
+}
+
+// Refuses what is no directory.
+fn need_dir(rt: &HostRuntime, path: &str, entry: &Entry<Global>) -> Result<(), Failure> {
+    if entry.is_dir() {
+        return Ok(());
+    }
+    Err(report_about(rt, path, &"not a directory", Failure::Refused))
+}
+
+/// What the server reports of the file of a path, or nothing where it refuses to walk there.
+pub fn found(
+    rt: &HostRuntime,
+    client: &mut Client,
+    path: &str,
+) -> Result<Option<Entry<Global>>, Failure> {
+    match walk(rt.alloc(), client, path) {
+        Ok(()) => {}
+        Err(error) if error.ends_session() => return Err(report(rt, path, &error)),
+        Err(FileError::NoMemory) => return Err(Failure::NoMemory),
+        Err(_) => return Ok(None),
+    }
+    let done = client.stat(rt.alloc(), FILE).map_err(FileError::Session);
+    Ok(Some(finish(rt, client, path, done)?))
 }
 
 /// Removes a file or an empty directory.
@@ -186,13 +293,18 @@ pub fn remove(rt: &HostRuntime, client: &mut Client, path: &str) -> Result<(), F
     }
 }
 
-/// Gives a file another name, in the same directory.
+/// Gives a file another name, in the same directory. What is no name is refused.
 pub fn rename(
     rt: &HostRuntime,
     client: &mut Client,
     path: &str,
     name: &str,
 ) -> Result<(), Failure> {
+    if Name::new(name).is_none() {
+        let what = "no name, which has 1 to 255 bytes, no slash, and is neither '.' nor '..'";
+        let text = format!(in rt.alloc(); "'{name}'")?;
+        return Err(report_about(rt, text.as_str(), &what, Failure::BadWords));
+    }
     let mut stat = untouched();
     stat.name = name;
     change(rt, client, path, stat)
@@ -205,10 +317,15 @@ pub fn change_mode(
     path: &str,
     permissions: u32,
 ) -> Result<(), Failure> {
-    let mode = mode_of(rt, client, path)?;
+    let mode = stat_of(rt, client, path)?.mode;
     let mut stat = untouched();
-    stat.mode = mode & !PERMISSIONS | permissions & PERMISSIONS;
+    stat.mode = with_permissions(mode, permissions);
     change(rt, client, path, stat)
+}
+
+/// A mode with other permissions.
+pub fn with_permissions(mode: u32, permissions: u32) -> u32 {
+    mode & !PERMISSIONS | permissions & PERMISSIONS
 }
 
 // Changes what is given of the stat of a file.
@@ -223,8 +340,8 @@ fn change(
     finish(rt, client, path, done)
 }
 
-// A stat that changes nothing, as stat(5).
-fn untouched<'a>() -> Stat<'a> {
+/// A stat that changes nothing, as stat(5).
+pub fn untouched<'a>() -> Stat<'a> {
     Stat {
         kind: u16::MAX,
         dev: u32::MAX,

@@ -1,9 +1,12 @@
 //! Commands, one by one or from lines.
 
 use crate::connect::Client;
-use crate::copying::{get, put};
-use crate::failure::{Failure, report_mode};
-use crate::remote::{cat, change_mode, list, make_dir, print_stat, remove, rename};
+use crate::failure::{Failure, Outcome, report_about, report_mode};
+use crate::get::get;
+use crate::put::put;
+use crate::remote::{cat, change_mode, list, make_dir, make_dirs, print_stat, remove, rename};
+use crate::removing::remove_tree;
+use crate::usage::finish_words;
 use crate::words::{Verb, line_program, verb_of};
 use p9_base::{NoMemory, is_skipped, words};
 use std::alloc::Global;
@@ -17,11 +20,17 @@ pub fn run_line(rt: &HostRuntime, client: &mut Client, verb: Verb<'_>) -> Result
         Verb::Get {
             path,
             local,
+            options,
+        } => get(rt, client, path, local, options),
+        Verb::Put {
+            local,
+            path,
             is_recursive,
-        } => get(rt, client, path, local, is_recursive),
-        Verb::Put { local, path } => put(rt, client, local, path),
-        Verb::MakeDir { path } => make_dir(rt, client, path),
-        Verb::Remove { path } => remove(rt, client, path),
+        } => put(rt, client, local, path, is_recursive),
+        Verb::MakeDir { path, parents } if parents => make_dirs(rt, client, path),
+        Verb::MakeDir { path, .. } => make_dir(rt, client, path),
+        Verb::Remove { path, is_recursive } if is_recursive => remove_tree(rt, client, path),
+        Verb::Remove { path, .. } => remove(rt, client, path),
         Verb::Rename { path, name } => rename(rt, client, path, name),
         Verb::ChangeMode { mode, path } => change_mode(rt, client, path, mode),
         Verb::Shell => Err(Failure::BadWords),
@@ -29,26 +38,20 @@ pub fn run_line(rt: &HostRuntime, client: &mut Client, verb: Verb<'_>) -> Result
 }
 
 /// Runs the commands of the standard input, a line each. Lines without words and those that begin
-/// with `#` are skipped. After a refusal, or words that are no command, it goes on; the first of these
-/// is what it fails with at the end.
+/// with `#` are skipped. After a refusal, a file of this system that can't be used, or words that are no
+/// command, it goes on; the first of these is what it fails with at the end.
 pub fn run_lines(rt: &HostRuntime, client: &mut Client) -> Result<(), Failure> {
-    let mut outcome = Ok(());
+    let mut outcome = Outcome::new();
     for line in rt.lines(rt.alloc()) {
         let line = match line {
             Ok(line) => line,
-            Err(_) => return Err(Failure::Failed),
-        };
-        match run_text(rt, client, line.as_str()) {
-            Ok(()) => {}
-            Err(failure @ (Failure::Refused | Failure::BadWords)) => {
-                if outcome.is_ok() {
-                    outcome = Err(failure);
-                }
+            Err(error) => {
+                return Err(report_about(rt, "standard input", &error, Failure::Failed));
             }
-            Err(failure) => return Err(failure),
-        }
+        };
+        outcome.note(run_text(rt, client, line.as_str()))?;
     }
-    outcome
+    outcome.end()
 }
 
 // Runs the command of a line.
@@ -73,10 +76,7 @@ fn after_name<'a>(alloc: Global, words: &[&'a str]) -> Result<Vec<&'a str>, NoMe
 fn run_words(rt: &HostRuntime, client: &mut Client, words: &[&str]) -> Result<(), Failure> {
     let matches = match line_program(rt.alloc())?.try_get_matches_from(words) {
         Ok(matches) => matches,
-        Err(error) => {
-            let _ = error.print(rt);
-            return Err(Failure::BadWords);
-        }
+        Err(error) => return finish_words(rt, &error),
     };
     match verb_of(&matches) {
         Some(verb) => run_line(rt, client, verb),

@@ -1,5 +1,7 @@
 //! The words of the command line, and of a line of commands.
 
+use crate::get::GetOptions;
+use crate::limits::Limits;
 use clap::{Arg, ArgAction, ArgMatches, Command, value_parser};
 use std::alloc::{AllocError, Global};
 
@@ -23,20 +25,23 @@ pub enum Verb<'a> {
     Get {
         path: &'a str,
         local: &'a str,
-        is_recursive: bool,
+        options: GetOptions<'a>,
     },
-    /// A copy to the server.
+    /// A copy to the server, of a file, or of all in a directory.
     Put {
         local: &'a str,
         path: &'a str,
+        is_recursive: bool,
     },
-    /// A new directory.
+    /// A new directory; also those above it.
     MakeDir {
         path: &'a str,
+        parents: bool,
     },
-    /// No more file.
+    /// No more file; or nothing more of all in a directory.
     Remove {
         path: &'a str,
+        is_recursive: bool,
     },
     /// Another name.
     Rename {
@@ -70,21 +75,41 @@ fn file_verb<'a>(name: &str, words: &ArgMatches<'a>, path: &'a str) -> Option<Ve
     match name {
         "cat" => Some(Verb::Cat { path }),
         "stat" => Some(Verb::Stat { path }),
-        "mkdir" => Some(Verb::MakeDir { path }),
-        "rm" => Some(Verb::Remove { path }),
+        "mkdir" => Some(Verb::MakeDir {
+            path,
+            parents: words.get_flag("parents"),
+        }),
+        "rm" => Some(Verb::Remove {
+            path,
+            is_recursive: words.get_flag("recursive"),
+        }),
         "get" => Some(Verb::Get {
             path,
             local: words.get_str("other")?,
+            options: get_options(words),
+        }),
+        "put" => Some(Verb::Put {
+            local: words.get_str("other")?,
+            path,
             is_recursive: words.get_flag("recursive"),
         }),
         _ => verb_of_two(name, path, words.get_str("other")?),
     }
 }
 
+// How files are to be copied.
+fn get_options<'a>(words: &ArgMatches<'a>) -> GetOptions<'a> {
+    GetOptions {
+        is_recursive: words.get_flag("recursive"),
+        keeps: words.get_flag("preserve"),
+        owners: words.get_str("owners"),
+        limits: Limits::of(words),
+    }
+}
+
 // What a command of this name asks for of the file of a path, with another word.
 fn verb_of_two<'a>(name: &str, path: &'a str, other: &'a str) -> Option<Verb<'a>> {
     match name {
-        "put" => Some(Verb::Put { local: other, path }),
         "mv" => Some(Verb::Rename { path, name: other }),
         "chmod" => Some(Verb::ChangeMode {
             mode: permissions_in(other)?,
@@ -102,14 +127,22 @@ fn permissions_in(text: &str) -> Option<u32> {
     }
 }
 
-// An option or a word: its name, its letter, if it is an option, what its value is, what it is for,
-// and whether it has to be there.
+// An option or a word: its name, how it is given, what its value is, what it is for, and whether it has
+// to be there.
 struct ArgShape {
     name: &'static str,
-    letter: Option<char>,
+    given: Given,
     value: Value,
     help: &'static str,
     is_needed: bool,
+}
+
+// How an option is given: by a letter, or by its name; or that it is a word.
+#[derive(Clone, Copy)]
+enum Given {
+    Letter(char),
+    Name,
+    Word,
 }
 
 // What the value of an option or a word is, with its name for the help.
@@ -121,41 +154,57 @@ enum Value {
 }
 
 // The options of the program.
-const OPTIONS: [ArgShape; 4] = [
+const OPTIONS: [ArgShape; 5] = [
     ArgShape {
         name: "addr",
-        letter: Some('a'),
+        given: Given::Letter('a'),
         value: Value::Text("ADDR"),
         help: "the server's address, HOST:PORT",
         is_needed: true,
     },
     ArgShape {
         name: "user",
-        letter: Some('u'),
+        given: Given::Letter('u'),
         value: Value::Text("USER"),
         help: "the user to attach as, or else $USER, or none",
         is_needed: false,
     },
     ArgShape {
         name: "aname",
-        letter: Some('n'),
+        given: Given::Letter('n'),
         value: Value::Text("ANAME"),
         help: "the tree to attach",
         is_needed: false,
     },
     ArgShape {
         name: "msize",
-        letter: Some('m'),
+        given: Given::Letter('m'),
         value: Value::Number("MSIZE"),
         help: "the most bytes of a message",
         is_needed: false,
     },
+    ArgShape {
+        name: "timeout",
+        given: Given::Name,
+        value: Value::Number("SECONDS"),
+        help: "how long a reply may take, or else 30 seconds",
+        is_needed: false,
+    },
 ];
+
+// The option for all that is in a directory.
+const RECURSIVE: ArgShape = ArgShape {
+    name: "recursive",
+    given: Given::Letter('r'),
+    value: Value::None,
+    help: "a directory with all that is in it",
+    is_needed: false,
+};
 
 // The path of a file of the server.
 const PATH: ArgShape = ArgShape {
     name: "path",
-    letter: None,
+    given: Given::Word,
     value: Value::Text("PATH"),
     help: "a path of the server",
     is_needed: true,
@@ -164,7 +213,7 @@ const PATH: ArgShape = ArgShape {
 // The word beside the path.
 const LOCAL: ArgShape = ArgShape {
     name: "other",
-    letter: None,
+    given: Given::Word,
     value: Value::Text("LOCAL"),
     help: "a path of this system",
     is_needed: true,
@@ -185,7 +234,7 @@ const COMMANDS: [CommandShape; 10] = [
         args: &[
             ArgShape {
                 name: "long",
-                letter: Some('l'),
+                given: Given::Letter('l'),
                 value: Value::None,
                 help: "in long lines",
                 is_needed: false,
@@ -200,11 +249,40 @@ const COMMANDS: [CommandShape; 10] = [
         name: "get",
         about: "copies a file from the server",
         args: &[
+            RECURSIVE,
             ArgShape {
-                name: "recursive",
-                letter: Some('r'),
+                name: "preserve",
+                given: Given::Letter('p'),
                 value: Value::None,
-                help: "a directory with all that is in it",
+                help: "with the server's modes and, as root, its owners",
+                is_needed: false,
+            },
+            ArgShape {
+                name: "owners",
+                given: Given::Name,
+                value: Value::Text("FILE"),
+                help: "a file for the lines of a world that has what is copied",
+                is_needed: false,
+            },
+            ArgShape {
+                name: "max-depth",
+                given: Given::Name,
+                value: Value::Number("N"),
+                help: "the most directories one in another, or else 64",
+                is_needed: false,
+            },
+            ArgShape {
+                name: "max-files",
+                given: Given::Name,
+                value: Value::Number("N"),
+                help: "the most files and directories, or else 10000000",
+                is_needed: false,
+            },
+            ArgShape {
+                name: "max-bytes",
+                given: Given::Name,
+                value: Value::Number("N"),
+                help: "the most bytes of files, or else 1099511627776",
                 is_needed: false,
             },
             PATH,
@@ -224,17 +302,26 @@ const COMMANDS: [CommandShape; 10] = [
     CommandShape {
         name: "put",
         about: "copies a file to the server",
-        args: &[LOCAL, PATH],
+        args: &[RECURSIVE, LOCAL, PATH],
     },
     CommandShape {
         name: "mkdir",
         about: "makes a directory",
-        args: &[PATH],
+        args: &[
+            ArgShape {
+                name: "parents",
+                given: Given::Letter('p'),
+                value: Value::None,
+                help: "also those above it; one that is there is no error",
+                is_needed: false,
+            },
+            PATH,
+        ],
     },
     CommandShape {
         name: "rm",
         about: "removes a file or an empty directory",
-        args: &[PATH],
+        args: &[RECURSIVE, PATH],
     },
     CommandShape {
         name: "mv",
@@ -322,9 +409,10 @@ fn arg_of<'a>(alloc: Global, shape: &ArgShape) -> Arg<'a> {
     let arg = Arg::new(alloc, shape.name)
         .help(shape.help)
         .required(shape.is_needed);
-    let arg = match shape.letter {
-        Some(letter) => arg.short(letter),
-        None => arg,
+    let arg = match shape.given {
+        Given::Letter(letter) => arg.short(letter),
+        Given::Name => arg.long(shape.name),
+        Given::Word => arg,
     };
     match shape.value {
         Value::None => arg.action(ArgAction::SetTrue),

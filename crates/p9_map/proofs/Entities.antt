@@ -39,6 +39,13 @@ escape-all out [] text utf8 none kept =
     sym (chars_from_encodes (escaped_chars (chars text)) out utf8 all)
 escape-all out (b ∷ bs) text utf8 none kept = absurd (omega arith)
 
+-- none is left
+pub escape-end : (rest out whole : List ℕ) → length rest ≡ 0
+    → out ++ encode_utf8_all (escaped_chars (chars rest)) ≡ whole → out ≡ whole
+escape-end [] out whole none kept =
+    sym (ap (λ cs. out ++ encode_utf8_all (escaped_chars cs)) chars-nil ∙ append-nil out) ∙ kept
+escape-end (b ∷ bs) out whole none kept = absurd (omega arith)
+
 -- a character is one of the four that are written as entities, or another
 pub char-cases : (P : ℕ → Type 0) → P 38 → P 60 → P 62 → P 34
     → ((c : ℕ) → (c == 38) ≡ false → (c == 60) ≡ false → (c == 62) ≡ false → (c == 34) ≡ false → P c)

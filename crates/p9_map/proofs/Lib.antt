@@ -4,4 +4,9 @@ pub mod Entities
 pub mod Follows
 pub mod Between
 pub mod Ranks
-pub mod Pictures
+pub mod Sets
+pub mod Hops
+pub mod Cut
+pub mod Labelled
+pub mod Drawn
+pub mod Pages

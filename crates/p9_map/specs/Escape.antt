@@ -1,7 +1,8 @@
 -- Text in SVG, by its characters.
 use Rattle.std.specs.Prelude.{◌≢◌, ◌&&◌, ◌||◌, ◌==◌, ℕ, zero, suc, Bool, List, [], ◌∷◌, codes, length}
-use Rattle.std.specs.Prelude.{nat_le, drop, if◌then◌else◌}
-use Rattle.std.specs.List.{starts_with}
+use Rattle.std.specs.Prelude.{encode_utf8_all, nat_le, drop, if◌then◌else◌}
+use Rattle.std.specs.List.{flat_map, starts_with}
+use Rattle.std.specs.Str.{chars}
 use Rattle.std.specs.Prelude.{nat_eq}
 
 -- a control character, or one that SVG may not have
@@ -21,6 +22,10 @@ escaped_char c =
     else if c == 62 then codes "&gt;"
     else if c == 34 then codes "&quot;"
     else shown c ∷ []
+
+-- the bytes of a text as it is written
+abbrev pub escaped_text : List ℕ → List ℕ
+escaped_text text = encode_utf8_all (flat_map escaped_char (chars text))
 
 -- no character that begins or ends what is no text: `<`, `>` and the quote
 pub record IsHarmless (c : ℕ) : Type 0 where

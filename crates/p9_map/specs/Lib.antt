@@ -2,6 +2,16 @@ pub mod Rect
 pub mod Pen
 pub mod Line
 pub mod Escape
+pub mod Svg
 pub mod Order
 pub mod Plan
+pub mod Right
+pub mod Walk
+pub mod Scene
+pub mod Mark
+pub mod Box
+pub mod Label
+pub mod Claim
+pub mod Legend
+pub mod Standing
 pub mod Picture

@@ -1,6 +1,6 @@
 //! Where the boxes lie.
 
-ghost use Rattle.std.specs.Prelude.{◌≡◌, ◌<◌, ◌≤◌, All, AllPairs, IfOk, length, map};
+ghost use Rattle.std.specs.Prelude.{◌≡◌, ◌^◌, ◌<◌, ◌≤◌, All, AllPairs, IfOk, length, map};
 ghost use Rattle.p9_map.specs.Rect.{AreApart, IsWithin};
 
 use crate::item::{Item, Placed};
@@ -22,7 +22,7 @@ pub(crate) fn place_all<A: Allocator + Copy>(
     items: &[Item],
     gutter: u64,
 ) -> Result<Boxes<A>, NoMemory>
-    requires few { length items.now ≤ 200 }
+    requires few { length items.now ≤ 2 ^ 50 }
     requires gutter { 0 < gutter }
     requires gutter_most { gutter < 1000 }
     ensures nodes { IfOk result (λ b. map (λ p. p.node) b.boxes.items

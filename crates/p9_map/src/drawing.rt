@@ -1,5 +1,11 @@
 //! What boxes and lines look like.
 
+ghost use Rattle.std.specs.Prelude.{◌≡◌, ◌++◌, OnOk};
+ghost use Rattle.std.specs.String.{string_bytes};
+ghost use Rattle.p9_map.specs.Box.{badge_text, box_text, circle_element, corners_of, lock_text};
+ghost use Rattle.p9_map.specs.Box.{look_text, note_text, number_element, place_text, rect_element};
+ghost use Rattle.p9_map.specs.Box.{rect_text, walk_class};
+
 use crate::item::{LinkKind, Placed};
 use crate::label::{CHARACTER, Label};
 use crate::line::Line;
@@ -105,42 +111,100 @@ pub(crate) fn draw_box<A: Allocator + Copy, B: Allocator>(
     rect: Rect,
     mark: Mark,
     label: &Label<B>,
-) -> Result<(), NoMemory> {
+) -> Result<(), NoMemory>
+    ensures { OnOk result (string_bytes svg.new.text ≡ string_bytes svg.old.text
+        ++ box_text rect mark (string_bytes label.now.name) (string_bytes label.now.note)) }
+{
     draw_rect(svg, rect, mark)?;
-    if mark.look == Look::Hidden {
-        draw_lock(
-            svg,
-            rect.right.saturating_sub(18),
-            rect.top.saturating_add(9),
-        )?;
-    }
-    let y = rect.top.saturating_add(15);
+    draw_look(svg, mark.look, rect)?;
     let x = rect.left.saturating_add(10);
+    let y = rect.top.saturating_add(15);
     svg.line("name", x, y, label.name.as_str())?;
-    if !label.note.is_empty() {
-        let width = CHARACTER.saturating_mul(label.name_len().saturating_add(1) as u64);
-        svg.line("note", x.saturating_add(width), y, label.note.as_str())?;
-    }
-    match mark.number {
-        Some(number) => draw_badge(svg, rect, number as u64),
-        None => Ok(()),
-    }
+    draw_note(svg, x, y, label)?;
+    draw_badge(svg, rect, mark.number)?;
+    Ok(())
 }
 
-// Draws the border of a box. That of a file has round corners.
-fn draw_rect<A: Allocator + Copy>(
+// Draws the note of a label beside its name, which begins at a point.
+fn draw_note<A: Allocator + Copy, B: Allocator>(
     svg: &mut Svg<A>,
-    rect: Rect,
-    mark: Mark,
-) -> Result<(), NoMemory> {
+    x: u64,
+    y: u64,
+    label: &Label<B>,
+) -> Result<(), NoMemory>
+    ensures { OnOk result (string_bytes svg.new.text ≡ string_bytes svg.old.text
+        ++ note_text x y (string_bytes label.now.name) (string_bytes label.now.note)) }
+{
+    if label.note.is_empty() {
+        return Ok(());
+    }
+    let width = CHARACTER.saturating_mul(label.name_len().saturating_add(1) as u64);
+    svg.line("note", x.saturating_add(width), y, label.note.as_str())
+}
+
+// Draws the border of a box.
+#[tactic(auto, unfolding(crate::specs::Box::rect_text))]
+fn draw_rect<A: Allocator + Copy>(svg: &mut Svg<A>, rect: Rect, mark: Mark) -> Result<(), NoMemory>
+    ensures { OnOk result
+        (string_bytes svg.new.text ≡ string_bytes svg.old.text ++ rect_text rect mark) }
+{
     let class = mark.look.class();
-    let walk = if mark.number.is_some() { " walk" } else { "" };
-    let corners = if mark.is_dir { "" } else { " rx=\"9\"" };
-    let (x, y) = (rect.left, rect.top);
+    let walk = walk_class(mark.number.is_some());
+    let corners = corners_of(mark.is_dir);
     let width = rect.right.saturating_sub(rect.left);
-    writeln!(
+    push_rect(svg, class, walk, rect.left, rect.top, width, corners)
+}
+
+// The class of a box on the walk.
+fn walk_class(is_walked: bool) -> &'static str
+    ensures { result.now ≡ walk_class is_walked }
+{
+    if is_walked { " walk" } else { "" }
+}
+
+// The corners of a box. Those of a file are round.
+fn corners_of(is_dir: bool) -> &'static str
+    ensures { result.now ≡ corners_of is_dir }
+{
+    if is_dir { "" } else { " rx=\"9\"" }
+}
+
+// Adds a rectangle of two classes.
+fn push_rect<A: Allocator + Copy>(
+    svg: &mut Svg<A>,
+    class: &str,
+    walk: &str,
+    x: u64,
+    y: u64,
+    width: u64,
+    corners: &str,
+) -> Result<(), NoMemory>
+    ensures { OnOk result (string_bytes svg.new.text ≡ string_bytes svg.old.text
+        ++ rect_element class.now walk.now x y width corners.now) }
+{
+    svg.push("<rect class=\"")?;
+    svg.push(class)?;
+    svg.push(walk)?;
+    svg.push("\"")?;
+    push_place(svg, x, y, width)?;
+    svg.push(corners)?;
+    svg.push("/>\n")?;
+    Ok(())
+}
+
+// Adds where a rectangle begins, and how wide and high it is.
+fn push_place<A: Allocator + Copy>(
+    svg: &mut Svg<A>,
+    x: u64,
+    y: u64,
+    width: u64,
+) -> Result<(), NoMemory>
+    ensures { OnOk result
+        (string_bytes svg.new.text ≡ string_bytes svg.old.text ++ place_text x y width) }
+{
+    write!(
         svg.text,
-        "<rect class=\"{class}{walk}\" x=\"{x}\" y=\"{y}\" width=\"{width}\" height=\"{HEIGHT}\"{corners}/>"
+        " x=\"{x}\" y=\"{y}\" width=\"{width}\" height=\"{HEIGHT}\""
     )?;
     Ok(())
 }
@@ -150,27 +214,73 @@ pub(crate) fn draw_lock<A: Allocator + Copy>(
     svg: &mut Svg<A>,
     x: u64,
     y: u64,
-) -> Result<(), NoMemory> {
-    let lock = "h10v8h-10zm2 0v-3a3 3 0 0 1 6 0v3";
-    writeln!(svg.text, "<path class=\"lock\" d=\"M{x} {y}{lock}\"/>")?;
+) -> Result<(), NoMemory>
+    ensures { OnOk result
+        (string_bytes svg.new.text ≡ string_bytes svg.old.text ++ lock_text x y) }
+{
+    writeln!(
+        svg.text,
+        "<path class=\"lock\" d=\"M{x} {y}h10v8h-10zm2 0v-3a3 3 0 0 1 6 0v3\"/>"
+    )?;
     Ok(())
 }
 
-// Draws the number of a box on the walk, at its upper left corner.
+// Draws the lock of a hidden directory.
+fn draw_look<A: Allocator + Copy>(svg: &mut Svg<A>, look: Look, rect: Rect) -> Result<(), NoMemory>
+    ensures { OnOk result
+        (string_bytes svg.new.text ≡ string_bytes svg.old.text ++ look_text look rect) }
+{
+    match look {
+        Look::Hidden => draw_lock(
+            svg,
+            rect.right.saturating_sub(18),
+            rect.top.saturating_add(9),
+        ),
+        Look::Inside | Look::Reached | Look::Plain => Ok(()),
+    }
+}
+
+// Draws the number of a box on the walk, if it has one, at its upper left corner.
 fn draw_badge<A: Allocator + Copy>(
     svg: &mut Svg<A>,
     rect: Rect,
-    number: u64,
-) -> Result<(), NoMemory> {
-    let (x, y) = (rect.left, rect.top);
-    let below = y.saturating_add(4);
+    number: Option<usize>,
+) -> Result<(), NoMemory>
+    ensures { OnOk result
+        (string_bytes svg.new.text ≡ string_bytes svg.old.text ++ badge_text rect number) }
+{
+    let Some(number) = number else {
+        return Ok(());
+    };
+    push_circle(svg, rect.left, rect.top)?;
+    push_number(svg, rect.left, rect.top.saturating_add(4), number)
+}
+
+// Adds the circle of a number.
+fn push_circle<A: Allocator + Copy>(svg: &mut Svg<A>, x: u64, y: u64) -> Result<(), NoMemory>
+    ensures { OnOk result
+        (string_bytes svg.new.text ≡ string_bytes svg.old.text ++ circle_element x y) }
+{
     writeln!(
         svg.text,
         "<circle class=\"badge\" cx=\"{x}\" cy=\"{y}\" r=\"8\"/>"
     )?;
+    Ok(())
+}
+
+// Adds the number in a circle.
+fn push_number<A: Allocator + Copy>(
+    svg: &mut Svg<A>,
+    x: u64,
+    y: u64,
+    number: usize,
+) -> Result<(), NoMemory>
+    ensures { OnOk result
+        (string_bytes svg.new.text ≡ string_bytes svg.old.text ++ number_element x y number) }
+{
     writeln!(
         svg.text,
-        "<text class=\"step\" x=\"{x}\" y=\"{below}\">{number}</text>"
+        "<text class=\"step\" x=\"{x}\" y=\"{y}\">{number}</text>"
     )?;
     Ok(())
 }

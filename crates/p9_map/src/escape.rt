@@ -3,7 +3,8 @@
 ghost use Rattle.std.specs.Prelude.{◌≡◌, ◌++◌, ◌<◌, All, IfOk, OnOk, encode_utf8, encode_utf8_all, map};
 ghost use Rattle.std.specs.Str.{chars};
 ghost use Rattle.std.specs.String.{string_bytes};
-ghost use Rattle.p9_map.specs.Escape.{IsHarmless, escaped_char, shown, unescaped};
+ghost use Rattle.p9_map.specs.Escape.{IsHarmless, escaped_char, escaped_text, shown};
+ghost use Rattle.p9_map.specs.Escape.{unescaped};
 
 use p9_base::NoMemory;
 use std::alloc::{AllocError, Allocator};
@@ -14,6 +15,7 @@ use std::alloc::{AllocError, Allocator};
 /// So it has no `<`, `>` or `"`, and who reads it as SVG sees the text, with these replaced. The only
 /// error is that an allocation fails.
 pub fn escaped<A: Allocator + Copy>(alloc: A, text: &str) -> Result<String<A>, NoMemory>
+    ensures written { IfOk result (λ out. string_bytes out ≡ escaped_text text.now) }
     ensures harmless { IfOk result (λ out. All IsHarmless (chars (string_bytes out))) }
     ensures read { IfOk result (λ out. unescaped (chars (string_bytes out))
         ≡ map shown (chars text.now)) }

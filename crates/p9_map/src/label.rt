@@ -1,11 +1,23 @@
 //! What a box says.
 
+ghost use Rattle.std.specs.Prelude.{◌≡◌, IfOk, encode_utf8_all, find, length, map, take};
+ghost use Rattle.std.specs.Option.{option_copied};
+ghost use Rattle.std.specs.Str.{chars};
+ghost use Rattle.std.specs.String.{string_bytes};
+ghost use Rattle.p9_base.specs.NodeRef.{same_node};
+ghost use Rattle.p9_shown.specs.Text.{shown_text};
+ghost use Rattle.p9_map.specs.Label.{AreLabels, IsLabel, cut_text, fault_note, label_texts};
+ghost use Rattle.p9_map.specs.Label.{left_out_text, name_max, name_text, note_text, right_note};
+ghost use Rattle.p9_map.specs.Label.{walk_note, words_of};
+ghost use Rattle.p9_map.specs.Walk.{walk_in, walk_of};
+
 use crate::order::Spot;
 use crate::right::right_of;
 use crate::scene::Scene;
 use p9_base::{NoMemory, NodeRef};
 use p9_commands::server_name;
 use p9_judge::{Breach, BreachKind, Step};
+use p9_shown::shown;
 use p9_space::Who;
 use p9_tree::{Forest, Tree};
 use p9_world::World;
@@ -28,7 +40,9 @@ pub(crate) struct Label<A: Allocator> {
 
 impl<A: Allocator> Label<A> {
     /// How many characters the name has.
-    pub fn name_len(&self) -> usize {
+    pub fn name_len(&self) -> usize
+        ensures { result ≡ length (chars (string_bytes self.now.name)) }
+    {
         self.name.chars().count()
     }
 
@@ -44,7 +58,11 @@ pub(crate) fn labels<T: Tree>(
     alloc: T::Alloc,
     scene: &Scene<'_, T>,
     spots: &[Spot],
-) -> Result<Vec<Label<T::Alloc>, T::Alloc>, NoMemory> {
+) -> Result<Vec<Label<T::Alloc>, T::Alloc>, NoMemory>
+    ensures { IfOk result (λ labels. AreLabels scene.now.world.now
+        (walk_in (option_copied scene.now.breach)) (map (λ s. s.node) spots.now)
+        (map label_texts labels.items)) }
+{
     let mut labels = Vec::new(alloc);
     for spot in spots {
         labels.push(label_of(alloc, scene, spots, spot.node)?)?;
@@ -58,16 +76,17 @@ fn label_of<T: Tree>(
     scene: &Scene<'_, T>,
     spots: &[Spot],
     at: NodeRef,
-) -> Result<Label<T::Alloc>, NoMemory> {
+) -> Result<Label<T::Alloc>, NoMemory>
+    ensures { IfOk result (λ label. IsLabel scene.now.world.now
+        (walk_in (option_copied scene.now.breach)) at (label_texts label)) }
+{
+    let mut name = name_of(alloc, scene.world, at)?;
     let world = scene.world;
-    let name = name_of(alloc, world, at)?;
     let left_out = LeftOut::of(&world.forest, spots, at).words(alloc)?;
-    let note = match scene.breach {
-        Some(breach) => note_of(alloc, world, breach, at)?,
-        None => String::new(alloc),
-    };
+    name.push_str(left_out.as_str())?;
+    let note = note_of(alloc, scene.world, scene.breach, at)?;
     Ok(Label {
-        name: format!(in alloc; "{name}{left_out}")?,
+        name,
         note: cut(alloc, note.as_str(), NOTE_MAX)?,
     })
 }
@@ -77,19 +96,30 @@ fn name_of<T: Tree>(
     alloc: T::Alloc,
     world: &World<T>,
     at: NodeRef,
-) -> Result<String<T::Alloc>, NoMemory> {
+) -> Result<String<T::Alloc>, NoMemory>
+    ensures { IfOk result (λ name. string_bytes name ≡ name_text world.now at) }
+{
     let Some(node) = world.forest.node(at) else {
         return Ok(String::new(alloc));
     };
     if at.number == 0 {
-        let server = cut(alloc, server_name(world, at.server), NAME_MAX)?;
-        return Ok(format!(in alloc; "{server}:/")?);
+        let mut root = shown_name(alloc, server_name(world, at.server))?;
+        root.push_str(":/")?;
+        return Ok(root);
     }
-    let mut name = cut(alloc, node.name(), NAME_MAX)?;
+    let mut name = shown_name(alloc, node.name())?;
     if node.is_dir() {
         name.push('/')?;
     }
     Ok(name)
+}
+
+// A name as it is shown, but no longer than it may be.
+fn shown_name<A: Allocator + Copy>(alloc: A, name: &str) -> Result<String<A>, NoMemory>
+    ensures { IfOk result (λ text. string_bytes text ≡ cut_text name_max (shown_text name.now)) }
+{
+    let name = shown(alloc, name)?;
+    cut(alloc, name.as_str(), NAME_MAX)
 }
 
 /// The first characters of a text, and `…` for the rest where it has more than `most`.
@@ -97,15 +127,31 @@ pub(crate) fn cut<A: Allocator + Copy>(
     alloc: A,
     text: &str,
     most: usize,
-) -> Result<String<A>, NoMemory> {
+) -> Result<String<A>, NoMemory>
+    ensures { IfOk result (λ out. string_bytes out ≡ cut_text most text.now) }
+{
     if text.chars().count() <= most {
         return Ok(String::from_str(alloc, text)?);
     }
-    let mut front = String::new(alloc);
-    for c in text.chars().take(most.saturating_sub(1)) {
-        front.push(c)?;
-    }
+    let mut front = front_of(alloc, text, most.saturating_sub(1))?;
     front.push('…')?;
+    Ok(front)
+}
+
+// The first so many characters of a text.
+fn front_of<A: Allocator + Copy>(alloc: A, text: &str, most: usize) -> Result<String<A>, NoMemory>
+    ensures { IfOk result (λ front. string_bytes front
+        ≡ encode_utf8_all (take most (chars text.now))) }
+{
+    let mut front = String::new(alloc);
+    let mut left = most;
+    for c in text.chars() {
+        if left == 0 {
+            return Ok(front);
+        }
+        front.push(c)?;
+        left -= 1;
+    }
     Ok(front)
 }
 
@@ -137,7 +183,10 @@ impl LeftOut {
     }
 
     // As it is said behind the directory's name.
-    fn words<A: Allocator + Copy>(self, alloc: A) -> Result<String<A>, NoMemory> {
+    fn words<A: Allocator + Copy>(self, alloc: A) -> Result<String<A>, NoMemory>
+        ensures { IfOk result (λ text.
+            string_bytes text ≡ left_out_text self.count self.has_dirs) }
+    {
         let LeftOut { count, has_dirs } = self;
         Ok(if count == 0 {
             String::new(alloc)
@@ -156,23 +205,45 @@ fn has_box(spots: &[Spot], node: NodeRef) -> bool {
     spots.iter().any(|spot| spot.node == node)
 }
 
-// What is said of a node on the walk of a breach: who passes it, and by which right; or what is wrong
-// with it.
+// What is said of a node on the walk of a breach, if there is one: who passes it, and by which right; or
+// what is wrong with it.
 fn note_of<T: Tree>(
+    alloc: T::Alloc,
+    world: &World<T>,
+    breach: Option<&Breach<T::Alloc>>,
+    at: NodeRef,
+) -> Result<String<T::Alloc>, NoMemory>
+    ensures { IfOk result (λ note.
+        string_bytes note ≡ note_text world.now (walk_in (option_copied breach.entry)) at) }
+{
+    match breach {
+        Some(breach) => walk_note(alloc, world, breach, at),
+        None => Ok(String::new(alloc)),
+    }
+}
+
+// What is said of a node on the walk of this breach.
+fn walk_note<T: Tree>(
     alloc: T::Alloc,
     world: &World<T>,
     breach: &Breach<T::Alloc>,
     at: NodeRef,
-) -> Result<String<T::Alloc>, NoMemory> {
-    for step in breach.steps.as_slice() {
-        if step.member == at {
-            return right_note(alloc, world, step);
-        }
+) -> Result<String<T::Alloc>, NoMemory>
+    ensures { IfOk result (λ note.
+        string_bytes note ≡ walk_note world.now (walk_of breach.now) at) }
+{
+    match step_at(breach.steps.as_slice(), at) {
+        Some(step) => right_note(alloc, world, step),
+        None if breach.member == at => Ok(String::from_str(alloc, fault_note(breach.kind))?),
+        None => Ok(String::new(alloc)),
     }
-    if breach.member == at {
-        return Ok(String::from_str(alloc, fault_note(breach.kind))?);
-    }
-    Ok(String::new(alloc))
+}
+
+// The first step that passes a node.
+fn step_at(steps: &[Step], at: NodeRef) -> Option<&Step>
+    ensures { option_copied result ≡ find (λ s. same_node s.member at) steps.now }
+{
+    steps.iter().find(|step| step.member == at)
 }
 
 // Who makes a step, and by which right.
@@ -180,21 +251,36 @@ fn right_note<T: Tree>(
     alloc: T::Alloc,
     world: &World<T>,
     step: &Step,
-) -> Result<String<T::Alloc>, NoMemory> {
+) -> Result<String<T::Alloc>, NoMemory>
+    ensures { IfOk result (λ note. string_bytes note ≡ right_note world.now step.now) }
+{
+    let mut note = shown(alloc, step.user.as_str())?;
+    note.push_str(": ")?;
+    note.push_str(words_of(world, step))?;
+    Ok(note)
+}
+
+// By which right a step is made.
+fn words_of<T: Tree>(world: &World<T>, step: &Step) -> &'static str
+    ensures { result.now ≡ words_of world.now step.now }
+{
     let who = Who {
         user: &step.user,
         groups: &world.groups,
     };
-    let words = match world.forest.node(step.member) {
-        Some(dir) => right_of(who, dir).map_or("", |right| right.words()),
-        None => "",
+    let Some(dir) = world.forest.node(step.member) else {
+        return "";
     };
-    let user = &step.user;
-    Ok(format!(in alloc; "{user}: {words}")?)
+    match right_of(who, dir) {
+        Some(right) => right.words(),
+        None => "",
+    }
 }
 
 // What is wrong with the member that a breach leads to.
-fn fault_note(kind: BreachKind) -> &'static str {
+fn fault_note(kind: BreachKind) -> &'static str
+    ensures { result.now ≡ fault_note kind }
+{
     match kind {
         BreachKind::Inside => "inside a hidden directory",
         BreachKind::Open => "a listed user may use it",

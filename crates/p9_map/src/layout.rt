@@ -10,6 +10,9 @@ use crate::line::{LANE, LANE_FIRST, LANES, Line, lines_of};
 use p9_base::NoMemory;
 use std::alloc::Allocator;
 
+/// The most items that are laid out. No list of so many fits into memory.
+pub const ITEMS_MAX: usize = 1 << 50;
+
 /// The boxes and the lines of a picture, and how wide and high it is.
 #[derive(Drop)]
 pub struct Layout<A: Allocator> {
@@ -31,7 +34,7 @@ pub fn lay_out<A: Allocator + Copy>(
     links: &[Link],
     rows: usize,
 ) -> Result<Layout<A>, NoMemory>
-    requires few { length items.now ≤ 200 }
+    requires few { length items.now ≤ ITEMS_MAX }
     requires links { All (IsBetween items.now) links.now }
     ensures nodes { IfOk result (λ l. map (λ b. b.node) l.boxes.items
         ≡ map (λ i. i.node) items.now) }

@@ -1,5 +1,9 @@
 //! The head of a picture, and what explains its signs.
 
+ghost use Rattle.std.specs.Prelude.{◌≡◌, ◌++◌, IfOk, OnOk};
+ghost use Rattle.std.specs.String.{string_bytes};
+ghost use Rattle.p9_map.specs.Legend.{left_out_line, left_out_words};
+
 use crate::drawing::draw_lock;
 use crate::svg::Svg;
 use p9_base::NoMemory;
@@ -51,7 +55,7 @@ pub(crate) fn draw_head<A: Allocator + Copy>(
     svg.push(STYLE)
 }
 
-/// How high the legend is.
+/// How high the legend is, where so many nodes have no box.
 pub(crate) fn legend_height(has_breach: bool, left_out: usize) -> u64 {
     ROW * (5 + u64::from(has_breach) + u64::from(left_out > 0))
 }
@@ -61,7 +65,6 @@ pub(crate) fn draw_legend<A: Allocator + Copy>(
     svg: &mut Svg<A>,
     top: u64,
     has_breach: bool,
-    left_out: usize,
 ) -> Result<(), NoMemory> {
     draw_sample(
         svg,
@@ -76,21 +79,54 @@ pub(crate) fn draw_legend<A: Allocator + Copy>(
     draw_sample(svg, "inside", third, "inside a hidden directory")?;
     let fourth = third.saturating_add(ROW);
     draw_arrow(svg, fourth)?;
-    let mut next = fourth.saturating_add(ROW);
     if has_breach {
         draw_sample(
             svg,
             "walk",
-            next,
+            fourth.saturating_add(ROW),
             "the walk to what is hidden, and by which right it goes on",
         )?;
-        next = next.saturating_add(ROW);
-    }
-    if left_out > 0 {
-        let text = format!(in *svg.text.allocator(); "{left_out} more have no box")?;
-        svg.line("name", 24, next.saturating_add(13), text.as_str())?;
     }
     Ok(())
+}
+
+/// How high the line is that says what is left out, of a legend that begins at this height.
+pub(crate) fn left_out_height(top: u64, has_breach: bool) -> u64 {
+    top.saturating_add(ROW * (4 + u64::from(has_breach)) + 13)
+}
+
+/// Draws how many nodes have no box, and how many of these are marked, as a line at this height. Where
+/// all have one, there is none.
+pub(crate) fn draw_left_out<A: Allocator + Copy>(
+    svg: &mut Svg<A>,
+    y: u64,
+    left_out: usize,
+    marked: usize,
+) -> Result<(), NoMemory>
+    ensures { OnOk result (string_bytes svg.new.text
+        ≡ string_bytes svg.old.text ++ left_out_line y left_out marked) }
+{
+    if left_out == 0 {
+        return Ok(());
+    }
+    let text = left_out_words(*svg.text.allocator(), left_out, marked)?;
+    svg.line("name", 24, y, text.as_str())
+}
+
+// How many nodes have no box, and how many of these are marked.
+fn left_out_words<A: Allocator + Copy>(
+    alloc: A,
+    left_out: usize,
+    marked: usize,
+) -> Result<String<A>, NoMemory>
+    ensures { IfOk result (λ text. string_bytes text ≡ left_out_words left_out marked) }
+{
+    if marked == 0 {
+        return Ok(format!(in alloc; "{left_out} more have no box")?);
+    }
+    Ok(format!(in alloc;
+        "{left_out} more have no box, {marked} of them mounted, mounted upon or walked"
+    )?)
 }
 
 // Draws a small box of a style, and what it means.

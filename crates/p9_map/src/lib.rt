@@ -24,12 +24,13 @@ mod plan;
 mod rect;
 mod right;
 mod scene;
+mod standing;
 mod svg;
 mod walk;
 
 pub use escape::escaped;
 pub use item::{Item, Link, LinkKind, Placed};
-pub use layout::{Layout, lay_out};
+pub use layout::{ITEMS_MAX, Layout, lay_out};
 pub use line::Line;
 pub use order::Spot;
 pub use picture::map;

@@ -1,6 +1,6 @@
 //! Where the next box goes.
 
-ghost use Rattle.std.specs.Prelude.{◌≡◌, ◌+◌, ◌*◌, ◌<◌, ◌≤◌};
+ghost use Rattle.std.specs.Prelude.{◌≡◌, ◌+◌, ◌*◌, ◌^◌, ◌<◌, ◌≤◌};
 
 use crate::item::{Item, Placed};
 use crate::rect::{HEIGHT, Rect, WIDTH_MIN};
@@ -17,7 +17,7 @@ const DEPTH_MAX: u64 = 200;
 const WIDTH_MAX: u64 = 2000;
 
 /// Where the boxes begin, from the top.
-const TOP: u64 = 76;
+const TOP: u64 = 98;
 
 /// A column, and where its next box begins.
 #[derive(Clone, Copy)]
@@ -69,7 +69,7 @@ impl Pen {
 
     /// Places a box. One of another server begins a column, so far to the right of the last one.
     pub fn place(&mut self, item: Item, gutter: u64) -> Placed
-        requires few { self.old.count < 1000 }
+        requires few { self.old.count < 2 ^ 50 }
         requires gutter { 0 < gutter }
         requires gutter_most { gutter < 1000 }
         ensures count { self.new.count ≡ self.old.count + 1 }
@@ -105,7 +105,7 @@ impl Pen {
 
     // Where the next box begins, if it is one of this server.
     fn corner_for(self, server: u16, gutter: u64) -> Corner
-        requires few { self.count < 1000 }
+        requires few { self.count < 2 ^ 50 }
         requires gutter { 0 < gutter }
         requires gutter_most { gutter < 1000 }
         ensures column { result.column ≤ self.count + 1 }

@@ -1,129 +1,244 @@
 //! The picture of an input.
 
-ghost use Rattle.std.specs.Prelude.{◌≡◌, ◌≤◌, ◌++◌, IfErr, IfOk, length, vec_len};
+ghost use Rattle.std.specs.Prelude.{◌≡◌, ◌++◌, ℕ, AllPairs, IfOk, List, OnOk, length, map};
+ghost use Rattle.std.specs.Option.{option_copied};
 ghost use Rattle.std.specs.String.{string_bytes};
 ghost use Rattle.p9_commands.specs.Prepared.{prepared_of};
 ghost use Rattle.p9_commands.specs.declared.prepared.Needs.TheVariants.{Nothing};
-ghost use Rattle.p9_map.specs.Picture.{IsMapped, IsPicture, IsRefused};
+ghost use Rattle.p9_map.specs.Label.{label_texts};
+ghost use Rattle.p9_map.specs.Mark.{rows_of};
+ghost use Rattle.p9_map.specs.Picture.{IsDrawing, IsDrawn, IsMapped, IsPage, IsPicture};
+ghost use Rattle.p9_map.specs.Picture.{boxes_text, last_text, title_text};
+ghost use Rattle.p9_map.specs.Rect.{AreApart};
+ghost use Rattle.p9_map.specs.Standing.{standing_text};
+ghost use Rattle.p9_map.specs.Walk.{walk_in};
 
 use crate::claim::claim_of;
 use crate::drawing::{draw_box, draw_line, draw_number, is_walked};
-use crate::item::Item;
+use crate::item::{Item, Placed};
 use crate::label::{Label, cut, labels};
-use crate::layout::{Layout, lay_out};
-use crate::legend::{WIDTH_MIN, draw_head, draw_legend, legend_height};
+use crate::layout::{ITEMS_MAX, Layout, lay_out};
+use crate::legend::{
+    WIDTH_MIN, draw_head, draw_left_out, draw_legend, left_out_height, legend_height,
+};
 use crate::link::links;
 use crate::mark::Mark;
 use crate::order::Spot;
-use crate::plan::{BOXES_MAX, Plan, plan_of};
-use crate::scene::Scene;
+use crate::plan::{Plan, plan_of};
+use crate::scene::{Scene, node_set};
+use crate::standing::{Standing, drawn_certificate};
 use crate::svg::Svg;
 use p9_base::NoMemory;
-use p9_cert::Certificate;
-use p9_commands::{NameSpace, Needs, Stop, prepare};
+use p9_cert::{Certificate, Gap};
+use p9_commands::status::REFUSED;
+use p9_commands::{NameSpace, Needs, PrepareError, Prepared, prepare, print_reports, print_stop};
 use p9_judge::{Verdict, judge};
 use p9_tree::Tree;
-use std::alloc::{AllocError, Allocator};
+use std::alloc::Allocator;
 
 /// The most characters of a line of the title.
 const TITLE_MAX: usize = 100;
 
-/// The picture of an input, as a text of SVG. It says `verdict: yes` only where `check` may say yes, and
-/// `verdict: no` only where that may say no; no input has both.
+/// Draws an input as a picture, a text of SVG that is added to `out`. Returns the exit status.
 ///
-/// # Errors
+/// The picture says `verdict: yes` or `verdict: no`, as `check` judges. Of a yes it shows as reachable
+/// what the input's certificate lists, where that is accepted, and else what the judge's lists; of a no
+/// nothing. It says whether there is a certificate and whether it is accepted. Each hidden directory
+/// that has a place in the picture is shown as such. Names, users and paths are shown as
+/// [`p9_shown::shown`] has them.
 ///
-/// The input's first fault, as [`prepare`] has it, and [`Stop::NoMemory`] where an allocation fails.
-pub fn map<T: Tree>(alloc: T::Alloc, input: &[u8]) -> Result<String<T::Alloc>, Stop>
-    ensures ok { IfOk result (λ svg. IsMapped (prepared_of Nothing input.now) (string_bytes svg)) }
-    ensures stop { IfErr result (IsRefused (prepared_of Nothing input.now)) }
+/// What failed in the namespace file is reported first, and then the input's first fault, a line each to
+/// `err`. Where there is a fault, nothing is drawn. The status is 0 for a yes with no certificate or one
+/// that is accepted, and else 1. Where an allocation fails, it returns [`NoMemory`], and a part of the
+/// picture may be there.
+pub fn map<T: Tree>(
+    input: &[u8],
+    out: &mut Vec<u8, T::Alloc>,
+    err: &mut Vec<u8, T::Alloc>,
+) -> Result<u8, NoMemory>
+    ensures { IfOk result (λ status. IsMapped (prepared_of Nothing input.now) status
+        out.old.items out.new.items err.old.items err.new.items) }
 {
-    match prepare::<T>(alloc, input, Needs::Nothing) {
+    match prepare::<T>(*out.allocator(), input, Needs::Nothing) {
         Ok(prepared) => {
-            let certificate = prepared.certificate.as_ref();
-            let svg = space_picture(alloc, &prepared.space, certificate);
+            let status = draw(
+                space_of(&prepared),
+                certificate_of(&prepared),
+                prepared.gap(),
+                out,
+                err,
+            );
             prepared.discard();
-            Ok(svg?)
+            status
         }
-        Err(error) => Err(error.stop),
+        Err(PrepareError { reports, stop }) => {
+            print_reports(reports.as_slice(), err)?;
+            print_stop(stop, err)?;
+            Ok(REFUSED)
+        }
     }
 }
 
-// The picture of a name space, with what its input's certificate says can be reached, and else the
-// judge's.
-fn space_picture<T: Tree>(
-    alloc: T::Alloc,
-    space: &NameSpace<T>,
-    certificate: Option<&Certificate<T::Alloc>>,
-) -> Result<String<T::Alloc>, NoMemory>
-    ensures { IfOk result (λ svg. IsPicture space.now (string_bytes svg)) }
+// The name space of an input that is prepared.
+fn space_of<T: Tree>(prepared: &Prepared<T>) -> &NameSpace<T>
+    ensures { result.now ≡ prepared.now.space }
 {
-    match judge(alloc, &space.world, &space.table)? {
+    &prepared.space
+}
+
+// The certificate of an input that is prepared.
+fn certificate_of<T: Tree>(prepared: &Prepared<T>) -> Option<&Certificate<T::Alloc>>
+    ensures { option_copied result ≡ prepared.now.rows }
+{
+    prepared.certificate.as_ref()
+}
+
+// Draws a name space whose input has this certificate, if it has one, with this first gap.
+fn draw<T: Tree>(
+    space: &NameSpace<T>,
+    given: Option<&Certificate<T::Alloc>>,
+    gap: Option<Gap>,
+    out: &mut Vec<u8, T::Alloc>,
+    err: &mut Vec<u8, T::Alloc>,
+) -> Result<u8, NoMemory>
+    ensures { IfOk result (λ status. IsDrawn space.now (option_copied given.entry) gap status
+        out.old.items out.new.items err.old.items err.new.items) }
+{
+    print_reports(space.reports.as_slice(), err)?;
+    draw_judged(space, given, gap, out)
+}
+
+// Judges a name space and draws it.
+fn draw_judged<T: Tree>(
+    space: &NameSpace<T>,
+    given: Option<&Certificate<T::Alloc>>,
+    gap: Option<Gap>,
+    out: &mut Vec<u8, T::Alloc>,
+) -> Result<u8, NoMemory>
+    ensures { IfOk result (λ status. IsPicture space.now (option_copied given.entry) gap status
+        out.old.items out.new.items) }
+{
+    let alloc = *out.allocator();
+    let standing = Standing::of(given, gap);
+    let (world, table) = (&space.world, &space.table);
+    match judge(alloc, world, table)? {
         Verdict::Yes(least) => {
-            let reached = Some(certificate.unwrap_or(&least));
-            let (world, table) = (&space.world, &space.table);
+            let reached = drawn_certificate(given, gap, &least);
             let scene = Scene::of_yes(alloc, world, table, reached);
-            let parts = drawn(alloc, &scene)?;
-            let text = page(alloc, &parts, "verdict: yes")?;
-            Ok(text)
+            draw_scene(&scene, "verdict: yes", standing, out)?;
+            Ok(standing.status())
         }
         Verdict::No(breach) => {
-            let (world, table) = (&space.world, &space.table);
-            let scene = Scene::of_no(alloc, world, table, certificate, &breach)?;
-            let parts = drawn(alloc, &scene)?;
-            let text = page(alloc, &parts, "verdict: no")?;
-            Ok(text)
+            let scene = Scene::of_no(alloc, world, table, &breach)?;
+            draw_scene(&scene, "verdict: no", standing, out)?;
+            Ok(REFUSED)
         }
     }
 }
 
-// A picture but for its verdict: what comes before and after that.
-#[derive(Drop)]
-struct Parts<A: Allocator> {
-    head: Svg<A>,
-    rest: Svg<A>,
-}
-
-// The page of a picture.
-fn page<A: Allocator + Copy>(
-    alloc: A,
-    parts: &Parts<A>,
+// Draws a scene with what is said in its title.
+fn draw_scene<T: Tree>(
+    scene: &Scene<'_, T>,
     verdict: &str,
-) -> Result<String<A>, AllocError>
-    ensures { IfOk result (λ text. string_bytes text
-        ≡ string_bytes parts.now.head.text ++ verdict.now ++ string_bytes parts.now.rest.text) }
+    standing: Standing,
+    out: &mut Vec<u8, T::Alloc>,
+) -> Result<(), NoMemory>
+    ensures { OnOk result ((svg : List ℕ)
+        × IsPage scene.now.world.now scene.now.table.now (rows_of (option_copied scene.now.reached))
+        (walk_in (option_copied scene.now.breach)) scene.now.hops.items verdict.now
+        (standing_text standing) svg
+        × (out.new.items ≡ out.old.items ++ svg)) }
 {
-    let mut text = String::from_str(alloc, parts.head.text.as_str())?;
-    text.push_str(verdict)?;
-    text.push_str(parts.rest.text.as_str())?;
-    Ok(text)
-}
-
-// Draws a scene.
-fn drawn<T: Tree>(alloc: T::Alloc, scene: &Scene<'_, T>) -> Result<Parts<T::Alloc>, NoMemory> {
+    let alloc = *out.allocator();
     let world = scene.world;
+    let hidden = node_set(alloc, world.hidden.as_slice())?;
     let marked = scene.marked(alloc)?;
-    let Plan { spots, left_out } = plan_of(alloc, &world.forest, &marked)?;
-    let labels = labels(alloc, scene, spots.as_slice())?;
-    let layout = laid_out(alloc, scene, spots.as_slice(), labels.as_slice())?;
-    let head = head(alloc, scene, &layout, left_out)?;
-    let rest = rest(alloc, scene, &layout, labels.as_slice(), left_out)?;
-    Ok(Parts { head, rest })
+    let plan = plan_of(alloc, &world.forest, &hidden, &marked)?;
+    draw_plan(scene, verdict, standing, &plan, out)?;
+    Ok(())
 }
 
-// The layout of boxes with these labels.
+// Draws the nodes of a plan.
+fn draw_plan<T: Tree>(
+    scene: &Scene<'_, T>,
+    verdict: &str,
+    standing: Standing,
+    plan: &Plan<T::Alloc>,
+    out: &mut Vec<u8, T::Alloc>,
+) -> Result<(), NoMemory>
+    ensures { OnOk result ((svg : List ℕ)
+        × IsDrawing scene.now.world.now (rows_of (option_copied scene.now.reached))
+        (walk_in (option_copied scene.now.breach)) plan.now.spots.items plan.now.left_out
+        plan.now.marked_left_out verdict.now (standing_text standing) svg
+        × (out.new.items ≡ out.old.items ++ svg)) }
+{
+    let alloc = *out.allocator();
+    let spots = plan.spots.as_slice();
+    let labels = labels(alloc, scene, spots)?;
+    let layout = laid_out(alloc, scene, spots, labels.as_slice())?;
+    let title = title(alloc, scene, standing)?;
+    let head = head(alloc, scene, &layout, plan.left_out)?;
+    let lines = lines(alloc, scene, &layout)?;
+    let boxes = boxes(alloc, scene, layout.boxes.as_slice(), labels.as_slice())?;
+    let legend = legend(alloc, scene, layout.height)?;
+    let last = last(alloc, scene, layout.height, plan)?;
+    print_text(&head, out)?;
+    out.extend_from_slice(verdict.as_bytes())?;
+    print_text(&title, out)?;
+    print_text(&lines, out)?;
+    print_text(&boxes, out)?;
+    print_text(&legend, out)?;
+    print_text(&last, out)?;
+    Ok(())
+}
+
+// Prints a part of a picture.
+fn print_text<A: Allocator>(svg: &Svg<A>, out: &mut Vec<u8, A>) -> Result<(), NoMemory>
+    ensures { OnOk result (out.new.items ≡ out.old.items ++ string_bytes svg.now.text) }
+{
+    out.extend_from_slice(svg.text.as_bytes())?;
+    Ok(())
+}
+
+// The layout of boxes with these labels. Where there are more than can be laid out, an allocation fails:
+// memory does not hold so many.
 fn laid_out<T: Tree>(
     alloc: T::Alloc,
     scene: &Scene<'_, T>,
     spots: &[Spot],
     labels: &[Label<T::Alloc>],
 ) -> Result<Layout<T::Alloc>, NoMemory>
-    requires { length spots.now ≤ BOXES_MAX }
+    ensures nodes { IfOk result (λ l. map (λ b. b.node) l.boxes.items
+        ≡ map (λ s. s.node) spots.now) }
+    ensures apart { IfOk result (λ l. AllPairs (λ a b. AreApart a.rect b.rect) l.boxes.items) }
 {
-    let world = scene.world;
     let items = items(alloc, spots, labels)?;
+    if items.len() > ITEMS_MAX {
+        return Err(NoMemory);
+    }
+    let world = scene.world;
     let links = links(alloc, &world.forest, scene.table, spots)?;
     lay_out(alloc, items.as_slice(), links.as_slice(), scene.table.len())
+}
+
+// What is laid out: the nodes with how wide their labels are.
+fn items<A: Allocator + Copy>(
+    alloc: A,
+    spots: &[Spot],
+    labels: &[Label<A>],
+) -> Result<Vec<Item, A>, NoMemory>
+    ensures { IfOk result (λ items. map (λ i. i.node) items.items ≡ map (λ s. s.node) spots.now) }
+{
+    let mut items = Vec::new(alloc);
+    for (i, spot) in spots.iter().enumerate() {
+        let width = labels.get(i).map_or(0, |label| label.width());
+        items.push(Item {
+            node: spot.node,
+            depth: spot.depth,
+            width,
+        })?;
+    }
+    Ok(items)
 }
 
 // What comes before the verdict.
@@ -141,68 +256,36 @@ fn head<T: Tree>(
     Ok(svg)
 }
 
-// What comes after it: the claim, lines, boxes, and the legend.
-fn rest<T: Tree>(
+// What comes after the verdict: the claim, and how the certificate stands.
+fn title<T: Tree>(
     alloc: T::Alloc,
     scene: &Scene<'_, T>,
-    layout: &Layout<T::Alloc>,
-    labels: &[Label<T::Alloc>],
-    left_out: usize,
-) -> Result<Svg<T::Alloc>, NoMemory> {
+    standing: Standing,
+) -> Result<Svg<T::Alloc>, NoMemory>
+    ensures { IfOk result (λ svg.
+        string_bytes svg.text ≡ title_text scene.now.world.now (standing_text standing)) }
+{
     let mut svg = Svg::new(alloc);
-    push_rest(alloc, &mut svg, scene, layout, labels, left_out)?;
+    let claim = claim_of(alloc, scene.world)?;
+    let claim = cut(alloc, claim.as_str(), TITLE_MAX)?;
+    let standing = standing.text(alloc)?;
+    svg.push("</text>\n")?;
+    svg.line("name", 24, 52, claim.as_str())?;
+    svg.line("name", 24, 74, standing.as_str())?;
     Ok(svg)
 }
 
-// Adds what comes after the verdict.
-fn push_rest<T: Tree>(
+// The lines, with those of the walk above the others, and their numbers.
+fn lines<T: Tree>(
     alloc: T::Alloc,
-    svg: &mut Svg<T::Alloc>,
     scene: &Scene<'_, T>,
     layout: &Layout<T::Alloc>,
-    labels: &[Label<T::Alloc>],
-    left_out: usize,
-) -> Result<(), NoMemory> {
-    svg.push("</text>\n")?;
-    push_claim(alloc, svg, scene)?;
-    draw_lines(svg, scene, layout, false)?;
-    draw_lines(svg, scene, layout, true)?;
-    draw_numbers(svg, layout)?;
-    draw_boxes(svg, scene, layout, labels)?;
-    draw_legend(svg, layout.height, scene.breach.is_some(), left_out)?;
-    svg.push("</svg>\n")?;
-    Ok(())
-}
-
-// Adds the claim.
-fn push_claim<T: Tree>(
-    alloc: T::Alloc,
-    svg: &mut Svg<T::Alloc>,
-    scene: &Scene<'_, T>,
-) -> Result<(), NoMemory> {
-    let claim = cut(alloc, claim_of(alloc, scene.world)?.as_str(), TITLE_MAX)?;
-    svg.line("name", 24, 52, claim.as_str())?;
-    Ok(())
-}
-
-// What is laid out: the nodes with how wide their labels are.
-fn items<A: Allocator + Copy>(
-    alloc: A,
-    spots: &[Spot],
-    labels: &[Label<A>],
-) -> Result<Vec<Item, A>, NoMemory>
-    ensures { IfOk result (λ items. vec_len items ≡ length spots.now) }
-{
-    let mut items = Vec::new(alloc);
-    for (i, spot) in spots.iter().enumerate() {
-        let width = labels.get(i).map_or(0, |label| label.width());
-        items.push(Item {
-            node: spot.node,
-            depth: spot.depth,
-            width,
-        })?;
-    }
-    Ok(items)
+) -> Result<Svg<T::Alloc>, NoMemory> {
+    let mut svg = Svg::new(alloc);
+    draw_lines(&mut svg, scene, layout, false)?;
+    draw_lines(&mut svg, scene, layout, true)?;
+    draw_numbers(&mut svg, layout)?;
+    Ok(svg)
 }
 
 // Draws the lines along which the walk goes, or all others.
@@ -228,16 +311,55 @@ fn draw_numbers<A: Allocator + Copy>(svg: &mut Svg<A>, layout: &Layout<A>) -> Re
     Ok(())
 }
 
-// Draws the boxes.
-fn draw_boxes<T: Tree>(
-    svg: &mut Svg<T::Alloc>,
+// The boxes with their labels.
+fn boxes<T: Tree>(
+    alloc: T::Alloc,
     scene: &Scene<'_, T>,
-    layout: &Layout<T::Alloc>,
+    boxes: &[Placed],
     labels: &[Label<T::Alloc>],
-) -> Result<(), NoMemory> {
-    for (placed, label) in layout.boxes.iter().zip(labels.iter()) {
-        let mark = Mark::of(scene, placed.node);
-        draw_box(svg, placed.rect, mark, label)?;
+) -> Result<Svg<T::Alloc>, NoMemory>
+    requires { length boxes.now ≡ length labels.now }
+    ensures { IfOk result (λ svg. string_bytes svg.text
+        ≡ boxes_text scene.now.world.now (rows_of (option_copied scene.now.reached))
+        (walk_in (option_copied scene.now.breach)) boxes.now (map label_texts labels.now)) }
+{
+    let mut svg = Svg::new(alloc);
+    for i in 0..boxes.len() {
+        let placed = boxes[i];
+        draw_box(
+            &mut svg,
+            placed.rect,
+            Mark::of(scene, placed.node),
+            &labels[i],
+        )?;
     }
-    Ok(())
+    Ok(svg)
+}
+
+// The legend, from this height on.
+fn legend<T: Tree>(
+    alloc: T::Alloc,
+    scene: &Scene<'_, T>,
+    top: u64,
+) -> Result<Svg<T::Alloc>, NoMemory> {
+    let mut svg = Svg::new(alloc);
+    draw_legend(&mut svg, top, scene.breach.is_some())?;
+    Ok(svg)
+}
+
+// What comes last, below a legend that begins at this height: what is left out.
+fn last<T: Tree>(
+    alloc: T::Alloc,
+    scene: &Scene<'_, T>,
+    top: u64,
+    plan: &Plan<T::Alloc>,
+) -> Result<Svg<T::Alloc>, NoMemory>
+    ensures { IfOk result (λ svg. (y : ℕ)
+        × (string_bytes svg.text ≡ last_text y plan.now.left_out plan.now.marked_left_out)) }
+{
+    let mut svg = Svg::new(alloc);
+    let y = left_out_height(top, scene.breach.is_some());
+    draw_left_out(&mut svg, y, plan.left_out, plan.marked_left_out)?;
+    svg.push("</svg>\n")?;
+    Ok(svg)
 }

@@ -1,12 +1,12 @@
 //! Which nodes have boxes.
 
-ghost use Rattle.std.specs.Prelude.{◌≡◌, ◌≤◌, ◌+◌, IfOk, count_by, filter, length, map, take};
-ghost use Rattle.std.specs.Prelude.{◌-◌, ◌<◌, ◌||◌, None, Some, if◌then◌else◌, nat_lt, slice_index_or};
+ghost use Rattle.std.specs.Prelude.{◌≡◌, ◌+◌, ◌-◌, ◌<◌, ◌||◌, IfOk, None, Some, count_by, length};
+ghost use Rattle.std.specs.Prelude.{if◌then◌else◌, nat_lt, slice_index_or};
 ghost use Rattle.p9_tree.specs.Forest.{is_dir_of};
 ghost use Rattle.p9_cert.specs.Rows.{is_row};
 ghost use Rattle.p9_map.specs.Order.{deeper};
-ghost use Rattle.p9_map.specs.Plan.{AreFirst, IsDepth, IsPlan, boxes_max, is_within};
-ghost use Rattle.p9_map.specs.Plan.{ranked};
+ghost use Rattle.p9_map.specs.Plan.{AreFirst, IsDepth, IsPlan, boxes_max, chosen_at, is_within};
+ghost use Rattle.p9_map.specs.Plan.{kept_count, ranked};
 
 use crate::order::{Spot, all_spots};
 use p9_base::{NoMemory, NodeRef};
@@ -14,14 +14,15 @@ use p9_tree::{Forest, Tree};
 use std::alloc::{AllocError, Allocator};
 use std::collections::BTreeSet;
 
-/// The most boxes.
+/// The most boxes, if no more nodes are hidden directories or above one.
 pub const BOXES_MAX: usize = 200;
 
-/// The nodes that have boxes, in order, and how many have none.
+/// The nodes that have boxes, in order; how many have none, and how many of these are marked.
 #[derive(Drop)]
 pub struct Plan<A: Allocator> {
     pub spots: Vec<Spot, A>,
     pub left_out: usize,
+    pub marked_left_out: usize,
 }
 
 /// Which nodes of a forest have boxes. Servers come by number, and each directory before what is in
@@ -29,73 +30,98 @@ pub struct Plan<A: Allocator> {
 ///
 /// All nodes have one where they are no more than [`BOXES_MAX`]. Else those have one that are marked,
 /// the directories that these are in, and all directories to the depth that fits. Of more than
-/// [`BOXES_MAX`] the first have one. The only error is that an allocation fails.
+/// [`BOXES_MAX`] the hidden directories have one and the directories that these are in, however many
+/// they are, and the first of the others. The only error is that an allocation fails.
 pub fn plan_of<T: Tree>(
     alloc: T::Alloc,
     forest: &Forest<T>,
+    hidden: &BTreeSet<NodeRef, T::Alloc>,
     marked: &BTreeSet<NodeRef, T::Alloc>,
 ) -> Result<Plan<T::Alloc>, NoMemory>
-    ensures plan { IfOk result (λ plan.
-        IsPlan forest.now marked.now.keys plan.spots.items plan.left_out) }
-    ensures few { IfOk result (λ plan. length plan.spots.items ≤ BOXES_MAX) }
+    ensures { IfOk result (λ plan. IsPlan forest.now hidden.now.keys marked.now.keys
+        plan.spots.items plan.left_out plan.marked_left_out) }
 {
     let all = all_spots(alloc, forest)?;
     if all.as_slice().len() <= BOXES_MAX {
         return Ok(Plan {
             spots: all,
             left_out: 0,
+            marked_left_out: 0,
         });
     }
-    let spots = first_spots(alloc, forest, all.as_slice(), marked)?;
+    let spots = first_spots(alloc, forest, all.as_slice(), hidden, marked)?;
     let left_out = all.as_slice().len() - spots.as_slice().len();
-    Ok(Plan { spots, left_out })
+    let marked_left_out = count_marked(all.as_slice(), marked)
+        - count_marked(spots.as_slice(), marked);
+    Ok(Plan {
+        spots,
+        left_out,
+        marked_left_out,
+    })
 }
 
-// The first nodes that get boxes.
+// How many of these nodes are marked.
+fn count_marked<A: Allocator>(spots: &[Spot], marked: &BTreeSet<NodeRef, A>) -> usize
+    ensures { result ≡ count_by (λ s. is_row marked.now.keys s.node) spots.now }
+{
+    spots
+        .iter()
+        .filter(|spot| is_marked(marked, spot.node))
+        .count()
+}
+
+// Those that are kept, and the first others that get boxes.
 fn first_spots<T: Tree>(
     alloc: T::Alloc,
     forest: &Forest<T>,
     all: &[Spot],
+    hidden: &BTreeSet<NodeRef, T::Alloc>,
     marked: &BTreeSet<NodeRef, T::Alloc>,
 ) -> Result<Vec<Spot, T::Alloc>, NoMemory>
-    ensures first { IfOk result (λ spots.
-        AreFirst forest.now marked.now.keys all.now spots.items) }
-    ensures few { IfOk result (λ spots. length spots.items ≤ BOXES_MAX) }
+    ensures { IfOk result (λ spots.
+        AreFirst forest.now hidden.now.keys marked.now.keys all.now spots.items) }
 {
-    let ranked = ranked_nodes(alloc, forest, all, marked)?;
+    let ranked = ranked_nodes(alloc, forest, all, hidden, marked)?;
     let ranked = ranked.as_slice();
     let spots = chosen(alloc, ranked, depth_that_fits(ranked))?;
     Ok(spots)
 }
 
 // A node, and at which depth it gets a box: at 0 the nodes that are noted, at one more than its own a
-// directory, and at none another file.
+// directory, and at none another file; and whether it is kept at any.
 #[derive(Clone, Copy)]
 struct Ranked {
     spot: Spot,
     rank: Option<u64>,
+    kept: bool,
 }
 
 // The nodes with their ranks. A node is noted where it is marked or above one that is noted: where the
-// noted one that comes next is deeper.
+// noted one that comes next is deeper. So is one kept that is hidden.
 fn ranked_nodes<T: Tree>(
     alloc: T::Alloc,
     forest: &Forest<T>,
     spots: &[Spot],
+    hidden: &BTreeSet<NodeRef, T::Alloc>,
     marked: &BTreeSet<NodeRef, T::Alloc>,
 ) -> Result<Vec<Ranked, T::Alloc>, NoMemory>
-    ensures { IfOk result (λ found. found.items ≡ ranked forest.now marked.now.keys spots.now) }
+    ensures { IfOk result (λ found. found.items
+        ≡ ranked forest.now hidden.now.keys marked.now.keys spots.now) }
 {
     let mut ranked = Vec::new(alloc);
     let mut noted_depth = 0;
+    let mut kept_depth = 0;
     for done in 0..spots.len() {
         let spot = spot_before(spots, done);
-        let is_noted = is_noted(marked, spot, noted_depth);
+        let noted = is_noted(marked, spot, noted_depth);
+        let kept = is_noted(hidden, spot, kept_depth);
         ranked.push(Ranked {
             spot,
-            rank: rank(forest, spot, is_noted),
+            rank: rank(forest, spot, noted),
+            kept,
         })?;
-        noted_depth = depth_with(spot, is_noted, noted_depth);
+        noted_depth = depth_with(spot, noted, noted_depth);
+        kept_depth = depth_with(spot, kept, kept_depth);
     }
     ranked.reverse();
     Ok(ranked)
@@ -173,19 +199,31 @@ fn is_within(ranked: &Ranked, depth: u64) -> bool
     }
 }
 
-// The first nodes that get boxes at a depth.
+// Those that are kept, and the first others that get boxes at a depth.
 fn chosen<A: Allocator + Copy>(
     alloc: A,
     ranked: &[Ranked],
     depth: u64,
 ) -> Result<Vec<Spot, A>, AllocError>
     ensures { IfOk result (λ spots. spots.items
-        ≡ map (λ r. r.spot) (take boxes_max (filter (is_within depth) ranked.now))) }
+        ≡ chosen_at depth (boxes_max - kept_count ranked.now) ranked.now) }
 {
-    ranked
-        .iter()
-        .filter(|r| is_within(r, depth))
-        .take(BOXES_MAX)
-        .map(|r| r.spot)
-        .collect(alloc)
+    let mut left = BOXES_MAX.saturating_sub(count_kept(ranked));
+    let mut spots = Vec::new(alloc);
+    for node in ranked {
+        if node.kept {
+            spots.push(node.spot)?;
+        } else if left > 0 && is_within(node, depth) {
+            spots.push(node.spot)?;
+            left -= 1;
+        }
+    }
+    Ok(spots)
+}
+
+// How many nodes are kept.
+fn count_kept(ranked: &[Ranked]) -> usize
+    ensures { result ≡ kept_count ranked.now }
+{
+    ranked.iter().filter(|node| node.kept).count()
 }

@@ -1,5 +1,10 @@
 //! By which right a user passes a directory.
 
+ghost use Rattle.std.specs.Prelude.{◌≡◌, is_some};
+ghost use Rattle.p9_cert.specs.Listed.{may_pass};
+ghost use Rattle.p9_space.specs.Rights.{who_view};
+ghost use Rattle.p9_map.specs.Right.{right_of, right_words};
+
 use p9_space::Who;
 use p9_tree::Node;
 use std::alloc::Allocator;
@@ -16,7 +21,9 @@ pub(crate) enum Right {
 
 impl Right {
     /// The right in words.
-    pub fn words(self) -> &'static str {
+    pub fn words(self) -> &'static str
+        ensures { result.now ≡ right_words self }
+    {
         match self {
             Right::OthersSearch => "others may search",
             Right::OwnerSearches => "its owner may search",
@@ -27,11 +34,15 @@ impl Right {
     }
 }
 
-/// The first right by which the user passes the directory.
+/// The first right by which the user passes the directory: none exactly where he may neither search it
+/// nor change its mode.
 pub(crate) fn right_of<A: Allocator, B: Allocator + Copy>(
     who: Who<'_, B>,
     dir: &Node<A>,
-) -> Option<Right> {
+) -> Option<Right>
+    ensures right { result ≡ right_of (who_view who.entry) dir.now }
+    ensures passed { is_some result ≡ may_pass dir.now (who_view who.entry) }
+{
     let permissions = dir.mode().permissions;
     let is_owner = dir.uid() == who.user;
     if permissions.others.execute {

@@ -1,5 +1,10 @@
 //! The walk of a breach.
 
+ghost use Rattle.std.specs.Prelude.{◌≡◌, ◌<◌, IfOk, IfSome, length, position};
+ghost use Rattle.p9_base.specs.NodeRef.{same_node};
+ghost use Rattle.p9_space.specs.Place.{root_place};
+ghost use Rattle.p9_map.specs.Walk.{hops_from, number_on, place_after};
+
 use p9_base::{NoMemory, NodeRef};
 use p9_judge::{Breach, Step};
 use p9_space::ROOT_PLACE;
@@ -19,10 +24,14 @@ pub(crate) fn hops_of<T: Tree>(
     alloc: T::Alloc,
     world: &World<T>,
     breach: &Breach<T::Alloc>,
-) -> Result<Vec<Hop, T::Alloc>, NoMemory> {
+) -> Result<Vec<Hop, T::Alloc>, NoMemory>
+    ensures { IfOk result (λ hops. hops.items
+        ≡ hops_from world.now.forest root_place breach.now.steps.items breach.now.member) }
+{
+    let steps = breach.steps.as_slice();
     let mut hops = Vec::new(alloc);
     let mut place = ROOT_PLACE;
-    for step in breach.steps.as_slice() {
+    for step in steps {
         let (from, to) = (place, step.member);
         hops.push(Hop { from, to })?;
         place = place_after(world, step);
@@ -35,7 +44,9 @@ pub(crate) fn hops_of<T: Tree>(
 }
 
 // The place that a step leads to.
-fn place_after<T: Tree>(world: &World<T>, step: &Step) -> NodeRef {
+fn place_after<T: Tree>(world: &World<T>, step: &Step) -> NodeRef
+    ensures { result ≡ place_after world.now.forest step.now }
+{
     match world.forest.child(step.member, &step.name) {
         Some(child) => step.member.beside(child.number()),
         None => step.member,
@@ -44,11 +55,21 @@ fn place_after<T: Tree>(world: &World<T>, step: &Step) -> NodeRef {
 
 /// The number of a node on the walk of a breach, from 1: that of the step that passes it, or one more
 /// for the member that the walk leads to.
-pub(crate) fn number_on<A: Allocator>(breach: &Breach<A>, node: NodeRef) -> Option<usize> {
+pub(crate) fn number_on<A: Allocator>(breach: &Breach<A>, node: NodeRef) -> Option<usize>
+    ensures { result ≡ number_on breach.now.steps.items breach.now.member node }
+{
     let steps = breach.steps.as_slice();
-    match steps.iter().position(|step| step.member == node) {
+    match position_on(steps, node) {
         Some(position) => Some(position + 1),
         None if breach.member == node => Some(steps.len() + 1),
         None => None,
     }
+}
+
+// The position of the first step that passes a node.
+fn position_on(steps: &[Step], node: NodeRef) -> Option<usize>
+    ensures position { result ≡ position (λ s. same_node s.member node) steps.now }
+    ensures within { IfSome result (λ i. i < length steps.now) }
+{
+    steps.iter().position(|step| step.member == node)
 }

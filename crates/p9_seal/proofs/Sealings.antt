@@ -21,9 +21,9 @@ use Rattle.p9_commands.specs.declared.refusal.Refusal.{Refusal}
 use Rattle.p9_commands.specs.declared.refusal.Refusal.TheVariants.{BadSection, NotUtf8}
 use Rattle.p9_seal.specs.Error.{vacuity_against}
 use Rattle.p9_seal.specs.declared.error.SealError.{SealError}
-use Rattle.p9_seal.specs.declared.error.SealError.TheVariants.{Refused as RefusedInput, No, Vacuous}
+use Rattle.p9_seal.specs.declared.error.SealError.TheVariants.{Empty, Refused as RefusedInput, No, Vacuous}
 use Rattle.p9_seal.specs.declared.error.SealError.TheVariants.{NoMemory as OutOfMemory}
-use Rattle.p9_seal.specs.Sealing.{IsBundle, IsSealError, IsSealable, IsSealed, IsUnsealed, IsYes, space_of}
+use Rattle.p9_seal.specs.Sealing.{IsBundle, IsSealError, IsSealable, IsSealed, IsUnsealed, IsYes, is_empty, space_of}
 use Rattle.p9_seal.specs.Sections.{HasCertificate}
 use Rattle.p9_seal.specs.Text.{sealed_text}
 use Rattle.p9_seal.proofs.Certificates.{cert_lines, cert_lines-begin, cert_lines-clean}
@@ -100,10 +100,10 @@ no-text input utf8 = rw utf8 refl
 
 -- The output, from the name space, the certificate and what is written.
 pub sealed-ok : (input output : List ℕ) (anyway : Bool) (space : NameSpace) (rows : List NodeRef)
-    → is_utf8 input ≡ true → is_utf8 output ≡ true → IsBundle input → space_of input ≡ Ok space
-    → IsYes space rows → vacuity_against anyway space ≡ None → IsCertificate rows
+    → is_empty input ≡ false → is_utf8 input ≡ true → is_utf8 output ≡ true → IsBundle input
+    → space_of input ≡ Ok space → IsYes space rows → vacuity_against anyway space ≡ None → IsCertificate rows
     → output ≡ sealed_text input (certificate_text rows) → IsSealed input anyway output
-sealed-ok input output anyway space rows utf8 utf8_output bundle read is_yes telling sound written =
+sealed-ok input output anyway space rows some utf8 utf8_output bundle read is_yes telling sound written =
     let there = sealed-bundle input rows sound bundle.0 bundle.1 in
     let found = alone-ok (space_in bundle.0.world bundle.0.ns) (script_in bundle.0) rows space
     (sym (space_of-parts input bundle.0 utf8 bundle.1) ∙ read) in
@@ -111,6 +111,7 @@ sealed-ok input output anyway space rows utf8 utf8_output bundle read is_yes tel
       space = space;
       rows = rows;
       events = found.0;
+      some = some;
       read = read;
       yes = is_yes;
       telling = telling;
@@ -141,6 +142,7 @@ module _ {A : Type 0} (input : List ℕ) (anyway : Bool) (space : NameSpace)
 
   unsealed-error : (error : SealError A) → IsUnsealed anyway space error
       → IsSealError input anyway error
+  unsealed-error Empty none = absurd none
   unsealed-error (RefusedInput refusal) none = absurd none
   unsealed-error (No breach) none = (space, read, none)
   unsealed-error (Vacuous vacuity) none = (space, read, none)

@@ -1,6 +1,7 @@
 -- The sealing of an input.
-use Rattle.std.specs.Prelude.{◌≡◌, ℕ, Bool, List, Some, None, Result, Ok, Err}
-use Rattle.std.specs.List.{AllByRecursion}
+use Rattle.std.specs.Prelude.{◌≡◌, ◌==◌, ◌||◌, ℕ, Bool, true, false, List, Some, None, Result, Ok, Err}
+use Rattle.std.specs.List.{AllByRecursion, list_all}
+use Rattle.p9_base.specs.Line.{is_blank}
 use Rattle.p9_base.specs.declared.node_ref.NodeRef.{NodeRef}
 use Rattle.p9_base.specs.Results.{and_then}
 use Rattle.p9_cert.specs.Policy.{policy_of}
@@ -19,7 +20,11 @@ use Rattle.p9_seal.specs.Sections.{HasCertificate}
 use Rattle.p9_seal.specs.Text.{sealed_text}
 use Rattle.p9_seal.specs.declared.error.Vacuity.{Vacuity}
 use Rattle.p9_seal.specs.declared.error.SealError.{SealError}
-use Rattle.p9_seal.specs.declared.error.SealError.TheVariants.{Refused, No, Vacuous, NoMemory}
+use Rattle.p9_seal.specs.declared.error.SealError.TheVariants.{Empty, Refused, No, Vacuous, NoMemory}
+
+-- the input has nothing but blanks, tabs and newlines
+abbrev pub is_empty : List ℕ → Bool
+is_empty input = list_all (λ b. is_blank b || b == 10) input
 
 -- the name space of an input, or its first fault; its certificate is not read
 abbrev pub space_of : List ℕ → Result NameSpace Refusal
@@ -56,6 +61,7 @@ pub record IsSealed (input : List ℕ) (anyway : Bool) (output : List ℕ) : Typ
   pub space : NameSpace
   pub rows : List NodeRef
   pub events : List Event
+  pub some : is_empty input ≡ false
   pub read : space_of input ≡ Ok space
   pub yes : IsYes space rows
   pub telling : vacuity_against anyway space ≡ None
@@ -86,13 +92,15 @@ pub record IsVacuous (anyway : Bool) (space : NameSpace) (vacuity : Vacuity) : T
 
 -- why there is no certificate over a name space
 abbrev pub IsUnsealed : {A : Type 0} → (anyway : Bool) (space : NameSpace) → SealError A → Type 0
+IsUnsealed anyway space Empty = ⊥
 IsUnsealed anyway space (Refused refusal) = ⊥
 IsUnsealed anyway space (No breach) = IsNo space breach
 IsUnsealed anyway space (Vacuous vacuity) = IsVacuous anyway space vacuity
 IsUnsealed anyway space NoMemory = Unit {0}
 
--- the input's first fault, or why there is no certificate over its name space
+-- the input is empty, or has a first fault, or there is no certificate over its name space
 abbrev pub IsSealError : {A : Type 0} → (input : List ℕ) (anyway : Bool) → SealError A → Type 0
+IsSealError input anyway Empty = is_empty input ≡ true
 IsSealError input anyway (Refused refusal) = space_of input ≡ Err refusal
 IsSealError input anyway (No breach) =
     (space : NameSpace) × (space_of input ≡ Ok space) × IsNo space breach

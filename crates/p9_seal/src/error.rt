@@ -51,6 +51,8 @@ fn vacuity_of<T: Tree>(space: &NameSpace<T>) -> Option<Vacuity>
 /// Why an input is not sealed.
 #[derive(Drop)]
 pub enum SealError<A: Allocator> {
+    /// The input has nothing but blanks, tabs and newlines.
+    Empty,
     /// The input has a fault, and this is the first.
     Refused(Refusal),
     /// What is hidden is within reach, and this is a way to it.
@@ -77,6 +79,10 @@ impl<A: Allocator + Copy> SealError<A> {
     /// [`Refusal::text`] says. The only error is that an allocation fails, or failed.
     pub fn text(&self, alloc: A) -> Result<String<A>, AllocError> {
         match self {
+            SealError::Empty => String::from_str(
+                alloc,
+                "not sealed: the input is empty, which is the sample world of p9",
+            ),
             SealError::Refused(refusal) => refusal.text(alloc),
             SealError::No(_) => String::from_str(
                 alloc,

@@ -10,7 +10,7 @@ ghost use Rattle.p9_commands.specs.Refusal.{IsStop, or_refused};
 ghost use Rattle.p9_commands.specs.declared.refusal.Refusal.TheVariants.{BadSection};
 ghost use Rattle.p9_seal.specs.Error.{vacuity_against};
 ghost use Rattle.p9_seal.specs.Sealing.{IsBundle, IsSealError, IsSealable, IsSealed, IsUnsealed, IsYes};
-ghost use Rattle.p9_seal.specs.Sealing.{space_of};
+ghost use Rattle.p9_seal.specs.Sealing.{is_empty, space_of};
 ghost use Rattle.p9_seal.specs.Text.{sealed_text};
 
 use crate::error::{SealError, vacuity_against};
@@ -26,15 +26,16 @@ use std::alloc::Allocator;
 /// played over a guard, and served. The world's servers are kept in trees of this type meanwhile.
 ///
 /// A `%% cert` section that is there is replaced, whatever it has. Else the section is put before
-/// the script, or at the end. All other lines are as they were; each line has a newline. An input
-/// without sections is that of the sample world.
+/// the script, or at the end. All other lines are as they were; each line has a newline.
 ///
 /// # Errors
 ///
-/// 1. The input's first fault, as [`prepare`] has it, but for those of the old certificate, which is
+/// 1. The input has nothing but blanks, tabs and newlines: [`SealError::Empty`]. The commands of p9
+///    would take it as the sample world.
+/// 2. The input's first fault, as [`prepare`] has it, but for those of the old certificate, which is
 ///    not read: [`SealError::Refused`].
-/// 2. What is hidden is within reach: [`SealError::No`].
-/// 3. Unless `anyway` is given, a yes that says little: [`SealError::Vacuous`].
+/// 3. What is hidden is within reach: [`SealError::No`].
+/// 4. Unless `anyway` is given, a yes that says little: [`SealError::Vacuous`].
 ///
 /// Where an allocation fails, the error is [`SealError::NoMemory`] in the place of any of these.
 pub fn seal<T: Tree>(
@@ -45,11 +46,23 @@ pub fn seal<T: Tree>(
     ensures ok { IfOk result (λ output. IsSealed input.now anyway (string_bytes output)) }
     ensures err { IfErr result (IsSealError input.now anyway) }
 {
+    if is_empty(input) {
+        return Err(SealError::Empty);
+    }
     let Ok(text) = str::from_utf8(input) else {
         return Err(SealError::Refused(Refusal::NotUtf8));
     };
     let certificate = certificate_of::<T>(alloc, text, anyway)?;
     Ok(sealed(alloc, text, &certificate)?)
+}
+
+// Whether an input has nothing but blanks, tabs and newlines.
+fn is_empty(input: &[u8]) -> bool
+    ensures { result ≡ is_empty input.now }
+{
+    input
+        .iter()
+        .all(|byte| matches!(byte, b' ' | b'\t' | b'\n'))
 }
 
 // The judge's certificate over the name space of an input, if the verdict is a yes that says something.

@@ -1,6 +1,8 @@
 pub mod Finds
-pub mod Trails
 pub mod Ways
+pub mod Mets
+pub mod Orders
 pub mod Tours
+pub mod Walks
 mod Names
 mod Refusals

@@ -1,386 +1,502 @@
 -- Tours: what stays as entries are added, and what an entry more brings.
-use Rattle.std.proofs.Common.{◌≡◌, ◌≢◌, ℕ, zero, suc, ◌+◌, ◌-◌, ◌<◌, ◌≤◌, ◌==◌, Bool, true, false, cond}
-use Rattle.std.proofs.Common.{List, [], ◌∷◌, ◌++◌, Option, Some, None, Ok, Err, Result, ◌⊎◌, inl, inr}
-use Rattle.std.proofs.Common.{length, take, refl, sym, ap, ◌∙◌, subst, append_assoc, append-nil, arith}
-use Rattle.std.specs.Prelude.{MatchBool, slice_get}
-use Rattle.std.specs.List.{filter_map, list_any}
+use Rattle.std.proofs.Common.{◌≡◌, ◌≢◌, ℕ, zero, suc, ◌+◌, ◌<◌, ◌==◌, true, false, cond}
+use Rattle.std.proofs.Common.{List, [], ◌∷◌, ◌++◌, Option, Some, None, ◌⊎◌, inl, inr, length, map}
+use Rattle.std.proofs.Common.{refl, sym, ap, ◌∙◌, subst, append_assoc, append-nil, arith}
+use Rattle.std.specs.Prelude.{slice_get}
+use Rattle.std.specs.Option.{option_map}
 use Rattle.std.proofs.lemmas.Bool.Decides.{nat_tests}
-use Rattle.std.proofs.lemmas.Grind.{common_steps}
-use Rattle.std.proofs.lemmas.List.{length-append}
+use Rattle.std.proofs.lemmas.List.{length-append, length-map, map-append}
 use Rattle.std.proofs.lemmas.List.Elements.{filter_map-append}
-use Rattle.std.proofs.Math.Seq.{take-append_seam}
-use Rattle.p9_base.specs.declared.fault.Fault.{Fault}
 use Rattle.p9_base.specs.declared.node_ref.NodeRef.{NodeRef}
-use Rattle.p9_base.specs.NodeRef.{same_node}
-use Rattle.p9_base.specs.Results.{and_then}
 use Rattle.p9_tree.specs.Server.{Server}
-use Rattle.p9_space.specs.declared.trail.Step.{Step}
-use Rattle.p9_space.specs.declared.trail.Step.TheVariants.{To}
-use Rattle.p9_space.specs.Place.{root_place}
 use Rattle.p9_space.specs.Rights.{Who}
 use Rattle.p9_space.specs.Table.{MountRow}
-use Rattle.p9_space.specs.Trail.{here, stepped}
-use Rattle.p9_space.specs.Walk.{step_of, walk}
-use Rattle.p9_cert.proofs.Basics.{some_same}
-use Rattle.p9_judge.proofs.Lists.{at-within, kept_at, new_at, split_at}
+use Rattle.p9_cert.proofs.Basics.{not_some, some_same}
+use Rattle.p9_judge.proofs.Lists.{at-within, kept_at, map_at, new_at, split_at}
+use Rattle.p9_view.specs.declared.met.Met.{Met}
 use Rattle.p9_view.specs.declared.tour.Entry.{Entry}
 use Rattle.p9_view.specs.declared.tour.Origin.{Origin}
-use Rattle.p9_view.specs.Tour.{AreBelow, IsPathTo, IsTourOf, IsToured, IsWalkTo, entry_below}
-use Rattle.p9_view.specs.Tour.{places_before, root_entry, way_from, ways_below}
-use Rattle.p9_view.specs.Tour.IsPathTo.{Root, Below}
-use Rattle.p9_view.specs.Visit.{IsFresh, IsGrown, IsUnderway, IsVisited, NothingAhead}
-use Rattle.p9_view.specs.Way.{AreWays, Ways}
-use Rattle.p9_view.proofs.Trails.{before-pushed, here-pushed}
+use Rattle.p9_view.specs.declared.way.Access.{Access}
+use Rattle.p9_view.specs.declared.way.Way.{Way}
+use Rattle.p9_view.specs.Met.{met_at, nodes_at}
+use Rattle.p9_view.specs.Tour.{AreInOrder, AreSame, CanFollow, IsEntered, IsTour, entry_below, onward}
+use Rattle.p9_view.specs.Tour.{parents_of, root_entry, way_below, way_from, ways_below}
+use Rattle.p9_view.specs.Visit.{IsUnderway, entries_below}
+use Rattle.p9_view.specs.Way.{ways_from}
+use Rattle.p9_view.proofs.Mets.{nodes-cases}
+use Rattle.p9_view.proofs.Orders.{order-more, order-root}
 
--- What stays.
+-- Lists.
 
--- a path
-path-kept : (entries more : List Entry) (i : ℕ) (names : List (List ℕ)) → IsPathTo entries i names
-    → IsPathTo (entries ++ more) i names
-path-kept entries more i names Root = Root
-path-kept entries more i names (Below _ e origin before at is path) =
-    Below i e origin before (kept_at entries more i e at) is
-    (path-kept entries more origin.parent before path)
+-- the last of a list, and those before
+pub last_at : {X : Type 0} (xs : List X) (x : X) (i : ℕ) (y : X)
+    → slice_get (xs ++ x ∷ []) i ≡ Some y
+    → (slice_get xs i ≡ Some y) ⊎ ((i ≡ length xs) × (x ≡ y))
+last_at xs x i y e = elim (split_at xs (x ∷ []) i y e) [
+  | inl old ↦ inl old
+  | inr new ↦ inr (only new.0 new.1 new.2)
+]
+  where
+    only : (j : ℕ) → i ≡ length xs + j → slice_get (x ∷ []) j ≡ Some y
+        → (i ≡ length xs) × (x ≡ y)
+    only zero at f = (omega arith, some_same x y f)
+    only (suc j) at f = not_some y f
 
--- what is below an entry is below it in the one part or the other
-ways_below-append : (i : ℕ) (entries more : List Entry)
-    → ways_below i (entries ++ more) ≡ ways_below i entries ++ ways_below i more
-ways_below-append i entries more = filter_map-append (λ e. way_from i e.origin e.place) entries more
+pub new_last : {X : Type 0} (xs : List X) (x : X) → slice_get (xs ++ x ∷ []) (length xs) ≡ Some x
+new_last xs x =
+    let index : length xs + 0 ≡ length xs = omega arith in
+    ap (slice_get (xs ++ x ∷ [])) (sym index) ∙ new_at xs (x ∷ []) 0 x refl
 
-module _ (forest : List Server) (table : List MountRow) (who : Option Who) where
-  -- the walk to an entry
-  walk_to-kept : (entries more : List Entry) (i : ℕ) (trail : List NodeRef)
-      → IsWalkTo forest table who entries i trail
-      → IsWalkTo forest table who (entries ++ more) i trail
-  walk_to-kept entries more i trail w = record {
-    names = w.names;
-    path = path-kept entries more i w.names w.path;
-    walked = w.walked;
-  }
+-- the first of a list is that of a longer one
+first_kept : {X : Type 0} (xs ys zs : List X) → 0 < length xs
+    → slice_get (xs ++ ys) 0 ≡ slice_get (xs ++ zs) 0
+first_kept [] ys zs lt = absurd (omega arith)
+first_kept (x ∷ xs) ys zs lt = refl
 
-  -- an entry that is toured, where nothing more is below it
-  toured-kept : (entries more : List Entry) (i : ℕ) (e : Entry)
-      → ways_below i (entries ++ more) ≡ ways_below i entries
-      → IsToured forest table who entries i e → IsToured forest table who (entries ++ more) i e
-  toured-kept entries more i e same t = record {
-    trail = t.trail;
-    walk_to = walk_to-kept entries more i t.trail t.walk_to;
-    arrived = t.arrived;
-    repeated = t.repeated;
-    below = subst (λ ws. AreBelow forest table who e.repeated t.trail ws) (sym same) t.below;
-  }
+nil_left : {X : Type 0} (xs ys : List X) → xs ++ ys ≡ [] → xs ≡ []
+nil_left [] ys e = refl
+nil_left (x ∷ xs) ys e = let no : x ∷ (xs ++ ys) ≡ [] = e in absurd (cc)
 
-  -- Walks.
+nil_right : {X : Type 0} (xs ys : List X) → xs ++ ys ≡ [] → ys ≡ []
+nil_right [] ys e = e
+nil_right (x ∷ xs) ys e = let no : x ∷ (xs ++ ys) ≡ [] = e in absurd (cc)
 
-  -- one name more
-  walk-more : (names : List (List ℕ)) (name : List ℕ) (start trail : List NodeRef) (place : NodeRef)
-      → walk forest table who start names ≡ Ok trail
-      → step_of forest table who trail name ≡ Ok (To place)
-      → walk forest table who start (names ++ name ∷ []) ≡ Ok (trail ++ place ∷ [])
-  walk-more [] name start trail place walked step =
-      let same : start ≡ trail = cc in
-      ap (λ r. and_then r (λ s. Ok (stepped start s)))
-      (ap (λ t. step_of forest table who t name) same ∙ step)
-      ∙ ap (λ t. Ok (t ++ place ∷ [])) same
-  walk-more (first ∷ names) name start trail place walked step =
-      go (step_of forest table who start first)
-      (λ next walked. walk-more names name next trail place walked step) walked
-    where
-      go : (r : Result Step Fault)
-          → ((next : List NodeRef) → walk forest table who next names ≡ Ok trail
-          → walk forest table who next (names ++ name ∷ []) ≡ Ok (trail ++ place ∷ []))
-          → and_then r (λ s. walk forest table who (stepped start s) names) ≡ Ok trail
-          → and_then r (λ s. walk forest table who (stepped start s) (names ++ name ∷ []))
-          ≡ Ok (trail ++ place ∷ [])
-      go (Ok s) rest walked = rest (stepped start s) walked
-      go (Err f) rest walked = let no : Err f ≡ Ok trail = walked in absurd (cc)
+-- A tour with an entry more.
 
--- An entry more.
+pub tour-pushed : (entries : List Entry) (e : Entry) → IsTour entries → CanFollow (length entries) e
+    → IsTour (entries ++ e ∷ [])
+tour-pushed entries e tour follows = record {
+  first = λ i f at none. elim (last_at entries e i f at) [
+    | inl old ↦ tour.first i f old none
+    | inr new ↦ new.0 ∙ follows.first (ap (λ x. x.origin) new.1 ∙ none)
+  ];
+  earlier = λ i f origin at is. elim (last_at entries e i f at) [
+    | inl old ↦ tour.earlier i f origin old is
+    | inr new ↦ subst (λ n. origin.parent < n) (sym new.0)
+        (follows.earlier origin (ap (λ x. x.origin) new.1 ∙ is))
+  ];
+  same = λ i f j at is. elim (last_at entries e i f at) [
+    | inl old ↦ tour.same i f j old is
+    | inr new ↦ subst (λ n. j < n) (sym new.0) (follows.same j (ap (λ x. x.same) new.1 ∙ is))
+  ];
+}
 
-module _ (at : ℕ) (name : List ℕ) (place : NodeRef) (repeated : Bool) (entries : List Entry) where
-  -- the entries with one more, below the one at this index
-  abbrev pub with_one : List Entry
-  with_one = entries ++ entry_below at name place repeated ∷ []
+-- What is below entries.
 
-  one-below : (i : ℕ) → i ≢ at → ways_below i (entry_below at name place repeated ∷ []) ≡ []
-  one-below i apart =
-      let no : (at == i) ≡ false = grind (arith, nat_tests) in rw no refl
+below-append : (i : ℕ) (xs ys : List Entry)
+    → ways_below i (xs ++ ys) ≡ ways_below i xs ++ ways_below i ys
+below-append i xs ys =
+    filter_map-append (λ e. way_from i e.origin e.place e.access) xs ys
 
-  one-at : ways_below at (entry_below at name place repeated ∷ []) ≡ (name, place) ∷ []
-  one-at = let yes : (at == at) ≡ true = grind (arith, nat_tests) in rw yes refl
+-- ways that lead on from one entry are below that
+entries-below : (n : ℕ) (above : Access) (ws : List Way)
+    → ways_below n (entries_below n above ws) ≡ map (way_below above) ws
+entries-below n above [] = refl
+entries-below n above (w ∷ ws) =
+    let yes : (n == n) ≡ true = grind (arith, nat_tests) in
+    rw yes (ap (λ vs. way_below above w ∷ vs) (entries-below n above ws))
 
-  -- nothing more is below the others
-  with_one-other : (i : ℕ) → i ≢ at → ways_below i with_one ≡ ways_below i entries
-  with_one-other i apart =
-      ways_below-append i entries (entry_below at name place repeated ∷ [])
-      ∙ ap (λ ws. ways_below i entries ++ ws) (one-below i apart)
-      ∙ append-nil (ways_below i entries)
+-- and below no other
+entries-apart : (n i : ℕ) (above : Access) (ws : List Way) → i ≢ n
+    → ways_below i (entries_below n above ws) ≡ []
+entries-apart n i above [] apart = refl
+entries-apart n i above (w ∷ ws) apart =
+    let no : (n == i) ≡ false = grind (arith, nat_tests) in
+    rw no (entries-apart n i above ws apart)
 
-  with_one-at : ways_below at with_one ≡ ways_below at entries ++ (name, place) ∷ []
-  with_one-at =
-      ways_below-append at entries (entry_below at name place repeated ∷ [])
-      ∙ ap (λ ws. ways_below at entries ++ ws) one-at
+-- what is at a position among them
+entry_at : (n : ℕ) (above : Access) (ws : List Way) (k : ℕ) (e : Entry)
+    → slice_get (entries_below n above ws) k ≡ Some e
+    → (w : Way) × (entry_below n (way_below above w) ≡ e)
+entry_at n above [] k e at = not_some e at
+entry_at n above (w ∷ ws) zero e at = (w, some_same (entry_below n (way_below above w)) e at)
+entry_at n above (w ∷ ws) (suc k) e at = entry_at n above ws k e at
 
-  with_one-length : length with_one ≡ length entries + 1
-  with_one-length = length-append entries (entry_below at name place repeated ∷ [])
+-- Below which entries they are.
 
-  with_one-ahead : at < length entries → NothingAhead entries → NothingAhead with_one
-  with_one-ahead within ahead i past =
-      let len = with_one-length in
-      with_one-other i (λ e. absurd (omega arith)) ∙ ahead i (omega arith)
+parents-append : (xs ys : List Entry) → parents_of (xs ++ ys) ≡ parents_of xs ++ parents_of ys
+parents-append xs ys =
+    map-append (λ (e : Entry). option_map (λ (o : Origin). o.parent) e.origin) xs ys
 
-  -- the new entry
-  with_one-new : slice_get with_one (length entries) ≡ Some (entry_below at name place repeated)
-  with_one-new =
-      let index : length entries + 0 ≡ length entries = omega arith in
-      ap (slice_get with_one) (sym index)
-      ∙ new_at entries (entry_below at name place repeated ∷ []) 0
-      (entry_below at name place repeated) refl
+parents-length : (xs : List Entry) → length (parents_of xs) ≡ length xs
+parents-length xs =
+    length-map xs (λ (e : Entry). option_map (λ (o : Origin). o.parent) e.origin)
 
-  module _ (forest : List Server) (table : List MountRow) (who : Option Who) (trail : List NodeRef)
-    where
-      -- the walk to the new entry
-      walk_to-new : IsWalkTo forest table who entries at trail
-          → step_of forest table who trail name ≡ Ok (To place)
-          → IsWalkTo forest table who with_one (length entries) (trail ++ place ∷ [])
-      walk_to-new w step = record {
-        names = w.names ++ name ∷ [];
-        path = Below (length entries) (entry_below at name place repeated)
-            (record { parent = at; name = name }) w.names with_one-new refl
-            (path-kept entries (entry_below at name place repeated ∷ []) at w.names w.path);
-        walked = walk-more forest table who w.names name (root_place ∷ []) trail place w.walked step;
-      }
+-- that of each of the ways that lead on from one entry
+parent_below : (n : ℕ) (above : Access) (ws : List Way) (k : ℕ) (x : Option ℕ)
+    → slice_get (parents_of (entries_below n above ws)) k ≡ Some x → x ≡ Some n
+parent_below n above [] k x at = not_some x at
+parent_below n above (w ∷ ws) zero x at = sym (some_same (Some n) x at)
+parent_below n above (w ∷ ws) (suc k) x at = parent_below n above ws k x at
 
-      -- nothing is below it yet
-      pub fresh-new : IsWalkTo forest table who entries at trail
-          → step_of forest table who trail name ≡ Ok (To place)
-          → at < length entries → NothingAhead entries
-          → IsFresh forest table who (trail ++ place ∷ []) (length entries) with_one
-      fresh-new w step within ahead =
-          let len = with_one-length in
-          record {
-            within = omega arith;
-            walk_to = walk_to-new w step;
-            bare = with_one-other (length entries) (λ e. absurd (omega arith))
-                ∙ ahead (length entries) (omega arith);
-            ahead = with_one-ahead within ahead;
-          }
-
-      -- it is toured, as soon as all that is to be below it is there
-      toured-new : (after more : List Entry) → after ≡ with_one ++ more
-          → IsWalkTo forest table who entries at trail
-          → step_of forest table who trail name ≡ Ok (To place)
-          → repeated ≡ list_any (same_node place) trail
-          → AreBelow forest table who repeated (trail ++ place ∷ [])
-          (ways_below (length entries) after)
-          → IsToured forest table who after (length entries) (entry_below at name place repeated)
-      toured-new after more is w step on below = record {
-        trail = trail ++ place ∷ [];
-        walk_to = subst (λ es. IsWalkTo forest table who es (length entries) (trail ++ place ∷ []))
-            (sym is)
-            (walk_to-kept forest table who with_one more (length entries) (trail ++ place ∷ [])
-            (walk_to-new w step));
-        arrived = here-pushed trail place;
-        repeated = on ∙ ap (list_any (same_node place)) (sym (before-pushed trail place));
-        below = below;
-      }
+-- an entry that is below another
+parent_there : (xs : List Entry) (k p : ℕ) → slice_get (parents_of xs) k ≡ Some (Some p)
+    → (e : Entry) × (o : Origin) × (slice_get xs k ≡ Some e) × (e.origin ≡ Some o) × (o.parent ≡ p)
+parent_there xs k p at =
+    let image = map_at (λ (e : Entry). option_map (λ (o : Origin). o.parent) e.origin) xs k (Some p) at in
+    go image.0 image.1 image.0.origin refl image.2
+  where
+    go : (e : Entry) → slice_get xs k ≡ Some e → (origin : Option Origin) → e.origin ≡ origin
+        → option_map (λ (o : Origin). o.parent) origin ≡ Some p
+        → (e : Entry) × (o : Origin) × (slice_get xs k ≡ Some e) × (e.origin ≡ Some o)
+        × (o.parent ≡ p)
+    go e there None none f = not_some p f
+    go e there (Some o) some f = (e, o, there, some, some_same o.parent p f)
 
 module _ (forest : List Server) (table : List MountRow) (who : Option Who) where
-  -- nothing is added
-  pub grown-none : (at : ℕ) (entries : List Entry) → NothingAhead entries
-      → IsGrown forest table who at entries entries
-  grown-none at entries ahead = record {
-    more = [];
-    is = sym (append-nil entries);
-    others = λ i within apart. refl;
-    toured = λ i e past there.
-        absurd (let within = at-within entries i e there in omega arith);
-    ahead = ahead;
+  -- an entry that the tour goes on from
+  entered-kept : (entries more : List Entry) (i : ℕ) (nodes : List NodeRef)
+      → IsEntered forest table who entries i nodes
+      → IsEntered forest table who (entries ++ more) i nodes
+  entered-kept entries more i nodes t = record {
+    e = t.e;
+    at = kept_at entries more i t.e t.at;
+    new = t.new;
+    nodes_of = t.nodes_of;
   }
 
-  pub underway-none : (trail : List NodeRef) (at : ℕ) (entries : List Entry)
-      → IsFresh forest table who trail at entries → IsUnderway forest table who at [] entries entries
-  underway-none trail at entries fresh =
-      record { grown = grown-none at entries fresh.ahead; below = fresh.bare }
+  entered-within : (entries : List Entry) (i : ℕ) (nodes : List NodeRef)
+      → IsEntered forest table who entries i nodes → i < length entries
+  entered-within entries i nodes t = at-within entries i t.e t.at
 
-  module _ (at : ℕ) (name : List ℕ) (place : NodeRef) (repeated : Bool)
-      (done : Ways) (start entries after : List Entry) (within : at < length start)
-      (underway : IsUnderway forest table who at done start entries)
-      (grown : IsGrown forest table who (length entries)
-      (with_one at name place repeated entries) after)
-      (child : IsToured forest table who after (length entries)
-      (entry_below at name place repeated)) where
-    abbrev one : List Entry
-    one = with_one at name place repeated entries
+  -- an entry more: it is among those before, or is the new one
+  entered-split : (entries : List Entry) (e : Entry) (i : ℕ) (nodes : List NodeRef)
+      → IsEntered forest table who (entries ++ e ∷ []) i nodes
+      → IsEntered forest table who entries i nodes
+      ⊎ ((i ≡ length entries) × (e.same ≡ None) × (nodes_at e.place table ≡ nodes))
+  entered-split entries e i nodes t = elim (last_at entries e i t.e t.at) [
+    | inl old ↦ inl (record { e = t.e; at = old; new = t.new; nodes_of = t.nodes_of })
+    | inr new ↦ inr (
+      new.0,
+      ap (λ x. x.same) new.1 ∙ t.new,
+      ap (λ (x : Entry). nodes_at x.place table) new.1 ∙ t.nodes_of,
+    )
+  ]
 
-    abbrev rest : List Entry
-    rest = entry_below at name place repeated ∷ grown.more
+  same-kept : (entries : List Entry) (e : Entry) → AreSame forest table who entries
+      → ((j : ℕ) → e.same ≡ Some j
+      → IsEntered forest table who entries j (nodes_at e.place table))
+      → AreSame forest table who (entries ++ e ∷ [])
+  same-kept entries e same last i j f at is = elim (last_at entries e i f at) [
+    | inl old ↦
+        let before = same i j f old is in
+        (before.0, entered-kept entries (e ∷ []) j (nodes_at f.place table) before.1)
+    | inr new ↦
+        let there = last j (ap (λ x. x.same) new.1 ∙ is) in
+        let low = entered-within entries j (nodes_at e.place table) there in (
+          subst (λ n. j < n) (sym new.0) low,
+          subst (λ (x : Entry). IsEntered forest table who (entries ++ e ∷ []) j
+              (nodes_at x.place table)) new.1
+              (entered-kept entries (e ∷ []) j (nodes_at e.place table) there),
+        )
+  ]
 
-    longer : length entries ≡ length start + length underway.grown.more
-    longer = ap length underway.grown.is ∙ length-append start underway.grown.more
-
-    from_entries : after ≡ entries ++ rest
-    from_entries =
-        grown.is ∙ append_assoc entries (entry_below at name place repeated ∷ []) grown.more
-
-    -- nothing more is below the entries that were there
-    other : (i : ℕ) → i < length entries → i ≢ at → ways_below i after ≡ ways_below i entries
-    other i low apart =
-        let len = with_one-length at name place repeated entries in
-        grown.others i (omega arith) (λ e. absurd (omega arith))
-        ∙ with_one-other at name place repeated entries i apart
-
-    each : (i : ℕ) (e : Entry) → length start ≤ i → slice_get after i ≡ Some e
-        → IsToured forest table who after i e
-    each i e past there =
-        elim (split_at entries rest i e (ap (λ es. slice_get es i) (sym from_entries) ∙ there)) [
-          | inl old ↦
-              let low = at-within entries i e old in
-              let same : ways_below i (entries ++ rest) ≡ ways_below i entries =
-              ap (ways_below i) (sym from_entries) ∙ other i low (λ e. absurd (omega arith)) in
-              subst (λ es. IsToured forest table who es i e) (sym from_entries)
-              (toured-kept forest table who entries rest i e same
-              (underway.grown.toured i e past old))
-          | inr new ↦ by new.0 new.1 new.2
-        ]
+  module _ {Z : Type 0} where
+    -- no entry yet
+    pub underway-root : (met : Met Z) → ((nodes : List NodeRef) → met_at met nodes ≡ None)
+        → IsUnderway forest table who [] (root_entry ∷ []) met
+    underway-root met empty = record {
+      root = refl;
+      below = λ i e at. not_some e at;
+      ahead = λ i low. refl;
+      order = order-root;
+      first = only;
+      earlier = λ k e origin at is. none k e origin at is;
+      new = fresh;
+      found = λ nodes i e. not_some i (sym (empty nodes) ∙ e);
+      known = λ nodes i t. not_some t.e t.at;
+      same = λ i j e at is. not_some e at;
+    }
       where
-        by : (j : ℕ) → i ≡ length entries + j → slice_get rest j ≡ Some e
-            → IsToured forest table who after i e
-        by zero at_end found =
-            let here : length entries ≡ i = omega arith in
-            subst (λ k. IsToured forest table who after k e) here
-            (subst (λ f. IsToured forest table who after (length entries) f)
-            (some_same (entry_below at name place repeated) e found) child)
-        by (suc j) later found =
-            let len = with_one-length at name place repeated entries in
-            grown.toured i e (omega arith) there
+        only : (k : ℕ) (e : Entry) → slice_get (root_entry ∷ []) k ≡ Some e → e.origin ≡ None
+            → 0 + k ≡ 0
+        only zero e at is = omega arith
+        only (suc k) e at is = not_some e at
 
-    -- a way more
-    pub underway-more : IsUnderway forest table who at (done ++ (name, place) ∷ []) start after
-    underway-more =
-        let len = with_one-length at name place repeated entries in
-        let long = longer in
-        let more = underway.grown.more in
-        let new = entry_below at name place repeated in
-        record {
-          grown = record {
-            more = (more ++ new ∷ []) ++ grown.more;
-            is = grown.is
-                ∙ ap (λ es. (es ++ new ∷ []) ++ grown.more) underway.grown.is
-                ∙ ap (λ es. es ++ grown.more) (append_assoc start more (new ∷ []))
-                ∙ append_assoc start (more ++ new ∷ []) grown.more;
-            others = λ i low apart. other i (omega arith) apart ∙ underway.grown.others i low apart;
-            toured = each;
-            ahead = grown.ahead;
-          };
-          below = grown.others at (omega arith) (λ e. absurd (omega arith))
-              ∙ with_one-at at name place repeated entries
-              ∙ ap (λ ws. ws ++ (name, place) ∷ []) underway.below;
+        none : (k : ℕ) (e : Entry) (origin : Origin) → slice_get (root_entry ∷ []) k ≡ Some e
+            → e.origin ≡ Some origin → origin.parent < 0
+        none zero e origin at is =
+            not_some origin (ap (λ x. x.origin) (some_same root_entry e at) ∙ is)
+        none (suc k) e origin at is = not_some e at
+
+        fresh : (k : ℕ) (e : Entry) → slice_get (root_entry ∷ []) k ≡ Some e → e.same ≡ None
+        fresh zero e at = sym (ap (λ x. x.same) (some_same root_entry e at))
+        fresh (suc k) e at = not_some e at
+
+    module _ (entries rest : List Entry) (e : Entry) (met : Met Z)
+        (underway : IsUnderway forest table who entries (e ∷ rest) met) where
+      -- the next may be added
+      pub can_follow : CanFollow (length entries) e
+      can_follow = record {
+        first = λ none. let zero_at = underway.first 0 e refl none in omega arith;
+        earlier = λ origin is. underway.earlier 0 e origin refl is;
+        same = λ j is. not_some j (sym (underway.new 0 e refl) ∙ is);
+      }
+
+      length-more : (f : Entry) → length (entries ++ f ∷ []) ≡ length entries + 1
+      length-more f = length-append entries (f ∷ [])
+
+      -- what is first among those that wait after it
+      later-first : (k : ℕ) (f : Entry) → slice_get rest k ≡ Some f → f.origin ≡ None → ⊥
+      later-first k f at none =
+          let zero_at = underway.first (suc k) f at none in absurd (omega arith)
+
+      -- the next has the members of an earlier entry
+      module _ (j : ℕ) (met_before : met_at met (nodes_at e.place table) ≡ Some j) where
+        abbrev again : Entry
+        again = record e { same = Some j }
+
+        there : IsEntered forest table who entries j (nodes_at e.place table)
+        there = underway.found (nodes_at e.place table) j met_before
+
+        some : 0 < length entries
+        some = let low = entered-within entries j (nodes_at e.place table) there in omega arith
+
+        within : j < length entries
+        within = entered-within entries j (nodes_at e.place table) there
+
+        pub can_follow-same : CanFollow (length entries) (record e { same = Some j })
+        can_follow-same = record {
+          first = can_follow.first;
+          earlier = can_follow.earlier;
+          same = λ i is. subst (λ n. n < length entries) (some_same j i is) within;
         }
 
-  -- The walk to the entry stays while entries are added.
-  walk_to-grown : (at : ℕ) (trail : List NodeRef) (done : Ways) (start entries : List Entry)
-      → IsWalkTo forest table who start at trail
-      → IsUnderway forest table who at done start entries
-      → IsWalkTo forest table who entries at trail
-  walk_to-grown at trail done start entries w underway =
-      subst (λ es. IsWalkTo forest table who es at trail) (sym underway.grown.is)
-      (walk_to-kept forest table who start underway.grown.more at trail w)
+        joined : (i : ℕ) → ways_below i ((entries ++ again ∷ []) ++ rest)
+            ≡ ways_below i (entries ++ e ∷ rest)
+        joined i =
+            ap (ways_below i) (append_assoc entries (again ∷ []) rest)
+            ∙ below-append i entries (again ∷ rest)
+            ∙ sym (below-append i entries (e ∷ rest))
 
-  module _ (at : ℕ) (trail : List NodeRef) (done : Ways) (start entries : List Entry)
-      (fresh : IsFresh forest table who trail at start)
-      (underway : IsUnderway forest table who at done start entries) (name : List ℕ)
-      (place : NodeRef) (step : step_of forest table who trail name ≡ Ok (To place)) where
-    there : IsWalkTo forest table who entries at trail
-    there = walk_to-grown at trail done start entries fresh.walk_to underway
+        parents-same : parents_of ((entries ++ again ∷ []) ++ rest)
+            ≡ parents_of (entries ++ e ∷ rest)
+        parents-same =
+            ap parents_of (append_assoc entries (again ∷ []) rest)
+            ∙ parents-append entries (again ∷ rest) ∙ sym (parents-append entries (e ∷ rest))
 
-    within : at < length entries
-    within =
-        let low = fresh.within in
-        let long : length entries ≡ length start + length underway.grown.more =
-        ap length underway.grown.is ∙ length-append start underway.grown.more in
-        omega arith
+        below-same : (i : ℕ) (f : Entry) → slice_get (entries ++ again ∷ []) i ≡ Some f
+            → ways_below i ((entries ++ again ∷ []) ++ rest) ≡ onward forest table who f
+        below-same i f at = elim (last_at entries again i f at) [
+          | inl old ↦ joined i ∙ underway.below i f old
+          | inr new ↦
+              joined i
+              ∙ underway.ahead i (let at_end = new.0 in omega arith)
+              ∙ ap (onward forest table who) new.1
+        ]
 
-    -- what is to be visited below the entry
-    pub fresh-below : IsFresh forest table who (trail ++ place ∷ []) (length entries)
-        (with_one at name place false entries)
-    fresh-below =
-        fresh-new at name place false entries forest table who trail there step within
-        underway.grown.ahead
+        found-same : (nodes : List NodeRef) (i : ℕ) → met_at met nodes ≡ Some i
+            → IsEntered forest table who (entries ++ again ∷ []) i nodes
+        found-same nodes i is =
+            entered-kept entries (again ∷ []) i nodes (underway.found nodes i is)
 
-    -- a place on the way to itself
-    pub underway-circle : list_any (same_node place) trail ≡ true
-        → IsUnderway forest table who at (done ++ (name, place) ∷ []) start
-        (with_one at name place true entries)
-    underway-circle on =
-        let one = with_one at name place true entries in
-        let new =
-        fresh-new at name place true entries forest table who trail there step within
-        underway.grown.ahead in
-        underway-more at name place true done start entries one fresh.within underway
-        (grown-none (length entries) one new.ahead)
-        (toured-new at name place true entries forest table who trail one []
-        (sym (append-nil one)) there step (sym on) new.bare)
+        known-same : (nodes : List NodeRef) (i : ℕ)
+            → IsEntered forest table who (entries ++ again ∷ []) i nodes
+            → met_at met nodes ≡ Some i
+        known-same nodes i t = elim (entered-split entries again i nodes t) [
+          | inl old ↦ underway.known nodes i old
+          | inr new ↦ not_some j (sym new.1)
+        ]
 
-    -- another, below which all was visited
-    pub underway-visited : (after : List Entry) → list_any (same_node place) trail ≡ false
-        → IsVisited forest table who (trail ++ place ∷ []) (length entries)
-        (with_one at name place false entries) after
-        → IsUnderway forest table who at (done ++ (name, place) ∷ []) start after
-    underway-visited after on visited =
-        underway-more at name place false done start entries after fresh.within underway
-        visited.grown
-        (toured-new at name place false entries forest table who trail after visited.grown.more
-        visited.grown.is there step (sym on) visited.below)
+        pub underway-same : IsUnderway forest table who (entries ++ record e { same = Some j } ∷ [])
+            rest met
+        underway-same =
+            let len = length-more again in record {
+              root = ap (λ es. slice_get es 0) (append_assoc entries (again ∷ []) rest)
+                  ∙ first_kept entries (again ∷ rest) (e ∷ rest) some ∙ underway.root;
+              below = below-same;
+              ahead = λ i low. joined i ∙ underway.ahead i (omega arith);
+              order = subst AreInOrder (sym parents-same) underway.order;
+              first = λ k f at none. absurd (later-first k f at none);
+              earlier = λ k f origin at is.
+                  let low = underway.earlier (suc k) f origin at is in omega arith;
+              new = λ k f at. underway.new (suc k) f at;
+              found = found-same;
+              known = known-same;
+              same = same-kept entries again underway.same
+                  (λ i is. subst (λ n. IsEntered forest table who entries n
+                  (nodes_at e.place table)) (some_same j i is) there);
+            }
 
-  -- all ways are below the entry
-  pub visited-all : (at : ℕ) (trail : List NodeRef) (ways : Ways) (start entries : List Entry)
-      → AreWays forest table who trail ways → IsUnderway forest table who at ways start entries
-      → IsVisited forest table who trail at start entries
-  visited-all at trail ways start entries are underway = record {
-    grown = underway.grown;
-    below = subst (λ ws. AreWays forest table who trail ws) (sym underway.below) are;
-  }
+      -- the next has members that were not met
+      module _ (new_met : Met Z)
+          (not_met : met_at met (nodes_at e.place table) ≡ None)
+          (at_new : met_at new_met (nodes_at e.place table) ≡ Some (length entries))
+          (others : (nodes : List NodeRef) → nodes ≢ nodes_at e.place table
+          → met_at new_met nodes ≡ met_at met nodes) where
+        ways : List Way
+        ways = ways_from forest table who e.place
 
-  -- or none
-  pub visited-none : (at : ℕ) (trail : List NodeRef) (entries : List Entry)
-      → AreWays forest table who trail [] → IsFresh forest table who trail at entries
-      → IsVisited forest table who trail at entries entries
-  visited-none at trail entries are fresh =
-      visited-all at trail [] entries entries are (underway-none trail at entries fresh)
+        more : List Entry
+        more = entries_below (length entries) e.access (ways_from forest table who e.place)
 
-  -- From the root place.
+        grown : (i : ℕ)
+            → ways_below i ((entries ++ e ∷ [])
+            ++ (entries_below (length entries) e.access (ways_from forest table who e.place) ++ rest))
+            ≡ ways_below i (entries ++ e ∷ [])
+            ++ (ways_below i (entries_below (length entries) e.access
+            (ways_from forest table who e.place)) ++ ways_below i rest)
+        grown i =
+            let added = entries_below (length entries) e.access (ways_from forest table who e.place) in
+            below-append i (entries ++ e ∷ []) (added ++ rest)
+            ∙ ap (λ ws. ways_below i (entries ++ e ∷ []) ++ ws) (below-append i added rest)
 
-  pub fresh-root : IsFresh forest table who (root_place ∷ []) 0 (root_entry ∷ [])
-  fresh-root = record {
-    within = omega arith;
-    walk_to = record { names = []; path = Root; walked = refl };
-    bare = refl;
-    ahead = λ i past. refl;
-  }
+        before : (i : ℕ) → ways_below i (entries ++ e ∷ []) ++ ways_below i rest
+            ≡ ways_below i (entries ++ e ∷ rest)
+        before i =
+            sym (below-append i (entries ++ e ∷ []) rest)
+            ∙ ap (ways_below i) (append_assoc entries (e ∷ []) rest)
 
-  pub tour-root : (entries : List Entry)
-      → IsVisited forest table who (root_place ∷ []) 0 (root_entry ∷ []) entries
-      → IsTourOf forest table who entries
-  tour-root entries visited =
-      let root =
-      ap (λ es. slice_get es 0) visited.grown.is in
-      record { root = root; each = each }
-    where
-      each : (i : ℕ) (e : Entry) → slice_get entries i ≡ Some e
-          → IsToured forest table who entries i e
-      each zero e there =
-          subst (λ f. IsToured forest table who entries 0 f)
-          (some_same root_entry e
-          (sym (ap (λ es. slice_get es 0) visited.grown.is) ∙ there))
-          (record {
-            trail = root_place ∷ [];
-            walk_to = subst (λ es. IsWalkTo forest table who es 0 (root_place ∷ []))
-                (sym visited.grown.is)
-                (walk_to-kept forest table who (root_entry ∷ []) visited.grown.more 0
-                (root_place ∷ []) fresh-root.walk_to);
-            arrived = refl;
-            repeated = refl;
-            below = visited.below;
-          })
-      each (suc i) e there = visited.grown.toured (suc i) e (omega arith) there
+        -- nothing more is below the other entries
+        grown-other : (i : ℕ) → i ≢ length entries
+            → ways_below i ((entries ++ e ∷ [])
+            ++ (entries_below (length entries) e.access (ways_from forest table who e.place) ++ rest))
+            ≡ ways_below i (entries ++ e ∷ rest)
+        grown-other i apart =
+            grown i
+            ∙ ap (λ ws. ways_below i (entries ++ e ∷ []) ++ (ws ++ ways_below i rest))
+            (entries-apart (length entries) i e.access (ways_from forest table who e.place) apart)
+            ∙ before i
+
+        -- all ways are below the new one
+        grown-new : ways_below (length entries) ((entries ++ e ∷ [])
+            ++ (entries_below (length entries) e.access (ways_from forest table who e.place) ++ rest))
+            ≡ onward forest table who e
+        grown-new =
+            let n = length entries in
+            let ws = map (way_below e.access) (ways_from forest table who e.place) in
+            let none : ways_below n (entries ++ e ∷ []) ++ ways_below n rest ≡ [] =
+            before n ∙ underway.ahead n (omega arith) in
+            let left = nil_left (ways_below n (entries ++ e ∷ [])) (ways_below n rest) none in
+            let right = nil_right (ways_below n (entries ++ e ∷ [])) (ways_below n rest) none in
+            grown n
+            ∙ ap (λ vs. vs ++ (ways_below n (entries_below n e.access
+            (ways_from forest table who e.place)) ++ ways_below n rest)) left
+            ∙ ap (λ vs. ways_below n (entries_below n e.access
+            (ways_from forest table who e.place)) ++ vs) right
+            ∙ append-nil (ways_below n (entries_below n e.access
+            (ways_from forest table who e.place)))
+            ∙ entries-below n e.access (ways_from forest table who e.place)
+            ∙ ap (λ o. cond (Rattle.std.specs.Prelude.is_some o) [] ws)
+            (sym (underway.new 0 e refl))
+
+        below-new : (i : ℕ) (f : Entry) → slice_get (entries ++ e ∷ []) i ≡ Some f
+            → ways_below i ((entries ++ e ∷ [])
+            ++ (entries_below (length entries) e.access (ways_from forest table who e.place) ++ rest))
+            ≡ onward forest table who f
+        below-new i f at = elim (last_at entries e i f at) [
+          | inl old ↦
+              let low = at-within entries i f old in
+              grown-other i (λ same. absurd (omega arith)) ∙ underway.below i f old
+          | inr new ↦
+              subst (λ k. ways_below k ((entries ++ e ∷ [])
+              ++ (entries_below (length entries) e.access (ways_from forest table who e.place) ++ rest))
+              ≡ onward forest table who f) (sym new.0)
+              (grown-new ∙ ap (onward forest table who) new.1)
+        ]
+
+        -- what is new stands after the entry, and before what is below earlier ones
+        order-new : AreInOrder (parents_of ((entries ++ e ∷ [])
+            ++ (entries_below (length entries) e.access (ways_from forest table who e.place) ++ rest)))
+        order-new =
+            let added = entries_below (length entries) e.access
+            (ways_from forest table who e.place) in
+            let before = parents_of (entries ++ e ∷ []) in
+            subst AreInOrder
+            (sym (parents-append (entries ++ e ∷ []) (added ++ rest)
+            ∙ ap (λ ps. before ++ ps) (parents-append added rest)))
+            (order-more before (parents_of added) (parents_of rest) (length entries)
+            (parents-length (entries ++ e ∷ []) ∙ length-more e)
+            (parent_below (length entries) e.access (ways_from forest table who e.place))
+            (λ k p at.
+            let there = parent_there rest k p at in
+            subst (λ m. m < length entries) there.4
+            (underway.earlier (suc k) there.0 there.1 there.2 there.3))
+            (subst AreInOrder
+            (ap parents_of (sym (append_assoc entries (e ∷ []) rest))
+            ∙ parents-append (entries ++ e ∷ []) rest) underway.order))
+
+        -- what waits: the new ones, which are below the new entry, and those that waited before
+        waiting-new : (P : Entry → Type 0)
+            → ((w : Way) → P (entry_below (length entries) (way_below e.access w)))
+            → ((k : ℕ) (f : Entry) → slice_get rest k ≡ Some f → P f)
+            → (k : ℕ) (f : Entry)
+            → slice_get (entries_below (length entries) e.access (ways_from forest table who e.place)
+            ++ rest) k ≡ Some f → P f
+        waiting-new P is_new was k f at =
+            elim (split_at (entries_below (length entries) e.access
+            (ways_from forest table who e.place)) rest k f at) [
+              | inl added ↦
+                  let w = entry_at (length entries) e.access (ways_from forest table who e.place) k f
+                  added in
+                  subst P w.1 (is_new w.0)
+              | inr old ↦ was old.0 f old.2
+            ]
+
+        found-new : (nodes : List NodeRef) (i : ℕ) → met_at new_met nodes ≡ Some i
+            → IsEntered forest table who (entries ++ e ∷ []) i nodes
+        found-new nodes i is = elim (nodes-cases nodes (nodes_at e.place table)) [
+          | inl same ↦
+              let at : length entries ≡ i =
+              some_same (length entries) i (sym at_new ∙ ap (met_at new_met) (sym same) ∙ is) in
+              record {
+                e = e;
+                at = ap (slice_get (entries ++ e ∷ [])) (sym at) ∙ new_last entries e;
+                new = underway.new 0 e refl;
+                nodes_of = sym same;
+              }
+          | inr apart ↦
+              entered-kept entries (e ∷ []) i nodes
+              (underway.found nodes i (sym (others nodes apart) ∙ is))
+        ]
+
+        known-new : (nodes : List NodeRef) (i : ℕ)
+            → IsEntered forest table who (entries ++ e ∷ []) i nodes
+            → met_at new_met nodes ≡ Some i
+        known-new nodes i t = elim (entered-split entries e i nodes t) [
+          | inl old ↦
+              let was = underway.known nodes i old in
+              others nodes
+              (λ same. not_some i (sym (ap (met_at met) same ∙ not_met) ∙ was))
+              ∙ was
+          | inr new ↦ ap (met_at new_met) (sym new.2) ∙ at_new ∙ ap Some (sym new.0)
+        ]
+
+        pub underway-new : IsUnderway forest table who (entries ++ e ∷ [])
+            (entries_below (length entries) e.access (ways_from forest table who e.place) ++ rest)
+            new_met
+        underway-new =
+            let len = length-more e in
+            let added = entries_below (length entries) e.access
+            (ways_from forest table who e.place) in record {
+              root = root entries underway.root;
+              below = below-new;
+              ahead = λ i low.
+                  grown-other i (λ same. absurd (omega arith)) ∙ underway.ahead i (omega arith);
+              order = order-new;
+              first = λ k f at none.
+                  absurd (waiting-new (λ x. x.origin ≡ None → ⊥)
+                  (λ w is. not_some (record { parent = length entries; name = w.name }) (sym is))
+                  later-first k f at none);
+              earlier = λ k f origin at is.
+                  waiting-new (λ x. x.origin ≡ Some origin → origin.parent < length (entries ++ e ∷ []))
+                  (λ w is. subst (λ (o : Origin). o.parent < length (entries ++ e ∷ []))
+                  (some_same (record { parent = length entries; name = w.name }) origin is)
+                  (omega arith))
+                  (λ j x there is.
+                  let low = underway.earlier (suc j) x origin there is in omega arith) k f at is;
+              new = λ k f at.
+                  waiting-new (λ x. x.same ≡ None) (λ w. refl)
+                  (λ j x there. underway.new (suc j) x there) k f at;
+              found = found-new;
+              known = known-new;
+              same = same-kept entries e underway.same
+                  (λ j is. not_some j (sym (underway.new 0 e refl) ∙ is));
+            }
+          where
+            root : (xs : List Entry) → slice_get (xs ++ e ∷ rest) 0 ≡ Some root_entry
+                → slice_get ((xs ++ e ∷ [])
+                ++ (entries_below (length entries) e.access (ways_from forest table who e.place)
+                ++ rest)) 0 ≡ Some root_entry
+            root [] is = is
+            root (x ∷ xs) is = is

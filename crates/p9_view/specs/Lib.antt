@@ -1,4 +1,5 @@
 pub mod Way
+pub mod Met
 pub mod Tour
 pub mod Visit
 pub mod Mode

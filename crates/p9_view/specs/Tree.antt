@@ -1,9 +1,8 @@
 -- The tree of a name space, as it is printed: a line for each entry of a tour.
-use Rattle.std.specs.Prelude.{◌≡◌, ℕ, ◌+◌, List, [], ◌∷◌, ◌++◌, Option, Some, None, Result, Ok, Err}
+use Rattle.std.specs.Prelude.{◌≡◌, ℕ, ◌+◌, List, [], ◌++◌, Option, Some, None, Result, Ok, Err}
 use Rattle.std.specs.Prelude.{MatchOption, codes, find, length, slice_get}
 use Rattle.std.specs.Str.{bytes_eq}
-use Rattle.p9_base.specs.declared.stop.Stop.{Stop}
-use Rattle.p9_base.specs.declared.stop.Stop.TheVariants.{NoMemory, Refused}
+use Rattle.p9_shown.specs.Text.{shown_text}
 use Rattle.p9_space.specs.Rights.{Who}
 use Rattle.p9_world.specs.World.{World}
 use Rattle.p9_commands.specs.NameSpace.{NameSpace}
@@ -11,16 +10,16 @@ use Rattle.p9_commands.specs.Prepared.{Prepared, Rejected, rejected_text}
 use Rattle.p9_commands.specs.Report.{reports_text}
 use Rattle.p9_view.specs.declared.tour.Entry.{Entry}
 use Rattle.p9_view.specs.Line.{line_text}
-use Rattle.p9_view.specs.Tour.{IsPathTo, IsTourOf}
+use Rattle.p9_view.specs.Tour.{IsTextOfSame, IsTextTo, IsTourOf}
 
 -- the text has the lines of the first so many entries, in their order
 pub data AreLines (space : NameSpace) (who : Option Who) (entries : List Entry) :
     ℕ → List ℕ → Type 0 where
   NoLine : AreLines space who entries 0 []
-  OneMore : (i : ℕ) (text : List ℕ) (e : Entry) (names : List (List ℕ))
+  OneMore : (i : ℕ) (text : List ℕ) (e : Entry) (path : List ℕ) (same : Option (List ℕ))
       → AreLines space who entries i text → slice_get entries i ≡ Some e
-      → IsPathTo entries i names
-      → AreLines space who entries (i + 1) (text ++ line_text space who names e)
+      → IsTextTo entries i path → IsTextOfSame entries e.same same
+      → AreLines space who entries (i + 1) (text ++ line_text space who path same e)
 
 -- the text has a line for each entry of a tour of the name space
 pub record IsTree (space : NameSpace) (who : Option Who) (text : List ℕ) : Type 0 where
@@ -48,7 +47,7 @@ pub record IsRefused (reports : List ℕ) (status : ℕ)
 
 -- the user is not listed
 abbrev pub unlisted_text : List ℕ → List ℕ
-unlisted_text user = user ++ codes ": no listed user\n"
+unlisted_text user = shown_text user ++ codes ": no listed user\n"
 
 -- a listed user, with the world's groups
 abbrev pub who_in : World → List ℕ → Who

@@ -1,40 +1,39 @@
--- What a tour has when it begins to go through what is below an entry, and after that.
-use Rattle.std.specs.Prelude.{◌≡◌, ◌≢◌, ℕ, ◌<◌, ◌≤◌, List, [], ◌++◌, Option, Some, length, slice_get}
+-- What a tour has while entries are waiting, the next first.
+use Rattle.std.specs.Prelude.{◌≡◌, ℕ, ◌+◌, ◌<◌, ◌≤◌, List, [], ◌++◌, Option, Some, None, length}
+use Rattle.std.specs.Prelude.{map, slice_get}
 use Rattle.p9_base.specs.declared.node_ref.NodeRef.{NodeRef}
 use Rattle.p9_tree.specs.Server.{Server}
 use Rattle.p9_space.specs.Rights.{Who}
 use Rattle.p9_space.specs.Table.{MountRow}
+use Rattle.p9_view.specs.declared.met.Met.{Met}
 use Rattle.p9_view.specs.declared.tour.Entry.{Entry}
-use Rattle.p9_view.specs.Tour.{IsToured, IsWalkTo, ways_below}
-use Rattle.p9_view.specs.Way.{AreWays, Ways}
+use Rattle.p9_view.specs.declared.tour.Origin.{Origin}
+use Rattle.p9_view.specs.declared.way.Access.{Access}
+use Rattle.p9_view.specs.declared.way.Way.{Way}
+use Rattle.p9_view.specs.Met.{met_at}
+use Rattle.p9_view.specs.Tour.{AreInOrder, AreSame, IsEntered, entry_below, onward, parents_of, root_entry, way_below, ways_below}
 
--- nothing is below an entry that is not there
-abbrev pub NothingAhead : List Entry → Type 0
-NothingAhead entries = (i : ℕ) → length entries ≤ i → ways_below i entries ≡ []
+-- the entries of ways that lead on from the entry of an index
+abbrev pub entries_below : ℕ → Access → List Way → List Entry
+entries_below at above ways = map (λ way. entry_below at (way_below above way)) ways
 
 module _ (forest : List Server) (table : List MountRow) (who : Option Who) where
-  -- the trail leads to the entry of this index, below which there is nothing yet
-  pub record IsFresh (trail : List NodeRef) (at : ℕ) (entries : List Entry) : Type 0 where
-    pub within : at < length entries
-    pub walk_to : IsWalkTo forest table who entries at trail
-    pub bare : ways_below at entries ≡ []
-    pub ahead : NothingAhead entries
-
-  -- toured entries were added, below the entry of this index or below one of them
-  pub record IsGrown (at : ℕ) (old new : List Entry) : Type 0 where
-    pub more : List Entry
-    pub is : new ≡ old ++ more
-    pub others : (i : ℕ) → i < length old → i ≢ at → ways_below i new ≡ ways_below i old
-    pub toured : (i : ℕ) (e : Entry) → length old ≤ i → slice_get new i ≡ Some e
-        → IsToured forest table who new i e
-    pub ahead : NothingAhead new
-
-  -- so far these ways are below the entry
-  pub record IsUnderway (at : ℕ) (ways : Ways) (old new : List Entry) : Type 0 where
-    pub grown : IsGrown at old new
-    pub below : ways_below at new ≡ ways
-
-  -- all ways that lead on from the last place of the trail are below it
-  pub record IsVisited (trail : List NodeRef) (at : ℕ) (old new : List Entry) : Type 0 where
-    pub grown : IsGrown at old new
-    pub below : AreWays forest table who trail (ways_below at new)
+  module _ {Z : Type 0} where
+    -- what is below each entry is there or waits, in this order; each list of nodes that was met has
+    -- its entry
+    pub record IsUnderway (entries waiting : List Entry) (met : Met Z) : Type 0 where
+      pub root : slice_get (entries ++ waiting) 0 ≡ Some root_entry
+      pub below : (i : ℕ) (e : Entry) → slice_get entries i ≡ Some e
+          → ways_below i (entries ++ waiting) ≡ onward forest table who e
+      pub ahead : (i : ℕ) → length entries ≤ i → ways_below i (entries ++ waiting) ≡ []
+      pub order : AreInOrder (parents_of (entries ++ waiting))
+      pub first : (k : ℕ) (e : Entry) → slice_get waiting k ≡ Some e → e.origin ≡ None
+          → length entries + k ≡ 0
+      pub earlier : (k : ℕ) (e : Entry) (origin : Origin) → slice_get waiting k ≡ Some e
+          → e.origin ≡ Some origin → origin.parent < length entries
+      pub new : (k : ℕ) (e : Entry) → slice_get waiting k ≡ Some e → e.same ≡ None
+      pub found : (nodes : List NodeRef) (i : ℕ) → met_at met nodes ≡ Some i
+          → IsEntered forest table who entries i nodes
+      pub known : (nodes : List NodeRef) (i : ℕ) → IsEntered forest table who entries i nodes
+          → met_at met nodes ≡ Some i
+      pub same : AreSame forest table who entries

@@ -2,8 +2,10 @@
 #![tactic(auto)]
 
 mod line;
+mod met;
 mod mode;
 mod passing;
+mod text;
 mod tour;
 mod tree;
 mod visit;
@@ -12,3 +14,4 @@ mod way;
 pub use tour::{Entry, Origin, Tour};
 pub use tree::{print_tree, show_tree};
 pub use visit::tour_of;
+pub use way::Access;

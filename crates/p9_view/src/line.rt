@@ -1,50 +1,53 @@
 //! The line of an entry of a tour.
 
-ghost use Rattle.std.specs.Prelude.{◌≡◌, ◌++◌, ◌∷◌, [], OnOk, is_some, length, map, if◌then◌else◌};
+ghost use Rattle.std.specs.Prelude.{◌≡◌, ◌++◌, OnOk};
 ghost use Rattle.std.specs.List.{list_any};
 ghost use Rattle.std.specs.Option.{option_copied, option_map};
-ghost use Rattle.p9_space.specs.Channel.{row_position};
 ghost use Rattle.p9_space.specs.Place.{file_of};
 ghost use Rattle.p9_space.specs.Rights.{who_view};
-ghost use Rattle.p9_space.specs.Table.{members_of};
 ghost use Rattle.p9_tree.specs.Inside.{is_hidden};
-ghost use Rattle.p9_view.specs.Line.{dir_text, end_text, file_text, hidden_text, line_text, member_text};
-ghost use Rattle.p9_view.specs.Line.{members_text, node_text};
+ghost use Rattle.p9_view.specs.Line.{access_text, dir_text, file_text, hidden_text, line_text};
+ghost use Rattle.p9_view.specs.Line.{member_text, members_text, node_text, same_text};
 
 use crate::mode::print_mode;
 use crate::passing::print_passing;
+use crate::text::print_shown;
 use crate::tour::Entry;
+use crate::way::Access;
 use p9_base::{NoMemory, NodeRef};
 use p9_cert::is_hidden;
-use p9_commands::{NameSpace, path_of, rooted_path};
-use p9_space::{Member, PLACES_MAX, Who, dir_fault};
+use p9_commands::{NameSpace, path_of};
+use p9_space::{Member, Who, dir_fault};
 use p9_tree::{Node, Tree};
 use p9_world::World;
 use std::alloc::Allocator;
 
-/// Prints the line of an entry that these names lead to: its path, mode, owner, group and length; after
-/// `->` what is mounted there, each member with `-c` where files may be created in it; and notes. Where
-/// an allocation fails, a part of it may be there.
+/// Prints the line of an entry that this path leads to: its path, mode, owner, group and length; after
+/// `->` what is mounted there, each member with `-c` where files may be created in it; and notes. Of
+/// a directory that has the same members as an earlier one, the path of that is given. Names are
+/// printed as they are shown to people. Where an allocation fails, a part of it may be there.
 pub(crate) fn print_line<T: Tree>(
     space: &NameSpace<T>,
     who: Option<Who<'_, T::Alloc>>,
-    names: &[&str],
+    path: &str,
+    same: Option<&str>,
     entry: &Entry,
     out: &mut Vec<u8, T::Alloc>,
 ) -> Result<(), NoMemory>
     ensures { OnOk result (out.new.items ≡ out.old.items
-        ++ line_text space.now (option_map who_view who.entry) (map (λ n. n.now) names.now)
+        ++ line_text space.now (option_map who_view who.entry) path.now (option_copied same.entry)
         entry.now) }
 {
     let members = space.table.members(entry.place);
     let members = members.as_slice();
-    out.extend_from_slice(rooted_path(*out.allocator(), names)?.as_bytes())?;
+    print_shown(path, out)?;
     print_file(space, entry.place, out)?;
     if space.table.position(entry.place).is_some() {
         print_members(&space.world, members, out)?;
     }
     out.extend_from_slice(hidden_text(&space.world, members).as_bytes())?;
-    print_directory(&space.world, who, members, entry.repeated, names.len(), out)?;
+    print_directory(&space.world, who, members, same, out)?;
+    out.extend_from_slice(access_text(entry.access).as_bytes())?;
     out.push(b'\n')?;
     Ok(())
 }
@@ -79,9 +82,9 @@ fn print_attributes<A: Allocator + Copy, B: Allocator>(
     out.push(b' ')?;
     print_mode(node.mode(), out)?;
     out.push(b' ')?;
-    out.extend_from_slice(node.uid().as_str().as_bytes())?;
+    print_shown(node.uid().as_str(), out)?;
     out.push(b' ')?;
-    out.extend_from_slice(node.gid().as_str().as_bytes())?;
+    print_shown(node.gid().as_str(), out)?;
     out.extend_from_slice(length.as_str().as_bytes())?;
     Ok(())
 }
@@ -114,7 +117,8 @@ fn print_member<T: Tree>(
 ) -> Result<(), NoMemory>
     ensures { OnOk result (out.new.items ≡ out.old.items ++ member_text world.now member.now) }
 {
-    out.extend_from_slice(path_of(*out.allocator(), world, member.node)?.as_bytes())?;
+    let path = path_of(*out.allocator(), world, member.node)?;
+    print_shown(path.as_str(), out)?;
     let create = if member.create { " -c" } else { "" };
     out.extend_from_slice(create.as_bytes())?;
     Ok(())
@@ -139,36 +143,45 @@ fn has_hidden(hidden: &[NodeRef], members: &[Member]) -> bool
     members.iter().any(|member| is_hidden(hidden, member.node))
 }
 
-// Prints what there is to say of a place that is a directory: who passes it, and why the tour does not
-// go on from it.
+// Prints what there is to say of a place that is a directory: under which path the same members were
+// met before, and who passes it.
 fn print_directory<T: Tree>(
     world: &World<T>,
     who: Option<Who<'_, T::Alloc>>,
     members: &[Member],
-    repeated: bool,
-    depth: usize,
+    same: Option<&str>,
     out: &mut Vec<u8, T::Alloc>,
 ) -> Result<(), NoMemory>
     ensures { OnOk result (out.new.items ≡ out.old.items
-        ++ dir_text world.now (option_map who_view who.entry) members.now repeated depth) }
+        ++ dir_text world.now (option_map who_view who.entry) members.now
+        (option_copied same.entry)) }
 {
     if dir_fault(&world.forest, members).is_some() {
         return Ok(());
     }
-    print_passing(world, who, members, out)?;
-    out.extend_from_slice(end_text(repeated, depth).as_bytes())?;
+    print_same(same, out)?;
+    print_passing(world, who, members, out)
+}
+
+// Prints the path under which the same members were met before, if there is one.
+fn print_same<A: Allocator + Copy>(same: Option<&str>, out: &mut Vec<u8, A>) -> Result<(), NoMemory>
+    ensures { OnOk result (out.new.items ≡ out.old.items
+        ++ same_text (option_copied same.entry)) }
+{
+    if let Some(path) = same {
+        out.extend_from_slice(b" as ")?;
+        print_shown(path, out)?;
+    }
     Ok(())
 }
 
-// Why a tour does not go on from a directory to which so many names lead, where it does not.
-fn end_text(repeated: bool, depth: usize) -> &'static str
-    ensures { result.now ≡ end_text repeated depth }
+// Says where a walk goes that does not come to an entry.
+fn access_text(access: Access) -> &'static str
+    ensures { result.now ≡ access_text access }
 {
-    if repeated {
-        " (on its own path)"
-    } else if depth == PLACES_MAX - 1 {
-        " (path too deep)"
-    } else {
-        ""
+    match access {
+        Access::Now => "",
+        Access::AfterMode => " (after a change of mode)",
+        Access::Behind => " (behind another of its name)",
     }
 }

@@ -5,14 +5,15 @@ ghost use Rattle.std.specs.List.{list_any};
 ghost use Rattle.std.specs.Option.{option_map};
 ghost use Rattle.p9_space.specs.Rights.{who_view};
 ghost use Rattle.p9_space.specs.Walk.{is_searched};
-ghost use Rattle.p9_view.specs.Passing.{is_passed, passers, passers_text, passing_text, user_text};
-ghost use Rattle.p9_view.specs.Passing.{users_text};
+ghost use Rattle.p9_view.specs.Passing.{is_passed, may_pass_by, passers, passers_text};
+ghost use Rattle.p9_view.specs.Passing.{passing_text, user_text, users_text};
 
+use crate::text::print_shown;
 use crate::way::is_searched;
 use p9_base::{NoMemory, User};
 use p9_cert::may_pass;
 use p9_space::{Member, Who};
-use p9_tree::{Forest, Tree};
+use p9_tree::{Forest, Node, Tree};
 use p9_world::World;
 use std::alloc::{AllocError, Allocator};
 
@@ -50,7 +51,7 @@ fn user_text<T: Tree>(
     if searches(forest, who, members) {
         ""
     } else if passes(forest, who, members) {
-        " (not searched)"
+        " (ruled, not searched)"
     } else {
         " (not passable)"
     }
@@ -68,18 +69,36 @@ fn searches<T: Tree>(forest: &Forest<T>, who: Who<'_, T::Alloc>, members: &[Memb
 
 // Whether the user may pass one of the members.
 fn passes<T: Tree>(forest: &Forest<T>, who: Who<'_, T::Alloc>, members: &[Member]) -> bool
-    ensures { result ≡ list_any (is_passed forest.now (who_view who.entry)) members.now }
+    ensures { result
+        ≡ list_any (is_passed forest.now (Some (who_view who.entry))) members.now }
 {
-    members.iter().any(|member| is_passed(forest, who, member))
+    members
+        .iter()
+        .any(|member| is_passed(forest, Some(who), member))
 }
 
-// Whether the member is a directory that exists and that the user may pass.
-fn is_passed<T: Tree>(forest: &Forest<T>, who: Who<'_, T::Alloc>, member: &Member) -> bool
-    ensures { result ≡ is_passed forest.now (who_view who.entry) member.now }
+/// Whether the member is a directory that exists and that the user may search or rules. Without a user
+/// everybody may.
+pub(crate) fn is_passed<T: Tree>(
+    forest: &Forest<T>,
+    who: Option<Who<'_, T::Alloc>>,
+    member: &Member,
+) -> bool
+    ensures { result ≡ is_passed forest.now (option_map who_view who.entry) member.now }
 {
     match forest.node(member.node) {
-        Some(node) => node.is_dir() && may_pass(who, node),
+        Some(node) => node.is_dir() && may_pass_by(who, node),
         None => false,
+    }
+}
+
+// Whether the user may search the directory or rules it. Without a user everybody may.
+fn may_pass_by<A: Allocator, B: Allocator + Copy>(who: Option<Who<'_, B>>, dir: &Node<A>) -> bool
+    ensures { result ≡ may_pass_by (option_map who_view who.entry) dir.now }
+{
+    match who {
+        Some(who) => may_pass(who, dir),
+        None => true,
     }
 }
 
@@ -128,10 +147,10 @@ fn print_users<A: Allocator + Copy>(
     ensures { OnOk result (out.new.items ≡ out.old.items ++ users_text first.now others.now) }
 {
     out.extend_from_slice(b" passed by ")?;
-    out.extend_from_slice(first.as_str().as_bytes())?;
+    print_shown(first.as_str(), out)?;
     for user in others {
         out.extend_from_slice(b", ")?;
-        out.extend_from_slice(user.as_str().as_bytes())?;
+        print_shown(user.as_str(), out)?;
     }
     Ok(())
 }

@@ -1,10 +1,16 @@
 //! Tours of the name space.
 
-ghost use Rattle.std.specs.Prelude.{◌≡◌, ◌++◌, ◌∷◌, ◌<◌, [], IfOk, OnOk, length, map, reverse};
-ghost use Rattle.std.specs.Option.{option_map};
-ghost use Rattle.p9_view.specs.Tour.{IsPathTo, IsTour, entry_below, origin_at, root_entry};
+ghost use Rattle.std.specs.Prelude.{◌≡◌, ◌++◌, ◌∷◌, ◌<◌, [], IfOk, OnOk, Some, length, map, reverse};
+ghost use Rattle.std.specs.Prelude.{slice_get};
+ghost use Rattle.std.specs.Option.{option_and_then, option_map};
+ghost use Rattle.std.specs.String.{string_bytes};
+ghost use Rattle.p9_view.specs.Tour.{CanFollow, IsPathTo, IsTextOfSame, IsTextTo, IsTour, entry_below};
+ghost use Rattle.p9_view.specs.Tour.{origin_at, root_entry};
+ghost use Rattle.p9_view.specs.declared.tour.Entry.{Entry};
 
+use crate::way::{Access, Way};
 use p9_base::{Name, NoMemory, NodeRef};
+use p9_commands::rooted_path;
 use p9_space::ROOT_PLACE;
 use std::alloc::Allocator;
 use std::marker::Model;
@@ -23,8 +29,11 @@ pub struct Entry {
     pub origin: Option<Origin>,
     /// The place: a key of the mount table.
     pub place: NodeRef,
-    /// Whether the place is on the way to it already. Then the tour does not go on from it.
-    pub repeated: bool,
+    /// Whether a walk by its path comes to it.
+    pub access: Access,
+    /// The index of the earlier entry that has the same members in the same order, if there is one.
+    /// Then what is below that is not repeated below this.
+    pub same: Option<usize>,
 }
 
 /// A tour of a name space, from its root place on, each place before what is below it. Contracts see
@@ -46,18 +55,43 @@ impl<A: Allocator> Model for Tour<A> {
     ghost invariant = { λ t. IsTour t.entries.items };
 }
 
-impl<A: Allocator + Copy> Tour<A> {
-    /// The tour that has come to the root place.
-    pub(crate) fn at_root(alloc: A) -> Result<Tour<A>, NoMemory>
-        ensures { IfOk result (λ tour. tour ≡ root_entry ∷ []) }
+impl Entry {
+    /// The entry of the root place.
+    pub(crate) fn root() -> Entry
+        ensures { result ≡ root_entry }
     {
-        let mut entries = Vec::new(alloc);
-        entries.push(Entry {
+        Entry {
             origin: None,
             place: ROOT_PLACE,
-            repeated: false,
-        })?;
-        Ok(Tour { entries })
+            access: Access::Now,
+            same: None,
+        }
+    }
+
+    /// The entry of a way that leads on from the entry of this index.
+    pub(crate) fn below(parent: usize, way: Way) -> Entry
+        ensures { result ≡ entry_below parent way }
+    {
+        Entry {
+            origin: Some(Origin {
+                parent,
+                name: way.name,
+            }),
+            place: way.place,
+            access: way.access,
+            same: None,
+        }
+    }
+}
+
+impl<A: Allocator + Copy> Tour<A> {
+    /// A tour without entries. This takes no memory.
+    pub(crate) fn new(alloc: A) -> Tour<A>
+        ensures { result ≡ [] }
+    {
+        Tour {
+            entries: Vec::new(alloc),
+        }
     }
 
     /// The entries, in the order in which the tour comes to them.
@@ -111,30 +145,54 @@ impl<A: Allocator + Copy> Tour<A> {
         Some((origin.parent, origin.name.as_str()))
     }
 
+    /// The path to the entry of this index: a slash before each name, and a slash alone for the first
+    /// entry. The only error is that an allocation fails.
+    pub fn path_to(&self, index: usize) -> Result<String<A>, NoMemory>
+        requires { index < length self.now }
+        ensures { IfOk result (λ path. IsTextTo self.now index (string_bytes path)) }
+    {
+        let names = self.names_to(index)?;
+        Ok(rooted_path(self.allocator(), names.as_slice())?)
+    }
+
+    /// The path to the entry that the entry of this index has the same members as, if there is one.
+    /// The only error is that an allocation fails.
+    pub fn path_to_same(&self, index: usize) -> Result<Option<String<A>>, NoMemory>
+        ensures { IfOk result (λ path. (e : Entry) → slice_get self.now index ≡ Some e
+            → IsTextOfSame self.now e.same (option_map string_bytes path)) }
+    {
+        self.well_formed();
+        match self.same(index) {
+            Some(same) => Ok(Some(self.path_to(same)?)),
+            None => Ok(None),
+        }
+    }
+
+    // The index of the entry that the entry of an index has the same members as.
+    fn same(&self, index: usize) -> Option<usize>
+        ensures { result ≡ option_and_then (λ e. e.same) (slice_get self.now index) }
+    {
+        self.entries.get(index)?.same
+    }
+
     /// The allocator that the entries are kept in.
     pub(crate) fn allocator(&self) -> A {
         *self.entries.allocator()
     }
 
-    /// Adds a place below an entry, under a name. Returns the index of its entry.
-    pub(crate) fn add(
-        &mut self,
-        parent: usize,
-        name: Name,
-        place: NodeRef,
-        repeated: bool,
-    ) -> Result<usize, NoMemory>
-        requires { parent < length self.old }
-        ensures index { IfOk result (λ index. index ≡ length self.old) }
-        ensures added { OnOk result
-            (self.new ≡ self.old ++ entry_below parent name place repeated ∷ []) }
+    /// How many entries there are.
+    pub(crate) fn count(&self) -> usize
+        ensures { result ≡ length self.now }
     {
-        let index = self.entries.len();
-        self.entries.push(Entry {
-            origin: Some(Origin { parent, name }),
-            place,
-            repeated,
-        })?;
-        Ok(index)
+        self.entries.len()
+    }
+
+    /// Adds an entry, which is the first or below another.
+    pub(crate) fn push(&mut self, entry: Entry) -> Result<(), NoMemory>
+        requires { CanFollow (length self.old) entry }
+        ensures { OnOk result (self.new ≡ self.old ++ entry ∷ []) }
+    {
+        self.entries.push(entry)?;
+        Ok(())
     }
 }

@@ -3,12 +3,14 @@
 ghost use Rattle.std.specs.Prelude.{◌≡◌, ◌++◌, ℕ, IfOk, List, OnOk, find, length};
 ghost use Rattle.std.specs.Option.{option_copied, option_map};
 ghost use Rattle.std.specs.Str.{bytes_eq};
+ghost use Rattle.std.specs.String.{string_bytes};
 ghost use Rattle.p9_commands.specs.Prepared.{prepared_of, rejected_text};
 ghost use Rattle.p9_commands.specs.declared.prepared.Needs.TheVariants.{Nothing};
 ghost use Rattle.p9_space.specs.Rights.{who_view};
 ghost use Rattle.p9_view.specs.Tree.{AreLines, IsInputShown, IsShownTo, IsTree, unlisted_text};
 
 use crate::line::print_line;
+use crate::text::print_shown;
 use crate::tour::Tour;
 use crate::visit::tour_of;
 use p9_base::{NoMemory, User};
@@ -19,8 +21,8 @@ use p9_tree::Tree;
 use p9_world::World;
 use std::alloc::Allocator;
 
-/// Prints the name space of an input as a user meets it, a line for each place to which he can walk;
-/// without a user all places. Returns the exit status.
+/// Prints the name space of an input as a user meets it, a line for each path by which he may
+/// come to a place; without a user all places. Returns the exit status.
 ///
 /// What failed in the namespace file is reported first, and then the input's first fault or that the
 /// user is not listed, a line each to `err`. Of the last two the status is 1, and nothing is printed.
@@ -87,8 +89,8 @@ fn listed_user<'a, T: Tree>(world: &'a World<T>, name: &str) -> Option<&'a User>
     world.users.iter().find(|user| name == user.as_str())
 }
 
-/// Prints a name space as a user meets it, a line for each place to which he can walk; without a user
-/// all places. Where an allocation fails, a part of the lines may be there.
+/// Prints a name space as a user meets it, a line for each path by which he may come to a
+/// place; without a user all places. Where an allocation fails, a part of the lines may be there.
 pub fn print_tree<'a, T: Tree>(
     space: &'a NameSpace<T>,
     who: Option<Who<'a, T::Alloc>>,
@@ -114,17 +116,28 @@ fn print_lines<T: Tree>(
         × (out.new.items ≡ out.old.items ++ text)) }
 {
     for (index, entry) in tour.entries().iter().enumerate() {
-        let names = tour.names_to(index)?;
-        print_line(space, who, names.as_slice(), entry, out)?;
+        let path = tour.path_to(index)?;
+        let same = tour.path_to_same(index)?;
+        print_line(space, who, path.as_str(), as_text(&same), entry, out)?;
     }
     Ok(())
+}
+
+// A text, if there is one.
+fn as_text<A: Allocator>(text: &Option<String<A>>) -> Option<&str>
+    ensures { option_copied result ≡ option_map string_bytes text.now }
+{
+    match text {
+        Some(text) => Some(text.as_str()),
+        None => None,
+    }
 }
 
 // Prints that a user is not listed.
 fn print_unlisted<A: Allocator + Copy>(name: &str, err: &mut Vec<u8, A>) -> Result<(), NoMemory>
     ensures { OnOk result (err.new.items ≡ err.old.items ++ unlisted_text name.now) }
 {
-    err.extend_from_slice(name.as_bytes())?;
+    print_shown(name, err)?;
     err.extend_from_slice(b": no listed user\n")?;
     Ok(())
 }

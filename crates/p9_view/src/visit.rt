@@ -1,26 +1,28 @@
 //! Tours of a name space for a user.
 
-ghost use Rattle.std.specs.Prelude.{◌≡◌, ◌++◌, ◌∷◌, ◌<◌, [], IfOk, OnOk, length};
+ghost use Rattle.std.specs.Prelude.{◌≡◌, ◌++◌, ◌+◌, ◌<◌, ◌∷◌, ◌^◌, IfOk, OnOk, length, reverse};
 ghost use Rattle.std.specs.Option.{option_map};
 ghost use Rattle.p9_space.specs.Rights.{who_view};
-ghost use Rattle.p9_space.specs.Trail.{places_max};
 ghost use Rattle.p9_view.specs.Tour.{IsTourOf};
-ghost use Rattle.p9_view.specs.Visit.{IsFresh, IsVisited};
+ghost use Rattle.p9_view.specs.Visit.{IsUnderway, entries_below};
 
-use crate::tour::Tour;
-use crate::way::{stands_on, ways_on};
-use p9_base::{NoMemory, NodeRef};
-use p9_space::{MountTable, PLACES_MAX, ROOT_PLACE, Trail, Who};
+use crate::met::{Met, nodes_of};
+use crate::tour::{Entry, Tour};
+use crate::way::{Access, Way, ways_from};
+use p9_base::NoMemory;
+use p9_space::{MountTable, Who};
 use p9_tree::{Forest, Tree};
 use std::alloc::Allocator;
 
-/// A tour of a name space for a user: from the root place on all places to which the user can walk.
-/// Without a user it goes through all directories. In a directory its order is that of the members of
-/// the place, and in a member that of the nodes' numbers.
+/// A tour of a name space for a user: from the root place on, all places that he may come to, as he
+/// may change the modes of directories that he rules. Without a user it goes through all directories.
 ///
-/// A place that is on the way to itself already has its entry, and nothing below it; for binds make
-/// circles. Nor is anything below a path of [`PLACES_MAX`] places, from which no walk goes on. The
-/// only error is that an allocation fails.
+/// From a place all children of all members that he passes lead on, in the order of the members and
+/// in each of the nodes' numbers, and what is below each stands before the next. The access of an
+/// entry says whether a walk by its path comes to it now. Where the place has the same members in the
+/// same order as that of an earlier entry, nothing is below it, and the index of the earlier one is
+/// given. So there is at most one entry for each entry of a directory and of a row of the mount table,
+/// and one for the root. The only error is that an allocation fails.
 pub fn tour_of<T: Tree>(
     alloc: T::Alloc,
     forest: &Forest<T>,
@@ -30,47 +32,64 @@ pub fn tour_of<T: Tree>(
     ensures { IfOk result (λ tour.
         IsTourOf forest.now table.now (option_map who_view who.entry) tour) }
 {
-    let trail = Trail::at(alloc, ROOT_PLACE)?;
-    let mut tour = Tour::at_root(alloc)?;
-    visit(forest, table, who, &trail, 0, &mut tour)?;
+    forest.well_formed();
+    let mut tour = Tour::new(alloc);
+    let mut met = Met::new(alloc);
+    let mut waiting = Vec::new(alloc);
+    waiting.push(Entry::root())?;
+    while let Some(entry) = waiting.pop() {
+        visit(forest, table, who, entry, &mut tour, &mut met, &mut waiting)?;
+    }
     Ok(tour)
 }
 
-// Goes through all that is below an entry, to which the trail leads.
+// Adds an entry. Unless its members were met before, what is below it waits.
 fn visit<T: Tree>(
     forest: &Forest<T>,
     table: &MountTable<T::Alloc>,
     who: Option<Who<'_, T::Alloc>>,
-    trail: &Trail<T::Alloc>,
-    at: usize,
+    entry: Entry,
     tour: &mut Tour<T::Alloc>,
+    met: &mut Met<T::Alloc>,
+    waiting: &mut Vec<Entry, T::Alloc>,
 ) -> Result<(), NoMemory>
-    requires { IsFresh forest.now table.now (option_map who_view who) trail.now at tour.old }
-    ensures { OnOk result (IsVisited forest.now table.now (option_map who_view who.entry) trail.now
-        at tour.old tour.new) }
+    requires { IsUnderway forest.now table.now (option_map who_view who) tour.old
+        (entry ∷ reverse waiting.old.items) met.old }
+    ensures underway { OnOk result (IsUnderway forest.now table.now
+        (option_map who_view who.entry) tour.new (reverse waiting.new.items) met.new) }
+    ensures longer { OnOk result (length tour.new ≡ length tour.old + 1) }
+    ensures small { length tour.old < 2 ^ 64 }
 {
-    trail.well_formed();
-    if trail.len() == PLACES_MAX {
+    let alloc = tour.allocator();
+    let index = tour.count();
+    let members = table.members(entry.place);
+    let nodes = nodes_of(alloc, members.as_slice())?;
+    if let Some(same) = met.get(nodes.as_slice()) {
+        tour.push(Entry {
+            same: Some(same),
+            ..entry
+        })?;
         return Ok(());
     }
-    let ways = ways_on(tour.allocator(), forest, table, trail, who)?;
-    for (name, place) in ways.as_slice() {
-        let repeated = stands_on(trail, *place);
-        let index = tour.add(at, *name, *place, repeated)?;
-        if !repeated {
-            let onward = onward(trail, *place)?;
-            visit(forest, table, who, &onward, index, tour)?;
-        }
-    }
-    Ok(())
+    let ways = ways_from(alloc, forest, table, who, entry.place)?;
+    await_ways(index, entry.access, ways, waiting)?;
+    met.insert(nodes, index)?;
+    tour.push(entry)
 }
 
-// A trail that goes on to a place.
-fn onward<A: Allocator + Copy>(trail: &Trail<A>, place: NodeRef) -> Result<Trail<A>, NoMemory>
-    requires { length trail.now < places_max }
-    ensures { IfOk result (λ onward. onward ≡ trail.now ++ place ∷ []) }
+// Lets the ways that lead on from an entry wait, the first before the others.
+fn await_ways<A: Allocator + Copy>(
+    parent: usize,
+    above: Access,
+    ways: Vec<Way, A>,
+    waiting: &mut Vec<Entry, A>,
+) -> Result<(), NoMemory>
+    ensures { OnOk result (reverse waiting.new.items
+        ≡ entries_below parent above ways.items ++ reverse waiting.old.items) }
 {
-    let mut onward = trail.copy()?;
-    onward.push(place)?;
-    Ok(onward)
+    let mut ways = ways;
+    while let Some(way) = ways.pop() {
+        waiting.push(Entry::below(parent, way.below(above)))?;
+    }
+    Ok(())
 }

@@ -1,106 +1,237 @@
 //! Where names lead from a place.
 
-ghost use Rattle.std.specs.Prelude.{◌≡◌, ◌<◌, ◌++◌, ◌∷◌, [], IfOk, IsTrue, List, OnOk, filter, is_some, length};
+ghost use Rattle.std.specs.Prelude.{◌≡◌, ◌++◌, ◌∷◌, [], IfOk, IsTrue, List, OnOk, is_some};
 ghost use Rattle.std.specs.Prelude.{None, Some, ℕ, if◌then◌else◌};
-ghost use Rattle.std.specs.List.{IsDistinct, list_any};
-ghost use Rattle.std.specs.Map.{keys_of, lookup};
+ghost use Rattle.std.specs.Map.{lookup};
 ghost use Rattle.std.specs.Option.{option_map, option_or};
 ghost use Rattle.std.specs.Str.{bytes_eq};
 ghost use Rattle.p9_base.specs.Name.{is_name};
-ghost use Rattle.p9_base.specs.NodeRef.{beside, same_node};
-ghost use Rattle.p9_space.specs.Place.{file_of};
+ghost use Rattle.p9_base.specs.NodeRef.{beside};
 ghost use Rattle.p9_space.specs.Rights.{who_view};
-ghost use Rattle.p9_space.specs.Trail.{places_max};
-ghost use Rattle.p9_space.specs.Walk.{child_among, child_ref, is_searched, may_search};
-ghost use Rattle.p9_view.specs.Way.{AreWays};
+ghost use Rattle.p9_space.specs.Walk.{child_ref, is_searched, may_search, named_child};
+ghost use Rattle.p9_view.specs.Passing.{is_passed};
+ghost use Rattle.p9_view.specs.Tour.{access_below, way_below};
+ghost use Rattle.p9_view.specs.declared.way.Access.TheVariants.{AfterMode};
+ghost use Rattle.p9_view.specs.Way.{access_by, arrives, way_by, ways_among, ways_from, ways_into};
 
+use crate::passing::is_passed;
 use indexmap::IndexMap;
 use p9_base::{Name, NoMemory, NodeRef};
-use p9_space::{Member, MountTable, TO_EXECUTE, Trail, Who, may};
+use p9_space::{Member, MountTable, TO_EXECUTE, Who, may};
 use p9_tree::{Forest, Node, Tree};
 use std::alloc::Allocator;
 use std::hash::{BuildHasherDefault, FoldHasher};
 
-// Children by their names, in the order in which they were found.
-type Children<A> = IndexMap<Name, NodeRef, BuildHasherDefault<FoldHasher>, A>;
-
-/// The names that lead on from the last place of a trail, each with the place that it leads to: in
-/// the order of the members of the last place, and in each by rising number. The only error is that
-/// an allocation fails.
-pub(crate) fn ways_on<T: Tree>(
-    alloc: T::Alloc,
-    forest: &Forest<T>,
-    table: &MountTable<T::Alloc>,
-    trail: &Trail<T::Alloc>,
-    who: Option<Who<'_, T::Alloc>>,
-) -> Result<Vec<(Name, NodeRef), T::Alloc>, NoMemory>
-    requires { length trail.now < places_max }
-    ensures { IfOk result (λ ways. AreWays forest.now table.now (option_map who_view who.entry)
-        trail.now ways.items) }
-{
-    forest.well_formed();
-    let members = table.members(trail.here());
-    let children = children_among(alloc, forest, members.as_slice(), who)?;
-    arriving(alloc, forest, table, &children)
+/// Where a walk by a path goes.
+#[derive(Clone, Copy, Debug, PartialEq, Eq)]
+pub enum Access {
+    /// To the entry of the path.
+    Now,
+    /// To the entry once the user has changed a mode: he may not search a directory on the way, but
+    /// rules it.
+    AfterMode,
+    /// Elsewhere: an earlier member that the user may search has a child of the same name.
+    Behind,
 }
 
-// The children whose places have a file.
-fn arriving<T: Tree>(
+/// A way that leads on from a place.
+#[derive(Clone, Copy)]
+pub(crate) struct Way {
+    pub name: Name,
+    /// The place that it leads to: a key of the mount table.
+    pub place: NodeRef,
+    /// Where a walk goes that comes to the one place and then goes on by the name.
+    pub access: Access,
+}
+
+impl Access {
+    /// Where a walk goes along a way, where a walk to the place that it leads on from goes as this
+    /// says.
+    pub(crate) fn below(self, above: Access) -> Access
+        ensures { result ≡ access_below above self }
+    {
+        match above {
+            Access::Now => self,
+            Access::AfterMode => self.after_mode(),
+            Access::Behind => Access::Behind,
+        }
+    }
+
+    // The same behind a directory whose mode has to be changed.
+    fn after_mode(self) -> Access
+        ensures { result ≡ access_below AfterMode self }
+    {
+        match self {
+            Access::Now | Access::AfterMode => Access::AfterMode,
+            Access::Behind => Access::Behind,
+        }
+    }
+}
+
+impl Way {
+    /// The same way, where a walk to the place that it leads on from goes as this says.
+    pub fn below(self, above: Access) -> Way
+        ensures { result ≡ way_below above self }
+    {
+        Way {
+            access: self.access.below(above),
+            ..self
+        }
+    }
+}
+
+// Children by their names.
+type Children<A> = IndexMap<Name, NodeRef, BuildHasherDefault<FoldHasher>, A>;
+
+/// The ways that lead on from a place: through each member that is a directory which exists and which
+/// the user may search or rules, in the order of the members, to each child by rising number. Without
+/// a user it goes through all directories. A child whose place has no file is left out.
+///
+/// The only error is that an allocation fails.
+pub(crate) fn ways_from<T: Tree>(
     alloc: T::Alloc,
     forest: &Forest<T>,
     table: &MountTable<T::Alloc>,
-    children: &Children<T::Alloc>,
-) -> Result<Vec<(Name, NodeRef), T::Alloc>, NoMemory>
+    who: Option<Who<'_, T::Alloc>>,
+    place: NodeRef,
+) -> Result<Vec<Way, T::Alloc>, NoMemory>
     ensures { IfOk result (λ ways. ways.items
-        ≡ filter (λ child. is_some (file_of child.1 table.now forest.now)) children.now.entries) }
+        ≡ ways_from forest.now table.now (option_map who_view who.entry) place) }
 {
+    let members = table.members(place);
+    ways_among(alloc, forest, table, who, members.as_slice())
+}
+
+// The ways through members.
+fn ways_among<T: Tree>(
+    alloc: T::Alloc,
+    forest: &Forest<T>,
+    table: &MountTable<T::Alloc>,
+    who: Option<Who<'_, T::Alloc>>,
+    members: &[Member],
+) -> Result<Vec<Way, T::Alloc>, NoMemory>
+    ensures { IfOk result (λ ways. ways.items
+        ≡ ways_among forest.now table.now (option_map who_view who.entry) [] members.now) }
+{
+    let mut children = IndexMap::new(alloc);
     let mut ways = Vec::new(alloc);
-    for position in 0..children.len() {
-        if let Some((name, place)) = children.get_index(position) {
-            add_way(forest, table, *name, *place, &mut ways)?;
-        }
+    for member in members {
+        add_ways_through(forest, table, who, &children, member, &mut ways)?;
+        add_children_of(forest, who, member, &mut children)?;
     }
+    let _count = children.len();
     Ok(ways)
 }
 
-// Adds a name with its place, if the place has a file.
-fn add_way<T: Tree>(
+// Adds the ways through a member, if it is passed. A walk by the name of an earlier child goes to that.
+fn add_ways_through<T: Tree>(
     forest: &Forest<T>,
     table: &MountTable<T::Alloc>,
-    name: Name,
-    place: NodeRef,
-    ways: &mut Vec<(Name, NodeRef), T::Alloc>,
+    who: Option<Who<'_, T::Alloc>>,
+    earlier: &Children<T::Alloc>,
+    member: &Member,
+    ways: &mut Vec<Way, T::Alloc>,
 ) -> Result<(), NoMemory>
     ensures { OnOk result (ways.new.items ≡ ways.old.items
-        ++ (if is_some (file_of place table.now forest.now) then (name, place) ∷ [] else [])) }
+        ++ (if is_passed forest.now (option_map who_view who.entry) member.now
+        then ways_into forest.now table.now
+        (λ name. is_some (lookup (bytes_eq name) earlier.now.entries))
+        (is_searched forest.now (option_map who_view who.entry) member.now) member.now.node
+        else [])) }
 {
-    if forest.node(table.file(place)).is_some() {
-        ways.push((name, place))?;
+    if is_passed(forest, who, member) {
+        let searched = is_searched(forest, member, who);
+        add_ways(forest, table, earlier, searched, member.node, ways)?;
     }
     Ok(())
 }
 
-// The children of the members, by their names. Of several of one name it is that of the first member
-// that the user may search and that has one.
-fn children_among<T: Tree>(
-    alloc: T::Alloc,
+// Adds the children of a member, if the user may search it, but for those whose names are there.
+fn add_children_of<T: Tree>(
     forest: &Forest<T>,
-    members: &[Member],
     who: Option<Who<'_, T::Alloc>>,
-) -> Result<Children<T::Alloc>, NoMemory>
-    ensures found { IfOk result (λ children. (name : List ℕ) → lookup (bytes_eq name)
-        children.entries ≡ child_among forest.now (option_map who_view who.entry) name
-        members.now) }
-    ensures distinct { IfOk result (λ children. IsDistinct bytes_eq (keys_of children.entries)) }
+    member: &Member,
+    children: &mut Children<T::Alloc>,
+) -> Result<(), NoMemory>
+    ensures { OnOk result ((name : List ℕ) → lookup (bytes_eq name) children.new.entries
+        ≡ option_or (lookup (bytes_eq name) children.old.entries)
+        (named_child forest.now (option_map who_view who.entry) (Some name) member.now)) }
 {
-    let mut children = IndexMap::new(alloc);
-    for member in members {
-        if is_searched(forest, member, who) {
-            add_children(forest, member.node, &mut children)?;
-        }
+    if is_searched(forest, member, who) {
+        add_children(forest, member.node, children)?;
     }
-    let _count = children.len();
-    Ok(children)
+    Ok(())
+}
+
+// Adds the ways to the children of a directory, which the user may search or not. A walk by the name
+// of an earlier child goes to that.
+fn add_ways<T: Tree>(
+    forest: &Forest<T>,
+    table: &MountTable<T::Alloc>,
+    earlier: &Children<T::Alloc>,
+    searched: bool,
+    dir: NodeRef,
+    ways: &mut Vec<Way, T::Alloc>,
+) -> Result<(), NoMemory>
+    ensures { OnOk result (ways.new.items ≡ ways.old.items ++ ways_into forest.now table.now
+        (λ name. is_some (lookup (bytes_eq name) earlier.now.entries)) searched dir) }
+{
+    forest.well_formed();
+    let mut floor = None;
+    while let Some(child) = forest.after(dir, floor) {
+        add_way(forest, table, way_to(earlier, searched, dir, child), ways)?;
+        floor = Some(child.number());
+    }
+    Ok(())
+}
+
+// The way to a child of a directory.
+fn way_to<A: Allocator, B: Allocator + Copy>(
+    earlier: &Children<B>,
+    searched: bool,
+    dir: NodeRef,
+    child: &Node<A>,
+) -> Way
+    requires { IsTrue (is_name child.now.name) }
+    ensures { result ≡ way_by (λ name. is_some (lookup (bytes_eq name) earlier.now.entries)) searched
+        dir child.now }
+{
+    let name = Name::new(child.name()).unwrap();
+    Way {
+        name,
+        place: dir.beside(child.number()),
+        access: access_by(earlier.contains_key(&name), searched),
+    }
+}
+
+// Where a walk goes by the name of a child of a directory that the user may search or not; an earlier
+// child may have the name.
+fn access_by(behind: bool, searched: bool) -> Access
+    ensures { result ≡ access_by behind searched }
+{
+    if behind {
+        Access::Behind
+    } else if searched {
+        Access::Now
+    } else {
+        Access::AfterMode
+    }
+}
+
+// Adds a way, if its place has a file.
+fn add_way<T: Tree>(
+    forest: &Forest<T>,
+    table: &MountTable<T::Alloc>,
+    way: Way,
+    ways: &mut Vec<Way, T::Alloc>,
+) -> Result<(), NoMemory>
+    ensures { OnOk result (ways.new.items ≡ ways.old.items
+        ++ (if arrives forest.now table.now way then way ∷ [] else [])) }
+{
+    if forest.node(table.file(way.place)).is_some() {
+        ways.push(way)?;
+    }
+    Ok(())
 }
 
 /// Whether the member is a directory that exists and that the user may search. Without a user
@@ -163,18 +294,4 @@ fn add_child<A: Allocator, B: Allocator + Copy>(
         children.insert(name, dir.beside(child.number()))?;
     }
     Ok(())
-}
-
-/// Whether the place is one of the trail's.
-pub(crate) fn stands_on<A: Allocator + Copy>(trail: &Trail<A>, place: NodeRef) -> bool
-    ensures { result ≡ list_any (same_node place) trail.now }
-{
-    for position in 0..trail.len() {
-        if let Some(other) = trail.get(position) {
-            if place == other {
-                return true;
-            }
-        }
-    }
-    false
 }

@@ -1,6 +1,5 @@
 //! Allocations that fail: a call says so, and made again it draws the picture or prints the tree.
 
-use p9_base::Stop;
 use p9_index::IndexTree;
 use p9_map::map;
 use p9_testing::{Refusing, refuse_each};
@@ -22,28 +21,47 @@ mount -a other /
 
 // Draws the picture. Where an allocation fails, the call says so.
 fn map_again<A: Allocator + Copy>(rt: &impl Abort, alloc: A) {
-    let mut svg = map::<IndexTree<A>>(alloc, LEAK.as_bytes());
-    if matches!(&svg, Err(Stop::NoMemory)) {
-        svg = map::<IndexTree<A>>(alloc, LEAK.as_bytes());
+    let mut out = Vec::new(alloc);
+    let mut err = Vec::new(alloc);
+    let mut status = map::<IndexTree<A>>(LEAK.as_bytes(), &mut out, &mut err);
+    if status.is_err() {
+        out.clear();
+        status = map::<IndexTree<A>>(LEAK.as_bytes(), &mut out, &mut err);
     }
-    let svg = svg.ok().expect(rt, "a picture");
+    assert!(rt; status == Ok(1) && err.is_empty());
+    let svg = String::from_utf8(out).ok().expect(rt, "a text");
     assert!(rt; svg.as_str().contains("verdict: no"));
 }
 
-// The trees of the same name space: of all places, and of those that a user meets.
+// A union of two servers, and a directory that a user rules in two places.
+const RULED: &str = "%% world
+server main
+dir /own 600 glenda sys
+dir /own/in 755 sys sys
+dir /m 755 sys sys
+server other
+user glenda
+%% ns
+mount -a other /
+bind /own /m
+";
+
+// Its trees: of all places, and of those that the user meets.
 const TREES: [(Option<&str>, &str); 2] = [
     (
         None,
         "/ d-rwxr-xr-x sys sys 0 -> main:/ + other:/ passed by everybody
-/vault d-rwxr-xr-x sys sys 0 (hidden) passed by everybody
-/vault/in d-rwxr-xr-x sys sys 0 passed by everybody
+/own d-rw------- glenda sys 0 passed by everybody
+/own/in d-rwxr-xr-x sys sys 0 passed by everybody
+/m d-rw------- glenda sys 0 -> main:/own as /own passed by everybody
 ",
     ),
     (
         Some("glenda"),
         "/ d-rwxr-xr-x sys sys 0 -> main:/ + other:/
-/vault d-rwxr-xr-x sys sys 0 (hidden)
-/vault/in d-rwxr-xr-x sys sys 0
+/own d-rw------- glenda sys 0 (ruled, not searched)
+/own/in d-rwxr-xr-x sys sys 0 (after a change of mode)
+/m d-rw------- glenda sys 0 -> main:/own as /own (ruled, not searched)
 ",
     ),
 ];
@@ -52,10 +70,10 @@ const TREES: [(Option<&str>, &str); 2] = [
 fn tree_again<A: Allocator + Copy>(rt: &impl Abort, alloc: A, user: Option<&str>, lines: &str) {
     let mut out = Vec::new(alloc);
     let mut err = Vec::new(alloc);
-    let mut status = show_tree::<IndexTree<A>>(LEAK.as_bytes(), user, &mut out, &mut err);
+    let mut status = show_tree::<IndexTree<A>>(RULED.as_bytes(), user, &mut out, &mut err);
     if status.is_err() {
         out.clear();
-        status = show_tree::<IndexTree<A>>(LEAK.as_bytes(), user, &mut out, &mut err);
+        status = show_tree::<IndexTree<A>>(RULED.as_bytes(), user, &mut out, &mut err);
     }
     assert!(rt; status == Ok(0) && err.is_empty() && out.as_slice() == lines.as_bytes());
 }

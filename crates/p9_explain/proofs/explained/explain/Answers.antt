@@ -6,9 +6,9 @@ use Rattle.p9_explain.proofs.explained.explain.Goals as goal
 pub returns-in-Ok-clause-ok : goal.returns-in-Ok-clause-ok
 returns-in-Ok-clause-ok g c =
     subst
-    (λ asked. IfOk c.explain_prepared-status.result (λ status. IsExplained asked status c.args.out.now.items
-    c.explain_prepared-status.new.out.items))
-    (sym c.in-Ok.ensures.ok) c.explain_prepared-status.ensures.ok
+    (λ asked. IfOk c.explain_prepared.result (λ status. IsExplained asked status c.args.out.now.items
+    c.explain_prepared.new.out.items))
+    (sym c.in-Ok.ensures.ok) c.explain_prepared.ensures.ok
 
 pub returns-in-Err-clause-ok : goal.returns-in-Err-clause-ok
 returns-in-Err-clause-ok g c =

@@ -6,7 +6,7 @@ use Rattle.std.specs.Str.Iter.{chars_rest}
 use Rattle.std.specs.String.{string_bytes}
 use Rattle.std.proofs.lemmas.Str.{IsUtf8-string_bytes}
 use Rattle.p9_map.specs.Escape.{IsHarmless, unescaped}
-use Rattle.p9_map.proofs.Entities.{escape-all, escape-more, escaped_chars, harmless-escaped}
+use Rattle.p9_map.proofs.Entities.{escape-all, escape-end, escape-more, escaped_chars, harmless-escaped}
 use Rattle.p9_map.proofs.Entities.{unescaped-escaped, utf8-more}
 use Rattle.p9_map.proofs.escape.escaped.Goals as goal
 
@@ -35,3 +35,8 @@ returns-clause-read g c =
     (escape-all (string_bytes c.loop-c.out) (chars_rest c.loop-c.c-iterator) c.args.text.now
     (IsUtf8-string_bytes c.loop-c.out) c.in-None.ensures.steps.0.0 c.loop-c.invariant.1)
     ∙ unescaped-escaped (chars c.args.text.now)
+
+pub returns-clause-written : goal.returns-clause-written
+returns-clause-written g c =
+    escape-end (chars_rest c.loop-c.c-iterator) (string_bytes c.loop-c.out) _
+    c.in-None.ensures.steps.0.0 c.loop-c.invariant.1

@@ -1,13 +1,14 @@
-use Rattle.std.proofs.Common.{◌∙◌}
-use Rattle.p9_map.proofs.Ranks.{few-taken, first-from}
+use Rattle.std.proofs.Common.{◌-◌, ◌∙◌, ap, subst}
+use Rattle.p9_map.specs.Plan.{IsDepth, boxes_max, chosen_at, kept_count}
 use Rattle.p9_map.proofs.plan.first_spots.Goals as goal
 
-pub returns-clause-first : goal.returns-clause-first
-returns-clause-first g c =
-    first-from c.args.forest.now c.args.marked.now.keys c.args.all.now c.in_ok-spots.spots.items
-    c.as_slice-ranked.result.now c.depth_that_fits.result
-    (c.as_slice-ranked.ensures.value ∙ c.in_ok-ranked.ensures) c.depth_that_fits.ensures
-    c.in_ok-spots.ensures
-
-pub returns-clause-few : goal.returns-clause-few
-returns-clause-few g c = few-taken c.in_ok-spots.spots.items _ c.in_ok-spots.ensures
+pub returns : goal.returns
+returns g c =
+    let is = c.as_slice-ranked.ensures.value ∙ c.in_ok-ranked.ensures in
+    let depth = c.depth_that_fits.result in
+    record {
+      depth = depth;
+      greatest = subst (λ rs. IsDepth rs depth) is c.depth_that_fits.ensures;
+      chosen =
+          c.in_ok-spots.ensures ∙ ap (λ rs. chosen_at depth (boxes_max - kept_count rs) rs) is;
+    }

@@ -1,10 +1,10 @@
-use Rattle.std.proofs.Common.{◌≡◌, true, subst, sym}
+use Rattle.std.proofs.Common.{◌≡◌, ◌∙◌, ap, true, subst, sym}
 use Rattle.std.specs.Str.{is_utf8}
 use Rattle.std.specs.String.{string_bytes}
 use Rattle.std.proofs.lemmas.Bool.{false_from_ne_true}
 use Rattle.std.proofs.lemmas.Result.{err_from_is_err_and}
 use Rattle.std.proofs.lemmas.Str.{IsUtf8-from_is_utf8, is_utf8-from_IsUtf8}
-use Rattle.p9_seal.specs.Sealing.{IsSealed}
+use Rattle.p9_seal.specs.Sealing.{IsSealed, is_empty}
 use Rattle.p9_seal.proofs.Sealings.{no-text, sealed-ok}
 use Rattle.p9_seal.proofs.sealing.seal.Goals as goal
 
@@ -25,6 +25,7 @@ returns-clause-ok g c =
     subst (λ input. IsSealed input c.args.anyway (string_bytes c.in_ok-sealed.field-0)) same
     (sealed-ok c.in-Ok.text.now (string_bytes c.in_ok-sealed.field-0) c.args.anyway
     c.in_ok-certificate.ensures.ok.space c.in_ok-certificate.certificate
+    (ap is_empty same ∙ sym c.is_empty.ensures ∙ c.if-is_empty.false)
     (subst (λ text. is_utf8 text ≡ true) (sym same)
     (is_utf8-from_IsUtf8 _ c.in-Ok.ensures.cases.1))
     c.in_ok-sealed.ensures.utf8

@@ -1,7 +1,7 @@
-use Rattle.std.proofs.Common.{◌≡◌, ◌∙◌, ◌++◌, [], Some, length, map, sym, ap, subst, append_assoc}
-use Rattle.std.proofs.Common.{append-nil, arith}
+use Rattle.std.proofs.Common.{◌≡◌, ◌∙◌, ◌++◌, [], Some, length, sym, ap, subst, append_assoc}
+use Rattle.std.proofs.Common.{append-nil, arith, string_bytes}
 use Rattle.std.specs.Prelude.{slice_get}
-use Rattle.std.specs.Option.{option_map}
+use Rattle.std.specs.Option.{option_copied, option_map}
 use Rattle.std.proofs.lemmas.Option.{slice_get-get_or}
 use Rattle.p9_space.specs.Rights.{who_view}
 use Rattle.p9_view.specs.Line.{line_text}
@@ -20,17 +20,20 @@ loop-index-preserved g c =
     let items = c.entries-entry-items.result.now in
     let i = c.loop-index.index in
     let entry = c.entry-item.result in
-    let names = map (λ n. n.now) c.in_ok-names.names.items in
+    let path = string_bytes c.in_ok-path.path in
+    let same = option_map string_bytes c.in_ok-same.same in
     let done = c.loop-index.invariant in
-    let line = line_text space who names entry in
+    let line = line_text space who path same entry in
     let there : slice_get tour i ≡ Some entry =
     ap (λ es. slice_get es i) (sym c.entries-entry-items.ensures)
     ∙ slice_get-get_or items i entry c.loop-index-test.true ∙ ap Some (sym c.entry-item.is) in (
       done.0 ++ line,
-      OneMore i done.0 entry names done.1 there c.in_ok-names.ensures,
+      OneMore i done.0 entry path same done.1 there c.in_ok-path.ensures
+          (c.in_ok-same.ensures entry there),
       c.in_ok-print_line.ensures
-          ∙ ap (λ ns. c.loop-index.out.items ++ line_text space who (map (λ n. n.now) ns) entry)
-          c.as_slice.ensures.value
+          ∙ ap (λ p. c.loop-index.out.items
+          ++ line_text space who p (option_copied c.as_text.result) entry) c.as_str.ensures.value
+          ∙ ap (λ s. c.loop-index.out.items ++ line_text space who path s entry) c.as_text.ensures
           ∙ ap (λ out. out ++ line) done.2
           ∙ append_assoc c.args.out.now.items done.0 line,
     )

@@ -1,7 +1,6 @@
-use Rattle.std.proofs.Common.{◌≡◌, ◌∙◌, ◌++◌, ◌∷◌, [], Some, sym, ap, map, subst}
+use Rattle.std.proofs.Common.{◌∙◌, sym, ap, map, subst}
 use Rattle.std.specs.Option.{option_map}
 use Rattle.std.proofs.lemmas.List.{map_push}
-use Rattle.p9_view.specs.Tour.{origin_at}
 use Rattle.p9_view.proofs.Names.{IsAbove, above-end, above-more, above-none}
 use Rattle.p9_view.proofs.tour.Tour.names_from.Goals as goal
 

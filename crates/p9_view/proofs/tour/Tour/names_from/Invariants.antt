@@ -1,5 +1,4 @@
-use Rattle.std.proofs.Common.{◌<◌, ◌++◌, ℕ, List, length, map, reverse}
-use Rattle.p9_view.specs.Tour.{IsPathTo}
+use Rattle.std.proofs.Common.{map}
 use Rattle.p9_view.proofs.Names.{IsAbove}
 use Rattle.p9_view.proofs.tour.Tour.names_from.Given as goal
 

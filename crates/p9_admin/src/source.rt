@@ -1,0 +1,221 @@
+//! The directories of the disk that the command line names, each of which becomes a server, and those
+//! that are to be hidden in them.
+
+ghost use Rattle.std.specs.Prelude.{◌≡◌};
+ghost use Rattle.p9_admin.specs.Server.{new_server};
+
+use crate::attributes::{Attributes, attributes_of};
+use crate::hide::{Hide, hide_in, is_below, is_hidden};
+use crate::reason::Reason;
+use crate::settings::Settings;
+use crate::told::refuse;
+use p9_base::Stop;
+use p9_files::Dir;
+use p9_pack::{Accounts, PlainName, ServerName};
+use std::alloc::{AllocError, Global};
+use std::fs::{Metadata, symlink_metadata};
+use std::io::{self, ErrorKind};
+use std::path::Path;
+
+/// A directory of the disk that becomes a server.
+#[derive(Drop)]
+pub(crate) struct Source {
+    pub server: ServerName,
+    pub dir: Dir,
+    /// Its path.
+    pub disk: String,
+    pub attributes: Attributes,
+}
+
+/// The directories of the disk, each opened, and the names of their servers. Where one can't be had,
+/// that is reported and there is none.
+pub(crate) fn sources_in(
+    rt: &HostRuntime,
+    settings: &Settings,
+    accounts: &Accounts<'_, Global>,
+    name: Option<&str>,
+    dirs: &[&str],
+    servers: &mut Vec<ServerName>,
+) -> io::Result<Option<Vec<Source>>> {
+    let mut sources = Vec::new(rt.alloc());
+    for disk in dirs {
+        let Some(server) = server_in(rt, name, disk, servers.as_slice())? else {
+            return Ok(None);
+        };
+        match source_of(rt, settings, accounts, server, disk)? {
+            Ok(source) => sources.push(source)?,
+            Err(reason) => {
+                refuse(rt, "directory", disk, &reason)?;
+                return Ok(None);
+            }
+        }
+        servers.push(server)?;
+    }
+    Ok(Some(sources))
+}
+
+// The server of a directory, unless its name is unfit or taken, which is reported.
+fn server_in(
+    rt: &HostRuntime,
+    name: Option<&str>,
+    disk: &str,
+    servers: &[ServerName],
+) -> io::Result<Option<ServerName>> {
+    let text = name.or(Path::new(disk).file_name()).unwrap_or("");
+    match (new_server(text, servers), name) {
+        (Ok(server), _) => Ok(Some(server)),
+        (Err(reason), Some(name)) => {
+            refuse(rt, "--name", name, &reason)?;
+            Ok(None)
+        }
+        (Err(reason), None) => {
+            refuse(rt, "directory", disk, &reason)?;
+            Ok(None)
+        }
+    }
+}
+
+// The server of a name, unless a world can't have it or one of these has it.
+fn new_server(name: &str, servers: &[ServerName]) -> Result<ServerName, Reason>
+    ensures { result ≡ new_server name.now servers.now }
+{
+    let server = match ServerName::new(name) {
+        Ok(server) => server,
+        Err(unfit) => return Err(Reason::Unfit(unfit)),
+    };
+    if servers.contains(&server) {
+        return Err(Reason::SameServer);
+    }
+    Ok(server)
+}
+
+// The directory of a path, or why it can't be packed.
+fn source_of(
+    rt: &HostRuntime,
+    settings: &Settings,
+    accounts: &Accounts<'_, Global>,
+    server: ServerName,
+    path: &str,
+) -> io::Result<Result<Source, Reason>> {
+    let disk = String::from_str(rt.alloc(), path)?;
+    let (dir, metadata) = match opened(rt, path) {
+        Ok(opened) => opened,
+        Err(error) => return Ok(Err(why_not_opened(rt, path, error))),
+    };
+    match attributes_of(settings, accounts, &metadata) {
+        Ok(attributes) => Ok(Ok(Source {
+            server,
+            dir,
+            disk,
+            attributes,
+        })),
+        Err(reason) => Ok(Err(reason)),
+    }
+}
+
+// Opens the directory of a path.
+fn opened(rt: &HostRuntime, disk: &str) -> io::Result<(Dir, Metadata)> {
+    let dir = Dir::open(disk)?;
+    let metadata = dir.metadata(rt)?;
+    Ok((dir, metadata))
+}
+
+// Why the directory of a path can't be opened, where the system had this error.
+fn why_not_opened(rt: &HostRuntime, disk: &str, error: io::Error) -> Reason {
+    match symlink_metadata(rt, disk.trim_end_matches('/')) {
+        Ok(seen) => why_no_dir(&seen).unwrap_or(Reason::System(error)),
+        Err(error) => why_not_seen(error),
+    }
+}
+
+// Why what is seen is no directory, where it is none.
+fn why_no_dir(seen: &Metadata) -> Option<Reason> {
+    if seen.is_symlink() {
+        return Some(Reason::Link);
+    }
+    (!seen.is_dir()).then_some(Reason::NotDirectory)
+}
+
+// Why nothing is seen.
+fn why_not_seen(error: io::Error) -> Reason {
+    if error.kind() == ErrorKind::NotFound {
+        return Reason::NoDirectory;
+    }
+    Reason::System(error)
+}
+
+/// What the values hide, each once. Where one can't be had, that is reported and there is none.
+pub(crate) fn hides_in(
+    rt: &HostRuntime,
+    values: &[&str],
+    with_hidden: bool,
+    servers: &[ServerName],
+    sources: &[Source],
+) -> io::Result<Option<Vec<Hide>>> {
+    let mut hides: Vec<Hide> = Vec::new(rt.alloc());
+    for value in values {
+        let hide = match hide_in(rt.alloc(), value, servers) {
+            Ok(hide) => hide,
+            Err(Stop::Refused(fault)) => {
+                refuse(rt, "--hide", value, &fault)?;
+                return Ok(None);
+            }
+            Err(Stop::NoMemory) => return Err(io::Error::from(AllocError)),
+        };
+        if let Some(reason) = why_not_hidden(rt, &hide, with_hidden, hides.as_slice(), sources) {
+            refuse(rt, "--hide", value, &reason)?;
+            return Ok(None);
+        }
+        if !is_hidden(hides.as_slice(), &hide.server, hide.path.as_slice()) {
+            hides.push(hide)?;
+        }
+    }
+    Ok(Some(hides))
+}
+
+// Why a directory can't be hidden beside others, where it can't.
+fn why_not_hidden(
+    rt: &HostRuntime,
+    hide: &Hide,
+    with_hidden: bool,
+    hides: &[Hide],
+    sources: &[Source],
+) -> Option<Reason> {
+    for source in sources {
+        if source.server == hide.server {
+            if let Some(reason) = why_no_path(rt, &source.dir, hide.path.as_slice()) {
+                return Some(reason);
+            }
+        }
+    }
+    if !with_hidden && is_nested(hide, hides) {
+        return Some(Reason::Nested);
+    }
+    None
+}
+
+// Whether a directory is below one of others, or one of them is below it.
+fn is_nested(hide: &Hide, hides: &[Hide]) -> bool {
+    hides
+        .iter()
+        .any(|other| is_below(hide, other) || is_below(other, hide))
+}
+
+// Why no directory of these names is below a directory, where there is none. No link is followed.
+fn why_no_path(rt: &HostRuntime, dir: &Dir, path: &[PlainName]) -> Option<Reason> {
+    let (name, names) = path.split_first()?;
+    let seen = match dir.look(rt, name.as_str()) {
+        Ok(seen) => seen,
+        Err(error) => return Some(why_not_seen(error)),
+    };
+    if let Some(reason) = why_no_dir(&seen) {
+        return Some(reason);
+    }
+    if names.is_empty() {
+        return None;
+    }
+    match dir.open_dir(name.as_str()) {
+        Ok(below) => why_no_path(rt, &below, names),
+        Err(error) => Some(Reason::System(error)),
+    }
+}

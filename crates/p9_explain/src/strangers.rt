@@ -1,0 +1,115 @@
+//! Hints on names that are no listed users, and may be mistyped.
+
+use crate::head::Section;
+use crate::hints::push_hint;
+use crate::member::dir_of;
+use crate::teller::Teller;
+use p9_base::{NoMemory, NodeRef, Statement, User};
+use p9_tree::Tree;
+use p9_world::World;
+use std::alloc::{AllocError, Allocator};
+use std::collections::BTreeSet;
+
+// Whom every server's root has as its owner until a line changes that.
+const ROOT_OWNER: &str = "sys";
+
+// The names that are no hint: listed users, and who keeps hidden directories.
+#[derive(Drop)]
+struct Known<A: Allocator> {
+    // The names of users of whom nothing is said.
+    users: BTreeSet<User, A>,
+    // The groups of hidden directories, and of those above them.
+    groups: BTreeSet<User, A>,
+}
+
+/// Adds the owners, group leaders and members who are no listed users, each once. Nothing is said of
+/// the owners and the group leaders of hidden directories and of those above them, who are not to be
+/// listed, nor of the first owner of every root.
+pub(crate) fn push_strangers<T: Tree>(
+    text: &mut String<T::Alloc>,
+    teller: &Teller<'_, '_, T>,
+    statements: &[Statement<'_, T::Alloc>],
+) -> Result<(), NoMemory> {
+    let alloc = *text.allocator();
+    let mut known = known_in(alloc, teller.world)?;
+    for statement in statements {
+        let words = statement.words.as_slice();
+        let kept = usize::from(is_of(words, &known.groups));
+        let at = (Section::World, statement.line);
+        push_names(text, teller, at, names_of(words), kept, &mut known.users)?;
+    }
+    Ok(())
+}
+
+// Adds the names of a line that are not known, which are known then. So many of them are passed over.
+fn push_names<T: Tree>(
+    text: &mut String<T::Alloc>,
+    teller: &Teller<'_, '_, T>,
+    at: (Section, u64),
+    names: &[&str],
+    kept: usize,
+    known: &mut BTreeSet<User, T::Alloc>,
+) -> Result<(), NoMemory> {
+    for name in names.iter().skip(kept) {
+        let Some(user) = User::new(name) else {
+            continue;
+        };
+        if known.insert(user)? && *name != ROOT_OWNER {
+            push_hint(text, teller.source, at, name, " is no listed user")?;
+        }
+    }
+    Ok(())
+}
+
+// The names in a line that are to be those of users: an owner, or a leader and members.
+fn names_of<'a, 'b>(words: &'b [&'a str]) -> &'b [&'a str] {
+    match words {
+        ["dir" | "file", _, _, _, ..] => &words[3..4],
+        ["group", _, names @ ..] => names,
+        _ => &[],
+    }
+}
+
+// Whether a line is that of one of these groups, whose leader is not to be listed.
+fn is_of<A: Allocator>(words: &[&str], groups: &BTreeSet<User, A>) -> bool {
+    let ["group", name, ..] = words else {
+        return false;
+    };
+    match User::new(name) {
+        Some(group) => groups.contains(&group),
+        None => false,
+    }
+}
+
+// The listed users, and the owners and groups of hidden directories and of those above them.
+fn known_in<T: Tree>(alloc: T::Alloc, world: &World<T>) -> Result<Known<T::Alloc>, NoMemory> {
+    let mut known = Known {
+        users: BTreeSet::new(alloc),
+        groups: BTreeSet::new(alloc),
+    };
+    for user in world.users.as_slice() {
+        let _ = known.users.insert(*user)?;
+    }
+    for dir in world.hidden.as_slice() {
+        known.keep(world, *dir)?;
+    }
+    Ok(known)
+}
+
+impl<A: Allocator + Copy> Known<A> {
+    // Adds the owners and groups of a directory and of those above it.
+    fn keep<T: Tree>(&mut self, world: &World<T>, dir: NodeRef) -> Result<(), AllocError> {
+        let mut next = Some(dir);
+        for _ in 0..=dir.number {
+            let Some(here) = next else {
+                return Ok(());
+            };
+            if let Some(node) = world.forest.node(here) {
+                let _ = self.users.insert(*node.uid())?;
+                let _ = self.groups.insert(*node.gid())?;
+            }
+            next = dir_of(world, here);
+        }
+        Ok(())
+    }
+}

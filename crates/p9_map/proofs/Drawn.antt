@@ -1,0 +1,74 @@
+-- Boxes that are drawn one after another.
+use Rattle.std.proofs.Common.{◌≡◌, ℕ, ◌+◌, ◌<◌, ◌≤◌, List, [], ◌∷◌, ◌++◌, Option, length, map, drop, get_or, sym, ap, ◌∙◌}
+use Rattle.std.proofs.Common.{append_assoc, append-nil, refl}
+use Rattle.std.proofs.lemmas.List.{drop_all, drop_more}
+use Rattle.p9_base.specs.declared.node_ref.NodeRef.{NodeRef}
+use Rattle.p9_world.specs.World.{World}
+use Rattle.p9_map.specs.Box.{box_text}
+use Rattle.p9_map.specs.Label.{label_texts}
+use Rattle.p9_map.specs.Mark.{mark_of}
+use Rattle.p9_map.specs.Picture.{boxes_text}
+use Rattle.p9_map.specs.Walk.{Walk}
+use Rattle.p9_map.specs.declared.item.Placed.{Placed}
+use Rattle.p9_map.specs.declared.label.Label.{Label}
+
+-- Parts of a picture that are printed one after another.
+
+joined : (o h v t l b g z : List ℕ)
+    → o ++ h ++ v ++ t ++ l ++ b ++ g ++ z ≡ o ++ (h ++ v ++ t ++ l ++ b ++ g ++ z)
+joined [] h v t l b g z = refl
+joined (x ∷ o) h v t l b g z = ap (λ xs. x ∷ xs) (joined o h v t l b g z)
+
+joined-five : (o a b c d e : List ℕ)
+    → o ++ a ++ b ++ c ++ d ++ e ≡ o ++ (a ++ b ++ c ++ d ++ e)
+joined-five [] a b c d e = refl
+joined-five (x ∷ o) a b c d e = ap (λ xs. x ∷ xs) (joined-five o a b c d e)
+
+-- the parts of a box
+pub boxed : (o a b c d e o1 o2 o3 o4 o5 : List ℕ) → o1 ≡ o ++ a → o2 ≡ o1 ++ b → o3 ≡ o2 ++ c
+    → o4 ≡ o3 ++ d → o5 ≡ o4 ++ e → o5 ≡ o ++ (a ++ b ++ c ++ d ++ e)
+boxed o a b c d e o1 o2 o3 o4 o5 e1 e2 e3 e4 e5 =
+    let f2 : o2 ≡ o ++ a ++ b = e2 ∙ ap (λ x. x ++ b) e1 in
+    let f3 : o3 ≡ o ++ a ++ b ++ c = e3 ∙ ap (λ x. x ++ c) f2 in
+    let f4 : o4 ≡ o ++ a ++ b ++ c ++ d = e4 ∙ ap (λ x. x ++ d) f3 in
+    e5 ∙ ap (λ x. x ++ e) f4 ∙ joined-five o a b c d e
+
+pub printed : (o h v t l b g z o1 o2 o3 o4 o5 o6 o7 : List ℕ) → o1 ≡ o ++ h → o2 ≡ o1 ++ v
+    → o3 ≡ o2 ++ t → o4 ≡ o3 ++ l → o5 ≡ o4 ++ b → o6 ≡ o5 ++ g → o7 ≡ o6 ++ z
+    → o7 ≡ o ++ (h ++ v ++ t ++ l ++ b ++ g ++ z)
+printed o h v t l b g z o1 o2 o3 o4 o5 o6 o7 e1 e2 e3 e4 e5 e6 e7 =
+    let f2 : o2 ≡ o ++ h ++ v = e2 ∙ ap (λ x. x ++ v) e1 in
+    let f3 : o3 ≡ o ++ h ++ v ++ t = e3 ∙ ap (λ x. x ++ t) f2 in
+    let f4 : o4 ≡ o ++ h ++ v ++ t ++ l = e4 ∙ ap (λ x. x ++ l) f3 in
+    let f5 : o5 ≡ o ++ h ++ v ++ t ++ l ++ b = e5 ∙ ap (λ x. x ++ b) f4 in
+    let f6 : o6 ≡ o ++ h ++ v ++ t ++ l ++ b ++ g = e6 ∙ ap (λ x. x ++ g) f5 in
+    e7 ∙ ap (λ x. x ++ z) f6 ∙ joined o h v t l b g z
+
+module _ {B : Type 0} (world : World) (rows : List NodeRef) (walk : Option Walk) (boxes : List Placed)
+    (labels : List (Label B)) (i : ℕ) (text after whole : List ℕ) where
+  pub drawn-more : (box d : Placed) (label e : Label B) → i < length boxes → i < length labels
+      → box ≡ get_or boxes i d → label ≡ get_or labels i e
+      → after ≡ text ++ box_text box.rect (mark_of world rows walk box.node) (label_texts label).0
+      (label_texts label).1
+      → text ++ boxes_text world rows walk (drop i boxes) (map label_texts (drop i labels)) ≡ whole
+      → after ++ boxes_text world rows walk (drop (i + 1) boxes)
+      (map label_texts (drop (i + 1) labels)) ≡ whole
+  drawn-more box d label e l m at is grown so_far =
+      let bs = drop (i + 1) boxes in
+      let ls = drop (i + 1) labels in
+      let one = box_text box.rect (mark_of world rows walk box.node) (label_texts label).0
+      (label_texts label).1 in
+      let tail = boxes_text world rows walk bs (map label_texts ls) in
+      let here : drop i boxes ≡ box ∷ bs = drop_more boxes i d l ∙ ap (λ x. x ∷ bs) (sym at) in
+      let there : drop i labels ≡ label ∷ ls = drop_more labels i e m ∙ ap (λ x. x ∷ ls) (sym is) in
+      ap (λ t. t ++ tail) grown ∙ append_assoc text one tail
+      ∙ ap (λ xs. text ++ boxes_text world rows walk xs (map label_texts (label ∷ ls))) (sym here)
+      ∙ ap (λ ys. text ++ boxes_text world rows walk (drop i boxes) (map label_texts ys)) (sym there)
+      ∙ so_far
+
+  pub drawn-all : length boxes ≤ i
+      → text ++ boxes_text world rows walk (drop i boxes) (map label_texts (drop i labels)) ≡ whole
+      → text ≡ whole
+  drawn-all l so_far =
+      sym (ap (λ bs. text ++ boxes_text world rows walk bs (map label_texts (drop i labels)))
+      (drop_all i boxes l) ∙ append-nil text) ∙ so_far

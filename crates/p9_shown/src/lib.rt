@@ -1,0 +1,6 @@
+//! Text as it is shown to people: each text on one line, and without what a terminal obeys.
+#![tactic(auto)]
+
+mod text;
+
+pub use text::{AsShown, push_shown, shown};
