@@ -74,8 +74,8 @@ pub(crate) fn head_of(line: &str) -> Head {
     if let Some(section) = section_of(line) {
         return Head::Begins(section);
     }
-    if let Some(rest) = line.strip_prefix("\u{feff}") {
-        return Head::Bad(section_of(rest), Way::ByteOrderMark);
+    if let Some(section) = section_marked(line) {
+        return Head::Bad(Some(section), Way::ByteOrderMark);
     }
     if !line.starts_with("%%") {
         return Head::Other;
@@ -102,6 +102,12 @@ fn section_of(line: &str) -> Option<Section> {
         }
     }
     None
+}
+
+// The section that a line is meant to begin after a byte order mark.
+fn section_marked(line: &str) -> Option<Section> {
+    let rest = line.strip_prefix("\u{feff}")?;
+    section_meant(rest.trim_end())
 }
 
 // The section that a line is meant to begin, in letters of either case.

@@ -25,7 +25,7 @@ impl Line<'_> {
 }
 
 /// The lines of an input. A line that is meant to begin a section does so, unless that section was
-/// there before.
+/// there before. The lines after any other section line belong to no section.
 pub(crate) fn layout_of<A: Allocator + Copy>(
     alloc: A,
     input: &str,
@@ -33,21 +33,23 @@ pub(crate) fn layout_of<A: Allocator + Copy>(
     let mut layout = Vec::new(alloc);
     let mut begun = Vec::new(alloc);
     let mut current = None;
+    let mut headed = false;
     let (mut number, mut start) = (0u64, 0usize);
     for text in lines(alloc, input)?.as_slice() {
         number = number.saturating_add(1);
         let head = head_of(text);
-        let way = way_of(head, text, begun.as_slice());
-        let section = if matches!(head, Head::Other) {
-            current
-        } else {
-            None
-        };
+        let way = way_of(head, text, begun.as_slice(), headed);
         let mut begins = None;
         if let Head::Begins(section) | Head::Bad(Some(section), _) = head {
             begins = new_section(section, begun.as_slice());
-            current = begins;
             begun.push(section)?;
+        }
+        let mut section = None;
+        if matches!(head, Head::Other) {
+            section = current;
+        } else {
+            current = begins;
+            headed = true;
         }
         let line = Line {
             number,
@@ -72,8 +74,9 @@ fn new_section(section: Section, begun: &[Section]) -> Option<Section> {
     }
 }
 
-// The way in which a line is bad after lines that began these sections.
-fn way_of(head: Head, line: &str, begun: &[Section]) -> Option<Way> {
+// The way in which a line is bad after lines that began these sections, and after any section line or
+// none.
+fn way_of(head: Head, line: &str, begun: &[Section], headed: bool) -> Option<Way> {
     match head {
         Head::Bad(_, way) => Some(way),
         Head::Begins(section) if begun.contains(&section) => Some(Way::Twice),
@@ -81,7 +84,7 @@ fn way_of(head: Head, line: &str, begun: &[Section]) -> Option<Way> {
             Some(last) if *last > section => Some(Way::WrongOrder),
             _ => None,
         },
-        Head::Other if begun.is_empty() && !line.trim_matches([' ', '\t']).is_empty() => {
+        Head::Other if !headed && !line.trim_matches([' ', '\t']).is_empty() => {
             Some(Way::TextBefore)
         }
         Head::Other => None,

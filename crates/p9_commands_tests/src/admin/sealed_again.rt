@@ -64,6 +64,7 @@ fn explain_again<A: Allocator + Copy>(rt: &impl Abort, alloc: A, input: &str, wo
 const CERTIFIED: &str = "%% world
 server main
 dir /vault 700 ken ken
+file /note 644 ann ann -
 user glenda
 hide main /vault
 %% cert
@@ -75,7 +76,7 @@ const EXPLAINED: &str = "claim: glenda neither sees nor changes what is inside m
 yes: clients can reach 1 directory, and nothing hidden
 certificate: not accepted: a walk begins at main:/
   main:/ (mine:2, 755 sys sys) is no row: others may read and search it
-hint: mine:3: ken is no listed user
+hint: mine:4: ann is no listed user
 ";
 
 // An input that leaks, and what is said of it.
