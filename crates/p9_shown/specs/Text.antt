@@ -2,7 +2,7 @@
 use Rattle.std.specs.Prelude.{ℕ, ◌==◌, ◌||◌, ◌&&◌, Bool, false, List, [], ◌∷◌, encode_utf8_all, nat_le, nat_lt, not}
 use Rattle.std.specs.Prelude.{if◌then◌else◌}
 use Rattle.std.specs.Char.Escape.{escape_unicode}
-use Rattle.std.specs.List.{flat_map}
+use Rattle.std.specs.List.{flat_map, list_all}
 use Rattle.std.specs.Str.{chars}
 use Rattle.ucd_category.specs.GeneralCategory.{general_category}
 use Rattle.ucd_category.specs.GeneralCategoryGroup.{in_group}
@@ -19,6 +19,10 @@ is_plain c =
     if c == 92 then false
     else if nat_lt c 128 then nat_le 32 c && nat_le c 126
     else not (is_unseen c)
+
+-- each character of a text is seen
+abbrev pub is_visible : List ℕ → Bool
+is_visible text = list_all (λ c. c == 92 || is_plain c) (chars text)
 
 -- a character as it is shown: a backslash and a letter for NUL, tab, newline, carriage return and
 -- backslash, and its code for another that is not shown as it is

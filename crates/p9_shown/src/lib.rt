@@ -3,4 +3,4 @@
 
 mod text;
 
-pub use text::{AsShown, push_shown, shown};
+pub use text::{AsShown, is_visible, push_shown, shown};

@@ -3,7 +3,7 @@
 ghost use Rattle.std.specs.Prelude.{◌≡◌, ◌++◌, IfOk, OnOk, encode_utf8_all};
 ghost use Rattle.std.specs.Char.Escape.{escape_unicode};
 ghost use Rattle.std.specs.String.{string_bytes};
-ghost use Rattle.p9_shown.specs.Text.{is_plain, is_unseen, shown_char, shown_text};
+ghost use Rattle.p9_shown.specs.Text.{is_plain, is_unseen, is_visible, shown_char, shown_text};
 
 use std::alloc::{AllocError, Allocator};
 use std::fmt::{self, Display, Formatter, Write};
@@ -46,6 +46,14 @@ pub fn push_shown<A: Allocator>(text: &str, out: &mut String<A>) -> Result<(), A
         push_char(c, out)?;
     }
     Ok(())
+}
+
+/// Whether each character of a text is seen: none is escaped by [`shown`] but backslashes, so the text
+/// may be shown as it is.
+pub fn is_visible(text: &str) -> bool
+    ensures { result ≡ is_visible text.now }
+{
+    text.chars().all(|c| c == '\\' || is_plain(c))
 }
 
 // Adds one character.

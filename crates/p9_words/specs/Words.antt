@@ -10,6 +10,7 @@ use Rattle.p9_wire.specs.Message.{StatFields, TMessage, Tversion, Tauth, Tattach
 use Rattle.p9_wire.specs.Message.{Topen, Tcreate, Tread, Twrite, Tclunk, Tremove, Tstat, Twstat}
 use Rattle.p9_wire.specs.Message.{RMessage, Rversion, Rattach, Rerror, Rflush, Rwalk, Ropen}
 use Rattle.p9_wire.specs.Message.{Rcreate, Rread, Rwrite, Rclunk, Rremove, Rstat, Rwstat}
+use Rattle.p9_shown.specs.Text.{is_visible}
 use Rattle.p9_words.specs.declared.form.Base.{Base}
 use Rattle.p9_words.specs.declared.form.Base.TheVariants.{Octal, Decimal, Hexadecimal}
 use Rattle.p9_words.specs.declared.form.Width.{Width}
@@ -18,7 +19,7 @@ use Rattle.p9_words.specs.declared.key.Key.{Key}
 use Rattle.p9_words.specs.declared.key.Key.TheVariants as key
 use Rattle.p9_words.specs.declared.verb.Verb.{Verb}
 use Rattle.p9_words.specs.declared.verb.Verb.TheVariants as verb
-use Rattle.p9_words.specs.Class.{is_bare, is_shown}
+use Rattle.p9_words.specs.Class.{is_bare}
 use Rattle.p9_words.specs.Form.{radix_of}
 use Rattle.p9_words.specs.Key.{key_text}
 use Rattle.p9_words.specs.Verb.{verb_text}
@@ -42,9 +43,9 @@ number_words base n = digits (radix_of base) false n
 abbrev pub octal_words : ℕ → List ℕ
 octal_words n = codes "0" ++ number_words Octal n
 
--- bytes that are shown as a text
+-- bytes that are printed as a text: one whose characters are seen
 abbrev pub is_printable : List ℕ → Bool
-is_printable s = is_utf8 s && list_all is_shown s
+is_printable s = is_utf8 s && is_visible s
 
 -- a byte between quotes: a quote is there twice
 abbrev pub between_quotes : ℕ → List ℕ
@@ -58,7 +59,7 @@ quoted s = codes "'" ++ flat_map between_quotes s ++ codes "'"
 abbrev pub paired : List ℕ → List ℕ
 paired s = codes "x'" ++ encode_lower s ++ codes "'"
 
--- bytes as a text where they are one without control bytes, else in hexadecimal digits
+-- bytes as a text where they are one whose characters are seen, else in hexadecimal digits
 unfoldable pub shown : List ℕ → List ℕ
 shown s = if is_printable s then quoted s else paired s
 

@@ -19,8 +19,6 @@ pub enum Class {
     Bare,
     /// Any byte but a quote.
     Unquoted,
-    /// Any byte but a control byte.
-    Shown,
 }
 
 impl Class {
@@ -36,7 +34,6 @@ impl Class {
                 byte > b' ' && byte < 127 && byte != b'\'' && byte != b'(' && byte != b')'
             }
             Class::Unquoted => byte != b'\'',
-            Class::Shown => 32 <= byte && byte != 127,
         }
     }
 }

@@ -18,6 +18,7 @@ use crate::form::Base;
 use crate::key::Key;
 use crate::value::Value;
 use p9_base::{NoMemory, Qid};
+use p9_shown::is_visible;
 use p9_wire::{Names, Qids, Stat};
 use std::alloc::Allocator;
 use std::str::from_utf8;
@@ -47,13 +48,13 @@ pub fn print_number<A: Allocator + Copy>(
     print(digits.as_bytes(), out)
 }
 
-// Whether bytes are shown as a text.
+// Whether bytes are printed as a text.
 #[tactic(auto, using(crate::proofs::Texts::no_utf8, crate::proofs::Texts::some_utf8))]
 fn is_printable(bytes: &[u8]) -> bool
     ensures { result ≡ is_printable bytes.now }
 {
     match from_utf8(bytes) {
-        Ok(_) => all_in(Class::Shown, bytes),
+        Ok(text) => is_visible(text),
         Err(_) => false,
     }
 }
@@ -99,7 +100,8 @@ pub fn print_paired<A: Allocator + Copy>(bytes: &[u8], out: &mut Vec<u8, A>) -> 
     print(b"'", out)
 }
 
-/// Bytes as a text where they are one without control bytes, else in hexadecimal digits.
+/// Bytes as a text where they are one whose characters are seen, as
+/// [`is_visible`](p9_shown::is_visible) says, else in hexadecimal digits.
 #[tactic(auto, unfolding(crate::specs::Words::shown))]
 pub fn print_shown<A: Allocator + Copy>(bytes: &[u8], out: &mut Vec<u8, A>) -> Result<(), NoMemory>
     ensures { OnOk result (out.new.items ≡ out.old.items ++ shown bytes.now) }
