@@ -1,5 +1,5 @@
 -- The answer to a message leaves a session whose fids belong to allowed users.
-use Rattle.std.proofs.Common.{◌≡◌, ◌⊎◌, ℕ, Bool, true, false, List, [], ◌∷◌, Option, Some, None, Ok}
+use Rattle.std.proofs.Common.{◌≡◌, ℕ, Bool, true, false, List, [], ◌∷◌, Option, Some, None, Ok}
 use Rattle.std.proofs.Common.{◌++◌, Err, refl, subst, sym, inl, inr}
 use Rattle.std.specs.Prelude.{IsTrue, ◌==◌}
 use Rattle.std.specs.BTreeMap.{is_at}
@@ -59,6 +59,25 @@ abbrev pub MayAttach : (allowed listed : List (List ℕ)) → TMessage → Type 
 MayAttach allowed listed (Tattach fid afid uname aname) =
     IsTrue (is_among uname listed) → IsTrue (is_among uname allowed)
 MayAttach allowed listed other = Unit {0}
+
+-- the message of a harmless frame
+harmless-message : (allowed listed : List (List ℕ)) (frame : List ℕ) (tag : ℕ) (m : TMessage)
+    → t_message_of frame ≡ Some (tag, m) → IsHarmless allowed listed frame
+    → MayAttach allowed listed m
+harmless-message allowed listed frame tag (Tattach fid afid uname aname) read harmless =
+    harmless tag fid afid uname aname read
+harmless-message allowed listed frame tag (Tversion msize version) read harmless = tt
+harmless-message allowed listed frame tag (Tauth afid uname aname) read harmless = tt
+harmless-message allowed listed frame tag (Tflush oldtag) read harmless = tt
+harmless-message allowed listed frame tag (Twalk fid newfid names) read harmless = tt
+harmless-message allowed listed frame tag (Topen fid mode) read harmless = tt
+harmless-message allowed listed frame tag (Tcreate fid name perm mode) read harmless = tt
+harmless-message allowed listed frame tag (Tread fid offset count) read harmless = tt
+harmless-message allowed listed frame tag (Twrite fid offset bytes) read harmless = tt
+harmless-message allowed listed frame tag (Tclunk fid) read harmless = tt
+harmless-message allowed listed frame tag (Tremove fid) read harmless = tt
+harmless-message allowed listed frame tag (Tstat fid) read harmless = tt
+harmless-message allowed listed frame tag (Twstat fid stat) read harmless = tt
 
 module _ (allowed : List (List ℕ)) where
   -- a fid belongs to an allowed user
@@ -254,25 +273,6 @@ module _ (allowed : List (List ℕ)) where
         (λ o done. subst LeavesOwned (sym done.is) own)
         (wstat-done setting forest session now fid stat)
 
-    -- the message of a harmless frame
-    harmless-message : (frame : List ℕ) (tag : ℕ) (m : TMessage)
-        → t_message_of frame ≡ Some (tag, m) → IsHarmless allowed setting.users frame
-        → MayAttach allowed setting.users m
-    harmless-message frame tag (Tattach fid afid uname aname) read harmless =
-        harmless tag fid afid uname aname read
-    harmless-message frame tag (Tversion msize version) read harmless = tt
-    harmless-message frame tag (Tauth afid uname aname) read harmless = tt
-    harmless-message frame tag (Tflush oldtag) read harmless = tt
-    harmless-message frame tag (Twalk fid newfid names) read harmless = tt
-    harmless-message frame tag (Topen fid mode) read harmless = tt
-    harmless-message frame tag (Tcreate fid name perm mode) read harmless = tt
-    harmless-message frame tag (Tread fid offset count) read harmless = tt
-    harmless-message frame tag (Twrite fid offset bytes) read harmless = tt
-    harmless-message frame tag (Tclunk fid) read harmless = tt
-    harmless-message frame tag (Tremove fid) read harmless = tt
-    harmless-message frame tag (Tstat fid) read harmless = tt
-    harmless-message frame tag (Twstat fid stat) read harmless = tt
-
     -- the answer to a harmless frame
     pub own-frame : (sessions : List SessionRow) (now : ℕ) (frame : List ℕ)
         → IsHarmless allowed setting.users frame
@@ -281,4 +281,5 @@ module _ (allowed : List (List ℕ)) where
         done-then LeavesOwned (request_of session frame)
         (message_answer setting forest sessions session now) (request_of-of session frame)
         (λ m is. let r = request-is session frame m is in
-        own-answer sessions now m (harmless-message frame r.tag m r.read harmless))
+        let may = harmless-message allowed setting.users frame r.tag m r.read harmless in
+        own-answer sessions now m may)
