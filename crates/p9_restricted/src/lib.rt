@@ -1,0 +1,5 @@
+//! Streams whose clients attach as the users alone who may come that way.
+#![tactic(auto)]
+
+mod front;
+mod passing;
