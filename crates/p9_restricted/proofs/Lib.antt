@@ -1,0 +1,4 @@
+pub mod Fronts
+pub mod Maskings
+pub mod Blanks
+pub mod Onward

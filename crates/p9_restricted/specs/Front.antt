@@ -1,6 +1,6 @@
 -- What begins a frame, and the name of the user as whom it attaches.
 use Rattle.std.specs.Prelude.{ℕ, ◌+◌, ◌<◌, ◌≤◌, ◌==◌, ◌&&◌, ◌||◌, not, List, ◌++◌, nat_le, nat_lt}
-use Rattle.std.specs.Prelude.{⊤, Option, None, Some, length, take, drop, replicate, if◌then◌else◌}
+use Rattle.std.specs.Prelude.{Option, None, Some, length, take, drop, replicate, if◌then◌else◌}
 use Rattle.byteorder.specs.Endian.{little_number}
 use Rattle.p9_base.specs.User.{is_listed_user, is_user, user_max}
 use Rattle.p9_wire.specs.Frame.{header, msize_max}
@@ -24,15 +24,9 @@ type_of bytes = little_number 1 (drop 4 bytes)
 abbrev pub name_len : List ℕ → ℕ
 name_len bytes = little_number 2 (drop 15 bytes)
 
--- so many bytes of a user's name are there, if any
-abbrev pub IsWithin : ℕ → List ℕ → Type 0
-IsWithin mask bytes = 0 < mask → name_at + mask ≤ length bytes
-
--- what is said of bytes is within them, and is said where they are long enough
-abbrev pub FitsIn : Front → List ℕ → Type 0
-FitsIn Undecided bytes = length bytes < longest
-FitsIn Broken bytes = ⊤
-FitsIn (Frame size mask) bytes = (header ≤ size) × IsWithin mask bytes
+-- so many bytes of a user's name end within so many bytes of a frame, if there are any
+abbrev pub IsWithin : ℕ → ℕ → Type 0
+IsWithin mask len = 0 < mask → name_at + mask ≤ len
 
 -- the user of a name
 abbrev pub user_of : List ℕ → Option (List ℕ)

@@ -1,7 +1,7 @@
 //! What begins a frame: how long it is, and the name of the user as whom it attaches.
 
-ghost use Rattle.std.specs.Prelude.{◌≡◌, ◌<◌, length};
-ghost use Rattle.p9_restricted.specs.Front.{FitsIn, attach_front, front_of, longest, masked_len};
+ghost use Rattle.std.specs.Prelude.{◌≡◌};
+ghost use Rattle.p9_restricted.specs.Front.{attach_front, front_of, masked_len, user_of};
 
 use byteorder::{ByteOrder, LittleEndian};
 use p9_base::User;
@@ -37,8 +37,7 @@ pub(crate) enum Front {
 
 /// What is at the front of bytes that begin a frame, where these users may attach.
 pub(crate) fn front_of(users: &[User], bytes: &[u8]) -> Front
-    ensures front { result ≡ front_of users.now bytes.now }
-    ensures fits { FitsIn result bytes.now }
+    ensures { result ≡ front_of users.now bytes.now }
 {
     if bytes.len() < TYPE_AT {
         return Front::Undecided;
@@ -56,8 +55,7 @@ pub(crate) fn front_of(users: &[User], bytes: &[u8]) -> Front
 
 // The same of a Tattach of this size.
 fn attach_front(users: &[User], size: usize, bytes: &[u8]) -> Front
-    ensures front { result ≡ attach_front users.now size bytes.now }
-    ensures fits { FitsIn result bytes.now }
+    ensures { result ≡ attach_front users.now size bytes.now }
 {
     if bytes.len() < NAME_AT {
         return Front::Undecided;
@@ -87,5 +85,8 @@ fn masked_len(users: &[User], name: &[u8]) -> usize
 fn user_of(name: &[u8]) -> Option<User>
     ensures { result ≡ user_of name.now }
 {
-    User::new(from_utf8(name).ok()?)
+    match from_utf8(name) {
+        Ok(text) => User::new(text),
+        Err(_) => None,
+    }
 }

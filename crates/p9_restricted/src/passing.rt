@@ -63,9 +63,11 @@ impl<A: Allocator> Passing<A> {
         at
     }
 
-    // Passes bytes on up to the end of a frame.
+    // Passes bytes on up to the end of a frame: none where there are none, or too few to say what
+    // begins.
     fn pass_front(&mut self, bytes: &mut [u8]) -> usize
-        ensures { Passes self.old bytes.old self.new bytes.new result }
+        ensures passed { Passes self.old bytes.old self.new bytes.new result }
+        ensures few { result ≡ 0 → length bytes.old < longest }
     {
         match self.place {
             Place::Before(0) => self.begin(bytes),
@@ -81,7 +83,8 @@ impl<A: Allocator> Passing<A> {
     // Passes bytes of a frame on, from its first one.
     fn begin(&mut self, bytes: &mut [u8]) -> usize
         requires { self.old.place ≡ Before 0 }
-        ensures { Passes self.old bytes.old self.new bytes.new result }
+        ensures passed { Passes self.old bytes.old self.new bytes.new result }
+        ensures few { result ≡ 0 → length bytes.old < longest }
     {
         match front_of(self.users.as_slice(), bytes) {
             Front::Undecided => 0,
@@ -101,7 +104,7 @@ impl<A: Allocator> Passing<A> {
 
 // Puts so many blanks in the place of a user's name.
 fn blank(bytes: &mut [u8], mask: usize)
-    requires { IsWithin mask bytes.old }
+    requires { IsWithin mask (length bytes.old) }
     ensures { bytes.new ≡ blanked mask bytes.old }
 {
     if mask > 0 {
