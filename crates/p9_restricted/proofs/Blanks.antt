@@ -8,7 +8,7 @@ use borrow.Rule.Slice.PartMut.{mid_of, put_mid}
 use Rattle.p9_restricted.specs.Front.{IsWithin, blanked, name_at}
 
 -- no blank changes nothing
-blanked-none : (bytes : List ℕ) → blanked 0 bytes ≡ bytes
+pub blanked-none : (bytes : List ℕ) → blanked 0 bytes ≡ bytes
 blanked-none bytes =
     ap (λ front. front ++ drop name_at bytes) (append-nil (take name_at bytes))
     ∙ take-append-drop name_at bytes
@@ -21,9 +21,14 @@ length-blanked (suc n) bytes within =
     let start = take name_at bytes in
     let blanks : List ℕ = replicate (suc n) 32 in
     let end = drop (name_at + suc n) bytes in
-    omega (arith, length-append (start ++ blanks) end, length-append start blanks,
-    length-take name_at bytes, length-replicate {A = ℕ} (suc n) 32,
-    length-drop (name_at + suc n) bytes)
+    omega (
+      arith,
+      length-append (start ++ blanks) end,
+      length-append start blanks,
+      length-take name_at bytes,
+      length-replicate {A = ℕ} (suc n) 32,
+      length-drop (name_at + suc n) bytes,
+    )
 
 -- bytes behind those that hold the name stay as they are
 pub blanked-append : (mask : ℕ) (bytes more : List ℕ) → IsWithin mask (length bytes)
@@ -55,5 +60,8 @@ put_blanks mask bytes blanks e =
 pub length-written : (mask : ℕ) (bytes : List ℕ) → name_at + mask ≤ length bytes
     → length (mid_of name_at (name_at + mask - name_at) bytes) ≡ mask
 length-written mask bytes held =
-    omega (arith, length-take (name_at + mask - name_at) (drop name_at bytes),
-    length-drop name_at bytes)
+    omega (
+      arith,
+      length-take (name_at + mask - name_at) (drop name_at bytes),
+      length-drop name_at bytes,
+    )

@@ -53,7 +53,7 @@ passes_none gate bytes =
       others = refl;
       length_is = refl;
       users_are = refl;
-      front = λ behind. refl
+      front = λ behind. refl;
     }
 
 -- bytes of a frame that has begun
@@ -69,16 +69,16 @@ passes_left old new bytes left count at users place counted =
       length_is = refl;
       users_are = users;
       front = λ behind.
-      let rest = drop count bytes ++ behind in
-      onward_at old old.users (Before left) (bytes ++ behind) refl at
-      ∙ ap (λ xs. xs ++ masked old.users (drop left (bytes ++ behind)))
-      (front_in_two bytes behind left count few held)
-      ∙ ap (λ xs. (take count bytes ++ take (left - count) rest) ++ masked old.users xs)
-      (rest_in_two bytes behind left count few held)
-      ∙ append_assoc (take count bytes) (take (left - count) rest)
-      (masked old.users (drop (left - count) rest))
-      ∙ ap (λ xs. take count bytes ++ xs)
-      (sym (onward_at new old.users (Before (left - count)) rest users place))
+          let rest = drop count bytes ++ behind in
+          onward_at old old.users (Before left) (bytes ++ behind) refl at
+          ∙ ap (λ xs. xs ++ masked old.users (drop left (bytes ++ behind)))
+          (front_in_two bytes behind left count few held)
+          ∙ ap (λ xs. (take count bytes ++ take (left - count) rest) ++ masked old.users xs)
+          (rest_in_two bytes behind left count few held)
+          ∙ append_assoc (take count bytes) (take (left - count) rest)
+          (masked old.users (drop (left - count) rest))
+          ∙ ap (λ xs. take count bytes ++ xs)
+          (sym (onward_at new old.users (Before (left - count)) rest users place));
     }
 
 -- bytes where no frame begins any more
@@ -91,11 +91,11 @@ passes_lost gate bytes at =
       length_is = refl;
       users_are = refl;
       front = λ behind.
-      onward_at gate gate.users Lost (bytes ++ behind) refl at
-      ∙ ap (λ xs. xs ++ behind) (sym (take-append-drop (length bytes) bytes))
-      ∙ append_assoc (take (length bytes) bytes) (drop (length bytes) bytes) behind
-      ∙ ap (λ xs. take (length bytes) bytes ++ xs)
-      (sym (onward_at gate gate.users Lost (drop (length bytes) bytes ++ behind) refl at))
+          onward_at gate gate.users Lost (bytes ++ behind) refl at
+          ∙ ap (λ xs. xs ++ behind) (sym (take-append-drop (length bytes) bytes))
+          ∙ append_assoc (take (length bytes) bytes) (drop (length bytes) bytes) behind
+          ∙ ap (λ xs. take (length bytes) bytes ++ xs)
+          (sym (onward_at gate gate.users Lost (drop (length bytes) bytes ++ behind) refl at));
     }
 
 -- bytes that begin with a size of no frame
@@ -109,15 +109,15 @@ passes_broken old new bytes at said users place =
       length_is = refl;
       users_are = users;
       front = λ behind.
-      let later : front_of old.users (bytes ++ behind) ≡ Broken =
-      front_of-append old.users bytes behind (λ e. let no : Undecided ≡ Broken =
-      sym e ∙ said in absurd (cc)) ∙ said in
-      onward_at old old.users (Before 0) (bytes ++ behind) refl at
-      ∙ masked-front_as old.users (bytes ++ behind) Broken later
-      ∙ ap (λ xs. xs ++ behind) (sym (take-append-drop (length bytes) bytes))
-      ∙ append_assoc (take (length bytes) bytes) (drop (length bytes) bytes) behind
-      ∙ ap (λ xs. take (length bytes) bytes ++ xs)
-      (sym (onward_at new old.users Lost (drop (length bytes) bytes ++ behind) users place))
+          let later : front_of old.users (bytes ++ behind) ≡ Broken =
+          front_of-append old.users bytes behind (λ e. let no : Undecided ≡ Broken =
+          sym e ∙ said in absurd (cc)) ∙ said in
+          onward_at old old.users (Before 0) (bytes ++ behind) refl at
+          ∙ masked-front_as old.users (bytes ++ behind) Broken later
+          ∙ ap (λ xs. xs ++ behind) (sym (take-append-drop (length bytes) bytes))
+          ∙ append_assoc (take (length bytes) bytes) (drop (length bytes) bytes) behind
+          ∙ ap (λ xs. take (length bytes) bytes ++ xs)
+          (sym (onward_at new old.users Lost (drop (length bytes) bytes ++ behind) users place));
     }
 
 -- bytes that begin a frame
@@ -143,27 +143,27 @@ passes_frame old new bytes size mask count at said users place counted =
     record {
       within = held;
       others = ap (drop count) parts
-      ∙ drop_at (blanked mask begun) (drop count bytes) count masked_begun;
+          ∙ drop_at (blanked mask begun) (drop count bytes) count masked_begun;
       length_is = length-blanked mask bytes fits.2;
       users_are = users;
       front = λ behind.
-      let rest = drop count bytes ++ behind in
-      let later : front_of old.users (bytes ++ behind) ≡ Frame size mask =
-      front_of-append old.users bytes behind (λ e. let no : Undecided ≡ Frame size mask =
-      sym e ∙ said in absurd (cc)) ∙ said in
-      onward_at old old.users (Before 0) (bytes ++ behind) refl at
-      ∙ masked-front_as old.users (bytes ++ behind) (Frame size mask) later
-      ∙ ap (λ xs. blanked mask xs ++ masked old.users (drop size (bytes ++ behind)))
-      (front_in_two bytes behind size count few held)
-      ∙ ap (λ xs. blanked mask (begun ++ take (size - count) rest) ++ masked old.users xs)
-      (rest_in_two bytes behind size count few held)
-      ∙ ap (λ xs. xs ++ masked old.users (drop (size - count) rest))
-      (blanked-append mask begun (take (size - count) rest) inside)
-      ∙ append_assoc (blanked mask begun) (take (size - count) rest)
-      (masked old.users (drop (size - count) rest))
-      ∙ ap (λ xs. blanked mask begun ++ xs)
-      (sym (onward_at new old.users (Before (size - count)) rest users place))
-      ∙ ap (λ xs. xs ++ onward new rest) (sym first)
+          let rest = drop count bytes ++ behind in
+          let later : front_of old.users (bytes ++ behind) ≡ Frame size mask =
+          front_of-append old.users bytes behind (λ e. let no : Undecided ≡ Frame size mask =
+          sym e ∙ said in absurd (cc)) ∙ said in
+          onward_at old old.users (Before 0) (bytes ++ behind) refl at
+          ∙ masked-front_as old.users (bytes ++ behind) (Frame size mask) later
+          ∙ ap (λ xs. blanked mask xs ++ masked old.users (drop size (bytes ++ behind)))
+          (front_in_two bytes behind size count few held)
+          ∙ ap (λ xs. blanked mask (begun ++ take (size - count) rest) ++ masked old.users xs)
+          (rest_in_two bytes behind size count few held)
+          ∙ ap (λ xs. xs ++ masked old.users (drop (size - count) rest))
+          (blanked-append mask begun (take (size - count) rest) inside)
+          ∙ append_assoc (blanked mask begun) (take (size - count) rest)
+          (masked old.users (drop (size - count) rest))
+          ∙ ap (λ xs. blanked mask begun ++ xs)
+          (sym (onward_at new old.users (Before (size - count)) rest users place))
+          ∙ ap (λ xs. xs ++ onward new rest) (sym first);
     }
 
 -- one piece after another
@@ -190,16 +190,21 @@ passes-then g h k bytes bytes' part part' at count p q e =
       within = omega (arith, p.length_is, length-drop at bytes');
       others = others;
       length_is = ap length e
-      ∙ omega (arith, length-append (take at bytes') part, q.length_is, p.length_is,
-      length-drop at bytes');
+          ∙ omega (
+            arith,
+            length-append (take at bytes') part,
+            q.length_is,
+            p.length_is,
+            length-drop at bytes',
+          );
       users_are = q.users_are ∙ p.users_are;
       front = λ behind.
-      p.front behind
-      ∙ ap (λ xs. take at bytes' ++ onward h (xs ++ behind)) (sym p.others)
-      ∙ ap (λ xs. take at bytes' ++ xs) (q.front behind)
-      ∙ sym (append_assoc (take at bytes') (take count part)
-      (onward k (drop count (drop at bytes') ++ behind)))
-      ∙ ap (λ xs. xs ++ onward k (drop count (drop at bytes') ++ behind)) (sym taken)
-      ∙ ap (λ xs. take (at + count) part' ++ onward k (xs ++ behind))
-      (ap (drop count) p.others ∙ drop-drop count at bytes)
+          p.front behind
+          ∙ ap (λ xs. take at bytes' ++ onward h (xs ++ behind)) (sym p.others)
+          ∙ ap (λ xs. take at bytes' ++ xs) (q.front behind)
+          ∙ sym (append_assoc (take at bytes') (take count part)
+          (onward k (drop count (drop at bytes') ++ behind)))
+          ∙ ap (λ xs. xs ++ onward k (drop count (drop at bytes') ++ behind)) (sym taken)
+          ∙ ap (λ xs. take (at + count) part' ++ onward k (xs ++ behind))
+          (ap (drop count) p.others ∙ drop-drop count at bytes);
     }

@@ -1,3 +1,4 @@
 pub mod Front
 pub mod Masked
 pub mod Stream
+pub mod Laws

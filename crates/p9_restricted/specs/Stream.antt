@@ -1,14 +1,43 @@
 -- A stream over another, whose bytes may be known.
-use Rattle.std.specs.Prelude.{ℕ, List, ◌++◌, Option}
+use Rattle.std.specs.Prelude.{◌≡◌, ℕ, List, [], ◌++◌, Option, drop, length, min, take}
 use Rattle.std.specs.Option.{option_map}
+use Rattle.p9_restricted.specs.declared.passing.Place.TheVariants.{Before}
 use Rattle.p9_restricted.specs.Masked.{Gate, onward}
 
 -- bytes that were read: those that are to be given, and after them those of which too few came
-pub record Held : Type 0 where
+pub record Holding : Type 0 where
   pub ready : List ℕ
   pub undecided : List ℕ
 
+abbrev pub nothing_held : Holding
+nothing_held = record { ready = []; undecided = [] }
+
+-- as many of the ready bytes as there is room for are given, and are at the front of it
+pub record Gives (old new : Holding) (room : List ℕ) (count : ℕ) : Type 0 where
+  pub count_is : count ≡ min (length old.ready) (length room)
+  pub given : take count room ≡ take count old.ready
+  pub left : new ≡ record old { ready = drop count old.ready }
+
+-- the stream below, the users who may attach, where in the frames the next byte of it is, and what
+-- was read of it
+pub record Over (S : Type 0) : Type 0 where
+  pub stream : S
+  pub gate : Gate
+  pub held : Holding
+
+-- one of which nothing was read, for these users
+abbrev pub over : {S : Type 0} → S → List (List ℕ) → Over S
+over stream users = record {
+  stream = stream;
+  gate = record { users = users; place = Before 0 };
+  held = nothing_held;
+}
+
 -- what is given, of the bytes that are left of the stream below
-abbrev pub left_of : Gate → Held → Option (List ℕ) → Option (List ℕ)
+abbrev pub left_of : Gate → Holding → Option (List ℕ) → Option (List ℕ)
 left_of gate held remaining =
     option_map (λ rest. held.ready ++ onward gate (held.undecided ++ rest)) remaining
+
+-- the bytes that are left to read, where those of the stream below are known
+abbrev pub left_over : {S : Type 0} → (S → Option (List ℕ)) → Over S → Option (List ℕ)
+left_over remaining all = left_of all.gate all.held (remaining all.stream)

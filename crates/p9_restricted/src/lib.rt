@@ -2,4 +2,8 @@
 #![tactic(auto)]
 
 mod front;
+mod held;
 mod passing;
+mod stream;
+
+pub use stream::Restricted;

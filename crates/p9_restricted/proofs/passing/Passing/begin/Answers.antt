@@ -23,7 +23,7 @@ pub returns-in-Frame-clause-passed : goal.returns-in-Frame-clause-passed
 returns-in-Frame-clause-passed g c =
     let users = ap (λ (gate : Gate). gate.users) c.self.view_is in
     let said : front_of c.args.self.now.users c.args.bytes.now
-        ≡ Frame c.in-Frame.size c.in-Frame.mask =
+    ≡ Frame c.in-Frame.size c.in-Frame.mask =
     ap (λ u. front_of u c.args.bytes.now) (sym users ∙ sym c.as_slice.ensures.value)
     ∙ sym c.in-Frame.ensures in
     let counted : c.min-count.result ≡ min c.in-Frame.size (length c.args.bytes.now) =
