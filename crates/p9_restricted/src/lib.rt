@@ -3,6 +3,7 @@
 
 mod front;
 mod held;
+pub mod laws;
 mod passing;
 mod stream;
 

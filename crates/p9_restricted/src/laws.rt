@@ -1,0 +1,22 @@
+//! What follows for the frames of a restricted stream. Each function does nothing: its clauses are the
+//! laws.
+
+ghost use Rattle.p9_restricted.specs.Laws.{FramesAreMasked, MessagesAreMasked, OthersAreKept};
+
+/// The frames of what a restricted stream gives are those of the stream below, one for one, and of
+/// each is made what is made of it alone. The same holds of the bytes after the last whole frame.
+pub fn frames_are_masked()
+    ensures { FramesAreMasked }
+{}
+
+/// In a frame that attaches as a user who may not attach this way, blanks stand in the place of the
+/// user's name. All else of its message stays, and any other message stays. A frame that has no
+/// message has none then.
+pub fn messages_are_masked()
+    ensures { MessagesAreMasked }
+{}
+
+/// A frame whose message stays is passed on to the byte.
+pub fn others_are_kept()
+    ensures { OthersAreKept }
+{}
