@@ -6,3 +6,4 @@ pub mod MaskedFrames
 pub mod Fields
 pub mod MaskedMessages
 pub mod Holdings
+pub mod Belonging

@@ -1,11 +1,16 @@
 -- The laws of frames whose names are masked.
-use Rattle.std.specs.Prelude.{◌≡◌, ℕ, Bool, ◌&&◌, IsTrue, List, Option, Some, length, not, replicate}
-use Rattle.std.specs.Prelude.{if◌then◌else◌}
+use Rattle.std.specs.Prelude.{◌≡◌, ℕ, Bool, ◌==◌, ◌&&◌, IsTrue, List, [], ◌++◌, Option, Some, length, not}
+use Rattle.std.specs.Prelude.{replicate, if◌then◌else◌}
+use Rattle.std.specs.List.{list_all, list_any}
 use Rattle.std.specs.Option.{option_map}
+use Rattle.p9_base.specs.Rising.{IsRising}
 use Rattle.p9_base.specs.User.{is_listed_user, is_user}
 use Rattle.p9_wire.specs.Frame.{BrokenSize, Frames, Next, Rest, frames, is_frame}
 use Rattle.p9_wire.specs.Message.{TMessage, Tattach}
 use Rattle.p9_wire.specs.Reading.{t_message_of}
+use Rattle.p9_step.specs.State.{State}
+use Rattle.p9_user_laws.specs.Users.{OwnsOnly}
+use Rattle.p9_conn.specs.History.{Happening, Links, Runs, read_by}
 use Rattle.p9_restricted.specs.Masked.{masked}
 
 -- what is made of each frame, and of the bytes after them
@@ -46,3 +51,26 @@ OthersAreKept =
     (users : List (List ℕ)) (frame : List ℕ) (tag : ℕ) (message : TMessage)
     → IsTrue (is_frame frame) → t_message_of frame ≡ Some (tag, message)
     → masked_message users message ≡ message → masked users frame ≡ frame
+
+-- a user's name, and not of blanks alone
+abbrev pub is_visible : List ℕ → Bool
+is_visible name = is_user name && list_any (λ b. not (b == 32)) name
+
+-- each is such a name
+abbrev pub has_no_blank_name : List (List ℕ) → Bool
+has_no_blank_name users = list_all is_visible users
+
+-- The turns are of any connections on one guard, in any order.
+-- The connection of the session had read nothing before, and what it read is a front of what is made
+-- of some bytes for these users: so it is of a stream for them, whose pieces may be of any length.
+-- No user who is listed has a name of blanks alone.
+-- The session has fids of these users alone, as a session that is not there yet.
+-- Then it has fids of these users alone after the turns.
+abbrev pub NobodyAttachesAsAnother : Type 0
+NobodyAttachesAsAnother =
+    (users : List (List ℕ)) (session : ℕ) (hs : List Happening) (links links' : Links)
+    (state state' : State) (given left : List ℕ)
+    → Runs hs links state links' state'
+    → (links session).buffer ≡ [] → read_by session hs ++ left ≡ masked users given
+    → IsTrue (has_no_blank_name state.setting.users)
+    → IsRising state.sessions → OwnsOnly users session state → OwnsOnly users session state'

@@ -1,7 +1,8 @@
 //! What follows for the frames of a restricted stream. Each function does nothing: its clauses are the
 //! laws.
 
-ghost use Rattle.p9_restricted.specs.Laws.{FramesAreMasked, MessagesAreMasked, OthersAreKept};
+ghost use Rattle.p9_restricted.specs.Laws.{FramesAreMasked, MessagesAreMasked};
+ghost use Rattle.p9_restricted.specs.Laws.{NobodyAttachesAsAnother, OthersAreKept};
 
 /// The frames of what a restricted stream gives are those of the stream below, one for one, and of
 /// each is made what is made of it alone. The same holds of the bytes after the last whole frame.
@@ -19,4 +20,14 @@ pub fn messages_are_masked()
 /// A frame whose message stays is passed on to the byte.
 pub fn others_are_kept()
     ensures { OthersAreKept }
+{}
+
+/// A client of a restricted stream attaches as the users alone for whom the stream is. The turns are
+/// of any connections on one guard, each of a session of its own, in any order. One of them reads
+/// what a restricted stream gives, in pieces of any length. Suppose that its session has fids of these
+/// users alone before, as a session that is not there yet. Suppose too that no listed user has a name
+/// of blanks alone ([`has_no_blank_name`](crate::has_no_blank_name)). Then the session has fids of
+/// these users alone after the turns.
+pub fn nobody_attaches_as_another()
+    ensures { NobodyAttachesAsAnother }
 {}

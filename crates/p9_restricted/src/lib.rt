@@ -4,7 +4,9 @@
 mod front;
 mod held;
 pub mod laws;
+mod names;
 mod passing;
 mod stream;
 
+pub use names::has_no_blank_name;
 pub use stream::Restricted;
