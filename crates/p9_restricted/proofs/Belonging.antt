@@ -1,20 +1,20 @@
 -- A client of a restricted stream attaches as the users for whom it is, and as nobody else.
-use Rattle.std.proofs.Common.{◌≡◌, ℕ, ◌<◌, ◌⊎◌, Bool, true, false, cond, eqb, nat_eq, List, [], ◌∷◌, ◌++◌}
-use Rattle.std.proofs.Common.{◌&&◌, ◌||◌, not, length, take, drop, replicate, None, Some, inl, inr, refl}
+use Rattle.std.proofs.Common.{◌≡◌, ℕ, Bool, true, false, cond, eqb, nat_eq, List, [], ◌∷◌, ◌++◌}
+use Rattle.std.proofs.Common.{◌&&◌, not, length, take, drop, replicate, None, Some, inl, inr, refl}
 use Rattle.std.proofs.Common.{ap, sym, ◌∙◌, subst, arith, ◌≤◌}
-use Rattle.std.proofs.lemmas.Bool.{and_parts, cases_Bool, eqb-false, eqb-true, not-false, not-true}
-use Rattle.std.proofs.lemmas.Bool.{and_cases, or_cases, both_ways, false_from_ne_true, cond-false, cond-true}
-use Rattle.std.proofs.lemmas.List.{append_assoc, drop-append-le, length-take, map-append}
+use Rattle.std.proofs.lemmas.Bool.{and_parts, cases_Bool, eqb-false, not-false}
+use Rattle.std.proofs.lemmas.Bool.{and_cases, or_cases, both_ways, cond-false, cond-true}
+use Rattle.std.proofs.lemmas.List.{drop-append-le, length-take}
 use Rattle.std.proofs.lemmas.List.{take-append-le}
 use Rattle.std.proofs.lemmas.List.Elements.{All-replicate}
 use Rattle.std.proofs.lemmas.List.Folds.{list_any_none}
 use Rattle.std.proofs.lemmas.Option.{none-some, same_Some}
 use Rattle.std.proofs.lemmas.Slice.Eq.{bytes_eq-Decides}
-use Rattle.std.specs.List.{AllByRecursion, list_all, list_any}
+use Rattle.std.specs.List.{AllByRecursion, list_any}
 use Rattle.std.specs.Str.{bytes_eq}
 use Rattle.std.specs.declared.option.Option.{Option}
 use Rattle.p9_base.specs.User.{is_listed_user, is_user}
-use Rattle.p9_wire.specs.Frame.{BrokenSize, Frames, Next, Rest, first_frame, frames, is_frame}
+use Rattle.p9_wire.specs.Frame.{Frames, first_frame, frames, is_frame}
 use Rattle.p9_wire.specs.Message.{TMessage, Tattach}
 use Rattle.p9_wire.specs.Reading.{t_message_of}
 use Rattle.p9_wire.specs.declared.frame.Frame.{Frame}
@@ -22,11 +22,10 @@ use Rattle.p9_wire.specs.declared.frame.Frame.TheVariants.{Need, Whole, Broken}
 use Rattle.p9_wire.proofs.Streams.{begins_frames_as, first_frame-append, first_frame-whole}
 use Rattle.p9_step.specs.Event.{Close, Event, Message, Open}
 use Rattle.p9_step.specs.State.{State}
-use Rattle.p9_step.specs.Step.{Marked, run}
 use Rattle.p9_user_laws.specs.Users.{AreHarmless, IsHarmless, IsHarmlessEvent, OwnsOnly, is_among}
 use Rattle.p9_user_laws.proofs.Runs.{fids-belong}
-use Rattle.p9_conn.specs.Turn.{Answered, Answering, Deeds, Ending, IsTurn, Over, Phase, Receiving}
-use Rattle.p9_conn.specs.Turn.{Scene, Sending, TurnBy, deeds_of, no_deeds, phase_of}
+use Rattle.p9_conn.specs.Turn.{Answered, Answering, Deeds, Ending, Over, Phase, Receiving}
+use Rattle.p9_conn.specs.Turn.{Scene, Sending, TurnBy, phase_of}
 use Rattle.p9_conn.specs.History.{Happening, Links, Runs, events_of, frame_in, frames_in, history}
 use Rattle.p9_conn.specs.History.{history_by, read_by}
 use Rattle.p9_conn.specs.Laws.{AreFirst}

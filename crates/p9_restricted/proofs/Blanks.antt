@@ -1,9 +1,9 @@
 -- Blanks in the place of a name.
 use Rattle.std.proofs.Common.{◌≡◌, ℕ, zero, suc, ◌+◌, ◌-◌, ◌≤◌, List, ◌++◌, length, take, drop}
-use Rattle.std.proofs.Common.{replicate, refl, ap, sym, ◌∙◌, arith}
+use Rattle.std.proofs.Common.{replicate, ap, sym, ◌∙◌, arith}
 use Rattle.std.proofs.lemmas.List.{append-nil, append_assoc, length-append, length-drop}
 use Rattle.std.proofs.lemmas.List.{length-take, length-replicate, take-append-drop, take-append-le}
-use Rattle.std.proofs.lemmas.List.{drop-append-le, drop-drop, length-take-le}
+use Rattle.std.proofs.lemmas.List.{drop-append-le, drop-drop}
 use borrow.Rule.Slice.PartMut.{mid_of, put_mid}
 use Rattle.p9_restricted.specs.Front.{IsWithin, blanked, name_at}
 

@@ -1,11 +1,11 @@
 -- The frames of what is made of bytes.
-use Rattle.std.proofs.Common.{◌≡◌, ℕ, zero, suc, ◌+◌, ◌≤◌, ◌<◌, Bool, true, false, cond, ◌||◌, ◌&&◌, leb}
+use Rattle.std.proofs.Common.{◌≡◌, ℕ, zero, suc, ◌+◌, ◌≤◌, ◌<◌, true, false, ◌||◌, ◌&&◌, leb}
 use Rattle.std.proofs.Common.{ltb, List, [], ◌++◌, ◌==◌, length, take, drop, replicate, inl, inr, refl}
 use Rattle.std.proofs.Common.{ap, sym, ◌∙◌, subst, arith}
 use Rattle.std.proofs.lemmas.List.{append-nil, append_assoc}
-use Rattle.std.proofs.lemmas.Bool.{and_parts, and_from, cases_lt, cond_both, ltb-true, ltb-false}
+use Rattle.std.proofs.lemmas.Bool.{and_parts, cases_lt, cond_both, ltb-true, ltb-false}
 use Rattle.std.proofs.lemmas.Bool.{leb-true, lt-ltb, le-ltb, or_parts}
-use Rattle.std.proofs.lemmas.List.{drop_all, drop_at, length-append, length-drop, length-take-le}
+use Rattle.std.proofs.lemmas.List.{drop_all, drop_at, length-drop}
 use Rattle.std.proofs.lemmas.List.{length-take, take-append-drop, take_all, take_at}
 use Rattle.byteorder.specs.Endian.{little_number}
 use Rattle.byteorder.specs.Numbers.{little_from-append}
@@ -15,12 +15,12 @@ use Rattle.p9_wire.specs.declared.frame.Frame.TheVariants as wire
 use Rattle.p9_wire.proofs.Streams.{begins_frames_as, first_frame-whole, frame-first-append}
 use Rattle.p9_restricted.specs.declared.front.Front.{Front}
 use Rattle.p9_restricted.specs.declared.front.Front.TheVariants.{Undecided, Broken, Frame}
-use Rattle.p9_restricted.specs.Front.{IsWithin, attach_front, blanked, front_of, masked_len, name_at}
+use Rattle.p9_restricted.specs.Front.{IsWithin, attach_front, blanked, front_of, name_at}
 use Rattle.p9_restricted.specs.Front.{name_len, type_of}
 use Rattle.p9_base.specs.User.{user_max}
 use Rattle.p9_restricted.specs.Masked.{masked, masked_within}
 use Rattle.p9_restricted.specs.Laws.{FramesAreMasked, each_masked}
-use Rattle.p9_restricted.proofs.Blanks.{blanked-append, length-blanked}
+use Rattle.p9_restricted.proofs.Blanks.{length-blanked}
 use Rattle.p9_restricted.proofs.Fronts.{FitsIn, front_of-append, front_of-fits}
 use Rattle.p9_restricted.proofs.Maskings.{masked-front_as}
 

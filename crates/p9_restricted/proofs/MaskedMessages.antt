@@ -28,7 +28,7 @@ use Rattle.p9_wire.specs.Reading.{header_at, t_body_at, t_message_of, t_version_
 use Rattle.p9_wire.specs.Reading.{t_attach_at, t_flush_at, t_walk_at, t_open_at, t_create_at}
 use Rattle.p9_wire.specs.Reading.{t_read_at, t_write_at, t_clunk_at, t_remove_at, t_stat_at}
 use Rattle.p9_wire.specs.Reading.{t_wstat_at}
-use Rattle.p9_restricted.specs.declared.front.Front.TheVariants.{Undecided, Frame}
+use Rattle.p9_restricted.specs.declared.front.Front.TheVariants.{Frame}
 use Rattle.p9_restricted.specs.Front.{attach_front, blanked, front_of, masked_len, name_at, name_len}
 use Rattle.p9_restricted.specs.Front.{type_of}
 use Rattle.p9_restricted.specs.Laws.{MessagesAreMasked, OthersAreKept, masked_message, masked_name}

@@ -1,12 +1,10 @@
 -- What is made of the frames of bytes, frame by frame.
-use Rattle.std.proofs.Common.{◌≡◌, ℕ, zero, suc, ◌+◌, ◌-◌, ◌≤◌, ◌<◌, List, ◌++◌, length, take, drop}
-use Rattle.std.proofs.Common.{replicate, min, refl, ap, sym, ◌∙◌, arith, subst}
-use Rattle.std.proofs.lemmas.List.{length-append, length-drop, length-take-le, take-append-drop}
-use Rattle.std.proofs.lemmas.List.{append_assoc, take_at, drop_at, drop-drop, length-replicate}
-use Rattle.std.proofs.lemmas.List.{take-append-le, drop-append-le, take_all, drop_all}
+use Rattle.std.proofs.Common.{◌≡◌, ℕ, zero, suc, ◌≤◌, List, ◌++◌, length, take, drop}
+use Rattle.std.proofs.Common.{refl, ap, ◌∙◌, arith, subst}
+use Rattle.std.proofs.lemmas.List.{length-drop}
 use Rattle.p9_restricted.specs.declared.front.Front.{Front}
 use Rattle.p9_restricted.specs.declared.front.Front.TheVariants.{Undecided, Broken, Frame}
-use Rattle.p9_restricted.specs.Front.{IsWithin, blanked, front_of, name_at}
+use Rattle.p9_restricted.specs.Front.{IsWithin, blanked, front_of}
 use Rattle.p9_restricted.specs.Masked.{masked, masked_by, masked_within}
 use Rattle.p9_restricted.proofs.Fronts.{FitsIn, front_of-few, front_of-fits}
 

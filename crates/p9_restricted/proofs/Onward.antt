@@ -1,15 +1,14 @@
 -- Bytes that are passed on, piece by piece.
-use Rattle.std.proofs.Common.{◌≡◌, ℕ, ◌+◌, ◌-◌, ◌≤◌, ◌<◌, List, ◌++◌, length, take, drop, min, refl}
+use Rattle.std.proofs.Common.{◌≡◌, ℕ, ◌+◌, ◌-◌, ◌≤◌, List, ◌++◌, length, take, drop, min, refl}
 use Rattle.std.proofs.Common.{ap, sym, ◌∙◌, arith, subst}
 use Rattle.std.proofs.lemmas.List.{append_assoc, length-append, length-drop, length-take-le}
 use Rattle.std.proofs.lemmas.List.{take-append-drop, take-append-le, drop-append-le, drop-drop}
-use Rattle.std.proofs.lemmas.List.{drop-take, take-take, take_at, drop_at, take_all, drop_all}
-use Rattle.p9_restricted.specs.declared.front.Front.{Front}
+use Rattle.std.proofs.lemmas.List.{drop-take, take-take, take_at, drop_at}
 use Rattle.p9_restricted.specs.declared.front.Front.TheVariants.{Undecided, Broken, Frame}
 use Rattle.p9_restricted.specs.declared.passing.Place.{Place}
 use Rattle.p9_restricted.specs.declared.passing.Place.TheVariants.{Before, Lost}
 use Rattle.p9_restricted.specs.Front.{IsWithin, blanked, front_of}
-use Rattle.p9_restricted.specs.Masked.{Gate, Passes, masked, masked_by, masked_from, onward}
+use Rattle.p9_restricted.specs.Masked.{Gate, Passes, masked, masked_from, onward}
 use Rattle.p9_restricted.proofs.Fronts.{FitsIn, front_of-append, front_of-fits}
 use Rattle.p9_restricted.proofs.Maskings.{masked-front_as}
 use Rattle.p9_restricted.proofs.Blanks.{blanked-append, length-blanked}

@@ -1,5 +1,5 @@
 -- The laws of frames whose names are masked.
-use Rattle.std.specs.Prelude.{◌≡◌, ℕ, Bool, ◌==◌, ◌&&◌, IsTrue, List, [], ◌++◌, Option, Some, length, not}
+use Rattle.std.specs.Prelude.{◌≡◌, ℕ, Bool, ◌==◌, ◌&&◌, IsTrue, List, [], ◌++◌, Some, length, not}
 use Rattle.std.specs.Prelude.{replicate, if◌then◌else◌}
 use Rattle.std.specs.List.{list_all, list_any}
 use Rattle.std.specs.Option.{option_map}

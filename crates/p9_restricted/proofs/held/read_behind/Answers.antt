@@ -1,4 +1,4 @@
-use Rattle.std.proofs.Common.{◌+◌, arith, length, length-take-le, take}
+use Rattle.std.proofs.Common.{arith, length-take-le, take}
 use Rattle.p9_restricted.proofs.Holdings.{behind_first, read_there}
 use Rattle.p9_restricted.proofs.held.read_behind.Goals as goal
 

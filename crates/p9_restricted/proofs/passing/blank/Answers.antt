@@ -1,4 +1,4 @@
-use Rattle.std.proofs.Common.{◌≡◌, ℕ, ap, ◌∙◌, replicate, rules}
+use Rattle.std.proofs.Common.{ℕ, ap, ◌∙◌, replicate, rules}
 use Rattle.p9_restricted.proofs.Blanks.{length-written, put_blanks}
 use Rattle.p9_restricted.proofs.passing.blank.Goals as goal
 

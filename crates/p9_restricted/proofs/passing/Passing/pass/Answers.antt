@@ -1,4 +1,4 @@
-use Rattle.std.proofs.Common.{◌≡◌, ◌-◌, ◌++◌, length, take, drop, ap, ◌∙◌, refl, subst, List, ℕ, arith}
+use Rattle.std.proofs.Common.{◌-◌, ◌++◌, length, take, drop, ap, ◌∙◌, subst, List, ℕ, arith}
 use Rattle.std.proofs.lemmas.List.{append-nil, drop_all, length-drop, take_rest}
 use Rattle.p9_restricted.specs.Masked.{Passes}
 use Rattle.p9_restricted.proofs.Onward.{passes-then}

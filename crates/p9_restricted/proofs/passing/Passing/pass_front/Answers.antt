@@ -1,5 +1,4 @@
-use Rattle.std.proofs.Common.{◌≡◌, ap, sym, ◌∙◌, refl}
-use Rattle.p9_restricted.specs.declared.passing.Place.TheVariants.{Before}
+use Rattle.std.proofs.Common.{ap, sym, ◌∙◌, refl}
 use Rattle.p9_restricted.specs.Masked.{Gate}
 use Rattle.p9_restricted.proofs.Onward.{passes_left}
 use Rattle.p9_restricted.proofs.passing.Passing.pass_front.Goals as goal
