@@ -1,10 +1,13 @@
 -- Bytes that are held, and what is left to give.
-use Rattle.std.proofs.Common.{◌≡◌, ℕ, zero, suc, ◌+◌, ◌-◌, ◌≤◌, List, [], ◌++◌, Option, None, Some}
+use Rattle.std.proofs.lemmas.List.{append-nil}
+use Rattle.std.proofs.Common.{◌≡◌, ℕ, zero, suc, ◌+◌, ◌-◌, ◌≤◌, ◌<◌, List, [], ◌++◌, Option, None, Some}
 use Rattle.std.proofs.Common.{Result, Ok, Err, IfOk}
 use Rattle.std.proofs.Common.{length, take, drop, min, refl, ap, sym, ◌∙◌, arith, subst}
 use Rattle.std.proofs.lemmas.List.{append_assoc, drop-append-le, drop-drop, drop-take}
 use Rattle.std.proofs.lemmas.List.{drop_at, length-append, length-drop, length-take-le}
 use Rattle.std.proofs.lemmas.List.{take-append-drop, take-append-le, take-take, take_at}
+use Rattle.std.proofs.KnownBytes.{Consumes-trans, Keeps-refl}
+use Rattle.std.specs.Option.{option_map}
 use Rattle.std.specs.Io.{ReadsAtMost}
 use Rattle.std.specs.Io.KnownBytes.{Consumes, IsAtEnd, Keeps, ReadConsumes}
 use borrow.Rule.Slice.PartMut.{post_of, put_mid}
@@ -12,7 +15,8 @@ use Rattle.p9_conn.specs.Device.{CameBehind}
 use Rattle.p9_restricted.specs.declared.passing.Place.{Place}
 use Rattle.p9_restricted.specs.declared.passing.Place.TheVariants.{Before, Lost}
 use Rattle.p9_restricted.specs.Masked.{Gate, Passes, masked, masked_from, masked_within, onward}
-use Rattle.p9_restricted.specs.Stream.{Gives, Holding, left_of, nothing_held}
+use Rattle.p9_restricted.specs.Stream.{Gave, Gives, Holding, Over, ReadGave, left_over, nothing_held}
+use Rattle.p9_restricted.specs.Stream.{to_give}
 
 -- Parts of the buffer.
 
@@ -136,84 +140,176 @@ passes_held g h bytes middle old from to count ordered within same passes =
     rw (ready, rest, counted, take-append-drop count middle)
     (subst (λ (xs : List ℕ). Passes g xs h middle count) same passes)
 
--- What is left to give.
+-- No byte.
+
+none_given : (a b : Option (List ℕ)) → Consumes a b [] → Keeps a b
+none_given None b consumed = tt
+none_given (Some xs) None consumed = absurd consumed
+none_given (Some xs) (Some ys) consumed = sym consumed
+
+none_consumed : (a b : Option (List ℕ)) → Keeps a b → Consumes a b []
+none_consumed None b kept = tt
+none_consumed (Some xs) None kept = absurd kept
+none_consumed (Some xs) (Some ys) kept = sym kept
+
+-- What is given.
 
 -- more bytes came
-pub read_keeps : (gate : Gate) (old new : Holding) (r r' : Option (List ℕ)) (count : ℕ)
-    → CameBehind r r' count old.undecided new.undecided → new.ready ≡ old.ready
-    → Keeps (left_of gate old r) (left_of gate new r')
-read_keeps gate old new None r' count came same = tt
-read_keeps gate old new (Some xs) None count came same = absurd came.consumed
-read_keeps gate old new (Some xs) (Some ys) count came same =
-    ap (λ (zs : List ℕ). zs ++ onward gate (new.undecided ++ ys)) same
-    ∙ ap (λ (zs : List ℕ). old.ready ++ onward gate (zs ++ ys)) came.behind
-    ∙ ap (λ (zs : List ℕ). old.ready ++ onward gate zs)
-    (append_assoc old.undecided came.read ys
-    ∙ ap (λ (zs : List ℕ). old.undecided ++ zs) (sym came.consumed))
+pub read_more : (gate : Gate) (old new : Holding) (came behind : List ℕ)
+    → new.undecided ≡ old.undecided ++ came → new.ready ≡ old.ready
+    → to_give gate old (came ++ behind) ≡ to_give gate new behind
+read_more gate old new came behind is same =
+    ap (λ (zs : List ℕ). zs ++ onward gate (old.undecided ++ (came ++ behind))) (sym same)
+    ∙ ap (λ (zs : List ℕ). new.ready ++ onward gate zs)
+    (sym (append_assoc old.undecided came behind) ∙ ap (λ (zs : List ℕ). zs ++ behind) (sym is))
 
 -- bytes of which too few had come are passed on
-pub pass_keeps : (g h : Gate) (old new : Holding) (r : Option (List ℕ)) → old.ready ≡ []
+pub pass_more : (g h : Gate) (old new : Holding) (behind : List ℕ) → old.ready ≡ []
     → Passes g old.undecided h (new.ready ++ new.undecided) (length new.ready)
-    → left_of h new r ≡ left_of g old r
-pass_keeps g h old new None none passes = refl
-pass_keeps g h old new (Some xs) none passes =
+    → to_give g old behind ≡ to_give h new behind
+pass_more g h old new behind none passes =
     let ready : take (length new.ready) (new.ready ++ new.undecided) ≡ new.ready =
     take_at new.ready new.undecided (length new.ready) refl in
     let rest : drop (length new.ready) old.undecided ≡ new.undecided =
     sym passes.others ∙ drop_at new.ready new.undecided (length new.ready) refl in
-    ap Some
-    (sym (ap (λ (zs : List ℕ). zs ++ onward g (old.undecided ++ xs)) none
-    ∙ passes.front xs
-    ∙ ap (λ (zs : List ℕ). zs ++ onward h (drop (length new.ready) old.undecided ++ xs)) ready
-    ∙ ap (λ (zs : List ℕ). new.ready ++ onward h (zs ++ xs)) rest))
+    ap (λ (zs : List ℕ). zs ++ onward g (old.undecided ++ behind)) none
+    ∙ passes.front behind
+    ∙ ap (λ (zs : List ℕ). zs ++ onward h (drop (length new.ready) old.undecided ++ behind)) ready
+    ∙ ap (λ (zs : List ℕ). new.ready ++ onward h (zs ++ behind)) rest
 
--- both
-pub decides : (g h : Gate) (old mid new : Holding) (r r' : Option (List ℕ)) (count : ℕ)
-    → CameBehind r r' count old.undecided mid.undecided → old.ready ≡ [] → mid.ready ≡ []
-    → Passes g mid.undecided h (new.ready ++ new.undecided) (length new.ready)
-    → Keeps (left_of g old r) (left_of h new r')
-decides g h old mid new r r' count came none none' passes =
-    subst (λ left. Keeps (left_of g old r) left) (sym (pass_keeps g h mid new r' none' passes))
-    (read_keeps g old mid r r' count came (none' ∙ sym none))
+module _ {S : Type 0} (remaining : S → Option (List ℕ)) where
+  -- both
+  pub decides : (old new : Over S) (mid : Holding) (count : ℕ)
+      → CameBehind (remaining old.stream) (remaining new.stream) count old.held.undecided
+      mid.undecided
+      → old.held.ready ≡ [] → mid.ready ≡ []
+      → Passes old.gate mid.undecided new.gate (new.held.ready ++ new.held.undecided)
+      (length new.held.ready)
+      → Gave remaining old new []
+  decides old new mid count came none none' passes = record {
+    came = came.read;
+    consumed = came.consumed;
+    front = λ behind.
+        read_more old.gate old.held mid came.read behind came.behind (none' ∙ sym none)
+        ∙ pass_more old.gate new.gate mid new.held behind none' passes;
+  }
 
--- bytes are passed on where none were held
-pub passed_on : (g h : Gate) (held : Holding) (r r' : Option (List ℕ)) (read bytes : List ℕ)
-    (count : ℕ) → held ≡ record { ready = []; undecided = drop count bytes }
-    → Consumes r r' read → Passes g read h bytes count
-    → Consumes (left_of g nothing_held r) (left_of h held r') (take count bytes)
-passed_on g h held None r' read bytes count is consumed passes = tt
-passed_on g h held (Some xs) None read bytes count is consumed passes = absurd consumed
-passed_on g h held (Some xs) (Some ys) read bytes count is consumed passes =
-    let ready : held.ready ≡ [] = ap (λ (o : Holding). o.ready) is in
-    let rest : held.undecided ≡ drop count read =
-    ap (λ (o : Holding). o.undecided) is ∙ passes.others in
-    ap (onward g) consumed ∙ passes.front ys
-    ∙ ap (λ (zs : List ℕ). take count bytes ++ onward h (zs ++ ys)) (sym rest)
-    ∙ ap (λ (zs : List ℕ). take count bytes ++ (zs ++ onward h (held.undecided ++ ys))) (sym ready)
+  -- no byte came
+  pub nothing_came : (old new : Over S) → Keeps (remaining old.stream) (remaining new.stream)
+      → new.gate ≡ old.gate → new.held ≡ old.held → Gave remaining old new []
+  nothing_came old new kept gate held = record {
+    came = [];
+    consumed = none_consumed (remaining old.stream) (remaining new.stream) kept;
+    front = λ behind.
+        ap (λ (g : Gate). to_give g old.held behind) (sym gate)
+        ∙ ap (λ (h : Holding). to_give new.gate h behind) (sym held);
+  }
 
--- the same, where they are in front of others
-pub came_through : (g h : Gate) (old held : Holding) (r r' : Option (List ℕ))
-    (read bytes rest : List ℕ) (count passed : ℕ) → old ≡ nothing_held
-    → held ≡ record { ready = []; undecided = part passed count (bytes ++ rest) }
-    → length read ≡ count → Consumes r r' read → Passes g read h bytes passed
-    → Consumes (left_of g old r) (left_of h held r') (take passed (bytes ++ rest))
-came_through g h old held r r' read bytes rest count passed none is long consumed passes =
-    let few : passed ≤ length bytes = omega (arith, passes.within, passes.length_is) in
-    let behind : part passed count (bytes ++ rest) ≡ drop passed bytes =
-    ap (take (count - passed)) (drop-append-le passed bytes rest few)
-    ∙ take_at (drop passed bytes) rest (count - passed)
-    (omega (arith, length-drop passed bytes, passes.length_is)) in
-    rw (none, take-append-le passed bytes rest few)
-    (passed_on g h held r r' read bytes passed
-    (is ∙ ap (λ (xs : List ℕ). let all : Holding =
-    record { ready = []; undecided = xs } in all) behind)
-    consumed passes)
+  -- the stream below failed
+  pub fails : (old new : Over S) → new.held.undecided ≡ old.held.undecided
+      → Keeps (remaining old.stream) (remaining new.stream) → old.held.ready ≡ []
+      → new.held.ready ≡ [] → new.gate ≡ old.gate → Gave remaining old new []
+  fails old new same kept none none' gate = record {
+    came = [];
+    consumed = none_consumed (remaining old.stream) (remaining new.stream) kept;
+    front = λ behind.
+        read_more old.gate old.held new.held [] behind
+        (same ∙ sym (append-nil old.held.undecided)) (none' ∙ sym none)
+        ∙ ap (λ (g : Gate). to_give g new.held behind) (sym gate);
+  }
 
--- no byte was given
-pub none_given : (a b : Option (List ℕ)) → Consumes a b [] → Keeps a b
-none_given None b consumed = tt
-none_given (Some xs) None consumed = absurd consumed
-none_given (Some xs) (Some ys) consumed = sym consumed
+  -- bytes are passed on where none were held, and others are behind them
+  pub came_through : (old new : Over S) (read bytes rest : List ℕ) (count passed : ℕ)
+      → old.held ≡ nothing_held
+      → new.held ≡ record { ready = []; undecided = part passed count (bytes ++ rest) }
+      → length read ≡ count → Consumes (remaining old.stream) (remaining new.stream) read
+      → Passes old.gate read new.gate bytes passed
+      → Gave remaining old new (take passed (bytes ++ rest))
+  came_through old new read bytes rest count passed none is long consumed passes =
+      let few : passed ≤ length bytes = omega (arith, passes.within, passes.length_is) in
+      let behind_those : part passed count (bytes ++ rest) ≡ drop passed bytes =
+      ap (take (count - passed)) (drop-append-le passed bytes rest few)
+      ∙ take_at (drop passed bytes) rest (count - passed)
+      (omega (arith, length-drop passed bytes, passes.length_is)) in
+      let ready : new.held.ready ≡ [] = ap (λ (o : Holding). o.ready) is in
+      let undecided : new.held.undecided ≡ drop passed read =
+      ap (λ (o : Holding). o.undecided) is ∙ behind_those ∙ passes.others in
+      record {
+        came = read;
+        consumed = consumed;
+        front = λ behind.
+            ap (λ (o : Holding). to_give old.gate o (read ++ behind)) none
+            ∙ passes.front behind
+            ∙ ap (λ (zs : List ℕ). take passed bytes ++ onward new.gate (zs ++ behind))
+            (sym undecided)
+            ∙ ap (λ (zs : List ℕ). take passed bytes
+            ++ (zs ++ onward new.gate (new.held.undecided ++ behind))) (sym ready)
+            ∙ ap (λ (zs : List ℕ). zs ++ to_give new.gate new.held behind)
+            (sym (take-append-le passed bytes rest few));
+      }
+
+  -- bytes that were ready are given
+  pub given_of : (old new : Over S) (room : List ℕ) (count : ℕ) → new.stream ≡ old.stream
+      → new.gate ≡ old.gate → Gives old.held new.held room count
+      → Gave remaining old new (take count room)
+  given_of old new room count same gate its = record {
+    came = [];
+    consumed = none_consumed (remaining old.stream) (remaining new.stream)
+        (subst (λ (s : S). Keeps (remaining old.stream) (remaining s)) (sym same)
+        (Keeps-refl (remaining old.stream)));
+    front = λ behind.
+        let rest = onward old.gate (old.held.undecided ++ behind) in
+        ap (λ (zs : List ℕ). zs ++ rest) (sym (take-append-drop count old.held.ready))
+        ∙ append_assoc (take count old.held.ready) (drop count old.held.ready) rest
+        ∙ ap (λ (zs : List ℕ). zs ++ (drop count old.held.ready ++ rest)) (sym its.given)
+        ∙ ap (λ (g : Gate). take count room ++ (drop count old.held.ready
+        ++ onward g (old.held.undecided ++ behind))) (sym gate)
+        ∙ ap (λ (o : Holding). take count room ++ to_give new.gate o behind) (sym its.left);
+  }
+
+  -- bytes are given after others
+  pub gave-then : (old mid new : Over S) (bytes more : List ℕ) → Gave remaining old mid bytes
+      → Gave remaining mid new more → Gave remaining old new (bytes ++ more)
+  gave-then old mid new bytes more first later = record {
+    came = first.came ++ later.came;
+    consumed = Consumes-trans (remaining old.stream) (remaining mid.stream) (remaining new.stream)
+        first.came later.came first.consumed later.consumed;
+    front = λ behind.
+        ap (to_give old.gate old.held) (append_assoc first.came later.came behind)
+        ∙ first.front (later.came ++ behind)
+        ∙ ap (λ (zs : List ℕ). bytes ++ zs) (later.front behind)
+        ∙ sym (append_assoc bytes more (to_give new.gate new.held behind));
+  }
+
+  -- so they are consumed, where what is left is known
+  pub consumed-by : (old new : Over S) (r r' : Option (List ℕ)) (came bytes : List ℕ)
+      → Consumes r r' came
+      → ((behind : List ℕ)
+      → to_give old.gate old.held (came ++ behind) ≡ bytes ++ to_give new.gate new.held behind)
+      → Consumes (option_map (to_give old.gate old.held) r)
+      (option_map (to_give new.gate new.held) r') bytes
+  consumed-by old new None r' came bytes consumed front = tt
+  consumed-by old new (Some xs) None came bytes consumed front = absurd consumed
+  consumed-by old new (Some xs) (Some ys) came bytes consumed front =
+      ap (to_give old.gate old.held) consumed ∙ front ys
+
+  pub gave-consumes : (old new : Over S) (bytes : List ℕ) → Gave remaining old new bytes
+      → Consumes (left_over remaining old) (left_over remaining new) bytes
+  gave-consumes old new bytes its =
+      consumed-by old new (remaining old.stream) (remaining new.stream) its.came bytes its.consumed
+      its.front
+
+  -- what a read gave is consumed
+  pub read-consumes : {E : Type 0} (old new : Over S) (result : Result ℕ E) (bytes : List ℕ)
+      → ReadGave remaining old new result bytes
+      → IfOk result (λ count. count ≡ 0 → 0 < length bytes → IsAtEnd (left_over remaining new))
+      → ReadConsumes (left_over remaining old) (left_over remaining new) result bytes
+  read-consumes old new (Ok count) bytes gave end =
+      (gave-consumes old new (take count bytes) gave, end)
+  read-consumes old new (Err error) bytes gave end =
+      none_given (left_over remaining old) (left_over remaining new) (gave-consumes old new [] gave)
+
+-- At the end.
 
 -- of no byte none is made
 onward_none : (users : List (List ℕ)) (place : Place) → masked_from users place [] ≡ []
@@ -222,40 +318,19 @@ onward_none users (Before zero) = refl
 onward_none users (Before (suc n)) = refl
 onward_none users Lost = refl
 
--- at the end nothing is left
-pub at_end : (gate : Gate) (held : Holding) (r : Option (List ℕ)) → held.ready ≡ []
-    → held.undecided ≡ [] → IsAtEnd r → IsAtEnd (left_of gate held r)
+-- nothing is left
+at_end : (gate : Gate) (held : Holding) (r : Option (List ℕ)) → held.ready ≡ []
+    → held.undecided ≡ [] → IsAtEnd r → IsAtEnd (option_map (to_give gate held) r)
 at_end gate held None none none' end = tt
 at_end gate held (Some xs) none none' end =
     ap (λ (zs : List ℕ). zs ++ onward gate (held.undecided ++ xs)) none
     ∙ ap (λ (zs : List ℕ). onward gate (zs ++ xs)) none'
     ∙ ap (onward gate) end ∙ onward_none gate.users gate.place
 
--- bytes that were ready are given
-pub given_of : (gate : Gate) (old new : Holding) (r : Option (List ℕ)) (room : List ℕ) (count : ℕ)
-    → Gives old new room count
-    → Consumes (left_of gate old r) (left_of gate new r) (take count room)
-given_of gate old new None room count its = tt
-given_of gate old new (Some xs) room count its =
-    let rest = onward gate (old.undecided ++ xs) in
-    ap (λ (zs : List ℕ). zs ++ rest) (sym (take-append-drop count old.ready))
-    ∙ append_assoc (take count old.ready) (drop count old.ready) rest
-    ∙ ap (λ (zs : List ℕ). zs ++ (drop count old.ready ++ rest)) (sym its.given)
-    ∙ ap (λ (o : Holding). take count room ++ (o.ready ++ onward gate (o.undecided ++ xs)))
-    (sym its.left)
-
--- bytes that are left are given later
-pub kept_then_given : (a b c : Option (List ℕ)) (bytes : List ℕ) → Keeps a b → Consumes b c bytes
-    → Consumes a c bytes
-kept_then_given None b c bytes kept given = tt
-kept_then_given (Some xs) None c bytes kept given = absurd kept
-kept_then_given (Some xs) (Some ys) None bytes kept given = absurd given
-kept_then_given (Some xs) (Some ys) (Some zs) bytes kept given = sym kept ∙ given
-
 -- nothing came, and the stream below is at its end
 pub ends : (gate : Gate) (held : Holding) (r : Option (List ℕ)) (count : ℕ) (bytes : List ℕ)
     → held ≡ record { ready = []; undecided = take count bytes } → count ≡ 0 → IsAtEnd r
-    → IsAtEnd (left_of gate held r)
+    → IsAtEnd (option_map (to_give gate held) r)
 ends gate held r count bytes is none end =
     at_end gate held r (ap (λ (o : Holding). o.ready) is)
     (ap (λ (o : Holding). o.undecided) is ∙ ap (λ (n : ℕ). take n bytes) none) end

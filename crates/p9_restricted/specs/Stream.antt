@@ -1,5 +1,7 @@
 -- A stream over another, whose bytes may be known.
-use Rattle.std.specs.Prelude.{◌≡◌, ℕ, List, [], ◌++◌, Option, drop, length, min, take}
+use Rattle.std.specs.Prelude.{◌≡◌, ℕ, List, [], ◌++◌, Option, Result, MatchResult, drop, length, min}
+use Rattle.std.specs.Prelude.{take}
+use Rattle.std.specs.Io.KnownBytes.{Consumes}
 use Rattle.std.specs.Option.{option_map}
 use Rattle.p9_restricted.specs.declared.passing.Place.TheVariants.{Before}
 use Rattle.p9_restricted.specs.Masked.{Gate, onward}
@@ -33,11 +35,26 @@ over stream users = record {
   held = nothing_held;
 }
 
--- what is given, of the bytes that are left of the stream below
-abbrev pub left_of : Gate → Holding → Option (List ℕ) → Option (List ℕ)
-left_of gate held remaining =
-    option_map (λ rest. held.ready ++ onward gate (held.undecided ++ rest)) remaining
+-- what is given, where these bytes come of the stream below
+abbrev pub to_give : Gate → Holding → List ℕ → List ℕ
+to_give gate held bytes = held.ready ++ onward gate (held.undecided ++ bytes)
 
 -- the bytes that are left to read, where those of the stream below are known
 abbrev pub left_over : {S : Type 0} → (S → Option (List ℕ)) → Over S → Option (List ℕ)
-left_over remaining all = left_of all.gate all.held (remaining all.stream)
+left_over remaining all = option_map (to_give all.gate all.held) (remaining all.stream)
+
+-- these bytes were given: of the stream below some came, and whatever comes behind those, the bytes
+-- are the front of what is given of it
+pub record Gave {S : Type 0} (remaining : S → Option (List ℕ)) (old new : Over S) (bytes : List ℕ)
+    : Type 0 where
+  pub came : List ℕ
+  pub consumed : Consumes (remaining old.stream) (remaining new.stream) came
+  pub front : (behind : List ℕ)
+      → to_give old.gate old.held (came ++ behind) ≡ bytes ++ to_give new.gate new.held behind
+
+-- what a read does: an error gives no byte
+abbrev pub ReadGave : {S E : Type 0} → (S → Option (List ℕ)) → Over S → Over S → Result ℕ E
+    → List ℕ → Type 0
+ReadGave remaining old new result bytes =
+    MatchResult result (λ count. Gave remaining old new (take count bytes))
+    (λ error. Gave remaining old new [])

@@ -1,10 +1,10 @@
 //! A stream over a stream, for a client who may attach as some users only.
 
-ghost use Rattle.std.specs.Prelude.{◌≡◌, ◌<◌, [], OnOk, length};
+ghost use Rattle.std.specs.Prelude.{◌≡◌, ◌<◌, [], IfOk, OnOk, length};
 ghost use Rattle.std.specs.Io.{ReadsAtMost, WritesAtMost};
-ghost use Rattle.std.specs.Io.KnownBytes.{Keeps, ReadConsumes, WriteAppends};
+ghost use Rattle.std.specs.Io.KnownBytes.{IsAtEnd, Keeps, ReadConsumes, WriteAppends};
 ghost use Rattle.p9_restricted.specs.Front.{longest};
-ghost use Rattle.p9_restricted.specs.Stream.{left_over, nothing_held, over};
+ghost use Rattle.p9_restricted.specs.Stream.{Gave, ReadGave, left_over, nothing_held, over};
 
 use crate::held::Held;
 use crate::passing::Passing;
@@ -64,8 +64,9 @@ impl<S: Stream, A: Allocator> Restricted<S, A> {
     fn pass_on(&mut self, bytes: &mut [u8]) -> io::Result<usize>
         requires { self.old.held ≡ nothing_held }
         ensures bound { ReadsAtMost result bytes.new }
-        ensures read { ReadConsumes (left_over S.remaining self.old) (left_over S.remaining self.new)
-            result bytes.new }
+        ensures gave { ReadGave S.remaining self.old self.new result bytes.new }
+        ensures end { IfOk result (λ count. count ≡ 0 → 0 < length bytes.new
+            → IsAtEnd (left_over S.remaining self.new)) }
         ensures written { Keeps (S.contents self.old.stream) (S.contents self.new.stream) }
     {
         let count = self.stream.receive(bytes)?;
@@ -81,7 +82,7 @@ impl<S: Stream, A: Allocator> Restricted<S, A> {
     fn decide(&mut self) -> io::Result<()>
         requires { self.old.held.ready ≡ [] }
         ensures ready { OnOk result (0 < length self.new.held.ready) }
-        ensures left { Keeps (left_over S.remaining self.old) (left_over S.remaining self.new) }
+        ensures gave { Gave S.remaining self.old self.new [] }
         ensures written { Keeps (S.contents self.old.stream) (S.contents self.new.stream) }
     {
         let count = self.held.read_on(&mut self.stream)?;
@@ -109,6 +110,7 @@ impl<S: Stream, A: Allocator> Read for Restricted<S, A> {
         ensures bound { ReadsAtMost result bytes.new }
         ensures bytes { ReadConsumes (left_over S.remaining self.old)
             (left_over S.remaining self.new) result bytes.new }
+        ensures gave { ReadGave S.remaining self.old self.new result bytes.new }
         ensures written { Keeps (S.contents self.old.stream) (S.contents self.new.stream) }
     {
         if self.held.is_ready() {
