@@ -205,6 +205,10 @@ module _ {S : Type 0} (remaining : S → Option (List ℕ)) where
         ∙ ap (λ (h : Holding). to_give new.gate h behind) (sym held);
   }
 
+  -- nothing happened
+  pub gave_none : (all : Over S) → Gave remaining all all []
+  gave_none all = nothing_came all all (Keeps-refl (remaining all.stream)) refl refl
+
   -- the stream below failed
   pub fails : (old new : Over S) → new.held.undecided ≡ old.held.undecided
       → Keeps (remaining old.stream) (remaining new.stream) → old.held.ready ≡ []

@@ -7,3 +7,4 @@ pub mod Fields
 pub mod MaskedMessages
 pub mod Holdings
 pub mod Belonging
+pub mod Pieces

@@ -1,7 +1,8 @@
 -- The laws of frames whose names are masked.
-use Rattle.std.specs.Prelude.{◌≡◌, ℕ, Bool, ◌==◌, ◌&&◌, IsTrue, List, [], ◌++◌, Some, length, not}
+use Rattle.std.specs.Prelude.{◌≡◌, ℕ, Bool, ◌==◌, ◌&&◌, IsTrue, List, [], ◌++◌, Option, Some, length, not}
 use Rattle.std.specs.Prelude.{replicate, if◌then◌else◌}
-use Rattle.std.specs.List.{list_all, list_any}
+use Rattle.std.specs.Io.KnownBytes.{Consumes}
+use Rattle.std.specs.List.{concat, list_all, list_any}
 use Rattle.std.specs.Option.{option_map}
 use Rattle.p9_base.specs.Rising.{IsRising}
 use Rattle.p9_base.specs.User.{is_listed_user, is_user}
@@ -12,6 +13,7 @@ use Rattle.p9_step.specs.State.{State}
 use Rattle.p9_user_laws.specs.Users.{OwnsOnly}
 use Rattle.p9_conn.specs.History.{Happening, Links, Runs, read_by}
 use Rattle.p9_restricted.specs.Masked.{masked}
+use Rattle.p9_restricted.specs.Stream.{GaveEach, Over, over}
 
 -- what is made of each frame, and of the bytes after them
 abbrev pub each_masked : List (List ℕ) → Frames → Frames
@@ -51,6 +53,21 @@ OthersAreKept =
     (users : List (List ℕ)) (frame : List ℕ) (tag : ℕ) (message : TMessage)
     → IsTrue (is_frame frame) → t_message_of frame ≡ Some (tag, message)
     → masked_message users message ≡ message → masked users frame ≡ frame
+
+-- of the stream below some bytes came, and these are a front of what is made of them
+pub record AreFront {S : Type 0} (remaining : S → Option (List ℕ)) (users : List (List ℕ))
+    (old new : S) (bytes : List ℕ) : Type 0 where
+  pub came : List ℕ
+  pub left : List ℕ
+  pub consumed : Consumes (remaining old) (remaining new) came
+  pub front : bytes ++ left ≡ masked users came
+
+-- the pieces that a restricted stream gives, joined, are such a front, if nothing was read of it before
+abbrev pub PiecesAreMasked : Type 0 → Type 0
+PiecesAreMasked S =
+    (remaining : S → Option (List ℕ)) (users : List (List ℕ)) (stream : S)
+    (pieces : List (List ℕ)) (new : Over S) → GaveEach remaining pieces (over stream users) new
+    → AreFront remaining users stream new.stream (concat pieces)
 
 -- a user's name, and not of blanks alone
 abbrev pub is_visible : List ℕ → Bool

@@ -1,5 +1,5 @@
 -- A stream over another, whose bytes may be known.
-use Rattle.std.specs.Prelude.{◌≡◌, ℕ, List, [], ◌++◌, Option, Result, MatchResult, drop, length, min}
+use Rattle.std.specs.Prelude.{◌≡◌, ℕ, List, [], ◌∷◌, ◌++◌, Option, Result, MatchResult, drop, length, min}
 use Rattle.std.specs.Prelude.{take}
 use Rattle.std.specs.Io.KnownBytes.{Consumes}
 use Rattle.std.specs.Option.{option_map}
@@ -58,3 +58,10 @@ abbrev pub ReadGave : {S E : Type 0} → (S → Option (List ℕ)) → Over S �
 ReadGave remaining old new result bytes =
     MatchResult result (λ count. Gave remaining old new (take count bytes))
     (λ error. Gave remaining old new [])
+
+-- pieces were given, one after another
+abbrev pub GaveEach : {S : Type 0} → (S → Option (List ℕ)) → List (List ℕ) → Over S → Over S
+    → Type 0
+GaveEach remaining [] old new = new ≡ old
+GaveEach remaining (bytes ∷ pieces) old new =
+    (mid : Over _) × Gave remaining old mid bytes × GaveEach remaining pieces mid new

@@ -2,10 +2,18 @@
 //! laws.
 
 ghost use Rattle.p9_restricted.specs.Laws.{FramesAreMasked, MessagesAreMasked};
-ghost use Rattle.p9_restricted.specs.Laws.{NobodyAttachesAsAnother, OthersAreKept};
+ghost use Rattle.p9_restricted.specs.Laws.{NobodyAttachesAsAnother, OthersAreKept, PiecesAreMasked};
 
-/// The frames of what a restricted stream gives are those of the stream below, one for one, and of
-/// each is made what is made of it alone. The same holds of the bytes after the last whole frame.
+/// What the reads of a new restricted stream give, joined, is a front of what is made of the bytes
+/// that came of the stream below: [`frames_are_masked`] says what that is. The pieces may be of any
+/// lengths, and so may be those that the stream below gives.
+pub fn pieces_are_masked<S>()
+    ensures { PiecesAreMasked S }
+{}
+
+/// The frames of what a restricted stream makes of bytes are the frames of these bytes, one for one,
+/// and of each is made what is made of it alone. The same holds of the bytes after the last whole
+/// frame.
 pub fn frames_are_masked()
     ensures { FramesAreMasked }
 {}

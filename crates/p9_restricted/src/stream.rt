@@ -3,7 +3,9 @@
 ghost use Rattle.std.specs.Prelude.{◌≡◌, ◌<◌, [], IfOk, OnOk, length};
 ghost use Rattle.std.specs.Io.{ReadsAtMost, WritesAtMost};
 ghost use Rattle.std.specs.Io.KnownBytes.{IsAtEnd, Keeps, ReadConsumes, WriteAppends};
+ghost use Rattle.std.specs.Option.{option_map};
 ghost use Rattle.p9_restricted.specs.Front.{longest};
+ghost use Rattle.p9_restricted.specs.Masked.{masked};
 ghost use Rattle.p9_restricted.specs.Stream.{Gave, ReadGave, left_over, nothing_held, over};
 
 use crate::held::Held;
@@ -44,7 +46,9 @@ impl<S, A: Allocator> Model for Restricted<S, A> {
 impl<S: Stream, A: Allocator> Restricted<S, A> {
     /// A stream over this one, of which nothing was read, for a client who may attach as these users.
     pub fn new(stream: S, users: Vec<User, A>) -> Restricted<S, A>
-        ensures { result ≡ over stream users.items }
+        ensures new { result ≡ over stream users.items }
+        ensures left { left_over S.remaining result
+            ≡ option_map (masked users.items) (S.remaining stream) }
     {
         Restricted {
             stream,
@@ -137,11 +141,23 @@ impl<S: Stream, A: Allocator> Write for Restricted<S, A> {
 }
 
 impl<S: Stream, A: Allocator> Stream for Restricted<S, A> {
-    fn receive(&mut self, bytes: &mut [u8]) -> io::Result<usize> {
+    fn receive(&mut self, bytes: &mut [u8]) -> io::Result<usize>
+        ensures bound { ReadsAtMost result bytes.new }
+        ensures read { ReadConsumes (left_over S.remaining self.old)
+            (left_over S.remaining self.new) result bytes.new }
+        ensures gave { ReadGave S.remaining self.old self.new result bytes.new }
+        ensures written { Keeps (S.contents self.old.stream) (S.contents self.new.stream) }
+    {
         self.read(bytes)
     }
 
-    fn send(&mut self, bytes: &[u8], more: bool) -> io::Result<usize> {
+    fn send(&mut self, bytes: &[u8], more: bool) -> io::Result<usize>
+        ensures bound { WritesAtMost result bytes.now }
+        ensures written { WriteAppends (S.contents self.old.stream) (S.contents self.new.stream)
+            result bytes.now }
+        ensures left { Keeps (left_over S.remaining self.old) (left_over S.remaining self.new) }
+        ensures gave { Gave S.remaining self.old self.new [] }
+    {
         self.stream.send(bytes, more)
     }
 }
