@@ -1,0 +1,4 @@
+pub mod Front
+pub mod Masked
+pub mod Stream
+pub mod Laws
