@@ -1,0 +1,6 @@
+mod Results
+mod Worlds
+mod Tables
+mod Events
+mod Small
+mod Inputs
