@@ -1,13 +1,13 @@
 -- Inputs that are prepared are well-formed, and `play` prints the same over alike ones.
 use Rattle.std.proofs.Common.{◌≡◌, ℕ, Bool, true, List, [], Option, Some, None, Result, Ok, Err, refl}
-use Rattle.std.proofs.Common.{◌++◌, sym, ap, subst, ◌∙◌}
+use Rattle.std.proofs.Common.{◌<◌, ◌++◌, length, arith, sym, ap, subst, ◌∙◌}
 use Rattle.std.specs.Prelude.{◌↔◌, unwrap_or}
 use Rattle.std.specs.Option.{option_map_or}
 use Rattle.std.specs.List.{AllByRecursion}
 use Rattle.std.specs.Str.{is_utf8}
 use Rattle.p9_base.specs.Results.{and_then, need}
 use Rattle.p9_base.specs.declared.node_ref.NodeRef.{NodeRef}
-use Rattle.p9_space.specs.Table.{MountRow}
+use Rattle.p9_space.specs.Given.{is_table_given}
 use Rattle.p9_cert.specs.Gap.{first_gap}
 use Rattle.p9_world.specs.Read.{world_of}
 use Rattle.p9_world.specs.World.{World}
@@ -36,12 +36,12 @@ use Rattle.p9_commands.specs.declared.prepared.Needs.{Needs}
 use Rattle.p9_commands.specs.declared.refusal.Refusal.{Refusal}
 use Rattle.p9_commands.specs.declared.refusal.Refusal.TheVariants.{BadEvent, BadOperation, BadSection}
 use Rattle.p9_commands.specs.declared.refusal.Refusal.TheVariants.{BadWorld, Unverified}
-use Rattle.p9_input_laws.specs.Laws.{AlikeInputsPlayAlike, AreAlikeInputs, IsSound, MeetThePremises}
+use Rattle.p9_input_laws.specs.Laws.{AlikeInputsPlayAlike, AreAlikeInputs, IsWellFormedInput, MeetThePremises}
 use Rattle.p9_input_laws.specs.Laws.{PlayAlike, PreparedInputsAreWellFormed}
 use Rattle.p9_input_laws.proofs.Events.{script-fine}
 use Rattle.p9_input_laws.proofs.Results.{and_then-ok, need-ok, same-ok}
 use Rattle.p9_input_laws.proofs.Small.{small-read}
-use Rattle.p9_input_laws.proofs.Tables.{run-sound}
+use Rattle.p9_input_laws.proofs.Tables.{run-given, run-sound}
 use Rattle.p9_input_laws.proofs.Worlds.{IsRead, world-read}
 
 -- What is prepared.
@@ -57,38 +57,52 @@ with_reports-ok : {X : Type 0} (reports : List Report) (r : Result X Refusal) (x
 with_reports-ok reports (Ok y) x is = ap Ok (same-ok y x is)
 with_reports-ok reports (Err refusal) x is = absurd (cc)
 
-section-read : (text : Option (List ℕ)) (w : World) → world_in text ≡ Ok w → IsRead w
-section-read None w is = subst IsRead (same-ok small_world w is) small-read
+section-read : (text : Option (List ℕ)) (w : World) → world_in text ≡ Ok w
+    → IsRead w × (0 < length w.servers)
+section-read None w is =
+    subst (λ v. IsRead v × (0 < length v.servers)) (same-ok small_world w is)
+    (small-read, omega arith)
 section-read (Some text) w is =
     world-read text w (or_refused-ok (λ bad. BadWorld bad.0 bad.1) (world_of text) w is)
 
-space-sound : (world ns : Option (List ℕ)) (space : NameSpace) → space_in world ns ≡ Ok space
-    → IsWellFormed space.world space.table
-space-sound world ns space is =
-    let a = and_then-ok (world_in world) (space_over (unwrap_or ns [])) space is in
-    let run = run_of (environment_of a.0) (unwrap_or ns []) [] in
+-- a well-formed world with a well-formed table, which names only nodes that were made
+record IsFine (space : NameSpace) : Type 0 where
+  well : IsWellFormed space.world space.table
+  given : is_table_given space.world.forest space.table ≡ true
+
+space-fine : (world ns : Option (List ℕ)) (space : NameSpace) → space_in world ns ≡ Ok space
+    → IsFine space
+space-fine world ns space is =
+    let text = unwrap_or ns [] in
+    let a = and_then-ok (world_in world) (space_over text) space is in
+    let run = run_of (environment_of a.0) text [] in
     let b = and_then-ok (or_bad_operation run) _ space a.2 in
     let ran = or_refused-ok (λ bad. BadOperation bad.0 bad.1) run b.0 b.1 in
     let read = section-read world a.0 a.1 in
-    subst (λ (s : NameSpace). IsWellFormed s.world s.table) (same-ok (name_space a.0 b.0) space b.2)
-    (record {
-      named = read.world;
-      forest = read.forest;
-      setting = record {
-        users = read.users;
-        groups = read.groups;
-        table = run-sound (environment_of a.0) (unwrap_or ns []) b.0 ran;
+    let named = (read.0).world.named in
+    subst IsFine (same-ok (name_space a.0 b.0) space b.2) (record {
+      well = record {
+        named = (read.0).world;
+        forest = (read.0).forest;
+        setting = record {
+          users = (read.0).users;
+          groups = (read.0).groups;
+          table = run-sound (environment_of a.0) text b.0 ran;
+        };
       };
+      given =
+          run-given (environment_of a.0) (read.0).forest (omega (arith, read.1, named))
+          (omega (arith, named)) text b.0 ran;
     })
 
-opened-sound : (input : List ℕ) (found : Texts × NameSpace) → opened input ≡ Ok found
-    → IsWellFormed (found.1).world (found.1).table
-opened-sound input found is =
+opened-fine : (input : List ℕ) (found : Texts × NameSpace) → opened input ≡ Ok found
+    → IsFine found.1
+opened-fine input found is =
     let a = need-ok (is_utf8 input) _ _ found is in
     let b = and_then-ok (or_refused BadSection (bundle_of input)) _ found a.1 in
     let c = and_then-ok (space_in (b.0).world (b.0).ns) _ found b.2 in
-    subst (λ (f : Texts × NameSpace). IsWellFormed (f.1).world (f.1).table)
-    (same-ok (b.0, c.0) found c.2) (space-sound (b.0).world (b.0).ns c.0 c.1)
+    subst (λ (f : Texts × NameSpace). IsFine f.1) (same-ok (b.0, c.0) found c.2)
+    (space-fine (b.0).world (b.0).ns c.0 c.1)
 
 rest-fine : (needs : Needs) (texts : Texts) (rest : Option (List NodeRef) × List Event)
     → rest_in needs texts ≡ Ok rest → AllByRecursion IsEvent rest.1
@@ -100,15 +114,17 @@ rest-fine needs texts rest is =
     (same-ok (a.0, b.0) rest b.2)
     (script-fine (unwrap_or texts.script []) b.0 (or_refused-ok BadEvent script b.0 b.1))
 
-pub prepared-sound : PreparedInputsAreWellFormed
-prepared-sound needs input prepared is =
+pub prepared-well : PreparedInputsAreWellFormed
+prepared-well needs input prepared is =
     let a = and_then-ok (with_reports [] (opened input)) _ prepared is in
     let texts = (a.0).0 in
     let space = (a.0).1 in
     let b = and_then-ok (with_reports space.reports (rest_in needs texts)) _ prepared a.2 in
-    subst IsSound (same-ok (record { space = space; rows = (b.0).0; events = (b.0).1 }) prepared b.2)
-    (record {
-      space = opened-sound input a.0 (with_reports-ok [] (opened input) a.0 a.1);
+    let fine = opened-fine input a.0 (with_reports-ok [] (opened input) a.0 a.1) in
+    subst IsWellFormedInput
+    (same-ok (record { space = space; rows = (b.0).0; events = (b.0).1 }) prepared b.2) (record {
+      space = fine.well;
+      given = fine.given;
       events = rest-fine needs texts b.0 (with_reports-ok space.reports (rest_in needs texts) b.0 b.1);
     })
 
@@ -116,12 +132,12 @@ prepared-sound needs input prepared is =
 
 module _ (law : AlikeWorldsPlayAlike) (input other : List ℕ) (a b : Prepared)
     (may : MeetThePremises input other a b) where
-  its : IsSound a
-  its = prepared-sound (needs_of Play) input a may.first
+  its : IsWellFormedInput a
+  its = prepared-well (needs_of Play) input a may.first
 
   alike : AreAlike a.space.world.hidden (exported a.space) (exported b.space)
   alike = record {
-    sound = (prepared-sound (needs_of Play) other b may.second).space.forest;
+    sound = (prepared-well (needs_of Play) other b may.second).space.forest;
     setting = may.alike.setting;
     sessions = refl;
     others = may.alike.others;

@@ -4,3 +4,4 @@ mod Tables
 mod Events
 mod Small
 mod Inputs
+mod Witness

@@ -1,5 +1,5 @@
--- The mount table that a namespace file makes is well-formed.
-use Rattle.std.proofs.Common.{◌≡◌, ℕ, zero, suc, ◌<◌, Bool, true, false, List, [], ◌∷◌, Option, Some}
+-- The mount table that a namespace file makes is well-formed, and names only nodes that were made.
+use Rattle.std.proofs.Common.{◌≡◌, ℕ, zero, suc, ◌<◌, ◌≤◌, Bool, true, false, List, [], ◌∷◌, Option, Some}
 use Rattle.std.proofs.Common.{None, Result, Ok, Err, cond, length, map, position, remove, is_some}
 use Rattle.std.proofs.Common.{fold, unwrap_or, refl, sym, subst, ◌∙◌, arith}
 use Rattle.std.specs.Prelude.{if◌then◌else◌}
@@ -15,7 +15,8 @@ use Rattle.p9_base.specs.NodeRef.{same_node}
 use Rattle.p9_base.specs.Results.{and_then}
 use Rattle.p9_base.specs.declared.fault.Fault.TheVariants.{NotDirectory}
 use Rattle.p9_base.specs.declared.node_ref.NodeRef.{NodeRef}
-use Rattle.p9_tree.specs.Forest.{is_dir_of}
+use Rattle.p9_tree.specs.Forest.{IsForest, is_dir_of}
+use Rattle.p9_space.specs.Given.{is_table_given}
 use Rattle.p9_space.specs.Place.{file_ref}
 use Rattle.p9_space.specs.Row.{brought, is_of, joined}
 use Rattle.p9_space.specs.Table.{IsTable, MountRow, bound, members_of, row_of, standing, unmounted}
@@ -46,6 +47,7 @@ use Rattle.p9_nsline.specs.declared.operation.Operation.TheVariants.{Mount, Bind
 use Rattle.p9_nsline.specs.declared.operation.Operation.TheVariants.{Clear, Include, Import}
 use Rattle.p9_nsline.proofs.GivenFinds.{holds-then}
 use Rattle.p9_nsfile.specs.Run.{acted, included, line_done, lines_done, nested_max, reported, run_of}
+use Rattle.p9_nsfile.proofs.GivenRuns.{made-given}
 use Rattle.p9_input_laws.proofs.Results.{and_then-ok, same-ok}
 
 -- Keys that are distinct.
@@ -324,3 +326,15 @@ module _ (environment : Environment) where
       (same-ok (space.table, space.reports) ran a.2)
       (lines-sound (included environment nested_max) (included-sound nested_max) None (beginning [])
       a.0 none-sound)
+
+  -- it names only nodes that were made, where each server that has a name is there
+  pub run-given : IsForest environment.forest → 0 < length environment.forest
+      → length environment.servers ≤ length environment.forest → (text : List ℕ)
+      → (ran : List MountRow × List Report) → run_of environment text [] ≡ Ok ran
+      → is_table_given environment.forest ran.0 ≡ true
+  run-given sound some named text ran is =
+      let a = and_then-ok (lines_in text) _ ran is in
+      let space = lines_done environment nested_max None (beginning []) a.0 in
+      subst (λ (r : List MountRow × List Report). is_table_given environment.forest r.0 ≡ true)
+      (same-ok (space.table, space.reports) ran a.2)
+      (made-given environment sound some named a.0 [] refl)

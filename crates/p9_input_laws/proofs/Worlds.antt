@@ -498,10 +498,15 @@ empty-read = record {
   groups = refl;
 }
 
-pub world-read : (text : List ℕ) (w : World) → world_of text ≡ Ok w → IsRead w
+-- a text makes such a world, and it has a server
+pub world-read : (text : List ℕ) (w : World) → world_of text ≡ Ok w
+    → IsRead w × (0 < length w.servers)
 unfolding world_of
 world-read text w is =
     let a = and_then-ok (try_fold read_statement empty_world (statements_of text)) _ w is in
     let b = need-ok (nat_lt 0 (length a.0.servers)) _ _ w a.2 in
-    subst IsRead (same-ok a.0 w b.1)
-    (statements-read (statements_of text) empty_world a.0 empty-read a.1)
+    subst (λ v. IsRead v × (0 < length v.servers)) (same-ok a.0 w b.1)
+    (
+      statements-read (statements_of text) empty_world a.0 empty-read a.1,
+      ltb-true 0 (length a.0.servers) b.0,
+    )

@@ -1,8 +1,9 @@
 -- What `play` makes of two inputs that differ only inside hidden directories.
-use Rattle.std.specs.Prelude.{◌≡◌, ◌↔◌, ℕ, Bool, List, Some, None, Ok, codes}
+use Rattle.std.specs.Prelude.{◌≡◌, ◌↔◌, ℕ, Bool, IsTrue, List, Some, None, Ok, codes}
 use Rattle.std.specs.List.{AllByRecursion}
 use Rattle.p9_base.specs.declared.node_ref.NodeRef.{NodeRef}
 use Rattle.p9_tree.specs.Inside.{outer}
+use Rattle.p9_space.specs.Given.{is_table_given}
 use Rattle.p9_step.specs.Event.{IsEvent}
 use Rattle.p9_guard.specs.Sentence.{IsWellFormed}
 use Rattle.p9_guard_laws.specs.Alike.{AreMembersInBoth}
@@ -13,24 +14,26 @@ use Rattle.p9_commands.specs.Prepared.{Prepared, prepared_of}
 use Rattle.p9_commands.specs.declared.command.Command.TheVariants.{Play}
 use Rattle.p9_commands.specs.declared.prepared.Needs.{Needs}
 
--- What reading ensures.
+-- What preparing ensures.
 
--- the world and the mount table are well-formed, and each event of the script can happen
-pub record IsSound (input : Prepared) : Type 0 where
+-- the world and the mount table are well-formed, the table names only nodes that were made, and each
+-- event of the script can happen
+pub record IsWellFormedInput (input : Prepared) : Type 0 where
   pub space : IsWellFormed input.space.world input.space.table
+  pub given : IsTrue (is_table_given input.space.world.forest input.space.table)
   pub events : AllByRecursion IsEvent input.events
 
--- so is each input that is prepared
+-- whatever bytes are prepared, all of this holds of what they come to
 abbrev pub PreparedInputsAreWellFormed : Type 0
 PreparedInputsAreWellFormed =
     (needs : Needs) (input : List ℕ) (prepared : Prepared)
-    → prepared_of needs input ≡ Ok prepared → IsSound prepared
+    → prepared_of needs input ≡ Ok prepared → IsWellFormedInput prepared
 
 -- Two inputs.
 
 -- The same certificate, script, reports, hidden directories, users, groups and mount table; the same
 -- nodes that are inside no hidden directory, with all their fields, and the same next numbers. Each
--- member of the mount table is a node in both worlds, or in neither.
+-- member of the mount table is a node in both worlds, or in neither. A test can tell all of this.
 pub record AreAlikeInputs (a b : Prepared) : Type 0 where
   pub rows : b.rows ≡ a.rows
   pub events : b.events ≡ a.events
@@ -41,7 +44,7 @@ pub record AreAlikeInputs (a b : Prepared) : Type 0 where
       ≡ outer a.space.world.hidden a.space.world.forest
   pub members : AreMembersInBoth a.space.world.forest b.space.world.forest a.space.table
 
--- both inputs are prepared for `play`, and alike; the first has a certificate, which has no gap
+-- both inputs are prepared for `play`, and they are alike; the first has a certificate without a gap
 pub record MeetThePremises (input other : List ℕ) (a b : Prepared) : Type 0 where
   pub first : prepared_of (needs_of Play) input ≡ Ok a
   pub second : prepared_of (needs_of Play) other ≡ Ok b
@@ -54,17 +57,17 @@ pub record MeetThePremises (input other : List ℕ) (a b : Prepared) : Type 0 wh
 abbrev pub play_word : List ℕ
 play_word = codes "play"
 
--- both are played alike
+-- how both are played
 pub record PlayAlike (input other : List ℕ) (a b : Prepared) : Type 0 where
   -- the text is the same, if the same requests fail for memory
   pub text : (marks : List Bool)
       → play_text (exported b.space) b.events marks ≡ play_text (exported a.space) a.events marks
-  -- the command ends over the one as it may end over the other: with that status, and with those
-  -- bytes on the output and the errors
+  -- each way in which the command may end over the one is a way in which it may end over the other:
+  -- the status, and the bytes on the output and the errors
   pub ends : (status : ℕ) (p : Printed)
       → WordEnds play_word input status p ↔ WordEnds play_word other status p
 
--- inputs that may be played so are played alike
+-- inputs that meet the premises are played alike
 abbrev pub AlikeInputsPlayAlike : Type 0
 AlikeInputsPlayAlike =
     (input other : List ℕ) (a b : Prepared)

@@ -1,11 +1,12 @@
 //! The laws of inputs.
 
 ghost use Rattle.p9_input_laws.specs.Laws.{AlikeInputsPlayAlike, PreparedInputsAreWellFormed};
+ghost use Rattle.p9_input_laws.specs.Witness.{TwoWorldsMeetThePremises};
 
 use p9_commands::laws::alike_worlds_play_alike;
 
-/// The world and the mount table of an input that is prepared are well-formed, and each event of its
-/// script can happen.
+/// The world and the mount table of an input that is prepared are well-formed. The table names only
+/// nodes that were made. Each event of the script can happen. Nothing is asked of the input's bytes.
 pub fn prepared_inputs_are_well_formed()
     ensures { PreparedInputsAreWellFormed }
 {}
@@ -20,3 +21,9 @@ pub fn alike_inputs_play_alike()
 {
     alike_worlds_play_alike();
 }
+
+/// Two inputs meet the premises of [`alike_inputs_play_alike`], and differ. In their worlds
+/// `/vault/key` is a file that all may write, and a directory of glenda's.
+pub fn two_worlds_meet_the_premises()
+    ensures { TwoWorldsMeetThePremises }
+{}
