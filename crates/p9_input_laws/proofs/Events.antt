@@ -8,12 +8,12 @@ use Rattle.std.specs.Result.{result_ok}
 use Rattle.std.specs.Str.{bytes_eq}
 use Rattle.std.specs.Str.Parse.{digits_value}
 use Rattle.std.proofs.lemmas.Bool.{and_parts, ltb-true}
-use Rattle.hex.specs.Hex.{decode_of, decode_pairs}
+use Rattle.hex.specs.Hex.{decode_pairs}
 use Rattle.hex.specs.declared.error.FromHexError.{FromHexError}
 use Rattle.hex.specs.declared.error.FromHexError.TheVariants.{OddLength}
 use Rattle.hex.proofs.HexLemmas.{decode_pairs-ok}
 use Rattle.p9_base.specs.Decimal.{is_decimal, number_of}
-use Rattle.p9_base.specs.Results.{and_then, try_fold}
+use Rattle.p9_base.specs.Results.{try_fold}
 use Rattle.p9_base.specs.Statement.{statements_of}
 use Rattle.p9_wire.specs.Frame.{IsBytes}
 use Rattle.p9_step.specs.Event.{Event, Open, Message, Close, IsEvent}

@@ -5,7 +5,6 @@ use Rattle.std.specs.Prelude.{◌↔◌, unwrap_or}
 use Rattle.std.specs.Option.{option_map_or}
 use Rattle.std.specs.List.{AllByRecursion}
 use Rattle.std.specs.Str.{is_utf8}
-use Rattle.p9_base.specs.Results.{and_then, need}
 use Rattle.p9_base.specs.declared.node_ref.NodeRef.{NodeRef}
 use Rattle.p9_space.specs.Given.{is_table_given}
 use Rattle.p9_cert.specs.Gap.{first_gap}
@@ -21,13 +20,13 @@ use Rattle.p9_guard_laws.specs.Alike.{AreAlike}
 use Rattle.p9_guard_laws.proofs.Begins.{alike_verified}
 use Rattle.p9_guard.proofs.Sentences.{starts-guarded}
 use Rattle.p9_commands.specs.Bundle.{Texts, bundle_of}
-use Rattle.p9_commands.specs.Command.{CommandEnds, Printed, WordEnds, admitted, asked, needs_of}
+use Rattle.p9_commands.specs.Command.{CommandEnds, Printed, WordEnds, asked, needs_of}
 use Rattle.p9_commands.specs.Laws.{AlikeWorldsPlayAlike}
 use Rattle.p9_commands.specs.NameSpace.{NameSpace, environment_of, exported, gap_over, name_space}
 use Rattle.p9_commands.specs.NameSpace.{or_bad_operation, space_in, space_over, world_in}
-use Rattle.p9_commands.specs.Play.{PlaysAll, play_text}
-use Rattle.p9_commands.specs.Prepared.{Prepared, Rejected, certificate_in, gap_in, opened, prepared_of}
-use Rattle.p9_commands.specs.Prepared.{prepared_with, rest_in, script_in, with_reports}
+use Rattle.p9_commands.specs.Play.{play_text}
+use Rattle.p9_commands.specs.Prepared.{Prepared, certificate_in, gap_in, opened, prepared_of}
+use Rattle.p9_commands.specs.Prepared.{rest_in, script_in, with_reports}
 use Rattle.p9_commands.specs.Refusal.{or_refused}
 use Rattle.p9_commands.specs.Script.{script_of}
 use Rattle.p9_commands.specs.Small.{small_world}
@@ -35,9 +34,10 @@ use Rattle.p9_commands.specs.declared.command.Command.TheVariants.{Play}
 use Rattle.p9_commands.specs.declared.prepared.Needs.{Needs}
 use Rattle.p9_commands.specs.declared.refusal.Refusal.{Refusal}
 use Rattle.p9_commands.specs.declared.refusal.Refusal.TheVariants.{BadEvent, BadOperation, BadSection}
-use Rattle.p9_commands.specs.declared.refusal.Refusal.TheVariants.{BadWorld, Unverified}
-use Rattle.p9_input_laws.specs.Laws.{AlikeInputsPlayAlike, AreAlikeInputs, IsWellFormedInput, MeetThePremises}
-use Rattle.p9_input_laws.specs.Laws.{PlayAlike, PreparedInputsAreWellFormed}
+use Rattle.p9_commands.specs.declared.refusal.Refusal.TheVariants.{BadWorld}
+use Rattle.p9_input_laws.specs.Laws.{AlikeInputsAreExportedAlike, IsWellFormedInput}
+use Rattle.p9_input_laws.specs.Laws.{MeetThePremises, PlayAlike, PreparedInputsAreWellFormed}
+use Rattle.p9_input_laws.specs.Laws.{play_word}
 use Rattle.p9_input_laws.proofs.Events.{script-fine}
 use Rattle.p9_input_laws.proofs.Results.{and_then-ok, need-ok, same-ok}
 use Rattle.p9_input_laws.proofs.Small.{small-read}
@@ -130,67 +130,64 @@ prepared-well needs input prepared is =
 
 -- What is played.
 
+pub exported-alike : AlikeInputsAreExportedAlike
+exported-alike input other a b both = record {
+  sound = (prepared-well (needs_of Play) other b both.second).space.forest;
+  setting = both.alike.setting;
+  sessions = refl;
+  others = both.alike.others;
+  members = both.alike.members;
+  places = tt;
+}
+
 module _ (law : AlikeWorldsPlayAlike) (input other : List ℕ) (a b : Prepared)
-    (may : MeetThePremises input other a b) where
+    (meet : MeetThePremises input other a b) where
   its : IsWellFormedInput a
-  its = prepared-well (needs_of Play) input a may.first
+  its = prepared-well (needs_of Play) input a meet.prepared.first
 
   alike : AreAlike a.space.world.hidden (exported a.space) (exported b.space)
-  alike = record {
-    sound = (prepared-well (needs_of Play) other b may.second).space.forest;
-    setting = may.alike.setting;
-    sessions = refl;
-    others = may.alike.others;
-    members = may.alike.members;
-    places = tt;
-  }
+  alike = exported-alike input other a b meet.prepared
+
+  -- the state of the second, by the mount table of the first
+  same-state : exported b.space ≡ served b.space.world a.space.table
+  same-state =
+      ap (λ (s : Setting). served b.space.world s.table) meet.prepared.alike.setting
 
   same-text : (marks : List Bool)
       → play_text (exported b.space) b.events marks ≡ play_text (exported a.space) a.events marks
   same-text marks =
-      let same : b.space.table ≡ a.space.table =
-      ap (λ (s : Setting). s.table) may.alike.setting in
-      ap (λ (events : List Event). play_text (exported b.space) events marks) may.alike.events
-      ∙ played same marks
-    where
-      played : b.space.table ≡ a.space.table → (marks : List Bool)
-          → play_text (exported b.space) a.events marks
-          ≡ play_text (exported a.space) a.events marks
-      played same marks =
-          let over : exported b.space ≡ served b.space.world a.space.table =
-          ap (served b.space.world) same in
-          let alike' : AreAlike a.space.world.hidden (served a.space.world a.space.table)
-          (served b.space.world a.space.table) =
-          subst (AreAlike a.space.world.hidden (exported a.space)) over alike in
-          ap (λ (s : State). play_text s a.events marks) over
-          ∙ law a.space.world b.space.world a.space.table may.certificate its.space may.closed alike'
-          a.events marks its.events
+      ap (λ (events : List Event). play_text (exported b.space) events marks)
+      meet.prepared.alike.events
+      ∙ ap (λ (s : State). play_text s a.events marks) same-state
+      ∙ law a.space.world b.space.world a.space.table meet.certificate its.space meet.closed
+      (subst (AreAlike a.space.world.hidden (exported a.space)) same-state alike) a.events marks
+      its.events
 
   -- neither has a gap
   gap-first : gap_in a ≡ None
-  gap-first = ap (λ (rows : Option (List NodeRef)). option_map_or (gap_over a.space) rows None)
-      may.rows ∙ may.closed
+  gap-first =
+      ap (λ (rows : Option (List NodeRef)). option_map_or (gap_over a.space) rows None) meet.rows
+      ∙ meet.closed
 
   gap-second : gap_in b ≡ None
   gap-second =
       ap (λ (rows : Option (List NodeRef)). option_map_or (gap_over b.space) rows None)
-      (may.alike.rows ∙ may.rows)
+      (meet.prepared.alike.rows ∙ meet.rows)
       ∙ ap (λ (hidden : List NodeRef). first_gap (record {
         users = b.space.world.users;
         groups = b.space.world.groups;
         hidden = hidden;
-      }) b.space.world.forest b.space.table may.certificate) may.alike.hidden
-      ∙ (alike_verified a.space.world.hidden may.certificate (exported a.space) (exported b.space)
+      }) b.space.world.forest b.space.table meet.certificate) meet.prepared.alike.hidden
+      ∙ (alike_verified a.space.world.hidden meet.certificate (exported a.space) (exported b.space)
       its.space.forest its.space.setting
-      (starts-guarded a.space.world a.space.table may.certificate its.space may.closed).hidden_given
-      alike).0
-      may.closed
+      (starts-guarded a.space.world a.space.table meet.certificate its.space
+      meet.closed).hidden_given alike).0 meet.closed
 
   asked-ok : (text : List ℕ) (p : Prepared) → prepared_of (needs_of Play) text ≡ Ok p
       → gap_in p ≡ None → asked Play text ≡ Ok p
   asked-ok text p prepared none = rw (prepared, none) refl
 
-  -- what is played over the one is played over the other
+  -- as the one is played, so is the other
   plays : (c d : Prepared)
       → ((marks : List Bool)
       → play_text (exported d.space) d.events marks ≡ play_text (exported c.space) c.events marks)
@@ -203,24 +200,32 @@ module _ (law : AlikeWorldsPlayAlike) (input other : List ℕ) (a b : Prepared)
           (ends.1).0,
           record {
             marks = all.marks;
-            text_is = all.text_is ∙ ap (λ (text : List ℕ). p.out_before ++ text) (sym (same all.marks));
-          }
+            text_is =
+                all.text_is
+                ∙ ap (λ (text : List ℕ). p.out_before ++ text) (sym (same all.marks));
+          },
         ),
       )
 
+  -- the command ends over an input as over what it comes to
+  over : (text : List ℕ) (c : Prepared) (status : ℕ) (p : Printed) → asked Play text ≡ Ok c
+      → WordEnds play_word text status p ↔ CommandEnds Play (Ok c) status p
+  over text c status p is = (
+    λ ends. subst (λ r. CommandEnds Play r status p) is ends,
+    λ ends. subst (λ r. CommandEnds Play r status p) (sym is) ends,
+  )
+
   pub played-alike : PlayAlike input other a b
   played-alike =
-      let first = asked-ok input a may.first gap-first in
-      let second = asked-ok other b may.second gap-second in
+      let first = asked-ok input a meet.prepared.first gap-first in
+      let second = asked-ok other b meet.prepared.second gap-second in
       record {
         text = same-text;
-        ends = λ status p.
-            (
-              λ ends. subst (λ r. CommandEnds Play r status p) (sym second)
-                  (plays a b same-text may.alike.reports status p
-                  (subst (λ r. CommandEnds Play r status p) first ends)),
-              λ ends. subst (λ r. CommandEnds Play r status p) (sym first)
-                  (plays b a (λ marks. sym (same-text marks)) (sym may.alike.reports) status p
-                  (subst (λ r. CommandEnds Play r status p) second ends)),
-            );
+        ends = λ reports status p. (
+          λ ends. (over other b status p second).1
+              (plays a b same-text reports status p ((over input a status p first).0 ends)),
+          λ ends. (over input a status p first).1
+              (plays b a (λ marks. sym (same-text marks)) (sym reports) status p
+              ((over other b status p second).0 ends)),
+        );
       }

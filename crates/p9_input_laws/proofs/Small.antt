@@ -1,5 +1,5 @@
 -- The sample world is well-formed.
-use Rattle.std.proofs.Common.{◌≡◌, ℕ, zero, suc, ◌<◌, ◌≤◌, true, List, [], ◌∷◌, Some, IsTrue, refl, subst}
+use Rattle.std.proofs.Common.{◌≡◌, ℕ, zero, suc, true, List, [], Some, IsTrue, refl, subst}
 use Rattle.std.proofs.Common.{arith}
 use Rattle.std.specs.Prelude.{codes, slice_get}
 use Rattle.std.proofs.lemmas.Bool.{and_from}
@@ -9,7 +9,7 @@ use Rattle.p9_base.specs.User.{is_user}
 use Rattle.p9_base.proofs.Texts.{is_text-ascii}
 use Rattle.p9_base.specs.declared.mode.Mode.{Mode}
 use Rattle.p9_tree.specs.Node.{IsTellable, Node}
-use Rattle.p9_tree.specs.Server.{CanAdd, Server, WellFormed, added, rooted}
+use Rattle.p9_tree.specs.Server.{Server, WellFormed, added, rooted}
 use Rattle.p9_tree.proofs.Added.{WellFormed-added}
 use Rattle.p9_tree.proofs.Rooted.{WellFormed-rooted}
 use Rattle.p9_commands.specs.Small.{directory_mode, file_mode, glendas, small, small_world}

@@ -1,10 +1,10 @@
 -- The mount table that a namespace file makes is well-formed, and names only nodes that were made.
 use Rattle.std.proofs.Common.{◌≡◌, ℕ, zero, suc, ◌<◌, ◌≤◌, Bool, true, false, List, [], ◌∷◌, Option, Some}
-use Rattle.std.proofs.Common.{None, Result, Ok, Err, cond, length, map, position, remove, is_some}
-use Rattle.std.proofs.Common.{fold, unwrap_or, refl, sym, subst, ◌∙◌, arith}
+use Rattle.std.proofs.Common.{None, Result, Ok, Err, cond, length, position, remove, is_some}
+use Rattle.std.proofs.Common.{fold, unwrap_or, refl, subst, ◌∙◌, arith}
 use Rattle.std.specs.Prelude.{if◌then◌else◌}
-use Rattle.std.specs.List.{All, AllByRecursion, IsDistinct}
-use Rattle.std.specs.Map.{keys_of, lookup, remove_entry}
+use Rattle.std.specs.List.{AllByRecursion, IsDistinct}
+use Rattle.std.specs.Map.{keys_of, remove_entry}
 use Rattle.std.specs.Option.{option_map_or}
 use Rattle.std.specs.Result.{IfOk}
 use Rattle.std.proofs.lemmas.Bool.Decides.{nat_tests}
@@ -19,7 +19,7 @@ use Rattle.p9_tree.specs.Forest.{IsForest, is_dir_of}
 use Rattle.p9_space.specs.Given.{is_table_given}
 use Rattle.p9_space.specs.Place.{file_ref}
 use Rattle.p9_space.specs.Row.{brought, is_of, joined}
-use Rattle.p9_space.specs.Table.{IsTable, MountRow, bound, members_of, row_of, standing, unmounted}
+use Rattle.p9_space.specs.Table.{IsTable, MountRow, bound, row_of, standing, unmounted}
 use Rattle.p9_space.specs.Table.{with_members, with_row, without_member, without_row}
 use Rattle.p9_space.specs.Trail.{here}
 use Rattle.p9_space.specs.declared.row.Member.{Member}
@@ -27,7 +27,6 @@ use Rattle.p9_space.specs.declared.row.Order.{Order}
 use Rattle.p9_space.specs.declared.table.UnmountError.{UnmountError}
 use Rattle.p9_space.specs.declared.table.UnmountError.TheVariants.{NotMember, NotMounted}
 use Rattle.p9_space.proofs.Tables.{IsTable-with_row, IsTable-without_row, joined-some}
-use Rattle.p9_space.proofs.Tables.{members_of-some}
 use Rattle.p9_nsline.specs.Bind.{after_unmount, bound_by, has_spec, may_hold, member_nodes}
 use Rattle.p9_nsline.specs.Bind.{mounted_by, put_at, root_mounted, taken_away, unmounted_by}
 use Rattle.p9_nsline.specs.Bind.{with_table}
@@ -36,7 +35,7 @@ use Rattle.p9_nsline.specs.Environment.{Environment}
 use Rattle.p9_nsline.specs.Find.{found, found_file, server_root}
 use Rattle.p9_nsline.specs.Flags.{Word}
 use Rattle.p9_nsline.specs.Include.{included_lines}
-use Rattle.p9_nsline.specs.Line.{BadLineOf, NumberedLine, lines_in}
+use Rattle.p9_nsline.specs.Line.{NumberedLine, lines_in}
 use Rattle.p9_nsline.specs.Space.{Report, Space, beginning}
 use Rattle.p9_nsline.specs.Variable.{expanded}
 use Rattle.p9_nsline.specs.declared.fault.OpFault.{OpFault}

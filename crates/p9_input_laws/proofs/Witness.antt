@@ -1,11 +1,12 @@
 -- The two inputs differ, and may be played as alike ones.
-use Rattle.std.proofs.Common.{◌≡◌, ◌≢◌, ℕ, Bool, true, false, List, [], ◌∷◌, ◌++◌, Some, None, Result}
+use Rattle.std.proofs.Common.{◌≡◌, ◌≢◌, ℕ, false, List, [], ◌∷◌, Some, None}
 use Rattle.std.proofs.Common.{Ok, refl, ap, true≢false}
 use Rattle.std.specs.Prelude.{codes}
 use Rattle.std.specs.Char.{encode_utf8}
 use Rattle.std.specs.Str.{chars, is_utf8}
-use Rattle.hex.specs.Hex.{decode_pairs}
-use Rattle.p9_base.specs.declared.mode.Kind.TheVariants.{Directory, File}
+use Rattle.hex.specs.Hex.{decode_pairs, encode_with}
+use Rattle.p9_commands.specs.Play.{play_text}
+use Rattle.p9_base.specs.declared.mode.Kind.TheVariants.{File}
 use Rattle.p9_base.specs.declared.mode.Mode.{Mode}
 use Rattle.p9_base.specs.declared.node_ref.NodeRef.{NodeRef}
 use Rattle.p9_base.specs.Decimal.{number_of}
@@ -15,25 +16,27 @@ use Rattle.p9_base.specs.Statement.{statements_of}
 use Rattle.p9_tree.specs.Forest.{is_dir_of}
 use Rattle.p9_tree.specs.Inside.{is_barred, is_hidden, is_inside, outer}
 use Rattle.p9_tree.specs.Node.{Node, with_owner}
-use Rattle.p9_tree.specs.Server.{Server, root_node}
+use Rattle.p9_tree.specs.Server.{root_node}
 use Rattle.p9_cert.specs.Listed.{is_alterable, is_open, is_owned, is_passable}
-use Rattle.p9_cert.specs.Text.{certificate_of}
 use Rattle.p9_space.specs.Table.{MountRow}
 use Rattle.p9_world.specs.Entry.{NodeLine, node_of_line}
 use Rattle.p9_world.specs.Mode.{dir_mode}
 use Rattle.p9_world.specs.Read.{world_of}
 use Rattle.p9_world.specs.World.{World}
 use Rattle.p9_nsline.specs.Line.{lines_in}
-use Rattle.p9_nsfile.specs.Run.{included, run_of}
-use Rattle.p9_step.specs.Event.{Event, Open, Message, Close}
-use Rattle.p9_commands.specs.Bundle.{Texts, bundle_of}
-use Rattle.p9_commands.specs.NameSpace.{NameSpace, environment_of, gap_over, space_in}
+use Rattle.p9_step.specs.Event.{Event, Open, Message}
+use Rattle.p9_commands.specs.NameSpace.{exported, gap_over}
 use Rattle.p9_commands.specs.Prepared.{Prepared, prepared_of}
-use Rattle.p9_commands.specs.Script.{script_of}
 use Rattle.p9_commands.specs.declared.prepared.Needs.TheVariants.{Nothing}
-use Rattle.p9_input_laws.specs.Laws.{AreAlikeInputs, MeetThePremises}
-use Rattle.p9_input_laws.specs.Witness.{TwoWorldsMeetThePremises, directory_line, file_line}
-use Rattle.p9_input_laws.specs.Witness.{first_lines, last_lines, with_a_directory, with_a_file}
+use Rattle.p9_wire.specs.FieldReading.{counted_at, qid_at, several_at, sized_at, stat_fields_at, text_at, times}
+use Rattle.p9_wire.specs.Fields.{number}
+use Rattle.p9_wire.specs.Reading.{header_at, t_attach_at, t_body_at, t_message_of, t_open_at}
+use Rattle.p9_wire.specs.Reading.{t_create_at, t_read_at, t_remove_at, t_version_at, t_walk_at, t_wstat_at}
+use Rattle.p9_wire.specs.Reply.{r_spelling}
+use Rattle.p9_step.specs.ForestChange.{applied, edited}
+use Rattle.p9_step.specs.Read.{entry_bytes}
+use Rattle.p9_input_laws.specs.Witness.{TwoWorldsMeetThePremises, reply_lines}
+use Rattle.p9_input_laws.specs.Witness.{with_a_directory, with_a_file}
 
 -- What is prepared.
 
@@ -85,32 +88,57 @@ table = (at 2, record { node = at 1; create = false } ∷ []) ∷ []
 abbrev rows : List NodeRef
 rows = at 0 ∷ at 1 ∷ []
 
+-- the frames of the script
 abbrev version : List ℕ
 version =
-    19 ∷ 0 ∷ 0 ∷ 0 ∷ 100 ∷ 255 ∷ 255 ∷ 0 ∷ 32 ∷ 0 ∷ 0 ∷ 6 ∷ 0 ∷ 57 ∷ 80 ∷ 50 ∷ 48 ∷ 48 ∷ 48
-    ∷ []
+    19 ∷ 0 ∷ 0 ∷ 0 ∷ 100 ∷ 255 ∷ 255 ∷ 0 ∷ 32 ∷ 0 ∷ 0 ∷ 6 ∷ 0 ∷ 57 ∷ 80 ∷ 50 ∷ 48 ∷ 48 ∷ 48 ∷ []
 
 abbrev attach : List ℕ
 attach =
-    25 ∷ 0 ∷ 0 ∷ 0 ∷ 104 ∷ 1 ∷ 0 ∷ 0 ∷ 0 ∷ 0 ∷ 0 ∷ 255 ∷ 255 ∷ 255 ∷ 255 ∷ 6 ∷ 0 ∷ 103 ∷ 108
-    ∷ 101 ∷ 110 ∷ 100 ∷ 97 ∷ 0 ∷ 0 ∷ []
+    25 ∷ 0 ∷ 0 ∷ 0 ∷ 104 ∷ 1 ∷ 0 ∷ 0 ∷ 0 ∷ 0 ∷ 0 ∷ 255 ∷ 255 ∷ 255 ∷ 255 ∷ 6 ∷ 0 ∷ 103 ∷ 108 ∷ 101
+    ∷ 110 ∷ 100 ∷ 97 ∷ 0 ∷ 0 ∷ []
 
 abbrev walk : List ℕ
 walk =
-    24 ∷ 0 ∷ 0 ∷ 0 ∷ 110 ∷ 5 ∷ 0 ∷ 0 ∷ 0 ∷ 0 ∷ 0 ∷ 2 ∷ 0 ∷ 0 ∷ 0 ∷ 1 ∷ 0 ∷ 5 ∷ 0 ∷ 118 ∷ 97
-    ∷ 117 ∷ 108 ∷ 116 ∷ []
+    17 ∷ 0 ∷ 0 ∷ 0 ∷ 110 ∷ 2 ∷ 0 ∷ 0 ∷ 0 ∷ 0 ∷ 0 ∷ 1 ∷ 0 ∷ 0 ∷ 0 ∷ 0 ∷ 0 ∷ []
 
-abbrev opening : List ℕ
-opening = 12 ∷ 0 ∷ 0 ∷ 0 ∷ 112 ∷ 6 ∷ 0 ∷ 2 ∷ 0 ∷ 0 ∷ 0 ∷ 0 ∷ []
+abbrev create : List ℕ
+create =
+    19 ∷ 0 ∷ 0 ∷ 0 ∷ 114 ∷ 3 ∷ 0 ∷ 1 ∷ 0 ∷ 0 ∷ 0 ∷ 1 ∷ 0 ∷ 110 ∷ 164 ∷ 1 ∷ 0 ∷ 0 ∷ 1 ∷ []
 
-abbrev reading : List ℕ
-reading =
-    23 ∷ 0 ∷ 0 ∷ 0 ∷ 116 ∷ 7 ∷ 0 ∷ 2 ∷ 0 ∷ 0 ∷ 0 ∷ 0 ∷ 0 ∷ 0 ∷ 0 ∷ 0 ∷ 0 ∷ 0 ∷ 0 ∷ 0 ∷ 4 ∷ 0 ∷ 0 ∷ []
+abbrev rename : List ℕ
+rename =
+    63 ∷ 0 ∷ 0 ∷ 0 ∷ 126 ∷ 4 ∷ 0 ∷ 1 ∷ 0 ∷ 0 ∷ 0 ∷ 50 ∷ 0 ∷ 48 ∷ 0 ∷ 255 ∷ 255 ∷ 255 ∷ 255 ∷ 255
+    ∷ 255 ∷ 255 ∷ 255 ∷ 255 ∷ 255 ∷ 255 ∷ 255 ∷ 255 ∷ 255 ∷ 255 ∷ 255 ∷ 255 ∷ 255 ∷ 255 ∷ 255 ∷ 255
+    ∷ 255 ∷ 255 ∷ 255 ∷ 255 ∷ 255 ∷ 255 ∷ 255 ∷ 255 ∷ 255 ∷ 255 ∷ 255 ∷ 255 ∷ 255 ∷ 255 ∷ 255 ∷ 255
+    ∷ 255 ∷ 255 ∷ 1 ∷ 0 ∷ 107 ∷ 0 ∷ 0 ∷ 0 ∷ 0 ∷ 0 ∷ 0 ∷ []
+
+abbrev walk_to_vault : List ℕ
+walk_to_vault =
+    24 ∷ 0 ∷ 0 ∷ 0 ∷ 110 ∷ 5 ∷ 0 ∷ 0 ∷ 0 ∷ 0 ∷ 0 ∷ 2 ∷ 0 ∷ 0 ∷ 0 ∷ 1 ∷ 0 ∷ 5 ∷ 0 ∷ 118 ∷ 97 ∷ 117
+    ∷ 108 ∷ 116 ∷ []
+
+abbrev open_vault : List ℕ
+open_vault =
+    12 ∷ 0 ∷ 0 ∷ 0 ∷ 112 ∷ 6 ∷ 0 ∷ 2 ∷ 0 ∷ 0 ∷ 0 ∷ 0 ∷ []
+
+abbrev read_vault : List ℕ
+read_vault =
+    23 ∷ 0 ∷ 0 ∷ 0 ∷ 116 ∷ 7 ∷ 0 ∷ 2 ∷ 0 ∷ 0 ∷ 0 ∷ 0 ∷ 0 ∷ 0 ∷ 0 ∷ 0 ∷ 0 ∷ 0 ∷ 0 ∷ 0 ∷ 4 ∷ 0 ∷ 0
+    ∷ []
+
+abbrev remove : List ℕ
+remove =
+    11 ∷ 0 ∷ 0 ∷ 0 ∷ 122 ∷ 8 ∷ 0 ∷ 1 ∷ 0 ∷ 0 ∷ 0 ∷ []
+
+-- at the time 0
+abbrev message : List ℕ → Event
+message frame = Message 1 frame 0
 
 abbrev events : List Event
 events =
-    Open 1 ∷ Message 1 version 0 ∷ Message 1 attach 0 ∷ Message 1 walk 0 ∷ Message 1 opening 0
-    ∷ Message 1 reading 0 ∷ []
+    Open 1 ∷ message version ∷ message attach ∷ message walk ∷ message create ∷ message rename
+    ∷ message walk_to_vault ∷ message open_vault ∷ message read_vault ∷ message remove ∷ []
 
 abbrev prepared : Node → Prepared
 prepared key = record {
@@ -141,25 +169,33 @@ same-outer = refl
 differ : (world directory).forest ≢ (world file).forest
 differ same = true≢false (ap (is_dir_of (at 3)) same)
 
+-- what is printed
+prints : play_text (exported (prepared file).space) events [] ≡ reply_lines
+unfolding encode_with chars is_utf8 encode_utf8 need obtain unless text_at counted_at times several_at sized_at qid_at number header_at t_version_at t_attach_at t_walk_at t_create_at t_wstat_at stat_fields_at t_open_at t_read_at t_remove_at t_body_at t_message_of r_spelling edited applied entry_bytes
+prints = refl
+
 pub worlds-differ : TwoWorldsMeetThePremises
 worlds-differ = record {
   a = prepared file;
   b = prepared directory;
-  may = record {
-    first = first-prepared;
-    second = second-prepared;
+  premises = record {
+    prepared = record {
+      first = first-prepared;
+      second = second-prepared;
+      alike = record {
+        rows = refl;
+        events = refl;
+        hidden = refl;
+        setting = refl;
+        others = same-outer;
+        members = ((refl, tt), tt);
+      };
+    };
     certificate = rows;
     rows = refl;
     closed = no-gap;
-    alike = record {
-      rows = refl;
-      events = refl;
-      reports = refl;
-      hidden = refl;
-      setting = refl;
-      others = same-outer;
-      members = ((refl, tt), tt);
-    };
   };
+  reports = refl;
   differ = differ;
+  text = prints;
 }

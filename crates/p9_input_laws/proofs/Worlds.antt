@@ -1,8 +1,8 @@
 -- The world of a text is well-formed.
-use Rattle.std.proofs.Common.{◌≡◌, ℕ, zero, suc, ◌-◌, ◌<◌, ◌≤◌, ◌^◌, Bool, true, false, List, [], ◌∷◌}
+use Rattle.std.proofs.Common.{◌≡◌, ℕ, zero, suc, ◌<◌, ◌≤◌, Bool, true, false, List, [], ◌∷◌}
 use Rattle.std.proofs.Common.{◌++◌, length, Option, Some, None, Result, Ok, Err, IsTrue, is_some}
 use Rattle.std.proofs.Common.{slice_get, refl, sym, ap, ◌∙◌, subst, arith}
-use Rattle.std.specs.Prelude.{◌&&◌, codes, not, nat_le, nat_lt, position, if◌then◌else◌}
+use Rattle.std.specs.Prelude.{codes, not, nat_le, nat_lt, if◌then◌else◌}
 use Rattle.std.specs.List.{list_all}
 use Rattle.std.specs.Option.{option_map_or, option_and_then, option_map}
 use Rattle.std.specs.Str.{bytes_eq}
@@ -11,11 +11,11 @@ use Rattle.std.proofs.lemmas.List.Folds.{list_all-append}
 use Rattle.std.proofs.lemmas.List.Quantifiers.{position-Some}
 use Rattle.std.proofs.lemmas.Option.{same_Some}
 use Rattle.std.proofs.lemmas.Slice.Eq.{bytes_eq-Decides}
-use Rattle.p9_base.specs.Group.{Group, are_groups}
+use Rattle.p9_base.specs.Group.{are_groups}
 use Rattle.p9_base.specs.Mode.{is_dir as is_dir_mode}
 use Rattle.p9_base.specs.Name.{is_name}
 use Rattle.p9_base.specs.NodeRef.{servers_max}
-use Rattle.p9_base.specs.Results.{and_then, need, obtain, try_fold}
+use Rattle.p9_base.specs.Results.{obtain, try_fold}
 use Rattle.p9_base.specs.Statement.{statements_of}
 use Rattle.p9_base.specs.User.{is_user}
 use Rattle.p9_base.specs.declared.mode.FileFlags.{FileFlags}
@@ -26,7 +26,7 @@ use Rattle.p9_base.specs.declared.node_ref.NodeRef.{NodeRef}
 use Rattle.p9_base.proofs.GroupNames.{groups-listed}
 use Rattle.p9_clean.specs.Path.{Component, cleaned_elements, is_rooted}
 use Rattle.p9_tree.specs.Bytes.{file_max}
-use Rattle.p9_tree.specs.Forest.{IsForest, next_of, server_at, tree_changed_at}
+use Rattle.p9_tree.specs.Forest.{IsForest, server_at, tree_changed_at}
 use Rattle.p9_tree.specs.Node.{IsTellable, Node, is_dir, with_owner}
 use Rattle.p9_tree.specs.Server.{CanAdd, Server, WellFormed, added, child_of, is_dir_at, next_max}
 use Rattle.p9_tree.specs.Server.{node_at, rooted, with_changed}
@@ -38,12 +38,12 @@ use Rattle.p9_world.specs.declared.error.LineFault.{LineFault}
 use Rattle.p9_world.specs.Entry.{NodeLine, are_users, bytes_in, dir_line, file_line, in_last_server}
 use Rattle.p9_world.specs.Entry.{last_number, node_of_line, with_dir, with_entry}
 use Rattle.p9_world.specs.Group.{are_distinct, group_line}
-use Rattle.p9_world.specs.Hide.{hide_line, is_hidden_by, with_hidden}
+use Rattle.p9_world.specs.Hide.{hide_line, is_hidden_by}
 use Rattle.p9_world.specs.Mode.{dir_mode, file_mode_in, permissions_in}
 use Rattle.p9_world.specs.Path.{dir_number, dir_of, last_and_rest, names_among, names_of}
 use Rattle.p9_world.specs.Path.{number_from}
-use Rattle.p9_world.specs.Read.{at_line, line_meaning, operated, operation_of, read_statement}
-use Rattle.p9_world.specs.Read.{with_a_server, world_of}
+use Rattle.p9_world.specs.Read.{at_line, line_meaning, operation_of, read_statement}
+use Rattle.p9_world.specs.Read.{world_of}
 use Rattle.p9_world.specs.Server.{is_server_name, server_line, server_number, with_server}
 use Rattle.p9_world.specs.User.{user_line}
 use Rattle.p9_world.specs.Variable.{set_line}
@@ -505,8 +505,7 @@ unfolding world_of
 world-read text w is =
     let a = and_then-ok (try_fold read_statement empty_world (statements_of text)) _ w is in
     let b = need-ok (nat_lt 0 (length a.0.servers)) _ _ w a.2 in
-    subst (λ v. IsRead v × (0 < length v.servers)) (same-ok a.0 w b.1)
-    (
+    subst (λ v. IsRead v × (0 < length v.servers)) (same-ok a.0 w b.1) (
       statements-read (statements_of text) empty_world a.0 empty-read a.1,
       ltb-true 0 (length a.0.servers) b.0,
     )
