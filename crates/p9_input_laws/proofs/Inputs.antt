@@ -1,6 +1,6 @@
 -- Inputs that are prepared are well-formed, and `play` prints the same over alike ones.
-use Rattle.std.proofs.Common.{◌≡◌, ℕ, Bool, true, List, [], Option, Some, None, Result, Ok, Err, refl}
-use Rattle.std.proofs.Common.{◌<◌, ◌++◌, length, arith, sym, ap, subst, ◌∙◌}
+use Rattle.std.proofs.Common.{◌≡◌, ℕ, ◌<◌, Bool, true, List, [], ◌++◌, Option, Some, None, Result}
+use Rattle.std.proofs.Common.{Ok, Err, length, refl, sym, ap, subst, ◌∙◌, arith}
 use Rattle.std.specs.Prelude.{◌↔◌, unwrap_or}
 use Rattle.std.specs.Option.{option_map_or}
 use Rattle.std.specs.List.{AllByRecursion}
@@ -33,8 +33,8 @@ use Rattle.p9_commands.specs.Small.{small_world}
 use Rattle.p9_commands.specs.declared.command.Command.TheVariants.{Play}
 use Rattle.p9_commands.specs.declared.prepared.Needs.{Needs}
 use Rattle.p9_commands.specs.declared.refusal.Refusal.{Refusal}
-use Rattle.p9_commands.specs.declared.refusal.Refusal.TheVariants.{BadEvent, BadOperation, BadSection}
-use Rattle.p9_commands.specs.declared.refusal.Refusal.TheVariants.{BadWorld}
+use Rattle.p9_commands.specs.declared.refusal.Refusal.TheVariants.{BadEvent, BadOperation}
+use Rattle.p9_commands.specs.declared.refusal.Refusal.TheVariants.{BadSection, BadWorld}
 use Rattle.p9_input_laws.specs.Laws.{AlikeInputsAreExportedAlike, IsWellFormedInput}
 use Rattle.p9_input_laws.specs.Laws.{MeetThePremises, PlayAlike, PreparedInputsAreWellFormed}
 use Rattle.p9_input_laws.specs.Laws.{play_word}
@@ -125,7 +125,8 @@ prepared-well needs input prepared is =
     (same-ok (record { space = space; rows = (b.0).0; events = (b.0).1 }) prepared b.2) (record {
       space = fine.well;
       given = fine.given;
-      events = rest-fine needs texts b.0 (with_reports-ok space.reports (rest_in needs texts) b.0 b.1);
+      events =
+          rest-fine needs texts b.0 (with_reports-ok space.reports (rest_in needs texts) b.0 b.1);
     })
 
 -- What is played.

@@ -1,5 +1,6 @@
 -- The mount table that a namespace file makes is well-formed, and names only nodes that were made.
-use Rattle.std.proofs.Common.{◌≡◌, ℕ, zero, suc, ◌<◌, ◌≤◌, Bool, true, false, List, [], ◌∷◌, Option, Some}
+use Rattle.std.proofs.Common.{◌≡◌, ℕ, zero, suc, ◌<◌, ◌≤◌, Bool, true, false, List, [], ◌∷◌, Option}
+use Rattle.std.proofs.Common.{Some}
 use Rattle.std.proofs.Common.{None, Result, Ok, Err, cond, length, position, remove, is_some}
 use Rattle.std.proofs.Common.{fold, unwrap_or, refl, subst, ◌∙◌, arith}
 use Rattle.std.specs.Prelude.{if◌then◌else◌}
@@ -45,7 +46,8 @@ use Rattle.p9_nsline.specs.declared.operation.Operation.{Operation}
 use Rattle.p9_nsline.specs.declared.operation.Operation.TheVariants.{Mount, Bind, Cd, Unmount}
 use Rattle.p9_nsline.specs.declared.operation.Operation.TheVariants.{Clear, Include, Import}
 use Rattle.p9_nsline.proofs.GivenFinds.{holds-then}
-use Rattle.p9_nsfile.specs.Run.{acted, included, line_done, lines_done, nested_max, reported, run_of}
+use Rattle.p9_nsfile.specs.Run.{acted, included, line_done, lines_done, nested_max, reported}
+use Rattle.p9_nsfile.specs.Run.{run_of}
 use Rattle.p9_nsfile.proofs.GivenRuns.{made-given}
 use Rattle.p9_input_laws.proofs.Results.{and_then-ok, same-ok}
 
@@ -311,9 +313,10 @@ module _ (environment : Environment) where
   included-sound zero line space path fine = tt
   included-sound (suc left) line space path fine =
       whatever (included_lines environment space path)
-      (λ lines. Ok (fold (line_done environment (included environment left) (Some line)) space lines))
-      (λ lines. lines-sound (included environment left) (included-sound left) (Some line) space lines
-      fine)
+      (λ lines. Ok (fold (line_done environment (included environment left) (Some line)) space
+      lines))
+      (λ lines. lines-sound (included environment left) (included-sound left) (Some line) space
+      lines fine)
 
   -- a run over an empty table makes a well-formed one
   pub run-sound : (text : List ℕ) (ran : List MountRow × List Report)

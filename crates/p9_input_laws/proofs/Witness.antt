@@ -1,11 +1,10 @@
--- The two inputs differ, and may be played as alike ones.
+-- The two inputs differ, and meet the premises of the law. All of it is computed.
 use Rattle.std.proofs.Common.{◌≡◌, ◌≢◌, ℕ, false, List, [], ◌∷◌, Some, None}
 use Rattle.std.proofs.Common.{Ok, refl, ap, true≢false}
 use Rattle.std.specs.Prelude.{codes}
 use Rattle.std.specs.Char.{encode_utf8}
 use Rattle.std.specs.Str.{chars, is_utf8}
 use Rattle.hex.specs.Hex.{decode_pairs, encode_with}
-use Rattle.p9_commands.specs.Play.{play_text}
 use Rattle.p9_base.specs.declared.mode.Kind.TheVariants.{File}
 use Rattle.p9_base.specs.declared.mode.Mode.{Mode}
 use Rattle.p9_base.specs.declared.node_ref.NodeRef.{NodeRef}
@@ -13,28 +12,31 @@ use Rattle.p9_base.specs.Decimal.{number_of}
 use Rattle.p9_base.specs.Mode.{permissions_of}
 use Rattle.p9_base.specs.Results.{need, obtain, unless}
 use Rattle.p9_base.specs.Statement.{statements_of}
+use Rattle.p9_wire.specs.FieldReading.{counted_at, qid_at, several_at, sized_at, stat_fields_at}
+use Rattle.p9_wire.specs.FieldReading.{text_at, times}
+use Rattle.p9_wire.specs.Fields.{number}
+use Rattle.p9_wire.specs.Reading.{header_at, t_attach_at, t_body_at, t_message_of, t_open_at}
+use Rattle.p9_wire.specs.Reading.{t_create_at, t_read_at, t_remove_at, t_version_at, t_walk_at}
+use Rattle.p9_wire.specs.Reading.{t_wstat_at}
+use Rattle.p9_wire.specs.Reply.{r_spelling}
 use Rattle.p9_tree.specs.Forest.{is_dir_of}
 use Rattle.p9_tree.specs.Inside.{is_barred, is_hidden, is_inside, outer}
 use Rattle.p9_tree.specs.Node.{Node, with_owner}
 use Rattle.p9_tree.specs.Server.{root_node}
-use Rattle.p9_cert.specs.Listed.{is_alterable, is_open, is_owned, is_passable}
 use Rattle.p9_space.specs.Table.{MountRow}
 use Rattle.p9_world.specs.Entry.{NodeLine, node_of_line}
 use Rattle.p9_world.specs.Mode.{dir_mode}
 use Rattle.p9_world.specs.Read.{world_of}
 use Rattle.p9_world.specs.World.{World}
+use Rattle.p9_cert.specs.Listed.{is_alterable, is_open, is_owned, is_passable}
 use Rattle.p9_nsline.specs.Line.{lines_in}
 use Rattle.p9_step.specs.Event.{Event, Open, Message}
+use Rattle.p9_step.specs.ForestChange.{applied, edited}
+use Rattle.p9_step.specs.Read.{entry_bytes}
+use Rattle.p9_commands.specs.Play.{play_text}
 use Rattle.p9_commands.specs.NameSpace.{exported, gap_over}
 use Rattle.p9_commands.specs.Prepared.{Prepared, prepared_of}
 use Rattle.p9_commands.specs.declared.prepared.Needs.TheVariants.{Nothing}
-use Rattle.p9_wire.specs.FieldReading.{counted_at, qid_at, several_at, sized_at, stat_fields_at, text_at, times}
-use Rattle.p9_wire.specs.Fields.{number}
-use Rattle.p9_wire.specs.Reading.{header_at, t_attach_at, t_body_at, t_message_of, t_open_at}
-use Rattle.p9_wire.specs.Reading.{t_create_at, t_read_at, t_remove_at, t_version_at, t_walk_at, t_wstat_at}
-use Rattle.p9_wire.specs.Reply.{r_spelling}
-use Rattle.p9_step.specs.ForestChange.{applied, edited}
-use Rattle.p9_step.specs.Read.{entry_bytes}
 use Rattle.p9_input_laws.specs.Witness.{TwoWorldsMeetThePremises, reply_lines}
 use Rattle.p9_input_laws.specs.Witness.{with_a_directory, with_a_file}
 
@@ -148,11 +150,13 @@ prepared key = record {
 }
 
 first-prepared : prepared_of Nothing with_a_file ≡ Ok (prepared file)
-unfolding chars is_utf8 encode_utf8 decode_pairs number_of need obtain statements_of world_of lines_in
+unfolding chars is_utf8 encode_utf8 decode_pairs number_of need obtain statements_of world_of
+    lines_in
 first-prepared = refl
 
 second-prepared : prepared_of Nothing with_a_directory ≡ Ok (prepared directory)
-unfolding chars is_utf8 encode_utf8 decode_pairs number_of need obtain statements_of world_of lines_in
+unfolding chars is_utf8 encode_utf8 decode_pairs number_of need obtain statements_of world_of
+    lines_in
 second-prepared = refl
 
 -- the certificate has no gap
@@ -171,7 +175,10 @@ differ same = true≢false (ap (is_dir_of (at 3)) same)
 
 -- what is printed
 prints : play_text (exported (prepared file).space) events [] ≡ reply_lines
-unfolding encode_with chars is_utf8 encode_utf8 need obtain unless text_at counted_at times several_at sized_at qid_at number header_at t_version_at t_attach_at t_walk_at t_create_at t_wstat_at stat_fields_at t_open_at t_read_at t_remove_at t_body_at t_message_of r_spelling edited applied entry_bytes
+unfolding encode_with chars is_utf8 encode_utf8 need obtain unless text_at counted_at times
+    several_at sized_at qid_at number header_at t_version_at t_attach_at t_walk_at t_create_at t_wstat_at
+    stat_fields_at t_open_at t_read_at t_remove_at t_body_at t_message_of r_spelling edited applied
+    entry_bytes
 prints = refl
 
 pub worlds-differ : TwoWorldsMeetThePremises

@@ -79,7 +79,8 @@ joined (x ∷ xs) new each fine (suc k) s at = joined xs new (λ j. each (suc j)
 written : (i : ℕ) (forest : List Server) (new : Server) → AreWellFormed forest → WellFormed new
     → AreWellFormed (tree_changed_at i (λ old. new) forest)
 written i [] new each fine k s at = absurd (cc)
-written zero (x ∷ xs) new each fine zero s at = let same : new ≡ s = cc in subst WellFormed same fine
+written zero (x ∷ xs) new each fine zero s at =
+    let same : new ≡ s = cc in subst WellFormed same fine
 written zero (x ∷ xs) new each fine (suc k) s at = each (suc k) s at
 written (suc i) (x ∷ xs) new each fine zero s at = each zero s at
 written (suc i) (x ∷ xs) new each fine (suc k) s at =
@@ -336,7 +337,8 @@ group-read name leader members w new ok is =
       forest = ok.forest;
       users = ok.users;
       groups =
-          groups-listed name (record { leader = leader; members = members }) valid w.groups ok.groups;
+          groups-listed name (record { leader = leader; members = members }) valid w.groups
+          ok.groups;
     })
 
 hide-read : (server path : List ℕ) (w new : World) → IsRead w → hide_line server path w ≡ Ok new

@@ -16,8 +16,8 @@ use Rattle.p9_commands.specs.declared.prepared.Needs.{Needs}
 
 -- What preparing ensures.
 
--- the world and the mount table are well-formed, the table names only nodes that were made, and each
--- event of the script can happen
+-- The world and the mount table are well-formed. The table names only nodes that were made. Each
+-- event of the script can happen.
 pub record IsWellFormedInput (input : Prepared) : Type 0 where
   pub space : IsWellFormed input.space.world input.space.table
   pub given : IsTrue (is_table_given input.space.world.forest input.space.table)
@@ -32,8 +32,8 @@ PreparedInputsAreWellFormed =
 -- Two inputs.
 
 -- The same certificate, script, hidden directories, users, groups and mount table; the same nodes
--- that are inside no hidden directory, with all their fields, and the same next numbers. Each member
--- of the mount table is a node in both worlds, or in neither. A test can tell all of this.
+-- that are inside no hidden directory, with all their fields, and the same next numbers. Each
+-- member of the mount table is a node in both worlds, or in neither. A test can tell all of this.
 pub record AreAlikeInputs (a b : Prepared) : Type 0 where
   pub rows : b.rows ≡ a.rows
   pub events : b.events ≡ a.events
@@ -73,9 +73,9 @@ pub record PlayAlike (input other : List ℕ) (a b : Prepared) : Type 0 where
   -- the text is the same, if the same requests fail for memory
   pub text : (marks : List Bool)
       → play_text (exported b.space) b.events marks ≡ play_text (exported a.space) a.events marks
-  -- Where the same operations of the namespace files fail, each way in which the command may end over
-  -- the one is a way in which it may end over the other: with that status, and with those bytes on
-  -- the output and the errors.
+  -- Where the same operations of the namespace files fail, each way in which the command may end
+  -- over the one is a way in which it may end over the other: with that status, and with those
+  -- bytes on the output and the errors.
   pub ends : b.space.reports ≡ a.space.reports → (status : ℕ) (p : Printed)
       → WordEnds play_word input status p ↔ WordEnds play_word other status p
 

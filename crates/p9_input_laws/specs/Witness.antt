@@ -62,8 +62,8 @@ reply_lines =
     ++ codes "0b00000075070000000000\n"
     ++ codes "070000007b0800\n"
 
--- two inputs that meet the premises of the law, with the same reports, and whose forests differ; what
--- is printed over the first, where no request fails for memory
+-- Two inputs that meet the premises of the law, with the same reports, and whose forests differ.
+-- This is printed over the first, where no request fails for memory.
 pub record AreDifferent (input other printed : List ℕ) : Type 0 where
   pub a : Prepared
   pub b : Prepared
