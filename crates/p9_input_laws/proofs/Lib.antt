@@ -1,0 +1,7 @@
+mod Results
+mod Worlds
+mod Tables
+mod Events
+mod Small
+mod Inputs
+mod Witness

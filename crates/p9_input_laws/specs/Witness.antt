@@ -1,0 +1,77 @@
+-- Two inputs that differ only inside a hidden directory: /vault/key is a file in the one, and a
+-- directory in the other.
+use Rattle.std.specs.Prelude.{◌≡◌, ◌≢◌, ℕ, List, [], ◌++◌, codes}
+use Rattle.p9_commands.specs.NameSpace.{exported}
+use Rattle.p9_commands.specs.Play.{play_text}
+use Rattle.p9_commands.specs.Prepared.{Prepared}
+use Rattle.p9_input_laws.specs.Laws.{MeetThePremises}
+
+-- the first lines of both
+abbrev pub first_lines : List ℕ
+first_lines =
+    codes "%% world\nserver main\ndir / 777 sys sys\ndir /empty 755 sys sys\n"
+    ++ codes "dir /vault 777 sys sys\n"
+
+-- a file that all may write
+abbrev pub file_line : List ℕ
+file_line = codes "file /vault/key 666 sys sys 01\n"
+
+-- a directory of glenda's
+abbrev pub directory_line : List ℕ
+directory_line = codes "dir /vault/key 700 glenda glenda\n"
+
+-- the script of both: glenda attaches, creates a file, renames it, walks to /vault, reads it, and
+-- removes the file
+abbrev pub script_lines : List ℕ
+script_lines =
+    codes "%% script\nopen 1\n"
+    ++ codes "msg 1 0 1300000064ffff002000000600395032303030\n"
+    ++ codes "msg 1 0 1900000068010000000000ffffffff0600676c656e64610000\n"
+    ++ codes "msg 1 0 110000006e020000000000010000000000\n"
+    ++ codes "msg 1 0 130000007203000100000001006ea401000001\n"
+    ++ codes "msg 1 0 3f0000007e04000100000032003000ffffffffffffffffffffffffffffffffffffffffff"
+    ++ codes "ffffffffffffffffffffffffffffffffffff01006b000000000000\n"
+    ++ codes "msg 1 0 180000006e05000000000002000000010005007661756c74\n"
+    ++ codes "msg 1 0 0c0000007006000200000000\n"
+    ++ codes "msg 1 0 1700000074070002000000000000000000000000040000\n"
+    ++ codes "msg 1 0 0b0000007a080001000000\n"
+
+-- the last lines of both
+abbrev pub last_lines : List ℕ
+last_lines =
+    codes "user glenda\nhide main /vault\n%% ns\nbind /empty /vault\n"
+    ++ codes "%% cert\ncert 1\ndir 0 0\ndir 0 1\n"
+    ++ script_lines
+
+abbrev pub with_a_file : List ℕ
+with_a_file = first_lines ++ file_line ++ last_lines
+
+abbrev pub with_a_directory : List ℕ
+with_a_directory = first_lines ++ directory_line ++ last_lines
+
+-- what is printed
+abbrev pub reply_lines : List ℕ
+reply_lines =
+    codes "1300000065ffff002000000600395032303030\n"
+    ++ codes "1400000069010080000000000000000000000000\n"
+    ++ codes "090000006f02000000\n"
+    ++ codes "1800000073030000000000000400000000000000e81f0000\n"
+    ++ codes "070000007f0400\n"
+    ++ codes "160000006f0500010080000000000100000000000000\n"
+    ++ codes "1800000071060080000000000100000000000000e81f0000\n"
+    ++ codes "0b00000075070000000000\n"
+    ++ codes "070000007b0800\n"
+
+-- Two inputs that meet the premises of the law, with the same reports, and whose forests differ.
+-- This is printed over the first, where no request fails for memory.
+pub record AreDifferent (input other printed : List ℕ) : Type 0 where
+  pub a : Prepared
+  pub b : Prepared
+  pub premises : MeetThePremises input other a b
+  pub reports : b.space.reports ≡ a.space.reports
+  pub differ : b.space.world.forest ≢ a.space.world.forest
+  pub text : play_text (exported a.space) a.events [] ≡ printed
+
+-- these are such inputs, and these lines are printed
+abbrev pub TwoWorldsMeetThePremises : Type 0
+TwoWorldsMeetThePremises = AreDifferent with_a_file with_a_directory reply_lines

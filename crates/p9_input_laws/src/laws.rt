@@ -1,0 +1,38 @@
+//! The laws of inputs.
+
+ghost use Rattle.p9_input_laws.specs.Laws.{AlikeInputsAreExportedAlike, AlikeInputsPlayAlike};
+ghost use Rattle.p9_input_laws.specs.Laws.{PreparedInputsAreWellFormed};
+ghost use Rattle.p9_input_laws.specs.Witness.{TwoWorldsMeetThePremises};
+
+use p9_commands::laws::alike_worlds_play_alike;
+
+/// The world and the mount table of an input that is prepared are well-formed. The table names only
+/// nodes that were made. Each event of the script can happen. Nothing is asked of the input's bytes.
+pub fn prepared_inputs_are_well_formed()
+    ensures { PreparedInputsAreWellFormed }
+{}
+
+/// Suppose that two inputs are prepared. They have the same certificate, script, users, groups, mount
+/// table and hidden directories. Their worlds differ only inside these, and each member of the mount
+/// table is a node in both or in neither. Then the states in which they are exported are alike, as
+/// the theorem has it.
+pub fn alike_inputs_are_exported_alike()
+    ensures { AlikeInputsAreExportedAlike }
+{}
+
+/// Suppose that the certificate of two such inputs has no gap over the first. Then `play` prints the
+/// same text for both, if the same requests fail for memory. If the same operations of the namespace
+/// files fail, the command may also end over both in the same ways: with the same status, and the
+/// same bytes on its output and its errors.
+pub fn alike_inputs_play_alike()
+    ensures { AlikeInputsPlayAlike }
+{
+    alike_worlds_play_alike();
+}
+
+/// Two inputs meet the premises of [`alike_inputs_play_alike`], and their worlds are not the same:
+/// `/vault/key` is a file that all may write in the one, and a directory of glenda's in the other.
+/// The law also says what `play` prints for them.
+pub fn two_worlds_meet_the_premises()
+    ensures { TwoWorldsMeetThePremises }
+{}
