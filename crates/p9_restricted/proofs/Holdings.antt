@@ -1,5 +1,4 @@
 -- Bytes that are held, and what is left to give.
-use Rattle.std.proofs.lemmas.List.{append-nil}
 use Rattle.std.proofs.Common.{◌≡◌, ℕ, zero, suc, ◌+◌, ◌-◌, ◌≤◌, ◌<◌, List, [], ◌++◌, Option, None, Some}
 use Rattle.std.proofs.Common.{Result, Ok, Err, IfOk}
 use Rattle.std.proofs.Common.{length, take, drop, min, refl, ap, sym, ◌∙◌, arith, subst}
@@ -11,7 +10,6 @@ use Rattle.std.specs.Option.{option_map}
 use Rattle.std.specs.Io.{ReadsAtMost}
 use Rattle.std.specs.Io.KnownBytes.{Consumes, IsAtEnd, Keeps, ReadConsumes}
 use borrow.Rule.Slice.PartMut.{post_of, put_mid}
-use Rattle.p9_conn.specs.Device.{CameBehind}
 use Rattle.p9_restricted.specs.declared.passing.Place.{Place}
 use Rattle.p9_restricted.specs.declared.passing.Place.TheVariants.{Before, Lost}
 use Rattle.p9_restricted.specs.Masked.{Gate, Passes, masked, masked_from, masked_within, onward}

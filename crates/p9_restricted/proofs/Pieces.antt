@@ -1,5 +1,5 @@
 -- What a restricted stream gives, from the first piece on.
-use Rattle.std.proofs.Common.{◌≡◌, ℕ, List, [], ◌∷◌, ◌++◌, Option, ap, append-nil, refl, subst, sym, ◌∙◌}
+use Rattle.std.proofs.Common.{◌≡◌, ℕ, List, [], ◌∷◌, Option, ap, append-nil, refl, subst, sym, ◌∙◌}
 use Rattle.std.proofs.Common.{None, Some}
 use Rattle.std.specs.List.{concat}
 use Rattle.std.specs.Option.{option_map}

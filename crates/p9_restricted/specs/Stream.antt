@@ -59,7 +59,7 @@ ReadGave remaining old new result bytes =
     MatchResult result (λ count. Gave remaining old new (take count bytes))
     (λ error. Gave remaining old new [])
 
--- pieces were given, one after another
+-- pieces were given, one after another; an error, and a write, give no byte
 abbrev pub GaveEach : {S : Type 0} → (S → Option (List ℕ)) → List (List ℕ) → Over S → Over S
     → Type 0
 GaveEach remaining [] old new = new ≡ old
