@@ -1,5 +1,4 @@
 -- Bytes that are held, and what is left to give.
-use Rattle.std.proofs.lemmas.List.{append-nil}
 use Rattle.std.proofs.Common.{◌≡◌, ℕ, zero, suc, ◌+◌, ◌-◌, ◌≤◌, ◌<◌, List, [], ◌++◌, Option, None, Some}
 use Rattle.std.proofs.Common.{Result, Ok, Err, IfOk}
 use Rattle.std.proofs.Common.{length, take, drop, min, refl, ap, sym, ◌∙◌, arith, subst}
@@ -11,7 +10,6 @@ use Rattle.std.specs.Option.{option_map}
 use Rattle.std.specs.Io.{ReadsAtMost}
 use Rattle.std.specs.Io.KnownBytes.{Consumes, IsAtEnd, Keeps, ReadConsumes}
 use borrow.Rule.Slice.PartMut.{post_of, put_mid}
-use Rattle.p9_conn.specs.Device.{CameBehind}
 use Rattle.p9_restricted.specs.declared.passing.Place.{Place}
 use Rattle.p9_restricted.specs.declared.passing.Place.TheVariants.{Before, Lost}
 use Rattle.p9_restricted.specs.Masked.{Gate, Passes, masked, masked_from, masked_within, onward}
@@ -154,46 +152,7 @@ none_consumed (Some xs) (Some ys) kept = sym kept
 
 -- What is given.
 
--- more bytes came
-pub read_more : (gate : Gate) (old new : Holding) (came behind : List ℕ)
-    → new.undecided ≡ old.undecided ++ came → new.ready ≡ old.ready
-    → to_give gate old (came ++ behind) ≡ to_give gate new behind
-read_more gate old new came behind is same =
-    ap (λ (zs : List ℕ). zs ++ onward gate (old.undecided ++ (came ++ behind))) (sym same)
-    ∙ ap (λ (zs : List ℕ). new.ready ++ onward gate zs)
-    (sym (append_assoc old.undecided came behind) ∙ ap (λ (zs : List ℕ). zs ++ behind) (sym is))
-
--- bytes of which too few had come are passed on
-pub pass_more : (g h : Gate) (old new : Holding) (behind : List ℕ) → old.ready ≡ []
-    → Passes g old.undecided h (new.ready ++ new.undecided) (length new.ready)
-    → to_give g old behind ≡ to_give h new behind
-pass_more g h old new behind none passes =
-    let ready : take (length new.ready) (new.ready ++ new.undecided) ≡ new.ready =
-    take_at new.ready new.undecided (length new.ready) refl in
-    let rest : drop (length new.ready) old.undecided ≡ new.undecided =
-    sym passes.others ∙ drop_at new.ready new.undecided (length new.ready) refl in
-    ap (λ (zs : List ℕ). zs ++ onward g (old.undecided ++ behind)) none
-    ∙ passes.front behind
-    ∙ ap (λ (zs : List ℕ). zs ++ onward h (drop (length new.ready) old.undecided ++ behind)) ready
-    ∙ ap (λ (zs : List ℕ). new.ready ++ onward h (zs ++ behind)) rest
-
 module _ {S : Type 0} (remaining : S → Option (List ℕ)) where
-  -- both
-  pub decides : (old new : Over S) (mid : Holding) (count : ℕ)
-      → CameBehind (remaining old.stream) (remaining new.stream) count old.held.undecided
-      mid.undecided
-      → old.held.ready ≡ [] → mid.ready ≡ []
-      → Passes old.gate mid.undecided new.gate (new.held.ready ++ new.held.undecided)
-      (length new.held.ready)
-      → Gave remaining old new []
-  decides old new mid count came none none' passes = record {
-    came = came.read;
-    consumed = came.consumed;
-    front = λ behind.
-        read_more old.gate old.held mid came.read behind came.behind (none' ∙ sym none)
-        ∙ pass_more old.gate new.gate mid new.held behind none' passes;
-  }
-
   -- no byte came
   pub nothing_came : (old new : Over S) → Keeps (remaining old.stream) (remaining new.stream)
       → new.gate ≡ old.gate → new.held ≡ old.held → Gave remaining old new []
@@ -208,19 +167,6 @@ module _ {S : Type 0} (remaining : S → Option (List ℕ)) where
   -- nothing happened
   pub gave_none : (all : Over S) → Gave remaining all all []
   gave_none all = nothing_came all all (Keeps-refl (remaining all.stream)) refl refl
-
-  -- the stream below failed
-  pub fails : (old new : Over S) → new.held.undecided ≡ old.held.undecided
-      → Keeps (remaining old.stream) (remaining new.stream) → old.held.ready ≡ []
-      → new.held.ready ≡ [] → new.gate ≡ old.gate → Gave remaining old new []
-  fails old new same kept none none' gate = record {
-    came = [];
-    consumed = none_consumed (remaining old.stream) (remaining new.stream) kept;
-    front = λ behind.
-        read_more old.gate old.held new.held [] behind
-        (same ∙ sym (append-nil old.held.undecided)) (none' ∙ sym none)
-        ∙ ap (λ (g : Gate). to_give g new.held behind) (sym gate);
-  }
 
   -- bytes are passed on where none were held, and others are behind them
   pub came_through : (old new : Over S) (read bytes rest : List ℕ) (count passed : ℕ)

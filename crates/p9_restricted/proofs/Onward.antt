@@ -45,16 +45,6 @@ rest_in_two bytes behind left count few held =
     ∙ sym (drop-drop (left - count) count (bytes ++ behind))
     ∙ ap (drop (left - count)) (drop-append-le count bytes behind held)
 
-pub passes_none : (gate : Gate) (bytes : List ℕ) → Passes gate bytes gate bytes 0
-passes_none gate bytes =
-    record {
-      within = omega arith;
-      others = refl;
-      length_is = refl;
-      users_are = refl;
-      front = λ behind. refl;
-    }
-
 -- bytes of a frame that has begun
 pub passes_left : (old new : Gate) (bytes : List ℕ) (left count : ℕ) → old.place ≡ Before left
     → new.users ≡ old.users → new.place ≡ Before (left - count) → count ≡ min left (length bytes)

@@ -13,7 +13,7 @@ use Rattle.p9_step.specs.State.{State}
 use Rattle.p9_user_laws.specs.Users.{OwnsOnly}
 use Rattle.p9_conn.specs.History.{Happening, Links, Runs, read_by}
 use Rattle.p9_restricted.specs.Masked.{masked}
-use Rattle.p9_restricted.specs.Stream.{GaveEach, Over, over}
+use Rattle.p9_restricted.specs.Stream.{GaveEach, Over, new_over}
 
 -- what is made of each frame, and of the bytes after them
 abbrev pub each_masked : List (List ℕ) → Frames → Frames
@@ -28,8 +28,8 @@ FramesAreMasked =
     (users : List (List ℕ)) (bytes : List ℕ)
     → frames (masked users bytes) ≡ each_masked users (frames bytes)
 
--- as many blanks in the place of the name of a user who is not among these; all else is no user's
--- name, or stays
+-- as many blanks in the place of the name of a user who is not among these, and any other name as it
+-- is
 abbrev pub masked_name : List (List ℕ) → List ℕ → List ℕ
 masked_name users name =
     if is_user name && not (is_listed_user users name) then replicate (length name) 32 else name
@@ -66,7 +66,7 @@ pub record AreFront {S : Type 0} (remaining : S → Option (List ℕ)) (users : 
 abbrev pub PiecesAreMasked : Type 0 → Type 0
 PiecesAreMasked S =
     (remaining : S → Option (List ℕ)) (users : List (List ℕ)) (stream : S)
-    (pieces : List (List ℕ)) (new : Over S) → GaveEach remaining pieces (over stream users) new
+    (pieces : List (List ℕ)) (new : Over S) → GaveEach remaining pieces (new_over stream users) new
     → AreFront remaining users stream new.stream (concat pieces)
 
 -- a user's name, and not of blanks alone

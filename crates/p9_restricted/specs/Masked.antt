@@ -1,4 +1,4 @@
--- Frames in which nobody attaches but these users.
+-- Bytes in whose frames nobody attaches but some users.
 use Rattle.std.specs.Prelude.{◌≡◌, ℕ, zero, suc, ◌≤◌, List, ◌++◌, length, take, drop}
 use Rattle.p9_restricted.specs.declared.front.Front.{Front}
 use Rattle.p9_restricted.specs.declared.front.Front.TheVariants.{Undecided, Broken, Frame}
@@ -18,7 +18,8 @@ masked_within users zero bytes = bytes
 masked_within users (suc n) bytes =
     masked_by (front_of users bytes) bytes (masked_within users n)
 
--- bytes from the beginning of a frame on, in which each name of a user who is not among these is masked
+-- bytes from the beginning of a frame on, where each Tattach for a user who is not among these has
+-- blanks for the name
 unfoldable pub masked : List (List ℕ) → List ℕ → List ℕ
 masked users bytes = masked_within users (length bytes) bytes
 

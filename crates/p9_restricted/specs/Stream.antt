@@ -28,8 +28,8 @@ pub record Over (S : Type 0) : Type 0 where
   pub held : Holding
 
 -- one of which nothing was read, for these users
-abbrev pub over : {S : Type 0} → S → List (List ℕ) → Over S
-over stream users = record {
+abbrev pub new_over : {S : Type 0} → S → List (List ℕ) → Over S
+new_over stream users = record {
   stream = stream;
   gate = record { users = users; place = Before 0 };
   held = nothing_held;
@@ -59,7 +59,7 @@ ReadGave remaining old new result bytes =
     MatchResult result (λ count. Gave remaining old new (take count bytes))
     (λ error. Gave remaining old new [])
 
--- pieces were given, one after another
+-- pieces were given, one after another; an error, and a write, give no byte
 abbrev pub GaveEach : {S : Type 0} → (S → Option (List ℕ)) → List (List ℕ) → Over S → Over S
     → Type 0
 GaveEach remaining [] old new = new ≡ old

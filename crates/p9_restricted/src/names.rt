@@ -8,8 +8,8 @@ use p9_base::User;
 
 /// Whether none of these users has a name of blanks alone.
 ///
-/// A restricted stream puts blanks in the place of a name. So these have to be the users who are
-/// listed where its client's session is served, or else the blanks may name one of them.
+/// Ask it of the users who are listed where a restricted stream's client is served. The stream puts
+/// blanks in the place of a name, and these may name a user whose name is blanks alone.
 pub fn has_no_blank_name(users: &[User]) -> bool
     ensures { result ≡ has_no_blank_name users.now }
 {

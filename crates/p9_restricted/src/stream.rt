@@ -6,7 +6,7 @@ ghost use Rattle.std.specs.Io.KnownBytes.{IsAtEnd, Keeps, ReadConsumes, WriteApp
 ghost use Rattle.std.specs.Option.{option_map};
 ghost use Rattle.p9_restricted.specs.Front.{longest};
 ghost use Rattle.p9_restricted.specs.Masked.{masked};
-ghost use Rattle.p9_restricted.specs.Stream.{Gave, ReadGave, left_over, nothing_held, over};
+ghost use Rattle.p9_restricted.specs.Stream.{Gave, ReadGave, left_over, new_over, nothing_held};
 
 use crate::held::Held;
 use crate::passing::Passing;
@@ -20,10 +20,13 @@ use std::marker::Model;
 /// A stream over another, whose client may attach as some users only.
 ///
 /// In each Tattach for another user, the bytes of the user's name are replaced by blanks. So it is
-/// answered as one for a user who is not listed. All other bytes are passed on as they are, in both
-/// directions. Behind a size that no frame has, all bytes are passed on.
+/// answered as one for a user who is not listed, where [`has_no_blank_name`] holds of those who are.
+/// What may not name a user is passed on, as a name of more than 63 bytes, and so are all other
+/// bytes, in both directions. Behind a size that no frame has, all bytes are passed on.
 ///
 /// It takes no memory, and keeps at most 80 bytes.
+///
+/// [`has_no_blank_name`]: crate::has_no_blank_name
 #[derive(Drop)]
 pub struct Restricted<S, A: Allocator> {
     stream: S,
@@ -46,7 +49,7 @@ impl<S, A: Allocator> Model for Restricted<S, A> {
 impl<S: Stream, A: Allocator> Restricted<S, A> {
     /// A stream over this one, of which nothing was read, for a client who may attach as these users.
     pub fn new(stream: S, users: Vec<User, A>) -> Restricted<S, A>
-        ensures new { result ≡ over stream users.items }
+        ensures new { result ≡ new_over stream users.items }
         ensures left { left_over S.remaining result
             ≡ option_map (masked users.items) (S.remaining stream) }
     {

@@ -1,6 +1,6 @@
-use Rattle.std.proofs.Common.{◌≡◌, ◌<◌, ◌∙◌, ap, arith, drop, inl, inr, length, subst, take}
+use Rattle.std.proofs.Common.{◌≡◌, ◌<◌, ◌∙◌, ap, arith, drop, inl, inr, length, take}
 use Rattle.std.proofs.lemmas.List.{length-append, length-drop, length-take, length-take-le}
-use Rattle.p9_restricted.specs.Stream.{Gave, Over, nothing_held}
+use Rattle.p9_restricted.specs.Stream.{Over}
 use Rattle.p9_restricted.proofs.Holdings.{came_through, ends}
 use Rattle.p9_restricted.proofs.stream.Restricted.pass_on.Goals as goal
 

@@ -1,6 +1,6 @@
-use Rattle.std.proofs.Common.{◌≡◌, ◌<◌, ◌∙◌, ap, arith, length, refl, subst, sym, take}
+use Rattle.std.proofs.Common.{◌≡◌, ◌<◌, ◌∙◌, ap, arith, length, refl, sym}
 use Rattle.std.proofs.lemmas.Bool.{ltb-true}
-use Rattle.p9_restricted.specs.Stream.{Gave, Over}
+use Rattle.p9_restricted.specs.Stream.{Over}
 use Rattle.p9_restricted.proofs.Holdings.{gave-consumes, gave-then, given_of}
 use Rattle.p9_restricted.proofs.stream.RestrictedRead.read.Goals as goal
 

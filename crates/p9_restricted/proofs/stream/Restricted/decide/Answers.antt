@@ -1,1 +1,0 @@
-use Rattle.p9_restricted.proofs.stream.Restricted.decide.Goals as goal
