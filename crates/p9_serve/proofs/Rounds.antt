@@ -32,7 +32,9 @@ module _ {S : Type 0} where
       → HasRound untold untold reading between new round
       → HasRounds untold untold (readings ++ reading ∷ []) old new
   round_pushed [] reading old between new round past next =
-      (new, round, subst (λ (r : Running S). HasRound untold untold reading r new round) past next, refl)
+      let first : HasRound untold untold reading old new round =
+      subst (λ (r : Running S). HasRound untold untold reading r new round) past next in
+      (new, round, first, refl)
   round_pushed (first ∷ readings) reading old between new round past next =
       (past.0, past.1, past.2, round_pushed readings reading past.0 between new round past.3 next)
 

@@ -8,7 +8,7 @@ use Rattle.p9_commands.specs.Offer.{Offered, Serves}
 use Rattle.p9_serve.specs.Laws.{EveryServedGuardIsPromised, EveryServingIsPromised, HasServedLife}
 use Rattle.p9_serve.specs.Laws.{IsPromisedOffer}
 use Rattle.p9_serve.specs.Rounds.{untold}
-use Rattle.p9_serve.specs.Run.{Client, failure_status}
+use Rattle.p9_serve.specs.Run.{ClientSocket, failure_status}
 use Rattle.p9_serve.proofs.Lives.{every-life-is-promised}
 use Rattle.p9_serve.proofs.Rounds.{last_small}
 
@@ -29,13 +29,13 @@ not_failed kind e = let no : ◌≡◌ {A = ℕ} 0 4 = e in omega (arith, no)
 
 -- a guard that was served is the one that is offered
 offer_promised : (offered : Offered) (reports : List ℕ) (guard left : Guarded)
-    → Serves offered [] reports (Some guard) → HasServedLife Client guard left
+    → Serves offered [] reports (Some guard) → HasServedLife ClientSocket guard left
     → IsPromisedOffer offered
 offer_promised (Ok offer) reports guard left serves life = record {
   offer = offer;
   offer_is = refl;
   left = left;
-  life = subst (λ (g : Guarded). HasServedLife Client g left) serves.0 life;
+  life = subst (λ (g : Guarded). HasServedLife ClientSocket g left) serves.0 life;
 }
 offer_promised (Err rejected) reports guard left serves life = absurd serves
 

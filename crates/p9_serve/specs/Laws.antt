@@ -15,7 +15,7 @@ use Rattle.p9_serve.specs.Life.{Arrives, ArrivesAt, HasRounds, Moment, Pass, ans
 use Rattle.p9_serve.specs.Life.{stay}
 use Rattle.p9_serve.specs.Life.{written_at}
 use Rattle.p9_serve.specs.Rounds.{Running, new_server, untold}
-use Rattle.p9_serve.specs.Run.{Client, Ends, Known}
+use Rattle.p9_serve.specs.Run.{ClientSocket, Ends, Known}
 use Rattle.p9_serve.specs.Served.{WasServed}
 
 -- the state and all replies are those of the run of the openings, messages and closings, in their
@@ -97,7 +97,7 @@ pub record IsPromisedOffer (offered : Offered) : Type 0 where
   pub offer : Offer
   pub offer_is : offered ≡ Ok offer
   pub left : Guarded
-  pub life : HasServedLife Client offer.guard left
+  pub life : HasServedLife ClientSocket offer.guard left
 
 -- where serving an input ends with status 0, the input offers a guard, whose life was promised
 abbrev pub EveryServingIsPromised : Type 0

@@ -30,9 +30,9 @@ pub record Known : Type 0 where
   pub clock_before : Option (List ℕ)
   pub clock : Option (List ℕ)
 
--- a client of a server
-abbrev pub Client : Type 0
-Client = Socket Global
+-- the socket of a client
+abbrev pub ClientSocket : Type 0
+ClientSocket = Socket Global
 
 -- the guard of what the input offers was served at some address for so many rounds, and this guard
 -- is left: the address is printed, and what failed in the namespace file is reported
@@ -43,7 +43,7 @@ pub record IsServed (offered : Offered) (rounds : ℕ) (w : Known) (left : Guard
   pub address : SocketAddr
   pub errors : Appends w.err_before w.err reports
   pub output : Appends w.out_before w.out (listening address)
-  pub served : WasServed Client guard rounds w.clock_before w.clock left
+  pub served : WasServed ClientSocket guard rounds w.clock_before w.clock left
 
 -- there is a reason against that, and it is reported
 pub record IsRefused (offered : Offered) (w : Known) : Type 0 where
@@ -52,10 +52,10 @@ pub record IsRefused (offered : Offered) (w : Known) : Type 0 where
   pub errors : Appends w.err_before w.err reports
   pub output : w.out ≡ w.out_before
 
--- this guard is left where one was served
-abbrev pub Leaves : Offered → (rounds : ℕ) → Known → Option Guarded → Type 0
-Leaves offered rounds w (Some left) = IsServed offered rounds w left
-Leaves offered rounds w None = IsRefused offered w
+-- the guard that was served is given back as it is left, or none where there is nothing to serve
+abbrev pub GivesBack : Offered → (rounds : ℕ) → Known → Option Guarded → Type 0
+GivesBack offered rounds w (Some left) = IsServed offered rounds w left
+GivesBack offered rounds w None = IsRefused offered w
 
 -- the exit status of serving and of a refusal
 abbrev pub Served : Offered → (rounds : ℕ) → Known → (status : ℕ) → Type 0

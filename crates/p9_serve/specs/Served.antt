@@ -1,4 +1,4 @@
--- A guard that was served: from a new server over it, through its rounds, to the end of all sessions.
+-- A guard that was served: a new server over it, its rounds, and the end of all sessions.
 use Rattle.std.specs.Prelude.{◌≡◌, ℕ, ◌<◌, ◌^◌, List, [], ◌∷◌, Option, length}
 use Rattle.std.specs.List.{AllByRecursion}
 use Rattle.std.specs.Io.KnownBytes.{Appends}
@@ -14,8 +14,8 @@ last_after before [] = before
 last_after before (reading ∷ readings) = last_after reading readings
 
 module _ (S : Type 0) where
-  -- so many rounds happened, one after another, each at a reading that the clock gave meanwhile; the
-  -- last reading is this one, or 0 where there was no round
+  -- so many rounds happened, one after another, each at a reading that the clock gave meanwhile.
+  -- There was no other reading. The last one is this, or 0 where there was no round
   pub record HadRounds (rounds last : ℕ) (before after : Option (List ℕ)) (old new : Running S)
       : Type 0 where
     pub readings : List ℕ
@@ -33,9 +33,9 @@ module _ (S : Type 0) where
       pub last : ℕ
       pub had : HadRounds done last before after old new
 
-  -- a guard was served: a new server over it had so many rounds, and then all sessions were ended at
-  -- the last reading of the clock; this guard is left. Which clients came, and what they sent, is not
-  -- said: that is among the rounds
+  -- a guard was served: a new server over it had so many rounds, and then all sessions were ended
+  -- at the last reading of the clock. This guard is left. It is not said which clients came, and
+  -- what they sent
   pub record WasServed (guard : Guarded) (rounds : ℕ) (before after : Option (List ℕ))
       (left : Guarded) : Type 0 where
     pub guarded : IsGuardedState guard.hidden guard.start guard.state

@@ -22,14 +22,14 @@ pub fn every_life_is_promised<S>()
     ensures { EveryLifeIsPromised S }
 {}
 
-/// So of a guard that was served for some rounds, as `WasServed` says: its life is one of those, from
-/// a new server over it to the guard that is left.
+/// So of a guard that was served for some rounds, as `WasServed` says: its life is one of those,
+/// from a new server over it to the guard that is left.
 pub fn every_served_guard_is_promised<S>()
     ensures { EveryServedGuardIsPromised S }
 {}
 
-/// The theorem, of what the program serves: where [`run_serve`](crate::run_serve) returns 0, its input
-/// offers a guard, and the theorem holds of the life of that guard.
+/// The theorem, of what the program serves: where [`run_serve`](crate::run_serve) returns 0, its
+/// input offers a guard, and the theorem holds of the life of that guard.
 pub fn every_serving_is_promised()
     ensures { EveryServingIsPromised }
 {}

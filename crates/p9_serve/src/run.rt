@@ -3,7 +3,8 @@
 ghost use Rattle.std.specs.Prelude.{IfOk, None, OnErr, OnOk};
 ghost use Rattle.std.specs.Io.KnownBytes.{Appends};
 ghost use Rattle.p9_commands.specs.Offer.{offer_of};
-ghost use Rattle.p9_serve.specs.Run.{AppendsFront, BreaksOff, Client, Ends, Leaves, listening};
+ghost use Rattle.p9_serve.specs.Run.{AppendsFront, BreaksOff, ClientSocket, Ends, GivesBack};
+ghost use Rattle.p9_serve.specs.Run.{listening};
 ghost use Rattle.p9_serve.specs.Served.{HadFewer, HadRounds, WasServed};
 
 use crate::clock::{MachineTimer, Timer};
@@ -77,7 +78,7 @@ fn served<R: Net + AllocGlobal, T: Timer, W: Write, E: Write>(
     out: &mut W,
     err: &mut E,
 ) -> io::Result<Option<Guard<IndexTree<Global>>>>
-    ensures ok { IfOk result (Leaves (offer_of input.now) rounds (record {
+    ensures ok { IfOk result (GivesBack (offer_of input.now) rounds (record {
       out_before = W.contents out.old;
       out = W.contents out.new;
       err_before = E.contents err.old;
@@ -120,7 +121,7 @@ fn serve<R: Net + AllocGlobal, T: Timer, W: Write>(
         × Appends (W.contents out.old) (W.contents out.new) (listening bound)) }
     ensures front { (bound : _)
         × AppendsFront (W.contents out.old) (W.contents out.new) (listening bound) }
-    ensures served { IfOk result (WasServed Client guard rounds (T.readings timer.old)
+    ensures served { IfOk result (WasServed ClientSocket guard rounds (T.readings timer.old)
         (T.readings timer.new)) }
 {
     guard.well_formed();
@@ -159,9 +160,9 @@ fn run_rounds<T: Timer>(
     server: &mut Server<IndexTree<Global>>,
     rounds: u64,
 ) -> io::Result<u32>
-    ensures ok { IfOk result (λ last. HadRounds Client rounds last (T.readings timer.old)
+    ensures ok { IfOk result (λ last. HadRounds ClientSocket rounds last (T.readings timer.old)
         (T.readings timer.new) server.old server.new) }
-    ensures err { OnErr result (HadFewer Client rounds (T.readings timer.old)
+    ensures err { OnErr result (HadFewer ClientSocket rounds (T.readings timer.old)
         (T.readings timer.new) server.old server.new) }
 {
     let mut last = 0;
