@@ -2,3 +2,5 @@ mod Lives
 mod Sends
 mod Holds
 mod Accepting
+mod Rounds
+mod Whole

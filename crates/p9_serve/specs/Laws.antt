@@ -1,5 +1,5 @@
 -- The laws of a server's life.
-use Rattle.std.specs.Prelude.{◌≡◌, ℕ, ◌<◌, ◌^◌, List, [], ◌∷◌, ◌++◌, Option, Some}
+use Rattle.std.specs.Prelude.{◌≡◌, ℕ, ◌<◌, ◌^◌, List, [], ◌∷◌, ◌++◌, Option, Some, Ok}
 use Rattle.std.specs.List.{AllByRecursion, concat}
 use Rattle.p9_base.specs.declared.node_ref.NodeRef.{NodeRef}
 use Rattle.p9_step.specs.State.{State}
@@ -9,11 +9,14 @@ use Rattle.p9_guard_laws.specs.Guarded.{IsGuardedState}
 use Rattle.p9_conn.specs.Conn.{Connection}
 use Rattle.p9_conn.specs.History.{events_of, replies_of}
 use Rattle.p9_conn.specs.Laws.{IsRun}
+use Rattle.p9_commands.specs.Offer.{Offer, Offered}
 use Rattle.p9_clients.specs.Serving.{IsFinished, Serving, slot_at}
 use Rattle.p9_serve.specs.Life.{Arrives, ArrivesAt, HasRounds, Moment, Pass, answered_at, history}
 use Rattle.p9_serve.specs.Life.{stay}
 use Rattle.p9_serve.specs.Life.{written_at}
-use Rattle.p9_serve.specs.Rounds.{Running, new_server}
+use Rattle.p9_serve.specs.Rounds.{Running, new_server, untold}
+use Rattle.p9_serve.specs.Run.{ClientSocket, Ends, Known}
+use Rattle.p9_serve.specs.Served.{WasServed}
 
 -- the state and all replies are those of the run of the openings, messages and closings, in their
 -- order; nothing inside a hidden directory has changed, and no byte that any client was answered
@@ -59,6 +62,18 @@ module _ (S : Type 0) where
       → (end : Serving S) × (after ≡ end.guard)
       × HasLived remaining contents (record { guard = guard; slots = [] }) end
 
+  -- the life of a guard that was served, from a new server over it to the guard that is left
+  pub record HasServedLife (guard left : Guarded) : Type 0 where
+    pub end : Serving S
+    pub left_is : left ≡ end.guard
+    pub lived : HasLived untold untold (record { guard = guard; slots = [] }) end
+
+  -- a guard that was served has such a life
+  abbrev pub EveryServedGuardIsPromised : Type 0
+  EveryServedGuardIsPromised =
+      (guard left : Guarded) (rounds : ℕ) (before after : Option (List ℕ))
+      → WasServed S guard rounds before after left → HasServedLife guard left
+
   -- what a client that arrives at a key is sent is its own replies, until the key is given to
   -- another, also where another had it before
   abbrev pub ClientsAreSentTheirReplies : Type 0
@@ -76,3 +91,16 @@ module _ (S : Type 0) where
       → Pass remaining contents moments first new → stay key moments ≡ moments
       → slot_at new.slots key ≡ Some conn → contents arrives.stream ≡ Some held
       → HoldsReplies contents key held moments conn
+
+-- what an input offers has such a life
+pub record IsPromisedOffer (offered : Offered) : Type 0 where
+  pub offer : Offer
+  pub offer_is : offered ≡ Ok offer
+  pub left : Guarded
+  pub life : HasServedLife ClientSocket offer.guard left
+
+-- where serving an input ends with status 0, the input offers a guard, whose life was promised
+abbrev pub EveryServingIsPromised : Type 0
+EveryServingIsPromised =
+    (offered : Offered) (rounds : ℕ) (w : Known) → Ends offered rounds w 0
+    → IsPromisedOffer offered

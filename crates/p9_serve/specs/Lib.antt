@@ -1,5 +1,6 @@
 pub mod Pace
 pub mod Rounds
-pub mod Run
 pub mod Life
+pub mod Served
+pub mod Run
 pub mod Laws

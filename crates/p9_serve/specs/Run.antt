@@ -6,8 +6,11 @@ use Rattle.std.specs.Net.Text.{socket_text}
 use Rattle.std.specs.declared.io.ErrorKind.{ErrorKind}
 use Rattle.std.specs.declared.io.ErrorKind.TheVariants.{OutOfMemory}
 use Rattle.std.specs.declared.net.socket_addr.SocketAddr.{SocketAddr}
+use Rattle.std.specs.declared.alloc.Global.{Global}
 use Rattle.p9_guard.specs.Guard.{Guarded}
 use Rattle.p9_commands.specs.Offer.{Offered, Serves}
+use Rattle.p9_serve.specs.Served.{WasServed}
+use Rattle.p9_serve.specs.declared.socket.Socket.{Socket}
 
 -- what the clock reads so many nanoseconds after 1970 began: whole seconds, modulo 2^32
 abbrev pub reading : (nanoseconds : ℕ) → ℕ
@@ -17,34 +20,48 @@ reading nanoseconds = nanoseconds / 1_000_000_000 % 2 ^ 32
 abbrev pub listening : SocketAddr → List ℕ
 listening address = codes "listening " ++ socket_text address ++ codes "\n"
 
--- the bytes of the two writers before and after, where they are known
-pub record Written : Type 0 where
+-- the bytes of the two writers and the readings of the clock, before and after, where they are
+-- known
+pub record Known : Type 0 where
   pub out_before : Option (List ℕ)
   pub out : Option (List ℕ)
   pub err_before : Option (List ℕ)
   pub err : Option (List ℕ)
+  pub clock_before : Option (List ℕ)
+  pub clock : Option (List ℕ)
 
--- a guard of what the input offers was served at some address: the address is printed, and what
--- failed in the namespace file is reported
-pub record WasServed (offered : Offered) (w : Written) : Type 0 where
+-- the socket of a client
+abbrev pub ClientSocket : Type 0
+ClientSocket = Socket Global
+
+-- the guard of what the input offers was served at some address for so many rounds, and this guard
+-- is left: the address is printed, and what failed in the namespace file is reported
+pub record IsServed (offered : Offered) (rounds : ℕ) (w : Known) (left : Guarded) : Type 0 where
   pub guard : Guarded
   pub reports : List ℕ
   pub serves : Serves offered [] reports (Some guard)
   pub address : SocketAddr
   pub errors : Appends w.err_before w.err reports
   pub output : Appends w.out_before w.out (listening address)
+  pub served : WasServed ClientSocket guard rounds w.clock_before w.clock left
 
 -- there is a reason against that, and it is reported
-pub record IsRefused (offered : Offered) (w : Written) : Type 0 where
+pub record IsRefused (offered : Offered) (w : Known) : Type 0 where
   pub reports : List ℕ
   pub serves : Serves offered [] reports None
   pub errors : Appends w.err_before w.err reports
   pub output : w.out ≡ w.out_before
 
+-- the guard that was served is given back as it is left, or none where there is nothing to serve
+abbrev pub GivesBack : Offered → (rounds : ℕ) → Known → Option Guarded → Type 0
+GivesBack offered rounds w (Some left) = IsServed offered rounds w left
+GivesBack offered rounds w None = IsRefused offered w
+
 -- the exit status of serving and of a refusal
-abbrev pub Served : Offered → Written → ℕ → Type 0
-Served offered w status =
-    ((status ≡ 0) × WasServed offered w) ⊎ ((status ≡ 1) × IsRefused offered w)
+abbrev pub Served : Offered → (rounds : ℕ) → Known → (status : ℕ) → Type 0
+Served offered rounds w status =
+    ((status ≡ 0) × (left : Guarded) × IsServed offered rounds w left)
+    ⊎ ((status ≡ 1) × IsRefused offered w)
 
 -- a text was written, or a front of it
 abbrev pub AppendsFront : Option (List ℕ) → Option (List ℕ) → List ℕ → Type 0
@@ -56,7 +73,7 @@ AreReports offered reports =
     (reports ≡ []) ⊎ ((guard : Option Guarded) × Serves offered [] reports guard)
 
 -- serving broke off: there is a front of the reports, and a front of the line with an address
-pub record BreaksOff (offered : Offered) (w : Written) : Type 0 where
+pub record BreaksOff (offered : Offered) (w : Known) : Type 0 where
   pub reports : List ℕ
   pub are_reports : AreReports offered reports
   pub address : SocketAddr
@@ -74,7 +91,7 @@ failure_text OutOfMemory = codes "out of memory\n"
 failure_text kind = codes "input or output failed\n"
 
 -- serving broke off for a failure, and a front of its text is after what was reported
-pub record HasFailed (offered : Offered) (w : Written) (status : ℕ) : Type 0 where
+pub record HasFailed (offered : Offered) (w : Known) (status : ℕ) : Type 0 where
   pub kind : ErrorKind
   pub status_is : status ≡ failure_status kind
   pub between : Option (List ℕ)
@@ -82,5 +99,5 @@ pub record HasFailed (offered : Offered) (w : Written) (status : ℕ) : Type 0 w
   pub text : AppendsFront between w.err (failure_text kind)
 
 -- a serving of what an input offers, a refusal of it, or a failure
-abbrev pub Ends : Offered → Written → ℕ → Type 0
-Ends offered w status = HasFailed offered w status ⊎ Served offered w status
+abbrev pub Ends : Offered → (rounds : ℕ) → Known → (status : ℕ) → Type 0
+Ends offered rounds w status = HasFailed offered w status ⊎ Served offered rounds w status

@@ -2,6 +2,7 @@
 //! are the laws.
 
 ghost use Rattle.p9_serve.specs.Laws.{ClientsAreSentTheirReplies, EveryLifeIsPromised};
+ghost use Rattle.p9_serve.specs.Laws.{EveryServedGuardIsPromised, EveryServingIsPromised};
 ghost use Rattle.p9_serve.specs.Laws.{StreamsHoldTheReplies};
 
 pub use p9_conn::laws::{
@@ -19,6 +20,18 @@ pub use p9_conn::laws::{
 /// [`Server::finish`](crate::Server::finish) ends all sessions.
 pub fn every_life_is_promised<S>()
     ensures { EveryLifeIsPromised S }
+{}
+
+/// So of a guard that was served for some rounds, as `WasServed` says: its life is one of those,
+/// from a new server over it to the guard that is left.
+pub fn every_served_guard_is_promised<S>()
+    ensures { EveryServedGuardIsPromised S }
+{}
+
+/// The theorem, of what the program serves: where [`run_serve`](crate::run_serve) returns 0, its
+/// input offers a guard, and the theorem holds of the life of that guard.
+pub fn every_serving_is_promised()
+    ensures { EveryServingIsPromised }
 {}
 
 /// What a client's connection has written, with what is pending, is the replies to it, in their

@@ -1,11 +1,13 @@
 //! Serving an input at an address.
 
-ghost use Rattle.std.specs.Prelude.{IfOk, OnErr, OnOk};
+ghost use Rattle.std.specs.Prelude.{IfOk, None, OnErr, OnOk};
 ghost use Rattle.std.specs.Io.KnownBytes.{Appends};
 ghost use Rattle.p9_commands.specs.Offer.{offer_of};
-ghost use Rattle.p9_serve.specs.Run.{AppendsFront, BreaksOff, Ends, Served, listening};
+ghost use Rattle.p9_serve.specs.Run.{AppendsFront, BreaksOff, ClientSocket, Ends, GivesBack};
+ghost use Rattle.p9_serve.specs.Run.{listening};
+ghost use Rattle.p9_serve.specs.Served.{HadFewer, HadRounds, WasServed};
 
-use crate::clock::{rest, seconds};
+use crate::clock::{MachineTimer, Timer};
 use crate::failure::{report_failure, write_text};
 use crate::server::Server;
 use mio::net::TcpListener;
@@ -35,6 +37,11 @@ const LARGEST_BLOCK: usize = 1 << 24;
 /// sessions are closed, at its time, and the status is 0. Where an allocation fails the status is 3,
 /// and where a listener can't be made, or input or output fails otherwise, it is 4; that is reported
 /// on `err`, after what was reported of the input. No more than the line was written to `out` then.
+///
+/// A status of 0 says that the guard of [`served_guard`] had its whole life: a new server over it,
+/// the rounds, one after another, and the end of all sessions. So the theorem holds of that life, as
+/// [`every_serving_is_promised`](crate::laws::every_serving_is_promised) says. Which clients came,
+/// and what they sent, is not said, since no contract knows what comes over a socket.
 pub fn run_serve<R: Net + Clock + AllocGlobal, W: Write, E: Write>(
     rt: &R,
     address: SocketAddr,
@@ -43,39 +50,49 @@ pub fn run_serve<R: Net + Clock + AllocGlobal, W: Write, E: Write>(
     out: &mut W,
     err: &mut E,
 ) -> u8
-    ensures { Ends (offer_of input.now) (record {
+    ensures { Ends (offer_of input.now) rounds (record {
       out_before = W.contents out.old;
       out = W.contents out.new;
       err_before = E.contents err.old;
       err = E.contents err.new;
+      clock_before = None;
+      clock = None;
     }) result }
 {
-    match served(rt, address, rounds, input, out, err) {
-        Ok(status) => status,
+    let mut timer = MachineTimer { rt };
+    match served(rt, &mut timer, address, rounds, input, out, err) {
+        Ok(Some(_)) => DONE,
+        Ok(None) => REFUSED,
         Err(error) => report_failure(&error, err),
     }
 }
 
 // Serves an input at an address for a number of rounds, up to a failure, which is not reported here.
-fn served<R: Net + Clock + AllocGlobal, W: Write, E: Write>(
+// Returns the guard as it is left, or nothing where there is nothing to serve.
+fn served<R: Net + AllocGlobal, T: Timer, W: Write, E: Write>(
     rt: &R,
+    timer: &mut T,
     address: SocketAddr,
     rounds: u64,
     input: &[u8],
     out: &mut W,
     err: &mut E,
-) -> io::Result<u8>
-    ensures ok { IfOk result (Served (offer_of input.now) (record {
+) -> io::Result<Option<Guard<IndexTree<Global>>>>
+    ensures ok { IfOk result (GivesBack (offer_of input.now) rounds (record {
       out_before = W.contents out.old;
       out = W.contents out.new;
       err_before = E.contents err.old;
       err = E.contents err.new;
+      clock_before = T.readings timer.old;
+      clock = T.readings timer.new;
     })) }
     ensures err { OnErr result (BreaksOff (offer_of input.now) (record {
       out_before = W.contents out.old;
       out = W.contents out.new;
       err_before = E.contents err.old;
       err = E.contents err.new;
+      clock_before = T.readings timer.old;
+      clock = T.readings timer.new;
     })) }
 {
     let mut reported = Vec::new(rt.alloc());
@@ -85,32 +102,35 @@ fn served<R: Net + Clock + AllocGlobal, W: Write, E: Write>(
     };
     write_text(err, reported.as_slice())?;
     match guard {
-        Some(guard) => {
-            serve(rt, address, rounds, guard, out)?;
-            Ok(DONE)
-        }
-        None => Ok(REFUSED),
+        Some(guard) => Ok(Some(serve(rt, timer, address, rounds, guard, out)?)),
+        None => Ok(None),
     }
 }
 
-// Serves a guard: makes the listener, prints its address, and runs the rounds.
-fn serve<R: Net + Clock + AllocGlobal, W: Write>(
+// Serves a guard: makes the listener, prints its address, runs the rounds, and closes all sessions
+// at the last reading of the clock. Returns the guard as it is left.
+fn serve<R: Net + AllocGlobal, T: Timer, W: Write>(
     rt: &R,
+    timer: &mut T,
     address: SocketAddr,
     rounds: u64,
     guard: Guard<IndexTree<Global>>,
     out: &mut W,
-) -> io::Result<()>
+) -> io::Result<Guard<IndexTree<Global>>>
     ensures ok { OnOk result ((bound : _)
         × Appends (W.contents out.old) (W.contents out.new) (listening bound)) }
     ensures front { (bound : _)
         × AppendsFront (W.contents out.old) (W.contents out.new) (listening bound) }
+    ensures served { IfOk result (WasServed ClientSocket guard rounds (T.readings timer.old)
+        (T.readings timer.new)) }
 {
+    guard.well_formed();
     let listener = TcpListener::bind(rt, address)?;
-    let server = Server::new(rt.alloc(), listener, guard);
+    let mut server = Server::new(rt.alloc(), listener, guard);
     print_address(rt, server.local_addr()?, out)?;
     free_block(rt.alloc());
-    run_rounds(rt, server, rounds)
+    let last = run_rounds(timer, &mut server, rounds)?;
+    Ok(server.finish(last))
 }
 
 // Allocates the largest block, and frees it. That there may be no memory for it changes nothing.
@@ -133,19 +153,23 @@ fn print_address<R: AllocGlobal, W: Write>(
     out.flush()
 }
 
-// Runs the rounds, each at the time of the clock, with the rests between them, and closes all
-// sessions at the time of the last one.
-fn run_rounds<R: Clock>(
-    rt: &R,
-    mut server: Server<IndexTree<Global>>,
+// Runs the rounds, each at a reading of the clock, with the rests between them. Returns the last
+// reading, or 0 where there is no round. A clock that fails ends the rounds.
+fn run_rounds<T: Timer>(
+    timer: &mut T,
+    server: &mut Server<IndexTree<Global>>,
     rounds: u64,
-) -> io::Result<()> {
-    let mut clock = 0;
+) -> io::Result<u32>
+    ensures ok { IfOk result (λ last. HadRounds ClientSocket rounds last (T.readings timer.old)
+        (T.readings timer.new) server.old server.new) }
+    ensures err { OnErr result (HadFewer ClientSocket rounds (T.readings timer.old)
+        (T.readings timer.new) server.old server.new) }
+{
+    let mut last = 0;
     for _ in 0..rounds {
-        rest(rt, server.rest());
-        clock = seconds(rt)?;
-        let _round = server.round(clock);
+        timer.rest(server.rest());
+        last = timer.read()?;
+        let _round = server.round(last);
     }
-    let _guard = server.finish(clock);
-    Ok(())
+    Ok(last)
 }
