@@ -7,6 +7,7 @@ use Rattle.std.specs.declared.io.ErrorKind.{ErrorKind}
 use Rattle.std.specs.declared.io.ErrorKind.TheVariants.{OutOfMemory}
 use Rattle.std.specs.declared.net.socket_addr.SocketAddr.{SocketAddr}
 use Rattle.std.specs.declared.alloc.Global.{Global}
+use Rattle.mio.specs.declared.net.stream.TcpStream.{TcpStream}
 use Rattle.p9_guard.specs.Guard.{Guarded}
 use Rattle.p9_commands.specs.Offer.{Offered, Serves}
 use Rattle.p9_serve.specs.Served.{WasServed}
@@ -32,7 +33,7 @@ pub record Known : Type 0 where
 
 -- the socket of a client
 abbrev pub ClientSocket : Type 0
-ClientSocket = Socket Global
+ClientSocket = Socket TcpStream Global
 
 -- the guard of what the input offers was served at some address for so many rounds, and this guard
 -- is left: the address is printed, and what failed in the namespace file is reported

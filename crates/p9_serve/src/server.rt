@@ -8,7 +8,7 @@ ghost use Rattle.p9_serve.specs.Rounds.{AcceptsIf, HasRound, accepts_now, new_se
 
 use crate::pace::Pace;
 use crate::socket::Socket;
-use mio::net::TcpListener;
+use mio::net::{TcpListener, TcpStream};
 use p9_clients::Clients;
 use p9_guard::Guard;
 use p9_tree::Tree;
@@ -34,15 +34,16 @@ pub struct Round {
 #[derive(Drop)]
 pub struct Server<T: Tree> {
     listener: TcpListener,
-    clients: Clients<Socket<T::Alloc>, T>,
+    clients: Clients<Socket<TcpStream, T::Alloc>, T>,
     pace: Pace,
 }
 
 impl<T: Tree> Model for Server<T> {
     ghost use Rattle.p9_serve.specs.Rounds.{Running};
+    ghost use Rattle.mio.specs.declared.net.stream.TcpStream.{TcpStream};
     ghost use Rattle.p9_serve.specs.declared.socket.Socket.{Socket};
 
-    ghost Value = { Running (Socket T.Alloc) };
+    ghost Value = { Running (Socket TcpStream T.Alloc) };
 
     ghost view = { λ s. record { serving = s.clients; pace = s.pace } };
 }
@@ -144,8 +145,9 @@ impl<T: Tree> Server<T> {
 
     // The socket of a client that waits, if there is one, and neither the accept nor an allocation
     // fails.
-    fn waiting(&self) -> Option<Socket<T::Alloc>> {
+    fn waiting(&self) -> Option<Socket<TcpStream, T::Alloc>> {
         let (stream, _) = self.listener.accept().ok()?;
+        let _ = stream.set_nodelay(true);
         Socket::new(self.clients.allocator(), stream).ok()
     }
 }

@@ -2,7 +2,6 @@
 
 ghost use Rattle.std.specs.Io.{ReadsAtMost, WritesAtMost};
 
-use mio::net::TcpStream;
 use p9_conn::Stream;
 use std::alloc::Allocator;
 use std::io;
@@ -17,16 +16,15 @@ const TOGETHER_MAX: usize = 65_536;
 /// What is kept is sent before anything is read, and when the socket is dropped, as far as the
 /// system takes it then.
 #[derive(Drop)]
-pub struct Socket<A: Allocator> {
-    stream: BufWriter<TcpStream, A>,
+pub struct Socket<W: Write + Drop, A: Allocator> {
+    stream: BufWriter<W, A>,
 }
 
-impl<A: Allocator> Socket<A> {
-    /// The socket of a client that was accepted. It sets TCP_NODELAY, where the system grants it.
+impl<W: Write + Drop, A: Allocator> Socket<W, A> {
+    /// The socket of a client that was accepted, over its stream, which doesn't block.
     ///
     /// The buffer of what is kept is taken here. Where that allocation fails, the stream is dropped.
-    pub fn new(alloc: A, stream: TcpStream) -> io::Result<Socket<A>> {
-        let _ = stream.set_nodelay(true);
+    pub fn new(alloc: A, stream: W) -> io::Result<Socket<W, A>> {
         let stream = BufWriter::with_capacity(alloc, TOGETHER_MAX, stream)?;
         Ok(Socket { stream })
     }
@@ -37,7 +35,7 @@ impl<A: Allocator> Socket<A> {
     }
 }
 
-impl<A: Allocator> Read for Socket<A> {
+impl<W: Read + Write + Drop, A: Allocator> Read for Socket<W, A> {
     fn read(&mut self, bytes: &mut [u8]) -> io::Result<usize> {
         if !self.is_sent() {
             self.stream.flush()?;
@@ -46,7 +44,7 @@ impl<A: Allocator> Read for Socket<A> {
     }
 }
 
-impl<A: Allocator> Write for Socket<A> {
+impl<W: Write + Drop, A: Allocator> Write for Socket<W, A> {
     // What is kept is sent first, as far as the system takes it.
     fn write(&mut self, bytes: &[u8]) -> io::Result<usize> {
         if self.is_sent() {
@@ -64,7 +62,7 @@ impl<A: Allocator> Write for Socket<A> {
     }
 }
 
-impl<A: Allocator> Stream for Socket<A> {
+impl<W: Read + Write + Drop, A: Allocator> Stream for Socket<W, A> {
     fn receive(&mut self, bytes: &mut [u8]) -> io::Result<usize> {
         self.read(bytes)
     }
