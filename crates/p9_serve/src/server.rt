@@ -144,7 +144,7 @@ impl<T: Tree> Server<T> {
     }
 
     // The socket of a client that waits, if there is one, and neither the accept nor an allocation
-    // fails.
+    // fails. It sets TCP_NODELAY, where the system grants it.
     fn waiting(&self) -> Option<Socket<TcpStream, T::Alloc>> {
         let (stream, _) = self.listener.accept().ok()?;
         let _ = stream.set_nodelay(true);
