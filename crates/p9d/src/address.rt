@@ -1,0 +1,73 @@
+//! Where clients come, and as whom they may attach there.
+
+use p9_base::User;
+use std::alloc::Global;
+use std::net::SocketAddr;
+
+// What begins the address of a socket of the file system.
+const UNIX: &str = "unix:";
+
+/// Where clients come.
+#[derive(Clone, Copy)]
+pub(crate) enum Place<'a> {
+    /// An IP address with a port.
+    Ip(SocketAddr),
+    /// A socket of the file system, by its path.
+    Unix(&'a str),
+}
+
+/// An address: where clients come, and the only users as whom they may attach there, if not all may.
+#[derive(Drop)]
+pub(crate) struct Address<'a> {
+    pub place: Place<'a>,
+    pub users: Option<Vec<User>>,
+}
+
+/// Why a text is no address.
+#[derive(Clone, Copy)]
+pub(crate) enum BadAddress<'a> {
+    /// It is neither an IP address with a port nor the path of a socket.
+    Place(&'a str),
+    /// This is no user's name.
+    User(&'a str),
+    NoMemory,
+}
+
+/// The address that a text `ADDR[=USER,..]` writes. The last `=` ends ADDR.
+pub(crate) fn address_of(alloc: Global, text: &str) -> Result<Address<'_>, BadAddress<'_>> {
+    match text.rsplit_once('=') {
+        None => Ok(Address {
+            place: place_of(text)?,
+            users: None,
+        }),
+        Some((place, users)) => Ok(Address {
+            place: place_of(place)?,
+            users: Some(users_of(alloc, users)?),
+        }),
+    }
+}
+
+// The place that a text writes.
+fn place_of(text: &str) -> Result<Place<'_>, BadAddress<'_>> {
+    match text.strip_prefix(UNIX) {
+        Some("") => Err(BadAddress::Place(text)),
+        Some(path) => Ok(Place::Unix(path)),
+        None => match text.parse::<SocketAddr>() {
+            Ok(address) => Ok(Place::Ip(address)),
+            Err(_) => Err(BadAddress::Place(text)),
+        },
+    }
+}
+
+// The users that a text names, with a comma between them.
+fn users_of(alloc: Global, text: &str) -> Result<Vec<User>, BadAddress<'_>> {
+    let mut users = Vec::new(alloc);
+    for name in text.split(',') {
+        match User::new(name) {
+            Some(user) if users.push(user).is_ok() => {}
+            Some(_) => return Err(BadAddress::NoMemory),
+            None => return Err(BadAddress::User(name)),
+        }
+    }
+    Ok(users)
+}

@@ -1,0 +1,118 @@
+//! The requests that a client sends, as far as they are told of.
+
+ghost use Rattle.std.specs.Prelude.{◌≤◌, length};
+
+use byteorder::{ByteOrder, LittleEndian};
+use p9_wire::{HEADER, MSIZE_MAX, TMsg, read_t};
+use std::alloc::{AllocError, Global};
+
+// The most bytes of a frame that are kept.
+const FRONT_MAX: usize = 1_024;
+
+// How many bytes say how long a frame is.
+const SIZE: usize = 4;
+
+/// A request that is told of.
+#[derive(Drop)]
+pub(crate) enum Seen {
+    /// A Tversion.
+    Version,
+    /// A Tattach.
+    Attach(Attach),
+}
+
+/// A Tattach: its tag, its user's name and its attach name.
+#[derive(Drop)]
+pub(crate) struct Attach {
+    pub tag: u16,
+    pub user: String,
+    pub name: String,
+}
+
+/// The frames of the bytes that a client sends, one after another. The front of the last one is kept.
+#[derive(Drop)]
+pub(crate) struct Watch {
+    front: Vec<u8>,
+    // How many bytes of the frame are still to come, once its size is there.
+    left: usize,
+    // Whether a size came that no frame has.
+    is_lost: bool,
+}
+
+/// What was taken of bytes: how many, and whether a frame ends with them.
+#[derive(Clone, Copy)]
+pub(crate) struct Taken {
+    pub count: usize,
+    pub is_whole: bool,
+}
+
+impl Watch {
+    /// Before the first frame.
+    pub fn new(alloc: Global) -> Watch {
+        Watch {
+            front: Vec::new(alloc),
+            left: 0,
+            is_lost: false,
+        }
+    }
+
+    /// Takes bytes up to the end of a frame, or up to the end of its size.
+    pub fn take(&mut self, bytes: &[u8]) -> Result<Taken, AllocError> {
+        if self.is_lost {
+            return Ok(Taken {
+                count: bytes.len(),
+                is_whole: false,
+            });
+        }
+        if self.left == 0 {
+            return self.take_size(bytes);
+        }
+        let left = self.left;
+        let count = left.min(bytes.len());
+        self.keep(&bytes[..count])?;
+        self.left = left - count;
+        Ok(Taken {
+            count,
+            is_whole: left == count,
+        })
+    }
+
+    // Takes bytes of a frame's size.
+    fn take_size(&mut self, bytes: &[u8]) -> Result<Taken, AllocError> {
+        if self.front.len() >= SIZE {
+            self.front.clear();
+        }
+        let count = SIZE.saturating_sub(self.front.len()).min(bytes.len());
+        self.keep(&bytes[..count])?;
+        if self.front.len() == SIZE {
+            let size = LittleEndian::read_u32(self.front.as_slice()) as usize;
+            self.is_lost = size < HEADER || size > MSIZE_MAX as usize;
+            self.left = size.saturating_sub(SIZE);
+        }
+        Ok(Taken {
+            count,
+            is_whole: false,
+        })
+    }
+
+    // Keeps bytes, as far as there is room.
+    fn keep(&mut self, bytes: &[u8]) -> Result<(), AllocError> {
+        let room = FRONT_MAX.saturating_sub(self.front.len());
+        self.front
+            .extend_from_slice(&bytes[..room.min(bytes.len())])
+    }
+
+    /// The request that the last frame is, where it is told of. A Tattach whose names are very long is
+    /// not.
+    pub fn seen(&self, alloc: Global) -> Result<Option<Seen>, AllocError> {
+        match read_t(self.front.as_slice()) {
+            Some((_, TMsg::Version { .. })) => Ok(Some(Seen::Version)),
+            Some((tag, TMsg::Attach { uname, aname, .. })) => Ok(Some(Seen::Attach(Attach {
+                tag,
+                user: String::from_str(alloc, uname)?,
+                name: String::from_str(alloc, aname)?,
+            }))),
+            _ => Ok(None),
+        }
+    }
+}
