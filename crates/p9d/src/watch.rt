@@ -12,6 +12,11 @@ const FRONT_MAX: usize = 1_024;
 // How many bytes say how long a frame is.
 const SIZE: usize = 4;
 
+// The types of the requests that are told of.
+const TVERSION: u8 = 100;
+
+const TATTACH: u8 = 104;
+
 /// A request that is told of.
 #[derive(Drop)]
 pub(crate) enum Seen {
@@ -29,7 +34,8 @@ pub(crate) struct Attach {
     pub name: String,
 }
 
-/// The frames of the bytes that a client sends, one after another. The front of the last one is kept.
+/// The frames of the bytes that a client sends, one after another. The front of the last one is kept,
+/// where it may be told of.
 #[derive(Drop)]
 pub(crate) struct Watch {
     front: Vec<u8>,
@@ -69,12 +75,20 @@ impl Watch {
         }
         let left = self.left;
         let count = left.min(bytes.len());
-        self.keep(&bytes[..count])?;
+        if self.keeps(bytes) {
+            self.keep(&bytes[..count])?;
+        }
         self.left = left - count;
         Ok(Taken {
             count,
             is_whole: left == count,
         })
+    }
+
+    // Whether these bytes of a frame are kept: those of a Tversion or a Tattach. Where the size of a
+    // frame alone is kept, its type comes next.
+    fn keeps(&self, bytes: &[u8]) -> bool {
+        self.front.len() > SIZE || matches!(bytes.first(), Some(&TVERSION | &TATTACH))
     }
 
     // Takes bytes of a frame's size.
@@ -105,6 +119,9 @@ impl Watch {
     /// The request that the last frame is, where it is told of. A Tattach whose names are very long is
     /// not.
     pub fn seen(&self, alloc: Global) -> Result<Option<Seen>, AllocError> {
+        if self.front.len() <= SIZE {
+            return Ok(None);
+        }
         match read_t(self.front.as_slice()) {
             Some((_, TMsg::Version { .. })) => Ok(Some(Seen::Version)),
             Some((tag, TMsg::Attach { uname, aname, .. })) => Ok(Some(Seen::Attach(Attach {
