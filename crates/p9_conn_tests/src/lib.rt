@@ -15,6 +15,8 @@ mod pieces;
 #[cfg(test)]
 mod refused;
 #[cfg(test)]
+mod restricted;
+#[cfg(test)]
 mod rows;
 #[cfg(test)]
 mod scripted;

@@ -92,7 +92,9 @@ fn run_asked(rt: &HostRuntime, asked: Asked<'_>, texts: &[&str]) -> io::Result<u
         return Ok(BAD_COMMAND_LINE);
     }
     let doors = open_all(rt, addresses, texts)?;
-    print_addresses(rt, doors.as_slice())?;
+    if let Err(error) = print_addresses(rt, doors.as_slice()) {
+        return Err(failed(rt, "standard output", error));
+    }
     let journal = Journal::new(rt.alloc(), asked.is_quiet);
     let Ok(shared) = Rc::new(rt.alloc(), Shared::new(journal)) else {
         return Err(io::Error::from(AllocError));

@@ -62,7 +62,8 @@ impl Watch {
         }
     }
 
-    /// Takes bytes up to the end of a frame, or up to the end of its size.
+    /// Takes bytes up to the end of a frame, or up to the end of its size. Whole frames that aren't told
+    /// of are taken together.
     pub fn take(&mut self, bytes: &[u8]) -> Result<Taken, AllocError> {
         if self.is_lost {
             return Ok(Taken {
@@ -71,7 +72,7 @@ impl Watch {
             });
         }
         if self.left == 0 {
-            return self.take_size(bytes);
+            return self.take_front(bytes);
         }
         let left = self.left;
         let count = left.min(bytes.len());
@@ -91,11 +92,25 @@ impl Watch {
         self.front.len() > SIZE || matches!(bytes.first(), Some(&TVERSION | &TATTACH))
     }
 
-    // Takes bytes of a frame's size.
-    fn take_size(&mut self, bytes: &[u8]) -> Result<Taken, AllocError> {
+    // Takes whole frames that aren't told of, or else bytes of a frame's size.
+    fn take_front(&mut self, bytes: &[u8]) -> Result<Taken, AllocError> {
         if self.front.len() >= SIZE {
             self.front.clear();
         }
+        if self.front.is_empty() {
+            let count = len_of_others(bytes);
+            if count > 0 {
+                return Ok(Taken {
+                    count,
+                    is_whole: false,
+                });
+            }
+        }
+        self.take_size(bytes)
+    }
+
+    // Takes bytes of a frame's size.
+    fn take_size(&mut self, bytes: &[u8]) -> Result<Taken, AllocError> {
         let count = SIZE.saturating_sub(self.front.len()).min(bytes.len());
         self.keep(&bytes[..count])?;
         if self.front.len() == SIZE {
@@ -132,4 +147,26 @@ impl Watch {
             _ => Ok(None),
         }
     }
+}
+
+// How many bytes the whole frames have that are at the front and aren't told of, up to one that is.
+fn len_of_others(bytes: &[u8]) -> usize {
+    let mut rest = bytes;
+    for _ in 0..bytes.len() {
+        match size_of_other(rest) {
+            Some(size) => rest = rest.get(size..).unwrap_or(&[]),
+            None => break,
+        }
+    }
+    bytes.len().saturating_sub(rest.len())
+}
+
+// The size of the frame at the front, where all of it is there and it isn't told of.
+fn size_of_other(bytes: &[u8]) -> Option<usize> {
+    if bytes.len() < HEADER || matches!(bytes.get(SIZE), Some(&TVERSION | &TATTACH)) {
+        return None;
+    }
+    let size = LittleEndian::read_u32(bytes) as usize;
+    let is_whole = HEADER <= size && size <= bytes.len().min(MSIZE_MAX as usize);
+    is_whole.then_some(size)
 }
