@@ -28,3 +28,5 @@ mod rows;
 mod served;
 #[cfg(test)]
 mod soak;
+#[cfg(test)]
+mod socket;

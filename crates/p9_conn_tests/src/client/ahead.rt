@@ -283,3 +283,20 @@ fn the_session_goes_on_where_the_writer_fails(rt: HostRuntime) {
         is_output_error(&rt, &mut session, pieces);
     }
 }
+
+// Plays a call after so many requests that its tags go past the greatest one, 65,534: the next one is 0.
+fn is_played_past_the_last_tag(rt: &impl Abort, alloc: Global, play: Play) {
+    let mut session = session_with(rt, alloc, play);
+    for _ in 0..65_530 {
+        assert!(rt; session.clunk(1).is_ok());
+    }
+    let ahead = is_played(rt, alloc, &mut session, play, "done");
+    assert!(rt; ahead == AHEAD_MAX);
+}
+
+#[test]
+fn tags_begin_anew_among_requests_ahead(rt: HostRuntime) {
+    for call in [Call::Read, Call::Write] {
+        is_played_past_the_last_tag(&rt, rt.alloc(), fine(call, 17 * PIECE));
+    }
+}

@@ -187,3 +187,31 @@ fn are_hello_and_sub(rt: &impl Abort, entries: &[Entry<Global>]) {
 fn a_directory_is_listed(rt: HostRuntime) {
     is_listed(&rt, rt.alloc(), serve(&rt, rt.alloc()));
 }
+
+// The twentieth of forty names isn't there. The new fid is none then, and the first one is where it was.
+fn leads_nowhere<S: Server>(
+    rt: &impl Abort,
+    alloc: Global,
+    session: &mut Session<Answered<S>, Global>,
+) -> Result<(), FileError> {
+    let mut path = [".."; 40];
+    path[19] = "missing";
+    let came = outcome(&session.walk_path(0, 1, &path));
+    let is_none = matches!(session.stat(alloc, 1), Err(ClientError::Refused(_)));
+    assert!(rt; came == "not walked" && is_none);
+    path[19] = "..";
+    session.walk_path(0, 1, &path)?;
+    session.clunk(1)?;
+    Ok(())
+}
+
+// A long path over this stream.
+fn leads_nowhere_over<S: Server>(rt: &impl Abort, alloc: Global, stream: Answered<S>) {
+    let mut session = attach(rt, alloc, stream);
+    leads_nowhere(rt, alloc, &mut session).expect(rt, "a walk");
+}
+
+#[test]
+fn a_long_path_that_leads_nowhere_makes_no_fid(rt: HostRuntime) {
+    leads_nowhere_over(&rt, rt.alloc(), serve(&rt, rt.alloc()));
+}
