@@ -5,3 +5,8 @@ mod Events
 mod Small
 mod Inputs
 mod Witness
+mod OuterServers
+mod OuterForests
+mod OuterCertificates
+mod OuterRuns
+mod NeverThere

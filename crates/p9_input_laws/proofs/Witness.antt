@@ -1,7 +1,7 @@
 -- The two inputs differ, and meet the premises of the law. All of it is computed.
 use Rattle.std.proofs.Common.{◌≡◌, ◌≢◌, ℕ, false, List, [], ◌∷◌, Some, None}
-use Rattle.std.proofs.Common.{Ok, refl, ap, true≢false}
-use Rattle.std.specs.Prelude.{codes}
+use Rattle.std.proofs.Common.{Ok, refl, sym, ap, true≢false}
+use Rattle.std.specs.Prelude.{codes, is_some}
 use Rattle.std.specs.Char.{encode_utf8}
 use Rattle.std.specs.Str.{chars, is_utf8}
 use Rattle.hex.specs.Hex.{decode_pairs, encode_with}
@@ -19,7 +19,7 @@ use Rattle.p9_wire.specs.Reading.{header_at, t_attach_at, t_body_at, t_message_o
 use Rattle.p9_wire.specs.Reading.{t_create_at, t_read_at, t_remove_at, t_version_at, t_walk_at}
 use Rattle.p9_wire.specs.Reading.{t_wstat_at}
 use Rattle.p9_wire.specs.Reply.{r_spelling}
-use Rattle.p9_tree.specs.Forest.{is_dir_of}
+use Rattle.p9_tree.specs.Forest.{is_dir_of, node_of}
 use Rattle.p9_tree.specs.Inside.{is_barred, is_hidden, is_inside, outer}
 use Rattle.p9_tree.specs.Node.{Node, with_owner}
 use Rattle.p9_tree.specs.Server.{root_node}
@@ -33,10 +33,13 @@ use Rattle.p9_nsline.specs.Line.{lines_in}
 use Rattle.p9_step.specs.Event.{Event, Open, Message}
 use Rattle.p9_step.specs.ForestChange.{applied, edited}
 use Rattle.p9_step.specs.Read.{entry_bytes}
+use Rattle.p9_guard.specs.Served.{served}
 use Rattle.p9_commands.specs.Play.{play_text}
 use Rattle.p9_commands.specs.NameSpace.{exported, gap_over}
 use Rattle.p9_commands.specs.Prepared.{Prepared, prepared_of}
 use Rattle.p9_commands.specs.declared.prepared.Needs.TheVariants.{Nothing}
+use Rattle.p9_input_laws.specs.NeverThere.{outer_world}
+use Rattle.p9_input_laws.specs.Witness.{AWorldIsOtherWithoutInsides}
 use Rattle.p9_input_laws.specs.Witness.{TwoWorldsMeetThePremises, reply_lines}
 use Rattle.p9_input_laws.specs.Witness.{with_a_directory, with_a_file}
 
@@ -205,4 +208,28 @@ worlds-differ = record {
   reports = refl;
   differ = differ;
   text = prints;
+}
+
+-- The first alone.
+
+-- /vault/key is there in its world alone
+other : (outer_world (world file)).forest ≢ (world file).forest
+unfolding outer
+other same = true≢false (sym (ap (λ forest. is_some (node_of (at 3) forest)) same))
+
+prints-outer : play_text (served (outer_world (world file)) table) events [] ≡ reply_lines
+unfolding outer encode_with chars is_utf8 encode_utf8 need obtain unless text_at counted_at times
+    several_at sized_at qid_at number header_at t_version_at t_attach_at t_walk_at t_create_at
+    t_wstat_at stat_fields_at t_open_at t_read_at t_remove_at t_body_at t_message_of r_spelling
+    edited applied entry_bytes
+prints-outer = refl
+
+pub world-is-other : AWorldIsOtherWithoutInsides
+world-is-other = record {
+  its = prepared file;
+  prepared = first-prepared;
+  certificate = rows;
+  closed = no-gap;
+  differ = other;
+  text = prints-outer;
 }

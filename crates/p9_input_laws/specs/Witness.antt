@@ -1,10 +1,15 @@
 -- Two inputs that differ only inside a hidden directory: /vault/key is a file in the one, and a
 -- directory in the other.
-use Rattle.std.specs.Prelude.{◌≡◌, ◌≢◌, ℕ, List, [], ◌++◌, codes}
-use Rattle.p9_commands.specs.NameSpace.{exported}
+use Rattle.std.specs.Prelude.{◌≡◌, ◌≢◌, ℕ, List, [], ◌++◌, None, Ok, codes}
+use Rattle.p9_base.specs.declared.node_ref.NodeRef.{NodeRef}
+use Rattle.p9_guard.specs.Served.{served}
+use Rattle.p9_commands.specs.Command.{needs_of}
+use Rattle.p9_commands.specs.NameSpace.{exported, gap_over}
 use Rattle.p9_commands.specs.Play.{play_text}
-use Rattle.p9_commands.specs.Prepared.{Prepared}
+use Rattle.p9_commands.specs.Prepared.{Prepared, prepared_of}
+use Rattle.p9_commands.specs.declared.command.Command.TheVariants.{Play}
 use Rattle.p9_input_laws.specs.Laws.{MeetThePremises}
+use Rattle.p9_input_laws.specs.NeverThere.{outer_world}
 
 -- the first lines of both
 abbrev pub first_lines : List ℕ
@@ -75,3 +80,20 @@ pub record AreDifferent (input other printed : List ℕ) : Type 0 where
 -- these are such inputs, and these lines are printed
 abbrev pub TwoWorldsMeetThePremises : Type 0
 TwoWorldsMeetThePremises = AreDifferent with_a_file with_a_directory reply_lines
+
+-- The first of them alone.
+
+-- Without what is inside, the world of the input is another. The certificate has no gap over the
+-- world. This is printed over the other, where no request fails for memory.
+pub record IsOtherWithoutInsides (input printed : List ℕ) : Type 0 where
+  pub its : Prepared
+  pub prepared : prepared_of (needs_of Play) input ≡ Ok its
+  pub certificate : List NodeRef
+  pub closed : gap_over its.space certificate ≡ None
+  pub differ : (outer_world its.space.world).forest ≢ its.space.world.forest
+  pub text : play_text (served (outer_world its.space.world) its.space.table) its.events []
+      ≡ printed
+
+-- the first is such an input, and what is printed is the same as over its world
+abbrev pub AWorldIsOtherWithoutInsides : Type 0
+AWorldIsOtherWithoutInsides = IsOtherWithoutInsides with_a_file reply_lines

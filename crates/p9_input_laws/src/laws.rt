@@ -1,7 +1,9 @@
-//! The laws of inputs.
+//! The laws of inputs and of worlds.
 
 ghost use Rattle.p9_input_laws.specs.Laws.{AlikeInputsAreExportedAlike, AlikeInputsPlayAlike};
 ghost use Rattle.p9_input_laws.specs.Laws.{PreparedInputsAreWellFormed};
+ghost use Rattle.p9_input_laws.specs.NeverThere.{RunsAreAsIfNeverThere, WorldsAreAsIfNeverThere};
+ghost use Rattle.p9_input_laws.specs.Witness.{AWorldIsOtherWithoutInsides};
 ghost use Rattle.p9_input_laws.specs.Witness.{TwoWorldsMeetThePremises};
 
 use p9_commands::laws::alike_worlds_play_alike;
@@ -35,4 +37,25 @@ pub fn alike_inputs_play_alike()
 /// The law also says what `play` prints for them.
 pub fn two_worlds_meet_the_premises()
     ensures { TwoWorldsMeetThePremises }
+{}
+
+/// Take what is inside the hidden directories out of a guarded state. Then any events, with any
+/// marks, have the same replies as before, one by one. They lead to the state that they led to
+/// before, without what is inside. The same allocations may fail.
+pub fn runs_are_as_if_never_there()
+    ensures { RunsAreAsIfNeverThere }
+{}
+
+/// Suppose that the checker finds no gap in a certificate over a well-formed world and a mount
+/// table. Take what is inside the hidden directories out of the world. What is left is well-formed,
+/// and the certificate has no gap over it. Whatever happens from the state in which it is exported
+/// is answered as from the state in which the whole world is exported.
+pub fn worlds_are_as_if_never_there()
+    ensures { WorldsAreAsIfNeverThere }
+{}
+
+/// The first of the two inputs meets the premises of [`worlds_are_as_if_never_there`]. Its world is
+/// another without what is inside: `/vault/key` is gone. `play` prints the same over it.
+pub fn a_world_is_other_without_insides()
+    ensures { AWorldIsOtherWithoutInsides }
 {}

@@ -1,6 +1,7 @@
-//! What `play` prints of two inputs that differ only inside hidden directories, as laws of the
-//! definitions that the commands are proved to follow. Each function does nothing: its clause is the
-//! law.
+//! Laws of the definitions that the commands are proved to follow: of inputs, from their bytes on,
+//! and of worlds, from the state in which they are exported. Two inputs that differ only inside
+//! hidden directories are played alike. A world is served as if what is inside had never been
+//! there. Each function does nothing: its clause is the law.
 #![tactic(auto)]
 
 pub mod laws;
