@@ -10,3 +10,5 @@ mod OuterForests
 mod OuterCertificates
 mod OuterRuns
 mod NeverThere
+mod Listed
+mod Lives

@@ -1,7 +1,7 @@
 -- The two inputs differ, and meet the premises of the law. All of it is computed.
-use Rattle.std.proofs.Common.{◌≡◌, ◌≢◌, ℕ, false, List, [], ◌∷◌, Some, None}
+use Rattle.std.proofs.Common.{◌≡◌, ◌≢◌, ℕ, true, false, List, [], ◌∷◌, Some, None}
 use Rattle.std.proofs.Common.{Ok, refl, sym, ap, true≢false}
-use Rattle.std.specs.Prelude.{codes, is_some}
+use Rattle.std.specs.Prelude.{◌==◌, codes, is_some, map}
 use Rattle.std.specs.Char.{encode_utf8}
 use Rattle.std.specs.Str.{chars, is_utf8}
 use Rattle.hex.specs.Hex.{decode_pairs, encode_with}
@@ -19,7 +19,7 @@ use Rattle.p9_wire.specs.Reading.{header_at, t_attach_at, t_body_at, t_message_o
 use Rattle.p9_wire.specs.Reading.{t_create_at, t_read_at, t_remove_at, t_version_at, t_walk_at}
 use Rattle.p9_wire.specs.Reading.{t_wstat_at}
 use Rattle.p9_wire.specs.Reply.{r_spelling}
-use Rattle.p9_tree.specs.Forest.{is_dir_of, node_of}
+use Rattle.p9_tree.specs.Forest.{is_dir_of, next_of, node_of}
 use Rattle.p9_tree.specs.Inside.{is_barred, is_hidden, is_inside, outer}
 use Rattle.p9_tree.specs.Node.{Node, with_owner}
 use Rattle.p9_tree.specs.Server.{root_node}
@@ -33,15 +33,21 @@ use Rattle.p9_nsline.specs.Line.{lines_in}
 use Rattle.p9_step.specs.Event.{Event, Open, Message}
 use Rattle.p9_step.specs.ForestChange.{applied, edited}
 use Rattle.p9_step.specs.Read.{entry_bytes}
+use Rattle.p9_step.specs.State.{State}
+use Rattle.p9_step.specs.Step.{Marked, step}
+use Rattle.p9_guard.specs.Marks.{are_permitted}
+use Rattle.p9_guard.specs.Sentence.{CanHappen}
 use Rattle.p9_guard.specs.Served.{served}
 use Rattle.p9_commands.specs.Play.{play_text}
 use Rattle.p9_commands.specs.NameSpace.{exported, gap_over}
 use Rattle.p9_commands.specs.Prepared.{Prepared, prepared_of}
 use Rattle.p9_commands.specs.declared.prepared.Needs.TheVariants.{Nothing}
+use Rattle.p9_input_laws.specs.Lives.{left_after_all}
 use Rattle.p9_input_laws.specs.NeverThere.{outer_world}
-use Rattle.p9_input_laws.specs.Witness.{AWorldIsOtherWithoutInsides}
-use Rattle.p9_input_laws.specs.Witness.{TwoWorldsMeetThePremises, reply_lines}
+use Rattle.p9_input_laws.specs.Witness.{AWorldIsOtherWithoutInsides, TwoLivesMeetThePremises}
+use Rattle.p9_input_laws.specs.Witness.{TwoWorldsMeetThePremises, reply_lines, unmarked}
 use Rattle.p9_input_laws.specs.Witness.{with_a_directory, with_a_file}
+use Rattle.p9_input_laws.proofs.Inputs.{prepared-well}
 
 -- What is prepared.
 
@@ -232,4 +238,38 @@ world-is-other = record {
   closed = no-gap;
   differ = other;
   text = prints-outer;
+}
+
+-- where no mark is set, all are permitted
+none-marked : (state : State) (events : List Event)
+    → are_permitted state (map (λ event. (event, false)) events) ≡ true
+none-marked state [] = refl
+none-marked state (event ∷ events) = none-marked (step state event false).state events
+
+happens : (state : State) → CanHappen state (unmarked (prepared file))
+happens state = record {
+  each = (prepared-well Nothing with_a_file (prepared file) first-prepared).events;
+  permitted = none-marked state events;
+}
+
+lives : List (List Marked)
+lives = unmarked (prepared file) ∷ unmarked (prepared file) ∷ []
+
+-- the two lives have given two numbers
+left-is-other : (left_after_all (world file) table lives).forest ≢ (world file).forest
+unfolding lives encode_with chars is_utf8 encode_utf8 need obtain unless text_at counted_at times
+    several_at sized_at qid_at number header_at t_version_at t_attach_at t_walk_at t_create_at
+    t_wstat_at stat_fields_at t_open_at t_read_at t_remove_at t_body_at t_message_of r_spelling
+    edited applied entry_bytes
+left-is-other same = true≢false (sym (ap (λ forest. next_of 0 forest == 4) same))
+
+pub lives-differ : TwoLivesMeetThePremises
+unfolding lives
+lives-differ = record {
+  its = prepared file;
+  prepared = first-prepared;
+  certificate = rows;
+  closed = no-gap;
+  happen = (happens _, (happens _, tt));
+  differ = left-is-other;
 }

@@ -1,3 +1,4 @@
 pub mod Laws
 pub mod Witness
 pub mod NeverThere
+pub mod Lives

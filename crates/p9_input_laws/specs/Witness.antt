@@ -1,7 +1,8 @@
 -- Two inputs that differ only inside a hidden directory: /vault/key is a file in the one, and a
 -- directory in the other.
-use Rattle.std.specs.Prelude.{◌≡◌, ◌≢◌, ℕ, List, [], ◌++◌, None, Ok, codes}
+use Rattle.std.specs.Prelude.{◌≡◌, ◌≢◌, ℕ, false, List, [], ◌∷◌, ◌++◌, None, Ok, codes, map}
 use Rattle.p9_base.specs.declared.node_ref.NodeRef.{NodeRef}
+use Rattle.p9_step.specs.Step.{Marked}
 use Rattle.p9_guard.specs.Served.{served}
 use Rattle.p9_commands.specs.Command.{needs_of}
 use Rattle.p9_commands.specs.NameSpace.{exported, gap_over}
@@ -9,6 +10,7 @@ use Rattle.p9_commands.specs.Play.{play_text}
 use Rattle.p9_commands.specs.Prepared.{Prepared, prepared_of}
 use Rattle.p9_commands.specs.declared.command.Command.TheVariants.{Play}
 use Rattle.p9_input_laws.specs.Laws.{MeetThePremises}
+use Rattle.p9_input_laws.specs.Lives.{CanAllHappen, left_after_all}
 use Rattle.p9_input_laws.specs.NeverThere.{outer_world}
 
 -- the first lines of both
@@ -97,3 +99,22 @@ pub record IsOtherWithoutInsides (input printed : List ℕ) : Type 0 where
 -- the first is such an input, and what is printed is the same as over its world
 abbrev pub AWorldIsOtherWithoutInsides : Type 0
 AWorldIsOtherWithoutInsides = IsOtherWithoutInsides with_a_file reply_lines
+
+-- the events of an input, where no allocation fails
+abbrev pub unmarked : Prepared → List Marked
+unmarked its = map (λ event. (event, false)) its.events
+
+-- The events of the input happen in two lives, one after the other. The certificate has no gap over
+-- the first world, and the world that is left is another.
+pub record AreTwoLives (input : List ℕ) : Type 0 where
+  pub its : Prepared
+  pub prepared : prepared_of (needs_of Play) input ≡ Ok its
+  pub certificate : List NodeRef
+  pub closed : gap_over its.space certificate ≡ None
+  pub happen : CanAllHappen its.space.world its.space.table (unmarked its ∷ unmarked its ∷ [])
+  pub differ : (left_after_all its.space.world its.space.table
+      (unmarked its ∷ unmarked its ∷ [])).forest ≢ its.space.world.forest
+
+-- so it is of the first
+abbrev pub TwoLivesMeetThePremises : Type 0
+TwoLivesMeetThePremises = AreTwoLives with_a_file

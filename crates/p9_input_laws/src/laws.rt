@@ -2,9 +2,11 @@
 
 ghost use Rattle.p9_input_laws.specs.Laws.{AlikeInputsAreExportedAlike, AlikeInputsPlayAlike};
 ghost use Rattle.p9_input_laws.specs.Laws.{PreparedInputsAreWellFormed};
+ghost use Rattle.p9_input_laws.specs.Lives.{GuardedCanBeSealed, LivesChangeNothingInside};
+ghost use Rattle.p9_input_laws.specs.Lives.{SealingAgainNeverFails};
 ghost use Rattle.p9_input_laws.specs.NeverThere.{RunsAreAsIfNeverThere, WorldsAreAsIfNeverThere};
 ghost use Rattle.p9_input_laws.specs.Witness.{AWorldIsOtherWithoutInsides};
-ghost use Rattle.p9_input_laws.specs.Witness.{TwoWorldsMeetThePremises};
+ghost use Rattle.p9_input_laws.specs.Witness.{TwoLivesMeetThePremises, TwoWorldsMeetThePremises};
 
 use p9_commands::laws::alike_worlds_play_alike;
 
@@ -58,4 +60,31 @@ pub fn worlds_are_as_if_never_there()
 /// another without what is inside: `/vault/key` is gone. `play` prints the same over it.
 pub fn a_world_is_other_without_insides()
     ensures { AWorldIsOtherWithoutInsides }
+{}
+
+/// A guarded state can be sealed: there is a certificate without a gap, and there is no breach. Each
+/// verdict of the judge is yes, and its certificate has no gap.
+pub fn guarded_states_can_be_sealed<A>()
+    ensures { GuardedCanBeSealed A }
+{}
+
+/// Suppose that the checker finds no gap in a certificate over a well-formed world and a mount
+/// table. The world that is left after any events, with any marks, is well-formed again, and can be
+/// sealed again: each verdict of the judge is yes, and its certificate has no gap.
+pub fn sealing_again_never_fails<A>()
+    ensures { SealingAgainNeverFails A }
+{}
+
+/// Any number of lives: each begins from the world that the one before left, without sessions, and
+/// its events can happen. Where the checker finds no gap in a certificate over the first world, the
+/// theorem holds of each life. Nothing inside a hidden directory has changed over all of them, and
+/// the world that is left can be sealed again. No certificate of a later life is needed for this.
+pub fn lives_change_nothing_inside<A>()
+    ensures { LivesChangeNothingInside A }
+{}
+
+/// The first of the two inputs meets the premises of [`lives_change_nothing_inside`]: its events
+/// happen in two lives, one after the other, and the world that is left is another.
+pub fn two_lives_meet_the_premises()
+    ensures { TwoLivesMeetThePremises }
 {}
