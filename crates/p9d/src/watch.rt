@@ -3,14 +3,18 @@
 ghost use Rattle.std.specs.Prelude.{◌≤◌, length};
 
 use byteorder::{ByteOrder, LittleEndian};
-use p9_wire::{HEADER, MSIZE_MAX, TMsg, read_t};
+use p9_wire::{HEADER, MSIZE_MAX};
 use std::alloc::{AllocError, Global};
+use std::str::from_utf8;
 
 // The most bytes of a frame that are kept.
 const FRONT_MAX: usize = 1_024;
 
 // How many bytes say how long a frame is.
 const SIZE: usize = 4;
+
+// How many bytes the two fids of a Tattach have.
+const FIDS: usize = 8;
 
 // The types of the requests that are told of.
 const TVERSION: u8 = 100;
@@ -134,19 +138,44 @@ impl Watch {
     /// The request that the last frame is, where it is told of. A Tattach whose names are very long is
     /// not.
     pub fn seen(&self, alloc: Global) -> Result<Option<Seen>, AllocError> {
-        if self.front.len() <= SIZE {
-            return Ok(None);
-        }
-        match read_t(self.front.as_slice()) {
-            Some((_, TMsg::Version { .. })) => Ok(Some(Seen::Version)),
-            Some((tag, TMsg::Attach { uname, aname, .. })) => Ok(Some(Seen::Attach(Attach {
-                tag,
-                user: String::from_str(alloc, uname)?,
-                name: String::from_str(alloc, aname)?,
-            }))),
+        match self.front.get(SIZE) {
+            Some(&TVERSION) => Ok(Some(Seen::Version)),
+            Some(&TATTACH) => attach_in(alloc, self.front.as_slice()),
             _ => Ok(None),
         }
     }
+}
+
+// What a Tattach asks for, as far as it can be told of.
+fn attach_in(alloc: Global, frame: &[u8]) -> Result<Option<Seen>, AllocError> {
+    let Some((tag, user, name)) = names_in(frame) else {
+        return Ok(None);
+    };
+    Ok(Some(Seen::Attach(Attach {
+        tag,
+        user: String::from_str(alloc, user)?,
+        name: String::from_str(alloc, name)?,
+    })))
+}
+
+// The tag of a Tattach, the user's name and the attach name. The two fids are before these.
+fn names_in(frame: &[u8]) -> Option<(u16, &str, &str)> {
+    let [_, _, _, _, _, low, high, fields @ ..] = frame else {
+        return None;
+    };
+    let (user, rest) = take_text(fields.get(FIDS..)?)?;
+    let (name, _) = take_text(rest)?;
+    Some((u16::from_le_bytes([*low, *high]), user, name))
+}
+
+// The text at the front, and the bytes after it.
+fn take_text(bytes: &[u8]) -> Option<(&str, &[u8])> {
+    let [low, high, rest @ ..] = bytes else {
+        return None;
+    };
+    let len = usize::from(u16::from_le_bytes([*low, *high]));
+    let text = from_utf8(rest.get(..len)?).ok()?;
+    Some((text, rest.get(len..)?))
 }
 
 // How many bytes the whole frames have that are at the front and aren't told of, up to one that is.
@@ -163,10 +192,10 @@ fn len_of_others(bytes: &[u8]) -> usize {
 
 // The size of the frame at the front, where all of it is there and it isn't told of.
 fn size_of_other(bytes: &[u8]) -> Option<usize> {
-    if bytes.len() < HEADER || matches!(bytes.get(SIZE), Some(&TVERSION | &TATTACH)) {
+    let [a, b, c, d, kind, ..] = bytes else {
         return None;
-    }
-    let size = LittleEndian::read_u32(bytes) as usize;
+    };
+    let size = u32::from_le_bytes([*a, *b, *c, *d]) as usize;
     let is_whole = HEADER <= size && size <= bytes.len().min(MSIZE_MAX as usize);
-    is_whole.then_some(size)
+    (is_whole && *kind != TVERSION && *kind != TATTACH).then_some(size)
 }
