@@ -1,0 +1,4 @@
+pub mod Beside
+pub mod Twins
+pub mod Outside
+pub mod Decided

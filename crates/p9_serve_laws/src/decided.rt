@@ -1,0 +1,37 @@
+//! What comes from outside decides what two servers do, side by side: they have the same connections,
+//! but for the streams, and their guards are alike, of which the first is guarded.
+
+ghost use Rattle.p9_serve_laws.specs.Decided.{ChoosersSeeTheSameMoments, ChoosersSeeTheSameRounds};
+ghost use Rattle.p9_serve_laws.specs.Decided.{TheOutsideDecidesMoments, TheOutsideDecidesRounds};
+ghost use Rattle.p9_serve_laws.specs.Decided.{TheOutsideDecidesTheEnd};
+
+/// Two lists of moments with the same from outside are the same list. So both have the same replies,
+/// and the same bytes read and written, in the same order among all connections, and lead to servers
+/// side by side again.
+pub fn the_outside_decides_moments<S, T>()
+    ensures { TheOutsideDecidesMoments S T }
+{}
+
+/// What comes from outside may be chosen by all that happened so far, as clients choose what they
+/// send by what they were answered. Two lists of moments with the same chooser are the same, as far
+/// as both go.
+pub fn choosers_see_the_same_moments<S, T>()
+    ensures { ChoosersSeeTheSameMoments S T }
+{}
+
+/// Rounds with the same from outside are the same. Here it does not come from outside which
+/// connections have turns, nor in which order. So both servers answer the same in the same rounds,
+/// accept in the same rounds, and rest as long before each.
+pub fn the_outside_decides_rounds<S, T>()
+    ensures { TheOutsideDecidesRounds S T }
+{}
+
+/// So are as many rounds with the same chooser.
+pub fn choosers_see_the_same_rounds<S, T>()
+    ensures { ChoosersSeeTheSameRounds S T }
+{}
+
+/// The ends of all sessions, at the same reading of the clock, leave alike guards.
+pub fn the_outside_decides_the_end<S, T>()
+    ensures { TheOutsideDecidesTheEnd S T }
+{}
