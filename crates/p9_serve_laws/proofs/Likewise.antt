@@ -1,5 +1,5 @@
 -- What one server may do, its twin may do.
-use Rattle.std.proofs.Common.{◌≡◌, ◌≢◌, ℕ, zero, suc, ◌<◌, ◌^◌, Bool, true, false, List, [], ◌∷◌}
+use Rattle.std.proofs.Common.{◌≡◌, ◌≢◌, ℕ, zero, suc, ◌<◌, ◌^◌, Bool, true, false, List, [], ◌∷◌, ◌++◌}
 use Rattle.std.proofs.Common.{Option, Some, None, refl, sym, ap, ◌∙◌, subst, arith, ◌≤◌, length}
 use Rattle.std.specs.Prelude.{◌==◌, ◌||◌, count_by, is_some, slice_set, if◌then◌else◌}
 use Rattle.std.specs.List.{AllByRecursion}
@@ -21,6 +21,7 @@ use Rattle.p9_serve.specs.Rounds.{untold}
 use Rattle.p9_serve.specs.Served.{HadRounds, WasServed, last_after}
 use Rattle.p9_serve.specs.Pace.{Pacing, is_due, pacing_after}
 use Rattle.p9_serve.specs.declared.server.Round.{Round}
+use Rattle.p9_serve_laws.specs.Accounts.{Had, account_of, accounts_of, all_had, arrival_in, had_at}
 use Rattle.p9_serve_laws.specs.Beside.{AreAlikeGuards, AreRunningTwins, AreTwins}
 use Rattle.p9_serve_laws.specs.Twins.{AlikeGuardsMayBeServedTheSame, IsTimely, TwinsMayEndTheSame}
 use Rattle.p9_serve_laws.specs.Twins.{TwinsMayHaveTheSameRound, TwinsMayHaveTheSameRounds}
@@ -96,29 +97,68 @@ module _ {S : Type 0} (remaining contents : S → Option (List ℕ)) where
         };
       }
 
+  -- the same turn at a key, or none
+  record TurnToo (clock key : ℕ) (o : Option (Connection S)) (new old' : Serving S)
+      (turn : Option Turn) (hads : List Had) : Type 0 where
+    other : Serving S
+    at : TurnAt remaining contents clock key o old' other turn
+    hads_are : had_at remaining contents clock key o old' other turn at ≡ hads
+    twins : AreTwins new other
+
   turn-too : (clock key : ℕ) (o : Option (Connection S)) (old new old' : Serving S)
-      (turn : Option Turn) → AreTwins old old' → TurnAt remaining contents clock key o old new turn
-      → (new' : Serving S) × TurnAt remaining contents clock key o old' new' turn × AreTwins new new'
-  turn-too clock key None old new old' turn twins t =
-      (old', (refl, t.1), twins-here old new old' t.0 twins)
+      (turn : Option Turn) → AreTwins old old'
+      → (t : TurnAt remaining contents clock key o old new turn)
+      → TurnToo clock key o new old' turn (had_at remaining contents clock key o old new turn t)
+  turn-too clock key None old new old' turn twins t = record {
+    other = old';
+    at = (refl, t.1);
+    hads_are = refl;
+    twins = twins-here old new old' t.0 twins;
+  }
   turn-too clock key (Some conn) old new old' None twins t = absurd t
   turn-too clock key (Some conn) old new old' (Some turn) twins t =
       let too = turns-at-too clock key conn old new old' turn twins t in
-      (too.other, too.had, too.twins)
+      record {
+        other = too.other;
+        at = too.had;
+        hads_are = ap (λ (deeds : Deeds).
+            let had : Had = record {
+              phase = phase_of conn.link;
+              happening = record { session = key; clock = clock; deeds = deeds };
+            } in had ∷ []) too.deeds_are;
+        twins = too.twins;
+      }
+
+  record TurnedToo (clock keys : ℕ) (new old' : Serving S) (turns : List Turn) (hads : List Had)
+      : Type 0 where
+    other : Serving S
+    turned : Turned remaining contents clock keys old' other turns
+    hads_are : all_had remaining contents clock keys old' other turns turned ≡ hads
+    twins : AreTwins new other
 
   turned-too : (clock keys : ℕ) (old new old' : Serving S) (turns : List Turn) → AreTwins old old'
-      → Turned remaining contents clock keys old new turns
-      → (new' : Serving S) × Turned remaining contents clock keys old' new' turns
-      × AreTwins new new'
-  turned-too clock zero old new old' turns twins t =
-      (old', (refl, t.1), twins-here old new old' t.0 twins)
+      → (t : Turned remaining contents clock keys old new turns)
+      → TurnedToo clock keys new old' turns
+      (all_had remaining contents clock keys old new turns t)
+  turned-too clock zero old new old' turns twins t = record {
+    other = old';
+    turned = (refl, t.1);
+    hads_are = refl;
+    twins = twins-here old new old' t.0 twins;
+  }
   turned-too clock (suc key) old new old' turns twins t =
       let first = turned-too clock key old t.0 old' t.1 twins t.3 in
-      let next = turn-too clock key (slot_at t.0.slots key) t.0 new first.0 t.2 first.2 t.4 in
-      let here : TurnAt remaining contents clock key (slot_at first.0.slots key) first.0 next.0 t.2 =
-      subst (λ (o : Option (Connection S)). TurnAt remaining contents clock key o first.0 next.0 t.2)
-      (ap (λ slots. slot_at slots key) (sym first.2.slots)) next.1 in
-      (next.0, (first.0, t.1, t.2, first.1, here, t.5), next.2)
+      let next = turn-too clock key (slot_at t.0.slots key) t.0 new first.other t.2 first.twins t.4 in
+      let hads = had_at remaining contents clock key (slot_at t.0.slots key) t.0 new t.2 t.4 in
+      let here : TurnToo clock key (slot_at first.other.slots key) new first.other t.2 hads =
+      subst (λ (o : Option (Connection S)). TurnToo clock key o new first.other t.2 hads)
+      (ap (λ slots. slot_at slots key) (sym first.twins.slots)) next in
+      record {
+        other = here.other;
+        turned = (first.other, t.1, t.2, first.turned, here.at, t.5);
+        hads_are = λ i. first.hads_are i ++ here.hads_are i;
+        twins = here.twins;
+      }
 
   -- Arrivals.
 
@@ -150,20 +190,38 @@ module _ {S : Type 0} (remaining contents : S → Option (List ℕ)) where
         },
       )
 
-  accept-too : (old new old' : Serving S) (accepted : ℕ) → AreTwins old old'
-      → Accepts old new accepted
-      → (new' : Serving S) × Accepts old' new' accepted × AreTwins new new'
-  accept-too old new old' zero twins t = (old', refl, twins-here old new old' t twins)
-  accept-too old new old' (suc zero) twins t =
-      let too = taken-too t.0 old new old' twins t.1 in (too.0, (t.0, too.1), too.3)
-  accept-too old new old' (suc (suc more)) twins t = absurd t
+  -- the same accept, if one is made
+  record AcceptToo (made : Bool) (new old' : Serving S) (accepted : ℕ) (arrival : Option ℕ) : Type 0
+    where
+      other : Serving S
+      accepts : AcceptsIf made old' other accepted
+      arrival_is : arrival_in made old' other accepted accepts ≡ arrival
+      twins : AreTwins new other
 
-  accept-if-too : (made : Bool) (old new old' : Serving S) (accepted : ℕ) → AreTwins old old'
-      → AcceptsIf made old new accepted
-      → (new' : Serving S) × AcceptsIf made old' new' accepted × AreTwins new new'
-  accept-if-too true old new old' accepted twins t = accept-too old new old' accepted twins t
-  accept-if-too false old new old' accepted twins t =
-      (old', (refl, t.1), twins-here old new old' t.0 twins)
+  accept-too : (made : Bool) (old new old' : Serving S) (accepted : ℕ) → AreTwins old old'
+      → (t : AcceptsIf made old new accepted)
+      → AcceptToo made new old' accepted (arrival_in made old new accepted t)
+  accept-too true old new old' zero twins t = record {
+    other = old';
+    accepts = refl;
+    arrival_is = refl;
+    twins = twins-here old new old' t twins;
+  }
+  accept-too true old new old' (suc zero) twins t =
+      let too = taken-too t.0 old new old' twins t.1 in
+      record {
+        other = too.0;
+        accepts = (t.0, too.1);
+        arrival_is = ap (λ (key : ℕ). Some key) too.2;
+        twins = too.3;
+      }
+  accept-too true old new old' (suc (suc more)) twins t = absurd t
+  accept-too false old new old' accepted twins t = record {
+    other = old';
+    accepts = (refl, t.1);
+    arrival_is = refl;
+    twins = twins-here old new old' t.0 twins;
+  }
 
   -- Ends.
 
@@ -260,49 +318,61 @@ module _ {S : Type 0} (remaining contents : S → Option (List ℕ)) where
       ∙ ap (λ slots. is_due old.pace || (count_by is_some slots == 0)) twins.serving.slots
 
   round-too : (clock : ℕ) (old new old' : Running S) (round : Round) → AreRunningTwins old old'
-      → HasRound remaining contents clock old new round
-      → (new' : Running S) × HasRound remaining contents clock old' new' round
+      → (t : HasRound remaining contents clock old new round)
+      → (new' : Running S) × (t' : HasRound remaining contents clock old' new' round)
+      × (account_of remaining contents clock old' new' round t'
+      ≡ account_of remaining contents clock old new round t)
       × AreRunningTwins new new'
   round-too clock old new old' round twins t =
-      let accept = accept-if-too (accepts_now old) old.serving t.between old'.serving round.accepted
-      twins.serving t.accepted in
-      let turns = turned-too clock t.turned.bound t.between new.serving accept.0 t.turned.turns
-      accept.2 t.turned.turned in
+      let made = accepts_now old in
+      let arrival = arrival_in made old.serving t.between round.accepted t.accepted in
+      let accept : AcceptToo (accepts_now old') t.between old'.serving round.accepted arrival =
+      subst (λ (m : Bool). AcceptToo m t.between old'.serving round.accepted arrival)
+      (sym (same-accepts old old' twins))
+      (accept-too made old.serving t.between old'.serving round.accepted twins.serving t.accepted) in
+      let turns = turned-too clock t.turned.bound t.between new.serving accept.other t.turned.turns
+      accept.twins t.turned.turned in
       let other : Running S =
-      record { serving = turns.0; pace = pacing_after old'.pace round } in
+      record { serving = turns.other; pace = pacing_after old'.pace round } in
       (
         other,
         record {
-          between = accept.0;
-          accepted = subst (λ (made : Bool).
-              AcceptsIf made old'.serving accept.0 round.accepted)
-              (sym (same-accepts old old' twins)) accept.1;
+          between = accept.other;
+          accepted = accept.accepts;
           turned = record {
             bound = t.turned.bound;
-            all = subst (λ slots. length slots ≤ t.turned.bound) (sym accept.2.slots) t.turned.all;
+            all = subst (λ slots. length slots ≤ t.turned.bound) (sym accept.twins.slots)
+                t.turned.all;
             turns = t.turned.turns;
-            turned = turns.1;
+            turned = turns.turned;
             moved = t.turned.moved;
             closed = t.turned.closed;
           };
           pace_is = refl;
         },
+        λ i. record {
+          beginning = record { clock = clock; arrival = accept.arrival_is i };
+          turns = turns.hads_are i;
+          round = round;
+        },
         record {
-          serving = turns.2;
+          serving = turns.twins;
           pace = ap (λ (p : Pacing). pacing_after p round) twins.pace ∙ sym t.pace_is;
         },
       )
 
   rounds-too : (clocks : List ℕ) (old new old' : Running S) → AreRunningTwins old old'
-      → HasRounds remaining contents clocks old new
-      → (new' : Running S) × HasRounds remaining contents clocks old' new'
+      → (t : HasRounds remaining contents clocks old new)
+      → (new' : Running S) × (t' : HasRounds remaining contents clocks old' new')
+      × (accounts_of remaining contents clocks old' new' t'
+      ≡ accounts_of remaining contents clocks old new t)
       × AreRunningTwins new new'
   rounds-too [] old new old' twins t =
-      (old', refl, subst (λ (r : Running S). AreRunningTwins r old') (sym t) twins)
+      (old', refl, refl, subst (λ (r : Running S). AreRunningTwins r old') (sym t) twins)
   rounds-too (clock ∷ clocks) old new old' twins t =
       let first = round-too clock old t.0 old' t.1 twins t.2 in
-      let next = rounds-too clocks t.0 new first.0 first.2 t.3 in
-      (next.0, (first.0, t.1, first.1, next.1), next.2)
+      let next = rounds-too clocks t.0 new first.0 first.3 t.3 in
+      (next.0, (first.0, t.1, first.1, next.1), (λ i. first.2 i ∷ next.2 i), next.3)
 
 pub twins-may-pass-the-same-moments : {S : Type 0} → TwinsMayPassTheSameMoments S
 twins-may-pass-the-same-moments remaining contents moments old new old' twins timely t =
@@ -336,7 +406,7 @@ twins-may-end-the-same {S} last old old' left twins small t =
 -- Serving.
 
 -- the last of readings of 32 bits has 32 bits
-last-small : (before : ℕ) (readings : List ℕ) → before < 2 ^ 32
+pub last-small : (before : ℕ) (readings : List ℕ) → before < 2 ^ 32
     → AllByRecursion (λ reading. reading < 2 ^ 32) readings → last_after before readings < 2 ^ 32
 last-small before [] small all = small
 last-small before (first ∷ readings) small all = last-small first readings all.0 all.1
@@ -360,7 +430,7 @@ alike-guards-may-be-served-the-same {S} guard left other rounds before after ali
     let rounds' = rounds-too {S = S} untold untold had.readings (new_server old) served.running
     (new_server old') twins had.happened in
     let end = twins-may-end-the-same {S = S} served.last served.running.serving rounds'.0.serving
-    left rounds'.2.serving small served.finished in
+    left rounds'.3.serving small served.finished in
     (
       end.0,
       record {
@@ -377,5 +447,6 @@ alike-guards-may-be-served-the-same {S} guard left other rounds before after ali
         };
         finished = end.1;
       },
+      rounds'.2,
       end.2,
     )

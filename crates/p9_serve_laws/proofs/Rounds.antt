@@ -13,19 +13,23 @@ use Rattle.p9_clients.specs.Serving.{EndAt, Ended, IsFinished, Serving, Turned, 
 use Rattle.p9_clients.specs.Serving.{is_moved, slot_at}
 use Rattle.p9_serve.specs.Life.{HasRounds}
 use Rattle.p9_serve.specs.Pace.{Pacing, is_due, pacing_after}
-use Rattle.p9_serve.specs.Rounds.{Accepts, AcceptsIf, HasRound, Running, accepts_now, untold}
+use Rattle.p9_serve.specs.Rounds.{AcceptsIf, HasRound, Running, accepts_now, new_server, tally_of}
+use Rattle.p9_serve.specs.Rounds.{untold}
+use Rattle.p9_serve.specs.Served.{last_after}
 use Rattle.p9_serve.specs.declared.server.Round.{Round}
+use Rattle.p9_serve_laws.specs.Accounts.{Account, Beginning, Had, account_of, accounts_of, arrival_in}
 use Rattle.p9_serve_laws.specs.Beside.{AreAlikeGuards, AreBeside, AreRunningBeside, link_at}
 use Rattle.p9_serve_laws.specs.Beside.{without_stream}
 use Rattle.p9_serve_laws.specs.Decided.{AreRoundsChosen, AreTurnsChosen, ChoosersSeeTheSameRounds}
 use Rattle.p9_serve_laws.specs.Decided.{RoundChooser}
-use Rattle.p9_serve_laws.specs.Decided.{TheOutsideDecidesRounds, TheOutsideDecidesTheEnd}
-use Rattle.p9_serve_laws.specs.Outside.{Account, Beginning, Had, RoundOutside, account_of, accounts_of}
-use Rattle.p9_serve_laws.specs.Outside.{all_had, arrival_in, round_outside}
+use Rattle.p9_serve_laws.specs.Decided.{ChoosersAreServedTheSame, TheOutsideDecidesRounds}
+use Rattle.p9_serve_laws.specs.Decided.{TheOutsideDecidesTheEnd, TheOutsideDecidesTurns}
+use Rattle.p9_serve_laws.specs.Outside.{RoundOutside, given_to, round_outside}
 use Rattle.p9_serve_laws.proofs.Keys.{ended-same, taken-same}
+use Rattle.p9_serve_laws.proofs.Likewise.{last-small}
 use Rattle.p9_serve_laws.proofs.Moments.{same-head, same-tail}
-use Rattle.p9_serve_laws.proofs.Turns.{Agree, Longer, all-same, and_more, and_more-is, chosen-agree}
-use Rattle.p9_serve_laws.proofs.Turns.{given-agree, longer, turned-length}
+use Rattle.p9_serve_laws.proofs.Turns.{Agree, and_more, and_more-is, chosen-agree, given-agree}
+use Rattle.p9_serve_laws.proofs.Turns.{tally-same}
 
 -- Whether there is a client.
 
@@ -129,46 +133,24 @@ module _ {S T : Type 0} (remaining contents : S → Option (List ℕ))
       (same-accepts old old' beside) (t'.accepted, arrival) in
       let accept = accept-same made old.serving t.between old'.serving t'.between round.accepted
       round'.accepted beside.serving t.accepted there.0 there.1 in
-      let bound = t.turned.bound in
-      let bound' = t'.turned.bound in
-      let few : length new.serving.slots ≤ bound =
-      omega (arith, t.turned.all, turned-length remaining contents clock bound t.between new.serving
-      t.turned.turns t.turned.turned) in
-      let few' : length new'.serving.slots ≤ bound' =
-      omega (arith, t'.turned.all, turned-length remaining' contents' clock bound' t'.between
-      new'.serving t'.turned.turns t'.turned.turned) in
-      let long = longer remaining contents clock bound' bound t.between new.serving t.turned.turns
-      t.turned.turned few in
-      let long' = subst (λ (keys : ℕ). Longer remaining' contents' clock keys t'.between
-      new'.serving t'.turned.turns (account_of remaining' contents' clock old' new' round' t').turns)
-      (and_more-is bound bound' ∙ and-more-both ∙ sym (and_more-is bound' bound))
-      (longer remaining' contents' clock bound bound' t'.between new'.serving t'.turned.turns
-      t'.turned.turned few') in
-      let all = all-same remaining contents remaining' contents' clock (and_more bound' bound)
-      t.between new.serving t'.between new'.serving t.turned.turns t'.turned.turns accept.1
-      long.turned long'.turned
-      (λ past x y xs ys is is'. agree past x y xs ys (sym long.hads_are ∙ is)
-      (sym long'.hads_are ∙ is')) in
+      let turns = tally-same remaining contents remaining' contents' clock t.between new.serving
+      t'.between new'.serving (tally_of round) (tally_of round') accept.1 t.turned t'.turned agree in
       let round-is : round' ≡ round = λ i. record {
         accepted = accept.0 i;
-        moved = (t'.turned.moved ∙ ap (count_by is_moved) all.turns_are ∙ sym t.turned.moved) i;
-        closed = (t'.turned.closed ∙ ap (count_by is_closed) all.turns_are ∙ sym t.turned.closed) i;
+        moved = (turns.1 i).moved;
+        closed = (turns.1 i).closed;
       } in
-      let hads-are = sym long'.hads_are ∙ all.hads_are ∙ long.hads_are in
       (
         (λ i. record {
           beginning = record { clock = clock; arrival = arrival i };
-          turns = hads-are i;
+          turns = turns.0 i;
           round = round-is i;
         }),
         record {
-          serving = all.beside;
+          serving = turns.2;
           pace = t'.pace_is ∙ (λ i. pacing_after (beside.pace i) (round-is i)) ∙ sym t.pace_is;
         },
       )
-    where
-      and-more-both : t.turned.bound + t'.turned.bound ≡ t'.turned.bound + t.turned.bound
-      and-more-both = omega arith
 
   -- at readings of the clock that are equal
   round-beside : (clock clock' : ℕ) (old new : Running S) (old' new' : Running T)
@@ -337,3 +319,54 @@ the-outside-decides-the-end {S} {T} last old old' left left' beside small t t' =
     (and_more bound' bound) old t.last old' t'.last beside long long' in
     subst (λ (g : Guarded). AreAlikeGuards g left') (sym t.guard_is)
     (subst (λ (g : Guarded). AreAlikeGuards t.last.guard g) (sym t'.guard_is) same.guards)
+
+pub the-outside-decides-turns : {S T : Type 0} → TheOutsideDecidesTurns S T
+the-outside-decides-turns remaining contents remaining' contents' clock old new old' new' tally tally'
+    beside had had' given =
+    tally-same remaining contents remaining' contents' clock old new old' new' tally tally' beside had
+    had' (given-agree _ _ given)
+
+-- Serving.
+
+-- the readings of the clock in rounds
+clocks-in : {S : Type 0} (remaining contents : S → Option (List ℕ)) (clocks : List ℕ)
+    (old new : Running S) (t : HasRounds remaining contents clocks old new)
+    → map (λ (a : Account). a.beginning.clock) (accounts_of remaining contents clocks old new t)
+    ≡ clocks
+clocks-in remaining contents [] old new t = refl
+clocks-in remaining contents (clock ∷ clocks) old new t =
+    ap (λ (more : List ℕ). clock ∷ more) (clocks-in remaining contents clocks t.0 new t.3)
+
+pub choosers-are-served-the-same : {S T : Type 0} → ChoosersAreServedTheSame S T
+choosers-are-served-the-same {S} {T} choose guard guard' left left' rounds before after before' after'
+    alike served served' chosen chosen' =
+    let old : Serving S = record { guard = guard; slots = [] } in
+    let old' : Serving T = record { guard = guard'; slots = [] } in
+    let beside : AreRunningBeside (new_server old) (new_server old') = record {
+      serving = record {
+        guards = record { guarded = served.guarded; alike = alike };
+        links = λ key. refl;
+      };
+      pace = refl;
+    } in
+    let had = served.had in
+    let had' = served'.had in
+    let same = rounds-chosen {S = S} {T = T} untold untold untold untold choose [] had.readings
+    had'.readings (new_server old) served.running (new_server old') served'.running beside
+    had.happened had'.happened chosen chosen' (had'.count ∙ sym had.count) in
+    let readings : had'.readings ≡ had.readings =
+    sym (clocks-in {S = T} untold untold had'.readings (new_server old') served'.running had'.happened)
+    ∙ ap (map (λ (a : Account). a.beginning.clock)) same.0
+    ∙ clocks-in {S = S} untold untold had.readings (new_server old) served.running had.happened in
+    let last : served'.last ≡ served.last =
+    had'.last_is ∙ ap (last_after 0) readings ∙ sym had.last_is in
+    let small : served.last < 2 ^ 32 =
+    subst (λ (n : ℕ). n < 2 ^ 32) (sym had.last_is)
+    (last-small 0 had.readings (omega arith) had.small) in
+    let finished' : IsFinished served.last served'.running.serving left' =
+    subst (λ (n : ℕ). IsFinished n served'.running.serving left') last served'.finished in
+    (
+      same.0,
+      the-outside-decides-the-end {S = S} {T = T} served.last served.running.serving
+          served'.running.serving left left' same.1.serving small served.finished finished',
+    )

@@ -3,15 +3,18 @@ use Rattle.std.proofs.Common.{◌≡◌, ℕ, zero, suc, ◌+◌, ◌≤◌, Lis
 use Rattle.std.proofs.Common.{refl, sym, ap, ◌∙◌, subst, append-nil, append_assoc, arith, length}
 use Rattle.std.proofs.lemmas.List.{get_or_past, length-set}
 use Rattle.std.specs.Option.{option_map}
-use Rattle.std.specs.Prelude.{map}
+use Rattle.std.specs.Prelude.{count_by, map}
 use Rattle.p9_conn.specs.Conn.{Connection}
 use Rattle.p9_conn.specs.History.{Happening}
 use Rattle.p9_conn.specs.Turn.{Link, phase_of}
 use Rattle.p9_conn.specs.declared.conn.Turn.{Turn}
-use Rattle.p9_clients.specs.Serving.{Serving, TurnAt, Turned, slot_at, turns_of}
+use Rattle.p9_clients.specs.Serving.{HasTurns, Serving, TurnAt, Turned, is_closed, is_moved, slot_at}
+use Rattle.p9_clients.specs.Serving.{turns_of}
+use Rattle.p9_clients.specs.declared.clients.Tally.{Tally}
 use Rattle.p9_serve_laws.specs.Beside.{AreBeside, link_at, without_stream}
 use Rattle.p9_serve_laws.specs.Decided.{AreTurnsChosen}
-use Rattle.p9_serve_laws.specs.Outside.{Given, Had, all_had, given_to, had_at}
+use Rattle.p9_serve_laws.specs.Accounts.{Had, all_had, had_at, turns_in}
+use Rattle.p9_serve_laws.specs.Outside.{Given, given_to}
 use Rattle.p9_serve_laws.proofs.Keys.{conn-same, turns-at-same}
 use Rattle.p9_serve_laws.proofs.Moments.{same-head, same-tail}
 
@@ -195,3 +198,37 @@ module _ {S T : Type 0} (remaining contents : S → Option (List ℕ))
         turns_are = t'.5 ∙ (λ i. first.turns_are i ++ turns_of (next.turn_is i)) ∙ sym t.5;
         beside = next.beside;
       }
+
+  -- a turn of each connection
+  pub tally-same : (old new : Serving S) (old' new' : Serving T) (tally tally' : Tally)
+      → AreBeside old old' → (t : HasTurns remaining contents clock old new tally)
+      → (t' : HasTurns remaining' contents' clock old' new' tally')
+      → Agree (turns_in remaining contents clock old new tally t)
+      (turns_in remaining' contents' clock old' new' tally' t')
+      → (turns_in remaining' contents' clock old' new' tally' t'
+      ≡ turns_in remaining contents clock old new tally t)
+      × (tally' ≡ tally) × AreBeside new new'
+  tally-same old new old' new' tally tally' beside t t' agree =
+      let few : length new.slots ≤ t.bound =
+      omega (arith, t.all, turned-length remaining contents clock t.bound old new t.turns t.turned) in
+      let few' : length new'.slots ≤ t'.bound =
+      omega (arith, t'.all,
+      turned-length remaining' contents' clock t'.bound old' new' t'.turns t'.turned) in
+      let keys : and_more t.bound t'.bound ≡ and_more t'.bound t.bound =
+      omega (arith, and_more-is t.bound t'.bound, and_more-is t'.bound t.bound) in
+      let long = longer remaining contents clock t'.bound t.bound old new t.turns t.turned few in
+      let long' = subst (λ (n : ℕ). Longer remaining' contents' clock n old' new' t'.turns
+      (turns_in remaining' contents' clock old' new' tally' t')) keys
+      (longer remaining' contents' clock t.bound t'.bound old' new' t'.turns t'.turned few') in
+      let all = all-same (and_more t'.bound t.bound) old new old' new' t.turns t'.turns beside
+      long.turned long'.turned
+      (λ past x y xs ys is is'. agree past x y xs ys (sym long.hads_are ∙ is)
+      (sym long'.hads_are ∙ is')) in
+      (
+        sym long'.hads_are ∙ all.hads_are ∙ long.hads_are,
+        (λ i. record {
+          moved = (t'.moved ∙ ap (count_by is_moved) all.turns_are ∙ sym t.moved) i;
+          closed = (t'.closed ∙ ap (count_by is_closed) all.turns_are ∙ sym t.closed) i;
+        }),
+        all.beside,
+      )

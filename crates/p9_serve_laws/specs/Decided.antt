@@ -2,13 +2,19 @@
 use Rattle.std.specs.Prelude.{◌≡◌, ℕ, ◌<◌, ◌^◌, List, [], ◌∷◌, ◌++◌, Option, length, map, take}
 use Rattle.std.specs.List.{AllByRecursion}
 use Rattle.p9_guard.specs.Guard.{Guarded}
-use Rattle.p9_clients.specs.Serving.{IsFinished, Serving}
+use Rattle.p9_guard_laws.specs.Alike.{AreAlike}
+use Rattle.p9_clients.specs.Serving.{HasTurns, IsFinished, Serving}
+use Rattle.p9_clients.specs.declared.clients.Tally.{Tally}
 use Rattle.p9_serve.specs.Life.{HasRounds, Moment, Pass}
 use Rattle.p9_serve.specs.Rounds.{Running}
+use Rattle.p9_serve.specs.Served.{WasServed}
+use Rattle.p9_serve_laws.specs.Accounts.{Account, Beginning, Had, accounts_of, accounts_served}
+use Rattle.p9_serve_laws.specs.Accounts.{turns_in}
 use Rattle.p9_serve_laws.specs.Beside.{AreAlikeGuards, AreBeside, AreRunningBeside}
-use Rattle.p9_serve_laws.specs.Outside.{Account, Beginning, Given, Had, Outside, accounts_of, given_to}
-use Rattle.p9_serve_laws.specs.Outside.{outside, outsides, round_outside}
+use Rattle.p9_serve_laws.specs.Outside.{Given, Outside, given_to, outside, outsides, round_outside}
 use Rattle.p9_serve_laws.specs.Twins.{IsTimely}
+
+-- Who chooses.
 
 -- who chooses what comes from outside next, by all that happened so far: all that was read, all
 -- replies, and all that was written
@@ -72,9 +78,21 @@ module _ (S T : Type 0) where
       → (take (length moments) moments' ≡ take (length moments') moments)
       × (length moments' ≡ length moments → AreBeside new new')
 
-  -- rounds with the same from outside are the same: the same turns, with the same replies, and the
-  -- same bytes read and written, in the same order among all connections, the same counts, and so
-  -- the same accepts and rests
+  -- a turn of each connection, with the same from outside, is the same: the same replies, and the
+  -- same bytes read and written, in the same order among all connections, and the same counts
+  abbrev pub TheOutsideDecidesTurns : Type 0
+  TheOutsideDecidesTurns =
+      (remaining contents : S → Option (List ℕ)) (remaining' contents' : T → Option (List ℕ))
+      (clock : ℕ) (old new : Serving S) (old' new' : Serving T) (tally tally' : Tally)
+      → AreBeside old old' → (had : HasTurns remaining contents clock old new tally)
+      (had' : HasTurns remaining' contents' clock old' new' tally')
+      → map given_to (turns_in remaining' contents' clock old' new' tally' had')
+      ≡ map given_to (turns_in remaining contents clock old new tally had)
+      → (turns_in remaining' contents' clock old' new' tally' had'
+      ≡ turns_in remaining contents clock old new tally had)
+      × (tally' ≡ tally) × AreBeside new new'
+
+  -- rounds with the same from outside are the same, and so are the next accepts and rests
   abbrev pub TheOutsideDecidesRounds : Type 0
   TheOutsideDecidesRounds =
       (remaining contents : S → Option (List ℕ)) (remaining' contents' : T → Option (List ℕ))
@@ -85,7 +103,8 @@ module _ (S T : Type 0) where
       → map round_outside (accounts_of remaining' contents' clocks' old' new' had')
       ≡ map round_outside (accounts_of remaining contents clocks old new had)
       → (accounts_of remaining' contents' clocks' old' new' had'
-      ≡ accounts_of remaining contents clocks old new had) × AreRunningBeside new new'
+      ≡ accounts_of remaining contents clocks old new had)
+      × AreRunningBeside new new'
 
   -- so are as many rounds with the same chooser
   abbrev pub ChoosersSeeTheSameRounds : Type 0
@@ -100,7 +119,8 @@ module _ (S T : Type 0) where
       → AreRoundsChosen choose [] (accounts_of remaining' contents' clocks' old' new' had')
       → length clocks' ≡ length clocks
       → (accounts_of remaining' contents' clocks' old' new' had'
-      ≡ accounts_of remaining contents clocks old new had) × AreRunningBeside new new'
+      ≡ accounts_of remaining contents clocks old new had)
+      × AreRunningBeside new new'
 
   -- the ends of all sessions leave alike guards
   abbrev pub TheOutsideDecidesTheEnd : Type 0
@@ -108,3 +128,18 @@ module _ (S T : Type 0) where
       (last : ℕ) (old : Serving S) (old' : Serving T) (left left' : Guarded)
       → AreBeside old old' → last < 2 ^ 32 → IsFinished last old left → IsFinished last old' left'
       → AreAlikeGuards left left'
+
+  -- two guards in alike states that were served as many rounds, with the same chooser, were served
+  -- the same, from a new server to the end of all sessions, and are left in alike states
+  abbrev pub ChoosersAreServedTheSame : Type 0
+  ChoosersAreServedTheSame =
+      (choose : RoundChooser) (guard guard' left left' : Guarded) (rounds : ℕ)
+      (before after before' after' : Option (List ℕ))
+      → AreAlike guard.hidden guard.state guard'.state
+      → (served : WasServed S guard rounds before after left)
+      (served' : WasServed T guard' rounds before' after' left')
+      → AreRoundsChosen choose [] (accounts_served guard left rounds before after served)
+      → AreRoundsChosen choose [] (accounts_served guard' left' rounds before' after' served')
+      → (accounts_served guard' left' rounds before' after' served'
+      ≡ accounts_served guard left rounds before after served)
+      × AreAlikeGuards left left'

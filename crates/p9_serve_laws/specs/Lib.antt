@@ -1,4 +1,5 @@
 pub mod Beside
+pub mod Accounts
 pub mod Twins
 pub mod Outside
 pub mod Decided

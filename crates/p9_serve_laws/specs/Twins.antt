@@ -1,14 +1,15 @@
 -- What one server may do, its twin may do.
-use Rattle.std.specs.Prelude.{◌≡◌, ℕ, ◌<◌, ◌^◌, List, [], ◌∷◌, Option}
+use Rattle.std.specs.Prelude.{◌≡◌, ℕ, ◌<◌, ◌^◌, List, Option}
 use Rattle.std.specs.List.{AllByRecursion}
 use Rattle.p9_step.specs.State.{State}
 use Rattle.p9_guard.specs.Guard.{Guarded}
 use Rattle.p9_guard_laws.specs.Alike.{AreAlike}
 use Rattle.p9_clients.specs.Serving.{IsFinished, Serving, in_state}
 use Rattle.p9_serve.specs.Life.{Acts, Arrives, HasRounds, Leaves, Moment, Pass}
-use Rattle.p9_serve.specs.Rounds.{HasRound, Running, new_server}
+use Rattle.p9_serve.specs.Rounds.{HasRound, Running}
 use Rattle.p9_serve.specs.Served.{WasServed}
 use Rattle.p9_serve.specs.declared.server.Round.{Round}
+use Rattle.p9_serve_laws.specs.Accounts.{account_of, accounts_of, accounts_served}
 use Rattle.p9_serve_laws.specs.Beside.{AreAlikeGuards, AreRunningTwins, AreTwins}
 
 -- a reading of the clock at which a connection leaves has 32 bits
@@ -32,19 +33,23 @@ module _ (S : Type 0) where
   TwinsMayHaveTheSameRound =
       (remaining contents : S → Option (List ℕ)) (clock : ℕ) (old new old' : Running S)
       (round : Round)
-      → AreRunningTwins old old' → HasRound remaining contents clock old new round
-      → (new' : Running S) × HasRound remaining contents clock old' new' round
+      → AreRunningTwins old old' → (had : HasRound remaining contents clock old new round)
+      → (new' : Running S) × (had' : HasRound remaining contents clock old' new' round)
+      × (account_of remaining contents clock old' new' round had'
+      ≡ account_of remaining contents clock old new round had)
       × AreRunningTwins new new'
 
   -- rounds one after another
   abbrev pub TwinsMayHaveTheSameRounds : Type 0
   TwinsMayHaveTheSameRounds =
       (remaining contents : S → Option (List ℕ)) (clocks : List ℕ) (old new old' : Running S)
-      → AreRunningTwins old old' → HasRounds remaining contents clocks old new
-      → (new' : Running S) × HasRounds remaining contents clocks old' new'
+      → AreRunningTwins old old' → (had : HasRounds remaining contents clocks old new)
+      → (new' : Running S) × (had' : HasRounds remaining contents clocks old' new')
+      × (accounts_of remaining contents clocks old' new' had'
+      ≡ accounts_of remaining contents clocks old new had)
       × AreRunningTwins new new'
 
-  -- the same end of all sessions
+  -- the end of all sessions
   abbrev pub TwinsMayEndTheSame : Type 0
   TwinsMayEndTheSame =
       (last : ℕ) (old old' : Serving S) (left : Guarded)
@@ -55,6 +60,9 @@ module _ (S : Type 0) where
   abbrev pub AlikeGuardsMayBeServedTheSame : Type 0
   AlikeGuardsMayBeServedTheSame =
       (guard left : Guarded) (other : State) (rounds : ℕ) (before after : Option (List ℕ))
-      → AreAlike guard.hidden guard.state other → WasServed S guard rounds before after left
-      → (left' : Guarded) × WasServed S (in_state guard other) rounds before after left'
+      → AreAlike guard.hidden guard.state other
+      → (served : WasServed S guard rounds before after left)
+      → (left' : Guarded) × (served' : WasServed S (in_state guard other) rounds before after left')
+      × (accounts_served (in_state guard other) left' rounds before after served'
+      ≡ accounts_served guard left rounds before after served)
       × AreAlikeGuards left left'

@@ -1,9 +1,10 @@
 //! What comes from outside decides what two servers do, side by side: they have the same connections,
 //! but for the streams, and their guards are alike, of which the first is guarded.
 
-ghost use Rattle.p9_serve_laws.specs.Decided.{ChoosersSeeTheSameMoments, ChoosersSeeTheSameRounds};
-ghost use Rattle.p9_serve_laws.specs.Decided.{TheOutsideDecidesMoments, TheOutsideDecidesRounds};
-ghost use Rattle.p9_serve_laws.specs.Decided.{TheOutsideDecidesTheEnd};
+ghost use Rattle.p9_serve_laws.specs.Decided.{ChoosersAreServedTheSame, ChoosersSeeTheSameMoments};
+ghost use Rattle.p9_serve_laws.specs.Decided.{ChoosersSeeTheSameRounds, TheOutsideDecidesMoments};
+ghost use Rattle.p9_serve_laws.specs.Decided.{TheOutsideDecidesRounds, TheOutsideDecidesTheEnd};
+ghost use Rattle.p9_serve_laws.specs.Decided.{TheOutsideDecidesTurns};
 
 /// Two lists of moments with the same from outside are the same list. So both have the same replies,
 /// and the same bytes read and written, in the same order among all connections, and lead to servers
@@ -17,6 +18,13 @@ pub fn the_outside_decides_moments<S, T>()
 /// as both go.
 pub fn choosers_see_the_same_moments<S, T>()
     ensures { ChoosersSeeTheSameMoments S T }
+{}
+
+/// A call of [`Clients::turns`](p9_serve::Clients::turns), which gives each connection a turn, with
+/// the same from outside, is the same. Which connections have turns, and in which order, does not
+/// come from outside here.
+pub fn the_outside_decides_turns<S, T>()
+    ensures { TheOutsideDecidesTurns S T }
 {}
 
 /// Rounds with the same from outside are the same. Here it does not come from outside which
@@ -34,4 +42,11 @@ pub fn choosers_see_the_same_rounds<S, T>()
 /// The ends of all sessions, at the same reading of the clock, leave alike guards.
 pub fn the_outside_decides_the_end<S, T>()
     ensures { TheOutsideDecidesTheEnd S T }
+{}
+
+/// Two guards whose states are alike, and which were served as many rounds with the same chooser,
+/// were served the same, from a new server over each to the end of all sessions. The guards that are
+/// left are alike.
+pub fn choosers_are_served_the_same<S, T>()
+    ensures { ChoosersAreServedTheSame S T }
 {}
