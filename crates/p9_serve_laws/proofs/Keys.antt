@@ -1,24 +1,29 @@
 -- What happens at one key of two servers, with the same from outside.
-use Rattle.std.proofs.Common.{◌≡◌, ◌≢◌, ℕ, ◌<◌, ◌^◌, ◌==◌, Bool, true, false, List, Option, Some, None}
-use Rattle.std.proofs.Common.{refl, sym, ap, ◌∙◌, subst}
+use Rattle.std.proofs.Common.{◌≡◌, ◌≢◌, ℕ, ◌<◌, ◌^◌, ◌==◌, Bool, true, false, List, Option, Some}
+use Rattle.std.proofs.Common.{None, refl, sym, ap, ◌∙◌, subst}
 use Rattle.std.proofs.lemmas.Bool.{eqb-false, eqb-true}
 use Rattle.std.proofs.lemmas.List.{get_or-set_other, get_or-set_same}
 use Rattle.std.specs.Option.{option_map}
 use Rattle.std.specs.Prelude.{if◌then◌else◌, slice_set}
 use Rattle.p9_step.specs.Event.{Close, Open}
-use Rattle.p9_step.specs.State.{State}
 use Rattle.p9_step.specs.Step.{step}
-use Rattle.p9_guard.specs.Guard.{Guarded}
 use Rattle.p9_conn.specs.Conn.{Connection, new_connection, scene, turn_of}
 use Rattle.p9_conn.specs.Turn.{Deeds, Link, TurnBy, phase_of}
 use Rattle.p9_conn.specs.declared.conn.Turn.{Turn}
 use Rattle.p9_clients.specs.Serving.{HasEndedAt, HasTurnAt, IsTakenIn, Serving, in_state, slot_at}
 use Rattle.p9_clients.proofs.Keyed.{within}
-use Rattle.p9_serve_laws.specs.Beside.{AreAlikeGuards, AreBeside, link_at, without_stream}
+use Rattle.p9_serve_laws.specs.Beside.{AreBeside, link_at, without_stream}
 use Rattle.p9_serve_laws.specs.Outside.{given_in}
 use Rattle.p9_serve_laws.proofs.Likewise.{both-of, guards-of, guards-step}
 use Rattle.p9_serve_laws.proofs.Same.{turns-same}
 use Rattle.p9_serve_laws.proofs.Steps.{scene_at}
+
+-- servers that are still those side by side
+pub beside-here : {S T : Type 0} (old new : Serving S) (old' new' : Serving T) → AreBeside old old'
+    → new ≡ old → new' ≡ old' → AreBeside new new'
+beside-here {S} {T} old new old' new' beside same same' =
+    subst (λ (s : Serving S). AreBeside s new') (sym same)
+    (subst (λ (s : Serving T). AreBeside old s) (sym same') beside)
 
 -- a slot that is dropped where its connection is closed
 slot-shown : {S : Type 0} (closed : Bool) (conn : Connection S)
@@ -99,7 +104,8 @@ module _ {S T : Type 0} (remaining contents : S → Option (List ℕ))
       → slot_at old.slots key ≡ Some conn → slot_at old'.slots key ≡ Some conn'
       → (t : HasTurnAt remaining contents clock key conn old new turn)
       → (t' : HasTurnAt remaining' contents' clock key conn' old' new' turn')
-      → given_in (phase_of conn'.link) t'.turned.deeds ≡ given_in (phase_of conn.link) t.turned.deeds
+      → given_in (phase_of conn'.link) t'.turned.deeds ≡ given_in (phase_of conn.link)
+      t.turned.deeds
       → TurnedSame new new' turn turn' t.turned.deeds t'.turned.deeds
   turns-at-same clock key conn conn' old new old' new' turn turn' beside there there' t t' given =
       let shown : without_stream conn' ≡ without_stream conn =
@@ -112,9 +118,9 @@ module _ {S T : Type 0} (remaining contents : S → Option (List ℕ))
       (scene_at conn.link old'.guard.state) (scene t'.after new'.guard) deeds' =
       subst (λ (p : ℕ × Link). TurnBy (phase_of p.1) p.0 clock (scene_at p.1 old'.guard.state)
       (scene t'.after new'.guard) deeds') shown t'.turned.turn in
-      let same = turns-same old.guard.hidden old.guard.start (phase_of conn.link) conn.session clock
-      conn.link old.guard.state old'.guard.state (scene t.after new.guard)
-      (scene t'.after new'.guard) deeds deeds' (both-of old.guard old'.guard beside.guards)
+      let same = turns-same old.guard.hidden old.guard.start conn.link old.guard.state
+      old'.guard.state (scene t.after new.guard) (scene t'.after new'.guard) deeds deeds'
+      (both-of old.guard old'.guard beside.guards) (phase_of conn.link) conn.session clock
       t.turned.turn turn-there
       (sym (ap (λ (l : Link). given_in (phase_of l) deeds') link) ∙ given) in
       let closed : t'.after.link.closed ≡ t.after.link.closed =
@@ -141,7 +147,8 @@ module _ {S T : Type 0} (remaining contents : S → Option (List ℕ))
   taken-same stream stream' old new old' new' beside t t' same = record {
     guards = guards-step old.guard new.guard old'.guard new'.guard (Open t.key) beside.guards tt
         t.guard_is
-        (subst (λ (k : ℕ). new'.guard ≡ in_state old'.guard (step old'.guard.state (Open k) false).state)
+        (subst (λ (k : ℕ). new'.guard ≡ in_state old'.guard (step old'.guard.state (Open k)
+        false).state)
         same t'.guard_is);
     links = links-after old new old' new' t.key beside.links
         (ap (option_map without_stream)

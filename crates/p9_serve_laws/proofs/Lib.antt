@@ -6,3 +6,4 @@ mod Keys
 mod Moments
 mod Turns
 mod Rounds
+mod Begins

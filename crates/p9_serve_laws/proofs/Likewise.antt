@@ -1,10 +1,10 @@
 -- What one server may do, its twin may do.
-use Rattle.std.proofs.Common.{◌≡◌, ◌≢◌, ℕ, zero, suc, ◌<◌, ◌^◌, Bool, true, false, List, [], ◌∷◌, ◌++◌}
+use Rattle.std.proofs.Common.{◌≡◌, ℕ, zero, suc, ◌<◌, ◌^◌, Bool, true, false, List, [], ◌∷◌, ◌++◌}
 use Rattle.std.proofs.Common.{Option, Some, None, refl, sym, ap, ◌∙◌, subst, arith, ◌≤◌, length}
 use Rattle.std.specs.Prelude.{◌==◌, ◌||◌, count_by, is_some, slice_set, if◌then◌else◌}
 use Rattle.std.specs.List.{AllByRecursion}
 use Rattle.p9_step.specs.Event.{Close, Event, IsEvent, Open}
-use Rattle.p9_step.specs.State.{State, session_at}
+use Rattle.p9_step.specs.State.{session_at}
 use Rattle.p9_step.specs.Step.{step}
 use Rattle.p9_guard.specs.Guard.{Guarded}
 use Rattle.p9_guard_laws.specs.Alike.{AreAlike}
@@ -13,15 +13,15 @@ use Rattle.p9_guard_laws.proofs.Guards.{alike_guarded}
 use Rattle.p9_conn.specs.Conn.{Connection, scene}
 use Rattle.p9_conn.specs.Turn.{Deeds, phase_of}
 use Rattle.p9_conn.specs.declared.conn.Turn.{Turn}
-use Rattle.p9_clients.specs.Serving.{EndAt, Ended, HasEndedAt, HasTurnAt, IsFinished, IsTakenIn, Serving}
+use Rattle.p9_clients.specs.Serving.{EndAt, Ended, HasEndedAt, HasTurnAt, IsTakenIn, Serving}
 use Rattle.p9_clients.specs.Serving.{TurnAt, Turned, in_state, slot_at}
 use Rattle.p9_serve.specs.Life.{Acts, Arrives, HasRounds, Leaves, Moment, Pass, Passes}
-use Rattle.p9_serve.specs.Rounds.{Accepts, AcceptsIf, HasRound, Running, accepts_now, new_server}
-use Rattle.p9_serve.specs.Rounds.{untold}
-use Rattle.p9_serve.specs.Served.{HadRounds, WasServed, last_after}
+use Rattle.p9_serve.specs.Rounds.{AcceptsIf, HasRound, Running, accepts_now, new_server, untold}
+use Rattle.p9_serve.specs.Served.{last_after}
 use Rattle.p9_serve.specs.Pace.{Pacing, is_due, pacing_after}
 use Rattle.p9_serve.specs.declared.server.Round.{Round}
-use Rattle.p9_serve_laws.specs.Accounts.{Had, account_of, accounts_of, all_had, arrival_in, had_at}
+use Rattle.p9_serve_laws.specs.Accounts.{TurnAccount, account_of, accounts_of, turns_below}
+use Rattle.p9_serve_laws.specs.Accounts.{arrival_in, turns_at}
 use Rattle.p9_serve_laws.specs.Beside.{AreAlikeGuards, AreRunningTwins, AreTwins}
 use Rattle.p9_serve_laws.specs.Twins.{AlikeGuardsMayBeServedTheSame, IsTimely, TwinsMayEndTheSame}
 use Rattle.p9_serve_laws.specs.Twins.{TwinsMayHaveTheSameRound, TwinsMayHaveTheSameRounds}
@@ -35,7 +35,8 @@ both-of a b guards = record { guarded = guards.guarded; alike = guards.alike }
 pub guards-of : (old new other : Guarded) → new ≡ in_state old new.state
     → AreBoth old.hidden old.start new.state other.state → AreAlikeGuards new other
 guards-of old new other is both = record {
-  guarded = subst (λ (g : Guarded). IsGuardedState g.hidden g.start new.state) (sym is) both.guarded;
+  guarded = subst (λ (g : Guarded). IsGuardedState g.hidden g.start new.state) (sym is)
+      both.guarded;
   alike = subst (λ (g : Guarded). AreAlike g.hidden new.state other.state) (sym is) both.alike;
 }
 
@@ -87,7 +88,8 @@ module _ {S : Type 0} (remaining contents : S → Option (List ℕ)) where
             result_is = turned.result_is;
           };
           slots_are = t.slots_are
-              ∙ ap (λ slots. slice_set slots key (if t.after.link.closed then None else Some t.after))
+              ∙ ap
+              (λ slots. slice_set slots key (if t.after.link.closed then None else Some t.after))
               (sym twins.slots);
         };
         deeds_are = refl;
@@ -99,16 +101,16 @@ module _ {S : Type 0} (remaining contents : S → Option (List ℕ)) where
 
   -- the same turn at a key, or none
   record TurnToo (clock key : ℕ) (o : Option (Connection S)) (new old' : Serving S)
-      (turn : Option Turn) (hads : List Had) : Type 0 where
+      (turn : Option Turn) (hads : List TurnAccount) : Type 0 where
     other : Serving S
     at : TurnAt remaining contents clock key o old' other turn
-    hads_are : had_at remaining contents clock key o old' other turn at ≡ hads
+    hads_are : turns_at remaining contents clock key o old' other turn at ≡ hads
     twins : AreTwins new other
 
   turn-too : (clock key : ℕ) (o : Option (Connection S)) (old new old' : Serving S)
       (turn : Option Turn) → AreTwins old old'
       → (t : TurnAt remaining contents clock key o old new turn)
-      → TurnToo clock key o new old' turn (had_at remaining contents clock key o old new turn t)
+      → TurnToo clock key o new old' turn (turns_at remaining contents clock key o old new turn t)
   turn-too clock key None old new old' turn twins t = record {
     other = old';
     at = (refl, t.1);
@@ -122,24 +124,25 @@ module _ {S : Type 0} (remaining contents : S → Option (List ℕ)) where
         other = too.other;
         at = too.had;
         hads_are = ap (λ (deeds : Deeds).
-            let had : Had = record {
+            let had : TurnAccount = record {
               phase = phase_of conn.link;
               happening = record { session = key; clock = clock; deeds = deeds };
             } in had ∷ []) too.deeds_are;
         twins = too.twins;
       }
 
-  record TurnedToo (clock keys : ℕ) (new old' : Serving S) (turns : List Turn) (hads : List Had)
+  record TurnedToo (clock keys : ℕ) (new old' : Serving S) (turns : List Turn)
+      (hads : List TurnAccount)
       : Type 0 where
     other : Serving S
     turned : Turned remaining contents clock keys old' other turns
-    hads_are : all_had remaining contents clock keys old' other turns turned ≡ hads
+    hads_are : turns_below remaining contents clock keys old' other turns turned ≡ hads
     twins : AreTwins new other
 
   turned-too : (clock keys : ℕ) (old new old' : Serving S) (turns : List Turn) → AreTwins old old'
       → (t : Turned remaining contents clock keys old new turns)
       → TurnedToo clock keys new old' turns
-      (all_had remaining contents clock keys old new turns t)
+      (turns_below remaining contents clock keys old new turns t)
   turned-too clock zero old new old' turns twins t = record {
     other = old';
     turned = (refl, t.1);
@@ -148,8 +151,9 @@ module _ {S : Type 0} (remaining contents : S → Option (List ℕ)) where
   }
   turned-too clock (suc key) old new old' turns twins t =
       let first = turned-too clock key old t.0 old' t.1 twins t.3 in
-      let next = turn-too clock key (slot_at t.0.slots key) t.0 new first.other t.2 first.twins t.4 in
-      let hads = had_at remaining contents clock key (slot_at t.0.slots key) t.0 new t.2 t.4 in
+      let next = turn-too clock key (slot_at t.0.slots key) t.0 new first.other t.2 first.twins t.4
+      in
+      let hads = turns_at remaining contents clock key (slot_at t.0.slots key) t.0 new t.2 t.4 in
       let here : TurnToo clock key (slot_at first.other.slots key) new first.other t.2 hads =
       subst (λ (o : Option (Connection S)). TurnToo clock key o new first.other t.2 hads)
       (ap (λ slots. slot_at slots key) (sym first.twins.slots)) next in
@@ -170,8 +174,7 @@ module _ {S : Type 0} (remaining contents : S → Option (List ℕ)) where
       let other : Serving S = record {
         guard = in_state old'.guard (step old'.guard.state (Open t.key) false).state;
         slots = new.slots;
-      } in
-      (
+      } in (
         other,
         record {
           key = t.key;
@@ -232,8 +235,7 @@ module _ {S : Type 0} (remaining contents : S → Option (List ℕ)) where
       let other : Serving S = record {
         guard = in_state old'.guard (step old'.guard.state (Close key clock) false).state;
         slots = new.slots;
-      } in
-      (
+      } in (
         other,
         record {
           guard_is = refl;
@@ -276,8 +278,7 @@ module _ {S : Type 0} (remaining contents : S → Option (List ℕ)) where
       let too = taken-too t.stream old new old' twins t.taken in
       (too.0, record { stream = t.stream; taken = too.1; key_is = too.2 ∙ t.key_is }, too.3)
   moment-too (Acts h) old new old' twins timely t =
-      let too = turns-at-too h.clock h.session t.conn old new old' t.turn twins t.had in
-      (
+      let too = turns-at-too h.clock h.session t.conn old new old' t.turn twins t.had in (
         too.other,
         record {
           conn = t.conn;
@@ -289,8 +290,7 @@ module _ {S : Type 0} (remaining contents : S → Option (List ℕ)) where
         too.twins,
       )
   moment-too (Leaves key clock) old new old' twins timely t =
-      let too = ended-too clock key old new old' timely twins t.ended in
-      (
+      let too = ended-too clock key old new old' timely twins t.ended in (
         too.0,
         record {
           conn = t.conn;
@@ -329,12 +329,12 @@ module _ {S : Type 0} (remaining contents : S → Option (List ℕ)) where
       let accept : AcceptToo (accepts_now old') t.between old'.serving round.accepted arrival =
       subst (λ (m : Bool). AcceptToo m t.between old'.serving round.accepted arrival)
       (sym (same-accepts old old' twins))
-      (accept-too made old.serving t.between old'.serving round.accepted twins.serving t.accepted) in
+      (accept-too made old.serving t.between old'.serving round.accepted twins.serving t.accepted)
+      in
       let turns = turned-too clock t.turned.bound t.between new.serving accept.other t.turned.turns
       accept.twins t.turned.turned in
       let other : Running S =
-      record { serving = turns.other; pace = pacing_after old'.pace round } in
-      (
+      record { serving = turns.other; pace = pacing_after old'.pace round } in (
         other,
         record {
           between = accept.other;
@@ -390,8 +390,7 @@ pub twins-may-end-the-same : {S : Type 0} → TwinsMayEndTheSame S
 twins-may-end-the-same {S} last old old' left twins small t =
     let ends = ends-too {S = S} untold untold last t.bound old t.last old' small twins t.ended in
     let guards : AreAlikeGuards left ends.0.guard =
-    subst (λ (g : Guarded). AreAlikeGuards g ends.0.guard) (sym t.guard_is) ends.2.guards in
-    (
+    subst (λ (g : Guarded). AreAlikeGuards g ends.0.guard) (sym t.guard_is) ends.2.guards in (
       ends.0.guard,
       record {
         bound = t.bound;
@@ -430,8 +429,7 @@ alike-guards-may-be-served-the-same {S} guard left other rounds before after ali
     let rounds' = rounds-too {S = S} untold untold had.readings (new_server old) served.running
     (new_server old') twins had.happened in
     let end = twins-may-end-the-same {S = S} served.last served.running.serving rounds'.0.serving
-    left rounds'.3.serving small served.finished in
-    (
+    left rounds'.3.serving small served.finished in (
       end.0,
       record {
         guarded = alike_guarded guard.hidden guard.start guard.state other served.guarded alike;

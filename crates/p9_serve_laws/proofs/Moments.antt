@@ -1,20 +1,18 @@
 -- Moments with the same from outside are the same.
-use Rattle.std.proofs.Common.{◌≡◌, ℕ, ◌<◌, ◌^◌, List, [], ◌∷◌, ◌++◌, Option, Some, None, length, take}
-use Rattle.std.proofs.Common.{refl, sym, ap, ◌∙◌, subst, arith}
+use Rattle.std.proofs.Common.{◌≡◌, ℕ, List, [], ◌∷◌, ◌++◌, Option, Some, length, take, refl, sym}
+use Rattle.std.proofs.Common.{ap, ◌∙◌, subst, arith}
 use Rattle.std.specs.List.{AllByRecursion}
 use Rattle.p9_conn.specs.Conn.{Connection}
-use Rattle.p9_conn.specs.History.{Happening}
 use Rattle.p9_conn.specs.Turn.{Deeds, phase_of}
 use Rattle.p9_conn.specs.declared.conn.Turn.{Turn}
-use Rattle.p9_clients.specs.Serving.{HasEndedAt, HasTurnAt, IsTakenIn, Serving, slot_at}
+use Rattle.p9_clients.specs.Serving.{HasEndedAt, HasTurnAt, Serving, slot_at}
 use Rattle.p9_serve.specs.Life.{Acts, Arrives, HasActed, Leaves, Moment, Pass, Passes}
 use Rattle.p9_serve_laws.specs.Beside.{AreBeside}
 use Rattle.p9_serve_laws.specs.Decided.{AreChosen, Chooser, ChoosersSeeTheSameMoments}
 use Rattle.p9_serve_laws.specs.Decided.{TheOutsideDecidesMoments}
-use Rattle.p9_serve_laws.specs.Outside.{Comes, Given, HasTurn, IsEnded, Outside, given_in, outside}
-use Rattle.p9_serve_laws.specs.Outside.{outsides}
+use Rattle.p9_serve_laws.specs.Outside.{HasTurn, given_in, outside, outsides}
 use Rattle.p9_serve_laws.specs.Twins.{IsTimely}
-use Rattle.p9_serve_laws.proofs.Keys.{ended-same, taken-same, turns-at-same}
+use Rattle.p9_serve_laws.proofs.Keys.{beside-here, ended-same, taken-same, turns-at-same}
 
 pub same-tail : {A : Type 0} (x y : A) (xs ys : List A) → (y ∷ ys) ≡ (x ∷ xs) → ys ≡ xs
 same-tail x y xs ys e = cc
@@ -24,12 +22,6 @@ same-head x y xs ys e = cc
 
 module _ {S T : Type 0} (remaining contents : S → Option (List ℕ))
     (remaining' contents' : T → Option (List ℕ)) where
-  beside-there : (old new : Serving S) (old' new' : Serving T) → AreBeside old old' → new ≡ old
-      → new' ≡ old' → AreBeside new new'
-  beside-there old new old' new' beside same same' =
-      subst (λ (s : Serving S). AreBeside s new') (sym same)
-      (subst (λ (s : Serving T). AreBeside old s) (sym same') beside)
-
   -- two turns that happened
   acts-same : (key key' clock clock' : ℕ) (old new : Serving S) (old' new' : Serving T)
       (deeds deeds' : Deeds) → AreBeside old old'
@@ -54,8 +46,7 @@ module _ {S T : Type 0} (remaining contents : S → Option (List ℕ))
       new old' new' t.turn t'.turn beside t.there there' t.had had'.0
       (ap (given_in (phase_of t'.conn.link)) had'.1 ∙ given-is
       ∙ sym (ap (given_in (phase_of t.conn.link)) t.deeds_are)) in
-      let deeds-are : deeds' ≡ deeds = sym had'.1 ∙ same.deeds_are ∙ t.deeds_are in
-      (
+      let deeds-are : deeds' ≡ deeds = sym had'.1 ∙ same.deeds_are ∙ t.deeds_are in (
         (λ i. Acts (record { session = key-is i; clock = clock-is i; deeds = deeds-are i })),
         same.beside,
       )
@@ -78,8 +69,7 @@ module _ {S T : Type 0} (remaining contents : S → Option (List ℕ))
       → outside remaining' contents' m' old' new' t' ≡ outside remaining contents m old new t
       → (m' ≡ m) × AreBeside new new'
   moment-same (Arrives key) (Arrives key') old new old' new' beside timely t t' given =
-      let key-is : key' ≡ key = cc in
-      (
+      let key-is : key' ≡ key = cc in (
         ap Arrives key-is,
         taken-same remaining contents remaining' contents' t.stream t'.stream old new old' new'
             beside t.taken t'.taken (t'.key_is ∙ key-is ∙ sym t.key_is),
@@ -97,10 +87,10 @@ module _ {S T : Type 0} (remaining contents : S → Option (List ℕ))
   moment-same (Leaves key clock) (Acts h') old new old' new' beside timely t t' given = absurd (cc)
   moment-same (Leaves key clock) (Leaves key' clock') old new old' new' beside timely t t' given =
       let key-is : key' ≡ key = cc in
-      let clock-is : clock' ≡ clock = cc in
-      (
+      let clock-is : clock' ≡ clock = cc in (
         (λ i. Leaves (key-is i) (clock-is i)),
-        ended-same remaining contents remaining' contents' clock key t.conn t'.conn old new old' new'
+        ended-same remaining contents remaining' contents' clock key t.conn t'.conn old new old'
+            new'
             timely beside t.there
             (subst (λ (k : ℕ). slot_at old'.slots k ≡ Some t'.conn) key-is t'.there) t.ended
             (subst (λ (c : ℕ). HasEndedAt c key old' new') clock-is
@@ -113,7 +103,7 @@ module _ {S T : Type 0} (remaining contents : S → Option (List ℕ))
       → outsides remaining' contents' ms' old' new' t' ≡ outsides remaining contents ms old new t
       → (ms' ≡ ms) × AreBeside new new'
   moments-same [] [] old new old' new' beside timely t t' given =
-      (refl, beside-there old new old' new' beside t t')
+      (refl, beside-here old new old' new' beside t t')
   moments-same [] (m' ∷ ms') old new old' new' beside timely t t' given = absurd (cc)
   moments-same (m ∷ ms) [] old new old' new' beside timely t t' given = absurd (cc)
   moments-same (m ∷ ms) (m' ∷ ms') old new old' new' beside timely t t' given =
@@ -131,7 +121,7 @@ module _ {S T : Type 0} (remaining contents : S → Option (List ℕ))
       → (take (length ms) ms' ≡ take (length ms') ms)
       × (length ms' ≡ length ms → AreBeside new new')
   choosers-same choose past [] [] old new old' new' beside timely t t' c c' =
-      (refl, λ long. beside-there old new old' new' beside t t')
+      (refl, λ long. beside-here old new old' new' beside t t')
   choosers-same choose past [] (m' ∷ ms') old new old' new' beside timely t t' c c' =
       (refl, λ long. absurd (omega arith))
   choosers-same choose past (m ∷ ms) [] old new old' new' beside timely t t' c c' =
@@ -139,7 +129,8 @@ module _ {S T : Type 0} (remaining contents : S → Option (List ℕ))
   choosers-same choose past (m ∷ ms) (m' ∷ ms') old new old' new' beside timely t t' c c' =
       let first = moment-same m m' old t.0 old' t'.0 beside timely.0 t.1 t'.1 (c'.0 ∙ sym c.0) in
       let chosen : AreChosen remaining' contents' choose (past ++ m ∷ []) ms' t'.0 new' t'.2 =
-      subst (λ (z : Moment). AreChosen remaining' contents' choose (past ++ z ∷ []) ms' t'.0 new' t'.2)
+      subst
+      (λ (z : Moment). AreChosen remaining' contents' choose (past ++ z ∷ []) ms' t'.0 new' t'.2)
       first.0 c'.1 in
       let more = choosers-same choose (past ++ m ∷ []) ms ms' t.0 new t'.0 new' first.1 timely.1 t.2
       t'.2 c.1 chosen in

@@ -1,31 +1,30 @@
 -- Rounds with the same from outside are the same, and so is the end.
-use Rattle.std.proofs.Common.{◌≡◌, ℕ, zero, suc, ◌+◌, ◌≤◌, ◌<◌, ◌^◌, ◌==◌, Bool, true, false, List, []}
-use Rattle.std.proofs.Common.{◌∷◌, ◌++◌, Option, Some, None, refl, sym, ap, ◌∙◌, subst, arith, length, cond}
-use Rattle.std.proofs.lemmas.Bool.{eqb-false, eqb-true}
+use Rattle.std.proofs.Common.{◌≡◌, ℕ, zero, suc, ◌+◌, ◌≤◌, ◌<◌, ◌^◌, ◌==◌, Bool, true, false, List}
+use Rattle.std.proofs.Common.{[], ◌∷◌, ◌++◌, Option, Some, None, refl, sym, ap, ◌∙◌, subst, arith}
+use Rattle.std.proofs.Common.{length, cond}
+use Rattle.std.proofs.lemmas.Bool.{eqb-true}
 use Rattle.std.proofs.lemmas.List.{get_or_past, length-set}
 use Rattle.std.proofs.lemmas.List.Sums.{sum_by-cons}
 use Rattle.std.specs.Option.{option_map}
 use Rattle.std.specs.Prelude.{◌||◌, count_by, is_some, map}
 use Rattle.p9_conn.specs.Conn.{Connection}
-use Rattle.p9_conn.specs.declared.conn.Turn.{Turn}
 use Rattle.p9_guard.specs.Guard.{Guarded}
-use Rattle.p9_clients.specs.Serving.{EndAt, Ended, IsFinished, Serving, Turned, has_nobody, is_closed}
-use Rattle.p9_clients.specs.Serving.{is_moved, slot_at}
+use Rattle.p9_clients.specs.Serving.{EndAt, Ended, IsFinished, Serving, has_nobody, slot_at}
 use Rattle.p9_serve.specs.Life.{HasRounds}
-use Rattle.p9_serve.specs.Pace.{Pacing, is_due, pacing_after}
+use Rattle.p9_serve.specs.Pace.{is_due, pacing_after}
 use Rattle.p9_serve.specs.Rounds.{AcceptsIf, HasRound, Running, accepts_now, new_server, tally_of}
 use Rattle.p9_serve.specs.Rounds.{untold}
 use Rattle.p9_serve.specs.Served.{last_after}
 use Rattle.p9_serve.specs.declared.server.Round.{Round}
-use Rattle.p9_serve_laws.specs.Accounts.{Account, Beginning, Had, account_of, accounts_of, arrival_in}
+use Rattle.p9_serve_laws.specs.Accounts.{Account, Beginning, account_of, accounts_of, arrival_in}
 use Rattle.p9_serve_laws.specs.Beside.{AreAlikeGuards, AreBeside, AreRunningBeside, link_at}
 use Rattle.p9_serve_laws.specs.Beside.{without_stream}
 use Rattle.p9_serve_laws.specs.Decided.{AreRoundsChosen, AreTurnsChosen, ChoosersSeeTheSameRounds}
-use Rattle.p9_serve_laws.specs.Decided.{RoundChooser}
-use Rattle.p9_serve_laws.specs.Decided.{ChoosersAreServedTheSame, TheOutsideDecidesRounds}
-use Rattle.p9_serve_laws.specs.Decided.{TheOutsideDecidesTheEnd, TheOutsideDecidesTurns}
-use Rattle.p9_serve_laws.specs.Outside.{RoundOutside, given_to, round_outside}
-use Rattle.p9_serve_laws.proofs.Keys.{ended-same, taken-same}
+use Rattle.p9_serve_laws.specs.Decided.{RoundChooser, ChoosersAreServedTheSame}
+use Rattle.p9_serve_laws.specs.Decided.{TheOutsideDecidesRounds, TheOutsideDecidesTheEnd}
+use Rattle.p9_serve_laws.specs.Decided.{TheOutsideDecidesTurns}
+use Rattle.p9_serve_laws.specs.Outside.{RoundOutside, round_outside}
+use Rattle.p9_serve_laws.proofs.Keys.{beside-here, ended-same, taken-same}
 use Rattle.p9_serve_laws.proofs.Likewise.{last-small}
 use Rattle.p9_serve_laws.proofs.Moments.{same-head, same-tail}
 use Rattle.p9_serve_laws.proofs.Turns.{Agree, and_more, and_more-is, chosen-agree, given-agree}
@@ -77,12 +76,6 @@ same-nobody a b links = go (has_nobody a) (has_nobody b) refl refl
 
 module _ {S T : Type 0} (remaining contents : S → Option (List ℕ))
     (remaining' contents' : T → Option (List ℕ)) where
-  both-here : (old new : Serving S) (old' new' : Serving T) → AreBeside old old' → new ≡ old
-      → new' ≡ old' → AreBeside new new'
-  both-here old new old' new' beside same same' =
-      subst (λ (s : Serving S). AreBeside s new') (sym same)
-      (subst (λ (s : Serving T). AreBeside old s) (sym same') beside)
-
   -- Accepts.
 
   same-accepts : (old : Running S) (old' : Running T) → AreRunningBeside old old'
@@ -97,20 +90,22 @@ module _ {S T : Type 0} (remaining contents : S → Option (List ℕ))
       → arrival_in made old' new' accepted' t' ≡ arrival_in made old new accepted t
       → (accepted' ≡ accepted) × AreBeside new new'
   accept-same true old new old' new' zero zero beside t t' same =
-      (refl, both-here old new old' new' beside t t')
+      (refl, beside-here old new old' new' beside t t')
   accept-same true old new old' new' zero (suc zero) beside t t' same =
       let no : Some t'.1.key ≡ None = same in absurd (cc)
   accept-same true old new old' new' zero (suc (suc more)) beside t t' same = absurd t'
   accept-same true old new old' new' (suc zero) zero beside t t' same =
       let no : None ≡ Some t.1.key = same in absurd (cc)
   accept-same true old new old' new' (suc zero) (suc zero) beside t t' same =
-      let some : Some t'.1.key ≡ Some t.1.key = same in
-      (refl, taken-same remaining contents remaining' contents' t.0 t'.0 old new old' new' beside t.1
-      t'.1 (cc))
+      let some : Some t'.1.key ≡ Some t.1.key = same in (
+        refl,
+        taken-same remaining contents remaining' contents' t.0 t'.0 old new old' new' beside t.1
+            t'.1 (cc),
+      )
   accept-same true old new old' new' (suc zero) (suc (suc more)) beside t t' same = absurd t'
   accept-same true old new old' new' (suc (suc more)) accepted' beside t t' same = absurd t
   accept-same false old new old' new' accepted accepted' beside t t' same =
-      (t'.1 ∙ sym t.1, both-here old new old' new' beside t.0 t'.0)
+      (t'.1 ∙ sym t.1, beside-here old new old' new' beside t.0 t'.0)
 
   -- Rounds.
 
@@ -134,13 +129,13 @@ module _ {S T : Type 0} (remaining contents : S → Option (List ℕ))
       let accept = accept-same made old.serving t.between old'.serving t'.between round.accepted
       round'.accepted beside.serving t.accepted there.0 there.1 in
       let turns = tally-same remaining contents remaining' contents' clock t.between new.serving
-      t'.between new'.serving (tally_of round) (tally_of round') accept.1 t.turned t'.turned agree in
+      t'.between new'.serving (tally_of round) (tally_of round') accept.1 t.turned t'.turned agree
+      in
       let round-is : round' ≡ round = λ i. record {
         accepted = accept.0 i;
         moved = (turns.1 i).moved;
         closed = (turns.1 i).closed;
-      } in
-      (
+      } in (
         (λ i. record {
           beginning = record { clock = clock; arrival = arrival i };
           turns = turns.0 i;
@@ -229,7 +224,8 @@ module _ {S T : Type 0} (remaining contents : S → Option (List ℕ))
       (subst (λ (b : Beginning). AreTurnsChosen (choose.gives past b) [] account'.turns) begins
       c'.1)) in
       let later = accounts_of remaining' contents' clocks' t'.0 new' t'.3 in
-      let more = rounds-chosen choose (past ++ account ∷ []) clocks clocks' t.0 new t'.0 new' first.1
+      let more = rounds-chosen choose (past ++ account ∷ []) clocks clocks' t.0 new t'.0 new'
+      first.1
       t.3 t'.3 c.2
       (subst (λ (a : Account). AreRoundsChosen choose (past ++ a ∷ []) later) first.0 c'.2)
       (omega arith) in
@@ -255,8 +251,7 @@ module _ {S : Type 0} (clock : ℕ) where
   ended-longer (suc more) keys old new t few =
       let key = and_more more keys in
       let past : length new.slots ≤ key = omega (arith, and_more-is more keys) in
-      let none : slot_at new.slots key ≡ None = get_or_past new.slots key None past in
-      (
+      let none : slot_at new.slots key ≡ None = get_or_past new.slots key None past in (
         new,
         ended-longer more keys old new t few,
         subst (λ (o : Option (Connection S)). EndAt clock key o new new) (sym none) refl,
@@ -269,7 +264,7 @@ module _ {S T : Type 0} (remaining contents : S → Option (List ℕ))
       → slot_at old.slots key ≡ o → slot_at old'.slots key ≡ o' → AreBeside old old'
       → EndAt clock key o old new → EndAt clock key o' old' new' → AreBeside new new'
   end-same key None None old new old' new' is is' beside t t' =
-      both-here remaining contents remaining' contents' old new old' new' beside t t'
+      beside-here old new old' new' beside t t'
   end-same key None (Some conn') old new old' new' is is' beside t t' =
       let no : Some (without_stream conn') ≡ None =
       sym (ap (option_map without_stream) is') ∙ beside.links key
@@ -279,13 +274,14 @@ module _ {S T : Type 0} (remaining contents : S → Option (List ℕ))
       sym (ap (option_map without_stream) is') ∙ beside.links key
       ∙ ap (option_map without_stream) is in absurd (cc)
   end-same key (Some conn) (Some conn') old new old' new' is is' beside t t' =
-      ended-same remaining contents remaining' contents' clock key conn conn' old new old' new' small
+      ended-same remaining contents remaining' contents' clock key conn conn' old new old' new'
+      small
       beside is is' t t'
 
   ends-same : (keys : ℕ) (old new : Serving S) (old' new' : Serving T) → AreBeside old old'
       → Ended clock keys old new → Ended clock keys old' new' → AreBeside new new'
   ends-same zero old new old' new' beside t t' =
-      both-here remaining contents remaining' contents' old new old' new' beside t t'
+      beside-here old new old' new' beside t t'
   ends-same (suc key) old new old' new' beside t t' =
       end-same key (slot_at t.0.slots key) (slot_at t'.0.slots key) t.0 new t'.0 new' refl refl
       (ends-same key old t.0 old' t'.0 beside t.1 t'.1) t.2 t'.2
@@ -321,9 +317,10 @@ the-outside-decides-the-end {S} {T} last old old' left left' beside small t t' =
     (subst (λ (g : Guarded). AreAlikeGuards t.last.guard g) (sym t'.guard_is) same.guards)
 
 pub the-outside-decides-turns : {S T : Type 0} → TheOutsideDecidesTurns S T
-the-outside-decides-turns remaining contents remaining' contents' clock old new old' new' tally tally'
-    beside had had' given =
-    tally-same remaining contents remaining' contents' clock old new old' new' tally tally' beside had
+the-outside-decides-turns remaining contents remaining' contents' clock old new old' new' tally
+    tally' beside had had' given =
+    tally-same remaining contents remaining' contents' clock old new old' new' tally tally' beside
+    had
     had' (given-agree _ _ given)
 
 -- Serving.
@@ -338,8 +335,8 @@ clocks-in remaining contents (clock ∷ clocks) old new t =
     ap (λ (more : List ℕ). clock ∷ more) (clocks-in remaining contents clocks t.0 new t.3)
 
 pub choosers-are-served-the-same : {S T : Type 0} → ChoosersAreServedTheSame S T
-choosers-are-served-the-same {S} {T} choose guard guard' left left' rounds before after before' after'
-    alike served served' chosen chosen' =
+choosers-are-served-the-same {S} {T} choose guard guard' left left' rounds before after before'
+    after' alike served served' chosen chosen' =
     let old : Serving S = record { guard = guard; slots = [] } in
     let old' : Serving T = record { guard = guard'; slots = [] } in
     let beside : AreRunningBeside (new_server old) (new_server old') = record {
@@ -355,7 +352,8 @@ choosers-are-served-the-same {S} {T} choose guard guard' left left' rounds befor
     had'.readings (new_server old) served.running (new_server old') served'.running beside
     had.happened had'.happened chosen chosen' (had'.count ∙ sym had.count) in
     let readings : had'.readings ≡ had.readings =
-    sym (clocks-in {S = T} untold untold had'.readings (new_server old') served'.running had'.happened)
+    sym (clocks-in {S = T} untold untold had'.readings (new_server old') served'.running
+    had'.happened)
     ∙ ap (map (λ (a : Account). a.beginning.clock)) same.0
     ∙ clocks-in {S = S} untold untold had.readings (new_server old) served.running had.happened in
     let last : served'.last ≡ served.last =
@@ -364,8 +362,7 @@ choosers-are-served-the-same {S} {T} choose guard guard' left left' rounds befor
     subst (λ (n : ℕ). n < 2 ^ 32) (sym had.last_is)
     (last-small 0 had.readings (omega arith) had.small) in
     let finished' : IsFinished served.last served'.running.serving left' =
-    subst (λ (n : ℕ). IsFinished n served'.running.serving left') last served'.finished in
-    (
+    subst (λ (n : ℕ). IsFinished n served'.running.serving left') last served'.finished in (
       same.0,
       the-outside-decides-the-end {S = S} {T = T} served.last served.running.serving
           served'.running.serving left left' same.1.serving small served.finished finished',

@@ -1,5 +1,5 @@
 -- One step, and one turn, of two alike states.
-use Rattle.std.proofs.Common.{◌≡◌, ℕ, inl, inr, Bool, List, [], ◌∷◌, ◌++◌, drop, refl, sym, ap, ◌∙◌, subst}
+use Rattle.std.proofs.Common.{◌≡◌, ℕ, inl, inr, Bool, List, refl, sym, ap, ◌∙◌, subst}
 use Rattle.p9_base.specs.declared.node_ref.NodeRef.{NodeRef}
 use Rattle.p9_step.specs.Event.{Event, IsEvent}
 use Rattle.p9_step.specs.State.{State}
@@ -8,8 +8,8 @@ use Rattle.p9_guard_laws.specs.Alike.{AreAlike}
 use Rattle.p9_guard_laws.specs.Grown.{Start}
 use Rattle.p9_guard_laws.specs.Guarded.{IsGuardedState}
 use Rattle.p9_guard_laws.proofs.Headline.{alike_step}
-use Rattle.p9_conn.specs.Turn.{Answered, Answering, AnswersFrame, Deeds, Ending, Ends, IsIdle, IsStep}
-use Rattle.p9_conn.specs.Turn.{Link, Over, Phase, Receives, Receiving, Scene, Sending, Sends, TurnBy}
+use Rattle.p9_conn.specs.Turn.{Answered, Answering, Deeds, Ending, IsIdle, IsStep, Link, Over}
+use Rattle.p9_conn.specs.Turn.{Phase, Receives, Receiving, Scene, Sending, Sends, TurnBy}
 use Rattle.p9_serve_laws.proofs.Marks.{permitted-alike}
 
 abbrev pub scene_at : Link → State → Scene

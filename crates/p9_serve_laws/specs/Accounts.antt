@@ -1,6 +1,6 @@
 -- What happened in rounds, told turn by turn.
-use Rattle.std.specs.Prelude.{◌≡◌, ℕ, zero, suc, Bool, true, false, List, [], ◌∷◌, ◌++◌, Option}
-use Rattle.std.specs.Prelude.{Some, None}
+use Rattle.std.specs.Prelude.{ℕ, zero, suc, Bool, true, false, List, [], ◌∷◌, ◌++◌, Option, Some}
+use Rattle.std.specs.Prelude.{None}
 use Rattle.p9_guard.specs.Guard.{Guarded}
 use Rattle.p9_conn.specs.Conn.{Connection}
 use Rattle.p9_conn.specs.History.{Happening}
@@ -14,9 +14,9 @@ use Rattle.p9_serve.specs.Rounds.{untold}
 use Rattle.p9_serve.specs.Served.{WasServed}
 use Rattle.p9_serve.specs.declared.server.Round.{Round}
 
--- a turn: what it was to do, at which key and reading of the clock it was, what it read and wrote,
+-- a turn: what it was to do, and then its key, its reading of the clock, what it read and wrote,
 -- and what it answered
-pub record Had : Type 0 where
+pub record TurnAccount : Type 0 where
   pub phase : Phase
   pub happening : Happening
 
@@ -29,7 +29,7 @@ pub record Beginning : Type 0 where
 -- a round: its beginning, its turns in their order, and how it is counted
 pub record Account : Type 0 where
   pub beginning : Beginning
-  pub turns : List Had
+  pub turns : List TurnAccount
   pub round : Round
 
 -- the key of the client that an accept took in, if one was made and took in one
@@ -42,11 +42,12 @@ arrival_in false old new accepted accepts = None
 
 module _ {S : Type 0} (remaining contents : S → Option (List ℕ)) where
   -- the turn at a key, if there was one
-  abbrev pub had_at : (clock key : ℕ) (conn : Option (Connection S)) (old new : Serving S)
-      (turn : Option Turn) → TurnAt remaining contents clock key conn old new turn → List Had
-  had_at clock key None old new turn at = []
-  had_at clock key (Some conn) old new None at = []
-  had_at clock key (Some conn) old new (Some turn) at =
+  abbrev pub turns_at : (clock key : ℕ) (conn : Option (Connection S)) (old new : Serving S)
+      (turn : Option Turn) → TurnAt remaining contents clock key conn old new turn
+      → List TurnAccount
+  turns_at clock key None old new turn at = []
+  turns_at clock key (Some conn) old new None at = []
+  turns_at clock key (Some conn) old new (Some turn) at =
       record {
         phase = phase_of conn.link;
         happening = record { session = key; clock = clock; deeds = at.turned.deeds };
@@ -54,16 +55,16 @@ module _ {S : Type 0} (remaining contents : S → Option (List ℕ)) where
       ∷ []
 
   -- the turns at so many keys, in their order
-  abbrev pub all_had : (clock keys : ℕ) (old new : Serving S) (turns : List Turn)
-      → Turned remaining contents clock keys old new turns → List Had
-  all_had clock zero old new turns turned = []
-  all_had clock (suc key) old new turns turned =
-      all_had clock key old turned.0 turned.1 turned.3
-      ++ had_at clock key (slot_at turned.0.slots key) turned.0 new turned.2 turned.4
+  abbrev pub turns_below : (clock keys : ℕ) (old new : Serving S) (turns : List Turn)
+      → Turned remaining contents clock keys old new turns → List TurnAccount
+  turns_below clock zero old new turns turned = []
+  turns_below clock (suc key) old new turns turned =
+      turns_below clock key old turned.0 turned.1 turned.3
+      ++ turns_at clock key (slot_at turned.0.slots key) turned.0 new turned.2 turned.4
 
   abbrev pub turns_in : (clock : ℕ) (old new : Serving S) (tally : Tally)
-      → HasTurns remaining contents clock old new tally → List Had
-  turns_in clock old new tally had = all_had clock had.bound old new had.turns had.turned
+      → HasTurns remaining contents clock old new tally → List TurnAccount
+  turns_in clock old new tally had = turns_below clock had.bound old new had.turns had.turned
 
   abbrev pub account_of : (clock : ℕ) (old new : Running S) (round : Round)
       → HasRound remaining contents clock old new round → Account

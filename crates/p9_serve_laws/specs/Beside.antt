@@ -1,5 +1,5 @@
 -- Two servers, side by side.
-use Rattle.std.specs.Prelude.{◌≡◌, ℕ, Option}
+use Rattle.std.specs.Prelude.{◌≡◌, ℕ, [], Option}
 use Rattle.std.specs.Option.{option_map}
 use Rattle.p9_guard.specs.Guard.{Guarded}
 use Rattle.p9_guard_laws.specs.Alike.{AreAlike}
@@ -7,7 +7,7 @@ use Rattle.p9_guard_laws.specs.Guarded.{IsGuardedState}
 use Rattle.p9_conn.specs.Conn.{Connection}
 use Rattle.p9_conn.specs.Turn.{Link}
 use Rattle.p9_clients.specs.Serving.{Serving, slot_at}
-use Rattle.p9_serve.specs.Rounds.{Running}
+use Rattle.p9_serve.specs.Rounds.{Running, new_server}
 
 -- the states of two guards differ only inside hidden directories, and the first guard is guarded
 pub record AreAlikeGuards (a b : Guarded) : Type 0 where
@@ -46,3 +46,16 @@ pub record AreBeside {S T : Type 0} (a : Serving S) (b : Serving T) : Type 0 whe
 pub record AreRunningBeside {S T : Type 0} (a : Running S) (b : Running T) : Type 0 where
   pub serving : AreBeside a.serving b.serving
   pub pace : b.pace ≡ a.pace
+
+-- Where they begin.
+module _ (S : Type 0) where
+  -- new servers over alike guards are twins
+  abbrev pub NewServersAreTwins : Type 0
+  NewServersAreTwins =
+      (a b : Guarded) → AreAlikeGuards a b
+      → AreRunningTwins {S = S} (new_server (record { guard = a; slots = [] }))
+      (new_server (record { guard = b; slots = [] }))
+
+  -- and twins are side by side
+  abbrev pub TwinsAreBeside : Type 0
+  TwinsAreBeside = (a b : Running S) → AreRunningTwins a b → AreRunningBeside a b

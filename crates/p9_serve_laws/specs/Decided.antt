@@ -8,8 +8,8 @@ use Rattle.p9_clients.specs.declared.clients.Tally.{Tally}
 use Rattle.p9_serve.specs.Life.{HasRounds, Moment, Pass}
 use Rattle.p9_serve.specs.Rounds.{Running}
 use Rattle.p9_serve.specs.Served.{WasServed}
-use Rattle.p9_serve_laws.specs.Accounts.{Account, Beginning, Had, accounts_of, accounts_served}
-use Rattle.p9_serve_laws.specs.Accounts.{turns_in}
+use Rattle.p9_serve_laws.specs.Accounts.{Account, Beginning, TurnAccount, accounts_of}
+use Rattle.p9_serve_laws.specs.Accounts.{accounts_served, turns_in}
 use Rattle.p9_serve_laws.specs.Beside.{AreAlikeGuards, AreBeside, AreRunningBeside}
 use Rattle.p9_serve_laws.specs.Outside.{Given, Outside, given_to, outside, outsides, round_outside}
 use Rattle.p9_serve_laws.specs.Twins.{IsTimely}
@@ -34,12 +34,13 @@ AreChosen remaining contents choose past (moment ∷ moments) old new pass =
 -- and what its next turn is given, by those, by how it began, and by its turns so far
 pub record RoundChooser : Type 0 where
   pub begins : List Account → Beginning
-  pub gives : List Account → Beginning → List Had → Given
+  pub gives : List Account → Beginning → List TurnAccount → Given
 
-abbrev pub AreTurnsChosen : (choose : List Had → Given) (past turns : List Had) → Type 0
+abbrev pub AreTurnsChosen : (choose : List TurnAccount → Given) (past turns : List TurnAccount)
+    → Type 0
 AreTurnsChosen choose past [] = Unit {0}
-AreTurnsChosen choose past (had ∷ turns) =
-    (given_to had ≡ choose past) × AreTurnsChosen choose (past ++ had ∷ []) turns
+AreTurnsChosen choose past (turn ∷ turns) =
+    (given_to turn ≡ choose past) × AreTurnsChosen choose (past ++ turn ∷ []) turns
 
 -- what comes from outside in rounds is what was chosen
 abbrev pub AreRoundsChosen : RoundChooser → (past accounts : List Account) → Type 0
@@ -51,8 +52,8 @@ AreRoundsChosen choose past (account ∷ accounts) =
 
 -- Two servers, over any streams.
 module _ (S T : Type 0) where
-  -- two lists of moments with the same from outside are the same: the same replies, and the same
-  -- bytes read and written, in the same order among all connections
+  -- where the same comes from outside in two lists of moments, they are the same list: the same
+  -- replies, and the same bytes read and written, in the same order among all connections
   abbrev pub TheOutsideDecidesMoments : Type 0
   TheOutsideDecidesMoments =
       (remaining contents : S → Option (List ℕ)) (remaining' contents' : T → Option (List ℕ))
@@ -64,7 +65,7 @@ module _ (S T : Type 0) where
       ≡ outsides remaining contents moments old new pass
       → (moments' ≡ moments) × AreBeside new new'
 
-  -- so are two with the same chooser, as far as both go
+  -- so are two lists of moments where one chooser chose what came from outside, as far as both go
   abbrev pub ChoosersSeeTheSameMoments : Type 0
   ChoosersSeeTheSameMoments =
       (choose : Chooser)
@@ -78,8 +79,9 @@ module _ (S T : Type 0) where
       → (take (length moments) moments' ≡ take (length moments') moments)
       × (length moments' ≡ length moments → AreBeside new new')
 
-  -- a turn of each connection, with the same from outside, is the same: the same replies, and the
-  -- same bytes read and written, in the same order among all connections, and the same counts
+  -- where the same comes from outside in a turn of each connection, the turns are the same: the
+  -- same replies, and the same bytes read and written, in the same order among all connections. So
+  -- are their counts
   abbrev pub TheOutsideDecidesTurns : Type 0
   TheOutsideDecidesTurns =
       (remaining contents : S → Option (List ℕ)) (remaining' contents' : T → Option (List ℕ))
@@ -92,7 +94,8 @@ module _ (S T : Type 0) where
       ≡ turns_in remaining contents clock old new tally had)
       × (tally' ≡ tally) × AreBeside new new'
 
-  -- rounds with the same from outside are the same, and so are the next accepts and rests
+  -- where the same comes from outside in rounds, they are the same, and so is what they say of when
+  -- to accept and rest
   abbrev pub TheOutsideDecidesRounds : Type 0
   TheOutsideDecidesRounds =
       (remaining contents : S → Option (List ℕ)) (remaining' contents' : T → Option (List ℕ))
@@ -106,7 +109,7 @@ module _ (S T : Type 0) where
       ≡ accounts_of remaining contents clocks old new had)
       × AreRunningBeside new new'
 
-  -- so are as many rounds with the same chooser
+  -- so are as many rounds where one chooser chose what came from outside
   abbrev pub ChoosersSeeTheSameRounds : Type 0
   ChoosersSeeTheSameRounds =
       (choose : RoundChooser)
@@ -122,15 +125,16 @@ module _ (S T : Type 0) where
       ≡ accounts_of remaining contents clocks old new had)
       × AreRunningBeside new new'
 
-  -- the ends of all sessions leave alike guards
+  -- the end of all sessions, at the same reading of the clock, leaves alike guards
   abbrev pub TheOutsideDecidesTheEnd : Type 0
   TheOutsideDecidesTheEnd =
       (last : ℕ) (old : Serving S) (old' : Serving T) (left left' : Guarded)
       → AreBeside old old' → last < 2 ^ 32 → IsFinished last old left → IsFinished last old' left'
       → AreAlikeGuards left left'
 
-  -- two guards in alike states that were served as many rounds, with the same chooser, were served
-  -- the same, from a new server to the end of all sessions, and are left in alike states
+  -- two guards in alike states were served as many rounds, where one chooser chose what came from
+  -- outside. Then they were served the same, from a new server to the end of all sessions, and
+  -- alike guards are left
   abbrev pub ChoosersAreServedTheSame : Type 0
   ChoosersAreServedTheSame =
       (choose : RoundChooser) (guard guard' left left' : Guarded) (rounds : ℕ)

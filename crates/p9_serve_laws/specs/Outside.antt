@@ -4,13 +4,13 @@ use Rattle.p9_conn.specs.Turn.{Answered, Answering, Deeds, Ending, Over, Phase, 
 use Rattle.p9_conn.specs.Turn.{phase_of}
 use Rattle.p9_clients.specs.Serving.{Serving}
 use Rattle.p9_serve.specs.Life.{Acts, Arrives, Leaves, Moment, Pass, Passes}
-use Rattle.p9_serve_laws.specs.Accounts.{Account, Beginning, Had}
+use Rattle.p9_serve_laws.specs.Accounts.{Account, Beginning, TurnAccount}
 
 -- A turn.
 
 -- what comes from outside in a turn: nothing does; whether memory was refused to the request; how
--- many bytes the stream took, or which bytes it gave, none where it is to be waited for; or that the
--- stream failed, or moved nothing
+-- many bytes the stream took, or which bytes it gave, none where it is to be waited for; or that
+-- the stream failed, or moved nothing
 pub data Given : Type 0 where
   Nothing : Given
   Memory : (refused : Bool) → Given
@@ -38,8 +38,9 @@ given_in Receiving deeds = unless_closed deeds.answered (Gives deeds.read)
 
 -- Moments.
 
--- what comes from outside in a moment: that a client comes, and its key; which connection has a turn
--- at which reading of the clock, and what that is given; or which connection is ended, and when
+-- what comes from outside in a moment: that a client comes, and its key; which connection has a
+-- turn, at which reading of the clock, and what that is given; or which connection is ended, and
+-- when
 pub data Outside : Type 0 where
   Comes : (key : ℕ) → Outside
   HasTurn : (key clock : ℕ) → Given → Outside
@@ -62,8 +63,8 @@ module _ {S : Type 0} (remaining contents : S → Option (List ℕ)) where
 
 -- Rounds.
 
-abbrev pub given_to : Had → Given
-given_to had = given_in had.phase had.happening.deeds
+abbrev pub given_to : TurnAccount → Given
+given_to turn = given_in turn.phase turn.happening.deeds
 
 -- what comes from outside in a round: its beginning, and what each of its turns is given, but not
 -- which connections have turns

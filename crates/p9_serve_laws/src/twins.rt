@@ -6,7 +6,8 @@ ghost use Rattle.p9_serve_laws.specs.Twins.{TwinsMayHaveTheSameRound, TwinsMayHa
 ghost use Rattle.p9_serve_laws.specs.Twins.{TwinsMayPassTheSameMoments};
 
 /// Moments that may lead from a server on may lead from its twin on, to twins again. So both may
-/// give the same replies, and read and write the same bytes, in the same order among all connections.
+/// give the same replies, and read and write the same bytes, in the same order among all
+/// connections.
 pub fn twins_may_pass_the_same_moments<S>()
     ensures { TwinsMayPassTheSameMoments S }
 {}
