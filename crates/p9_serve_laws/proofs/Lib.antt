@@ -7,3 +7,4 @@ mod Moments
 mod Turns
 mod Rounds
 mod Begins
+mod Offered

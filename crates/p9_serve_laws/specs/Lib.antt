@@ -3,3 +3,4 @@ pub mod Accounts
 pub mod Twins
 pub mod Outside
 pub mod Decided
+pub mod Inputs

@@ -5,4 +5,5 @@
 
 pub mod beside;
 pub mod decided;
+pub mod inputs;
 pub mod twins;
