@@ -37,8 +37,8 @@ AlikeInputsAreServedTheSame =
     ≡ accounts_in (offer_of input) rounds w left served)
     × AreAlikeGuards left left'
 
--- where the first was served, and the same operations of the namespace files fail, the second may be
--- served the same, with the same bytes on the output and the errors
+-- where the first was served, and the same operations of the namespace files fail, the second may
+-- be served the same, with the same bytes on the output and the errors
 abbrev pub AlikeInputsMayBeServedTheSame : Type 0
 AlikeInputsMayBeServedTheSame =
     (input other : List ℕ) (a b : Prepared) (rounds : ℕ) (w : Known) (left : Guarded)
