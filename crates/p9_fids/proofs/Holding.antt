@@ -1,11 +1,13 @@
 -- Fids with their rows, after each change of them.
-use Rattle.std.proofs.Common.{◌≡◌, ℕ, Bool, true, false, List, Option, Some, None, IfSome, IsSome, MutBor, refl, ap, sym, ◌∙◌}
+use Rattle.std.proofs.Common.{◌≡◌, ◌≤◌, ℕ, Bool, true, false, List, Option, Some, None, IfSome, IsSome, MutBor, refl, ap, sym, ◌∙◌}
+use Rattle.std.proofs.Common.{arith, length}
+use Rattle.std.proofs.lemmas.List.{length-map}
 use Rattle.std.specs.Option.{option_copied_mut, option_map}
 use Rattle.std.specs.Ordering.{nat_cmp}
 use Rattle.std.specs.List.{All}
 use Rattle.std.specs.Map.{lookup, remove_entry, set_value, values_of}
 use Rattle.std.specs.BTreeMap.{insert_entry, is_at}
-use Rattle.p9_space.specs.Channel.{rows_of}
+use Rattle.p9_space.specs.Channel.{Channels, Fits, row_position, rows_of}
 use Rattle.p9_space.specs.Table.{MountRow}
 use Rattle.p9_fids.specs.Fid.{Fid, changed_fid, fid_at}
 use Rattle.p9_fids.specs.Held.{AllFit, Held, HeldFits, fid_of, held_fids, map_values, rows_in}
@@ -92,3 +94,27 @@ module _ (table : List MountRow) where
       → All (HeldFits table) (values_of entries)
   unfolding by_table
   fit-all entries fit = alike-all rows_in by_table entries (to_alike entries fit)
+
+-- a way has room in the fid of the number
+pub room-trail : (fid : ℕ) (entries : List (ℕ × Held)) (held : Held) (way : Channels)
+    → lookup (is_at (nat_cmp fid)) entries ≡ Some held
+    → IfSome (fid_at fid (map_values fid_of entries)) (λ v. length way.trail ≤ length v.trail)
+    → length way.trail ≤ length held.fid.trail
+room-trail fid entries held way found room =
+    let there : fid_at fid (map_values fid_of entries) ≡ Some held.fid =
+    lookup-mapped fid_of (is_at (nat_cmp fid)) entries ∙ ap (option_map fid_of) found in
+    rw there at room
+
+-- and so have its rows
+pub room-rows : (table : List MountRow) (fid : ℕ) (entries : List (ℕ × Held)) (held : Held)
+    (way : Channels) → lookup (is_at (nat_cmp fid)) entries ≡ Some held
+    → IfSome (fid_at fid (map_values fid_of entries)) (λ v. length way.trail ≤ length v.trail)
+    → AllFit table (held_fids entries) → Fits table way → length way.rows ≤ length held.rows
+room-rows table fid entries held way found room fit fits =
+    let enough = room-trail fid entries held way found room in
+    let its = fit-lookup table (is_at (nat_cmp fid)) entries held fit found in
+    let old : length held.rows ≡ length held.fid.trail =
+    ap length its ∙ length-map held.fid.trail (λ key. row_position key table) in
+    let new : length way.rows ≡ length way.trail =
+    ap length fits ∙ length-map way.trail (λ key. row_position key table) in
+    omega (arith, enough, old, new)

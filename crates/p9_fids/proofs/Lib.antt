@@ -2,3 +2,4 @@ pub mod Fids
 pub mod Values
 pub mod Holding
 pub mod Popped
+pub mod Places

@@ -45,3 +45,9 @@ HeldFits table held = Fits table (channels_of held)
 -- the same of each fid
 abbrev pub AllFit : List MountRow → HeldFids → Type 0
 AllFit table held = held.rows ≡ map_values (λ fid. rows_of table fid.trail) held.fids
+
+-- the rows of fids and of channels are those of their places in one table
+pub record FitTogether (held : HeldFids) (channels : Channels) : Type 0 where
+  pub table : List MountRow
+  pub fids : AllFit table held
+  pub fits : Fits table channels

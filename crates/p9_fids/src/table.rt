@@ -13,12 +13,12 @@ ghost use Rattle.p9_fids.specs.Fid.{changed_fid, fid_at, is_open_on, open_count}
 ghost use Rattle.p9_fids.specs.Fids.{IsFids, IsLeast};
 ghost use Rattle.p9_fids.specs.Fid.{opened_as};
 ghost use Rattle.p9_fids.specs.Fid.{put_fault, trailed, with_fid, without_fid};
-ghost use Rattle.p9_fids.specs.Held.{AllFit, HeldFits, fid_of, no_fids};
+ghost use Rattle.p9_fids.specs.Held.{AllFit, FitTogether, HeldFits, fid_of, no_fids};
 
 use crate::fid::Fid;
 use crate::opened::Opened;
 use p9_base::{Fault, NOFID, NoMemory, NodeRef};
-use p9_space::{Channels, MountTable};
+use p9_space::{Channels, MountTable, Way};
 use std::alloc::Allocator;
 use std::collections::BTreeMap;
 use std::marker::Model;
@@ -173,6 +173,21 @@ impl<A: Allocator + Copy> FidTable<A> {
     {
         let held = self.fids.get_mut(&fid).unwrap();
         held.channels = channels;
+    }
+
+    /// Moves a fid to where a way leads, which has no more places than the fid. What it is open for
+    /// stays. This takes no memory.
+    pub fn follow(&mut self, fid: u32, way: &Way)
+        requires there { IsSome (fid_at fid self.old.fids) }
+        requires room { IfSome (fid_at fid self.old.fids) (λ held. length (trail_of way.now)
+            ≤ length held.trail) }
+        requires fits { FitTogether self.old way.now }
+        ensures moved { self.new.fids ≡ changed_fid fid (trailed (trail_of way.now)) self.old.fids }
+        ensures fits { (table : List MountRow) → AllFit table self.old → Fits table way.now →
+            AllFit table self.new }
+    {
+        let held = self.fids.get_mut(&fid).unwrap();
+        held.channels.follow(way);
     }
 
     /// Says what a fid is open for, whatever it was open for. It is where it was.

@@ -6,6 +6,7 @@ mod Entries
 mod Fillings
 mod Listings
 mod Places
+mod Reserved
 pub mod Removals
 pub mod Rooms
 pub mod Sessions

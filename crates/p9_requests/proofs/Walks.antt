@@ -2,7 +2,10 @@
 use Rattle.p9_step.specs.State.{who_of}
 use Rattle.std.proofs.Common.{◌≡◌, ℕ, List, [], ◌∷◌, ◌++◌, true, false, Option, Some, None}
 use Rattle.std.proofs.Common.{Ok, Err, is_none, is_some, length, map, drop, get_or, suc}
-use Rattle.std.proofs.Common.{◌+◌, ◌<◌, ◌≤◌, Bor, refl, append_assoc, add-one, drop-cons}
+use Rattle.std.proofs.Common.{◌+◌, ◌-◌, ◌<◌, ◌≤◌, Bool, Bor, refl, append_assoc, add-one, arith, drop-cons, length-append}
+use Rattle.std.proofs.Common.{length-take-le, take}
+use Rattle.std.specs.Prelude.{if◌then◌else◌, nat_lt}
+use Rattle.std.proofs.Math.Nat.{le-min}
 use Rattle.std.proofs.lemmas.List.{append-nil, drop_all}
 use Rattle.p9_base.specs.declared.fault.Fault.{Fault}
 use Rattle.p9_base.specs.declared.node_ref.NodeRef.{NodeRef}
@@ -12,9 +15,11 @@ use Rattle.p9_tree.specs.Node.{Node}
 use Rattle.p9_tree.specs.Forest.{node_of}
 use Rattle.p9_tree.specs.Server.{Server}
 use Rattle.p9_space.specs.declared.trail.Step.{Step}
+use Rattle.p9_space.specs.declared.trail.Step.TheVariants.{Up, To}
 use Rattle.p9_space.specs.Place.{file_ref}
 use Rattle.p9_space.specs.Table.{MountRow}
-use Rattle.p9_space.specs.Trail.{here, stepped}
+use Rattle.p9_space.specs.Trail.{IsTrail, here, places_max, stepped}
+use Rattle.p9_requests.specs.Reserved.{most_places}
 use Rattle.p9_space.specs.Walk.{step_of}
 use Rattle.p9_fids.specs.declared.opened.Opened.{Opened}
 use Rattle.p9_fids.specs.Fid.{Fid, fid_at}
@@ -91,6 +96,21 @@ module _ (setting : Setting) (forest : List Server) (user : List ℕ) where
         stopped = None;
       }
   walked-all qids trail names i past = rw (drop_all i names past) (rw append-nil)
+
+-- a step leads to one place more at most
+pub stepped-few : (trail : List NodeRef) (step : Step) → length (stepped trail step) ≤ length trail + 1
+stepped-few trail Up = up (nat_lt 1 (length trail))
+  where
+    up : (b : Bool) → length (if b then take (length trail - 1) trail else trail) ≤ length trail + 1
+    up true = let fewer = length-take-le (length trail - 1) trail (omega arith) in omega (arith, fewer)
+    up false = omega arith
+stepped-few trail (To place) = omega (arith, length-append trail (place ∷ []))
+
+-- how many places a walk came to
+pub few-places : (trail start : List NodeRef) (i names : ℕ) → IsTrail trail
+    → length trail ≤ length start + i → i ≤ names → length trail ≤ most_places names start
+few-places trail start i names is few within =
+    le-min is.few (omega (arith, few, within))
 
 -- of the fid, only its user goes on
 ended_walk-user : (fid newfid : ℕ) (v w : Fid) (session : Session) (trail : List NodeRef)

@@ -5,3 +5,4 @@ pub mod Room
 pub mod Listing
 pub mod Held
 pub mod Taken
+pub mod Reserved

@@ -17,6 +17,7 @@ mod read;
 mod remove;
 mod reply;
 mod rights;
+mod room;
 mod session;
 mod setting;
 mod stat;

@@ -23,7 +23,7 @@ use crate::session::Session;
 use crate::setting::Setting;
 use crate::stat::stat;
 use crate::version::version;
-use crate::walk::walk;
+use crate::walk::{reserve_walk, walk};
 use crate::write::write;
 use crate::wstat::wstat;
 use p9_base::Fault;
@@ -76,7 +76,8 @@ pub fn message<T: Tree>(
         }
         TMsg::Flush { .. } => Ok(Reply::Message(RMsg::Flush)),
         TMsg::Walk { fid, newfid, names } => {
-            let qids = walk(setting, forest, session, *fid, *newfid, names)?;
+            let room = reserve_walk(setting, session, *fid, *newfid, names.len());
+            let qids = walk(setting, forest, session, room, *fid, *newfid, names)?;
             Ok(Reply::Message(RMsg::Walk { qids }))
         }
         TMsg::Open { fid, mode } => {

@@ -1,29 +1,76 @@
 //! The answer to a walk, as walk(5).
 
-ghost use Rattle.std.specs.Prelude.{◌≡◌, ◌≤◌, List, None, Some, IfOk, IsSome, OnErr, OnOk};
-ghost use Rattle.std.specs.Prelude.{length, true};
-ghost use Rattle.p9_fids.specs.Fid.{fid_at};
+ghost use Rattle.std.specs.Prelude.{◌≡◌, ◌≤◌, ℕ, List, Err, None, Some, IfSome};
+ghost use Rattle.std.specs.Prelude.{false, is_some, length};
+ghost use Rattle.p9_fids.specs.Fid.{Fid as FidOf, fid_at};
 ghost use Rattle.p9_space.specs.Channel.{Fits, row_position, trail_of};
 ghost use Rattle.p9_space.specs.Table.{MountRow};
 ghost use Rattle.p9_space.specs.Trail.{here, places_max, stepped};
 ghost use Rattle.p9_tree.specs.Forest.{node_of};
 ghost use Rattle.p9_tree.specs.Server.{Server};
+ghost use Rattle.p9_wire.specs.Frame.{elements_max};
 ghost use Rattle.p9_wire.specs.Message.{Rwalk};
 ghost use Rattle.p9_requests.specs.Held.{SessionFits, WalkFits};
 ghost use Rattle.p9_requests.specs.Answers.{Answers, replied};
+ghost use Rattle.p9_requests.specs.Reserved.{IsWalkRoom, most_places, unreserved, with_memory};
 ghost use Rattle.p9_step.specs.Qid.{qid_of};
+ghost use Rattle.p9_step.specs.State.{Session as SessionOf};
 ghost use Rattle.p9_step.specs.Walk.{moved, newfid_fault, walk_answer, walk_outcome, walked};
 
 use crate::qid::qid_of;
+use crate::room::Room;
 use crate::session::Session;
 use crate::setting::Setting;
-use p9_base::{Fault, NOFID, NoMemory, Qid, User};
+use p9_base::{Fault, NOFID, Qid, User};
 use p9_fids::Fid;
-use p9_space::{Arrival, Channels, find_arrival_from};
+use p9_space::{Arrival, Channels, PLACES_MAX, ROOT_PLACE, Way, find_arrival_on};
 use p9_tree::{Forest, Tree};
 use p9_wire::{Names, Qids};
 use std::alloc::Allocator;
 use std::marker::Model;
+
+/// Reserves memory for a walk along so many names, or returns `None`, where an allocation fails or
+/// where the session refuses the walk. The session is unchanged then.
+///
+/// Where newfid is another fid, it is added to the session, to keep its place.
+pub fn reserve_walk<A: Allocator + Copy>(
+    setting: &Setting<A>,
+    session: &mut Session<A>,
+    fid: u32,
+    newfid: u32,
+    names: usize,
+) -> Option<Room<A>>
+    requires few { names ≤ elements_max }
+    ensures before { unreserved result newfid session.new.session ≡ session.old.session }
+    ensures channels { SessionFits setting.now.table session.old →
+        SessionFits setting.now.table session.new }
+    ensures room { IfSome result (IsWalkRoom setting.now.table fid newfid (most_places names)
+        session.old.session session.new.session) }
+{
+    let held = session.fids.get(fid)?;
+    if held.opened.is_some() || newfid_fault(session, fid, newfid).is_some() {
+        return None;
+    }
+    let user = held.user;
+    let trail = held.channels.trail();
+    trail.well_formed();
+    let count = PLACES_MAX.min(trail.len() + names);
+    let Ok(channels) = Channels::filled(setting.alloc, &setting.table, ROOT_PLACE, count) else {
+        return None;
+    };
+    if newfid == fid {
+        return Some(Room::Channels(channels));
+    }
+    let kept = Fid {
+        user,
+        channels,
+        opened: None,
+    };
+    let Ok(()) = session.fids.add(newfid, kept) else {
+        return None;
+    };
+    Some(Room::Added)
+}
 
 /// Takes a fid along names, up to the first that is refused, and gives the qid of each file where a
 /// step arrives. Where no step is refused, the fid itself goes there, or newfid is added there.
@@ -31,34 +78,96 @@ use std::marker::Model;
 /// The first that applies refuses: the fid isn't there, [`Fault::UnknownFid`]; it is open,
 /// [`Fault::FidOpen`]; newfid is [`NOFID`], [`Fault::UnknownFid`]; newfid is another fid and can't
 /// be added ([`p9_fids::FidTable::put_fault`]); the first step is refused
-/// ([`p9_space::find_arrival`]). In the place of any answer an allocation may fail,
-/// [`Fault::OutOfMemory`]. At a refusal the session is unchanged.
+/// ([`p9_space::find_arrival`]); no memory was reserved for it by [`reserve_walk`],
+/// [`Fault::OutOfMemory`]. At a refusal the session is as it was before memory was reserved.
 pub fn walk<T: Tree>(
     setting: &Setting<T::Alloc>,
     forest: &Forest<T>,
     session: &mut Session<T::Alloc>,
+    room: Option<Room<T::Alloc>>,
     fid: u32,
     newfid: u32,
     names: &Names<'_>,
 ) -> Result<Qids, Fault>
     requires channels { SessionFits setting.now.table session.old }
+    requires room { let before = unreserved room newfid session.old.session in
+        IfSome room (IsWalkRoom setting.now.table fid newfid (most_places (length names.now)) before
+        session.old.session) }
     ensures channels { SessionFits setting.now.table session.new }
-    ensures answer { Answers (walk_answer setting.now forest.now session.old.session fid newfid
-        names.now) true forest.now forest.now session.old.session session.new.session
-        (replied Rwalk result) }
+    ensures answer { let before = unreserved room newfid session.old.session in
+        Answers (with_memory (is_some room) (walk_answer setting.now forest.now before fid newfid
+        names.now)) false forest.now forest.now before session.new.session (replied Rwalk result) }
+{
+    match room {
+        Some(room) => walk_into(setting, forest, session, room, fid, newfid, names),
+        None => Err(walk_fault(setting, forest, session, fid, newfid, names)),
+    }
+}
+
+// Why a walk is refused for which no memory was reserved.
+fn walk_fault<T: Tree>(
+    setting: &Setting<T::Alloc>,
+    forest: &Forest<T>,
+    session: &Session<T::Alloc>,
+    fid: u32,
+    newfid: u32,
+    names: &Names<'_>,
+) -> Fault
+    requires { SessionFits setting.now.table session.now }
+    ensures { Err result ≡ with_memory false (walk_answer setting.now forest.now session.now.session
+        fid newfid names.now) }
 {
     let Some(held) = session.fids.get(fid) else {
-        return Err(Fault::UnknownFid);
+        return Fault::UnknownFid;
     };
     if held.opened.is_some() {
-        return Err(Fault::FidOpen);
+        return Fault::FidOpen;
     }
     if let Some(fault) = newfid_fault(session, fid, newfid) {
-        return Err(fault);
+        return fault;
     }
-    let user = held.user;
-    let walked = walk_along(setting, forest, &user, &held.channels, names)?;
-    end_walk(session, fid, newfid, user, walked)
+    fault_of(&walk_along(setting, forest, &held.user, &held.channels, names))
+}
+
+// The fault of a walk for which no memory was reserved, by how far the names lead.
+fn fault_of(walked: &Walked) -> Fault
+    ensures { (fid newfid : ℕ) (v : FidOf) (session : SessionOf) → Err result
+        ≡ with_memory false (walk_outcome fid newfid v session walked.now.walked) }
+{
+    match walked.stopped {
+        None => Fault::OutOfMemory,
+        Some(fault) => {
+            if walked.qids.is_empty() {
+                fault
+            } else {
+                Fault::OutOfMemory
+            }
+        }
+    }
+}
+
+// The walk, where there is room for where it leads.
+fn walk_into<T: Tree>(
+    setting: &Setting<T::Alloc>,
+    forest: &Forest<T>,
+    session: &mut Session<T::Alloc>,
+    room: Room<T::Alloc>,
+    fid: u32,
+    newfid: u32,
+    names: &Names<'_>,
+) -> Result<Qids, Fault>
+    requires channels { SessionFits setting.now.table session.old }
+    requires room { let before = unreserved (Some room) newfid session.old.session in
+        IsWalkRoom setting.now.table fid newfid (most_places (length names.now)) before
+        session.old.session room }
+    ensures channels { SessionFits setting.now.table session.new }
+    ensures answer { let before = unreserved (Some room) newfid session.old.session in
+        Answers (walk_answer setting.now forest.now before fid newfid names.now) false forest.now
+        forest.now before session.new.session (replied Rwalk result) }
+{
+    let held = session.fids.get(fid).unwrap();
+    let walked = walk_along(setting, forest, &held.user, &held.channels, names);
+    end_walk(setting, session, room, fid, newfid, walked)
 }
 
 // Why newfid can't be where the walk leads; the fid itself always can.
@@ -76,114 +185,117 @@ fn newfid_fault<A: Allocator + Copy>(session: &Session<A>, fid: u32, newfid: u32
 
 // How far names lead.
 #[derive(Drop)]
-struct Walked<A: Allocator + Copy> {
+struct Walked {
     // The qid of each file where a step arrived.
     qids: Qids,
     // Where the last of these steps arrived.
-    channels: Channels<A>,
+    way: Way,
     // Why the next step is refused, if one is.
     stopped: Option<Fault>,
 }
 
-impl<A: Allocator + Copy> Model for Walked<A> {
+impl Model for Walked {
     ghost use Rattle.p9_space.specs.Channel.{trail_of};
     ghost use Rattle.p9_requests.specs.Held.{HeldWalk};
 
     ghost Value = { HeldWalk };
 
     ghost view = { λ w. record {
-      walked = record { qids = w.qids; trail = trail_of w.channels; stopped = w.stopped };
-      rows = w.channels.rows;
+      walked = record { qids = w.qids; trail = trail_of w.way; stopped = w.stopped };
+      rows = w.way.rows;
     } };
 }
 
-// One step after another from channels, up to the first that is refused.
+// One step after another from channels, up to the first that is refused. This takes no memory.
 fn walk_along<T: Tree>(
     setting: &Setting<T::Alloc>,
     forest: &Forest<T>,
     user: &User,
     start: &Channels<T::Alloc>,
     names: &Names<'_>,
-) -> Result<Walked<T::Alloc>, NoMemory>
+) -> Walked
     requires { Fits setting.now.table start.now }
-    ensures walked { IfOk result (λ w. w.walked
-        ≡ walked setting.now forest.now user.now (trail_of start.now) names.now) }
-    ensures fits { IfOk result (WalkFits setting.now.table) }
+    ensures walked { result.walked
+        ≡ walked setting.now forest.now user.now (trail_of start.now) names.now }
+    ensures fits { WalkFits setting.now.table result }
+    ensures few { length result.walked.trail ≤ most_places (length names.now) (trail_of start.now) }
 {
     let mut qids = Qids::new();
-    let mut channels = start.copy()?;
+    let mut way = Way::of(start);
     for name in names.as_slice() {
-        match find_arrival_from(
+        match find_arrival_on(
             forest,
             &setting.table,
-            &channels,
+            &way,
             name,
             Some(setting.who(user)),
         ) {
-            Ok(arrival) => qids.push(arrive(setting, forest, &mut channels, arrival)?),
+            Ok(arrival) => qids.push(arrive(setting, forest, &mut way, arrival)),
             Err(fault) => {
-                return Ok(Walked {
+                way.well_formed();
+                return Walked {
                     qids,
-                    channels,
+                    way,
                     stopped: Some(fault),
-                });
+                };
             }
         }
     }
-    Ok(Walked {
+    way.well_formed();
+    Walked {
         qids,
-        channels,
+        way,
         stopped: None,
-    })
+    }
 }
 
-// Takes a step to where a file is, and gives its qid. Where an allocation fails, the channels are
-// unchanged.
+// Takes a step to where a file is, and gives its qid.
 fn arrive<T: Tree>(
     setting: &Setting<T::Alloc>,
     forest: &Forest<T>,
-    channels: &mut Channels<T::Alloc>,
+    way: &mut Way,
     arrival: Arrival<'_, T::Alloc>,
-) -> Result<Qid, NoMemory>
-    requires places { length (stepped (trail_of channels.old) arrival.step) ≤ places_max }
+) -> Qid
+    requires places { length (stepped (trail_of way.old) arrival.step) ≤ places_max }
     requires row { arrival.row
-        ≡ row_position (here (stepped (trail_of channels.old) arrival.step)) setting.now.table }
+        ≡ row_position (here (stepped (trail_of way.old) arrival.step)) setting.now.table }
     requires file { node_of arrival.at forest.now ≡ Some arrival.file.now }
-    ensures qid { IfOk result (λ qid. qid ≡ qid_of arrival.entry.at arrival.entry.file.now) }
-    ensures ok { OnOk result (trail_of channels.new
-        ≡ stepped (trail_of channels.old) arrival.entry.step) }
-    ensures fits { OnOk result (Fits setting.now.table channels.old →
-        Fits setting.now.table channels.new) }
-    ensures err { OnErr result (channels.new ≡ channels.old) }
+    ensures qid { result ≡ qid_of arrival.entry.at arrival.entry.file.now }
+    ensures trail { trail_of way.new ≡ stepped (trail_of way.old) arrival.entry.step }
+    ensures fits { Fits setting.now.table way.old → Fits setting.now.table way.new }
 {
-    channels.take(arrival.step, arrival.row)?;
+    way.take(arrival.step, arrival.row);
     forest.well_formed();
-    Ok(qid_of(arrival.at, arrival.file))
+    qid_of(arrival.at, arrival.file)
 }
 
 // A walk that is stopped at its first name is refused; one that is stopped later moves no fid.
 fn end_walk<A: Allocator + Copy>(
+    setting: &Setting<A>,
     session: &mut Session<A>,
+    room: Room<A>,
     fid: u32,
     newfid: u32,
-    user: User,
-    walked: Walked<A>,
+    walked: Walked,
 ) -> Result<Qids, Fault>
-    requires there { IsSome (fid_at fid session.old.session.fids) }
-    requires free { newfid_fault fid newfid session.old.session.fids ≡ None }
-    ensures answer { (forest : List Server) → Answers (walk_outcome fid newfid
-        (record { user = user; trail = walked.walked.trail; opened = None }) session.old.session
-        walked.walked) true forest forest session.old.session session.new.session
-        (replied Rwalk result) }
-    ensures channels { (table : List MountRow) → SessionFits table session.old →
-        WalkFits table walked → SessionFits table session.new }
+    requires channels { SessionFits setting.now.table session.old }
+    requires walked { WalkFits setting.now.table walked }
+    requires room { let before = unreserved (Some room) newfid session.old.session in
+        IsWalkRoom setting.now.table fid newfid (λ trail. length walked.walked.trail) before
+        session.old.session room }
+    ensures channels { SessionFits setting.now.table session.new }
+    ensures answer { let before = unreserved (Some room) newfid session.old.session in
+        (v : FidOf) → fid_at fid before.fids ≡ Some v → (forest : List Server) →
+        Answers (walk_outcome fid newfid v before walked.walked) false forest forest before
+        session.new.session (replied Rwalk result) }
 {
     match walked.stopped {
         None => {
-            move_fid(session, fid, newfid, user, walked.channels)?;
+            move_fid(setting, session, room, fid, newfid, &walked.way);
             Ok(walked.qids)
         }
         Some(fault) => {
+            give_back(session, room, newfid);
             if walked.qids.is_empty() {
                 Err(fault)
             } else {
@@ -193,34 +305,42 @@ fn end_walk<A: Allocator + Copy>(
     }
 }
 
-// The fid itself goes to where the channels lead, or newfid is added there. Where an allocation
-// fails, the session is unchanged.
+// The fid itself goes where the way leads, or newfid is there from now on.
 fn move_fid<A: Allocator + Copy>(
+    setting: &Setting<A>,
     session: &mut Session<A>,
+    room: Room<A>,
     fid: u32,
     newfid: u32,
-    user: User,
-    channels: Channels<A>,
-) -> Result<(), NoMemory>
-    requires there { IsSome (fid_at fid session.old.session.fids) }
-    requires free { newfid_fault fid newfid session.old.session.fids ≡ None }
-    ensures ok { OnOk result (session.new.session ≡ moved fid newfid
-        (record { user = user; trail = trail_of channels; opened = None }) (trail_of channels)
-        session.old.session) }
-    ensures unchanged { OnErr result (session.new.session ≡ session.old.session) }
-    ensures channels { (table : List MountRow) → SessionFits table session.old →
-        Fits table channels → SessionFits table session.new }
+    way: &Way,
+)
+    requires channels { SessionFits setting.now.table session.old }
+    requires way { Fits setting.now.table way.now }
+    requires room { let before = unreserved (Some room) newfid session.old.session in
+        IsWalkRoom setting.now.table fid newfid (λ trail. length (trail_of way.now)) before
+        session.old.session room }
+    ensures channels { SessionFits setting.now.table session.new }
+    ensures moved { let before = unreserved (Some room) newfid session.old.session in
+        (v : FidOf) → fid_at fid before.fids ≡ Some v →
+        session.new.session ≡ moved fid newfid v (trail_of way.now) before }
 {
-    if newfid == fid {
-        session.fids.move_to(fid, channels);
-        return Ok(());
+    match room {
+        Room::Added => session.fids.follow(newfid, way),
+        Room::Channels(mut channels) => {
+            channels.follow(way);
+            session.fids.move_to(fid, channels);
+        }
     }
-    session.fids.add(
-        newfid,
-        Fid {
-            user,
-            channels,
-            opened: None,
-        },
-    )
+}
+
+// Takes the fid out again that was added to keep a place.
+fn give_back<A: Allocator + Copy>(session: &mut Session<A>, room: Room<A>, newfid: u32)
+    ensures before { session.new.session
+        ≡ unreserved (Some room) newfid session.old.session }
+    ensures channels { (table : List MountRow) → SessionFits table session.old →
+        SessionFits table session.new }
+{
+    if let Room::Added = room {
+        let _ = session.fids.take(newfid);
+    }
 }

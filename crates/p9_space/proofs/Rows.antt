@@ -1,10 +1,10 @@
 -- Rows of a mount table by their positions.
-use Rattle.std.proofs.Common.{◌≡◌, ℕ, ◌-◌, Bool, true, false, cond, List, Option, Some, None}
+use Rattle.std.proofs.Common.{◌≡◌, ℕ, ◌-◌, ◌≤◌, ◌∷◌, ◌++◌, [], zero, suc, refl, Bool, true, false, cond, List, Option, Some, None}
 use Rattle.std.proofs.Common.{sym, ap, ◌∙◌, arith, get_or, length, map, take}
-use Rattle.std.specs.Prelude.{nat_lt, slice_get}
+use Rattle.std.specs.Prelude.{nat_lt, replicate, slice_get}
 use Rattle.std.specs.Option.{option_map}
 use Rattle.std.proofs.lemmas.Option.{get_or_from_slice_get, slice_get-map}
-use Rattle.std.proofs.lemmas.List.{length-take-le, take-map, take_all}
+use Rattle.std.proofs.lemmas.List.{length-take-le, take-map, take-take, take_all}
 use Rattle.indexmap.proofs.MapLemmas.{Found-position, Missing-position}
 use Rattle.p9_base.specs.declared.node_ref.NodeRef.{NodeRef}
 use Rattle.p9_base.specs.NodeRef.{same_node}
@@ -49,3 +49,40 @@ row-at table trail rows i place row fits at read =
     (ap (λ rows. slice_get rows i) fits
     ∙ slice_get-map (λ key. row_position key table) trail i
     ∙ ap (option_map (λ key. row_position key table)) at)
+
+-- the rows of fewer places are the first of the rows
+pub rows-shorter : (table : List MountRow) (places : List NodeRef) (rows : List (Option ℕ)) (fewer n : ℕ)
+    → fewer ≤ n → take n rows ≡ rows_of table (take n places)
+    → take fewer rows ≡ rows_of table (take fewer places)
+rows-shorter table places rows fewer n less fits =
+    sym (shorter rows)
+    ∙ ap (take fewer) fits
+    ∙ take-map (λ key. row_position key table) fewer (take n places)
+    ∙ ap (rows_of table) (shorter places)
+  where
+    shorter : {X : Type 0} → (xs : List X) → take fewer (take n xs) ≡ take fewer xs
+    shorter xs = take-take fewer n xs less
+
+-- the row that is kept at the position of a place is the place's
+pub row-read : (table : List MountRow) (trail : List NodeRef) (rows : List (Option ℕ)) (i : ℕ)
+    (place : NodeRef) → rows ≡ rows_of table trail → slice_get trail i ≡ Some place
+    → get_or rows i None ≡ row_position place table
+row-read table trail rows i place fits at =
+    get_or_from_slice_get rows i (row_position place table) None
+    (ap (λ rows. slice_get rows i) fits
+    ∙ slice_get-map (λ key. row_position key table) trail i
+    ∙ ap (option_map (λ key. row_position key table)) at)
+
+-- the rows of one place, many times
+filled : (table : List MountRow) (place : NodeRef) (n : ℕ)
+    → replicate n (row_position place table) ≡ rows_of table (replicate n place)
+filled table place zero = refl
+filled table place (suc n) = ap (λ rows. row_position place table ∷ rows) (filled table place n)
+
+pub rows-filled : (table : List MountRow) (place : NodeRef) (n len : ℕ) (rows : List (Option ℕ))
+    → rows ≡ [] → len ≡ 0
+    → take n rows ++ replicate (n - len) (row_position place table) ≡ rows_of table (replicate n place)
+rows-filled table place n len rows empty none =
+    let whole : n - len ≡ n = omega arith in
+    let front : take n rows ≡ [] = ap (take n) empty ∙ take_all n [] (omega arith) in
+    rw (front, whole) (filled table place n)

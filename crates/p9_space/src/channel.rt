@@ -1,10 +1,10 @@
 //! Channels: a trail whose places remember where their rows are in a mount table.
 
 ghost use Rattle.std.specs.Prelude.{◌≡◌, ◌++◌, ◌∷◌, ◌<◌, ◌≤◌, ◌⊎◌, [], List, Ok, Err, IfErr, IfOk, IfSome};
-ghost use Rattle.std.specs.Prelude.{OnErr, OnOk, length, map, slice_get};
+ghost use Rattle.std.specs.Prelude.{OnErr, OnOk, length, map, replicate, slice_get};
 ghost use Rattle.std.specs.Option.{option_map};
 ghost use Rattle.p9_base.specs.declared.fault.Fault.TheVariants.{OutOfMemory};
-ghost use Rattle.p9_space.specs.Channel.{Fits, row_position, trail_of};
+ghost use Rattle.p9_space.specs.Channel.{Fits, row_position, rows_of, trail_of};
 ghost use Rattle.p9_space.specs.Place.{file_ref};
 ghost use Rattle.p9_space.specs.Rights.{who_view};
 ghost use Rattle.p9_space.specs.Table.{MountRow, members_of};
@@ -15,8 +15,9 @@ ghost use Rattle.p9_tree.specs.Forest.{node_of};
 use crate::rights::Who;
 use crate::row::Members;
 use crate::table::MountTable;
-use crate::trail::{Step, Trail};
+use crate::trail::{Step, Trail, last, position_above};
 use crate::walk::{Arrival, arrive_down, arrive_up};
+use crate::way::Way;
 use p9_base::{Fault, NoMemory, NodeRef};
 use p9_tree::{Forest, Tree};
 use std::alloc::Allocator;
@@ -69,11 +70,48 @@ impl<A: Allocator + Copy> Channels<A> {
         })
     }
 
+    /// Channels of so many places, each of them this one. The only error is that an allocation fails.
+    pub fn filled<B: Allocator + Copy>(
+        alloc: A,
+        table: &MountTable<B>,
+        place: NodeRef,
+        count: usize,
+    ) -> Result<Channels<A>, NoMemory>
+        requires some { 0 < count }
+        requires few { count ≤ places_max }
+        ensures trail { IfOk result (λ channels. trail_of channels ≡ replicate count place) }
+        ensures fits { IfOk result (λ channels. Fits table.now channels) }
+    {
+        let trail = Trail::filled(alloc, place, count)?;
+        let mut rows = Vec::new(alloc);
+        rows.resize(count, table.position(place))?;
+        Ok(Channels { trail, rows })
+    }
+
+    /// Goes where a way leads, which has no more places than there are. This takes no memory.
+    pub fn follow(&mut self, way: &Way)
+        requires trail { length (trail_of way.now) ≤ length (trail_of self.old) }
+        requires rows { length way.now.rows ≤ length self.old.rows }
+        ensures { self.new ≡ way.now }
+    {
+        way.well_formed();
+        self.trail.follow(way.places());
+        self.rows.truncate(way.rows().len());
+        self.rows.copy_from_slice(way.rows());
+    }
+
     /// The places.
     pub fn trail(&self) -> &Trail<A>
         ensures { result.now ≡ trail_of self.now }
     {
         &self.trail
+    }
+
+    /// The rows of the places.
+    pub(crate) fn rows(&self) -> &[Option<usize>]
+        ensures { result.now ≡ self.now.rows }
+    {
+        self.rows.as_slice()
     }
 
     /// What is mounted at the last place: the members of its row, or its key alone.
@@ -177,14 +215,53 @@ pub fn find_arrival_from<'a, T: Tree, A: Allocator + Copy, B: Allocator + Copy>(
     ensures places { IfOk result (λ arrival. length (stepped (trail_of channels.now) arrival.step)
         ≤ places_max) }
 {
-    let trail = channels.trail();
-    let members = channels.members(table);
+    channels.trail.well_formed();
+    find_arrival_by_rows(forest, table, channels.trail.as_slice(), &channels.rows, name, who)
+}
+
+/// One step from the last of places whose rows are these, as [`crate::find_arrival`].
+pub(crate) fn find_arrival_by_rows<'a, T: Tree, A: Allocator + Copy, B: Allocator + Copy>(
+    forest: &'a Forest<T>,
+    table: &MountTable<A>,
+    trail: &[NodeRef],
+    rows: &[Option<usize>],
+    name: &str,
+    who: Option<Who<'_, B>>,
+) -> Result<Arrival<'a, T::Alloc>, Fault>
+    requires trail { IsTrail trail.now }
+    requires rows { rows.now ≡ rows_of table.now trail.now }
+    ensures ok { IfOk result (λ arrival. step_of forest.now table.now
+        (option_map who_view who.entry) trail.now name.now ≡ Ok arrival.step) }
+    ensures err { IfErr result (λ fault. step_of forest.now table.now
+        (option_map who_view who.entry) trail.now name.now ≡ Err fault) }
+    ensures row { IfOk result (λ arrival. arrival.row
+        ≡ row_position (here (stepped trail.now arrival.step)) table.now) }
+    ensures at { IfOk result (λ arrival. arrival.at
+        ≡ file_ref (here (stepped trail.now arrival.step)) table.now) }
+    ensures file { IfOk result (λ arrival. node_of arrival.at forest.now ≡ Some arrival.file.now) }
+    ensures places { IfOk result (λ arrival. length (stepped trail.now arrival.step) ≤ places_max) }
+{
+    let members = last_members(table, trail, rows);
     if name == ".." {
-        let row = channels.rows[trail.position_above()];
+        let row = rows[position_above(trail)];
         arrive_up(forest, table, trail, members.as_slice(), row)
     } else {
         arrive_down(forest, table, trail, members.as_slice(), name, who)
     }
+}
+
+// What is mounted at the last of places whose rows are these.
+fn last_members<'a, A: Allocator + Copy>(
+    table: &'a MountTable<A>,
+    trail: &[NodeRef],
+    rows: &[Option<usize>],
+) -> Members<'a>
+    requires trail { IsTrail trail.now }
+    requires rows { rows.now ≡ rows_of table.now trail.now }
+    ensures { result ≡ members_of (here trail.now) table.now }
+{
+    let row = rows[trail.len() - 1];
+    table.members_at(row, last(trail))
 }
 
 /// Walks on from the last place along names, as [`crate::resolve`]. Where a step is refused or an

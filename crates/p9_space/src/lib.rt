@@ -12,6 +12,7 @@ mod row;
 mod table;
 mod trail;
 mod walk;
+mod way;
 
 pub use channel::{Channels, advance, find_arrival_from};
 pub use given::{is_given, is_table_given};
@@ -21,3 +22,4 @@ pub use row::{Member, Members, Order};
 pub use table::{MountTable, UnmountError};
 pub use trail::{PLACES_MAX, ROOT_PLACE, Step, Trail};
 pub use walk::{Arrival, dir_fault, find_arrival, resolve};
+pub use way::{Way, find_arrival_on};

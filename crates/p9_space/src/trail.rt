@@ -1,7 +1,7 @@
 //! Trails: how a fid or a current directory was reached.
 
-ghost use Rattle.std.specs.Prelude.{◌≡◌, ◌++◌, ◌∷◌, ◌<◌, ◌≤◌, [], length, slice_get, IfOk, OnOk};
-ghost use Rattle.std.specs.Prelude.{OnErr, Some};
+ghost use Rattle.std.specs.Prelude.{◌≡◌, ◌++◌, ◌∷◌, ◌<◌, ◌≤◌, [], length, replicate, slice_get, IfOk};
+ghost use Rattle.std.specs.Prelude.{OnErr, OnOk, Some};
 ghost use Rattle.p9_space.specs.Trail.{IsTrail, here, places_max, stepped, upward};
 
 use p9_base::{NoMemory, NodeRef};
@@ -66,6 +66,27 @@ impl<A: Allocator + Copy> Trail<A> {
         })
     }
 
+    /// A trail of so many places, each of them this one. The only error is that an allocation fails.
+    pub fn filled(alloc: A, place: NodeRef, count: usize) -> Result<Trail<A>, NoMemory>
+        requires some { 0 < count }
+        requires few { count ≤ places_max }
+        ensures { IfOk result (λ trail. trail ≡ replicate count place) }
+    {
+        let mut places = Vec::new(alloc);
+        places.resize(count, place)?;
+        Ok(Trail { places })
+    }
+
+    /// Goes where other places lead, of which there are no more than it has. This takes no memory.
+    pub fn follow(&mut self, places: &[NodeRef])
+        requires trail { IsTrail places.now }
+        requires room { length places.now ≤ length self.old }
+        ensures { self.new ≡ places.now }
+    {
+        self.places.truncate(places.len());
+        self.places.copy_from_slice(places);
+    }
+
     /// Goes on to a place. Where an allocation fails, the trail is unchanged.
     pub fn push(&mut self, place: NodeRef) -> Result<(), NoMemory>
         requires { length self.old < places_max }
@@ -117,22 +138,6 @@ impl<A: Allocator + Copy> Trail<A> {
         self.places[self.places.len() - 1]
     }
 
-    /// The position of the place before the last, or of the last where there is no other.
-    pub(crate) fn position_above(&self) -> usize
-        ensures within { result < length self.now }
-        ensures above { slice_get self.now result ≡ Some (here (upward self.now)) }
-    {
-        self.well_formed();
-        self.len().saturating_sub(2)
-    }
-
-    /// That place.
-    pub(crate) fn above(&self) -> NodeRef
-        ensures { result ≡ here (upward self.now) }
-    {
-        self.places[self.position_above()]
-    }
-
     /// Goes back by one place, as `..` does; at the place of attachment it stays. This takes no
     /// memory.
     pub fn step_up(&mut self)
@@ -157,4 +162,29 @@ impl<A: Allocator + Copy> Trail<A> {
             Step::To(place) => self.push(place),
         }
     }
+}
+
+/// The position of the place before the last, or of the last where there is no other.
+pub(crate) fn position_above(places: &[NodeRef]) -> usize
+    requires { 0 < length places.now }
+    ensures within { result < length places.now }
+    ensures above { slice_get places.now result ≡ Some (here (upward places.now)) }
+{
+    places.len().saturating_sub(2)
+}
+
+/// That place.
+pub(crate) fn above(places: &[NodeRef]) -> NodeRef
+    requires { 0 < length places.now }
+    ensures { result ≡ here (upward places.now) }
+{
+    places[position_above(places)]
+}
+
+/// The last place.
+pub(crate) fn last(places: &[NodeRef]) -> NodeRef
+    requires { 0 < length places.now }
+    ensures { result ≡ here places.now }
+{
+    places[places.len() - 1]
 }

@@ -11,7 +11,7 @@ ghost use Rattle.p9_space.specs.Found.{IsThere, place_of};
 ghost use Rattle.p9_space.specs.Place.{file_of, file_ref};
 ghost use Rattle.p9_space.specs.Rights.{Who as WhoOf, who_view};
 ghost use Rattle.p9_space.specs.Table.{members_of};
-ghost use Rattle.p9_space.specs.Trail.{here, places_max, stepped, upward};
+ghost use Rattle.p9_space.specs.Trail.{IsTrail, here, places_max, stepped, upward};
 ghost use Rattle.p9_space.specs.Walk.{child_among, child_ref, dir_fault, is_alive, is_alive_dir};
 ghost use Rattle.p9_space.specs.Walk.{is_searched, may_search, named_among, named_child};
 ghost use Rattle.p9_space.specs.Walk.{step_among, step_of, walk};
@@ -21,7 +21,7 @@ ghost use Rattle.p9_tree.specs.Forest.{node_of};
 use crate::rights::{TO_EXECUTE, Who, may};
 use crate::row::Member;
 use crate::table::MountTable;
-use crate::trail::{PLACES_MAX, Step, Trail};
+use crate::trail::{PLACES_MAX, Step, Trail, above, last};
 use p9_base::{Fault, Name, NodeRef};
 use p9_tree::{Forest, Node, Tree};
 use std::alloc::Allocator;
@@ -173,12 +173,13 @@ fn find_by<'a, T: Tree, A: Allocator + Copy>(
 // The child to which a name other than `..` leads from the members of the last place.
 fn find_child<'a, T: Tree, A: Allocator + Copy>(
     forest: &'a Forest<T>,
-    trail: &Trail<A>,
+    trail: &[NodeRef],
     members: &[Member],
     name: &str,
     who: Option<Who<'_, A>>,
 ) -> Result<Child<'a, T::Alloc>, Fault>
-    requires { bytes_eq name.now (codes "..") ≡ false }
+    requires other { bytes_eq name.now (codes "..") ≡ false }
+    requires trail { IsTrail trail.now }
     ensures ok { IfOk result (λ child. step_among forest.now (option_map who_view who.entry)
         trail.now name.now members.now ≡ Ok (To child.place)) }
     ensures err { IfErr result (λ fault. step_among forest.now (option_map who_view who.entry)
@@ -199,7 +200,6 @@ fn find_child<'a, T: Tree, A: Allocator + Copy>(
     match found.child {
         None => Err(Fault::NotFound),
         Some(child) => {
-            trail.well_formed();
             if trail.len() == PLACES_MAX {
                 Err(Fault::PathTooDeep)
             } else {
@@ -269,20 +269,22 @@ pub fn find_arrival<'a, T: Tree, A: Allocator + Copy, B: Allocator + Copy>(
     ensures file { IfOk result (λ arrival. node_of arrival.at forest.now ≡ Some arrival.file.now) }
     ensures places { IfOk result (λ arrival. length (stepped trail.now arrival.step) ≤ places_max) }
 {
+    trail.well_formed();
     let row = table.position(trail.here());
-    find_arrival_at(forest, table, trail, row, name, who)
+    find_arrival_at(forest, table, trail.as_slice(), row, name, who)
 }
 
 // The same, by the row of the last place.
 fn find_arrival_at<'a, T: Tree, A: Allocator + Copy, B: Allocator + Copy>(
     forest: &'a Forest<T>,
     table: &MountTable<A>,
-    trail: &Trail<B>,
+    trail: &[NodeRef],
     row: Option<usize>,
     name: &str,
     who: Option<Who<'_, B>>,
 ) -> Result<Arrival<'a, T::Alloc>, Fault>
-    requires { row ≡ row_position (here trail.now) table.now }
+    requires trail { IsTrail trail.now }
+    requires row { row ≡ row_position (here trail.now) table.now }
     ensures ok { IfOk result (λ arrival. step_of forest.now table.now
         (option_map who_view who.entry) trail.now name.now ≡ Ok arrival.step) }
     ensures err { IfErr result (λ fault. step_of forest.now table.now
@@ -294,9 +296,9 @@ fn find_arrival_at<'a, T: Tree, A: Allocator + Copy, B: Allocator + Copy>(
     ensures file { IfOk result (λ arrival. node_of arrival.at forest.now ≡ Some arrival.file.now) }
     ensures places { IfOk result (λ arrival. length (stepped trail.now arrival.step) ≤ places_max) }
 {
-    let members = table.members_at(row, trail.here());
+    let members = table.members_at(row, last(trail));
     if name == ".." {
-        let row = table.position(trail.above());
+        let row = table.position(above(trail));
         arrive_up(forest, table, trail, members.as_slice(), row)
     } else {
         arrive_down(forest, table, trail, members.as_slice(), name, who)
@@ -304,14 +306,15 @@ fn find_arrival_at<'a, T: Tree, A: Allocator + Copy, B: Allocator + Copy>(
 }
 
 /// Where `..` arrives from the members of the last place, by the row of the place above.
-pub(crate) fn arrive_up<'a, T: Tree, A: Allocator + Copy, B: Allocator + Copy>(
+pub(crate) fn arrive_up<'a, T: Tree, A: Allocator + Copy>(
     forest: &'a Forest<T>,
     table: &MountTable<A>,
-    trail: &Trail<B>,
+    trail: &[NodeRef],
     members: &[Member],
     row: Option<usize>,
 ) -> Result<Arrival<'a, T::Alloc>, Fault>
     requires members { members.now ≡ members_of (here trail.now) table.now }
+    requires trail { IsTrail trail.now }
     requires row { row ≡ row_position (here (upward trail.now)) table.now }
     ensures ok { (who : Option WhoOf) → IfOk result (λ arrival.
         step_of forest.now table.now who trail.now (codes "..") ≡ Ok arrival.step) }
@@ -324,11 +327,10 @@ pub(crate) fn arrive_up<'a, T: Tree, A: Allocator + Copy, B: Allocator + Copy>(
     ensures file { IfOk result (λ arrival. node_of arrival.at forest.now ≡ Some arrival.file.now) }
     ensures places { IfOk result (λ arrival. length (stepped trail.now arrival.step) ≤ places_max) }
 {
-    trail.well_formed();
     if let Some(fault) = dir_fault(forest, members) {
         return Err(fault);
     }
-    arrive_at(forest, table, Step::Up, trail.above(), row)
+    arrive_at(forest, table, Step::Up, above(trail), row)
 }
 
 /// Where any other name arrives from the members of the last place. The row of the new place is
@@ -336,12 +338,13 @@ pub(crate) fn arrive_up<'a, T: Tree, A: Allocator + Copy, B: Allocator + Copy>(
 pub(crate) fn arrive_down<'a, T: Tree, A: Allocator + Copy, B: Allocator + Copy>(
     forest: &'a Forest<T>,
     table: &MountTable<A>,
-    trail: &Trail<B>,
+    trail: &[NodeRef],
     members: &[Member],
     name: &str,
     who: Option<Who<'_, B>>,
 ) -> Result<Arrival<'a, T::Alloc>, Fault>
     requires members { members.now ≡ members_of (here trail.now) table.now }
+    requires trail { IsTrail trail.now }
     requires other { bytes_eq name.now (codes "..") ≡ false }
     ensures ok { IfOk result (λ arrival. step_of forest.now table.now
         (option_map who_view who.entry) trail.now name.now ≡ Ok arrival.step) }
@@ -412,7 +415,8 @@ pub fn resolve<T: Tree, A: Allocator + Copy, B: Allocator + Copy>(
     let mut trail = start.copy()?;
     let mut row = table.position(trail.here());
     for name in names {
-        let arrival = find_arrival_at(forest, table, &trail, row, name, who)?;
+        trail.well_formed();
+        let arrival = find_arrival_at(forest, table, trail.as_slice(), row, name, who)?;
         trail.take(arrival.step)?;
         row = arrival.row;
     }

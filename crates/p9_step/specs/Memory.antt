@@ -16,10 +16,10 @@ is_done (Ok outcome) = true
 is_done (Err fault) = false
 
 -- whether a request may be answered by a failed allocation, in the place of the answer that it has:
--- an attach or a walk in the place of any, a create, a write or a wstat where no refusal is due
+-- an attach in the place of any, a walk, a create, a write or a wstat where no refusal is due
 abbrev pub may_run_out : TMessage → Answer → Bool
 may_run_out (Tattach fid afid uname aname) answer = true
-may_run_out (Twalk fid newfid names) answer = true
+may_run_out (Twalk fid newfid names) answer = is_done answer
 may_run_out (Tcreate fid name perm mode) answer = is_done answer
 may_run_out (Twrite fid offset bytes) answer = is_done answer
 may_run_out (Twstat fid stat) answer = is_done answer

@@ -1,4 +1,4 @@
-use Rattle.std.proofs.Common.{◌≡◌, drop, length, map}
+use Rattle.std.proofs.Common.{◌≡◌, ◌≤◌, ◌+◌, drop, length, map}
 use Rattle.p9_space.specs.Channel.{Fits, trail_of}
 use Rattle.p9_step.specs.Walk.{walked}
 use Rattle.p9_requests.proofs.Walks.{so_far}
@@ -12,6 +12,8 @@ invariant-loop-name g l =
     record {
       count : length l.qids ≡ l.name-index;
       walk : walk (trail_of l.start) l.names
-          ≡ so_far l.qids (walk (trail_of l.channels) (map (λ n. n.now) (drop l.name-index l.name-items)));
-      fits : Fits l.setting.table l.channels;
+          ≡ so_far l.qids (walk (trail_of l.way) (map (λ n. n.now) (drop l.name-index l.name-items)));
+      fits : Fits l.setting.table l.way;
+      within : l.name-index ≤ length l.name-items;
+      few : length (trail_of l.way) ≤ length (trail_of l.start) + l.name-index;
     }

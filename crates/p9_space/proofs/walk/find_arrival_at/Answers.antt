@@ -25,12 +25,12 @@ returns-then-eq-clause-err g c =
 
 pub members_at-members-requires : goal.members_at-members-requires
 members_at-members-requires g c =
-    c.requires ∙ ap (λ place. row_position place c.args.table.now) (sym c.here.ensures)
+    c.requires.row ∙ ap (λ place. row_position place c.args.table.now) (sym c.last.ensures)
 
 pub arrive_up-requires-clause-members : goal.arrive_up-requires-clause-members
 arrive_up-requires-clause-members g c =
     c.as_slice.ensures ∙ c.members_at-members.ensures.members
-    ∙ ap (λ place. members_of place c.args.table.now) c.here.ensures
+    ∙ ap (λ place. members_of place c.args.table.now) c.last.ensures
 
 pub arrive_up-requires-clause-row : goal.arrive_up-requires-clause-row
 arrive_up-requires-clause-row g c =
@@ -39,7 +39,7 @@ arrive_up-requires-clause-row g c =
 pub arrive_down-requires-clause-members : goal.arrive_down-requires-clause-members
 arrive_down-requires-clause-members g c =
     c.as_slice-else-eq.ensures ∙ c.members_at-members.ensures.members
-    ∙ ap (λ place. members_of place c.args.table.now) c.here.ensures
+    ∙ ap (λ place. members_of place c.args.table.now) c.last.ensures
 
 pub arrive_down-requires-clause-other : goal.arrive_down-requires-clause-other
 arrive_down-requires-clause-other g c = sym c.eq.ensures ∙ c.if-eq.false

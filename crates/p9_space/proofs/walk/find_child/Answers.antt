@@ -18,7 +18,7 @@ returns-then-not-found-3-clause-err g c =
     rw (
       sym c.find_by-found.ensures.alive ∙ c.if-not-found.false,
       sym c.find_by-found.ensures.dir ∙ c.if-not-found-2.false,
-      c.requires,
+      c.requires.other,
       sym c.find_by-found.ensures.searched ∙ c.if-not-found-3.true,
     ) refl
 
@@ -27,18 +27,18 @@ returns-in-None-clause-err g c =
     rw (
       sym c.find_by-found.ensures.alive ∙ c.if-not-found.false,
       sym c.find_by-found.ensures.dir ∙ c.if-not-found-2.false,
-      c.requires,
+      c.requires.other,
       sym c.find_by-found.ensures.searched ∙ c.if-not-found-3.false,
       sym c.find_by-found.ensures.child ∙ ap (option_map place_of) c.in-None.is,
     ) refl
 
-pub returns-then-len-eq-PLACES_MAX-clause-err : goal.returns-then-len-eq-PLACES_MAX-clause-err
-returns-then-len-eq-PLACES_MAX-clause-err g c =
+pub returns-then-trail-eq-PLACES_MAX-clause-err : goal.returns-then-trail-eq-PLACES_MAX-clause-err
+returns-then-trail-eq-PLACES_MAX-clause-err g c =
     rw (
       sym c.find_by-found.ensures.alive ∙ c.if-not-found.false,
       sym c.find_by-found.ensures.dir ∙ c.if-not-found-2.false,
-      c.requires,
+      c.requires.other,
       sym c.find_by-found.ensures.searched ∙ c.if-not-found-3.false,
       sym c.find_by-found.ensures.child ∙ ap (option_map place_of) c.in-Some.is,
-      sym c.len.ensures ∙ c.if-len-eq-PLACES_MAX.true,
+      c.if-trail-eq-PLACES_MAX.true,
     ) refl

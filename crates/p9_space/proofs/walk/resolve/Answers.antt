@@ -18,9 +18,10 @@ pub loop-name-preserved : goal.loop-name-preserved
 loop-name-preserved g c = (
   walk-on c.args.forest.now c.args.table.now (option_map who_view c.args.who) c.loop-name.trail
       c.take.new.self c.args.names.now c.loop-name.name-index _ c.in_ok-arrival.arrival.step _
-      c.loop-name-test.true c.in_ok-arrival.ensures.ok c.in_ok-take.ensures.ok
+      c.loop-name-test.true (rw c.as_slice.ensures at c.in_ok-arrival.ensures.ok)
+      c.in_ok-take.ensures.ok
       c.loop-name.invariant.0,
-  c.in_ok-arrival.ensures.row
+  (rw c.as_slice.ensures at c.in_ok-arrival.ensures.row)
       ∙ ap (λ trail. row_position (here trail) c.args.table.now) (sym c.in_ok-take.ensures.ok),
 )
 
@@ -35,7 +36,8 @@ returns-in_err-arrival-clause-err g c =
     passed_on r.result _ _ r.ensures.1
     (inr (walk-refused c.args.forest.now c.args.table.now (option_map who_view c.args.who)
     c.loop-name.trail c.args.names.now c.loop-name.name-index _ c.in_err-arrival.field-0.0 _
-    c.loop-name-test.true c.in_err-arrival.ensures.err c.loop-name.invariant.0))
+    c.loop-name-test.true (rw c.as_slice.ensures at c.in_err-arrival.ensures.err)
+    c.loop-name.invariant.0))
 
 pub returns-in_err-take-clause-err : goal.returns-in_err-take-clause-err
 returns-in_err-take-clause-err g c =
@@ -46,7 +48,10 @@ returns-in_err-trail-clause-err g c =
     passed_on c.from_residual.result _ _ c.from_residual.ensures.1 (inl refl)
 
 pub find_arrival_at-requires : goal.find_arrival_at-requires
-find_arrival_at-requires g c = c.loop-name.invariant.1
+find_arrival_at-requires g c = record {
+  trail = rw c.as_slice.ensures c.well_formed-in-loop-name.ensures;
+  row = rw c.as_slice.ensures c.loop-name.invariant.1;
+}
 
 pub take-requires : goal.take-requires
-take-requires g c = c.in_ok-arrival.ensures.places
+take-requires g c = rw c.as_slice.ensures at c.in_ok-arrival.ensures.places
