@@ -1,32 +1,48 @@
--- The walk of an attach.
-use Rattle.std.proofs.Common.{◌≡◌, ◌⊎◌, Err, IfErr, IfOk, List, Ok, Result, Some, [], ◌∷◌, refl, subst, ℕ}
-use Rattle.p9_base.specs.declared.fault.Fault.{Fault}
-use Rattle.p9_base.specs.declared.fault.Fault.TheVariants.{OutOfMemory}
+-- An attach whose fid keeps a place.
+use Rattle.std.proofs.Common.{◌≡◌, List, Some, None, [], ◌∷◌, ℕ, true, ap, refl, ◌∙◌}
+use Rattle.std.specs.Map.{set_value}
+use Rattle.std.specs.Ordering.{nat_cmp}
+use Rattle.std.specs.BTreeMap.{is_at}
 use Rattle.p9_base.specs.declared.node_ref.NodeRef.{NodeRef}
+use Rattle.p9_base.specs.Results.{need, obtain, unless}
 use Rattle.p9_clean.specs.Path.{cleaned_elements}
 use Rattle.p9_tree.specs.Server.{Server}
 use Rattle.p9_space.specs.Place.{root_place}
 use Rattle.p9_space.specs.Rights.{Who}
 use Rattle.p9_space.specs.Table.{MountRow}
 use Rattle.p9_space.specs.Walk.{walk}
-use Rattle.p9_step.specs.Attach.{attach_walk}
-use Rattle.p9_step.specs.State.{Setting, who_of}
+use Rattle.p9_fids.specs.Fid.{changed_fid, fid_at, trailed, without_fid}
+use Rattle.p9_fids.proofs.Places.{lookup-added, set-added}
+use Rattle.p9_step.specs.Attach.{attach_answer, attach_walk, attached}
+use Rattle.p9_step.specs.State.{Session, Setting, who_of}
+use Rattle.p9_requests.specs.Reserved.{IsAttachRoom, attach_rest, unkept}
+use Rattle.p9_requests.proofs.Reserved.{absent, placed}
 
--- it is the walk of the user from the root place along the cleaned path
-module _ (setting : Setting) (forest : List Server) (user aname : List ℕ) (who : Who)
-    (table : List MountRow) (root : List NodeRef) (names : List (List ℕ)) (its : who ≡ who_of setting user)
-    (served : table ≡ setting.table) (begins : root ≡ root_place ∷ []) (cleaned : names ≡ cleaned_elements aname) where
-  same : walk forest table (Some who) root names ≡ attach_walk setting forest user aname
-  same = rw (its, served, begins, cleaned) refl
+module _ (setting : Setting) (forest : List Server) (session : Session) (fid afid : ℕ)
+    (uname aname : List ℕ) (names : List (List ℕ))
+    (is : IsAttachRoom setting fid afid uname aname (unkept true fid session) session names) where
+  none : fid_at fid (without_fid fid session.fids) ≡ None
+  none = absent fid (without_fid fid session.fids) is.free
 
-  pub walk-ok : (result : Result (List NodeRef) Fault)
-      → IfOk result (λ trail. walk forest table (Some who) root names ≡ Ok trail)
-      → IfOk result (λ trail. attach_walk setting forest user aname ≡ Ok trail)
-  walk-ok result = subst (λ w. IfOk result (λ trail. w ≡ Ok trail)) same
+  -- the fid that keeps the place is there
+  pub attach-there : fid_at fid session.fids ≡ Some (placed is.user is.keeps.spare)
+  attach-there =
+      ap (fid_at fid) is.keeps.added
+      ∙ lookup-added fid (without_fid fid session.fids) (placed is.user is.keeps.spare) none
 
-  pub walk-err : (result : Result (List NodeRef) Fault)
-      → IfErr result (λ fault. (fault ≡ OutOfMemory)
-      ⊎ (walk forest table (Some who) root names ≡ Err fault))
-      → IfErr result (λ fault. (fault ≡ OutOfMemory)
-      ⊎ (attach_walk setting forest user aname ≡ Err fault))
-  walk-err result = subst (λ w. IfErr result (λ fault. (fault ≡ OutOfMemory) ⊎ (w ≡ Err fault))) same
+  -- it goes to the place
+  pub attach-goes : (place : NodeRef)
+      → record session { fids = changed_fid fid (trailed (place ∷ [])) session.fids }
+      ≡ attached fid is.user place (unkept true fid session)
+  attach-goes place =
+      ap (λ fids. record session { fids = fids })
+      (rw attach-there
+      (ap (λ fids. set_value (is_at (nat_cmp fid)) fids (placed is.user (place ∷ []))) is.keeps.added
+      ∙ set-added fid (without_fid fid session.fids) (placed is.user is.keeps.spare)
+      (placed is.user (place ∷ [])) none))
+
+  -- no test that looks at no file refuses
+  pub attach-rests : attach_answer setting forest (unkept true fid session) fid afid uname aname
+      ≡ attach_rest setting forest (unkept true fid session) fid aname is.user
+  unfolding obtain need unless
+  attach-rests = rw (is.free, is.plain, is.listed, is.named) refl

@@ -1,15 +1,21 @@
 -- Memory that is reserved for a request before its answer is looked up. No forest is given to what
 -- reserves it.
 use Rattle.std.specs.Prelude.{◌≡◌, ◌==◌, ℕ, ◌+◌, ◌≤◌, Bool, true, false, List, Option, None, Some}
-use Rattle.std.specs.Prelude.{Ok, Err, length, min}
-use Rattle.p9_base.specs.declared.fault.Fault.TheVariants.{OutOfMemory}
+use Rattle.std.specs.Prelude.{Ok, Err, is_some, length, min}
+use Rattle.p9_base.specs.declared.fault.Fault.TheVariants.{NoAuthentication, OutOfMemory}
+use Rattle.p9_base.specs.declared.fault.Fault.TheVariants.{PhaseError, UnknownAttachName, UnknownUser}
+use Rattle.p9_base.specs.Results.{and_then, need, obtain, unless}
+use Rattle.p9_clean.specs.Path.{cleaned_elements}
+use Rattle.p9_tree.specs.Server.{Server}
+use Rattle.p9_space.specs.Place.{file_of, root_place}
 use Rattle.p9_base.specs.declared.node_ref.NodeRef.{NodeRef}
 use Rattle.p9_space.specs.Channel.{Fits}
 use Rattle.p9_space.specs.Table.{MountRow}
-use Rattle.p9_space.specs.Trail.{places_max}
-use Rattle.p9_fids.specs.Fid.{Fid, FidRow, fid_at, with_fid}
-use Rattle.p9_step.specs.State.{Session}
+use Rattle.p9_space.specs.Trail.{here, places_max}
+use Rattle.p9_fids.specs.Fid.{Fid, fid_at, nofid, put_fault, with_fid}
+use Rattle.p9_step.specs.State.{Session, Setting}
 use Rattle.p9_step.specs.Answer.{Answer}
+use Rattle.p9_step.specs.Attach.{attach_answer, attach_walk, attached_at, is_attach_name, listed_user}
 use Rattle.p9_step.specs.Clunk.{without}
 use Rattle.p9_step.specs.Walk.{newfid_fault}
 use Rattle.p9_requests.specs.declared.room.Room.{Room}
@@ -55,3 +61,51 @@ pub record IsWalkRoom {A : Type 0} (table : List MountRow) (fid newfid : ℕ)
   pub closed : v.opened ≡ None
   pub free : newfid_fault fid newfid before.fids ≡ None
   pub has : HasRoom table fid newfid v.user (places v.trail) before session room
+
+module _ (setting : Setting) (session : Session) (fid afid : ℕ) (uname aname : List ℕ) where
+  -- the tests of an attach that look at no file, and the rest of its answer
+  abbrev pub attach_tested : (List ℕ → Answer) → Answer
+  attach_tested rest =
+      unless (put_fault fid session.fids) (
+      need (afid == nofid) NoAuthentication (
+      obtain (listed_user uname setting.users) UnknownUser (λ user.
+      need (is_attach_name aname) UnknownAttachName (rest user))))
+
+-- the rest of the answer to an attach by the user, which looks at files
+abbrev pub attach_rest : Setting → List Server → Session → (fid : ℕ) (aname user : List ℕ) → Answer
+attach_rest setting forest session fid aname user =
+    need (is_some (file_of root_place setting.table forest)) PhaseError (
+    and_then (attach_walk setting forest user aname) (λ trail.
+    attached_at setting forest session fid user (here trail)))
+
+-- the answer to an attach, by whether memory was reserved for it: without, no file is looked at
+abbrev pub attach_with_memory : (is_reserved : Bool) → Setting → List Server → Session
+    → (fid afid : ℕ) (uname aname : List ℕ) → Answer
+attach_with_memory true setting forest session fid afid uname aname =
+    attach_answer setting forest session fid afid uname aname
+attach_with_memory false setting forest session fid afid uname aname =
+    attach_tested setting session fid afid uname aname (λ user. Err OutOfMemory)
+
+-- no test that looks at no file refuses the attach, the names are those of its path, and its fid
+-- keeps a place
+pub record IsAttachRoom (setting : Setting) (fid afid : ℕ) (uname aname : List ℕ)
+    (before session : Session) (names : List (List ℕ)) : Type 0 where
+  pub user : List ℕ
+  pub free : put_fault fid before.fids ≡ None
+  pub plain : (afid == nofid) ≡ true
+  pub listed : listed_user uname setting.users ≡ Some user
+  pub named : is_attach_name aname ≡ true
+  pub cleaned : names ≡ cleaned_elements aname
+  pub keeps : KeepsPlace fid user 1 before session
+
+-- the session before the place of a new fid was reserved
+abbrev pub unkept : (is_reserved : Bool) → (fid : ℕ) → Session → Session
+unkept true fid session = without fid session
+unkept false fid session = session
+
+-- the attach name leads the user to the place
+pub record Leads (setting : Setting) (forest : List Server) (user aname : List ℕ) (place : NodeRef)
+    : Type 0 where
+  pub trail : List NodeRef
+  pub walked : attach_walk setting forest user aname ≡ Ok trail
+  pub last : place ≡ here trail

@@ -12,7 +12,7 @@ ghost use Rattle.p9_step.specs.State.{SessionRow, io_header, iounit_of};
 ghost use Rattle.p9_step.specs.Memory.{may_run_out};
 ghost use Rattle.p9_step.specs.Step.{message_answer};
 
-use crate::attach::attach;
+use crate::attach::{attach, reserve_attach};
 use crate::clunk::clunk;
 use crate::create::{NewFile, create};
 use crate::open::open;
@@ -71,7 +71,8 @@ pub fn message<T: Tree>(
             uname,
             aname,
         } => {
-            let qid = attach(setting, forest, session, *fid, *afid, uname, aname)?;
+            let names = reserve_attach(setting, session, *fid, *afid, uname, aname);
+            let qid = attach(setting, forest, session, names, *fid, *afid, uname, aname)?;
             Ok(Reply::Message(RMsg::Attach { qid }))
         }
         TMsg::Flush { .. } => Ok(Reply::Message(RMsg::Flush)),

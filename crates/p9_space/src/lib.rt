@@ -22,4 +22,4 @@ pub use row::{Member, Members, Order};
 pub use table::{MountTable, UnmountError};
 pub use trail::{PLACES_MAX, ROOT_PLACE, Step, Trail};
 pub use walk::{Arrival, dir_fault, find_arrival, resolve};
-pub use way::{Way, find_arrival_on};
+pub use way::{Way, advance_on, find_arrival_on};

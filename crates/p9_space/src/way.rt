@@ -1,20 +1,20 @@
 //! Ways: channels that take no memory.
 
 ghost use Rattle.std.specs.Prelude.{◌≡◌, ◌++◌, ◌∷◌, ◌<◌, ◌≤◌, [], List, Ok, Err, IfErr, IfOk, IfSome};
-ghost use Rattle.std.specs.Prelude.{Some, length};
+ghost use Rattle.std.specs.Prelude.{OnOk, Some, length, map};
 ghost use Rattle.std.specs.Option.{option_map};
 ghost use Rattle.p9_space.specs.Channel.{Fits, row_position, trail_of};
 ghost use Rattle.p9_space.specs.Place.{file_ref};
 ghost use Rattle.p9_space.specs.Rights.{who_view};
 ghost use Rattle.p9_space.specs.Table.{MountRow};
 ghost use Rattle.p9_space.specs.Trail.{IsTrail, here, places_max, stepped, upward};
-ghost use Rattle.p9_space.specs.Walk.{step_of};
+ghost use Rattle.p9_space.specs.Walk.{step_of, walk};
 ghost use Rattle.p9_tree.specs.Forest.{node_of};
 
 use crate::channel::{Channels, find_arrival_by_rows};
 use crate::rights::Who;
 use crate::table::MountTable;
-use crate::trail::{PLACES_MAX, ROOT_PLACE, Step};
+use crate::trail::{PLACES_MAX, ROOT_PLACE, Step, last};
 use crate::walk::Arrival;
 use p9_base::{Fault, NodeRef};
 use p9_tree::{Forest, Tree};
@@ -77,6 +77,14 @@ impl Way {
         ensures { IsTrail (trail_of self.now) }
     {
         let _places = &self.places[..self.len];
+    }
+
+    /// The last place, at which the way has arrived.
+    pub fn here(&self) -> NodeRef
+        ensures { result ≡ here (trail_of self.now) }
+    {
+        self.well_formed();
+        last(self.places())
     }
 
     /// The places.
@@ -152,4 +160,26 @@ pub fn find_arrival_on<'a, T: Tree, A: Allocator + Copy, B: Allocator + Copy>(
 {
     way.well_formed();
     find_arrival_by_rows(forest, table, way.places(), way.rows(), name, who)
+}
+
+/// Walks on from the last place along names, as [`crate::advance`]. This takes no memory. Where a
+/// step is refused, the way ends before it.
+pub fn advance_on<T: Tree, A: Allocator + Copy, B: Allocator + Copy>(
+    forest: &Forest<T>,
+    table: &MountTable<A>,
+    way: &mut Way,
+    names: &[&str],
+    who: Option<Who<'_, B>>,
+) -> Result<(), Fault>
+    requires { Fits table.now way.old }
+    ensures ok { OnOk result (walk forest.now table.now (option_map who_view who.entry)
+        (trail_of way.old) (map (λ n. n.now) names.now) ≡ Ok (trail_of way.new)) }
+    ensures err { IfErr result (λ fault. walk forest.now table.now (option_map who_view who.entry)
+        (trail_of way.old) (map (λ n. n.now) names.now) ≡ Err fault) }
+{
+    for name in names {
+        let arrival = find_arrival_on(forest, table, way, name, who)?;
+        way.take(arrival.step, arrival.row);
+    }
+    Ok(())
 }
