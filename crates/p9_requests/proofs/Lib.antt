@@ -1,5 +1,6 @@
 mod Among
 mod Attaches
+mod Beyond
 mod Creates
 mod DirectoryReads
 mod Entries

@@ -72,9 +72,9 @@ impl<A: Allocator + Copy> Trail<A> {
         requires few { count ≤ places_max }
         ensures { IfOk result (λ trail. trail ≡ replicate count place) }
     {
-        let mut places = Vec::new(alloc);
-        places.resize(count, place)?;
-        Ok(Trail { places })
+        let mut filled = Vec::new(alloc);
+        filled.resize(count, place)?;
+        Ok(Trail { places: filled })
     }
 
     /// Goes where other places lead, of which there are no more than it has. This takes no memory.
