@@ -1,16 +1,16 @@
-use Rattle.std.proofs.Common.{Err, is_some}
-use Rattle.std.proofs.lemmas.Result.{err_from_is_err_and}
-use Rattle.p9_requests.proofs.Beyond.{attach-or}
+use Rattle.std.proofs.Common.{◌∙◌, ap}
+use Rattle.p9_wire.specs.Message.{t_view}
+use Rattle.p9_requests.specs.Answers.{replied, reply_view}
+use Rattle.p9_requests.proofs.Beyond.{message-or}
 use Rattle.p9_requests.proofs.message.message.Goals as goal
 
-pub returns-in_err-qid-in-Attach-clause-answer : goal.returns-in_err-qid-in-Attach-clause-answer
-returns-in_err-qid-in-Attach-clause-answer g c =
+pub returns-clause-answer : goal.returns-clause-answer
+returns-clause-answer g c =
     λ sessions taken.
-    let r = c.from_residual-in_err-qid-in-Attach in
-    let p = err_from_is_err_and r.result r.ensures.1 in
-    let did =
-    attach-or (is_some c.reserve_attach-names.result) c.args.setting.now c.args.forest.now
-    c.args.session.now.session c.attach.new.session.session c.in-Attach.fid c.in-Attach.afid
-    c.in-Attach.uname.now c.in-Attach.aname.now (Err c.in_err-qid-in-Attach.field-0.0)
-    (rw c.reserve_attach-names.ensures.before at c.in_err-qid-in-Attach.ensures.answer) in
-    rw (c.in-Attach.is, p.1, p.2) did
+    let before = c.reserve-reserved.ensures.before in
+    message-or c.args.forest.now c.answer_reserved.new.forest c.args.session.now.session
+    c.answer_reserved.new.session.session
+    (replied (reply_view c.answer_reserved.new.forest c.answer_reserved.new.buffer)
+    c.answer_reserved.result) c.reserve-reserved.result c.args.setting.now sessions c.args.clock
+    (t_view c.args.request.now)
+    (rw before at (c.answer_reserved.ensures.answer sessions (rw before taken)))
