@@ -216,7 +216,14 @@ pub fn find_arrival_from<'a, T: Tree, A: Allocator + Copy, B: Allocator + Copy>(
         ≤ places_max) }
 {
     channels.trail.well_formed();
-    find_arrival_by_rows(forest, table, channels.trail.as_slice(), &channels.rows, name, who)
+    find_arrival_by_rows(
+        forest,
+        table,
+        channels.trail.as_slice(),
+        &channels.rows,
+        name,
+        who,
+    )
 }
 
 /// One step from the last of places whose rows are these, as [`crate::find_arrival`].

@@ -8,7 +8,7 @@ use Rattle.p9_fids.specs.Fid.{trailed}
 use Rattle.p9_fids.specs.Fids.{IsFids}
 use Rattle.p9_fids.specs.Held.{AllFit, Held, fid_of, held_fids, map_values}
 use Rattle.p9_fids.proofs.Fids.{fids-changed}
-use Rattle.p9_fids.proofs.Holding.{changed-held, fit-lookup, fit-set, held-there, room-rows, room-trail}
+use Rattle.p9_fids.proofs.Holding.{changed-held, fit-set, held-there, room-rows, room-trail}
 use Rattle.p9_fids.proofs.table.FidTable.follow.Goals as goal
 
 pub unwrap-held-requires : goal.unwrap-held-requires
