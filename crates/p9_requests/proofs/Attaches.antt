@@ -5,16 +5,11 @@ use Rattle.std.specs.Ordering.{nat_cmp}
 use Rattle.std.specs.BTreeMap.{is_at}
 use Rattle.p9_base.specs.declared.node_ref.NodeRef.{NodeRef}
 use Rattle.p9_base.specs.Results.{need, obtain, unless}
-use Rattle.p9_clean.specs.Path.{cleaned_elements}
 use Rattle.p9_tree.specs.Server.{Server}
-use Rattle.p9_space.specs.Place.{root_place}
-use Rattle.p9_space.specs.Rights.{Who}
-use Rattle.p9_space.specs.Table.{MountRow}
-use Rattle.p9_space.specs.Walk.{walk}
 use Rattle.p9_fids.specs.Fid.{changed_fid, fid_at, trailed, without_fid}
 use Rattle.p9_fids.proofs.Places.{lookup-added, set-added}
-use Rattle.p9_step.specs.Attach.{attach_answer, attach_walk, attached}
-use Rattle.p9_step.specs.State.{Session, Setting, who_of}
+use Rattle.p9_step.specs.Attach.{attach_answer, attached}
+use Rattle.p9_step.specs.State.{Session, Setting}
 use Rattle.p9_requests.specs.Reserved.{IsAttachRoom, attach_rest, unkept}
 use Rattle.p9_requests.proofs.Reserved.{absent, placed}
 

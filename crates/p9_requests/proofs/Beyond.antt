@@ -240,14 +240,13 @@ module _ (forest forest' : List Server) (session new : Session) (result : Result
           (is_beyond_session (attach_answer setting forest session fid afid uname aname)) forest
           forest' session new result
       go (Ok reply) did = absurd (never-ok setting session fid afid uname aname _ did.0)
-      go (Err fault) did =
-          (
-            attach-refuses setting forest session fid afid uname aname fault
-                (its-own (attach_tested setting session fid afid uname aname (λ user. Err OutOfMemory))
-                fault did.0),
-            did.1,
-            did.2,
-          )
+      go (Err fault) did = (
+        attach-refuses setting forest session fid afid uname aname fault
+            (its-own (attach_tested setting session fid afid uname aname (λ user. Err OutOfMemory))
+            fault did.0),
+        did.1,
+        did.2,
+      )
 
   attach-or : (reserved : Bool) (setting : Setting) (fid afid : ℕ) (uname aname : List ℕ)
       → Answers (attach_with_memory reserved setting forest session fid afid uname aname) false forest

@@ -1,16 +1,13 @@
 -- Rooms that are reserved for a walk.
 use Rattle.std.proofs.Common.{◌≡◌, ◌≢◌, ℕ, ◌≤◌, Bool, true, false, List, Option, Some, None}
-use Rattle.std.proofs.Common.{IfSome, IsSome, Result, Ok, Err, Ordering, Equal, length, is_some}
+use Rattle.std.proofs.Common.{IsSome, Equal, length, is_some}
 use Rattle.std.proofs.Common.{arith, refl, sym, ap, ◌∙◌}
 use Rattle.std.proofs.Common.{Bor}
 use Rattle.std.specs.Option.{option_copied, option_map}
-use Rattle.std.specs.Prelude.{◌==◌, if◌then◌else◌}
+use Rattle.std.specs.Prelude.{◌==◌}
 use Rattle.std.specs.Ordering.{nat_cmp}
 use Rattle.std.specs.Cmp.{ranked}
-use Rattle.std.specs.Map.{set_value}
-use Rattle.std.specs.BTreeMap.{is_at}
 use Rattle.std.proofs.lemmas.Bool.Decides.{nat_tests}
-use Rattle.p9_base.specs.declared.fault.Fault.{Fault}
 use Rattle.p9_base.specs.declared.fault.Fault.TheVariants.{UnknownFid}
 use Rattle.p9_base.specs.declared.node_ref.NodeRef.{NodeRef}
 use Rattle.p9_space.specs.Table.{MountRow}
@@ -18,12 +15,12 @@ use Rattle.p9_fids.specs.Fid.{Fid, FidRow, changed_fid, fid_at, nofid, put_fault
 use Rattle.p9_fids.specs.Fid.{without_fid}
 use Rattle.p9_fids.specs.Held.{Held, fid_of}
 use Rattle.p9_fids.proofs.Fids.{can_put}
-use Rattle.p9_fids.proofs.Places.{lookup-added, lookup-beside, remove-added, set-added}
+use Rattle.p9_fids.proofs.Places.{lookup-added, lookup-beside, set-added}
 use Rattle.p9_step.specs.State.{Session}
 use Rattle.p9_step.specs.Walk.{moved, newfid_fault}
 use Rattle.p9_requests.specs.declared.room.Room.{Room}
 use Rattle.p9_requests.specs.declared.room.Room.TheVariants.{Added, Channels}
-use Rattle.p9_requests.specs.Reserved.{IsWalkRoom, KeepsPlace, unreserved}
+use Rattle.p9_requests.specs.Reserved.{IsWalkRoom, unreserved}
 
 -- a fid that is at a trail, and not open
 abbrev pub placed : (user : List ℕ) → List NodeRef → Fid
@@ -148,11 +145,14 @@ module _ {A : Type 0} (table : List MountRow) (fid newfid : ℕ) (places : List 
         found = is.found;
         closed = is.closed;
         free = is.free;
-        has = (is.has.0, record {
-          spare = its.spare;
-          added = its.added;
-          room = omega (arith, less, more);
-        });
+        has = (
+          is.has.0,
+          record {
+            spare = its.spare;
+            added = its.added;
+            room = omega (arith, less, more);
+          },
+        );
       }
   fewer-places fewer (Channels channels) before session is less =
       let more = is.has.1 in

@@ -18,7 +18,7 @@ use Rattle.p9_space.specs.declared.trail.Step.{Step}
 use Rattle.p9_space.specs.declared.trail.Step.TheVariants.{Up, To}
 use Rattle.p9_space.specs.Place.{file_ref}
 use Rattle.p9_space.specs.Table.{MountRow}
-use Rattle.p9_space.specs.Trail.{IsTrail, here, places_max, stepped}
+use Rattle.p9_space.specs.Trail.{IsTrail, here, stepped}
 use Rattle.p9_requests.specs.Reserved.{most_places}
 use Rattle.p9_space.specs.Walk.{step_of}
 use Rattle.p9_fids.specs.declared.opened.Opened.{Opened}

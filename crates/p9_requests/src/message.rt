@@ -63,7 +63,9 @@ pub fn message<T: Tree>(
         (replied (reply_view forest.new buffer.new) result) }
 {
     let reserved = reserve(setting, session, request);
-    answer_reserved(setting, forest, session, reserved, taken, clock, request, buffer)
+    answer_reserved(
+        setting, forest, session, reserved, taken, clock, request, buffer,
+    )
 }
 
 /// Answers a request of a session, for which this was reserved. `taken` says whether the file that an

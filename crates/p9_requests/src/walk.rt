@@ -223,13 +223,7 @@ fn walk_along<T: Tree>(
     let mut qids = Qids::new();
     let mut way = Way::of(start);
     for name in names.as_slice() {
-        match find_arrival_on(
-            forest,
-            &setting.table,
-            &way,
-            name,
-            Some(setting.who(user)),
-        ) {
+        match find_arrival_on(forest, &setting.table, &way, name, Some(setting.who(user))) {
             Ok(arrival) => qids.push(arrive(setting, forest, &mut way, arrival)),
             Err(fault) => {
                 way.well_formed();

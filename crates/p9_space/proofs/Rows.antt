@@ -39,17 +39,6 @@ rows-upward table trail rows fits =
         ap (λ n. take n trail) (length-take-le (length trail - 1) trail (omega arith))
     front false = take_all (length trail) trail (omega arith)
 
--- the row that channels keep of a place is the place's
-pub row-at : (table : List MountRow) (trail : List NodeRef) (rows : List (Option ℕ)) (i : ℕ)
-    (place : NodeRef) (row : Option ℕ) → rows ≡ rows_of table trail → slice_get trail i ≡ Some place
-    → row ≡ get_or rows i row → row ≡ row_position place table
-row-at table trail rows i place row fits at read =
-    read
-    ∙ get_or_from_slice_get rows i (row_position place table) row
-    (ap (λ rows. slice_get rows i) fits
-    ∙ slice_get-map (λ key. row_position key table) trail i
-    ∙ ap (option_map (λ key. row_position key table)) at)
-
 -- the rows of fewer places are the first of the rows
 pub rows-shorter : (table : List MountRow) (places : List NodeRef) (rows : List (Option ℕ)) (fewer n : ℕ)
     → fewer ≤ n → take n rows ≡ rows_of table (take n places)

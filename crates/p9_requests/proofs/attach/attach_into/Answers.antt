@@ -1,4 +1,4 @@
-use Rattle.std.proofs.Common.{◌≡◌, ◌∙◌, List, [], ◌∷◌, Some, Ok, Err, ap, inl, refl, sym, true}
+use Rattle.std.proofs.Common.{◌≡◌, ◌∙◌, List, [], Some, Ok, ap, inl, refl, sym, true}
 use Rattle.std.specs.Option.{option_copied, option_map}
 use Rattle.p9_wire.specs.Message.{Rattach}
 use Rattle.p9_space.specs.Channel.{trail_of}
@@ -6,7 +6,7 @@ use Rattle.p9_fids.specs.Fid.{Fid, FidRow, changed_fid, fid_at, trailed}
 use Rattle.p9_fids.specs.Held.{Held, fid_of}
 use Rattle.p9_step.specs.Attach.{attach_answer, attached}
 use Rattle.p9_step.specs.State.{Session}
-use Rattle.p9_requests.specs.Reserved.{attach_rest, unkept}
+use Rattle.p9_requests.specs.Reserved.{unkept}
 use Rattle.p9_requests.proofs.Attaches.{attach-goes, attach-rests, attach-there}
 use Rattle.p9_requests.proofs.Reserved.{found-same, found-some}
 use Rattle.p9_requests.proofs.attach.attach_into.Goals as goal
@@ -66,9 +66,10 @@ returns-in-Ok-clause-answer g c =
     ∙ ap (λ trail. changed_fid c.args.fid (trailed trail) c.session.inside.fids.fids)
     c.at.ensures.trail)
     ∙ rw (← c.session.view_is) goes in
-    rw answer
-    (ap (λ (s : Session). Ok (record { changes = []; session = s; reply = Rattach c.in-Ok.qid })) (sym moved),
-    refl)
+    rw answer (
+      ap (λ (s : Session). Ok (record { changes = []; session = s; reply = Rattach c.in-Ok.qid })) (sym moved),
+      refl,
+    )
 
 pub returns-in-Err-clause-answer : goal.returns-in-Err-clause-answer
 returns-in-Err-clause-answer g c =
@@ -89,8 +90,7 @@ returns-in-Err-clause-answer g c =
     rw (← c.session.view_is) at (attach-there setting forest
     c.args.session.now.session c.args.fid c.args.afid c.args.uname.now c.args.aname.now _ is) in
     let user : is.user ≡ held.user =
-    ap (λ (v : Fid). v.user) (found-same held _ _ its there) in
-    (
+    ap (λ (v : Fid). v.user) (found-same held _ _ its there) in (
       inl (attach-rests setting forest c.args.session.now.session c.args.fid c.args.afid
           c.args.uname.now c.args.aname.now _ is
           ∙ rw user (c.in-Err.ensures.err c.args.aname.now is.cleaned before c.args.fid)),

@@ -1,4 +1,4 @@
-use Rattle.std.proofs.Common.{◌∙◌, List, ap, le_refl, sym}
+use Rattle.std.proofs.Common.{◌∙◌, List, ap, le_refl}
 use Rattle.p9_fids.specs.Fid.{FidRow, without_fid}
 use Rattle.p9_fids.proofs.Places.{remove-added}
 use Rattle.p9_requests.proofs.Reserved.{absent, placed}

@@ -1,4 +1,3 @@
-use Rattle.std.proofs.Common.{◌∙◌, ap}
 use Rattle.p9_wire.specs.Message.{t_view}
 use Rattle.p9_requests.specs.Answers.{replied, reply_view}
 use Rattle.p9_requests.proofs.Beyond.{message-or}

@@ -1,7 +1,6 @@
-use Rattle.std.proofs.Common.{◌≡◌, ◌∙◌, List, ap, refl}
+use Rattle.std.proofs.Common.{◌∙◌, List, ap, refl}
 use Rattle.p9_fids.specs.Fid.{FidRow}
 use Rattle.p9_space.specs.Channel.{trail_of}
-use Rattle.p9_step.specs.State.{Session}
 use Rattle.p9_requests.proofs.Reserved.{kept, kept-goes}
 use Rattle.p9_requests.proofs.walk.move_fid.Goals as goal
 

@@ -1,11 +1,10 @@
-use Rattle.std.proofs.Common.{◌≡◌, ◌≤◌, ◌+◌, ◌∙◌, Some, None, List, ap, le_refl, length, min, sym}
+use Rattle.std.proofs.Common.{◌≡◌, ◌+◌, ◌∙◌, Some, List, ap, le_refl, length, min, sym}
 use Rattle.std.proofs.lemmas.List.{length-replicate}
 use Rattle.p9_space.specs.Channel.{trail_of}
 use Rattle.p9_space.specs.Trail.{places_max}
 use Rattle.p9_fids.specs.Fid.{Fid, FidRow, fid_at, without_fid}
 use Rattle.p9_fids.specs.Held.{Held}
 use Rattle.p9_fids.proofs.Places.{remove-added}
-use Rattle.p9_step.specs.Walk.{newfid_fault}
 use Rattle.p9_requests.specs.Reserved.{most_places}
 use Rattle.p9_requests.proofs.Reserved.{absent, differ, newfid-free, not-there, placed}
 use Rattle.p9_requests.proofs.walk.reserve_walk.Goals as goal
@@ -55,10 +54,13 @@ returns-clause-room g c =
       found = rw (← c.session.view_is) found;
       closed = not-there c.held.inside.opened (sym c.is_some.ensures ∙ c.if-is_some.false);
       free = sym c.newfid_fault.ensures ∙ free;
-      has = (differ c.args.newfid c.args.fid c.if-newfid-fid.false, record {
-        spare = c.in-Ok.channels.trail;
-        added = rw (← c.session.view_is) c.in-Ok-add.ensures.ok;
-        room = rw (ap length c.in-Ok.ensures.trail ∙ length-replicate c.min-count.result _ ∙ count)
-            (le_refl _);
-      });
+      has = (
+        differ c.args.newfid c.args.fid c.if-newfid-fid.false,
+        record {
+          spare = c.in-Ok.channels.trail;
+          added = rw (← c.session.view_is) c.in-Ok-add.ensures.ok;
+          room = rw (ap length c.in-Ok.ensures.trail ∙ length-replicate c.min-count.result _ ∙ count)
+              (le_refl _);
+        },
+      );
     }

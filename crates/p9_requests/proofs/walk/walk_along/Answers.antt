@@ -1,5 +1,5 @@
-use Rattle.std.proofs.Common.{◌≡◌, ◌≤◌, ◌+◌, ℕ, ◌∙◌, List, [], Bor, refl, sym, ap, arith}
-use Rattle.std.proofs.Common.{length, length-append, map}
+use Rattle.std.proofs.Common.{◌≡◌, ℕ, ◌∙◌, List, [], Bor, refl, sym, ap, arith}
+use Rattle.std.proofs.Common.{length, length-append}
 use Rattle.std.proofs.lemmas.List.{length-map}
 use Rattle.p9_requests.proofs.Walks.{few-places, qid-arrived, stepped-few, walked-all, walked-end}
 use Rattle.p9_requests.proofs.Walks.{walked-turn}
