@@ -8,11 +8,11 @@ use p9_base::NoMemory;
 use p9_commands::status::BAD_COMMAND_LINE;
 use p9_commands::{BadCommandLine, Command};
 use p9_serve::{report_failure, run_serve};
+use p9_shell::{given_words, input, print, tell};
 use std::alloc::AllocError;
-use std::io::{ErrorKind, Read, Write};
+use std::io;
 use std::net::SocketAddr;
 use std::process::ExitCode;
-use std::{env, io};
 use words::{Asked, command_asked};
 
 fn main(rt: HostRuntime) -> ExitCode {
@@ -41,13 +41,10 @@ fn run(rt: &HostRuntime) -> io::Result<u8> {
 
 // What the words ask for. Words that are no text ask for nothing.
 fn asked(rt: &HostRuntime) -> io::Result<Option<Asked>> {
-    let words = match env::args(rt) {
-        Ok(words) => words,
-        Err(error) if error.kind() == ErrorKind::OutOfMemory => return Err(error),
-        Err(_) => return Ok(None),
-    };
-    let words: Vec<String> = words.collect(rt.alloc())?;
-    Ok(command_asked(rt.alloc(), words.as_slice())?)
+    match given_words(rt)? {
+        Some(words) => Ok(command_asked(rt.alloc(), words.as_slice())?),
+        None => Ok(None),
+    }
 }
 
 // Runs a command over the standard input, and then prints what it gives.
@@ -59,9 +56,8 @@ fn run_over_input(rt: &HostRuntime, command: Command) -> io::Result<u8> {
         Ok(status) => status,
         Err(NoMemory) => return Err(io::Error::from(AllocError)),
     };
-    rt.stdout().write_all(out.as_slice())?;
-    rt.stdout().flush()?;
-    rt.stderr().write_all(err.as_slice())?;
+    print(rt, out.as_slice())?;
+    tell(rt, err.as_slice())?;
     Ok(status)
 }
 
@@ -77,11 +73,4 @@ fn serve_input(rt: &HostRuntime, address: SocketAddr, rounds: u64) -> io::Result
         &mut rt.stderr(),
     );
     Ok(status)
-}
-
-// The standard input, which is read whole.
-fn input(rt: &HostRuntime) -> io::Result<Vec<u8>> {
-    let mut input = Vec::new(rt.alloc());
-    rt.stdin().read_to_end(&mut input)?;
-    Ok(input)
 }

@@ -8,13 +8,13 @@ use crate::hide::{Hide, is_entered, is_hidden};
 use crate::output::Output;
 use crate::reason::Reason;
 use crate::settings::{Settings, add_user};
-use crate::streams::io_result;
 use p9_base::FileFlags;
 use p9_files::Dir;
 use p9_pack::{
     Accounts, DirLine, FileLine, PlainName, PlainUser, ServerName, fit_size, write_dir, write_file,
     write_server,
 };
+use p9_shell::Failure;
 use p9_shown::AsShown;
 use p9_tree::FILE_MAX;
 use std::alloc::Global;
@@ -22,9 +22,9 @@ use std::fs::{File, FileType, Metadata};
 use std::io::{self, ErrorKind, Read};
 
 /// What is packed so far.
-pub(crate) struct Packing {
+pub(crate) struct Packing<'s> {
     pub output: Output,
-    pub settings: Settings,
+    pub settings: &'s Settings,
     /// What is to be hidden, each once.
     pub hides: Vec<Hide>,
     /// Whether what is inside a hidden directory is packed too.
@@ -52,7 +52,7 @@ pub(crate) struct Entry<'a> {
     pub disk: &'a str,
 }
 
-impl Packing {
+impl Packing<'_> {
     /// Packs the directory or file of an entry, which has these names from the root of its server on.
     /// Of a directory it returns the entries, unless it is left out, or they are not to be packed.
     pub fn entry(
@@ -62,7 +62,7 @@ impl Packing {
         server: &ServerName,
         names: &[PlainName],
         entry: Entry<'_>,
-    ) -> io::Result<Option<Level>> {
+    ) -> Result<Option<Level>, Failure> {
         let seen = match entry.dir.look(rt, entry.name) {
             Ok(seen) => seen,
             Err(error) => {
@@ -81,7 +81,7 @@ impl Packing {
         if is_entered(self.hides.as_slice(), self.with_hidden, server, names) {
             return self.open_dir(rt, accounts, server, names, entry);
         }
-        match attributes_of(&self.settings, accounts, &seen) {
+        match attributes_of(self.settings, accounts, &seen) {
             Ok(attributes) => self.dir_lines(rt, server, names, attributes, entry.disk)?,
             Err(reason) => self.output.leave_out(rt, entry.disk, reason)?,
         }
@@ -96,9 +96,9 @@ impl Packing {
         server: &ServerName,
         names: &[PlainName],
         entry: Entry<'_>,
-    ) -> io::Result<Option<Level>> {
+    ) -> Result<Option<Level>, Failure> {
         match opened_dir(rt, entry) {
-            Ok((dir, metadata)) => match attributes_of(&self.settings, accounts, &metadata) {
+            Ok((dir, metadata)) => match attributes_of(self.settings, accounts, &metadata) {
                 Ok(attributes) => {
                     let disk = String::from_str(rt.alloc(), entry.disk)?;
                     self.dir(rt, server, names, attributes, dir, disk)
@@ -124,7 +124,7 @@ impl Packing {
         attributes: Attributes,
         dir: Dir,
         disk: String,
-    ) -> io::Result<Option<Level>> {
+    ) -> Result<Option<Level>, Failure> {
         let found = match dir.names(rt) {
             Ok(found) => found,
             Err(error) => {
@@ -147,7 +147,7 @@ impl Packing {
         names: &[PlainName],
         attributes: Attributes,
         disk: &str,
-    ) -> io::Result<()> {
+    ) -> Result<(), Failure> {
         if names.is_empty() {
             let added = write_server(rt.alloc(), *server, &mut self.output.text);
             self.output.count(rt, added)?;
@@ -172,7 +172,7 @@ impl Packing {
         names: &[PlainName],
         owner: PlainUser,
         disk: &str,
-    ) -> io::Result<()> {
+    ) -> Result<(), Failure> {
         note_dir(self.hides.as_mut_slice(), server, names);
         if is_hidden(self.hides.as_slice(), server, names) && self.settings.users.contains(&owner) {
             let (disk, owner) = (AsShown(disk), AsShown(owner.as_str()));
@@ -190,9 +190,9 @@ impl Packing {
         accounts: &Accounts<'_, Global>,
         names: &[PlainName],
         entry: Entry<'_>,
-    ) -> io::Result<()> {
+    ) -> Result<(), Failure> {
         match opened_file(rt, entry) {
-            Ok((file, metadata)) => match attributes_of(&self.settings, accounts, &metadata) {
+            Ok((file, metadata)) => match attributes_of(self.settings, accounts, &metadata) {
                 Ok(attributes) => {
                     self.open_file(rt, names, attributes, file, metadata.len(), entry.disk)
                 }
@@ -211,7 +211,7 @@ impl Packing {
         file: File,
         len: u64,
         disk: &str,
-    ) -> io::Result<()> {
+    ) -> Result<(), Failure> {
         if let Err(unfit) = fit_size(len) {
             return self.output.leave_out(rt, disk, Reason::Unfit(unfit));
         }
@@ -240,8 +240,13 @@ impl Packing {
     }
 
     // Notes a group that occurs, and reports the bits of a mode that are lost.
-    fn note(&mut self, rt: &HostRuntime, attributes: Attributes, disk: &str) -> io::Result<()> {
-        io_result(add_user(attributes.gid, &mut self.groups))?;
+    fn note(
+        &mut self,
+        rt: &HostRuntime,
+        attributes: Attributes,
+        disk: &str,
+    ) -> Result<(), Failure> {
+        add_user(attributes.gid, &mut self.groups)?;
         if let Some(mode) = attributes.lost {
             let (disk, kept) = (AsShown(disk), attributes.permissions.bits());
             eprintln!(rt; "note: {disk}: {mode:o} became {kept:o}")?;
@@ -250,9 +255,9 @@ impl Packing {
     }
 
     // Leaves out what the system refused, unless an allocation failed.
-    fn fail(&mut self, rt: &HostRuntime, disk: &str, error: io::Error) -> io::Result<()> {
+    fn fail(&mut self, rt: &HostRuntime, disk: &str, error: io::Error) -> Result<(), Failure> {
         if error.kind() == ErrorKind::OutOfMemory {
-            return Err(error);
+            return Err(Failure::NoMemory);
         }
         self.output.leave_out(rt, disk, Reason::System(error))
     }

@@ -2,10 +2,10 @@
 
 use crate::reason::Reason;
 use crate::sink::Sink;
-use crate::streams::io_result;
 use p9_base::NoMemory;
+use p9_shell::Failure;
 use p9_shown::AsShown;
-use std::io::{self, IsTerminal};
+use std::io::IsTerminal;
 use std::time::Instant;
 
 // So many bytes are printed at a time.
@@ -26,22 +26,24 @@ pub(crate) struct Output {
 }
 
 impl Output {
-    /// Nothing is printed yet.
-    pub fn new(rt: &HostRuntime, sink: Sink, start: Instant) -> Output {
-        Output {
+    /// Begins what is printed: into the file of a path, or on standard output.
+    pub fn open(rt: &HostRuntime, path: Option<&str>) -> Result<Output, Failure> {
+        let start = Instant::now(rt)?;
+        let sink = Sink::open(rt, path)?;
+        Ok(Output {
             text: Vec::new(rt.alloc()),
             left_out: 0,
             sink,
             lines: 0,
             start,
             report: rt.stderr().is_terminal().then_some(2),
-        }
+        })
     }
 
     /// Counts a line that was added to the text, and prints what there is, where that is much. The
     /// error of one that was not added is a failed allocation.
-    pub fn count(&mut self, rt: &HostRuntime, added: Result<(), NoMemory>) -> io::Result<()> {
-        io_result(added)?;
+    pub fn count(&mut self, rt: &HostRuntime, added: Result<(), NoMemory>) -> Result<(), Failure> {
+        added?;
         self.lines = self.lines.saturating_add(1);
         if self.text.len() >= BLOCK {
             self.flush(rt)?;
@@ -50,14 +52,14 @@ impl Output {
     }
 
     /// Prints what there is.
-    pub fn flush(&mut self, rt: &HostRuntime) -> io::Result<()> {
+    pub fn flush(&mut self, rt: &HostRuntime) -> Result<(), Failure> {
         self.sink.write_all(rt, self.text.as_slice())?;
         self.text.clear();
         Ok(())
     }
 
     /// Ends what is printed. A file takes its place where all is done and whole.
-    pub fn end(self, rt: &HostRuntime, is_done: bool, is_whole: bool) -> io::Result<()> {
+    pub fn end(self, rt: &HostRuntime, is_done: bool, is_whole: bool) -> Result<(), Failure> {
         let Output {
             text: _,
             left_out: _,
@@ -73,24 +75,34 @@ impl Output {
     }
 
     /// Reports what is left out, and why.
-    pub fn leave_out(&mut self, rt: &HostRuntime, what: &str, reason: Reason) -> io::Result<()> {
+    pub fn leave_out(
+        &mut self,
+        rt: &HostRuntime,
+        what: &str,
+        reason: Reason,
+    ) -> Result<(), Failure> {
         self.left_out = self.left_out.saturating_add(1);
         let what = AsShown(what);
-        eprintln!(rt; "left out: {what}: {reason}")
+        Ok(eprintln!(rt; "left out: {what}: {reason}")?)
     }
 
     /// Reports how many names of a directory are left out, since they are not UTF-8.
-    pub fn leave_out_names(&mut self, rt: &HostRuntime, dir: &str, count: u64) -> io::Result<()> {
+    pub fn leave_out_names(
+        &mut self,
+        rt: &HostRuntime,
+        dir: &str,
+        count: u64,
+    ) -> Result<(), Failure> {
         if count == 0 {
             return Ok(());
         }
         self.left_out = self.left_out.saturating_add(count);
         let dir = AsShown(dir);
-        eprintln!(rt; "left out in {dir}: {count} with a name that is not UTF-8")
+        Ok(eprintln!(rt; "left out in {dir}: {count} with a name that is not UTF-8")?)
     }
 
     // Reports how many lines there are, where it is time for that.
-    fn report_progress(&mut self, rt: &HostRuntime) -> io::Result<()> {
+    fn report_progress(&mut self, rt: &HostRuntime) -> Result<(), Failure> {
         let Some(next) = self.report else {
             return Ok(());
         };

@@ -3,6 +3,7 @@
 ghost use Rattle.std.specs.Prelude.{◌≡◌};
 ghost use Rattle.p9_admin.specs.Status.{exit_status};
 
+use crate::PROGRAM;
 use crate::accounts::accounts_text;
 use crate::hide::Hide;
 use crate::node::Packing;
@@ -10,70 +11,54 @@ use crate::output::Output;
 use crate::owner::leader_of;
 use crate::reason::Reason;
 use crate::settings::{Settings, settings_asked};
-use crate::sink::Sink;
 use crate::source::{Source, hides_in, sources_in};
-use crate::status::{BAD_COMMAND_LINE, DONE, LEFT_OUT};
-use crate::streams::io_result;
-use crate::told::refuse;
 use crate::tree::pack_tree;
 use clap::ArgMatches;
 use p9_pack::{Accounts, GroupLine, HideLine, PlainUser, write_group, write_hide, write_user};
+use p9_shell::Failure;
+use p9_shell::status::{DONE, REFUSED};
 use p9_shown::AsShown;
 use std::alloc::Global;
-use std::io;
-use std::time::Instant;
 
 /// Runs the command, and returns the exit status.
-pub(crate) fn run_pack(rt: &HostRuntime, options: &ArgMatches<'_>) -> io::Result<u8> {
+pub(crate) fn run_pack(rt: &HostRuntime, options: &ArgMatches<'_>) -> Result<u8, Failure> {
     let dirs = options.get_strs("dirs").unwrap_or(&[]);
     if let (Some(name), [_, _, ..]) = (options.get_str("name"), dirs) {
-        refuse(rt, "--name", name, &"it is for one directory")?;
-        return Ok(BAD_COMMAND_LINE);
+        return Err(PROGRAM.refuse_option(rt, "--name", name, &"it is for one directory"));
     }
-    let Some(settings) = settings_asked(rt, options)? else {
-        return Ok(BAD_COMMAND_LINE);
-    };
-    let passwd = options.get_str("passwd").unwrap_or("/etc/passwd");
-    let Some(passwd) = accounts_text(rt, "--passwd", passwd)? else {
-        return Ok(BAD_COMMAND_LINE);
-    };
-    let group = options.get_str("group").unwrap_or("/etc/group");
-    let Some(group) = accounts_text(rt, "--group", group)? else {
-        return Ok(BAD_COMMAND_LINE);
-    };
-    let accounts = io_result(Accounts::read(rt.alloc(), passwd.as_str(), group.as_str()))?;
-    pack_with(rt, options, dirs, settings, &accounts)
+    let settings = settings_asked(rt, options)?;
+    pack_by(rt, options, dirs, &settings)
 }
 
-// Packs directories by these settings, and returns the exit status.
-fn pack_with(
+// Packs directories by these settings and the files of accounts, and returns the exit status.
+fn pack_by(
     rt: &HostRuntime,
     options: &ArgMatches<'_>,
     dirs: &[&str],
-    settings: Settings,
+    settings: &Settings,
+) -> Result<u8, Failure> {
+    let passwd = options.get_str("passwd").unwrap_or("/etc/passwd");
+    let passwd = accounts_text(rt, "--passwd", passwd)?;
+    let group = options.get_str("group").unwrap_or("/etc/group");
+    let group = accounts_text(rt, "--group", group)?;
+    let accounts = Accounts::read(rt.alloc(), passwd.as_str(), group.as_str())?;
+    pack_dirs(rt, options, dirs, settings, &accounts)
+}
+
+// Packs directories, and returns the exit status.
+fn pack_dirs(
+    rt: &HostRuntime,
+    options: &ArgMatches<'_>,
+    dirs: &[&str],
+    settings: &Settings,
     accounts: &Accounts<'_, Global>,
-) -> io::Result<u8> {
-    let name = options.get_str("name");
-    let with_hidden = options.get_flag("with-hidden");
+) -> Result<u8, Failure> {
+    let sources = sources_in(rt, settings, accounts, options.get_str("name"), dirs)?;
     let values = options.get_strs("hide").unwrap_or(&[]);
-    let mut servers = Vec::new(rt.alloc());
-    let Some(sources) = sources_in(rt, &settings, accounts, name, dirs, &mut servers)? else {
-        return Ok(BAD_COMMAND_LINE);
-    };
-    let found = hides_in(
-        rt,
-        values,
-        with_hidden,
-        servers.as_slice(),
-        sources.as_slice(),
-    )?;
-    let Some(hides) = found else {
-        return Ok(BAD_COMMAND_LINE);
-    };
-    let start = Instant::now(rt)?;
-    let sink = Sink::open(rt, options.get_str("output"))?;
+    let with_hidden = options.get_flag("with-hidden");
+    let hides = hides_in(rt, values, with_hidden, sources.as_slice())?;
     let mut packing = Packing {
-        output: Output::new(rt, sink, start),
+        output: Output::open(rt, options.get_str("output"))?,
         settings,
         hides,
         with_hidden,
@@ -85,7 +70,12 @@ fn pack_with(
 
 // Ends what is printed, and returns the exit status. A file stays as it was, where a directory that
 // was to be hidden is not there.
-fn end(rt: &HostRuntime, packing: Packing, done: io::Result<()>, skip: bool) -> io::Result<u8> {
+fn end(
+    rt: &HostRuntime,
+    packing: Packing<'_>,
+    done: Result<(), Failure>,
+    skip: bool,
+) -> Result<u8, Failure> {
     let Packing {
         output,
         settings: _,
@@ -107,17 +97,17 @@ fn exit_status(left_out: u64, is_whole: bool, skip: bool) -> u8
     if is_whole && (left_out == 0 || skip) {
         DONE
     } else {
-        LEFT_OUT
+        REFUSED
     }
 }
 
 // Packs all lines of the world.
 fn pack_world(
     rt: &HostRuntime,
-    packing: &mut Packing,
+    packing: &mut Packing<'_>,
     accounts: &Accounts<'_, Global>,
     sources: Vec<Source>,
-) -> io::Result<()> {
+) -> Result<(), Failure> {
     packing.output.text.extend_from_slice(b"%% world\n")?;
     for source in sources {
         pack_tree(rt, packing, accounts, source)?;
@@ -126,15 +116,15 @@ fn pack_world(
     pack_users(rt, &mut packing.output, packing.settings.users.as_slice())?;
     pack_hides(rt, &mut packing.output, packing.hides.as_slice())?;
     packing.output.flush(rt)?;
-    eprintln!(rt; "note: times are not packed")
+    Ok(eprintln!(rt; "note: times are not packed")?)
 }
 
 // Packs the groups that occur.
 fn pack_groups(
     rt: &HostRuntime,
-    packing: &mut Packing,
+    packing: &mut Packing<'_>,
     accounts: &Accounts<'_, Global>,
-) -> io::Result<()> {
+) -> Result<(), Failure> {
     for group in packing.groups.as_slice() {
         let leader = leader_of(packing.settings.leader, accounts, *group);
         pack_group(rt, &mut packing.output, accounts, *group, leader)?;
@@ -149,7 +139,7 @@ fn pack_group(
     accounts: &Accounts<'_, Global>,
     name: PlainUser,
     leader: PlainUser,
-) -> io::Result<()> {
+) -> Result<(), Failure> {
     let members = members_of(rt, output, accounts, name)?;
     let line = GroupLine {
         name,
@@ -166,8 +156,8 @@ fn members_of(
     output: &mut Output,
     accounts: &Accounts<'_, Global>,
     name: PlainUser,
-) -> io::Result<Vec<PlainUser>> {
-    let found = io_result(accounts.members(rt.alloc(), name.as_str()))?;
+) -> Result<Vec<PlainUser>, Failure> {
+    let found = accounts.members(rt.alloc(), name.as_str())?;
     let mut members = Vec::new(rt.alloc());
     for member in found.as_slice() {
         push_member(rt, output, member, &mut members)?;
@@ -181,7 +171,7 @@ fn push_member(
     output: &mut Output,
     name: &str,
     members: &mut Vec<PlainUser>,
-) -> io::Result<()> {
+) -> Result<(), Failure> {
     match PlainUser::new(name) {
         Ok(member) => Ok(members.push(member)?),
         Err(unfit) => output.leave_out(rt, name, Reason::Unfit(unfit)),
@@ -189,7 +179,7 @@ fn push_member(
 }
 
 // Packs the listed users.
-fn pack_users(rt: &HostRuntime, output: &mut Output, users: &[PlainUser]) -> io::Result<()> {
+fn pack_users(rt: &HostRuntime, output: &mut Output, users: &[PlainUser]) -> Result<(), Failure> {
     for user in users {
         let added = write_user(rt.alloc(), *user, &mut output.text);
         output.count(rt, added)?;
@@ -199,7 +189,7 @@ fn pack_users(rt: &HostRuntime, output: &mut Output, users: &[PlainUser]) -> io:
 
 // Packs what is to be hidden. Where a directory is not there, the line says so to who reads the world:
 // it is refused.
-fn pack_hides(rt: &HostRuntime, output: &mut Output, hides: &[Hide]) -> io::Result<()> {
+fn pack_hides(rt: &HostRuntime, output: &mut Output, hides: &[Hide]) -> Result<(), Failure> {
     for hide in hides {
         let line = HideLine {
             server: hide.server,
@@ -215,7 +205,7 @@ fn pack_hides(rt: &HostRuntime, output: &mut Output, hides: &[Hide]) -> io::Resu
 }
 
 // Reports a directory that is to be hidden and is not there.
-fn report_missing(rt: &HostRuntime, hide: &Hide) -> io::Result<()> {
+fn report_missing(rt: &HostRuntime, hide: &Hide) -> Result<(), Failure> {
     let mut path = String::from_str(rt.alloc(), hide.server.as_str())?;
     path.push(':')?;
     for name in &hide.path {
@@ -225,5 +215,6 @@ fn report_missing(rt: &HostRuntime, hide: &Hide) -> io::Result<()> {
     let path = AsShown(path.as_str());
     eprintln!(rt;
         "p9_admin: --hide {path}: the directory is not packed, so no program takes this world"
-    )
+    )?;
+    Ok(())
 }

@@ -1,18 +1,19 @@
 //! The command `seal`: an input with its certificate.
 
 use crate::sink::write_text;
-use crate::status::{DONE, NOT_SEALED};
-use crate::streams::{io_result, read_input};
+use crate::streams::read_input;
 use clap::ArgMatches;
+use p9_base::NoMemory;
 use p9_explain::explain;
 use p9_index::IndexTree;
 use p9_seal::{SealError, seal};
+use p9_shell::status::DONE;
+use p9_shell::{Failure, tell};
 use std::alloc::Global;
-use std::io::{self, Write};
 
 /// Seals the standard input: prints it with the judge's certificate in its place, or writes it into
 /// the file of the option `--output`, or reports why not. Returns the exit status.
-pub(crate) fn run_seal(rt: &HostRuntime, options: &ArgMatches<'_>) -> io::Result<u8> {
+pub(crate) fn run_seal(rt: &HostRuntime, options: &ArgMatches<'_>) -> Result<u8, Failure> {
     let input = read_input(rt)?;
     let anyway = options.get_flag("anyway");
     match seal::<IndexTree<Global>>(rt.alloc(), input.as_slice(), anyway) {
@@ -22,18 +23,24 @@ pub(crate) fn run_seal(rt: &HostRuntime, options: &ArgMatches<'_>) -> io::Result
         }
         Err(error) => {
             let name = options.get_str("name").unwrap_or("input");
-            report(rt, name, input.as_slice(), &error)?;
-            Ok(NOT_SEALED)
+            let why = why_not(rt.alloc(), name, input.as_slice(), &error)?;
+            tell(rt, why.as_slice())?;
+            Err(Failure::Refused)
         }
     }
 }
 
-// Reports why nothing is sealed. The way to what is hidden is explained.
-fn report(rt: &HostRuntime, name: &str, input: &[u8], error: &SealError<Global>) -> io::Result<()> {
-    let text = error.text(rt.alloc())?;
-    let mut err = format!(in rt.alloc(); "{text}\n")?.into_bytes();
+// Why nothing is sealed. The way to what is hidden is explained.
+fn why_not(
+    alloc: Global,
+    name: &str,
+    input: &[u8],
+    error: &SealError<Global>,
+) -> Result<Vec<u8>, NoMemory> {
+    let text = error.text(alloc)?;
+    let mut why = format!(in alloc; "{text}\n")?.into_bytes();
     if let SealError::No(_) = error {
-        let _ = io_result(explain::<IndexTree<Global>>(name, input, &mut err))?;
+        let _ = explain::<IndexTree<Global>>(name, input, &mut why)?;
     }
-    rt.stderr().write_all(err.as_slice())
+    Ok(why)
 }

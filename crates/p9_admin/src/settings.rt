@@ -3,12 +3,12 @@
 ghost use Rattle.std.specs.Prelude.{◌≡◌, option_map};
 ghost use Rattle.p9_admin.specs.Settings.{user_asked};
 
-use crate::told::refuse;
+use crate::PROGRAM;
 use clap::ArgMatches;
 use p9_base::{NoMemory, Stop};
 use p9_pack::{PlainUser, Unfit};
-use std::alloc::{AllocError, Global};
-use std::io;
+use p9_shell::Failure;
+use std::alloc::Global;
 
 /// What the options ask for, beside the directories and the files of accounts.
 #[derive(Drop)]
@@ -51,23 +51,18 @@ impl Naming {
     }
 }
 
-/// What the options ask for. Where a world can't have it, that is reported and there is none.
+/// What the options ask for. Where a world can't have it, that is reported.
 pub(crate) fn settings_asked(
     rt: &HostRuntime,
     options: &ArgMatches<'_>,
-) -> io::Result<Option<Settings>> {
+) -> Result<Settings, Failure> {
     match settings_in(rt.alloc(), options) {
-        Ok(settings) => Ok(Some(settings)),
+        Ok(settings) => Ok(settings),
         Err(Stop::Refused(bad)) => {
-            refuse(
-                rt,
-                bad.naming.word(),
-                bad_word(options, bad.naming),
-                &bad.unfit,
-            )?;
-            Ok(None)
+            let word = bad_word(options, bad.naming);
+            Err(PROGRAM.refuse_option(rt, bad.naming.word(), word, &bad.unfit))
         }
-        Err(Stop::NoMemory) => Err(io::Error::from(AllocError)),
+        Err(Stop::NoMemory) => Err(Failure::NoMemory),
     }
 }
 

@@ -1,10 +1,11 @@
 //! Where a command's text goes.
 
-use crate::told::failed;
+use crate::PROGRAM;
 use p9_files::{NewFile, OUTPUT_MODE};
+use p9_shell::Failure;
 use std::alloc::Global;
 use std::fs::File;
-use std::io::{self, Write};
+use std::io::Write;
 
 /// Where a command's text goes: to standard output, or into a file, which takes the place of the one
 /// before once all of it is written. What fails is reported.
@@ -15,17 +16,14 @@ pub(crate) struct Sink {
 
 impl Sink {
     /// Begins the file of a path, or goes to standard output.
-    pub fn open(rt: &HostRuntime, path: Option<&str>) -> io::Result<Sink> {
+    pub fn open(rt: &HostRuntime, path: Option<&str>) -> Result<Sink, Failure> {
         let place = String::from_str(rt.alloc(), path.unwrap_or("standard output"))?;
-        let Some(path) = path else {
-            return Ok(Sink { place, file: None });
-        };
-        match NewFile::create(rt, rt.alloc(), path) {
-            Ok(file) => Ok(Sink {
+        match path {
+            Some(path) => Ok(Sink {
                 place,
-                file: Some(file),
+                file: Some(new_file(rt, path)?),
             }),
-            Err(error) => Err(failed(rt, path, error)),
+            None => Ok(Sink { place, file: None }),
         }
     }
 
@@ -35,51 +33,51 @@ impl Sink {
     }
 
     /// Writes bytes after those that are written.
-    pub fn write_all(&mut self, rt: &HostRuntime, bytes: &[u8]) -> io::Result<()> {
+    pub fn write_all(&mut self, rt: &HostRuntime, bytes: &[u8]) -> Result<(), Failure> {
         let done = match &mut self.file {
             Some(file) => file.write_all(bytes),
             None => rt.stdout().write_all(bytes),
         };
-        told(rt, self.place.as_str(), done)
+        PROGRAM.had(rt, self.place.as_str(), done)
     }
 
     /// Ends what is written: a file takes its place.
-    pub fn keep(self, rt: &HostRuntime) -> io::Result<()> {
+    pub fn keep(self, rt: &HostRuntime) -> Result<(), Failure> {
         let Sink { place, file } = self;
         let done = match file {
             Some(file) => file.finish(rt, OUTPUT_MODE),
             None => rt.stdout().flush(),
         };
-        told(rt, place.as_str(), done)
+        PROGRAM.had(rt, place.as_str(), done)
     }
 
     /// Removes a file, so that the one before stays. What is on standard output is there.
-    pub fn discard(self, rt: &HostRuntime) -> io::Result<()> {
+    pub fn discard(self, rt: &HostRuntime) -> Result<(), Failure> {
         let Sink { place, file } = self;
         let done = match file {
             Some(file) => file.discard(rt),
             None => Ok(()),
         };
-        told(rt, place.as_str(), done)
+        PROGRAM.had(rt, place.as_str(), done)
     }
 }
 
-// What was done at a place. Where it failed, that is reported.
-fn told(rt: &HostRuntime, place: &str, done: io::Result<()>) -> io::Result<()> {
-    match done {
-        Ok(()) => Ok(()),
-        Err(error) => Err(failed(rt, place, error)),
+// Begins the file of a path.
+fn new_file(rt: &HostRuntime, path: &str) -> Result<NewFile<File, Global>, Failure> {
+    match NewFile::create(rt, rt.alloc(), path) {
+        Ok(file) => Ok(file),
+        Err(error) => Err(PROGRAM.failed(rt, path, error)),
     }
 }
 
 /// Writes all of a text where it goes.
-pub(crate) fn write_text(rt: &HostRuntime, path: Option<&str>, text: &[u8]) -> io::Result<()> {
+pub(crate) fn write_text(rt: &HostRuntime, path: Option<&str>, text: &[u8]) -> Result<(), Failure> {
     let mut sink = Sink::open(rt, path)?;
     match sink.write_all(rt, text) {
         Ok(()) => sink.keep(rt),
-        Err(error) => {
+        Err(failure) => {
             let _ = sink.discard(rt);
-            Err(error)
+            Err(failure)
         }
     }
 }

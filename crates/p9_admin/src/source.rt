@@ -4,14 +4,15 @@
 ghost use Rattle.std.specs.Prelude.{◌≡◌};
 ghost use Rattle.p9_admin.specs.Server.{new_server};
 
+use crate::PROGRAM;
 use crate::attributes::{Attributes, attributes_of};
 use crate::hide::{Hide, hide_in, is_below, is_hidden};
 use crate::reason::Reason;
 use crate::settings::Settings;
-use crate::told::refuse;
 use p9_base::Stop;
 use p9_files::Dir;
 use p9_pack::{Accounts, PlainName, ServerName};
+use p9_shell::Failure;
 use std::alloc::{AllocError, Global};
 use std::fs::{Metadata, symlink_metadata};
 use std::io::{self, ErrorKind};
@@ -27,31 +28,31 @@ pub(crate) struct Source {
     pub attributes: Attributes,
 }
 
-/// The directories of the disk, each opened, and the names of their servers. Where one can't be had,
-/// that is reported and there is none.
+/// The directories of the disk, each opened. Where one can't be had, that is reported.
 pub(crate) fn sources_in(
     rt: &HostRuntime,
     settings: &Settings,
     accounts: &Accounts<'_, Global>,
     name: Option<&str>,
     dirs: &[&str],
-    servers: &mut Vec<ServerName>,
-) -> io::Result<Option<Vec<Source>>> {
+) -> Result<Vec<Source>, Failure> {
+    let mut servers = Vec::new(rt.alloc());
     let mut sources = Vec::new(rt.alloc());
     for disk in dirs {
-        let Some(server) = server_in(rt, name, disk, servers.as_slice())? else {
-            return Ok(None);
-        };
-        match source_of(rt, settings, accounts, server, disk)? {
-            Ok(source) => sources.push(source)?,
-            Err(reason) => {
-                refuse(rt, "directory", disk, &reason)?;
-                return Ok(None);
-            }
-        }
+        let server = server_in(rt, name, disk, servers.as_slice())?;
         servers.push(server)?;
+        sources.push(source_of(rt, settings, accounts, server, disk)?)?;
     }
-    Ok(Some(sources))
+    Ok(sources)
+}
+
+// The servers of directories.
+fn servers_of(alloc: Global, sources: &[Source]) -> Result<Vec<ServerName>, AllocError> {
+    let mut servers = Vec::new(alloc);
+    for source in sources {
+        servers.push(source.server)?;
+    }
+    Ok(servers)
 }
 
 // The server of a directory, unless its name is unfit or taken, which is reported.
@@ -60,18 +61,12 @@ fn server_in(
     name: Option<&str>,
     disk: &str,
     servers: &[ServerName],
-) -> io::Result<Option<ServerName>> {
+) -> Result<ServerName, Failure> {
     let text = name.or(Path::new(disk).file_name()).unwrap_or("");
     match (new_server(text, servers), name) {
-        (Ok(server), _) => Ok(Some(server)),
-        (Err(reason), Some(name)) => {
-            refuse(rt, "--name", name, &reason)?;
-            Ok(None)
-        }
-        (Err(reason), None) => {
-            refuse(rt, "directory", disk, &reason)?;
-            Ok(None)
-        }
+        (Ok(server), _) => Ok(server),
+        (Err(reason), Some(name)) => Err(PROGRAM.refuse_option(rt, "--name", name, &reason)),
+        (Err(reason), None) => Err(PROGRAM.refuse_option(rt, "directory", disk, &reason)),
     }
 }
 
@@ -89,27 +84,36 @@ fn new_server(name: &str, servers: &[ServerName]) -> Result<ServerName, Reason>
     Ok(server)
 }
 
-// The directory of a path, or why it can't be packed.
+// The directory of a path. Where it can't be packed, that is reported.
 fn source_of(
     rt: &HostRuntime,
     settings: &Settings,
     accounts: &Accounts<'_, Global>,
     server: ServerName,
     path: &str,
-) -> io::Result<Result<Source, Reason>> {
+) -> Result<Source, Failure> {
     let disk = String::from_str(rt.alloc(), path)?;
-    let (dir, metadata) = match opened(rt, path) {
-        Ok(opened) => opened,
-        Err(error) => return Ok(Err(why_not_opened(rt, path, error))),
-    };
-    match attributes_of(settings, accounts, &metadata) {
-        Ok(attributes) => Ok(Ok(Source {
+    match dir_of(rt, settings, accounts, path) {
+        Ok((dir, attributes)) => Ok(Source {
             server,
             dir,
             disk,
             attributes,
-        })),
-        Err(reason) => Ok(Err(reason)),
+        }),
+        Err(reason) => Err(PROGRAM.refuse_option(rt, "directory", path, &reason)),
+    }
+}
+
+// The open directory of a path, or why it can't be packed.
+fn dir_of(
+    rt: &HostRuntime,
+    settings: &Settings,
+    accounts: &Accounts<'_, Global>,
+    path: &str,
+) -> Result<(Dir, Attributes), Reason> {
+    match opened(rt, path) {
+        Ok((dir, metadata)) => Ok((dir, attributes_of(settings, accounts, &metadata)?)),
+        Err(error) => Err(why_not_opened(rt, path, error)),
     }
 }
 
@@ -144,33 +148,34 @@ fn why_not_seen(error: io::Error) -> Reason {
     Reason::System(error)
 }
 
-/// What the values hide, each once. Where one can't be had, that is reported and there is none.
+/// What the values hide, each once. Where one can't be had, that is reported.
 pub(crate) fn hides_in(
     rt: &HostRuntime,
     values: &[&str],
     with_hidden: bool,
-    servers: &[ServerName],
     sources: &[Source],
-) -> io::Result<Option<Vec<Hide>>> {
+) -> Result<Vec<Hide>, Failure> {
+    let servers = servers_of(rt.alloc(), sources)?;
     let mut hides: Vec<Hide> = Vec::new(rt.alloc());
     for value in values {
-        let hide = match hide_in(rt.alloc(), value, servers) {
-            Ok(hide) => hide,
-            Err(Stop::Refused(fault)) => {
-                refuse(rt, "--hide", value, &fault)?;
-                return Ok(None);
-            }
-            Err(Stop::NoMemory) => return Err(io::Error::from(AllocError)),
-        };
+        let hide = hide_of(rt, value, servers.as_slice())?;
         if let Some(reason) = why_not_hidden(rt, &hide, with_hidden, hides.as_slice(), sources) {
-            refuse(rt, "--hide", value, &reason)?;
-            return Ok(None);
+            return Err(PROGRAM.refuse_option(rt, "--hide", value, &reason));
         }
         if !is_hidden(hides.as_slice(), &hide.server, hide.path.as_slice()) {
             hides.push(hide)?;
         }
     }
-    Ok(Some(hides))
+    Ok(hides)
+}
+
+// The directory that a value names. Where it names none that may be hidden, that is reported.
+fn hide_of(rt: &HostRuntime, value: &str, servers: &[ServerName]) -> Result<Hide, Failure> {
+    match hide_in(rt.alloc(), value, servers) {
+        Ok(hide) => Ok(hide),
+        Err(Stop::Refused(fault)) => Err(PROGRAM.refuse_option(rt, "--hide", value, &fault)),
+        Err(Stop::NoMemory) => Err(Failure::NoMemory),
+    }
 }
 
 // Why a directory can't be hidden beside others, where it can't.

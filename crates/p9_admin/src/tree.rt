@@ -4,16 +4,16 @@ use crate::node::{Entry, Level, Packing};
 use crate::reason::Reason;
 use crate::source::Source;
 use p9_pack::{Accounts, PlainName, ServerName};
+use p9_shell::Failure;
 use std::alloc::{AllocError, Global};
-use std::io;
 
 /// Packs the directory of a source, with everything below it, as a server.
 pub(crate) fn pack_tree(
     rt: &HostRuntime,
-    packing: &mut Packing,
+    packing: &mut Packing<'_>,
     accounts: &Accounts<'_, Global>,
     source: Source,
-) -> io::Result<()> {
+) -> Result<(), Failure> {
     let Source {
         server,
         dir,
@@ -31,11 +31,11 @@ pub(crate) fn pack_tree(
 // Packs what is below the last of some directories, and then below those before it.
 fn pack_levels(
     rt: &HostRuntime,
-    packing: &mut Packing,
+    packing: &mut Packing<'_>,
     accounts: &Accounts<'_, Global>,
     server: &ServerName,
     mut levels: Vec<Level>,
-) -> io::Result<()> {
+) -> Result<(), Failure> {
     let mut names = Vec::new(rt.alloc());
     for _ in 0..u64::MAX {
         if levels.is_empty() {
@@ -49,12 +49,12 @@ fn pack_levels(
 // Packs the next entry of the last directory, or takes that directory away where there is no more.
 fn pack_next(
     rt: &HostRuntime,
-    packing: &mut Packing,
+    packing: &mut Packing<'_>,
     accounts: &Accounts<'_, Global>,
     server: &ServerName,
     names: &mut Vec<PlainName>,
     levels: &mut Vec<Level>,
-) -> io::Result<()> {
+) -> Result<(), Failure> {
     let Some(level) = levels.last_mut() else {
         return Ok(());
     };
@@ -80,12 +80,12 @@ fn pack_next(
 // returned.
 fn pack_entry(
     rt: &HostRuntime,
-    packing: &mut Packing,
+    packing: &mut Packing<'_>,
     accounts: &Accounts<'_, Global>,
     server: &ServerName,
     names: &mut Vec<PlainName>,
     entry: Entry<'_>,
-) -> io::Result<Option<Level>> {
+) -> Result<Option<Level>, Failure> {
     match PlainName::new(entry.name) {
         Ok(name) => names.push(name)?,
         Err(unfit) => {

@@ -1,127 +1,104 @@
 //! The words of the command line.
 
-use clap::{Arg, ArgAction, Command};
-use std::alloc::{AllocError, Global};
-
-// A command: its name, what it does, and its options and words.
-struct CommandShape {
-    name: &'static str,
-    about: &'static str,
-    args: &'static [ArgShape],
-}
-
-// An option or a word of a command: its name, the value's name for the help, what it is, and what
-// it takes.
-struct ArgShape {
-    name: &'static str,
-    value: &'static str,
-    help: &'static str,
-    takes: Takes,
-}
-
-// What an option or a word of a command takes.
-#[derive(Clone, Copy)]
-enum Takes {
-    /// An option without a value.
-    Nothing,
-    /// An option with a value.
-    Value,
-    /// An option with a value, or else this one is meant.
-    ValueOr(&'static str),
-    /// An option with a value, also by this letter.
-    ValueBy(char),
-    /// An option with a value, which may be repeated.
-    Values,
-    /// A word that may be there.
-    Word,
-    /// Words, of which there is at least one.
-    Words,
-}
+use p9_shell::{ArgShape, CommandShape, Given, ProgramShape, Value};
 
 // The option that names the input.
 const INPUT_NAME: ArgShape = ArgShape {
     name: "name",
-    value: "NAME",
+    given: Given::Name,
+    value: Value::TextOr("NAME", "input"),
     help: "The input's name in what is printed",
-    takes: Takes::ValueOr("input"),
+    is_needed: false,
 };
 
 // The option that names the file of the output.
 const OUTPUT: ArgShape = ArgShape {
     name: "output",
-    value: "FILE",
+    given: Given::NameOr('o'),
+    value: Value::Text("FILE"),
     help: "The file of the output, which is replaced once all of it is written",
-    takes: Takes::ValueBy('o'),
+    is_needed: false,
 };
 
 // The options of `pack`, and its directories.
 const PACK: [ArgShape; 12] = [
     ArgShape {
         name: "name",
-        value: "NAME",
+        given: Given::Name,
+        value: Value::Text("NAME"),
         help: "The server's name, for one directory",
-        takes: Takes::Value,
+        is_needed: false,
     },
     ArgShape {
         name: "passwd",
-        value: "FILE",
+        given: Given::Name,
+        value: Value::TextOr("FILE", "/etc/passwd"),
         help: "The users",
-        takes: Takes::ValueOr("/etc/passwd"),
+        is_needed: false,
     },
     ArgShape {
         name: "group",
-        value: "FILE",
+        given: Given::Name,
+        value: Value::TextOr("FILE", "/etc/group"),
         help: "The groups",
-        takes: Takes::ValueOr("/etc/group"),
+        is_needed: false,
     },
     ArgShape {
         name: "owner",
-        value: "NAME",
+        given: Given::Name,
+        value: Value::Text("NAME"),
         help: "The owner of everything",
-        takes: Takes::Value,
+        is_needed: false,
     },
     ArgShape {
         name: "group-owner",
-        value: "NAME",
+        given: Given::Name,
+        value: Value::Text("NAME"),
         help: "The group of everything",
-        takes: Takes::Value,
+        is_needed: false,
     },
     ArgShape {
         name: "leader",
-        value: "NAME",
+        given: Given::Name,
+        value: Value::Text("NAME"),
         help: "The leader of each group",
-        takes: Takes::Value,
+        is_needed: false,
     },
     ArgShape {
         name: "user",
-        value: "NAME",
+        given: Given::Name,
+        value: Value::Texts("NAME"),
         help: "A listed user, who may attach",
-        takes: Takes::Values,
+        is_needed: false,
     },
     ArgShape {
         name: "hide",
-        value: "[SERVER:]PATH",
+        given: Given::Name,
+        value: Value::Texts("[SERVER:]PATH"),
         help: "A directory to be hidden, whose inside is not packed",
-        takes: Takes::Values,
+        is_needed: false,
     },
     ArgShape {
         name: "with-hidden",
-        value: "",
+        given: Given::Name,
+        value: Value::None,
         help: "Packs what is inside hidden directories, too",
-        takes: Takes::Nothing,
+        is_needed: false,
     },
     OUTPUT,
     ArgShape {
         name: "skip",
-        value: "",
+        given: Given::Name,
+        value: Value::None,
         help: "Exits with 0 where something is left out",
-        takes: Takes::Nothing,
+        is_needed: false,
     },
     ArgShape {
         name: "dirs",
-        value: "DIR",
+        given: Given::Words,
+        value: Value::Texts("DIR"),
         help: "A directory of the disk, which becomes a server",
-        takes: Takes::Words,
+        is_needed: true,
     },
 ];
 
@@ -139,9 +116,10 @@ const COMMANDS: [CommandShape; 5] = [
             OUTPUT,
             ArgShape {
                 name: "anyway",
-                value: "",
+                given: Given::Name,
+                value: Value::None,
                 help: "Seals also where nothing is hidden, no user is listed, or an operation failed",
-                takes: Takes::Nothing,
+                is_needed: false,
             },
         ],
     },
@@ -155,9 +133,10 @@ const COMMANDS: [CommandShape; 5] = [
         about: "Prints the name space as a user meets it",
         args: &[ArgShape {
             name: "user",
-            value: "USER",
+            given: Given::Word,
+            value: Value::Text("USER"),
             help: "A listed user; without one all places are printed",
-            takes: Takes::Word,
+            is_needed: false,
         }],
     },
     CommandShape {
@@ -168,75 +147,10 @@ const COMMANDS: [CommandShape; 5] = [
 ];
 
 /// The program's command line: a command and its options.
-pub(crate) fn program<'a>(alloc: Global) -> Result<Command<'a>, AllocError> {
-    let program = Command::new(alloc, "p9_admin")
-        .version("1.0")
-        .about("What an administrator of an export does")
-        .subcommand_required(true)
-        .arg_required_else_help(true);
-    with_commands(alloc, program, &COMMANDS)
-}
-
-// Adds commands to the program.
-fn with_commands<'a>(
-    alloc: Global,
-    program: Command<'a>,
-    shapes: &[CommandShape],
-) -> Result<Command<'a>, AllocError> {
-    let mut program = program;
-    for shape in shapes {
-        program = program.subcommand(command_of(alloc, shape)?)?;
-    }
-    Ok(program)
-}
-
-// A command with its options and words.
-fn command_of<'a>(alloc: Global, shape: &CommandShape) -> Result<Command<'a>, AllocError> {
-    let command = Command::new(alloc, shape.name).about(shape.about);
-    with_args(alloc, command, shape.args)
-}
-
-// Adds options and words to a command.
-fn with_args<'a>(
-    alloc: Global,
-    command: Command<'a>,
-    shapes: &[ArgShape],
-) -> Result<Command<'a>, AllocError> {
-    let mut command = command;
-    for shape in shapes {
-        command = command.arg(arg_of(alloc, shape))?;
-    }
-    Ok(command)
-}
-
-// An option or a word.
-fn arg_of<'a>(alloc: Global, shape: &ArgShape) -> Arg<'a> {
-    let arg = Arg::new(alloc, shape.name).help(shape.help);
-    match shape.takes {
-        Takes::Nothing => arg.long(shape.name).action(ArgAction::SetTrue),
-        Takes::Value => arg
-            .long(shape.name)
-            .value_name(shape.value)
-            .action(ArgAction::Set),
-        Takes::ValueOr(value) => arg
-            .long(shape.name)
-            .value_name(shape.value)
-            .default_value(value)
-            .action(ArgAction::Set),
-        Takes::ValueBy(letter) => arg
-            .long(shape.name)
-            .short(letter)
-            .value_name(shape.value)
-            .action(ArgAction::Set),
-        Takes::Values => arg
-            .long(shape.name)
-            .value_name(shape.value)
-            .action(ArgAction::Append),
-        Takes::Word => arg.value_name(shape.value).action(ArgAction::Set),
-        Takes::Words => arg
-            .value_name(shape.value)
-            .required(true)
-            .num_args(1..)
-            .action(ArgAction::Append),
-    }
-}
+pub(crate) const SHAPE: ProgramShape = ProgramShape {
+    name: "p9_admin",
+    about: "What an administrator of an export does",
+    args: &[],
+    commands: &COMMANDS,
+    is_helping: true,
+};

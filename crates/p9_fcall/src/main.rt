@@ -5,80 +5,45 @@
 mod words;
 
 use p9_exchange::{Stop, show_exchange, write_script};
-use std::alloc::AllocError;
-use std::io::{ErrorKind, Read, Write};
+use p9_shell::status::DONE;
+use p9_shell::{Failure, Program, exit, input, print};
 use std::process::ExitCode;
-use std::{env, io};
 use words::{Command, command_asked};
 
-// The exit statuses.
-const DONE: u8 = 0;
-
-const REFUSED: u8 = 1;
-
-const BAD_COMMAND_LINE: u8 = 2;
-
-const OUT_OF_MEMORY: u8 = 3;
-
-const INPUT_OR_OUTPUT_FAILED: u8 = 4;
+// The name under which the program reports.
+const PROGRAM: Program = Program("p9_fcall");
 
 fn main(rt: HostRuntime) -> ExitCode {
-    ExitCode::from(status_of(&rt))
-}
-
-// Runs the program, and reports on standard error what kept it from its work.
-fn status_of(rt: &HostRuntime) -> u8 {
-    match run(rt) {
-        Ok(status) => status,
-        Err(error) if error.kind() == ErrorKind::OutOfMemory => {
-            let _ = eprintln!(rt; "out of memory");
-            OUT_OF_MEMORY
-        }
-        Err(_) => {
-            let _ = eprintln!(rt; "input or output failed");
-            INPUT_OR_OUTPUT_FAILED
-        }
+    let done = run(&rt);
+    if done == Err(Failure::Failed) {
+        let _ = eprintln!(&rt; "input or output failed");
     }
+    exit(&rt, done)
 }
 
 // Runs the command that the words ask for, and returns the exit status.
-fn run(rt: &HostRuntime) -> io::Result<u8> {
-    match asked(rt)? {
+fn run(rt: &HostRuntime) -> Result<u8, Failure> {
+    let words = PROGRAM.words(rt)?;
+    match command_asked(rt.alloc(), words.as_slice())? {
         Some(command) => run_over_input(rt, command),
-        None => {
-            eprintln!(rt; "p9_fcall: bad command line")?;
-            Ok(BAD_COMMAND_LINE)
-        }
+        None => Err(PROGRAM.bad_words(rt)),
     }
-}
-
-// The command that the words ask for. Words that are no text ask for none.
-fn asked(rt: &HostRuntime) -> io::Result<Option<Command>> {
-    let words = match env::args(rt) {
-        Ok(words) => words,
-        Err(error) if error.kind() == ErrorKind::OutOfMemory => return Err(error),
-        Err(_) => return Ok(None),
-    };
-    let words: Vec<String> = words.collect(rt.alloc())?;
-    Ok(command_asked(rt.alloc(), words.as_slice())?)
 }
 
 // Runs a command over the standard input, which is read whole, and prints what it makes or why it
 // makes nothing.
-fn run_over_input(rt: &HostRuntime, command: Command) -> io::Result<u8> {
-    let mut input = Vec::new(rt.alloc());
-    rt.stdin().read_to_end(&mut input)?;
+fn run_over_input(rt: &HostRuntime, command: Command) -> Result<u8, Failure> {
+    let input = input(rt)?;
     match output_of(rt, command, input.as_slice()) {
         Ok(text) => {
-            rt.stdout().write_all(text.as_slice())?;
-            rt.stdout().flush()?;
+            print(rt, text.as_slice())?;
             Ok(DONE)
         }
         Err(Stop::Refused(refusal)) => {
             eprintln!(rt; "{refusal}")?;
-            Ok(REFUSED)
+            Err(Failure::Refused)
         }
-        Err(Stop::NoMemory) => Err(io::Error::from(AllocError)),
+        Err(Stop::NoMemory) => Err(Failure::NoMemory),
     }
 }
 

@@ -2,6 +2,7 @@
 
 use p9_base::NoMemory;
 use p9_client::{ClientError, FileError};
+use p9_shell::status::{BAD_COMMAND_LINE, INPUT_OR_OUTPUT_FAILED, OUT_OF_MEMORY, REFUSED};
 use p9_shown::AsShown;
 use std::alloc::{AllocError, AllocFailed};
 use std::fmt::Display;
@@ -29,10 +30,10 @@ impl Failure {
     /// The exit status.
     pub fn status(self) -> u8 {
         match self {
-            Failure::Refused | Failure::Limit => 1,
-            Failure::BadWords => 2,
-            Failure::NoMemory => 3,
-            Failure::Local | Failure::Failed => 4,
+            Failure::Refused | Failure::Limit => REFUSED,
+            Failure::BadWords => BAD_COMMAND_LINE,
+            Failure::NoMemory => OUT_OF_MEMORY,
+            Failure::Local | Failure::Failed => INPUT_OR_OUTPUT_FAILED,
         }
     }
 

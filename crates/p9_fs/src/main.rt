@@ -21,9 +21,9 @@ use crate::connect::{Client, connect};
 use crate::failure::{Failure, finish_output, report_mode, report_text};
 use crate::shell::{run_line, run_lines};
 use crate::usage::finish_words;
-use crate::words::{Verb, program, verb_of};
+use crate::words::{SHAPE, Verb, verb_of};
 use clap::ArgMatches;
-use std::env;
+use p9_shell::{given_words, program_of};
 use std::io::{IsTerminal, Write};
 use std::process::ExitCode;
 
@@ -37,7 +37,7 @@ fn main(rt: HostRuntime) -> ExitCode {
 // Does what the words ask for. What keeps it from that is reported where it is met.
 fn run(rt: &HostRuntime) -> Result<(), Failure> {
     let words = words_of(rt)?;
-    match program(rt.alloc())?.try_get_matches_from(words.as_slice()) {
+    match program_of(rt.alloc(), &SHAPE)?.try_get_matches_from(words.as_slice()) {
         Ok(matches) => run_matches(rt, &matches),
         Err(error) => finish_words(rt, &error),
     }
@@ -45,9 +45,10 @@ fn run(rt: &HostRuntime) -> Result<(), Failure> {
 
 // The words of the command line.
 fn words_of(rt: &HostRuntime) -> Result<Vec<String>, Failure> {
-    match env::args(rt) {
-        Ok(words) => Ok(words.collect(rt.alloc())?),
-        Err(_) => Err(report_text(rt, "a word is not UTF-8", Failure::BadWords)),
+    match given_words(rt) {
+        Ok(Some(words)) => Ok(words),
+        Ok(None) => Err(report_text(rt, "a word is not UTF-8", Failure::BadWords)),
+        Err(_) => Err(Failure::NoMemory),
     }
 }
 

@@ -2,7 +2,8 @@
 
 use crate::get::GetOptions;
 use crate::limits::Limits;
-use clap::{Arg, ArgAction, ArgMatches, Command, value_parser};
+use clap::{ArgMatches, Command};
+use p9_shell::{ArgShape, CommandShape, Given, ProgramShape, Value, with_commands};
 use std::alloc::{AllocError, Global};
 
 /// What is asked for.
@@ -127,32 +128,6 @@ fn permissions_in(text: &str) -> Option<u32> {
     }
 }
 
-// An option or a word: its name, how it is given, what its value is, what it is for, and whether it has
-// to be there.
-struct ArgShape {
-    name: &'static str,
-    given: Given,
-    value: Value,
-    help: &'static str,
-    is_needed: bool,
-}
-
-// How an option is given: by a letter, or by its name; or that it is a word.
-#[derive(Clone, Copy)]
-enum Given {
-    Letter(char),
-    Name,
-    Word,
-}
-
-// What the value of an option or a word is, with its name for the help.
-#[derive(Clone, Copy)]
-enum Value {
-    None,
-    Text(&'static str),
-    Number(&'static str),
-}
-
 // The options of the program.
 const OPTIONS: [ArgShape; 5] = [
     ArgShape {
@@ -218,13 +193,6 @@ const LOCAL: ArgShape = ArgShape {
     help: "a path of this system",
     is_needed: true,
 };
-
-// A command: its name, what it does, and its options and words.
-struct CommandShape {
-    name: &'static str,
-    about: &'static str,
-    args: &'static [ArgShape],
-}
 
 // The commands. The last one runs the others.
 const COMMANDS: [CommandShape; 10] = [
@@ -355,14 +323,13 @@ const COMMANDS: [CommandShape; 10] = [
 ];
 
 /// The program's command line.
-pub fn program<'a>(alloc: Global) -> Result<Command<'a>, AllocError> {
-    let program = Command::new(alloc, "p9_fs")
-        .about("looks at an export of 9P2000, and copies files from it and to it")
-        .version("1.0")
-        .subcommand_required(true);
-    let program = with_args(alloc, program, &OPTIONS)?;
-    with_commands(alloc, program, &COMMANDS)
-}
+pub const SHAPE: ProgramShape = ProgramShape {
+    name: "p9_fs",
+    about: "looks at an export of 9P2000, and copies files from it and to it",
+    args: &OPTIONS,
+    commands: &COMMANDS,
+    is_helping: false,
+};
 
 /// A line of commands, after the program's name. No line runs lines.
 pub fn line_program<'a>(alloc: Global) -> Result<Command<'a>, AllocError> {
@@ -370,56 +337,4 @@ pub fn line_program<'a>(alloc: Global) -> Result<Command<'a>, AllocError> {
         .disable_version_flag(true)
         .subcommand_required(true);
     with_commands(alloc, program, &COMMANDS[..9])
-}
-
-// Adds commands to the program.
-fn with_commands<'a>(
-    alloc: Global,
-    program: Command<'a>,
-    shapes: &[CommandShape],
-) -> Result<Command<'a>, AllocError> {
-    let mut program = program;
-    for shape in shapes {
-        program = program.subcommand(command_of(alloc, shape)?)?;
-    }
-    Ok(program)
-}
-
-// A command with its options and words.
-fn command_of<'a>(alloc: Global, shape: &CommandShape) -> Result<Command<'a>, AllocError> {
-    let command = Command::new(alloc, shape.name).about(shape.about);
-    with_args(alloc, command, shape.args)
-}
-
-// Adds options and words to the program or a command.
-fn with_args<'a>(
-    alloc: Global,
-    command: Command<'a>,
-    shapes: &[ArgShape],
-) -> Result<Command<'a>, AllocError> {
-    let mut command = command;
-    for shape in shapes {
-        command = command.arg(arg_of(alloc, shape))?;
-    }
-    Ok(command)
-}
-
-// An option or a word.
-fn arg_of<'a>(alloc: Global, shape: &ArgShape) -> Arg<'a> {
-    let arg = Arg::new(alloc, shape.name)
-        .help(shape.help)
-        .required(shape.is_needed);
-    let arg = match shape.given {
-        Given::Letter(letter) => arg.short(letter),
-        Given::Name => arg.long(shape.name),
-        Given::Word => arg,
-    };
-    match shape.value {
-        Value::None => arg.action(ArgAction::SetTrue),
-        Value::Text(name) => arg.value_name(name).action(ArgAction::Set),
-        Value::Number(name) => arg
-            .value_name(name)
-            .action(ArgAction::Set)
-            .value_parser(value_parser!(usize)),
-    }
 }

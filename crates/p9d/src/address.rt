@@ -1,7 +1,7 @@
 //! Where clients come, and as whom they may attach there.
 
 use p9_base::User;
-use std::alloc::Global;
+use std::alloc::{AllocError, Global};
 use std::net::SocketAddr;
 
 // What begins the address of a socket of the file system.
@@ -19,6 +19,8 @@ pub(crate) enum Place<'a> {
 /// An address: where clients come, and the only users as whom they may attach there, if not all may.
 #[derive(Drop)]
 pub(crate) struct Address<'a> {
+    /// How it was written.
+    pub text: &'a str,
     pub place: Place<'a>,
     pub users: Option<Vec<User>>,
 }
@@ -35,16 +37,11 @@ pub(crate) enum BadAddress<'a> {
 
 /// The address that a text `ADDR[=USER,..]` writes. The last `=` ends ADDR.
 pub(crate) fn address_of(alloc: Global, text: &str) -> Result<Address<'_>, BadAddress<'_>> {
-    match text.rsplit_once('=') {
-        None => Ok(Address {
-            place: place_of(text)?,
-            users: None,
-        }),
-        Some((place, users)) => Ok(Address {
-            place: place_of(place)?,
-            users: Some(users_of(alloc, users)?),
-        }),
-    }
+    let (place, users) = match text.rsplit_once('=') {
+        None => (place_of(text)?, None),
+        Some((place, users)) => (place_of(place)?, Some(users_of(alloc, users)?)),
+    };
+    Ok(Address { text, place, users })
 }
 
 // The place that a text writes.
@@ -70,4 +67,11 @@ fn users_of(alloc: Global, text: &str) -> Result<Vec<User>, BadAddress<'_>> {
         }
     }
     Ok(users)
+}
+
+/// The same users.
+pub(crate) fn copy_of(alloc: Global, users: &[User]) -> Result<Vec<User>, AllocError> {
+    let mut copy = Vec::new(alloc);
+    copy.extend_from_slice(users)?;
+    Ok(copy)
 }

@@ -21,19 +21,13 @@ pub(crate) enum Client {
 
 impl Read for Client {
     fn read(&mut self, bytes: &mut [u8]) -> io::Result<usize> {
-        match self {
-            Client::Any(stream) => stream.read(bytes),
-            Client::Some(stream) => stream.read(bytes),
-        }
+        self.receive(bytes)
     }
 }
 
 impl Write for Client {
     fn write(&mut self, bytes: &[u8]) -> io::Result<usize> {
-        match self {
-            Client::Any(stream) => stream.write(bytes),
-            Client::Some(stream) => stream.write(bytes),
-        }
+        self.send(bytes, false)
     }
 
     fn flush(&mut self) -> io::Result<()> {

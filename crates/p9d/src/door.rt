@@ -1,6 +1,6 @@
 //! The listeners at the addresses.
 
-use crate::address::{Address, Place};
+use crate::address::{Address, Place, copy_of};
 use crate::peer::Peer;
 use mio::net::{TcpListener, UnixListener, UnixStream};
 use p9_base::User;
@@ -45,13 +45,14 @@ pub(crate) struct Arrival {
 
 impl Door {
     /// Listens at an address.
-    pub fn open(rt: &HostRuntime, address: Address<'_>) -> io::Result<Door> {
-        let Address { place, users } = address;
-        let listener = listen(rt, place)?;
+    pub fn open(rt: &HostRuntime, address: &Address<'_>) -> io::Result<Door> {
+        let users = users_of(rt.alloc(), address)?;
+        let listener = listen(rt, address.place)?;
+        let name = name_of(rt.alloc(), &listener)?;
         Ok(Door {
-            name: name_of(rt.alloc(), &listener)?,
             listener,
             users,
+            name,
             is_failing: false,
         })
     }
@@ -78,10 +79,18 @@ impl Door {
     }
 
     /// Removes the socket of the file system, if it is one.
-    pub fn close(self, rt: &HostRuntime) {
+    pub fn close(&self, rt: &HostRuntime) {
         if let Listener::Unix(_, path) = &self.listener {
             let _ = fs::remove_file(rt, path.as_str());
         }
+    }
+}
+
+// The only users as whom who comes to an address may attach, if not all may.
+fn users_of(alloc: Global, address: &Address<'_>) -> Result<Option<Vec<User>>, AllocError> {
+    match &address.users {
+        Some(users) => Ok(Some(copy_of(alloc, users.as_slice())?)),
+        None => Ok(None),
     }
 }
 

@@ -10,8 +10,6 @@ mod export;
 mod journal;
 mod peer;
 mod serve;
-mod status;
-mod told;
 mod visit;
 mod visitors;
 mod watch;
@@ -19,151 +17,156 @@ mod words;
 
 use crate::address::{Address, BadAddress, address_of};
 use crate::door::Door;
-use crate::export::read_export;
-use crate::journal::Journal;
+use crate::export::{About, Export, read_export};
 use crate::serve::Daemon;
-use crate::status::{BAD_COMMAND_LINE, DONE, INPUT_OR_OUTPUT_FAILED, OUT_OF_MEMORY, REFUSED};
-use crate::told::{failed, refuse};
-use crate::visit::Shared;
 use crate::visitors::Visitors;
-use crate::words::{Asked, asked_in, program};
+use crate::words::{Asked, SHAPE, asked_in};
 use clap::ArgMatches;
 use p9_base::User;
+use p9_guard::Guard;
+use p9_index::IndexTree;
 use p9_restricted::has_no_blank_name;
+use p9_shell::status::DONE;
+use p9_shell::{Failure, Program, exit, tell};
 use p9_shown::AsShown;
-use std::alloc::AllocError;
-use std::io::{ErrorKind, Write};
+use std::alloc::Global;
+use std::io::{self, Write};
 use std::process::ExitCode;
-use std::rc::Rc;
-use std::{env, io};
+
+/// The name under which the program reports.
+pub(crate) const PROGRAM: Program = Program("p9d");
 
 fn main(rt: HostRuntime) -> ExitCode {
-    ExitCode::from(status_of(&rt))
-}
-
-// Runs the program, and returns the exit status. Where input or output failed, that was reported with
-// the place.
-fn status_of(rt: &HostRuntime) -> u8 {
-    match run(rt) {
-        Ok(status) => status,
-        Err(error) if error.kind() == ErrorKind::OutOfMemory => {
-            let _ = eprintln!(rt; "out of memory");
-            OUT_OF_MEMORY
-        }
-        Err(_) => INPUT_OR_OUTPUT_FAILED,
-    }
+    exit(&rt, run(&rt))
 }
 
 // Does what the words ask for, and returns the exit status.
-fn run(rt: &HostRuntime) -> io::Result<u8> {
-    let words = match env::args(rt) {
-        Ok(words) => words,
-        Err(error) if error.kind() == ErrorKind::OutOfMemory => return Err(error),
-        Err(_) => return bad_words(rt),
-    };
-    let words: Vec<String> = words.collect(rt.alloc())?;
-    match program(rt.alloc())?.try_get_matches_from(words.as_slice()) {
-        Ok(matches) => run_words(rt, &matches),
-        Err(error) => print_error(rt, &error),
+fn run(rt: &HostRuntime) -> Result<u8, Failure> {
+    let words = PROGRAM.words(rt)?;
+    match PROGRAM.read(rt, &SHAPE, words.as_slice())? {
+        Some(matches) => run_words(rt, &matches),
+        None => Ok(DONE),
     }
 }
 
 // Does what the words ask for that `clap` read.
-fn run_words(rt: &HostRuntime, matches: &ArgMatches<'_>) -> io::Result<u8> {
+fn run_words(rt: &HostRuntime, matches: &ArgMatches<'_>) -> Result<u8, Failure> {
     match (asked_in(matches), matches.get_strs("address")) {
         (Some(asked), Some(addresses)) => run_asked(rt, asked, addresses),
-        _ => bad_words(rt),
+        _ => Err(PROGRAM.bad_words(rt)),
     }
 }
 
 // Serves an export at addresses.
-fn run_asked(rt: &HostRuntime, asked: Asked<'_>, texts: &[&str]) -> io::Result<u8> {
-    let Some(addresses) = addresses_of(rt, texts)? else {
-        return Ok(BAD_COMMAND_LINE);
-    };
-    let Some(export) = read_export(rt, asked.export, asked.is_anyway)? else {
-        return Ok(REFUSED);
-    };
-    if !has_no_blank_name(export.users.as_slice()) {
-        refuse(rt, asked.export, &"a user's name is of blanks alone")?;
-        return Ok(REFUSED);
+fn run_asked(rt: &HostRuntime, asked: Asked<'_>, texts: &[&str]) -> Result<u8, Failure> {
+    let addresses = addresses_of(rt, texts)?;
+    let Export { guard, about } = read_export(rt, asked.export, asked.is_anyway)?;
+    let mut doors = Vec::new(rt.alloc());
+    match open_doors(rt, asked.export, &about, addresses.as_slice(), &mut doors) {
+        Ok(()) => serve_doors(rt, asked, doors, guard),
+        Err(failure) => {
+            drop(guard);
+            Err(failure)
+        }
     }
-    if !are_listed(rt, addresses.as_slice(), export.users.as_slice())? {
-        return Ok(BAD_COMMAND_LINE);
+}
+
+// Serves a guard to who comes to these doors.
+fn serve_doors(
+    rt: &HostRuntime,
+    asked: Asked<'_>,
+    doors: Vec<Door>,
+    guard: Guard<IndexTree<Global>>,
+) -> Result<u8, Failure> {
+    match Visitors::new(rt.alloc(), asked.limits, asked.is_quiet) {
+        Ok(visitors) => {
+            Daemon::new(doors, visitors).serve(rt, guard)?;
+            Ok(DONE)
+        }
+        Err(error) => {
+            drop(guard);
+            Err(Failure::from(error))
+        }
     }
-    let doors = open_all(rt, addresses, texts)?;
-    if let Err(error) = print_addresses(rt, doors.as_slice()) {
-        return Err(failed(rt, "standard output", error));
+}
+
+// Says what is served, and listens at each address.
+fn open_doors(
+    rt: &HostRuntime,
+    export: &str,
+    about: &About,
+    addresses: &[Address<'_>],
+    doors: &mut Vec<Door>,
+) -> Result<(), Failure> {
+    tell(rt, about.reports.as_slice())?;
+    tell(rt, about.text.as_bytes())?;
+    check_users(rt, export, addresses, about.users.as_slice())?;
+    for address in addresses {
+        let door = Door::open(rt, address);
+        doors.push(PROGRAM.had(rt, address.text, door)?)?;
     }
-    let journal = Journal::new(rt.alloc(), asked.is_quiet);
-    let Ok(shared) = Rc::new(rt.alloc(), Shared::new(journal)) else {
-        return Err(io::Error::from(AllocError));
-    };
-    let visitors = Visitors::new(rt.alloc(), asked.limits, shared.clone()?);
-    Daemon::new(rt.alloc(), doors, export.guard, visitors, shared).serve(rt)?;
-    Ok(DONE)
+    PROGRAM.had(rt, "standard output", print_addresses(rt, doors.as_slice()))
 }
 
 // The addresses that texts write. The first one that is none is reported.
-fn addresses_of<'a>(rt: &HostRuntime, texts: &[&'a str]) -> io::Result<Option<Vec<Address<'a>>>> {
+fn addresses_of<'a>(rt: &HostRuntime, texts: &[&'a str]) -> Result<Vec<Address<'a>>, Failure> {
     let mut addresses = Vec::new(rt.alloc());
     for text in texts {
         match address_of(rt.alloc(), text) {
             Ok(address) => addresses.push(address)?,
-            Err(BadAddress::Place(place)) => {
-                refuse(
-                    rt,
-                    place,
-                    &"neither an IP address with a port nor unix:PATH",
-                )?;
-                return Ok(None);
-            }
-            Err(BadAddress::User(name)) => {
-                refuse(
-                    rt,
-                    text,
-                    &format!(in rt.alloc(); "'{}' is no user's name", AsShown(name))?.as_str(),
-                )?;
-                return Ok(None);
-            }
-            Err(BadAddress::NoMemory) => return Err(io::Error::from(AllocError)),
+            Err(bad) => return Err(report_bad(rt, text, bad)),
         }
     }
-    Ok(Some(addresses))
+    Ok(addresses)
 }
 
-// Whether each user of these addresses is listed. The first one who isn't is reported.
-fn are_listed(rt: &HostRuntime, addresses: &[Address<'_>], listed: &[User]) -> io::Result<bool> {
-    for address in addresses {
-        let Some(users) = &address.users else {
-            continue;
-        };
-        for user in users.as_slice() {
-            if !listed.contains(user) {
-                refuse(rt, user.as_str(), &"no listed user of the export")?;
-                return Ok(false);
-            }
-        }
+// Reports why a text is no address.
+fn report_bad(rt: &HostRuntime, text: &str, bad: BadAddress<'_>) -> Failure {
+    match bad {
+        BadAddress::Place(place) => PROGRAM.refuse(
+            rt,
+            place,
+            &"neither an IP address with a port nor unix:PATH",
+            Failure::BadWords,
+        ),
+        BadAddress::User(name) => match format!(in rt.alloc();
+            "'{}' is no user's name",
+            AsShown(name)
+        ) {
+            Ok(why) => PROGRAM.refuse(rt, text, &why.as_str(), Failure::BadWords),
+            Err(_) => Failure::NoMemory,
+        },
+        BadAddress::NoMemory => Failure::NoMemory,
     }
-    Ok(true)
 }
 
-// Listens at each address.
-fn open_all(
+// Reports an export that has a user of blanks alone, or else the first user of these addresses who
+// isn't listed.
+fn check_users(
     rt: &HostRuntime,
-    addresses: Vec<Address<'_>>,
-    texts: &[&str],
-) -> io::Result<Vec<Door>> {
-    let mut doors = Vec::new(rt.alloc());
-    let mut texts = texts.iter();
+    export: &str,
+    addresses: &[Address<'_>],
+    listed: &[User],
+) -> Result<(), Failure> {
+    if !has_no_blank_name(listed) {
+        let why = "a user's name is of blanks alone";
+        return Err(PROGRAM.refuse(rt, export, &why, Failure::Refused));
+    }
     for address in addresses {
-        let text = texts.next().copied().unwrap_or("");
-        match Door::open(rt, address) {
-            Ok(door) => doors.push(door)?,
-            Err(error) => return Err(failed(rt, text, error)),
+        if let Some(user) = first_unlisted(address, listed) {
+            let why = "no listed user of the export";
+            return Err(PROGRAM.refuse(rt, user.as_str(), &why, Failure::BadWords));
         }
     }
-    Ok(doors)
+    Ok(())
+}
+
+// The first user of an address who isn't listed.
+fn first_unlisted(address: &Address<'_>, listed: &[User]) -> Option<User> {
+    match &address.users {
+        Some(users) => users.iter().find(|user| !listed.contains(user)).copied(),
+        None => None,
+    }
 }
 
 // Prints a line for each address that is listened at.
@@ -172,25 +175,4 @@ fn print_addresses(rt: &HostRuntime, doors: &[Door]) -> io::Result<()> {
         println!(rt; "listening {}", door.name.as_str())?;
     }
     rt.stdout().flush()
-}
-
-// Reports words that are no text.
-fn bad_words(rt: &HostRuntime) -> io::Result<u8> {
-    eprintln!(rt; "p9d: bad command line")?;
-    Ok(BAD_COMMAND_LINE)
-}
-
-// Prints what `clap` has to say of the words: their help, the version, or what is wrong with them.
-fn print_error(rt: &HostRuntime, error: &clap::Error) -> io::Result<u8> {
-    if error.kind() == clap::error::ErrorKind::OutOfMemory {
-        return Err(io::Error::from(AllocError));
-    }
-    if let Err(error) = error.print(rt) {
-        return Err(failed(rt, "standard output", error));
-    }
-    Ok(if error.use_stderr() {
-        BAD_COMMAND_LINE
-    } else {
-        DONE
-    })
 }

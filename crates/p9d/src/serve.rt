@@ -1,10 +1,11 @@
 //! The rounds: clients are taken in at each address, and each has a turn.
 
+use crate::address::copy_of;
 use crate::client::Client;
 use crate::door::{Arrival, Door, Origin, shown_origin};
 use crate::end::{has_ended, is_pipe};
-use crate::export::Export;
 use crate::journal::Level;
+use crate::peer::Peer;
 use crate::visit::{Shared, Visit, Visited};
 use crate::visitors::Visitors;
 use p9_base::User;
@@ -14,50 +15,53 @@ use p9_restricted::Restricted;
 use p9_serve::{Clients, Pace, Round, Socket};
 use std::alloc::{AllocError, Global};
 use std::io::{self, ErrorKind};
+use std::net::SocketAddr;
 use std::rc::Rc;
 use std::thread;
 use std::time::{SystemTime, UNIX_EPOCH};
 
-/// A server: its doors, its clients, and what is known of them.
+// The clients of a guard.
+type Served = Clients<Client, IndexTree<Global>>;
+
+/// A server: its doors, and who came to them.
 #[derive(Drop)]
 pub(crate) struct Daemon {
     doors: Vec<Door>,
-    clients: Clients<Client, IndexTree<Global>>,
     visitors: Visitors,
-    shared: Rc<Shared>,
     pace: Pace,
 }
 
 impl Daemon {
-    /// A server of a guard to who comes to these doors.
-    pub fn new(
-        alloc: Global,
-        doors: Vec<Door>,
-        guard: Guard<IndexTree<Global>>,
-        visitors: Visitors,
-        shared: Rc<Shared>,
-    ) -> Daemon {
+    /// A server to who comes to these doors.
+    pub fn new(doors: Vec<Door>, visitors: Visitors) -> Daemon {
         Daemon {
             doors,
-            clients: Clients::new(alloc, guard),
             visitors,
-            shared,
             pace: Pace::new(),
         }
     }
 
-    /// Serves until the standard input, where that is a pipe, has ended. Then all sessions are closed.
-    pub fn serve(mut self, rt: &HostRuntime) -> io::Result<()> {
+    /// Serves a guard until the standard input, where that is a pipe, has ended. Then all sessions are
+    /// closed.
+    pub fn serve(mut self, rt: &HostRuntime, guard: Guard<IndexTree<Global>>) -> io::Result<()> {
+        let mut clients = Clients::new(rt.alloc(), guard);
+        let done = self.rounds(rt, &mut clients);
+        drop(clients.finish(self.clock()));
+        self.close(rt);
+        done
+    }
+
+    // Serves clients until the standard input, where that is a pipe, has ended.
+    fn rounds(&mut self, rt: &HostRuntime, clients: &mut Served) -> io::Result<()> {
         let ends = is_pipe(rt);
         for _ in 0..u64::MAX {
             self.rest(rt);
             if self.is_new_second(rt)? && ends && has_ended(rt) {
                 break;
             }
-            self.round(rt.alloc());
-            self.shared.print(rt);
+            self.round(rt.alloc(), clients);
+            self.visitors.shared.print(rt);
         }
-        self.finish(rt);
         Ok(())
     }
 
@@ -72,24 +76,28 @@ impl Daemon {
     // Reads the clock. Where a second begins, clients that are late are closed.
     fn is_new_second(&mut self, rt: &HostRuntime) -> io::Result<bool> {
         let now = seconds(rt)?;
-        if now == self.shared.now.get() {
+        if now == self.visitors.shared.now.get() {
             return Ok(false);
         }
-        self.shared.begin_second(now);
+        self.visitors.shared.begin_second(now);
         self.visitors.forget_gone();
         self.visitors.close_late();
         Ok(true)
     }
 
+    // The clock of the export.
+    fn clock(&self) -> u32 {
+        (self.visitors.shared.now.get() % 0x1_0000_0000) as u32
+    }
+
     // A round, as that of `p9 serve`, with an accept at each door.
-    fn round(&mut self, alloc: Global) {
-        let accepted = if self.pace.is_due() || self.clients.is_empty() {
-            self.accept_all(alloc)
+    fn round(&mut self, alloc: Global, clients: &mut Served) {
+        let accepted = if self.pace.is_due() || clients.is_empty() {
+            self.accept_all(alloc, clients)
         } else {
             0
         };
-        let clock = (self.shared.now.get() % 0x1_0000_0000) as u32;
-        let tally = self.clients.turns(clock);
+        let tally = clients.turns(self.clock());
         self.pace.count(Round {
             accepted,
             moved: tally.moved,
@@ -101,10 +109,10 @@ impl Daemon {
     }
 
     // Takes in a client at each door, where one waits. Returns how many were taken in.
-    fn accept_all(&mut self, alloc: Global) -> u64 {
+    fn accept_all(&mut self, alloc: Global, clients: &mut Served) -> u64 {
         let mut accepted = 0u64;
         for number in 0..self.doors.len() {
-            if self.accept_at(alloc, number) {
+            if self.accept_at(alloc, number, clients) {
                 accepted = accepted.saturating_add(1);
             }
         }
@@ -112,82 +120,100 @@ impl Daemon {
     }
 
     // Takes in a client at a door, where one waits.
-    fn accept_at(&mut self, alloc: Global, number: usize) -> bool {
+    fn accept_at(&mut self, alloc: Global, number: usize, clients: &mut Served) -> bool {
         let Some(door) = self.doors.get_mut(number) else {
             return false;
         };
         match door.accept() {
             Ok(arrival) => {
                 door.is_failing = false;
-                self.take_in(alloc, number, arrival)
+                take_in(alloc, &mut self.visitors, (number, door), arrival, clients)
             }
             Err(error) => {
-                note_failure(door, &self.shared, &error);
+                note_failure(door, &self.visitors.shared, &error);
                 false
             }
         }
     }
 
-    // Takes in a client that came to a door. Returns whether it is there.
-    fn take_in(&mut self, alloc: Global, number: usize, arrival: Arrival) -> bool {
-        match self.client_of(alloc, number, arrival) {
-            Ok(Some(client)) => self.clients.take_in(client),
-            Ok(None) => false,
-            Err(AllocError) => {
-                self.shared
-                    .tell(Level::Error, &"a client was closed: out of memory");
-                false
-            }
-        }
-    }
-
-    // The stream of a client that came to a door, where it is let in.
-    fn client_of(
-        &mut self,
-        alloc: Global,
-        number: usize,
-        arrival: Arrival,
-    ) -> Result<Option<Client>, AllocError> {
-        let Arrival { peer, address } = arrival;
-        let origin = match address {
-            Some(address) => Origin::Ip(address.ip()),
-            None => Origin::Door(number),
-        };
-        let Some(door) = self.doors.get(number) else {
-            return Ok(None);
-        };
-        let from = shown_origin(alloc, address, door)?;
-        let Some(visit) = self.visitors.admit(origin, from)? else {
-            return Ok(None);
-        };
-        let Ok(socket) = Socket::new(alloc, peer) else {
-            return Err(AllocError);
-        };
-        let stream = Visited::new(alloc, socket, visit, self.shared.clone()?);
-        match &door.users {
-            None => Ok(Some(Client::Any(stream))),
-            Some(users) => {
-                let users = copy_of(alloc, users.as_slice())?;
-                Ok(Some(Client::Some(Restricted::new(stream, users))))
-            }
-        }
-    }
-
-    // Closes all sessions, and removes the sockets of the file system.
-    fn finish(self, rt: &HostRuntime) {
-        let Daemon {
-            doors,
-            clients,
-            visitors: _,
-            shared,
-            pace: _,
-        } = self;
-        let clock = (shared.now.get() % 0x1_0000_0000) as u32;
-        let _guard = clients.finish(clock);
-        for door in doors {
+    // Removes the sockets of the file system, and prints what was told.
+    fn close(&self, rt: &HostRuntime) {
+        for door in self.doors.as_slice() {
             door.close(rt);
         }
-        shared.print(rt);
+        self.visitors.shared.print(rt);
+    }
+}
+
+// Takes in a client that came to a door of this number. Returns whether it is there.
+fn take_in(
+    alloc: Global,
+    visitors: &mut Visitors,
+    door: (usize, &Door),
+    arrival: Arrival,
+    clients: &mut Served,
+) -> bool {
+    let Arrival { peer, address } = arrival;
+    let client = match admitted(alloc, visitors, door, address) {
+        Ok(Some(visit)) => client_of(alloc, peer, visit, &visitors.shared, &door.1.users),
+        Ok(None) => return false,
+        Err(error) => Err(error),
+    };
+    match client {
+        Ok(client) => clients.take_in(client),
+        Err(AllocError) => {
+            visitors
+                .shared
+                .tell(Level::Error, &"a client was closed: out of memory");
+            false
+        }
+    }
+}
+
+// The visit of a client that came to a door from an address, where it is let in.
+fn admitted(
+    alloc: Global,
+    visitors: &mut Visitors,
+    door: (usize, &Door),
+    address: Option<SocketAddr>,
+) -> Result<Option<Rc<Visit>>, AllocError> {
+    let (number, door) = door;
+    let origin = match address {
+        Some(address) => Origin::Ip(address.ip()),
+        None => Origin::Door(number),
+    };
+    let from = shown_origin(alloc, address, door)?;
+    visitors.admit(origin, from)
+}
+
+// The stream of a client, who may attach as these users, if not as all.
+fn client_of(
+    alloc: Global,
+    peer: Peer,
+    visit: Rc<Visit>,
+    shared: &Rc<Shared>,
+    users: &Option<Vec<User>>,
+) -> Result<Client, AllocError> {
+    let stream = visited(alloc, peer, visit, shared)?;
+    match users {
+        None => Ok(Client::Any(stream)),
+        Some(users) => {
+            let users = copy_of(alloc, users.as_slice())?;
+            Ok(Client::Some(Restricted::new(stream, users)))
+        }
+    }
+}
+
+// The stream of a visit.
+fn visited(
+    alloc: Global,
+    peer: Peer,
+    visit: Rc<Visit>,
+    shared: &Rc<Shared>,
+) -> Result<Visited<Socket<Peer, Global>>, AllocError> {
+    match Socket::new(alloc, peer) {
+        Ok(socket) => Ok(Visited::new(alloc, socket, visit, shared.clone()?)),
+        Err(_) => Err(AllocError),
     }
 }
 
@@ -208,11 +234,4 @@ fn seconds(rt: &HostRuntime) -> io::Result<u64> {
             .duration_since(UNIX_EPOCH)
             .map_or(0, |since| since.as_secs()),
     )
-}
-
-// The same users.
-fn copy_of(alloc: Global, users: &[User]) -> Result<Vec<User>, AllocError> {
-    let mut copy = Vec::new(alloc);
-    copy.extend_from_slice(users)?;
-    Ok(copy)
 }

@@ -3,7 +3,7 @@
 ghost use Rattle.std.specs.Prelude.{◌<◌, IsTrue, length};
 
 use crate::door::Origin;
-use crate::journal::Level;
+use crate::journal::{Journal, Level};
 use crate::visit::{End, Shared, Visit};
 use crate::words::Limits;
 use std::alloc::{AllocError, Global};
@@ -14,24 +14,30 @@ use std::rc::Rc;
 // The seconds in which a client has to send a whole Tversion.
 const VERSION_SECONDS: u64 = 30;
 
+const NO_VERSION: &str = "was closed: it sent no Tversion in 30 seconds";
+
 /// The clients that are there.
 #[derive(Drop)]
 pub(crate) struct Visitors {
     limits: Limits,
-    shared: Rc<Shared>,
+    /// What they share.
+    pub shared: Rc<Shared>,
     visits: Vec<Rc<Visit>>,
     // How many clients have come.
     count: u64,
 }
 
 impl Visitors {
-    /// Nobody.
-    pub fn new(alloc: Global, limits: Limits, shared: Rc<Shared>) -> Visitors {
-        Visitors {
-            limits,
-            shared,
-            visits: Vec::new(alloc),
-            count: 0,
+    /// Nobody came yet. Of who comes all is told, or failures alone, if that is asked for.
+    pub fn new(alloc: Global, limits: Limits, is_quiet: bool) -> Result<Visitors, AllocError> {
+        match Rc::new(alloc, Shared::new(Journal::new(alloc, is_quiet))) {
+            Ok(shared) => Ok(Visitors {
+                limits,
+                shared,
+                visits: Vec::new(alloc),
+                count: 0,
+            }),
+            Err(_) => Err(AllocError),
         }
     }
 
@@ -46,27 +52,30 @@ impl Visitors {
             self.shared.tell(Level::Warning, &event);
             return Ok(None);
         }
-        let now = self.shared.now.get();
-        self.count = self.count.saturating_add(1);
-        let visit = Rc::new(
-            *self.visits.allocator(),
-            Visit {
-                number: self.count,
-                origin,
-                from,
-                began: now,
-                last: Cell::new(now),
-                has_version: Cell::new(false),
-                is_late: Cell::new(false),
-                end: Cell::new(None),
-            },
-        );
-        let Ok(visit) = visit else {
-            return Err(AllocError);
-        };
+        let visit = self.visit_of(origin, from)?;
         self.visits.push(visit.clone()?)?;
         self.shared.tell(Level::Info, &Came(&visit));
         Ok(Some(visit))
+    }
+
+    // What is known of a client that just came.
+    fn visit_of(&mut self, origin: Origin, from: String) -> Result<Rc<Visit>, AllocError> {
+        let now = self.shared.now.get();
+        self.count = self.count.saturating_add(1);
+        let visit = Visit {
+            number: self.count,
+            origin,
+            from,
+            began: now,
+            last: Cell::new(now),
+            has_version: Cell::new(false),
+            is_late: Cell::new(false),
+            end: Cell::new(None),
+        };
+        match Rc::new(*self.visits.allocator(), visit) {
+            Ok(visit) => Ok(visit),
+            Err(_) => Err(AllocError),
+        }
     }
 
     // The limit that one more client from there doesn't meet, in words.
@@ -163,22 +172,21 @@ struct Gone<'a>(&'a Visit);
 impl Display for Gone<'_> {
     fn fmt<W: std::fmt::Write>(&self, f: &mut std::fmt::Formatter<W>) -> std::fmt::Result {
         let number = self.0.number;
-        if self.0.is_late.get() && !self.0.has_version.get() {
-            return write!(
-                f,
-                "client {number} was closed: it sent no Tversion in {VERSION_SECONDS} seconds"
-            );
-        }
-        if self.0.is_late.get() {
-            return write!(
-                f,
-                "client {number} was closed: it sent nothing for too long"
-            );
-        }
         match self.0.end.get() {
-            Some(End::Left) => write!(f, "client {number} left"),
-            Some(End::Failed(kind)) => write!(f, "client {number} was closed: {kind}"),
-            None => write!(f, "client {number} was closed: it sent what is no message"),
+            Some(End::Failed(kind)) if !self.0.is_late.get() => {
+                write!(f, "client {number} was closed: {kind}")
+            }
+            end => write!(f, "client {number} {}", how_gone(self.0, end)),
         }
+    }
+}
+
+// How a client went whose stream didn't fail by itself.
+fn how_gone(visit: &Visit, end: Option<End>) -> &'static str {
+    match end {
+        _ if visit.is_late.get() && !visit.has_version.get() => NO_VERSION,
+        _ if visit.is_late.get() => "was closed: it sent nothing for too long",
+        None => "was closed: it sent what is no message",
+        Some(_) => "left",
     }
 }

@@ -1,7 +1,7 @@
 //! The words of the command line.
 
-use clap::{Arg, ArgAction, ArgMatches, Command, value_parser};
-use std::alloc::{AllocError, Global};
+use clap::ArgMatches;
+use p9_shell::{ArgShape, Given, ProgramShape, Value};
 
 // How many clients may be there at once, and how many of these from one address.
 const CLIENTS: usize = 1_000;
@@ -45,64 +45,64 @@ pub(crate) fn asked_in<'a>(words: &ArgMatches<'a>) -> Option<Asked<'a>> {
     })
 }
 
+// The options, and the word.
+const ARGS: [ArgShape; 7] = [
+    ArgShape {
+        name: "address",
+        given: Given::Letter('a'),
+        value: Value::Texts("ADDR[=USER,..]"),
+        help: "An IP address with a port, or unix:PATH; who comes there may attach as these users alone",
+        is_needed: true,
+    },
+    ArgShape {
+        name: "clients",
+        given: Given::Name,
+        value: Value::Number("N"),
+        help: "The most clients at once: 1000",
+        is_needed: false,
+    },
+    ArgShape {
+        name: "per-address",
+        given: Given::Name,
+        value: Value::Number("N"),
+        help: "The most from one address: 100",
+        is_needed: false,
+    },
+    ArgShape {
+        name: "idle",
+        given: Given::Name,
+        value: Value::Number("SECONDS"),
+        help: "Close clients that send nothing so long",
+        is_needed: false,
+    },
+    ArgShape {
+        name: "anyway",
+        given: Given::Name,
+        value: Value::None,
+        help: "Serve an export that hides nothing",
+        is_needed: false,
+    },
+    ArgShape {
+        name: "quiet",
+        given: Given::NameOr('q'),
+        value: Value::None,
+        help: "Tell nothing but failures",
+        is_needed: false,
+    },
+    ArgShape {
+        name: "export",
+        given: Given::Word,
+        value: Value::Text("EXPORT"),
+        help: "The file of a sealed input",
+        is_needed: true,
+    },
+];
+
 /// The program's command line.
-pub(crate) fn program<'a>(alloc: Global) -> Result<Command<'a>, AllocError> {
-    let program = Command::new(alloc, "p9d").version("1.0").about(
-        "Serves an export as 9P2000 until its standard input, a pipe, ends or a signal comes",
-    );
-    let program = program
-        .arg(address(alloc))?
-        .arg(number(alloc, "clients", "N", "The most clients at once: 1000"))?
-        .arg(number(alloc, "per-address", "N", "The most from one address: 100"))?
-        .arg(number(
-            alloc,
-            "idle",
-            "SECONDS",
-            "Close clients that send nothing so long",
-        ))?;
-    program
-        .arg(flag(alloc, "anyway", "Serve an export that hides nothing"))?
-        .arg(flag(alloc, "quiet", "Tell nothing but failures").short('q'))?
-        .arg(
-            Arg::new(alloc, "export")
-                .value_name("EXPORT")
-                .help("The file of a sealed input")
-                .required(true)
-                .action(ArgAction::Set),
-        )
-}
-
-// The option of an address.
-fn address<'a>(alloc: Global) -> Arg<'a> {
-    Arg::new(alloc, "address")
-        .short('a')
-        .value_name("ADDR[=USER,..]")
-        .help(
-            "An IP address with a port, or unix:PATH; who comes there may attach as these users alone",
-        )
-        .required(true)
-        .action(ArgAction::Append)
-}
-
-// An option with a number.
-fn number<'a>(
-    alloc: Global,
-    name: &'static str,
-    value: &'static str,
-    help: &'static str,
-) -> Arg<'a> {
-    Arg::new(alloc, name)
-        .long(name)
-        .value_name(value)
-        .help(help)
-        .action(ArgAction::Set)
-        .value_parser(value_parser!(usize))
-}
-
-// An option without a value.
-fn flag<'a>(alloc: Global, name: &'static str, help: &'static str) -> Arg<'a> {
-    Arg::new(alloc, name)
-        .long(name)
-        .help(help)
-        .action(ArgAction::SetTrue)
-}
+pub(crate) const SHAPE: ProgramShape = ProgramShape {
+    name: "p9d",
+    about: "Serves an export as 9P2000 until its standard input, a pipe, ends or a signal comes",
+    args: &ARGS,
+    commands: &[],
+    is_helping: false,
+};
