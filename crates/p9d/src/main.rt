@@ -65,9 +65,17 @@ fn run_asked(rt: &HostRuntime, asked: Asked<'_>, texts: &[&str]) -> Result<u8, F
     match open_doors(rt, asked.export, &about, addresses.as_slice(), &mut doors) {
         Ok(()) => serve_doors(rt, asked, doors, guard),
         Err(failure) => {
+            close_doors(rt, doors.as_slice());
             drop(guard);
             Err(failure)
         }
+    }
+}
+
+// Removes the sockets of the file system.
+fn close_doors(rt: &HostRuntime, doors: &[Door]) {
+    for door in doors {
+        door.close(rt);
     }
 }
 
@@ -84,6 +92,7 @@ fn serve_doors(
             Ok(DONE)
         }
         Err(error) => {
+            close_doors(rt, doors.as_slice());
             drop(guard);
             Err(Failure::from(error))
         }
