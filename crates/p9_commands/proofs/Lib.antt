@@ -12,3 +12,4 @@ mod Ends
 mod Preparing
 mod Offers
 mod Alikes
+mod Chosen
