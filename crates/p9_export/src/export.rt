@@ -159,8 +159,8 @@ impl<T: Tree> Export<T> {
     /// modulo 2^32.
     ///
     /// Every frame gets exactly one reply. Where that is [`p9_base::Fault::OutOfMemory`], the
-    /// exporter is unchanged. Only a walk, a create, a write or a wstat that nothing else refuses is
-    /// answered so, or an attach that no test refuses that looks at no file.
+    /// exporter is unchanged. Only a walk, a create, a write or a wstat that nothing else refuses
+    /// is answered so, or an attach that no test refuses that looks at no file.
     pub fn message(&mut self, name: u32, frame: &[u8], clock: u32, reply: &mut [u8]) -> usize
         requires live { IsSome (session_at name self.old.sessions) }
         requires whole { IsTrue (is_frame frame.now) }

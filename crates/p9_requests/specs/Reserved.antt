@@ -28,7 +28,8 @@ use Rattle.p9_requests.specs.declared.room.Reserved.TheVariants.{Attach, Nothing
 use Rattle.p9_requests.specs.declared.room.Room.{Room}
 use Rattle.p9_requests.specs.declared.room.Room.TheVariants.{Added, Channels}
 
--- the answer, by whether memory was reserved for it: what would be granted is 'out of memory' without
+-- the answer, by whether memory was reserved for it: what would be granted is 'out of memory'
+-- without
 abbrev pub with_memory : (is_reserved : Bool) → Answer → Answer
 with_memory true answer = answer
 with_memory false (Ok outcome) = Err OutOfMemory
@@ -155,8 +156,8 @@ message_with_memory reserved setting forest sessions session clock (Twalk fid ne
 message_with_memory reserved setting forest sessions session clock other =
     message_answer setting forest sessions session clock other
 
--- whether memory may still be refused to the request, in the place of this answer: to those that need
--- it behind a look-up
+-- whether memory may still be refused to the request, in the place of this answer: to those that
+-- need it behind a look-up
 abbrev pub may_fail_later : TMessage → Answer → Bool
 may_fail_later (Tcreate fid name perm mode) answer = is_done answer
 may_fail_later (Twrite fid offset bytes) answer = is_done answer

@@ -71,10 +71,10 @@ pub fn reserve_attach<'a, A: Allocator + Copy>(
 /// The first that applies refuses, and the session is as it was before memory was reserved: the fid
 /// can't be added ([`p9_fids::FidTable::put_fault`]); an afid is given,
 /// [`Fault::NoAuthentication`]; the user isn't listed, [`Fault::UnknownUser`]; the attach name is
-/// neither empty nor begins with a slash, [`Fault::UnknownAttachName`]; no memory was reserved for it
-/// by [`reserve_attach`], [`Fault::OutOfMemory`]; the root place has no file, [`Fault::PhaseError`];
-/// a step of the user's walk along the cleaned name is refused ([`p9_space::find_arrival`]); the file
-/// there is no directory, [`Fault::NotDirectory`].
+/// neither empty nor begins with a slash, [`Fault::UnknownAttachName`]; no memory was reserved for
+/// it by [`reserve_attach`], [`Fault::OutOfMemory`]; the root place has no file,
+/// [`Fault::PhaseError`]; a step of the user's walk along the cleaned name is refused
+/// ([`p9_space::find_arrival`]); the file there is no directory, [`Fault::NotDirectory`].
 pub fn attach<T: Tree>(
     setting: &Setting<T::Alloc>,
     forest: &Forest<T>,

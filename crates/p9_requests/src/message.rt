@@ -68,13 +68,13 @@ pub fn message<T: Tree>(
     )
 }
 
-/// Answers a request of a session, for which this was reserved. `taken` says whether the file that an
-/// open asks for is taken ([`crate::open::exclusive_file_of`]). What a read gives is put at the front
-/// of `buffer`.
+/// Answers a request of a session, for which this was reserved. `taken` says whether the file that
+/// an open asks for is taken ([`crate::open::exclusive_file_of`]). What a read gives is put at the
+/// front of `buffer`.
 ///
 /// An auth is [`Fault::NoAuthentication`]. A flush has nothing to do, since each request is
-/// answered before the next one. Where it is an `Err`, the forest is unchanged, and the session is as
-/// it was before memory was reserved.
+/// answered before the next one. Where it is an `Err`, the forest is unchanged, and the session is
+/// as it was before memory was reserved.
 ///
 /// Whether an attach or a walk is [`Fault::OutOfMemory`] depends on what was reserved and on the
 /// answer alone. A create, a write and a wstat need memory behind a look-up: where nothing else

@@ -70,7 +70,8 @@ impl<A: Allocator + Copy> Channels<A> {
         })
     }
 
-    /// Channels of so many places, each of them this one. The only error is that an allocation fails.
+    /// Channels of so many places, each of them this one. The only error is that an allocation
+    /// fails.
     pub fn filled<B: Allocator + Copy>(
         alloc: A,
         table: &MountTable<B>,

@@ -31,9 +31,9 @@ abbrev pub is_beyond_session : Answer → Bool
 is_beyond_session (Ok outcome) = true
 is_beyond_session (Err fault) = is_of_file fault
 
--- whether a request may be answered by a failed allocation, in the place of the answer that it has: a
--- walk, a create, a write or a wstat where no refusal is due, an attach where none is due that looks
--- at no file
+-- whether a request may be answered by a failed allocation, in the place of the answer that it has:
+-- a walk, a create, a write or a wstat where no refusal is due, an attach where none is due that
+-- looks at no file
 abbrev pub may_run_out : TMessage → Answer → Bool
 may_run_out (Tattach fid afid uname aname) answer = is_beyond_session answer
 may_run_out (Twalk fid newfid names) answer = is_done answer

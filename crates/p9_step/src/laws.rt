@@ -23,9 +23,9 @@ pub fn a_run_goes_on()
 /// Every frame of an open session gets one reply. Its bytes spell a message with the frame's tag,
 /// and are no more than the session's msize, and before a version than 43. A refusal is one of the
 /// thirty faults, and the state is unchanged, but that a refused remove has ended its fid. It is
-/// 'out of memory' only for a walk, a create, a write or a wstat that nothing else refuses, or for an
-/// attach that no test refuses that looks at no file, and only where the step's mark says that an
-/// allocation failed.
+/// 'out of memory' only for a walk, a create, a write or a wstat that nothing else refuses, or for
+/// an attach that no test refuses that looks at no file, and only where the step's mark says that
+/// an allocation failed.
 pub fn every_frame_is_answered()
     ensures { EveryFrameIsAnswered }
 {}
