@@ -3,4 +3,4 @@ pub mod Facts
 pub mod Histories
 pub mod Orders
 mod Outcomes
-mod Told
+pub mod Told

@@ -27,9 +27,9 @@ written_all (h ∷ hs) = h.deeds.written ++ written_all hs
 
 module _ {S : Type 0} (remaining contents : S → Option (List ℕ)) where
   -- a stream gave what was read, and got what was written
-  record Moves (old new : S) (read written : List ℕ) : Type 0 where
-    consumed : Consumes (remaining old) (remaining new) read
-    appended : Appends (contents old) (contents new) written
+  pub record Moves (old new : S) (read written : List ℕ) : Type 0 where
+    pub consumed : Consumes (remaining old) (remaining new) read
+    pub appended : Appends (contents old) (contents new) written
 
   nothing : (a b : S) (read written : List ℕ) → b ≡ a → read ≡ [] → written ≡ []
       → Moves a b read written
@@ -39,7 +39,7 @@ module _ {S : Type 0} (remaining contents : S → Option (List ℕ)) where
         appended = Appends-nil (contents a);
       })
 
-  moves-by : (phase : Phase) (session now : ℕ) (old new : Scene) (a b : S) (deeds : Deeds)
+  pub moves-by : (phase : Phase) (session now : ℕ) (old new : Scene) (a b : S) (deeds : Deeds)
       → TurnBy phase session now old new deeds → UsesStream remaining contents phase a b deeds
       → Moves a b deeds.read deeds.written
   moves-by Over session now old new a b deeds t u =

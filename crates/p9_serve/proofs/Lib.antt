@@ -3,4 +3,6 @@ mod Sends
 mod Holds
 mod Accepting
 mod Rounds
+mod Reports
+mod Visits
 mod Whole

@@ -1,5 +1,5 @@
 -- The laws of a server's life.
-use Rattle.std.specs.Prelude.{◌≡◌, ℕ, ◌<◌, ◌^◌, List, [], ◌∷◌, ◌++◌, Option, Some, Ok}
+use Rattle.std.specs.Prelude.{◌≡◌, ℕ, ◌<◌, ◌^◌, List, [], ◌∷◌, ◌++◌, Option, Some, Ok, map}
 use Rattle.std.specs.List.{AllByRecursion, concat}
 use Rattle.p9_base.specs.declared.node_ref.NodeRef.{NodeRef}
 use Rattle.p9_step.specs.State.{State}
@@ -14,9 +14,11 @@ use Rattle.p9_clients.specs.Serving.{IsFinished, Serving, slot_at}
 use Rattle.p9_serve.specs.Life.{Arrives, ArrivesAt, HasRounds, Moment, Pass, answered_at, history}
 use Rattle.p9_serve.specs.Life.{stay}
 use Rattle.p9_serve.specs.Life.{written_at}
+use Rattle.p9_serve.specs.Coming.{GivesOut, Newcomer, streams_of, taken_in}
 use Rattle.p9_serve.specs.Rounds.{Running, new_server, untold}
-use Rattle.p9_serve.specs.Run.{ClientSocket, Ends, Known}
-use Rattle.p9_serve.specs.Served.{WasServed}
+use Rattle.p9_serve.specs.Run.{ClientSocket, Ends, IsServedTo, Known}
+use Rattle.p9_serve.specs.Served.{WasServed, WasServedTo}
+use Rattle.p9_serve.specs.Visits.{IsAnswered, Visit, visits_in}
 
 -- the state and all replies are those of the run of the openings, messages and closings, in their
 -- order; nothing inside a hidden directory has changed, and no byte that any client was answered
@@ -63,16 +65,50 @@ module _ (S : Type 0) where
       × HasLived remaining contents (record { guard = guard; slots = [] }) end
 
   -- the life of a guard that was served, from a new server over it to the guard that is left
-  pub record HasServedLife (guard left : Guarded) : Type 0 where
+  pub record HasServedLife (remaining contents : S → Option (List ℕ)) (guard left : Guarded)
+      : Type 0 where
     pub end : Serving S
     pub left_is : left ≡ end.guard
-    pub lived : HasLived untold untold (record { guard = guard; slots = [] }) end
+    pub lived : HasLived remaining contents (record { guard = guard; slots = [] }) end
 
   -- a guard that was served has such a life
   abbrev pub EveryServedGuardIsPromised : Type 0
   EveryServedGuardIsPromised =
-      (guard left : Guarded) (rounds : ℕ) (before after : Option (List ℕ))
-      → WasServed S guard rounds before after left → HasServedLife guard left
+      (remaining contents : S → Option (List ℕ)) (guard left : Guarded) (rounds : ℕ)
+      (before after : Option (List ℕ))
+      → WasServed remaining contents guard rounds before after left
+      → HasServedLife remaining contents guard left
+
+  -- in any moments, each client that arrives is answered
+  abbrev pub EachVisitIsAnswered : Type 0
+  EachVisitIsAnswered =
+      (remaining contents : S → Option (List ℕ)) (moments : List Moment) (old new : Serving S)
+      (passed : Pass remaining contents moments old new)
+      → AllByRecursion (IsAnswered remaining contents)
+      (visits_in remaining contents moments old new passed)
+
+  -- the life of a guard that was served to clients, who are the first ones of those that were to
+  -- come to its listener: each of them was dropped, or its visit is in that life, in their order,
+  -- and it was answered
+  pub record HasAnswered (remaining contents : S → Option (List ℕ)) (coming : Option (List S))
+      (guard left : Guarded) : Type 0 where
+    pub life : HasServedLife remaining contents guard left
+    pub newcomers : List (Newcomer S)
+    pub still : Option (List S)
+    pub given : GivesOut coming still (streams_of newcomers)
+    pub visits : List (Visit S)
+    pub visits_are : visits ≡ visits_in remaining contents life.lived.moments
+        (record { guard = guard; slots = [] }) life.end life.lived.passed
+    pub entered : map (λ visit. visit.stream) visits ≡ taken_in newcomers
+    pub answered : AllByRecursion (IsAnswered remaining contents) visits
+
+  -- so has each guard that was served to them
+  abbrev pub EachClientGetsItsReplies : Type 0
+  EachClientGetsItsReplies =
+      (remaining contents : S → Option (List ℕ)) (coming : Option (List S)) (guard left : Guarded)
+      (rounds : ℕ) (before after : Option (List ℕ))
+      → WasServedTo remaining contents coming guard rounds before after left
+      → HasAnswered remaining contents coming guard left
 
   -- what a client that arrives at a key is sent is its own replies, until the key is given to
   -- another, also where another had it before
@@ -97,10 +133,27 @@ pub record IsPromisedOffer (offered : Offered) : Type 0 where
   pub offer : Offer
   pub offer_is : offered ≡ Ok offer
   pub left : Guarded
-  pub life : HasServedLife ClientSocket offer.guard left
+  pub life : HasServedLife ClientSocket untold untold offer.guard left
 
 -- where serving an input ends with status 0, the input offers a guard, whose life was promised
 abbrev pub EveryServingIsPromised : Type 0
 EveryServingIsPromised =
     (offered : Offered) (rounds : ℕ) (w : Known) → Ends offered rounds w 0
     → IsPromisedOffer offered
+
+module _ (S : Type 0) where
+  -- what an input offers has the life of a guard that was served to clients, each of which was
+  -- answered
+  pub record IsAnsweredOffer (remaining contents : S → Option (List ℕ)) (coming : Option (List S))
+      (offered : Offered) (left : Guarded) : Type 0 where
+    pub offer : Offer
+    pub offer_is : offered ≡ Ok offer
+    pub answered : HasAnswered S remaining contents coming offer.guard left
+
+  -- from the bytes of an input to those of each client
+  abbrev pub InputsBecomeReplies : Type 0
+  InputsBecomeReplies =
+      (remaining contents : S → Option (List ℕ)) (coming : Option (List S)) (offered : Offered)
+      (rounds : ℕ) (w : Known) (left : Guarded)
+      → IsServedTo remaining contents coming offered rounds w left
+      → IsAnsweredOffer remaining contents coming offered left

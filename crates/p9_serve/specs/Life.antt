@@ -7,7 +7,7 @@ use Rattle.p9_conn.specs.History.{Happening}
 use Rattle.p9_conn.specs.Turn.{Answered, closing}
 use Rattle.p9_conn.specs.declared.conn.Turn.{Turn}
 use Rattle.p9_clients.specs.Serving.{HasEndedAt, HasTurnAt, IsTakenIn, Serving, slot_at}
-use Rattle.p9_serve.specs.Rounds.{HasRound, Running}
+use Rattle.p9_serve.specs.Rounds.{HasRound, Running, entered_in}
 use Rattle.p9_serve.specs.declared.server.Round.{Round}
 
 -- a client arrives and gets a key, a connection has a turn and does what it does, or a connection
@@ -40,13 +40,20 @@ stay key (Arrives other ∷ moments) =
 stay key (Acts h ∷ moments) = Acts h ∷ stay key moments
 stay key (Leaves other clock ∷ moments) = Leaves other clock ∷ stay key moments
 
--- what the turns at a key answered, and what they wrote
+-- what the turns at a key answered, what they read, and what they wrote
 abbrev pub answered_at : (key : ℕ) → List Moment → List Answered
 answered_at key [] = []
 answered_at key (Arrives other ∷ moments) = answered_at key moments
 answered_at key (Acts h ∷ moments) =
     (if h.session == key then h.deeds.answered else []) ++ answered_at key moments
 answered_at key (Leaves other clock ∷ moments) = answered_at key moments
+
+abbrev pub read_at : (key : ℕ) → List Moment → List ℕ
+read_at key [] = []
+read_at key (Arrives other ∷ moments) = read_at key moments
+read_at key (Acts h ∷ moments) =
+    (if h.session == key then h.deeds.read else []) ++ read_at key moments
+read_at key (Leaves other clock ∷ moments) = read_at key moments
 
 abbrev pub written_at : (key : ℕ) → List Moment → List ℕ
 written_at key [] = []
@@ -94,3 +101,9 @@ module _ {S : Type 0} (remaining contents : S → Option (List ℕ)) where
   HasRounds (clock ∷ nows) old new =
       (between : Running S) × (round : Round)
       × HasRound remaining contents clock old between round × HasRounds nows between new
+
+  -- the streams of the clients that were taken in in rounds, one after another
+  abbrev pub entered_all : (nows : List ℕ) (old new : Running S) → HasRounds nows old new → List S
+  entered_all [] old new had = []
+  entered_all (clock ∷ nows) old new had =
+      entered_in remaining contents clock old had.0 had.1 had.2 ++ entered_all nows had.0 new had.3

@@ -10,7 +10,8 @@ use Rattle.std.specs.declared.alloc.Global.{Global}
 use Rattle.mio.specs.declared.net.stream.TcpStream.{TcpStream}
 use Rattle.p9_guard.specs.Guard.{Guarded}
 use Rattle.p9_commands.specs.Offer.{Offered, Serves}
-use Rattle.p9_serve.specs.Served.{WasServed}
+use Rattle.p9_serve.specs.Rounds.{untold}
+use Rattle.p9_serve.specs.Served.{WasServed, WasServedTo}
 use Rattle.p9_serve.specs.declared.socket.Socket.{Socket}
 
 -- what the clock reads so many nanoseconds after 1970 began: whole seconds, modulo 2^32
@@ -20,6 +21,13 @@ reading nanoseconds = nanoseconds / 1_000_000_000 % 2 ^ 32
 -- the line with the address that is served
 abbrev pub listening : SocketAddr → List ℕ
 listening address = codes "listening " ++ socket_text address ++ codes "\n"
+
+-- what is reported of an input, and the guard that it offers, if it offers one
+pub record IsOffer (offered : Offered) (before after : Option (List ℕ)) (guard : Option Guarded)
+    : Type 0 where
+  pub reports : List ℕ
+  pub serves : Serves offered [] reports guard
+  pub errors : Appends before after reports
 
 -- the bytes of the two writers and the readings of the clock, before and after, where they are
 -- known
@@ -44,7 +52,7 @@ pub record IsServed (offered : Offered) (rounds : ℕ) (w : Known) (left : Guard
   pub address : SocketAddr
   pub errors : Appends w.err_before w.err reports
   pub output : Appends w.out_before w.out (listening address)
-  pub served : WasServed ClientSocket guard rounds w.clock_before w.clock left
+  pub served : WasServed {S = ClientSocket} untold untold guard rounds w.clock_before w.clock left
 
 -- there is a reason against that, and it is reported
 pub record IsRefused (offered : Offered) (w : Known) : Type 0 where
@@ -73,6 +81,12 @@ abbrev pub AreReports : Offered → List ℕ → Type 0
 AreReports offered reports =
     (reports ≡ []) ⊎ ((guard : Option Guarded) × Serves offered [] reports guard)
 
+-- no more was reported than a front of that
+pub record IsCutShort (offered : Offered) (before after : Option (List ℕ)) : Type 0 where
+  pub reports : List ℕ
+  pub are_reports : AreReports offered reports
+  pub errors : AppendsFront before after reports
+
 -- serving broke off: there is a front of the reports, and a front of the line with an address
 pub record BreaksOff (offered : Offered) (w : Known) : Type 0 where
   pub reports : List ℕ
@@ -80,6 +94,22 @@ pub record BreaksOff (offered : Offered) (w : Known) : Type 0 where
   pub address : SocketAddr
   pub errors : AppendsFront w.err_before w.err reports
   pub output : AppendsFront w.out_before w.out (listening address)
+
+-- To clients that come to any listener, over streams whose bytes may be known.
+module _ {S : Type 0} (remaining contents : S → Option (List ℕ)) where
+  -- the guard of what the input offers was served to those of these clients that came, for so many
+  -- rounds, and this guard is left; what failed in the namespace file is reported
+  pub record IsServedTo (coming : Option (List S)) (offered : Offered) (rounds : ℕ) (w : Known)
+      (left : Guarded) : Type 0 where
+    pub guard : Guarded
+    pub offer : IsOffer offered w.err_before w.err (Some guard)
+    pub served : WasServedTo remaining contents coming guard rounds w.clock_before w.clock left
+
+  -- the guard that was served is given back as it is left, or none where there is nothing to serve
+  abbrev pub GivesBackTo : Option (List S) → Offered → (rounds : ℕ) → Known → Option Guarded
+      → Type 0
+  GivesBackTo coming offered rounds w (Some left) = IsServedTo coming offered rounds w left
+  GivesBackTo coming offered rounds w None = IsOffer offered w.err_before w.err None
 
 -- the exit status of a failure: an allocation failed, or the system
 abbrev pub failure_status : ErrorKind → ℕ

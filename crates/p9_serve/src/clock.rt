@@ -10,7 +10,7 @@ use std::time::{Duration, SystemTime, UNIX_EPOCH};
 use std::{io, thread};
 
 /// A clock that is read once a round.
-pub(crate) trait Timer {
+pub trait Timer {
     /// The readings that it has given, where they are known.
     ghost readings: { Self → Option (List ℕ) };
 

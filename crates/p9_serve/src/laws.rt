@@ -1,9 +1,10 @@
 //! The laws of a server's life, and those of lists of turns. Each function does nothing: its clauses
 //! are the laws.
 
-ghost use Rattle.p9_serve.specs.Laws.{ClientsAreSentTheirReplies, EveryLifeIsPromised};
+ghost use Rattle.p9_serve.specs.Laws.{ClientsAreSentTheirReplies, EachClientGetsItsReplies};
+ghost use Rattle.p9_serve.specs.Laws.{EachVisitIsAnswered, EveryLifeIsPromised};
 ghost use Rattle.p9_serve.specs.Laws.{EveryServedGuardIsPromised, EveryServingIsPromised};
-ghost use Rattle.p9_serve.specs.Laws.{StreamsHoldTheReplies};
+ghost use Rattle.p9_serve.specs.Laws.{InputsBecomeReplies, StreamsHoldTheReplies};
 
 pub use p9_conn::laws::{
     a_history_is_a_run, a_history_is_promised, bytes_become_replies, frames_come_in_order,
@@ -45,4 +46,25 @@ pub fn clients_are_sent_their_replies<S>()
 /// another had the key before.
 pub fn streams_hold_the_replies<S>()
     ensures { StreamsHoldTheReplies S }
+{}
+
+/// From the bytes that a client sent to those that it got, in any moments, also where another client
+/// had its key before: what was read is what its stream gave; its frames are the first ones of those
+/// bytes; its stream holds what it held when it came, and then the replies to these frames, up to
+/// what is pending.
+pub fn each_visit_is_answered<S>()
+    ensures { EachVisitIsAnswered S }
+{}
+
+/// So of a guard that was served to those who come to a listener: they were given out in the order
+/// in which they were to come, each was dropped or taken in, and who was taken in was answered so,
+/// in the life of which [`every_life_is_promised`] speaks.
+pub fn each_client_gets_its_replies<S>()
+    ensures { EachClientGetsItsReplies S }
+{}
+
+/// The same from the bytes of an input on: the guard is the one that it offers. Where
+/// [`serve_clients`](crate::serve_clients) returns a guard, this is so.
+pub fn inputs_become_replies<S>()
+    ensures { InputsBecomeReplies S }
 {}

@@ -3,12 +3,14 @@
 ghost use Rattle.std.specs.Prelude.{IfOk, None, OnErr, OnOk};
 ghost use Rattle.std.specs.Io.KnownBytes.{Appends};
 ghost use Rattle.p9_commands.specs.Offer.{offer_of};
+ghost use Rattle.p9_serve.specs.Rounds.{untold};
 ghost use Rattle.p9_serve.specs.Run.{AppendsFront, BreaksOff, ClientSocket, Ends, GivesBack};
-ghost use Rattle.p9_serve.specs.Run.{listening};
-ghost use Rattle.p9_serve.specs.Served.{HadFewer, HadRounds, WasServed};
+ghost use Rattle.p9_serve.specs.Run.{GivesBackTo, IsCutShort, IsOffer, listening};
+ghost use Rattle.p9_serve.specs.Served.{HadFewer, HadHostedRounds, WasServed, WasServedTo};
 
 use crate::clock::{MachineTimer, Timer};
 use crate::failure::{report_failure, write_text};
+use crate::listener::{Listener, Sockets};
 use crate::server::Server;
 use mio::net::TcpListener;
 use p9_base::NoMemory;
@@ -16,7 +18,8 @@ use p9_commands::served_guard;
 use p9_commands::status::{DONE, REFUSED};
 use p9_guard::Guard;
 use p9_index::IndexTree;
-use std::alloc::{AllocError, Global};
+use p9_tree::Tree;
+use std::alloc::{AllocError, Allocator, Global};
 use std::io;
 use std::io::Write;
 use std::net::{Net, SocketAddr};
@@ -67,6 +70,43 @@ pub fn run_serve<R: Net + Clock + AllocGlobal, W: Write, E: Write>(
     }
 }
 
+/// Serves an input to the clients that come to a listener for a number of rounds, and returns the
+/// guard as it is left, or nothing where the input offers none.
+///
+/// What the input offers is that of [`served_guard`], and so is what is reported on `err`. The rounds
+/// are those of [`run_serve`], each at a reading of `timer`. After the last one all sessions are
+/// closed, at its time. Where an allocation fails, or a reading, or a write to `err`, that is
+/// returned, and no more of the reports than a front was written.
+///
+/// Over a listener that tells who is to come, and streams that tell their bytes, the contract goes
+/// from the bytes of the input to those of each client:
+/// [`inputs_become_replies`](crate::laws::inputs_become_replies) says how.
+pub fn serve_clients<A: Allocator + Copy, L: Listener, C: Timer, E: Write>(
+    alloc: A,
+    timer: &mut C,
+    listener: L,
+    rounds: u64,
+    input: &[u8],
+    err: &mut E,
+) -> io::Result<Option<Guard<IndexTree<A>>>>
+    ensures ok { IfOk result (GivesBackTo L.Stream.remaining L.Stream.contents (L.coming listener)
+        (offer_of input.now) rounds (record {
+          out_before = None;
+          out = None;
+          err_before = E.contents err.old;
+          err = E.contents err.new;
+          clock_before = C.readings timer.old;
+          clock = C.readings timer.new;
+        })) }
+    ensures err { OnErr result (IsCutShort (offer_of input.now) (E.contents err.old)
+        (E.contents err.new)) }
+{
+    match offered(alloc, input, err)? {
+        Some(guard) => Ok(Some(serve_guard(alloc, timer, listener, rounds, guard)?)),
+        None => Ok(None),
+    }
+}
+
 // Serves an input at an address for a number of rounds, up to a failure, which is not reported here.
 // Returns the guard as it is left, or nothing where there is nothing to serve.
 fn served<R: Net + AllocGlobal, T: Timer, W: Write, E: Write>(
@@ -95,16 +135,30 @@ fn served<R: Net + AllocGlobal, T: Timer, W: Write, E: Write>(
       clock = T.readings timer.new;
     })) }
 {
-    let mut reported = Vec::new(rt.alloc());
+    match offered(rt.alloc(), input, err)? {
+        Some(guard) => Ok(Some(serve(rt, timer, address, rounds, guard, out)?)),
+        None => Ok(None),
+    }
+}
+
+// The guard that an input offers, if it offers one. What is reported of the input is written.
+fn offered<A: Allocator + Copy, E: Write>(
+    alloc: A,
+    input: &[u8],
+    err: &mut E,
+) -> io::Result<Option<Guard<IndexTree<A>>>>
+    ensures ok { IfOk result (IsOffer (offer_of input.now) (E.contents err.old)
+        (E.contents err.new)) }
+    ensures err { OnErr result (IsCutShort (offer_of input.now) (E.contents err.old)
+        (E.contents err.new)) }
+{
+    let mut reported = Vec::new(alloc);
     let guard = match served_guard(input, &mut reported) {
         Ok(guard) => guard,
         Err(NoMemory) => return Err(io::Error::from(AllocError)),
     };
     write_text(err, reported.as_slice())?;
-    match guard {
-        Some(guard) => Ok(Some(serve(rt, timer, address, rounds, guard, out)?)),
-        None => Ok(None),
-    }
+    Ok(guard)
 }
 
 // Serves a guard: makes the listener, prints its address, runs the rounds, and closes all sessions
@@ -121,14 +175,29 @@ fn serve<R: Net + AllocGlobal, T: Timer, W: Write>(
         × Appends (W.contents out.old) (W.contents out.new) (listening bound)) }
     ensures front { (bound : _)
         × AppendsFront (W.contents out.old) (W.contents out.new) (listening bound) }
-    ensures served { IfOk result (WasServed ClientSocket guard rounds (T.readings timer.old)
-        (T.readings timer.new)) }
+    ensures served { IfOk result (WasServed {S = ClientSocket} untold untold guard rounds
+        (T.readings timer.old) (T.readings timer.new)) }
+{
+    let listener = Sockets::new(rt.alloc(), TcpListener::bind(rt, address)?);
+    print_address(rt, listener.local_addr()?, out)?;
+    free_block(rt.alloc());
+    serve_guard(rt.alloc(), timer, listener, rounds, guard)
+}
+
+// Serves a guard to the clients that come to a listener: runs the rounds, and closes all sessions
+// at the last reading of the clock. Returns the guard as it is left.
+fn serve_guard<L: Listener, T: Tree, C: Timer>(
+    alloc: T::Alloc,
+    timer: &mut C,
+    listener: L,
+    rounds: u64,
+    guard: Guard<T>,
+) -> io::Result<Guard<T>>
+    ensures { IfOk result (WasServedTo L.Stream.remaining L.Stream.contents (L.coming listener)
+        guard rounds (C.readings timer.old) (C.readings timer.new)) }
 {
     guard.well_formed();
-    let listener = TcpListener::bind(rt, address)?;
-    let mut server = Server::new(rt.alloc(), listener, guard);
-    print_address(rt, server.local_addr()?, out)?;
-    free_block(rt.alloc());
+    let mut server = Server::new(alloc, listener, guard);
     let last = run_rounds(timer, &mut server, rounds)?;
     Ok(server.finish(last))
 }
@@ -155,15 +224,15 @@ fn print_address<R: AllocGlobal, W: Write>(
 
 // Runs the rounds, each at a reading of the clock, with the rests between them. Returns the last
 // reading, or 0 where there is no round. A clock that fails ends the rounds.
-fn run_rounds<T: Timer>(
-    timer: &mut T,
-    server: &mut Server<IndexTree<Global>>,
+fn run_rounds<L: Listener, T: Tree, C: Timer>(
+    timer: &mut C,
+    server: &mut Server<L, T>,
     rounds: u64,
 ) -> io::Result<u32>
-    ensures ok { IfOk result (λ last. HadRounds ClientSocket rounds last (T.readings timer.old)
-        (T.readings timer.new) server.old server.new) }
-    ensures err { OnErr result (HadFewer ClientSocket rounds (T.readings timer.old)
-        (T.readings timer.new) server.old server.new) }
+    ensures ok { IfOk result (λ last. HadHostedRounds L.Stream.remaining L.Stream.contents rounds
+        last (C.readings timer.old) (C.readings timer.new) server.old server.new) }
+    ensures err { OnErr result (HadFewer L.Stream.remaining L.Stream.contents rounds
+        (C.readings timer.old) (C.readings timer.new) server.old server.new) }
 {
     let mut last = 0;
     for _ in 0..rounds {

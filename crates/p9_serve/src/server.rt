@@ -4,14 +4,14 @@ ghost use Rattle.std.specs.Prelude.{◌≡◌, ◌*◌, []};
 ghost use Rattle.std.specs.Duration.{as_nanos};
 ghost use Rattle.p9_clients.specs.Serving.{AreKeyed, IsFinished};
 ghost use Rattle.p9_serve.specs.Pace.{rest_of};
-ghost use Rattle.p9_serve.specs.Rounds.{AcceptsIf, HasRound, accepts_now, new_server, untold};
+ghost use Rattle.p9_serve.specs.Rounds.{Admits, HasHostedRound, accepts_now, new_server};
 
+use crate::listener::{Listener, Sockets};
 use crate::pace::Pace;
-use crate::socket::Socket;
-use mio::net::{TcpListener, TcpStream};
 use p9_clients::Clients;
 use p9_guard::Guard;
 use p9_tree::Tree;
+use std::alloc::Allocator;
 use std::io;
 use std::marker::Model;
 use std::net::SocketAddr;
@@ -32,27 +32,35 @@ pub struct Round {
 /// do, a round does nothing, and [`Server::rest`] says how long its caller may rest before the next
 /// one.
 #[derive(Drop)]
-pub struct Server<T: Tree> {
-    listener: TcpListener,
-    clients: Clients<Socket<TcpStream, T::Alloc>, T>,
+pub struct Server<L: Listener, T: Tree> {
+    listener: L,
+    clients: Clients<L::Stream, T>,
     pace: Pace,
 }
 
-impl<T: Tree> Model for Server<T> {
-    ghost use Rattle.p9_serve.specs.Rounds.{Running};
-    ghost use Rattle.mio.specs.declared.net.stream.TcpStream.{TcpStream};
-    ghost use Rattle.p9_serve.specs.declared.socket.Socket.{Socket};
+impl<L: Listener, T: Tree> Model for Server<L, T> {
+    ghost use Rattle.p9_serve.specs.Rounds.{Hosting};
 
-    ghost Value = { Running (Socket TcpStream T.Alloc) };
+    ghost Value = { Hosting L.Stream };
 
-    ghost view = { λ s. record { serving = s.clients; pace = s.pace } };
+    ghost view = { λ s. record {
+      running = record { serving = s.clients; pace = s.pace };
+      coming = L.coming s.listener;
+    } };
 }
 
-impl<T: Tree> Server<T> {
-    /// A server of a guard to the clients that come to a listener, which is one that doesn't block.
-    /// This takes no memory.
-    pub fn new(alloc: T::Alloc, listener: TcpListener, guard: Guard<T>) -> Server<T>
-        ensures { result ≡ new_server (record { guard = guard; slots = [] }) }
+impl<A: Allocator + Copy, T: Tree> Server<Sockets<A>, T> {
+    /// The address of the listener.
+    pub fn local_addr(&self) -> io::Result<SocketAddr> {
+        self.listener.local_addr()
+    }
+}
+
+impl<L: Listener, T: Tree> Server<L, T> {
+    /// A server of a guard to the clients that come to a listener. This takes no memory.
+    pub fn new(alloc: T::Alloc, listener: L, guard: Guard<T>) -> Server<L, T>
+        ensures running { result.running ≡ new_server (record { guard = guard; slots = [] }) }
+        ensures coming { result.coming ≡ L.coming listener }
     {
         Server {
             listener,
@@ -61,15 +69,11 @@ impl<T: Tree> Server<T> {
         }
     }
 
-    /// The address of the listener.
-    pub fn local_addr(&self) -> io::Result<SocketAddr> {
-        self.listener.local_addr()
-    }
-
     /// What is kept of each server: each connection's session is that of its key, and open. This
     /// does nothing when it runs; it is for a caller that has to know so.
     pub fn well_formed(&self)
-        ensures { AreKeyed self.now.serving.slots self.now.serving.guard.state.sessions }
+        ensures { AreKeyed self.now.running.serving.slots
+            self.now.running.serving.guard.state.sessions }
     {
         self.clients.well_formed();
     }
@@ -78,7 +82,7 @@ impl<T: Tree> Server<T> {
     /// was taken in, moved or closed, as [`Pace`] has it. A request that comes meanwhile is read
     /// when the rest is over.
     pub fn rest(&self) -> Duration
-        ensures { as_nanos result ≡ rest_of self.now.pace.quiet * 1_000 }
+        ensures { as_nanos result ≡ rest_of self.now.running.pace.quiet * 1_000 }
     {
         self.pace.rest()
     }
@@ -92,7 +96,8 @@ impl<T: Tree> Server<T> {
     /// A client is dropped, and not counted, where [`Clients::take_in`] drops it. An accept that
     /// fails takes in nobody, as one does that finds nobody waiting.
     pub fn round(&mut self, clock: u32) -> Round
-        ensures { HasRound untold untold clock self.old self.new result }
+        ensures { HasHostedRound L.Stream.remaining L.Stream.contents clock self.old self.new
+            result }
     {
         let accepted = self.accept();
         let tally = self.clients.turns(clock);
@@ -111,7 +116,7 @@ impl<T: Tree> Server<T> {
     /// The fids of a session end by rising number. A file that one of them has open with
     /// remove-on-close is removed, and its directory is marked at `clock`, as clunk(5).
     pub fn finish(self, clock: u32) -> Guard<T>
-        ensures { IsFinished clock self.serving result }
+        ensures { IsFinished clock self.running.serving result }
     {
         let Server {
             listener: _,
@@ -123,14 +128,14 @@ impl<T: Tree> Server<T> {
 
     // Takes in a client that waits, if the next round accepts; returns how many.
     fn accept(&mut self) -> u64
-        ensures accepted { AcceptsIf (accepts_now self.old) self.old.serving self.new.serving
-            result }
-        ensures same { self.new.pace ≡ self.old.pace }
+        ensures admitted { Admits (accepts_now self.old.running) self.old.running.serving
+            self.new.running.serving self.old.coming self.new.coming result }
+        ensures same { self.new.running.pace ≡ self.old.running.pace }
     {
         if !self.accepts() {
             return 0;
         }
-        match self.waiting() {
+        match self.listener.accept() {
             Some(stream) => u64::from(self.clients.take_in(stream)),
             None => 0,
         }
@@ -138,16 +143,8 @@ impl<T: Tree> Server<T> {
 
     // Whether the next round accepts.
     fn accepts(&self) -> bool
-        ensures { result ≡ accepts_now self.now }
+        ensures { result ≡ accepts_now self.now.running }
     {
         self.pace.is_due() || self.clients.is_empty()
-    }
-
-    // The socket of a client that waits, if there is one, and neither the accept nor an allocation
-    // fails. It sets TCP_NODELAY, where the system grants it.
-    fn waiting(&self) -> Option<Socket<TcpStream, T::Alloc>> {
-        let (stream, _) = self.listener.accept().ok()?;
-        let _ = stream.set_nodelay(true);
-        Socket::new(self.clients.allocator(), stream).ok()
     }
 }

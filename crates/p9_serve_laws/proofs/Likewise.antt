@@ -411,7 +411,8 @@ last-small before [] small all = small
 last-small before (first ∷ readings) small all = last-small first readings all.0 all.1
 
 pub alike-guards-may-be-served-the-same : {S : Type 0} → AlikeGuardsMayBeServedTheSame S
-alike-guards-may-be-served-the-same {S} guard left other rounds before after alike served =
+alike-guards-may-be-served-the-same {S} remaining contents guard left other rounds before after
+    alike served =
     let had = served.had in
     let guard' = in_state guard other in
     let old : Serving S = record { guard = guard; slots = [] } in
@@ -426,7 +427,7 @@ alike-guards-may-be-served-the-same {S} guard left other rounds before after ali
     let small : served.last < 2 ^ 32 =
     subst (λ (n : ℕ). n < 2 ^ 32) (sym had.last_is)
     (last-small 0 had.readings (omega arith) had.small) in
-    let rounds' = rounds-too {S = S} untold untold had.readings (new_server old) served.running
+    let rounds' = rounds-too remaining contents had.readings (new_server old) served.running
     (new_server old') twins had.happened in
     let end = twins-may-end-the-same {S = S} served.last served.running.serving rounds'.0.serving
     left rounds'.3.serving small served.finished in (

@@ -22,6 +22,7 @@ use Rattle.p9_commands.specs.Report.{reports_text}
 use Rattle.p9_commands.specs.declared.prepared.Needs.TheVariants.{Certificate}
 use Rattle.p9_commands.specs.declared.refusal.Refusal.TheVariants.{NoCertificate, Unverified}
 use Rattle.p9_input_laws.specs.Laws.{PreparedInputsAreWellFormed}
+use Rattle.p9_serve.specs.Rounds.{untold}
 use Rattle.p9_serve.specs.Run.{ClientSocket}
 use Rattle.p9_serve_laws.specs.Inputs.{AlikeInputsAreServedTheSame, AlikeInputsMayBeServedTheSame}
 use Rattle.p9_serve_laws.specs.Inputs.{ArePreparedToServe}
@@ -157,8 +158,8 @@ alike-inputs-are-served-the-same well choose input other a b rounds w w' left le
     let first = served-first well input other a b both served.reports served.guard served.serves in
     let second = served-second well input other a b both served'.reports served'.guard
     served'.serves in
-    choosers-are-served-the-same {S = ClientSocket} {T = ClientSocket} choose served.guard
-    served'.guard left left' rounds w.clock_before w.clock w'.clock_before w'.clock
+    choosers-are-served-the-same {S = ClientSocket} {T = ClientSocket} choose untold untold untold
+    untold served.guard served'.guard left left' rounds w.clock_before w.clock w'.clock_before w'.clock
     (alike-offered well input other a b both served.reports served'.reports served.guard
     served'.guard first second) served.served served'.served chosen chosen'
 
@@ -167,7 +168,7 @@ pub alike-inputs-may-be-served-the-same : PreparedInputsAreWellFormed
 alike-inputs-may-be-served-the-same well input other a b rounds w left both same served =
     let first = served-first well input other a b both served.reports served.guard served.serves in
     let second = offered-second well input other a b both served.reports served.guard same first in
-    let too = alike-guards-may-be-served-the-same {S = ClientSocket} served.guard left
+    let too = alike-guards-may-be-served-the-same {S = ClientSocket} untold untold served.guard left
     (exported b.space) rounds w.clock_before w.clock
     (subst (λ (g : Guarded). AreAlike g.hidden g.state (exported b.space)) (sym first.guard_is)
     (alike well input other a b both)) served.served in (

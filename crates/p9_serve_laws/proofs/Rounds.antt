@@ -335,7 +335,8 @@ clocks-in remaining contents (clock ∷ clocks) old new t =
     ap (λ (more : List ℕ). clock ∷ more) (clocks-in remaining contents clocks t.0 new t.3)
 
 pub choosers-are-served-the-same : {S T : Type 0} → ChoosersAreServedTheSame S T
-choosers-are-served-the-same {S} {T} choose guard guard' left left' rounds before after before'
+choosers-are-served-the-same {S} {T} choose remaining contents remaining' contents' guard guard'
+    left left' rounds before after before'
     after' alike served served' chosen chosen' =
     let old : Serving S = record { guard = guard; slots = [] } in
     let old' : Serving T = record { guard = guard'; slots = [] } in
@@ -348,14 +349,14 @@ choosers-are-served-the-same {S} {T} choose guard guard' left left' rounds befor
     } in
     let had = served.had in
     let had' = served'.had in
-    let same = rounds-chosen {S = S} {T = T} untold untold untold untold choose [] had.readings
+    let same = rounds-chosen remaining contents remaining' contents' choose [] had.readings
     had'.readings (new_server old) served.running (new_server old') served'.running beside
     had.happened had'.happened chosen chosen' (had'.count ∙ sym had.count) in
     let readings : had'.readings ≡ had.readings =
-    sym (clocks-in {S = T} untold untold had'.readings (new_server old') served'.running
+    sym (clocks-in remaining' contents' had'.readings (new_server old') served'.running
     had'.happened)
     ∙ ap (map (λ (a : Account). a.beginning.clock)) same.0
-    ∙ clocks-in {S = S} untold untold had.readings (new_server old) served.running had.happened in
+    ∙ clocks-in remaining contents had.readings (new_server old) served.running had.happened in
     let last : served'.last ≡ served.last =
     had'.last_is ∙ ap (last_after 0) readings ∙ sym had.last_is in
     let small : served.last < 2 ^ 32 =

@@ -10,7 +10,6 @@ use Rattle.p9_clients.specs.Serving.{HasTurns, Serving, TurnAt, Turned, slot_at}
 use Rattle.p9_clients.specs.declared.clients.Tally.{Tally}
 use Rattle.p9_serve.specs.Life.{HasRounds}
 use Rattle.p9_serve.specs.Rounds.{AcceptsIf, HasRound, Running, accepts_now, new_server, tally_of}
-use Rattle.p9_serve.specs.Rounds.{untold}
 use Rattle.p9_serve.specs.Served.{WasServed}
 use Rattle.p9_serve.specs.declared.server.Round.{Round}
 
@@ -85,8 +84,9 @@ module _ {S : Type 0} (remaining contents : S → Option (List ℕ)) where
       account_of clock old had.0 had.1 had.2 ∷ accounts_of clocks had.0 new had.3
 
 -- of all rounds in which a guard was served
-abbrev pub accounts_served : {S : Type 0} → (guard left : Guarded) (rounds : ℕ)
-    (before after : Option (List ℕ)) → WasServed S guard rounds before after left → List Account
-accounts_served guard left rounds before after served =
-    accounts_of untold untold served.had.readings
+abbrev pub accounts_served : {S : Type 0} → (remaining contents : S → Option (List ℕ))
+    (guard left : Guarded) (rounds : ℕ) (before after : Option (List ℕ))
+    → WasServed remaining contents guard rounds before after left → List Account
+accounts_served remaining contents guard left rounds before after served =
+    accounts_of remaining contents served.had.readings
     (new_server (record { guard = guard; slots = [] })) served.running served.had.happened

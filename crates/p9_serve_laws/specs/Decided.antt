@@ -137,13 +137,17 @@ module _ (S T : Type 0) where
   -- alike guards are left
   abbrev pub ChoosersAreServedTheSame : Type 0
   ChoosersAreServedTheSame =
-      (choose : RoundChooser) (guard guard' left left' : Guarded) (rounds : ℕ)
+      (choose : RoundChooser)
+      (remaining contents : S → Option (List ℕ)) (remaining' contents' : T → Option (List ℕ))
+      (guard guard' left left' : Guarded) (rounds : ℕ)
       (before after before' after' : Option (List ℕ))
       → AreAlike guard.hidden guard.state guard'.state
-      → (served : WasServed S guard rounds before after left)
-      (served' : WasServed T guard' rounds before' after' left')
-      → AreRoundsChosen choose [] (accounts_served guard left rounds before after served)
-      → AreRoundsChosen choose [] (accounts_served guard' left' rounds before' after' served')
-      → (accounts_served guard' left' rounds before' after' served'
-      ≡ accounts_served guard left rounds before after served)
+      → (served : WasServed remaining contents guard rounds before after left)
+      (served' : WasServed remaining' contents' guard' rounds before' after' left')
+      → AreRoundsChosen choose []
+      (accounts_served remaining contents guard left rounds before after served)
+      → AreRoundsChosen choose []
+      (accounts_served remaining' contents' guard' left' rounds before' after' served')
+      → (accounts_served remaining' contents' guard' left' rounds before' after' served'
+      ≡ accounts_served remaining contents guard left rounds before after served)
       × AreAlikeGuards left left'

@@ -5,7 +5,8 @@ use Rattle.p9_commands.specs.Offer.{Offered, offer_of}
 use Rattle.p9_commands.specs.Prepared.{Prepared, prepared_of}
 use Rattle.p9_commands.specs.declared.prepared.Needs.TheVariants.{Certificate}
 use Rattle.p9_input_laws.specs.Laws.{AreAlikeInputs}
-use Rattle.p9_serve.specs.Run.{IsServed, Known}
+use Rattle.p9_serve.specs.Rounds.{untold}
+use Rattle.p9_serve.specs.Run.{ClientSocket, IsServed, Known}
 use Rattle.p9_serve_laws.specs.Accounts.{Account, accounts_served}
 use Rattle.p9_serve_laws.specs.Beside.{AreAlikeGuards}
 use Rattle.p9_serve_laws.specs.Decided.{AreRoundsChosen, RoundChooser}
@@ -20,7 +21,8 @@ pub record ArePreparedToServe (input other : List ℕ) (a b : Prepared) : Type 0
 abbrev pub accounts_in : (offered : Offered) (rounds : ℕ) (w : Known) (left : Guarded)
     → IsServed offered rounds w left → List Account
 accounts_in offered rounds w left served =
-    accounts_served served.guard left rounds w.clock_before w.clock served.served
+    accounts_served {S = ClientSocket} untold untold served.guard left rounds w.clock_before w.clock
+    served.served
 
 -- Both inputs were served as many rounds, where one chooser chose what came from outside. Then they
 -- were served the same, and alike guards are left

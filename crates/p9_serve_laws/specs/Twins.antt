@@ -59,10 +59,12 @@ module _ (S : Type 0) where
   -- a guard in a state that is alike may be served the same, and an alike state is left
   abbrev pub AlikeGuardsMayBeServedTheSame : Type 0
   AlikeGuardsMayBeServedTheSame =
-      (guard left : Guarded) (other : State) (rounds : ℕ) (before after : Option (List ℕ))
+      (remaining contents : S → Option (List ℕ)) (guard left : Guarded) (other : State)
+      (rounds : ℕ) (before after : Option (List ℕ))
       → AreAlike guard.hidden guard.state other
-      → (served : WasServed S guard rounds before after left)
-      → (left' : Guarded) × (served' : WasServed S (in_state guard other) rounds before after left')
-      × (accounts_served (in_state guard other) left' rounds before after served'
-      ≡ accounts_served guard left rounds before after served)
+      → (served : WasServed remaining contents guard rounds before after left)
+      → (left' : Guarded)
+      × (served' : WasServed remaining contents (in_state guard other) rounds before after left')
+      × (accounts_served remaining contents (in_state guard other) left' rounds before after served'
+      ≡ accounts_served remaining contents guard left rounds before after served)
       × AreAlikeGuards left left'

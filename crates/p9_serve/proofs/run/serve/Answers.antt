@@ -1,8 +1,8 @@
 use Rattle.std.proofs.KnownBytes.{Appends-nil}
 use Rattle.p9_serve.proofs.run.serve.Goals as goal
 
-pub returns-in_err-listener-clause-front : goal.returns-in_err-listener-clause-front
-returns-in_err-listener-clause-front g c =
+pub returns-in_err-bind-clause-front : goal.returns-in_err-bind-clause-front
+returns-in_err-bind-clause-front g c =
     (c.args.address, (0, Appends-nil (g.W.Write.contents c.args.out.now)))
 
 pub returns-in_err-local_addr-clause-front : goal.returns-in_err-local_addr-clause-front
