@@ -67,34 +67,32 @@ pub fn get(
     local: &str,
     options: GetOptions<'_>,
 ) -> Result<(), Failure> {
-    let entry = stat_of(rt, client, path)?;
-    if entry.is_dir() && !options.is_recursive {
+    let first = first_of(rt, client, path, local)?;
+    let is_dir = first.entry.is_dir();
+    if is_dir && !options.is_recursive {
         return Err(report_about(rt, path, &"is a directory", Failure::Refused));
     }
-    let mut getting = Getting {
-        left: Left::all(options.limits),
-        keeps: options.keeps,
-        masked: if options.keeps { 0 } else { umask(rt) },
-        made: Vec::new(rt.alloc()),
-        owners: Owners::begin(
-            rt,
-            root_of(path, entry.is_dir()),
-            options.owners,
-            options.keeps,
-        )?,
-    };
-    let first = Pending {
-        entry,
-        path: String::from_str(rt.alloc(), path)?,
-        local: String::from_str(rt.alloc(), local)?,
-        depth: 0,
-    };
+    let mut getting = Getting::begin(rt, root_of(path, is_dir), options)?;
     let done = getting.get_all(rt, client, first);
-    let modes = getting.set_modes(rt);
-    let owners = getting.owners.end(rt);
-    done?;
-    modes?;
-    owners
+    getting.end(rt, done)
+}
+
+// The file of a path, which is to be copied.
+fn first_of(
+    rt: &HostRuntime,
+    client: &mut Client,
+    path: &str,
+    local: &str,
+) -> Result<Pending, Failure> {
+    let entry = stat_of(rt, client, path)?;
+    let path = String::from_str(rt.alloc(), path)?;
+    let local = String::from_str(rt.alloc(), local)?;
+    Ok(Pending {
+        entry,
+        path,
+        local,
+        depth: 0,
+    })
 }
 
 // The path of the directory that is copied, or of the one that a file is in.
@@ -133,6 +131,26 @@ fn made_of(dir: Pending) -> Made {
 }
 
 impl Getting {
+    // Nothing was copied yet of the tree of a path.
+    fn begin(rt: &HostRuntime, root: &str, options: GetOptions<'_>) -> Result<Getting, Failure> {
+        Ok(Getting {
+            left: Left::all(options.limits),
+            keeps: options.keeps,
+            masked: if options.keeps { 0 } else { umask(rt) },
+            made: Vec::new(rt.alloc()),
+            owners: Owners::begin(rt, root, options.owners, options.keeps)?,
+        })
+    }
+
+    // Ends a copying that came to this: what was made gets its modes, and the owners are written.
+    fn end(&self, rt: &HostRuntime, done: Result<(), Failure>) -> Result<(), Failure> {
+        let modes = self.set_modes(rt);
+        let owners = self.owners.end(rt);
+        done?;
+        modes?;
+        owners
+    }
+
     // Copies a file, or a directory with all that is in it.
     fn get_all(
         &mut self,
@@ -141,7 +159,8 @@ impl Getting {
         first: Pending,
     ) -> Result<(), Failure> {
         self.left.count(rt, first.path.as_str(), first.depth)?;
-        let mut pending = Vec::from_array(rt.alloc(), [first])?;
+        let mut pending = Vec::new(rt.alloc());
+        pending.push(first)?;
         let mut outcome = Outcome::new();
         for _ in 0..u64::MAX {
             let Some(next) = pending.pop() else {

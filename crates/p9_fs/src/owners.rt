@@ -194,20 +194,33 @@ fn number_of(accounts: &str, name: &str) -> Option<u32> {
 
 // The first lines of the world of a tree: its server is named as its directory.
 fn first_lines(rt: &HostRuntime, path: &str, file: &str) -> Result<Lines, Failure> {
-    let names = names_of(rt.alloc(), path)?;
-    let name = names.as_slice().last().copied().unwrap_or("main");
-    let server = match ServerName::new(name) {
-        Ok(server) => server,
-        Err(unfit) => return Err(unfit_of(rt, path, unfit)),
-    };
-    let mut text = Vec::new(rt.alloc());
-    text.extend_from_slice(b"%% world\n")?;
-    write_server(rt.alloc(), server, &mut text)?;
-    Ok(Lines {
+    let server = server_of(rt, path)?;
+    let mut lines = Lines {
         file: String::from_str(rt.alloc(), file)?,
         root: String::from_str(rt.alloc(), path)?,
-        text,
-    })
+        text: Vec::new(rt.alloc()),
+    };
+    match lines.begin(rt.alloc(), server) {
+        Ok(()) => Ok(lines),
+        Err(error) => Err(Failure::from(error)),
+    }
+}
+
+// The server of the tree of a path. One that a world can't have is reported.
+fn server_of(rt: &HostRuntime, path: &str) -> Result<ServerName, Failure> {
+    let names = names_of(rt.alloc(), path)?;
+    match ServerName::new(names.as_slice().last().copied().unwrap_or("main")) {
+        Ok(server) => Ok(server),
+        Err(unfit) => Err(unfit_of(rt, path, unfit)),
+    }
+}
+
+impl Lines {
+    // Begins a world with its server.
+    fn begin(&mut self, alloc: Global, server: ServerName) -> Result<(), NoMemory> {
+        self.text.extend_from_slice(b"%% world\n")?;
+        write_server(alloc, server, &mut self.text)
+    }
 }
 
 // The names of a path below the root, as a world has them.

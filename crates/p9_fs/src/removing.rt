@@ -26,7 +26,8 @@ pub fn remove_tree(rt: &HostRuntime, client: &mut Client, path: &str) -> Result<
         depth: 0,
         is_listed: false,
     };
-    let mut doomed = Vec::from_array(rt.alloc(), [first])?;
+    let mut doomed = Vec::new(rt.alloc());
+    doomed.push(first)?;
     let mut left = Left::all(LIMITS);
     let mut outcome = Outcome::new();
     for _ in 0..u64::MAX {
