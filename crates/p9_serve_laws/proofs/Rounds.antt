@@ -336,8 +336,7 @@ clocks-in remaining contents (clock ∷ clocks) old new t =
 
 pub choosers-are-served-the-same : {S T : Type 0} → ChoosersAreServedTheSame S T
 choosers-are-served-the-same {S} {T} choose remaining contents remaining' contents' guard guard'
-    left left' rounds before after before'
-    after' alike served served' chosen chosen' =
+    left left' rounds before after before' after' alike served served' chosen chosen' =
     let old : Serving S = record { guard = guard; slots = [] } in
     let old' : Serving T = record { guard = guard'; slots = [] } in
     let beside : AreRunningBeside (new_server old) (new_server old') = record {
