@@ -1,6 +1,7 @@
 -- Rounds that happened one after another, the readings of the clock, and who came.
-use Rattle.std.proofs.Common.{◌≡◌, ℕ, ◌+◌, ◌<◌, ◌^◌, List, [], ◌∷◌, ◌++◌, Option, Some, None, refl}
-use Rattle.std.proofs.Common.{◌∙◌, ap, append_assoc, append-nil, arith, length-append, subst, sym}
+use Rattle.std.proofs.Common.{◌≡◌, ◌≤◌, ℕ, ◌+◌, ◌<◌, ◌^◌, Bool, true, false, List, [], ◌∷◌, ◌++◌}
+use Rattle.std.proofs.Common.{◌∙◌, Option, Some, None, refl, ap, append_assoc, append-nil, arith}
+use Rattle.std.proofs.Common.{length, length-append, subst, sym}
 use Rattle.std.proofs.KnownBytes.{Appends-nil, Appends-trans}
 use Rattle.std.proofs.lemmas.List.{map-append}
 use Rattle.std.specs.Prelude.{if◌then◌else◌}
@@ -12,7 +13,7 @@ use Rattle.p9_clients.specs.Serving.{IsFinished}
 use Rattle.p9_serve.specs.Coming.{GivesOut, Newcomer, streams_of, taken_in}
 use Rattle.p9_serve.specs.Life.{HasRounds, entered_all}
 use Rattle.p9_serve.specs.Rounds.{HasHostedRound, HasRound, Hosting, Running, entered_in}
-use Rattle.p9_serve.specs.Rounds.{new_server}
+use Rattle.p9_serve.specs.Rounds.{accepts_now, new_server}
 use Rattle.p9_serve.specs.Served.{HadHostedRounds, WasServedTo, last_after}
 use Rattle.p9_serve.specs.declared.server.Round.{Round}
 
@@ -89,6 +90,12 @@ module _ {S : Type 0} (remaining contents : S → Option (List ℕ)) where
             (entered_in remaining contents reading between new round next)),
       )
 
+  -- no more than one client comes in a round
+  few_more : (made : Bool) (old new : List (Newcomer S)) (rounds : ℕ) → length old ≤ rounds
+      → length new ≤ (if made then 1 else 0) → length (old ++ new) ≤ rounds + 1
+  few_more true old new rounds few one = omega (arith, length-append old new, few, one)
+  few_more false old new rounds few none = omega (arith, length-append old new, few, none)
+
   -- before the first round
   pub none_yet : (given : Option (List ℕ)) (old : Hosting S)
       → HadHostedRounds remaining contents 0 0 given given old old
@@ -102,6 +109,7 @@ module _ {S : Type 0} (remaining contents : S → Option (List ℕ)) where
       happened = refl;
     };
     newcomers = [];
+    few = omega arith;
     given = gives-nothing old.coming;
     entered = refl;
   }
@@ -126,6 +134,8 @@ module _ {S : Type 0} (remaining contents : S → Option (List ℕ)) where
           happened = pushed.0;
         };
         newcomers = all.newcomers ++ next.newcomers;
+        few = few_more (accepts_now between.running) all.newcomers next.newcomers rounds all.few
+            next.few;
         given = rw (map-append (λ (n : Newcomer S). n.stream) all.newcomers next.newcomers)
             (gives-both old.coming between.coming new.coming (streams_of all.newcomers)
             (streams_of next.newcomers) all.given next.given);
@@ -162,6 +172,7 @@ module _ {S : Type 0} (remaining contents : S → Option (List ℕ)) where
           finished = finished;
         };
         newcomers = its.newcomers;
+        few = its.few;
         still = new.coming;
         given = its.given;
         entered = its.entered;

@@ -98,6 +98,7 @@ every-serving-is-promised offered rounds w (inl failed) =
 every-serving-is-promised offered rounds w (inr (inl t)) =
     let it = t.2 in
     offer_promised offered it.reports it.guard t.1 it.serves
-    (every-served-guard-is-promised {S = ClientSocket} untold untold it.guard t.1 rounds w.clock_before w.clock it.served)
+    (every-served-guard-is-promised {S = ClientSocket} untold untold it.guard t.1 rounds
+    w.clock_before w.clock it.served)
 every-serving-is-promised offered rounds w (inr (inr t)) =
     let no : ◌≡◌ {A = ℕ} 0 1 = t.0 in absurd (omega (arith, no))

@@ -9,11 +9,6 @@ GivesOut None left given = Unit {0}
 GivesOut (Some coming) None given = ⊥
 GivesOut (Some coming) (Some left) given = coming ≡ given ++ left
 
--- what an accept gives out: the stream of one client, or nothing
-abbrev pub given_out : {S : Type 0} → Option S → List S
-given_out None = []
-given_out (Some stream) = stream ∷ []
-
 -- a client that was given out: its stream, and whether it was taken in, or dropped
 pub record Newcomer (S : Type 0) : Type 0 where
   pub stream : S

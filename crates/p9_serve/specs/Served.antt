@@ -1,5 +1,5 @@
 -- A guard that was served: a new server over it, its rounds, and the end of all sessions.
-use Rattle.std.specs.Prelude.{◌≡◌, ℕ, ◌<◌, ◌^◌, List, [], ◌∷◌, Option, length}
+use Rattle.std.specs.Prelude.{◌≡◌, ℕ, ◌≤◌, ◌<◌, ◌^◌, List, [], ◌∷◌, Option, length}
 use Rattle.std.specs.List.{AllByRecursion}
 use Rattle.std.specs.Io.KnownBytes.{Appends}
 use Rattle.p9_guard.specs.Guard.{Guarded}
@@ -27,11 +27,12 @@ module _ {S : Type 0} (remaining contents : S → Option (List ℕ)) where
     pub last_is : last ≡ last_after 0 readings
     pub happened : HasRounds remaining contents readings old new
 
-  -- and these clients came in them
+  -- and these clients came in them, no more than one in a round
   pub record HadHostedRounds (rounds last : ℕ) (before after : Option (List ℕ))
       (old new : Hosting S) : Type 0 where
     pub had : HadRounds rounds last before after old.running new.running
     pub newcomers : List (Newcomer S)
+    pub few : length newcomers ≤ rounds
     pub given : GivesOut old.coming new.coming (streams_of newcomers)
     pub entered : entered_all remaining contents had.readings old.running new.running had.happened
         ≡ taken_in newcomers
@@ -56,11 +57,13 @@ module _ {S : Type 0} (remaining contents : S → Option (List ℕ)) where
         (new_server (record { guard = guard; slots = [] })) running
     pub finished : IsFinished last running.serving left
 
-  -- and these are the clients that came, of those that were to come to its listener
+  -- and these are the clients that came, of those that were to come to its listener, no more than
+  -- one in a round
   pub record WasServedTo (coming : Option (List S)) (guard : Guarded) (rounds : ℕ)
       (before after : Option (List ℕ)) (left : Guarded) : Type 0 where
     pub served : WasServed guard rounds before after left
     pub newcomers : List (Newcomer S)
+    pub few : length newcomers ≤ rounds
     pub still : Option (List S)
     pub given : GivesOut coming still (streams_of newcomers)
     pub entered : entered_all remaining contents served.had.readings

@@ -1,7 +1,8 @@
 //! Where clients come from: any listener, and that of the system.
 
 ghost use Rattle.std.specs.Prelude.{List, None, Option};
-ghost use Rattle.p9_serve.specs.Coming.{GivesOut, given_out};
+ghost use Rattle.std.specs.Option.{option_to_list};
+ghost use Rattle.p9_serve.specs.Coming.{GivesOut};
 
 use crate::socket::Socket;
 use mio::net::{TcpListener, TcpStream};
@@ -22,7 +23,7 @@ pub trait Listener: Drop {
     /// Gives out the stream of a client that waits, if there is one. Of the clients that are to come
     /// that is the first one. This doesn't wait.
     fn accept(&mut self) -> Option<Self::Stream>
-        ensures { GivesOut (coming self.old) (coming self.new) (given_out result) };
+        ensures { GivesOut (coming self.old) (coming self.new) (option_to_list result) };
 }
 
 /// The sockets of those who connect to an address. Who will come is not known.

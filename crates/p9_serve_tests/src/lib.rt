@@ -19,6 +19,8 @@ mod loopback;
 #[cfg(test)]
 mod machine;
 #[cfg(test)]
+mod memory;
+#[cfg(test)]
 mod refused;
 #[cfg(test)]
 mod rests;

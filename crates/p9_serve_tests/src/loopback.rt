@@ -7,7 +7,7 @@ use crate::rows::{READ, Row, WRITE};
 use byteorder::{ByteOrder, LittleEndian};
 use mio::net::{TcpListener, TcpStream};
 use p9_index::IndexTree;
-use p9_serve::{Server, served_guard};
+use p9_serve::{Listener, Server, Sockets, served_guard};
 use p9_testing::bytes_of;
 use p9_tree::Tree;
 use std::alloc::Global;
@@ -27,7 +27,7 @@ pub fn any_port() -> SocketAddr {
 /// A server, and what its rounds came to.
 #[derive(Drop)]
 pub struct Loopback {
-    server: Server<IndexTree<Global>>,
+    server: Server<Sockets<Global>, IndexTree<Global>>,
     pub rounds: u64,
     pub accepted: u64,
     pub moved: u64,
@@ -42,6 +42,7 @@ impl Loopback {
             .expect(rt, "memory")
             .expect(rt, "a guard");
         let listener = TcpListener::bind(rt, any_port()).expect(rt, "a listener");
+        let listener = Sockets::new(rt.alloc(), listener);
         Loopback {
             server: Server::new(rt.alloc(), listener, guard),
             rounds: 0,
@@ -192,8 +193,8 @@ impl Loopback {
     }
 }
 
-// The same, of a server over trees of any kind.
-fn finish<T: Tree>(rt: &impl Abort, server: Server<T>, keys: u32) {
+// The same, of a server with a listener and trees of any kind.
+fn finish<L: Listener, T: Tree>(rt: &impl Abort, server: Server<L, T>, keys: u32) {
     let guard = server.finish(0);
     for key in 0..keys {
         assert!(rt; !guard.live(key));
