@@ -146,7 +146,11 @@ impl Timer for Seconds {
 fn client<'a>(rt: &(impl Abort + AllocGlobal), rows: &[&[Row]], copied: &'a Copied) -> Memory<'a> {
     let mut input = Vec::new(rt.alloc());
     for part in rows {
-        assert!(rt; input.extend_from_slice(requests(rt, part).as_slice()).is_ok());
+        assert!(rt;
+            input
+                .extend_from_slice(requests(rt, part).as_slice())
+                .is_ok()
+        );
     }
     Memory {
         input: Cursor::new(input),
@@ -165,11 +169,7 @@ fn is_answered(rt: &(impl Abort + AllocGlobal), copied: &Copied, rows: &[&[Row]]
 }
 
 // Both clients wait.
-fn both<'a>(
-    rt: &(impl Abort + AllocGlobal),
-    first: &'a Copied,
-    second: &'a Copied,
-) -> Waiting<'a> {
+fn both<'a>(rt: &(impl Abort + AllocGlobal), first: &'a Copied, second: &'a Copied) -> Waiting<'a> {
     let mut clients = VecDeque::new(rt.alloc());
     assert!(rt; clients.push_back(client(rt, &FIRST, first)).is_ok());
     assert!(rt; clients.push_back(client(rt, &SECOND, second)).is_ok());
