@@ -46,11 +46,12 @@ impl Read for Late<'_> {
 
 impl Write for Late<'_> {
     fn write(&mut self, bytes: &[u8]) -> io::Result<usize> {
-        let count = self.log.room.get().min(bytes.len());
+        let room = self.log.room.get();
+        let count = room.min(bytes.len());
         if count == 0 {
             return Err(io::Error::from(ErrorKind::WouldBlock));
         }
-        self.log.room.set(self.log.room.get() - count);
+        self.log.room.set(room - count);
         let Ok(mut taken) = self.log.taken.try_borrow_mut() else {
             return Err(io::Error::from(ErrorKind::Other));
         };
