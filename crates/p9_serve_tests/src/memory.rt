@@ -117,7 +117,7 @@ struct Waiting<'a> {
 impl<'a> Listener for Waiting<'a> {
     type Stream = Memory<'a>;
 
-    ghost coming = { λ w. Some w.clients };
+    ghost coming = { λ w. Some w.clients.items };
 
     fn accept(&mut self) -> Option<Memory<'a>> {
         self.clients.pop_front()
