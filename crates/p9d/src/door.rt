@@ -94,6 +94,13 @@ fn users_of(alloc: Global, address: &Address<'_>) -> Result<Option<Vec<User>>, A
     }
 }
 
+/// Removes the sockets of the file system.
+pub(crate) fn close_doors(rt: &HostRuntime, doors: &[Door]) {
+    for door in doors {
+        door.close(rt);
+    }
+}
+
 // Listens at a place.
 fn listen(rt: &HostRuntime, place: Place<'_>) -> io::Result<Listener> {
     match place {

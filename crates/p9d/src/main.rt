@@ -16,7 +16,7 @@ mod watch;
 mod words;
 
 use crate::address::{Address, BadAddress, address_of};
-use crate::door::Door;
+use crate::door::{Door, close_doors};
 use crate::export::{About, Export, read_export};
 use crate::serve::Daemon;
 use crate::visitors::Visitors;
@@ -69,13 +69,6 @@ fn run_asked(rt: &HostRuntime, asked: Asked<'_>, texts: &[&str]) -> Result<u8, F
             drop(guard);
             Err(failure)
         }
-    }
-}
-
-// Removes the sockets of the file system.
-fn close_doors(rt: &HostRuntime, doors: &[Door]) {
-    for door in doors {
-        door.close(rt);
     }
 }
 

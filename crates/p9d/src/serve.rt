@@ -2,7 +2,7 @@
 
 use crate::address::copy_of;
 use crate::client::Client;
-use crate::door::{Arrival, Door, Origin, shown_origin};
+use crate::door::{Arrival, Door, Origin, close_doors, shown_origin};
 use crate::end::{has_ended, is_pipe};
 use crate::journal::Level;
 use crate::peer::Peer;
@@ -138,9 +138,7 @@ impl Daemon {
 
     // Removes the sockets of the file system, and prints what was told.
     fn close(&self, rt: &HostRuntime) {
-        for door in self.doors.as_slice() {
-            door.close(rt);
-        }
+        close_doors(rt, self.doors.as_slice());
         self.visitors.shared.print(rt);
     }
 }
