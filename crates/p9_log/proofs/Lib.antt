@@ -1,0 +1,16 @@
+mod Appended
+mod Cleared
+mod Cuts
+mod Ends
+mod Kept
+mod Lifted
+mod Marks
+mod Moments
+mod Outcomes
+mod Pasts
+mod Reached
+mod Readings
+mod Repaired
+mod Rest
+mod Splits
+mod Writes

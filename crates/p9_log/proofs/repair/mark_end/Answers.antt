@@ -1,0 +1,45 @@
+use Rattle.p9_log.proofs.Kept.{follows}
+use Rattle.p9_log.proofs.Marks.{after-gate, after-sync, after-all, at_last}
+use Rattle.p9_log.proofs.repair.mark_end.Goals as goal
+
+pub returns-in_err-write_at-clause-any_moment : goal.returns-in_err-write_at-clause-any_moment
+returns-in_err-write_at-clause-any_moment g c =
+    after-gate g.D.Device.seen g.D.Device.moment g.D.Device.may_leave g.D.Device.left_since g.met.D.Device.alive
+    c.args.end c.args.device.now c.requires.end c.requires.blocks c.requires.durable c.write_at.new.self c.write_at.ensures.crash
+
+pub returns-in_err-sync-clause-any_moment : goal.returns-in_err-sync-clause-any_moment
+returns-in_err-sync-clause-any_moment g c =
+    after-sync g.D.Device.seen g.D.Device.moment g.D.Device.may_leave g.D.Device.left_since g.met.D.Device.alive
+    c.args.end c.args.device.now c.requires.end c.requires.blocks c.requires.durable c.write_at.new.self c.write_at.ensures.crash
+    c.in_ok-write_at.ensures.written c.sync.new.self c.sync.ensures.crash
+
+pub returns-clause-any_moment : goal.returns-clause-any_moment
+returns-clause-any_moment g c =
+    after-all g.D.Device.seen g.D.Device.moment g.D.Device.may_leave g.D.Device.left_since g.met.D.Device.alive
+    c.args.end c.args.device.now c.requires.end c.requires.blocks c.requires.durable c.write_at.new.self c.write_at.ensures.crash
+    c.in_ok-write_at.ensures.written c.sync.new.self c.sync.ensures.crash
+    c.sync.ensures.seen c.in_ok-sync.ensures.durable c.write_at-2.new.self c.write_at-2.ensures.crash
+
+pub returns-clause-at_rest : goal.returns-clause-at_rest
+returns-clause-at_rest g c =
+    follows c.write_at-2.result _ _ c.write_at-2.ensures.written
+    (λ holds. (at_last g.D.Device.seen g.D.Device.moment g.D.Device.may_leave g.D.Device.left_since g.met.D.Device.alive
+    c.args.end c.args.device.now c.requires.end c.requires.blocks c.requires.durable c.write_at.new.self c.write_at.ensures.crash
+    c.in_ok-write_at.ensures.written c.sync.new.self c.sync.ensures.crash
+    c.sync.ensures.seen c.in_ok-sync.ensures.durable c.write_at-2.new.self c.write_at-2.ensures.crash holds).at_rest)
+
+pub returns-clause-content : goal.returns-clause-content
+returns-clause-content g c =
+    follows c.write_at-2.result _ _ c.write_at-2.ensures.written
+    (λ holds. (at_last g.D.Device.seen g.D.Device.moment g.D.Device.may_leave g.D.Device.left_since g.met.D.Device.alive
+    c.args.end c.args.device.now c.requires.end c.requires.blocks c.requires.durable c.write_at.new.self c.write_at.ensures.crash
+    c.in_ok-write_at.ensures.written c.sync.new.self c.sync.ensures.crash
+    c.sync.ensures.seen c.in_ok-sync.ensures.durable c.write_at-2.new.self c.write_at-2.ensures.crash holds).content)
+
+pub returns-clause-front : goal.returns-clause-front
+returns-clause-front g c =
+    follows c.write_at-2.result _ _ c.write_at-2.ensures.written
+    (λ holds. (at_last g.D.Device.seen g.D.Device.moment g.D.Device.may_leave g.D.Device.left_since g.met.D.Device.alive
+    c.args.end c.args.device.now c.requires.end c.requires.blocks c.requires.durable c.write_at.new.self c.write_at.ensures.crash
+    c.in_ok-write_at.ensures.written c.sync.new.self c.sync.ensures.crash
+    c.sync.ensures.seen c.in_ok-sync.ensures.durable c.write_at-2.new.self c.write_at-2.ensures.crash holds).front)

@@ -1,0 +1,7 @@
+pub mod Blocks
+pub mod Device
+pub mod Log
+pub mod Memory
+pub mod Past
+pub mod Reading
+pub mod Rest

@@ -1,0 +1,203 @@
+//! A log in a file.
+
+ghost use Rattle.std.specs.Prelude.{◌≡◌, ◌≤◌, ◌+◌, ◌^◌, false, if◌then◌else◌, IsTrue};
+ghost use Rattle.p9_log.specs.declared.crash.Crash.TheVariants.{Killed, Stopped};
+ghost use Rattle.p9_log.specs.Blocks.{content_in};
+ghost use Rattle.p9_log.specs.Rest.{Begin, IsAtRest};
+
+use crate::clearing::clear;
+use crate::device::{Device, DeviceError};
+use crate::error::LogError;
+use crate::keeping::keep;
+use crate::layout::{HEAD, MOST};
+use crate::staging::stage;
+use std::alloc::Allocator;
+
+/// A log in a file.
+///
+/// What is in it is all that was added, one run of bytes after another. What a crash leaves of it is
+/// read by [`recover`](crate::recover).
+///
+/// Where a call of the device fails, the log refuses all calls from then on, and changes nothing. What
+/// its file then has is as before that call, or as after it.
+#[derive(Drop)]
+pub struct Log<D: Device, A: Allocator> {
+    device: D,
+    // the block that is written
+    block: Vec<u8, A>,
+    // where the closed sync gate is, before what was written since the last sync
+    kept: usize,
+    // where the gates of the next block are
+    end: usize,
+    // whether there may be something to sync
+    pending: bool,
+    // whether no call of the device has failed
+    usable: bool,
+    ghost at_rest: { IsTrue usable → IsAtRest (D.seen device) kept end },
+    ghost durable: { IsTrue usable → Begin (kept + 1) (D.seen device) (D.may_leave device Stopped) },
+    ghost synced: { IsTrue usable → pending ≡ false
+        → content_in Killed (D.seen device) ≡ content_in Stopped (D.seen device) },
+    ghost near: { IsTrue usable → end ≤ 2 ^ 61 + (if pending then 10 else 20) },
+}
+
+impl<D: Device, A: Allocator> Log<D, A> {
+    ghost use Rattle.std.specs.Prelude.{◌++◌, ◌<◌, [], length, IsErrOf, IsOkAnd, List, OnOk, ℕ};
+    ghost use Rattle.p9_log.specs.declared.crash.Crash.{Crash};
+    ghost use Rattle.p9_log.specs.Device.{LeavesOnly, Only};
+    ghost use Rattle.p9_log.specs.Log.{IfRefused, IsAppended, IsKept, IsKeptOrNothing, LeaveAsSeen};
+
+    /// A log in a file at rest, all of it on the disk.
+    pub(crate) fn at_rest(alloc: A, device: D, kept: usize) -> Log<D, A>
+        requires rest { IsAtRest (D.seen device) kept (kept + 10) }
+        requires front { Begin (kept + 1) (D.seen device) (D.may_leave device Stopped) }
+        requires synced { content_in Killed (D.seen device) ≡ content_in Stopped (D.seen device) }
+        requires near { kept ≤ 2 ^ 60 }
+        ensures device { result.device ≡ device }
+        ensures kept { result.kept ≡ kept }
+        ensures usable { IsTrue result.usable }
+        ensures outcomes { LeaveAsSeen (D.seen device) (D.may_leave device) }
+    {
+        Log {
+            device,
+            block: Vec::new(alloc),
+            kept,
+            end: kept + HEAD,
+            pending: false,
+            usable: true,
+        }
+    }
+
+    /// The file.
+    pub fn device(&self) -> &D
+        ensures { result.now ≡ self.now.device }
+    {
+        &self.device
+    }
+
+    /// Whether no call of the device has failed. Else the log refuses all.
+    pub fn is_usable(&self) -> bool
+        ensures { result ≡ self.now.usable }
+    {
+        self.usable
+    }
+
+    /// The file, which the log gives up.
+    pub fn into_device(self) -> D
+        ensures { result ≡ self.device }
+    {
+        self.device
+    }
+
+    /// Adds bytes, of which a crash leaves all or none. At `Ok` a process that is killed leaves them.
+    /// A machine that stops leaves what was synced before.
+    ///
+    /// The errors are a failed allocation, a log that would be longer than 2^60 bytes or has failed
+    /// before, which change nothing, and a failure of the device.
+    pub fn append(&mut self, bytes: &[u8]) -> Result<(), LogError>
+        ensures usable { OnOk result (IsTrue self.new.usable) }
+        ensures written { OnOk result (content_in Killed (D.seen self.new.device)
+            ≡ content_in Killed (D.seen self.old.device) ++ bytes.now) }
+        ensures synced { OnOk result (content_in Stopped (D.seen self.new.device)
+            ≡ content_in Stopped (D.seen self.old.device)) }
+        ensures outcomes { OnOk result (LeaveAsSeen (D.seen self.new.device)
+            (D.may_leave self.new.device)) }
+        // A crash at any moment of the call leaves what it might have left before, or this.
+        ensures any_moment { (how : Crash) → LeavesOnly D.moment D.left_since how
+            (IsAppended how (D.seen self.old.device) bytes.now) self.old.device self.new.device }
+        ensures refused { IfRefused result
+            ((self.new.device ≡ self.old.device) × (self.new.usable ≡ self.old.usable)) }
+        // It doesn't give up by itself.
+        ensures ended { IsErrOf result LogError.Ended → self.old.usable ≡ false }
+        ensures full { IsErrOf result LogError.Full
+            → 2 ^ 60 < length (D.seen self.old.device) + length bytes.now }
+        ensures faults { D.faults self.old.device ≤ D.faults self.new.device }
+        ensures failed { IsErrOf result (LogError.Device DeviceError.Failed)
+            → D.faults self.old.device < D.faults self.new.device }
+    {
+        if !self.usable {
+            return Err(LogError::Ended);
+        }
+        if self.end > MOST || bytes.len() > MOST {
+            return Err(LogError::Full);
+        }
+        stage(&mut self.block, bytes)?;
+        self.usable = false;
+        self.device.write_at(self.end + 2, &self.block)?;
+        self.device.write_at(self.end + 1, &[1])?;
+        self.end += HEAD + bytes.len();
+        self.pending = true;
+        self.usable = true;
+        Ok(())
+    }
+
+    /// Brings all that was added to the disk. At `Ok` a machine that stops leaves all of it. Where
+    /// nothing was added since the last sync, the device isn't called.
+    ///
+    /// The errors are a log that has failed before, and a failure of the device.
+    pub fn sync(&mut self) -> Result<(), LogError>
+        ensures usable { OnOk result (IsTrue self.new.usable) }
+        ensures written { OnOk result (content_in Killed (D.seen self.new.device)
+            ≡ content_in Killed (D.seen self.old.device)) }
+        ensures synced { OnOk result (content_in Stopped (D.seen self.new.device)
+            ≡ content_in Killed (D.seen self.old.device)) }
+        ensures outcomes { OnOk result (LeaveAsSeen (D.seen self.new.device)
+            (D.may_leave self.new.device)) }
+        // A crash at any moment of the call leaves what it might have left before, or this.
+        ensures any_moment { (how : Crash) → LeavesOnly D.moment D.left_since how
+            (IsKept how (D.seen self.old.device)) self.old.device self.new.device }
+        ensures refused { IfRefused result
+            ((self.new.device ≡ self.old.device) × (self.new.usable ≡ self.old.usable)) }
+        // It doesn't give up by itself.
+        ensures ended { IsErrOf result LogError.Ended → self.old.usable ≡ false }
+        ensures full { IsErrOf result LogError.Full → ⊥ }
+        ensures memory { IsErrOf result LogError.Memory → ⊥ }
+        ensures faults { D.faults self.old.device ≤ D.faults self.new.device }
+        ensures failed { IsErrOf result (LogError.Device DeviceError.Failed)
+            → D.faults self.old.device < D.faults self.new.device }
+    {
+        if !self.usable {
+            return Err(LogError::Ended);
+        }
+        if !self.pending {
+            return Ok(());
+        }
+        self.usable = false;
+        keep(&mut self.device, self.kept, self.end)?;
+        self.kept = self.end;
+        self.end += HEAD;
+        self.pending = false;
+        self.usable = true;
+        Ok(())
+    }
+
+    /// Empties the log. At each moment what it had is there, or nothing. The errors are those of
+    /// [`sync`](Log::sync).
+    pub fn clear(&mut self) -> Result<(), LogError>
+        ensures usable { OnOk result (IsTrue self.new.usable) }
+        ensures content { OnOk result ((next : Crash) → content_in next (D.seen self.new.device)
+            ≡ []) }
+        ensures outcomes { OnOk result (LeaveAsSeen (D.seen self.new.device)
+            (D.may_leave self.new.device)) }
+        // A crash at any moment of the call leaves what it might have left before, or this.
+        ensures any_moment { (how : Crash) → LeavesOnly D.moment D.left_since how
+            (IsKeptOrNothing how (D.seen self.old.device)) self.old.device self.new.device }
+        ensures refused { IfRefused result
+            ((self.new.device ≡ self.old.device) × (self.new.usable ≡ self.old.usable)) }
+        // It doesn't give up by itself.
+        ensures ended { IsErrOf result LogError.Ended → self.old.usable ≡ false }
+        ensures full { IsErrOf result LogError.Full → ⊥ }
+        ensures memory { IsErrOf result LogError.Memory → ⊥ }
+        ensures faults { D.faults self.old.device ≤ D.faults self.new.device }
+        ensures failed { IsErrOf result (LogError.Device DeviceError.Failed)
+            → D.faults self.old.device < D.faults self.new.device }
+    {
+        self.sync()?;
+        self.usable = false;
+        clear(&mut self.device)?;
+        self.kept = 0;
+        self.end = HEAD;
+        self.pending = false;
+        self.usable = true;
+        Ok(())
+    }
+}
