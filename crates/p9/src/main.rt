@@ -2,8 +2,7 @@
 //! that to clients.
 #![tactic(auto)]
 
-mod words;
-
+use p9_asked::{Asked, command_asked};
 use p9_base::NoMemory;
 use p9_commands::status::BAD_COMMAND_LINE;
 use p9_commands::{BadCommandLine, Command};
@@ -13,7 +12,6 @@ use std::alloc::AllocError;
 use std::io;
 use std::net::SocketAddr;
 use std::process::ExitCode;
-use words::{Asked, command_asked};
 
 fn main(rt: HostRuntime) -> ExitCode {
     ExitCode::from(status_of(&rt))

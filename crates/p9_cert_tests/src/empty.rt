@@ -13,9 +13,7 @@ use std::process::Abort;
 // The world without a server.
 fn no_server<T: Tree>(alloc: T::Alloc) -> World<T> {
     World {
-        forest: Forest {
-            trees: Vec::new(alloc),
-        },
+        forest: Forest::new(Vec::new(alloc)),
         users: Vec::new(alloc),
         groups: Groups::new(alloc),
         hidden: Vec::new(alloc),

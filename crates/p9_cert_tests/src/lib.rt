@@ -8,6 +8,8 @@
 #[cfg(test)]
 mod both;
 #[cfg(test)]
+mod checks;
+#[cfg(test)]
 mod empty;
 #[cfg(test)]
 mod gaps;

@@ -27,20 +27,16 @@ pub fn is_told(rt: &impl Abort, alloc: Global, told: &str, want: &str) {
 /// The world whose server is `main` and whose first user is `glenda`, with these lines after them,
 /// between semicolons.
 pub fn world_of<T: Tree>(rt: &impl Abort, alloc: T::Alloc, lines: &str) -> World<T> {
-    let text = lines_of(alloc, "server main\nuser glenda\n", lines).expect(rt, "a text");
+    let text = lines_of(rt, alloc, "server main\nuser glenda\n", lines);
     read_world(alloc, text.as_str()).expect(rt, "a world")
 }
 
 // A text, with a head and a line for each part between semicolons.
-fn lines_of<A: Allocator + Copy>(
-    alloc: A,
-    head: &str,
-    parts: &str,
-) -> Result<String<A>, AllocError> {
-    let mut text = String::from_str(alloc, head)?;
-    let rest = parts.replace(alloc, ';', "\n")?;
-    text.push_str(rest.as_str())?;
-    Ok(text)
+fn lines_of<A: Allocator + Copy>(rt: &impl Abort, alloc: A, head: &str, parts: &str) -> String<A> {
+    let mut text = String::from_str(alloc, head).expect(rt, "a text");
+    let rest = parts.replace(alloc, ';', "\n").expect(rt, "a text");
+    text.push_str(rest.as_str()).expect(rt, "a text");
+    text
 }
 
 /// Tells what `verify` returns of a world and these rows: those of a mount table, a bar, and the
@@ -65,6 +61,6 @@ fn text_of(alloc: Global, gap: Option<Gap>) -> Result<String, AllocError> {
 
 // The certificate of these lines after `cert 1`.
 fn certificate_of(rt: &impl Abort, alloc: Global, rows: &str) -> Certificate<Global> {
-    let text = lines_of(alloc, "cert 1\n", rows).expect(rt, "a text");
+    let text = lines_of(rt, alloc, "cert 1\n", rows);
     read_cert(alloc, text.as_str()).expect(rt, "a certificate")
 }

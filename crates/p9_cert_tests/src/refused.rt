@@ -1,5 +1,6 @@
 //! Each growth of a certificate is refused in turn.
 
+use crate::checks::is_text;
 use p9_base::NoMemory;
 use p9_cert::{Certificate, ReadError, read_cert, write_cert};
 use p9_testing::{Refusing, refuse_each};
@@ -28,10 +29,7 @@ dir 3 281474976710655
 ";
 
 // Reads the text, again where an allocation failed.
-fn read_again<'a>(
-    rt: &impl Abort,
-    memory: &'a Refusing<Global>,
-) -> Certificate<&'a Refusing<Global>> {
+fn read_again<A: Allocator + Copy>(rt: &impl Abort, memory: A) -> Certificate<A> {
     match read_cert(memory, TEXT) {
         Ok(certificate) => certificate,
         Err(error) => {
@@ -42,25 +40,22 @@ fn read_again<'a>(
 }
 
 // Writes what was read, again where an allocation failed.
-fn write_again<A: Allocator>(
-    rt: &impl Abort,
-    memory: &Refusing<Global>,
-    certificate: &Certificate<A>,
-) {
+fn write_again<A: Allocator + Copy>(rt: &impl Abort, memory: A, certificate: &Certificate<A>) {
     let written = match write_cert(memory, certificate) {
         Ok(text) => text,
         Err(NoMemory) => write_cert(memory, certificate).expect(rt, "a text with ample memory"),
     };
-    assert!(rt; written.as_str() == WRITTEN);
+    is_text(rt, written.as_str(), WRITTEN);
+}
+
+// Reads a certificate, and writes it.
+fn do_again<A: Allocator + Copy>(rt: &impl Abort, memory: A) {
+    write_again(rt, memory, &read_again(rt, memory));
 }
 
 #[test]
 fn a_certificate_is_read_and_written_after_each_refusal(rt: HostRuntime) {
     let memory = Refusing::new(rt.alloc());
-    let refusals = refuse_each(
-        &memory,
-        || (),
-        |()| write_again(&rt, &memory, &read_again(&rt, &memory)),
-    );
+    let refusals = refuse_each(&memory, || (), |()| do_again(&rt, &memory));
     assert!(rt; refusals > 10);
 }

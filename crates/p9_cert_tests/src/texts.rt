@@ -1,5 +1,6 @@
 //! Certificates as texts.
 
+use crate::checks::{is_text, is_text_of};
 use p9_base::NoMemory;
 use p9_cert::{Certificate, ReadError, read_cert, write_cert};
 use std::alloc::Global;
@@ -64,7 +65,7 @@ fn are_reported(rt: &impl Abort, alloc: Global, rows: &str) {
     for row in rows.lines() {
         let (want, text) = row.split_once(" =").expect(rt, "a row");
         let told = told_of_lines(alloc, text).expect(rt, "a text");
-        assert!(rt; told.as_str() == want, "{row}");
+        is_text_of(rt, told.as_str(), want, row);
     }
 }
 
@@ -77,7 +78,7 @@ fn texts_are_read_and_written(rt: HostRuntime) {
 fn errors_have_texts(rt: HostRuntime) {
     let bad = ReadError::BadCert { line: 7 };
     let shown = format!(in rt.alloc(); "{bad}, {}", ReadError::NoMemory).expect(&rt, "memory");
-    assert!(rt; shown.as_str() == "line 7 is bad, out of memory");
+    is_text(&rt, shown.as_str(), "line 7 is bad, out of memory");
 }
 
 const THREE_ROWS: &str = "\

@@ -1,12 +1,14 @@
 //! The clients of a guard: a connection for each, with a session of its own.
 
 ghost use Rattle.std.specs.Prelude.{◌≡◌, ◌<◌, ◌≤◌, ◌+◌, ◌^◌, [], None, count_by, length, slice_set};
+ghost use Rattle.std.specs.Prelude.{IfOk, OnErr, OnOk};
+ghost use Rattle.p9_tree.specs.Journal.{IsSettled, IsSynced};
 ghost use Rattle.p9_clients.specs.Serving.{AreKeyed, EndAt, HasTurns, IsFinished, TakesIn, TurnAt};
 ghost use Rattle.p9_clients.specs.Serving.{has_nobody, is_closed, is_moved, turns_of, slot_at};
 
 use p9_conn::{Conn, Stream, Turn};
 use p9_guard::Guard;
-use p9_tree::Tree;
+use p9_tree::{Tree, Unsettled};
 use slab::Slab;
 use std::alloc::Allocator;
 use std::marker::Model;
@@ -95,6 +97,24 @@ impl<S: Stream + Drop, T: Tree> Clients<S, T> {
         let _conns = &self.conns;
     }
 
+    /// Makes all changes of the trees outlast the process, as [`Guard::settle`].
+    pub fn settle(&mut self) -> Result<(), Unsettled>
+        ensures same { self.new ≡ self.old }
+        ensures settled { OnOk result (IsSettled T.Journal.is_whole T.Journal.stands_for
+            T.Journal.may_stay self.new.guard.state.forest) }
+    {
+        self.guard.settle()
+    }
+
+    /// Makes all changes of the trees outlast the machine, as [`Guard::sync`].
+    pub fn sync(&mut self) -> Result<(), Unsettled>
+        ensures same { self.new ≡ self.old }
+        ensures synced { OnOk result (IsSynced T.Journal.is_whole T.Journal.stands_for
+            T.Journal.may_stay T.Journal.may_stand self.new.guard.state.forest) }
+    {
+        self.guard.sync()
+    }
+
     /// Takes in a client with its stream, and opens its session; returns whether it did.
     ///
     /// Where there is no memory for its buffers, its place or its session, where its key has more
@@ -147,6 +167,34 @@ impl<S: Stream + Drop, T: Tree> Clients<S, T> {
             self.end_at(key, clock);
         }
         self.guard
+    }
+
+    /// Makes all changes outlast the process, as [`Guard::settle`], and then gives each client's
+    /// connection a turn, as [`Clients::turns`]. A turn writes of a reply that was pending before it
+    /// alone, so what goes out in these turns tells of changes that outlast the process. Where the
+    /// changes can't be made to, no connection has a turn, and nothing goes out.
+    pub fn settled_turns(&mut self, clock: u32) -> Result<Tally, Unsettled>
+        ensures settled { OnOk result (IsSettled T.Journal.is_whole T.Journal.stands_for
+            T.Journal.may_stay self.old.guard.state.forest) }
+        ensures turns { IfOk result (λ tally. HasTurns S.remaining S.contents clock self.old
+            self.new tally) }
+        ensures err { OnErr result (self.new ≡ self.old) }
+    {
+        self.settle()?;
+        Ok(self.turns(clock))
+    }
+
+    /// Makes all changes outlast the machine, as [`Guard::sync`], and then gives each client's
+    /// connection a turn, as [`Clients::settled_turns`].
+    pub fn synced_turns(&mut self, clock: u32) -> Result<Tally, Unsettled>
+        ensures synced { OnOk result (IsSynced T.Journal.is_whole T.Journal.stands_for
+            T.Journal.may_stay T.Journal.may_stand self.old.guard.state.forest) }
+        ensures turns { IfOk result (λ tally. HasTurns S.remaining S.contents clock self.old
+            self.new tally) }
+        ensures err { OnErr result (self.new ≡ self.old) }
+    {
+        self.sync()?;
+        Ok(self.turns(clock))
     }
 
     // A turn of the connection of this key, if there is one.

@@ -161,7 +161,13 @@ fn prepare_with<T: Tree>(
             events,
         }),
         Err(stop) => {
-            let NameSpace { reports, .. } = space;
+            let NameSpace {
+                world,
+                table,
+                reports,
+            } = space;
+            drop(world);
+            drop(table);
             Err(PrepareError { reports, stop })
         }
     }

@@ -21,7 +21,7 @@ pub(crate) fn small_world<T: Tree>(alloc: T::Alloc) -> Result<World<T>, NoMemory
     let mut servers = Vec::new(alloc);
     servers.push(String::from_str(alloc, "main")?)?;
     Ok(World {
-        forest: Forest { trees },
+        forest: Forest::new(trees),
         users,
         groups: Groups::new(alloc),
         hidden: Vec::new(alloc),

@@ -1,10 +1,13 @@
 //! Tests of the program's commands that no row of `p9_rows` has: failed allocations, inputs that are
 //! prepared for other programs, calls that the commands don't make, a command of a name that no row
-//! can write, and frames that are too large for the data of a row. And of the libraries of p9_admin.
+//! can write, and frames that are too large for the data of a row. And of p9_asked and the libraries
+//! of p9_admin.
 #![tactic(auto)]
 
 #[cfg(test)]
 mod admin;
+#[cfg(test)]
+mod asked;
 #[cfg(test)]
 mod calls;
 #[cfg(test)]

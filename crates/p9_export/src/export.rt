@@ -12,6 +12,7 @@ ghost use Rattle.p9_step.specs.Laws.{reply_max};
 ghost use Rattle.std.specs.List.{list_all};
 ghost use Rattle.p9_base.specs.User.{is_user};
 ghost use Rattle.p9_space.specs.Given.{is_table_given};
+ghost use Rattle.p9_tree.specs.Journal.{IsSettled, IsSynced};
 ghost use Rattle.p9_wire.specs.Frame.{is_frame, msize_max};
 ghost use Rattle.p9_export.specs.declared.export.OpenError.TheVariants.{Live};
 ghost use Rattle.p9_export.specs.Room.{reply_room};
@@ -20,7 +21,7 @@ use p9_base::{Groups, User};
 use p9_requests::answer::answer;
 use p9_requests::{Session, Setting, end_fids, tag_of, write_reply};
 use p9_space::MountTable;
-use p9_tree::{Forest, Tree};
+use p9_tree::{Forest, Tree, Unsettled};
 use std::collections::BTreeMap;
 use std::marker::Model;
 use thiserror::Error;
@@ -186,6 +187,24 @@ impl<T: Tree> Export<T> {
             reply,
         );
         write_reply(&self.forest, &answered, tag, reply)
+    }
+
+    /// Makes all changes of the trees outlast the process, as [`Forest::settle`].
+    pub fn settle(&mut self) -> Result<(), Unsettled>
+        ensures same { self.new ≡ self.old }
+        ensures settled { OnOk result (IsSettled T.Journal.is_whole T.Journal.stands_for
+            T.Journal.may_stay self.new.forest) }
+    {
+        self.forest.settle()
+    }
+
+    /// Makes all changes of the trees outlast the machine, as [`Forest::sync`].
+    pub fn sync(&mut self) -> Result<(), Unsettled>
+        ensures same { self.new ≡ self.old }
+        ensures synced { OnOk result (IsSynced T.Journal.is_whole T.Journal.stands_for
+            T.Journal.may_stay T.Journal.may_stand self.new.forest) }
+    {
+        self.forest.sync()
     }
 }
 

@@ -29,11 +29,11 @@ pub enum Play<'a> {
     Growth(Growth<'a>),
 }
 
-/// Plays the script over each kind of tree with each request for memory refused in turn, and
-/// returns how many requests there are: the fewer of both.
-pub fn play_refused(rt: &impl Abort, alloc: Global, script: Script<'_>) -> u64 {
+/// Plays the script over each kind of tree with each request for memory refused in turn. There are
+/// more requests than these over each.
+pub fn play_refused(rt: &impl Abort, alloc: Global, script: Script<'_>, fewer: u64) {
     let (plain, index) = refusals(rt, alloc, Trial::Play(Play::Script(script)));
-    plain.min(index)
+    assert!(rt; plain > fewer && index > fewer);
 }
 
 /// A file grows twice over each kind of tree with each request for memory refused in turn. Each
@@ -88,7 +88,7 @@ fn begin_again<T: Tree>(
 ) {
     if export.open(session).is_err() {
         assert!(rt; !export.live(session));
-        assert!(rt; export.open(session).is_ok());
+        export.open(session).expect(rt, "a session");
     }
     exchange_again(
         rt,

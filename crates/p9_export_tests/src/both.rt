@@ -13,7 +13,7 @@ use crate::unions::{lists_places, reads_at_each_count};
 use crate::worlds::{Bind, exporter};
 use p9_export::Export;
 use p9_index::IndexTree;
-use p9_testing::{Refusing, refuse_each};
+use p9_testing::Refusing;
 use p9_tree::{PlainTree, Tree};
 use std::alloc::Global;
 use std::process::Abort;
@@ -112,14 +112,31 @@ fn refusals_over<T: Tree>(
     lent: T::Alloc,
     trial: Trial<'_>,
 ) -> u64 {
-    refuse_each(
-        memory,
-        || make::<T>(rt, alloc, lent, trial),
-        |mut made| {
-            try_once(rt, alloc, &mut made, trial);
-            drop(made);
-        },
-    )
+    let mut refusals = 0;
+    for n in 1..u64::MAX {
+        refusals = n - 1;
+        if !is_refused::<T>(rt, alloc, memory, lent, trial, n) {
+            break;
+        }
+    }
+    memory.refuse(0);
+    refusals
+}
+
+// Tries it with this request for memory refused. Whether there was one.
+fn is_refused<T: Tree>(
+    rt: &impl Abort,
+    alloc: Global,
+    memory: &Refusing<Global>,
+    lent: T::Alloc,
+    trial: Trial<'_>,
+    n: u64,
+) -> bool {
+    let mut made = make::<T>(rt, alloc, lent, trial);
+    memory.refuse(n);
+    try_once(rt, alloc, &mut made, trial);
+    drop(made);
+    memory.has_refused()
 }
 
 // What is made before memory is refused.

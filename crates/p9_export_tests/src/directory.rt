@@ -1,6 +1,6 @@
 //! A directory /a of many files, each named by its number.
 
-use crate::exchange::{read_at, send};
+use crate::exchange::{has_reply_of, read_at};
 use p9_export::Export;
 use p9_tree::Tree;
 use std::alloc::Global;
@@ -33,7 +33,7 @@ pub fn walk_to<T: Tree>(
         26, 0, 0, 0, 110, 1, 0, 0, 0, 0, 0, 1, 0, 0, 0, 2, 0, 1, 0, b'a', 4, 0, 0, 0, 0, 0,
     ];
     walk[22..].copy_from_slice(&name_of(number));
-    assert!(rt; send(rt, export, session, 0, &walk, reply).len() == 35);
+    has_reply_of(rt, export, session, &walk, reply, 35);
 }
 
 /// A session makes a file in /a, and its number is to be this one.
@@ -47,12 +47,12 @@ pub fn make<T: Tree>(
     let walk = [
         20, 0, 0, 0, 110, 1, 0, 0, 0, 0, 0, 1, 0, 0, 0, 1, 0, 1, 0, b'a',
     ];
-    assert!(rt; send(rt, export, session, 0, &walk, reply).len() == 22);
+    has_reply_of(rt, export, session, &walk, reply, 22);
     let mut create = [
         22, 0, 0, 0, 114, 1, 0, 1, 0, 0, 0, 4, 0, 0, 0, 0, 0, 0xa4, 1, 0, 0, 0,
     ];
     create[13..17].copy_from_slice(&name_of(number));
-    assert!(rt; send(rt, export, session, 0, &create, reply).len() == 24);
+    has_reply_of(rt, export, session, &create, reply, 24);
     assert!(rt; is_numbered(reply, number));
     clunk(rt, export, session, reply);
 }
@@ -65,7 +65,7 @@ fn is_numbered(reply: &[u8], number: u32) -> bool {
 /// A session ends its fid 1.
 pub fn clunk<T: Tree>(rt: &impl Abort, export: &mut Export<T>, session: u32, reply: &mut [u8]) {
     let clunk = [11, 0, 0, 0, 120, 1, 0, 1, 0, 0, 0];
-    assert!(rt; send(rt, export, session, 0, &clunk, reply).len() == 7);
+    has_reply_of(rt, export, session, &clunk, reply, 7);
 }
 
 /// Reads fid 2 of session 1 on, after what is listed of it. Returns whether there was more.
@@ -79,7 +79,7 @@ pub fn list_on<T: Tree>(
     let offset = u32::try_from(listing.len()).expect(rt, "an offset");
     let answered = read_at(rt, export, 2, offset, count, reply);
     let entries = answered.get(11..).expect(rt, "entries");
-    assert!(rt; listing.extend_from_slice(entries).is_ok());
+    listing.extend_from_slice(entries).expect(rt, "memory");
     !entries.is_empty()
 }
 
@@ -118,5 +118,5 @@ pub fn push_entry(rt: &impl Abort, number: u32, name: &[u8], listing: &mut Vec<u
 }
 
 fn push(rt: &impl Abort, bytes: &[u8], listing: &mut Vec<u8, Global>) {
-    assert!(rt; listing.extend_from_slice(bytes).is_ok());
+    listing.extend_from_slice(bytes).expect(rt, "memory");
 }

@@ -1,5 +1,6 @@
 //! Frames and their replies.
 
+use crate::checks::are_bytes;
 use p9_export::{Export, is_frame};
 use p9_testing::bytes_of;
 use p9_tree::Tree;
@@ -53,6 +54,18 @@ pub fn send<'a, T: Tree>(
     room.get(..size).expect(rt, "a reply")
 }
 
+/// Sends a frame at the time 0, whose reply has so many bytes.
+pub fn has_reply_of<T: Tree>(
+    rt: &impl Abort,
+    export: &mut Export<T>,
+    session: u32,
+    frame: &[u8],
+    room: &mut [u8],
+    size: usize,
+) {
+    assert!(rt; send(rt, export, session, 0, frame, room).len() == size);
+}
+
 /// Sends a request, and compares the reply.
 pub fn exchange<T: Tree>(
     rt: &impl Abort,
@@ -84,7 +97,7 @@ pub fn exchange_all<T: Tree>(
 /// Compares a reply with hexadecimal digits.
 pub fn is_reply(rt: &impl Abort, alloc: Global, reply: &[u8], wanted: &str) {
     let wanted = bytes_of(alloc, wanted).expect(rt, "hexadecimal digits");
-    assert!(rt; reply == wanted.as_slice());
+    are_bytes(rt, reply, wanted.as_slice());
 }
 
 /// Reads a fid of session 1, and returns the reply.

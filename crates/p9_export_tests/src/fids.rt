@@ -1,6 +1,7 @@
 //! As many fids as a session may have.
 
 use crate::both::{Work, on_both};
+use crate::checks::are_bytes;
 use crate::exchange::{exchange_all, send};
 use crate::worlds::{SMALL, begin};
 use p9_export::Export;
@@ -13,7 +14,7 @@ fn clone_fid<T: Tree>(rt: &impl Abort, export: &mut Export<T>, newfid: u32, repl
     let mut frame = [17, 0, 0, 0, 110, 2, 0, 0, 0, 0, 0, 0, 0, 0, 0, 0, 0];
     frame[11..15].copy_from_slice(&newfid.to_le_bytes());
     let answered = send(rt, export, 1, 0, &frame, reply);
-    assert!(rt; answered == [9, 0, 0, 0, 111, 2, 0, 0, 0].as_slice());
+    are_bytes(rt, answered, &[9, 0, 0, 0, 111, 2, 0, 0, 0]);
 }
 
 // After as many fids as there may be. That a fid is in use is the first reason, and the fid itself

@@ -44,7 +44,7 @@ pub fn before_growth<T: Tree>(
 // Begins session 1.
 fn get_ready<T: Tree>(rt: &impl Abort, alloc: Global, export: &mut Export<T>, ready: &str) {
     let mut room = room(rt, alloc);
-    assert!(rt; export.open(1).is_ok());
+    export.open(1).expect(rt, "a session");
     exchange_all(rt, alloc, export, 0, ready, room.as_mut_slice());
 }
 

@@ -22,7 +22,7 @@ const BEGINNING: &str = "\
 
 // Begins session 1.
 fn begin_large<T: Tree>(rt: &impl Abort, alloc: Global, export: &mut Export<T>, reply: &mut [u8]) {
-    assert!(rt; export.open(1).is_ok());
+    export.open(1).expect(rt, "a session");
     exchange_all(rt, alloc, export, 0, BEGINNING, reply);
 }
 
@@ -40,8 +40,8 @@ fn write_of(rt: &impl Abort, alloc: Global, data: &[u8]) -> Vec<u8, Global> {
     header[4..8].copy_from_slice(&[118, 1, 0, 1]);
     header[19..].copy_from_slice(&count.to_le_bytes());
     let mut frame = Vec::new(alloc);
-    assert!(rt; frame.extend_from_slice(&header).is_ok());
-    assert!(rt; frame.extend_from_slice(data).is_ok());
+    frame.extend_from_slice(&header).expect(rt, "memory");
+    frame.extend_from_slice(data).expect(rt, "memory");
     frame
 }
 
@@ -165,7 +165,7 @@ pub fn makes_several<T: Tree>(
     reply: &mut [u8],
 ) {
     for session in 1..=3 {
-        assert!(rt; export.open(session).is_ok());
+        export.open(session).expect(rt, "a session");
     }
     exchange_all(rt, alloc, export, 0, GREATEST, reply);
     exchange_all(rt, alloc, export, 0, ALL_GREATEST, reply);

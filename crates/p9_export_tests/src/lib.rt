@@ -10,6 +10,8 @@ mod again;
 #[cfg(test)]
 mod both;
 #[cfg(test)]
+mod checks;
+#[cfg(test)]
 mod directory;
 #[cfg(test)]
 mod exchange;

@@ -1,8 +1,9 @@
 //! A directory of many files, listed whole while another session removes and makes files.
 
 use crate::both::{Work, on_both};
+use crate::checks::are_bytes;
 use crate::directory::{list_on, make, name_of, push_entry, walk_to};
-use crate::exchange::{exchange_all, send};
+use crate::exchange::{exchange_all, has_reply_of};
 use crate::worlds::begin;
 use p9_export::Export;
 use p9_tree::Tree;
@@ -27,7 +28,7 @@ fn world(rt: &impl Abort, alloc: Global) -> String {
 fn remove<T: Tree>(rt: &impl Abort, export: &mut Export<T>, number: u32, reply: &mut [u8]) {
     walk_to(rt, export, 2, number, reply);
     let remove = [11, 0, 0, 0, 122, 1, 0, 1, 0, 0, 0];
-    assert!(rt; send(rt, export, 2, 0, &remove, reply).len() == 7);
+    has_reply_of(rt, export, 2, &remove, reply, 7);
 }
 
 // Removes a file that was listed and one that wasn't, and makes two.
@@ -92,7 +93,8 @@ pub fn lists_all<T: Tree>(
     begin(rt, alloc, export, 2, reply);
     exchange_all(rt, alloc, export, 0, OPENING, reply);
     let listing = listed(rt, alloc, export, reply);
-    assert!(rt; listing.as_slice() == entries(rt, alloc).as_slice());
+    let want = entries(rt, alloc);
+    are_bytes(rt, listing.as_slice(), want.as_slice());
 }
 
 #[test]

@@ -1,8 +1,9 @@
 //! Many files are made, each is given another name, and all are listed.
 
 use crate::both::{Work, on_both};
+use crate::checks::are_bytes;
 use crate::directory::{clunk, listed, make, name_of, push_entry, walk_to};
-use crate::exchange::{exchange_all, send};
+use crate::exchange::{exchange_all, has_reply_of};
 use crate::worlds::begin;
 use p9_export::Export;
 use p9_tree::Tree;
@@ -47,7 +48,7 @@ fn rename<T: Tree>(rt: &impl Abort, export: &mut Export<T>, number: u32, reply: 
         0, 0, 0,
     ];
     wstat[56..60].copy_from_slice(&new_name_of(number));
-    assert!(rt; send(rt, export, 1, 0, &wstat, reply).len() == 7);
+    has_reply_of(rt, export, 1, &wstat, reply, 7);
     clunk(rt, export, 1, reply);
 }
 
@@ -79,7 +80,8 @@ pub fn renames_all<T: Tree>(
     exchange_all(rt, alloc, export, 0, OPENING, reply);
     let listing = listed(rt, alloc, export, 8_168, END, reply);
     assert!(rt; listing.len() == 71 * 5_000);
-    assert!(rt; listing.as_slice() == entries(rt, alloc).as_slice());
+    let want = entries(rt, alloc);
+    are_bytes(rt, listing.as_slice(), want.as_slice());
 }
 
 #[test]

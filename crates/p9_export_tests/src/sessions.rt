@@ -1,12 +1,21 @@
 //! Calls that open and close sessions.
 
 use crate::both::{Work, on_both};
+use crate::checks::is_text;
 use crate::exchange::{exchange, in_session};
 use crate::worlds::{ATTACH, VERSION, close};
 use p9_export::{Export, OpenError};
 use p9_tree::Tree;
 use std::alloc::Global;
 use std::process::Abort;
+
+// Opens two sessions, each once.
+fn opens_both<T: Tree>(rt: &impl Abort, export: &mut Export<T>) {
+    assert!(rt; !export.live(1) && !export.live(2));
+    export.open(1).expect(rt, "a session");
+    assert!(rt; matches!(export.open(1), Err(OpenError::Live)));
+    export.open(2).expect(rt, "a session");
+}
 
 /// Opens two sessions, and closes one of them.
 pub fn opens_and_closes<T: Tree>(
@@ -15,10 +24,7 @@ pub fn opens_and_closes<T: Tree>(
     export: &mut Export<T>,
     reply: &mut [u8],
 ) {
-    assert!(rt; !export.live(1) && !export.live(2));
-    assert!(rt; export.open(1).is_ok());
-    assert!(rt; matches!(export.open(1), Err(OpenError::Live)));
-    assert!(rt; export.open(2).is_ok());
+    opens_both(rt, export);
     exchange(rt, alloc, export, 0, in_session(rt, 1, VERSION), reply);
     exchange(rt, alloc, export, 0, in_session(rt, 1, ATTACH), reply);
     close(rt, export, 1);
@@ -35,5 +41,5 @@ fn a_session_is_opened_once_and_closed(rt: HostRuntime) {
 fn errors_have_texts(rt: HostRuntime) {
     let shown = format!(in rt.alloc(); "{}, {}", OpenError::Live, OpenError::NoMemory);
     let shown = shown.expect(&rt, "memory");
-    assert!(rt; shown.as_str() == "session is open, out of memory");
+    is_text(&rt, shown.as_str(), "session is open, out of memory");
 }

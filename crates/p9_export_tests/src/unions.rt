@@ -2,8 +2,9 @@
 //! What is to be listed is computed here, from the kinds of the members alone.
 
 use crate::both::{Work, on_both};
+use crate::checks::are_bytes;
 use crate::directory::{clunk, listed, name_of, push_entry};
-use crate::exchange::{exchange, in_session, is_reply, read_at, send};
+use crate::exchange::{exchange, has_reply_of, in_session, is_reply, read_at};
 use crate::worlds::{Bind, VERSION, begin};
 use p9_export::Export;
 use p9_space::Order;
@@ -144,7 +145,7 @@ fn walk_to<T: Tree>(
     ];
     walk[11] = fid;
     walk[19..].copy_from_slice(&name_of(number));
-    assert!(rt; send(rt, export, session, 0, &walk, reply).len() == 22);
+    has_reply_of(rt, export, session, &walk, reply, 22);
 }
 
 // Session 2, which is the system's, takes its place from all others.
@@ -154,7 +155,7 @@ fn shut<T: Tree>(rt: &impl Abort, export: &mut Export<T>, place: u32, reply: &mu
     wstat[..15].copy_from_slice(&[62, 0, 0, 0, 126, 1, 0, 1, 0, 0, 0, 49, 0, 47, 0]);
     wstat[34..38].copy_from_slice(&[0xc9, 1, 0, 0x80]);
     wstat[54..].copy_from_slice(&[0; 8]);
-    assert!(rt; send(rt, export, 2, 0, &wstat, reply).len() == 7);
+    has_reply_of(rt, export, 2, &wstat, reply, 7);
     clunk(rt, export, 2, reply);
 }
 
@@ -164,7 +165,7 @@ fn remove_all<T: Tree>(rt: &impl Abort, export: &mut Export<T>, reply: &mut [u8]
     for member in 0..MEMBERS {
         if matches!(kind_of(member), Kind::Removed) {
             walk_to(rt, export, 2, 1, member_number(member), reply);
-            assert!(rt; send(rt, export, 2, 0, &remove, reply).len() == 7);
+            has_reply_of(rt, export, 2, &remove, reply, 7);
         }
     }
 }
@@ -177,7 +178,7 @@ const ATTACH_SYS: &str = "\
 // Begins glenda's session 1 and the system's session 2, which removes what is to be removed.
 fn begin_both<T: Tree>(rt: &impl Abort, alloc: Global, export: &mut Export<T>, reply: &mut [u8]) {
     begin(rt, alloc, export, 1, reply);
-    assert!(rt; export.open(2).is_ok());
+    export.open(2).expect(rt, "a session");
     exchange(rt, alloc, export, 0, in_session(rt, 2, VERSION), reply);
     exchange(rt, alloc, export, 0, in_session(rt, 2, ATTACH_SYS), reply);
     remove_all(rt, export, reply);
@@ -215,7 +216,7 @@ fn wanted(rt: &impl Abort, alloc: Global, place: u32) -> Vec<u8, Global> {
 fn open_place<T: Tree>(rt: &impl Abort, export: &mut Export<T>, place: u32, reply: &mut [u8]) {
     walk_to(rt, export, 1, 2, place_number(place), reply);
     let open = [12, 0, 0, 0, 112, 1, 0, 2, 0, 0, 0, 0];
-    assert!(rt; send(rt, export, 1, 0, &open, reply).len() == 24);
+    has_reply_of(rt, export, 1, &open, reply, 24);
     if place % 3 == 0 {
         shut(rt, export, place, reply);
     }
@@ -231,7 +232,8 @@ fn lists_place<T: Tree>(
 ) {
     open_place(rt, export, place, reply);
     let listing = listed(rt, alloc, export, 200, BOUND, reply);
-    assert!(rt; listing.as_slice() == wanted(rt, alloc, place).as_slice());
+    let want = wanted(rt, alloc, place);
+    are_bytes(rt, listing.as_slice(), want.as_slice());
 }
 
 /// Lists each of 300 places.
@@ -245,7 +247,7 @@ pub fn lists_places<T: Tree>(
     let clunk = [11, 0, 0, 0, 120, 1, 0, 2, 0, 0, 0];
     for place in 0..300 {
         lists_place(rt, alloc, export, place, reply);
-        assert!(rt; send(rt, export, 1, 0, &clunk, reply).len() == 7);
+        has_reply_of(rt, export, 1, &clunk, reply, 7);
     }
 }
 

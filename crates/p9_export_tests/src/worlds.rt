@@ -81,7 +81,7 @@ pub fn begin<T: Tree>(
     session: u32,
     reply: &mut [u8],
 ) {
-    assert!(rt; export.open(session).is_ok());
+    export.open(session).expect(rt, "a session");
     exchange(
         rt,
         alloc,

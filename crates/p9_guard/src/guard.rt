@@ -2,6 +2,7 @@
 
 ghost use Rattle.std.specs.Prelude.{◌≡◌, ◌≤◌, ◌↔◌, [], ◌∷◌, Err, None, false, IfErr, IfOk, IsSome};
 ghost use Rattle.std.specs.Prelude.{IfSome, IsTrue, OnErr, OnOk, length, map, take, unwrap_or};
+ghost use Rattle.p9_tree.specs.Journal.{IsSettled, IsSynced};
 ghost use Rattle.p9_wire.specs.Frame.{is_frame, msize_max};
 ghost use Rattle.p9_step.specs.Event.{Open, Message, Close};
 ghost use Rattle.p9_step.specs.Laws.{reply_max};
@@ -21,7 +22,7 @@ use p9_base::{NoMemory, NodeRef};
 use p9_cert::{Certificate, verify};
 use p9_export::{Export, OpenError};
 use p9_space::MountTable;
-use p9_tree::{Forest, Tree};
+use p9_tree::{Forest, Tree, Unsettled};
 use p9_world::World;
 use std::marker::Model;
 
@@ -190,6 +191,24 @@ impl<T: Tree> Guard<T> {
     {
         self.export.close(name, clock)
     }
+
+    /// Makes all changes of the trees outlast the process, as [`Forest::settle`].
+    pub fn settle(&mut self) -> Result<(), Unsettled>
+        ensures same { self.new ≡ self.old }
+        ensures settled { OnOk result (IsSettled T.Journal.is_whole T.Journal.stands_for
+            T.Journal.may_stay self.new.state.forest) }
+    {
+        self.export.settle()
+    }
+
+    /// Makes all changes of the trees outlast the machine, as [`Forest::sync`].
+    pub fn sync(&mut self) -> Result<(), Unsettled>
+        ensures same { self.new ≡ self.old }
+        ensures synced { OnOk result (IsSynced T.Journal.is_whole T.Journal.stands_for
+            T.Journal.may_stay T.Journal.may_stand self.new.state.forest) }
+    {
+        self.export.sync()
+    }
 }
 
 // The next number of each server, where the certificate is verified.
@@ -218,7 +237,7 @@ fn next_numbers<T: Tree>(
     ensures { IfOk result (λ base. base.items ≡ map (λ s. s.next) forest.now) }
 {
     let mut base = Vec::new(alloc);
-    for tree in &forest.trees {
+    for tree in forest.trees() {
         base.push(tree.next())?;
     }
     Ok(base)

@@ -11,3 +11,5 @@ pub mod Granted
 pub mod Outcomes
 pub mod Joined
 pub mod Left
+pub mod Joining
+pub mod FirstFrom

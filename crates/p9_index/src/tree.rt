@@ -1,33 +1,40 @@
 //! A tree in ordered maps.
 
-ghost use Rattle.std.specs.Prelude.{◌≡◌, IfNone, IfSome, IsSome};
+ghost use Rattle.std.specs.Prelude.{◌≡◌, IfNone, IfSome, IsSome, OnErr, OnOk};
 ghost use Rattle.std.specs.BTreeMap.{values};
 ghost use Rattle.std.specs.Option.{ForSome, option_map};
 ghost use Rattle.p9_index.specs.Entries.{is_listed, number_at};
 ghost use Rattle.p9_index.specs.Tree.{IsIndex, KeepsName, Renames, server_of};
-ghost use Rattle.p9_tree.specs.Server.{WellFormed, child_after, child_of};
+ghost use Rattle.p9_index.specs.Join.{CanJoin};
+ghost use Rattle.p9_tree.specs.Saved.{saved_node, with_fields};
+ghost use Rattle.p9_tree.specs.Server.{WellFormed, added, child_after, child_of, with_changed};
 
 use crate::entries::Entries;
 use p9_base::{Name, NoMemory, Permissions, User};
-use p9_tree::{Change, Entry, New, Node, Tree};
+use p9_tree::{Change, Entry, Journal, New, NoJournal, Node, Saved, Tree};
 use std::alloc::Allocator;
 use std::collections::BTreeMap;
+use std::marker::PhantomData;
 
 /// A tree in ordered maps: its nodes by number, and the entries of its directories by number and by
 /// name. The time of a call grows with the logarithm of the number of nodes, and that of `add`,
-/// `change`, `write` and `read_into` also with the number of bytes that they copy.
+/// `change`, `write`, `put_back` and `read_into` also with the number of bytes that they copy. A
+/// forest of such trees may be kept in a journal of type `J`.
 #[derive(Drop)]
-pub struct IndexTree<A: Allocator + Copy> {
+pub struct IndexTree<A: Allocator + Copy, J: Journal = NoJournal> {
     alloc: A,
     nodes: BTreeMap<u64, Node<A>, A>,
     entries: Entries<A>,
     next: u64,
+    journal: PhantomData<J>,
     ghost well_formed: { WellFormed (server_of nodes.entries next) },
     ghost index: { IsIndex nodes.entries (is_listed entries) (number_at entries) },
 }
 
-impl<A: Allocator + Copy> Tree for IndexTree<A> {
+impl<A: Allocator + Copy, J: Journal> Tree for IndexTree<A, J> {
     type Alloc = A;
+
+    type Journal = J;
 
     ghost state = { λ t. server_of t.nodes.entries t.next };
 
@@ -41,6 +48,7 @@ impl<A: Allocator + Copy> Tree for IndexTree<A> {
             nodes,
             entries: Entries::new(alloc),
             next: 1,
+            journal: PhantomData,
         })
     }
 
@@ -50,6 +58,11 @@ impl<A: Allocator + Copy> Tree for IndexTree<A> {
 
     fn node(&self, number: u64) -> Option<&Node<A>> {
         self.nodes.get(&number)
+    }
+
+    fn first_from(&self, number: u64) -> Option<&Node<A>> {
+        let (_, node) = self.nodes.range(number..).next()?;
+        Some(node)
     }
 
     fn child(&self, dir: u64, name: &Name) -> Option<&Node<A>> {
@@ -73,13 +86,21 @@ impl<A: Allocator + Copy> Tree for IndexTree<A> {
             parent: dir,
             name: new.name,
         };
-        self.entries.enter(entry, number)?;
-        if self.nodes.insert(number, node).is_err() {
-            self.entries.take_out(&entry, number);
-            return Err(NoMemory);
-        }
-        self.next = number + 1;
+        self.join(entry, number, node)?;
         Ok(number)
+    }
+
+    fn put_back(&mut self, saved: &Saved<'_>) -> Result<(), NoMemory> {
+        let Some(entry) = saved.entry else {
+            self.set_root_fields(saved);
+            return Ok(());
+        };
+        let node = Node::restored(self.alloc, saved)?;
+        self.join(entry, saved.number, node)
+    }
+
+    fn skip_to(&mut self, next: u64) {
+        self.next = next;
     }
 
     fn drop_leaf(&mut self, number: u64) {
@@ -139,7 +160,7 @@ impl<A: Allocator + Copy> Tree for IndexTree<A> {
     }
 }
 
-impl<A: Allocator + Copy> IndexTree<A> {
+impl<A: Allocator + Copy, J: Journal> IndexTree<A, J> {
     // The number of the node of this name in the directory.
     fn child_number(&self, dir: u64, name: &Name) -> Option<u64>
         ensures { result
@@ -157,6 +178,36 @@ impl<A: Allocator + Copy> IndexTree<A> {
             ≡ option_map (λ n. n.number) (child_after dir floor (values self.now.nodes)) }
     {
         self.entries.number_after(dir, floor)
+    }
+
+    // Keeps a node under its number and its entry. No number up to its own is given from then on.
+    // Where an allocation fails, the tree is unchanged.
+    fn join(&mut self, entry: Entry, number: u64, node: Node<A>) -> Result<(), NoMemory>
+        requires { CanJoin self.old.nodes.entries self.old.next entry number node }
+        ensures ok { OnOk result (server_of self.new.nodes.entries self.new.next
+            ≡ added (server_of self.old.nodes.entries number) node) }
+        ensures err { OnErr result (server_of self.new.nodes.entries self.new.next
+            ≡ server_of self.old.nodes.entries self.old.next) }
+    {
+        self.entries.enter(entry, number)?;
+        if self.nodes.insert(number, node).is_err() {
+            self.entries.take_out(&entry, number);
+            return Err(NoMemory);
+        }
+        self.next = number + 1;
+        Ok(())
+    }
+
+    // Gives the root the fields that are saved.
+    fn set_root_fields(&mut self, saved: &Saved<'_>)
+        ensures { server_of self.new.nodes.entries self.new.next
+            ≡ with_changed 0 (with_fields (saved_node saved.entry.now))
+            (server_of self.old.nodes.entries self.old.next) }
+    {
+        let Some(node) = self.nodes.get_mut(&0) else {
+            return;
+        };
+        node.set_fields(saved);
     }
 }
 

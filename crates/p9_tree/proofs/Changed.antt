@@ -11,6 +11,7 @@ use Rattle.p9_base.specs.declared.mode.Permissions.{Permissions}
 use Rattle.p9_tree.specs.Bytes.{overwritten, cut_to, file_max}
 use Rattle.p9_tree.specs.Node.{Node, IsTellable, has_number, is_dir, marked, touched, with_bytes}
 use Rattle.p9_tree.specs.Node.{with_owner}
+use Rattle.p9_tree.specs.Saved.{with_fields}
 use Rattle.p9_tree.specs.Server.{Server, node_at, is_dir_at, IsSound, WellFormed, changed_at}
 use Rattle.p9_tree.specs.Server.{with_nodes, with_changed}
 use Rattle.p9_tree.proofs.BytesLemmas.{length-cut_to, length-overwritten}
@@ -207,6 +208,26 @@ keeps-touched now = record {
 
 pub sound-touched : (now : ℕ) (n : Node) → IsTellable (touched now n) → KeepsSound (touched now) n
 sound-touched now n told = record {
+  sound =
+      λ s. record {
+        small = s.small;
+        empty_dir = s.empty_dir;
+        valid_name = s.valid_name;
+        root_name = s.root_name;
+        tellable = told;
+      };
+  dir = λ s. refl;
+}
+
+pub keeps-with_fields : (from : Node) → KeepsPlace (with_fields from)
+keeps-with_fields from = record {
+  in_dir = record { number = λ n. refl; parent = λ n. refl };
+  name = λ n. refl;
+}
+
+pub sound-with_fields : (from n : Node) → IsTellable (with_fields from n)
+    → KeepsSound (with_fields from) n
+sound-with_fields from n told = record {
   sound =
       λ s. record {
         small = s.small;

@@ -3,7 +3,6 @@ use Rattle.std.proofs.Common.{◌≡◌, ℕ, zero, suc, ◌<◌, ◌≤◌, Lis
 use Rattle.std.proofs.Common.{Some, false, true, refl}
 use Rattle.std.proofs.Common.{slice_get, sym, ap, ◌∙◌, subst, arith, IsTrue}
 use Rattle.std.proofs.lemmas.Grind.{common_steps}
-use Rattle.std.proofs.lemmas.List.{length-map}
 use Rattle.p9_base.specs.NodeRef.{servers_max}
 use Rattle.p9_tree.specs.Server.{Server, WellFormed, is_dir_at}
 use Rattle.p9_tree.specs.Forest.{IsForest, server_at, tree_changed_at}
@@ -16,9 +15,9 @@ each-map f law (t ∷ ts) zero s e = let same : f t ≡ s = cc in subst WellForm
 each-map f law (t ∷ ts) (suc k) s e = each-map f law ts k s e
 
 pub IsForest-map : {T : Type 0} (f : T → Server) → ((t : T) → WellFormed (f t)) → (ts : List T)
-    → length ts ≤ servers_max → IsForest (map f ts)
+    → length (map f ts) ≤ servers_max → IsForest (map f ts)
 IsForest-map f law ts few = record {
-  few = omega (arith, length-map ts f);
+  few = few;
   servers = each-map f law ts;
 }
 

@@ -7,3 +7,7 @@ pub mod Renewed
 pub mod Dropped
 pub mod ForestLemmas
 pub mod Rooted
+pub mod Unread
+pub mod UnreadForest
+pub mod JournalLemmas
+pub mod Restored

@@ -3,5 +3,13 @@ pub mod Node
 pub mod Server
 pub mod New
 pub mod Change
+pub mod Saved
+pub mod Edit
+pub mod TreeChange
+pub mod Unread
 pub mod Forest
+pub mod ForestEdit
+pub mod ForestChange
+pub mod Journal
 pub mod Inside
+pub mod From

@@ -1,22 +1,33 @@
 //! The trees of all servers.
 
 ghost use Rattle.std.specs.Prelude.{◌≡◌, ◌≢◌, ◌+◌, ◌≤◌, IfOk, IsFalse, IsTrue, OnErr, OnOk};
-ghost use Rattle.std.specs.Prelude.{length};
+ghost use Rattle.std.specs.Prelude.{List, [], ◌∷◌, ◌++◌, ◌<◌, length, map};
 ghost use Rattle.std.specs.Option.{option_copied};
+ghost use Rattle.p9_base.specs.NodeRef.{servers_max};
 ghost use Rattle.p9_tree.specs.Bytes.{cut_to, file_max, overwritten, put_front, read_from};
 ghost use Rattle.p9_tree.specs.Change.{CanChange, changed};
 ghost use Rattle.p9_tree.specs.Forest.{IsForest, bytes_of, child_in, child_in_after};
 ghost use Rattle.p9_tree.specs.Forest.{forest_changed_at, has_children_of, is_dir_of, next_of};
 ghost use Rattle.p9_tree.specs.Forest.{node_of, server_at, tree_changed_at};
+ghost use Rattle.p9_tree.specs.ForestChange.{forest_edit_of};
+ghost use Rattle.p9_tree.specs.ForestEdit.{forest_edited};
+ghost use Rattle.p9_tree.specs.Journal.{IsSettled, IsSynced, Keeps, KeepsIfAny};
 ghost use Rattle.p9_tree.specs.New.{CanAddNew, added_new};
-ghost use Rattle.p9_tree.specs.Node.{marked, touched, with_bytes};
-ghost use Rattle.p9_tree.specs.Server.{exists_at, with_dropped};
+ghost use Rattle.p9_tree.specs.Node.{marked, touched, with_bytes, with_owner};
+ghost use Rattle.p9_tree.specs.Saved.{CanPutBack, put_back, saved_node, skipped_to};
+ghost use Rattle.p9_tree.specs.Server.{Server, exists_at, next_max, rooted, with_changed};
+ghost use Rattle.p9_tree.specs.Server.{with_dropped};
 
 use crate::change::Change;
+use crate::forest_change::ForestChange;
+use crate::journal::{Journal, Unsettled};
 use crate::new::New;
 use crate::node::Node;
+use crate::saved::Saved;
 use crate::tree::Tree;
-use p9_base::{Name, NoMemory, NodeRef, User};
+use crate::tree_change::TreeChange;
+use crate::trees;
+use p9_base::{Name, NoMemory, NodeRef, Permissions, User};
 use std::marker::Model;
 
 /// The trees of all servers. A tree's position is its server's number, which has 16 bits, so there
@@ -25,22 +36,76 @@ use std::marker::Model;
 /// Contracts see a forest as the list of its servers.
 #[derive(Drop)]
 pub struct Forest<T: Tree> {
-    pub trees: Vec<T, T::Alloc>,
+    trees: Vec<T, T::Alloc>,
+    journal: Option<T::Journal>,
 }
 
 impl<T: Tree> Model for Forest<T> {
-    ghost use Rattle.std.specs.Prelude.{List, ◌≤◌, length, map};
-    ghost use Rattle.p9_base.specs.NodeRef.{servers_max};
+    ghost use Rattle.std.specs.Prelude.{List, map};
+    ghost use Rattle.p9_tree.specs.Journal.{IsKept};
     ghost use Rattle.p9_tree.specs.Server.{Server};
 
     ghost Value = { List Server };
 
     ghost view = { λ f. map T.state f.trees.items };
 
-    ghost invariant = { λ f. length f.trees.items ≤ servers_max };
+    ghost invariant = { λ f. IsKept T.Journal.is_whole T.Journal.stands_for f.journal
+        (map T.state f.trees.items) };
 }
 
 impl<T: Tree> Forest<T> {
+    /// The forest of these trees, whose changes are not noted. This takes no memory.
+    pub fn new(trees: Vec<T, T::Alloc>) -> Forest<T>
+        requires { length trees.items ≤ servers_max }
+        ensures { result ≡ map T.state trees.items }
+    {
+        Forest {
+            trees,
+            journal: None,
+        }
+    }
+
+    /// The trees, in the order of their servers' numbers.
+    pub fn trees(&self) -> &[T]
+        ensures { map T.state result.now ≡ self.now }
+    {
+        self.trees.as_slice()
+    }
+
+    /// Notes all changes from now on in the journal, in the place of one before.
+    pub fn keep(&mut self, journal: T::Journal)
+        requires { Keeps T.Journal.is_whole T.Journal.stands_for journal self.old }
+        ensures { self.new ≡ self.old }
+    {
+        self.journal = Some(journal);
+    }
+
+    /// The journal in which changes are noted, if there is one.
+    pub fn journal(&self) -> Option<&T::Journal>
+        ensures { let journal = option_copied result in
+            KeepsIfAny T.Journal.is_whole T.Journal.stands_for journal self.now }
+    {
+        self.journal.as_ref()
+    }
+
+    /// Makes all changes outlast the process, as [`Journal::settle`].
+    pub fn settle(&mut self) -> Result<(), Unsettled>
+        ensures same { self.new ≡ self.old }
+        ensures settled { OnOk result (IsSettled T.Journal.is_whole T.Journal.stands_for
+            T.Journal.may_stay self.new) }
+    {
+        settle(&mut self.journal)
+    }
+
+    /// Makes all changes outlast the machine, as [`Journal::sync`].
+    pub fn sync(&mut self) -> Result<(), Unsettled>
+        ensures same { self.new ≡ self.old }
+        ensures synced { OnOk result (IsSynced T.Journal.is_whole T.Journal.stands_for
+            T.Journal.may_stay T.Journal.may_stand self.new) }
+    {
+        sync(&mut self.journal)
+    }
+
     /// The node, if it exists.
     pub fn node(&self, at: NodeRef) -> Option<&Node<T::Alloc>>
         ensures { option_copied result ≡ node_of at self.now }
@@ -98,8 +163,78 @@ impl<T: Tree> Forest<T> {
             ≡ tree_changed_at dir.server (added_new dir.number new.now) self.old) }
         ensures err { OnErr result (self.new ≡ self.old) }
     {
-        let number = self.trees[dir.server as usize].add(dir.number, new)?;
-        Ok(dir.beside(number))
+        let made = trees::add(&mut self.trees, dir, new)?;
+        let change = ForestChange::OnServer {
+            server: dir.server,
+            change: TreeChange::Create {
+                dir: dir.number,
+                new: new.copied(),
+            },
+        };
+        note(&mut self.journal, &change);
+        Ok(made)
+    }
+
+    /// A server joins behind the others, with a tree of a root alone, as [`Tree::with_root`]. Where
+    /// an allocation fails, the forest is unchanged.
+    pub fn add_server(&mut self, alloc: T::Alloc) -> Result<(), NoMemory>
+        requires { length self.old < servers_max }
+        ensures ok { OnOk result (self.new ≡ self.old ++ rooted ∷ []) }
+        ensures err { OnErr result (self.new ≡ self.old) }
+    {
+        trees::add_server(alloc, &mut self.trees)?;
+        note(&mut self.journal, &ForestChange::AddServer);
+        Ok(())
+    }
+
+    /// Makes the permissions, owner and group of the server's root these, as [`Tree::set_root`].
+    pub fn set_root(&mut self, server: u16, permissions: Permissions, uid: User, gid: User)
+        ensures { self.new ≡ tree_changed_at server
+            (with_changed 0 (with_owner permissions uid gid)) self.old }
+    {
+        trees::set_root(&mut self.trees, server, permissions, uid, gid);
+        let change = ForestChange::OnServer {
+            server,
+            change: TreeChange::SetRoot {
+                permissions,
+                uid,
+                gid,
+            },
+        };
+        note(&mut self.journal, &change);
+    }
+
+    /// Makes a node of the server with all of these fields, as [`Tree::put_back`]. Where an
+    /// allocation fails, the forest is unchanged.
+    pub fn put_back(&mut self, server: u16, saved: &Saved<'_>) -> Result<(), NoMemory>
+        requires { let was = server_at server self.old in CanPutBack was (saved_node saved.now) }
+        ensures ok { OnOk result (self.new
+            ≡ tree_changed_at server (put_back (saved_node saved.entry.now)) self.old) }
+        ensures err { OnErr result (self.new ≡ self.old) }
+    {
+        trees::put_back(&mut self.trees, server, saved)?;
+        let change = ForestChange::OnServer {
+            server,
+            change: TreeChange::PutBack {
+                saved: saved.copied(),
+            },
+        };
+        note(&mut self.journal, &change);
+        Ok(())
+    }
+
+    /// Makes this the next number of the server, as [`Tree::skip_to`].
+    pub fn skip_to(&mut self, server: u16, next: u64)
+        requires more { next_of server self.old ≤ next }
+        requires few { next ≤ next_max }
+        ensures { self.new ≡ tree_changed_at server (skipped_to next) self.old }
+    {
+        trees::skip_to(&mut self.trees, server, next);
+        let change = ForestChange::OnServer {
+            server,
+            change: TreeChange::Skip { next },
+        };
+        note(&mut self.journal, &change);
     }
 
     /// Takes out a file or an empty directory. Its parent isn't marked.
@@ -108,9 +243,12 @@ impl<T: Tree> Forest<T> {
         requires empty { IsFalse (has_children_of at self.old) }
         ensures { self.new ≡ tree_changed_at at.server (with_dropped at.number) self.old }
     {
-        if let Some(tree) = self.trees.get_mut(at.server as usize) {
-            tree.drop_leaf(at.number);
-        }
+        trees::drop_leaf(&mut self.trees, at);
+        let change = ForestChange::OnServer {
+            server: at.server,
+            change: TreeChange::Remove { number: at.number },
+        };
+        note(&mut self.journal, &change);
     }
 
     /// Makes all of the change in the node at once, as [`Tree::change`]. An allocation can fail
@@ -124,9 +262,15 @@ impl<T: Tree> Forest<T> {
         ensures there { OnErr result (IsTrue
             (exists_at at.number (server_at at.server self.old).nodes)) }
     {
-        if let Some(tree) = self.trees.get_mut(at.server as usize) {
-            tree.change(at.number, change)?;
-        }
+        trees::change(&mut self.trees, at, change)?;
+        let made = ForestChange::OnServer {
+            server: at.server,
+            change: TreeChange::Wstat {
+                number: at.number,
+                change: *change,
+            },
+        };
+        note(&mut self.journal, &made);
         Ok(())
     }
 
@@ -134,18 +278,23 @@ impl<T: Tree> Forest<T> {
     pub fn bump(&mut self, at: NodeRef, user: User, clock: u32)
         ensures { self.new ≡ forest_changed_at at (marked user clock) self.old }
     {
-        if let Some(tree) = self.trees.get_mut(at.server as usize) {
-            tree.bump(at.number, user, clock);
-        }
+        trees::bump(&mut self.trees, at, user, clock);
+        let change = ForestChange::OnServer {
+            server: at.server,
+            change: TreeChange::Mark {
+                number: at.number,
+                user,
+                clock,
+            },
+        };
+        note(&mut self.journal, &change);
     }
 
     /// Makes the clock reading the time when the file was last read.
     pub fn touch(&mut self, at: NodeRef, clock: u32)
         ensures { self.new ≡ forest_changed_at at (touched clock) self.old }
     {
-        if let Some(tree) = self.trees.get_mut(at.server as usize) {
-            tree.touch(at.number, clock);
-        }
+        trees::touch(&mut self.trees, at, clock);
     }
 
     /// Writes into a file at the offset, and fills a gap before it with zeros. It isn't marked.
@@ -159,9 +308,16 @@ impl<T: Tree> Forest<T> {
         ensures there { OnErr result (IsTrue
             (exists_at at.number (server_at at.server self.old).nodes)) }
     {
-        if let Some(tree) = self.trees.get_mut(at.server as usize) {
-            tree.write(at.number, offset, bytes)?;
-        }
+        trees::write(&mut self.trees, at, offset, bytes)?;
+        let change = ForestChange::OnServer {
+            server: at.server,
+            change: TreeChange::Write {
+                number: at.number,
+                offset,
+                bytes,
+            },
+        };
+        note(&mut self.journal, &change);
         Ok(())
     }
 
@@ -169,9 +325,15 @@ impl<T: Tree> Forest<T> {
     pub fn cut(&mut self, at: NodeRef, size: u64)
         ensures { self.new ≡ forest_changed_at at (with_bytes (cut_to size)) self.old }
     {
-        if let Some(tree) = self.trees.get_mut(at.server as usize) {
-            tree.cut(at.number, size);
-        }
+        trees::cut(&mut self.trees, at, size);
+        let change = ForestChange::OnServer {
+            server: at.server,
+            change: TreeChange::Truncate {
+                number: at.number,
+                size,
+            },
+        };
+        note(&mut self.journal, &change);
     }
 
     /// A forest has at most [`p9_base::SERVERS_MAX`] servers, and each is well-formed. This does
@@ -180,5 +342,44 @@ impl<T: Tree> Forest<T> {
         ensures { IsForest self.now }
     {
         let _trees = &self.trees;
+    }
+}
+
+// Notes a change of a forest, where there is a journal.
+fn note<J: Journal>(journal: &mut Option<J>, change: &ForestChange<'_>)
+    ensures { (forest : List Server) → KeepsIfAny J.is_whole J.stands_for journal.old forest
+        → KeepsIfAny J.is_whole J.stands_for journal.new
+        (forest_edited (forest_edit_of change.entry.now) forest) }
+{
+    if let Some(journal) = journal {
+        journal.note(change);
+    }
+}
+
+// Makes what was noted outlast the process, where there is a journal.
+fn settle<J: Journal>(journal: &mut Option<J>) -> Result<(), Unsettled>
+    ensures kept { (forest : List Server) → KeepsIfAny J.is_whole J.stands_for journal.old forest
+        → KeepsIfAny J.is_whole J.stands_for journal.new forest }
+    ensures settled { OnOk result ((forest : List Server)
+        → KeepsIfAny J.is_whole J.stands_for journal.old forest
+        → IsSettled J.is_whole J.stands_for J.may_stay forest) }
+{
+    match journal {
+        Some(journal) => journal.settle(),
+        None => Err(Unsettled::NoJournal),
+    }
+}
+
+// Makes what was noted outlast the machine, where there is a journal.
+fn sync<J: Journal>(journal: &mut Option<J>) -> Result<(), Unsettled>
+    ensures kept { (forest : List Server) → KeepsIfAny J.is_whole J.stands_for journal.old forest
+        → KeepsIfAny J.is_whole J.stands_for journal.new forest }
+    ensures synced { OnOk result ((forest : List Server)
+        → KeepsIfAny J.is_whole J.stands_for journal.old forest
+        → IsSynced J.is_whole J.stands_for J.may_stay J.may_stand forest) }
+{
+    match journal {
+        Some(journal) => journal.sync(),
+        None => Err(Unsettled::NoJournal),
     }
 }

@@ -8,15 +8,24 @@
 mod bytes;
 mod change;
 mod forest;
+mod forest_change;
+mod journal;
 mod new;
 mod node;
 mod plain;
+mod saved;
 mod tree;
+mod tree_change;
+mod trees;
 
 pub use bytes::{FILE_MAX, fits_file};
 pub use change::Change;
 pub use forest::Forest;
+pub use forest_change::ForestChange;
+pub use journal::{Journal, NoJournal, Unsettled};
 pub use new::New;
 pub use node::{Entry, Node};
 pub use plain::PlainTree;
+pub use saved::Saved;
 pub use tree::{NEXT_MAX, Tree};
+pub use tree_change::TreeChange;

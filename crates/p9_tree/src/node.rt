@@ -6,15 +6,18 @@ ghost use Rattle.std.specs.Option.{ForSome, option_map};
 ghost use Rattle.p9_base.specs.Name.{is_name, name_max};
 ghost use Rattle.p9_base.specs.Text.{is_text};
 ghost use Rattle.p9_tree.specs.Bytes.{cut_to, file_max, overwritten, put_front, read_from};
+ghost use Rattle.p9_tree.specs.From.{is_from};
 ghost use Rattle.p9_tree.specs.Change.{changed, with_length, with_mtime};
 ghost use Rattle.p9_tree.specs.New.{new_node};
 ghost use Rattle.p9_tree.specs.Node.{IsTellable, is_above, is_child, is_dir, is_in, marked};
 ghost use Rattle.p9_tree.specs.Node.{touched, with_bytes, with_owner};
+ghost use Rattle.p9_tree.specs.Saved.{saved_node, with_fields};
 ghost use Rattle.p9_tree.specs.Server.{root_mode, root_node};
 
 use crate::bytes::Bytes;
 use crate::change::Change;
 use crate::new::New;
+use crate::saved::Saved;
 use p9_base::{Kind, Mode, Name, NoMemory, Permissions, Rights, User, valid_name};
 use std::alloc::Allocator;
 use std::marker::Model;
@@ -186,6 +189,31 @@ impl<A: Allocator> Node<A> {
     {
         floor.is_none_or(|k| k < self.number)
     }
+
+    /// Whether its number is at least this one.
+    pub fn is_from(&self, number: u64) -> bool
+        ensures { result ≡ is_from number self.now }
+    {
+        number <= self.number
+    }
+
+    /// All its fields, as they are kept outside a tree.
+    pub fn saved(&self) -> Saved<'_>
+        ensures { saved_node result ≡ self.now }
+    {
+        Saved {
+            number: self.number,
+            entry: self.entry,
+            mode: self.mode,
+            uid: self.uid,
+            gid: self.gid,
+            muid: self.muid,
+            version: self.version,
+            atime: self.atime,
+            mtime: self.mtime,
+            bytes: self.bytes(),
+        }
+    }
 }
 
 /// What a tree does to its nodes, whichever way it keeps them. Outside a tree a node is only read.
@@ -234,6 +262,44 @@ impl<A: Allocator> Node<A> {
         };
         node.tellable();
         Ok(node)
+    }
+
+    /// The node that is saved. The only error is a failed allocation.
+    pub fn restored(alloc: A, saved: &Saved<'_>) -> Result<Node<A>, NoMemory>
+        ensures node { IfOk result (λ node. node ≡ saved_node saved.now) }
+        ensures name { ForSome saved.now.entry (λ entry. IsTrue (is_name entry.name)) }
+        ensures tellable { IfOk result (λ node. IsTellable node) }
+    {
+        prove_name_valid(&saved.entry);
+        let restored = Node {
+            number: saved.number,
+            entry: saved.entry,
+            mode: saved.mode,
+            uid: saved.uid,
+            gid: saved.gid,
+            muid: saved.muid,
+            version: saved.version,
+            atime: saved.atime,
+            mtime: saved.mtime,
+            bytes: Bytes::copy_of(alloc, saved.bytes)?,
+        };
+        restored.tellable();
+        Ok(restored)
+    }
+
+    /// Gives it the fields that are saved, but for its place, its kind and its bytes.
+    pub fn set_fields(&mut self, saved: &Saved<'_>)
+        ensures node { self.new ≡ with_fields (saved_node saved.entry.now) self.old }
+        ensures tellable { IsTellable self.new }
+    {
+        self.mode.permissions = saved.mode.permissions;
+        self.uid = saved.uid;
+        self.gid = saved.gid;
+        self.muid = saved.muid;
+        self.version = saved.version;
+        self.atime = saved.atime;
+        self.mtime = saved.mtime;
+        self.tellable();
     }
 
     /// Marks it, as changed by the user now: see [`Tree`](crate::Tree).
@@ -362,6 +428,16 @@ impl<A: Allocator> Node<A> {
             prove!(valid_name(name.as_str()));
             entry.name = name;
         }
+    }
+}
+
+// Proves that the name of an entry is a valid one, since the type of a name keeps that. It changes
+// nothing.
+fn prove_name_valid(entry: &Option<Entry>)
+    ensures { ForSome entry.now (λ entry. IsTrue (is_name entry.name)) }
+{
+    if let Some(entry) = entry {
+        prove!(valid_name(entry.name.as_str()));
     }
 }
 

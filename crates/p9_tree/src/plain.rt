@@ -2,11 +2,14 @@
 
 ghost use Rattle.std.specs.Prelude.{◌≡◌, position};
 ghost use Rattle.p9_tree.specs.Node.{has_number};
-ghost use Rattle.p9_tree.specs.Server.{Server, WellFormed};
+ghost use Rattle.p9_tree.specs.Saved.{saved_node, with_fields};
+ghost use Rattle.p9_tree.specs.Server.{Server, WellFormed, with_changed};
 
 use crate::change::Change;
+use crate::journal::NoJournal;
 use crate::new::New;
 use crate::node::Node;
+use crate::saved::Saved;
 use crate::tree::Tree;
 use p9_base::{Name, NoMemory, Permissions, User};
 use std::alloc::Allocator;
@@ -23,6 +26,8 @@ pub struct PlainTree<A: Allocator + Copy> {
 
 impl<A: Allocator + Copy> Tree for PlainTree<A> {
     type Alloc = A;
+
+    type Journal = NoJournal;
 
     ghost state = { λ t. record { nodes = t.nodes.items; next = t.next } };
 
@@ -44,6 +49,10 @@ impl<A: Allocator + Copy> Tree for PlainTree<A> {
 
     fn node(&self, number: u64) -> Option<&Node<A>> {
         self.nodes.iter().find(|n| n.number() == number)
+    }
+
+    fn first_from(&self, number: u64) -> Option<&Node<A>> {
+        self.nodes.iter().find(|n| n.is_from(number))
     }
 
     fn child(&self, dir: u64, name: &Name) -> Option<&Node<A>> {
@@ -68,6 +77,21 @@ impl<A: Allocator + Copy> Tree for PlainTree<A> {
         self.nodes.push(node)?;
         self.next = number + 1;
         Ok(number)
+    }
+
+    fn put_back(&mut self, saved: &Saved<'_>) -> Result<(), NoMemory> {
+        let Some(_entry) = saved.entry else {
+            self.set_root_fields(saved);
+            return Ok(());
+        };
+        let node = Node::restored(self.alloc, saved)?;
+        self.nodes.push(node)?;
+        self.next = saved.number + 1;
+        Ok(())
+    }
+
+    fn skip_to(&mut self, next: u64) {
+        self.next = next;
     }
 
     fn drop_leaf(&mut self, number: u64) {
@@ -122,5 +146,17 @@ impl<A: Allocator + Copy> PlainTree<A> {
         ensures { result ≡ position (has_number number) self.now.nodes.items }
     {
         self.nodes.iter().position(|n| n.number() == number)
+    }
+
+    // Gives the root the fields that are saved.
+    fn set_root_fields(&mut self, saved: &Saved<'_>)
+        ensures { let was : Server = record { nodes = self.old.nodes.items; next = self.old.next } in
+            let is : Server = record { nodes = self.new.nodes.items; next = self.new.next } in
+            is ≡ with_changed 0 (with_fields (saved_node saved.entry.now)) was }
+    {
+        let Some(at) = self.position(0) else {
+            return;
+        };
+        self.nodes[at].set_fields(saved);
     }
 }

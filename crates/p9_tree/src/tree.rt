@@ -7,13 +7,17 @@ ghost use Rattle.p9_tree.specs.Bytes.{cut_to, file_max, overwritten, put_front, 
 ghost use Rattle.p9_tree.specs.Change.{CanChange, changed};
 ghost use Rattle.p9_tree.specs.New.{CanAddNew, added_new};
 ghost use Rattle.p9_tree.specs.Node.{marked, touched, with_bytes, with_owner};
+ghost use Rattle.p9_tree.specs.Saved.{CanPutBack, put_back, saved_node, skipped_to};
 ghost use Rattle.p9_tree.specs.Server.{Server, WellFormed, bytes_at, child_after, child_of};
-ghost use Rattle.p9_tree.specs.Server.{has_children, is_dir_at, node_at, rooted, with_changed};
-ghost use Rattle.p9_tree.specs.Server.{exists_at, with_dropped};
+ghost use Rattle.p9_tree.specs.Server.{has_children, is_dir_at, next_max, node_at};
+ghost use Rattle.p9_tree.specs.From.{node_from};
+ghost use Rattle.p9_tree.specs.Server.{exists_at, rooted, with_changed, with_dropped};
 
 use crate::change::Change;
+use crate::journal::Journal;
 use crate::new::New;
 use crate::node::Node;
+use crate::saved::Saved;
 use p9_base::{Name, NoMemory, Permissions, User};
 use std::alloc::Allocator;
 
@@ -32,11 +36,15 @@ pub const NEXT_MAX: u64 = 1 << 48;
 /// 2^32, and both its times become the clock reading.
 ///
 /// A call that names a number at which there is no node changes nothing. Of the
-/// calls on a tree only `add`, `change` and `write` take memory; where an allocation fails they
-/// return so, and the tree is unchanged.
+/// calls on a tree only `add`, `change`, `write` and `put_back` take memory; where an allocation
+/// fails they return so, and the tree is unchanged.
 pub trait Tree: Sized + Drop {
     /// The allocator of all that grows in it.
     type Alloc: Allocator + Copy;
+
+    /// What keeps the changes of a forest of such trees. It is [`NoJournal`](crate::NoJournal) where
+    /// nothing does.
+    type Journal: Journal;
 
     ghost state: { Self → Server };
 
@@ -52,6 +60,11 @@ pub trait Tree: Sized + Drop {
     /// The node of this number.
     fn node(&self, number: u64) -> Option<&Node<Self::Alloc>>
         ensures { option_copied result ≡ node_at number (state self.now).nodes };
+
+    /// The node of least number that is at least this one. From number 0 on, one after another, these
+    /// are all nodes.
+    fn first_from(&self, number: u64) -> Option<&Node<Self::Alloc>>
+        ensures { option_copied result ≡ node_from number (state self.now).nodes };
 
     /// The node of this name in the directory.
     fn child(&self, dir: u64, name: &Name) -> Option<&Node<Self::Alloc>>
@@ -73,6 +86,21 @@ pub trait Tree: Sized + Drop {
         ensures number { IfOk result (λ number. number ≡ (state self.old).next) }
         ensures ok { OnOk result (state self.new ≡ added_new dir new.now (state self.old)) }
         ensures err { OnErr result (state self.new ≡ state self.old) };
+
+    /// Makes a node with all of these fields. Its number was never given, and from then on no number
+    /// up to it is given. Where the fields have no entry, they are those of the root: it gets all of
+    /// them but its kind and its bytes, which it keeps. The only error is a failed allocation.
+    fn put_back(&mut self, saved: &Saved<'_>) -> Result<(), NoMemory>
+        requires { CanPutBack (state self.old) (saved_node saved.now) }
+        ensures ok { OnOk result (state self.new
+            ≡ put_back (saved_node saved.entry.now) (state self.old)) }
+        ensures err { OnErr result (state self.new ≡ state self.old) };
+
+    /// Makes this the next number.
+    fn skip_to(&mut self, next: u64)
+        requires more { (state self.old).next ≤ next }
+        requires few { next ≤ next_max }
+        ensures { state self.new ≡ skipped_to next (state self.old) };
 
     /// Takes out a file or an empty directory. Its parent isn't marked.
     fn drop_leaf(&mut self, number: u64)

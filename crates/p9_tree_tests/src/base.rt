@@ -1,5 +1,6 @@
 //! Texts, bounds and bits, with values from the manual's tables.
 
+use crate::checks::is_text;
 use crate::words::{name, take_word, user};
 use p9_base::{
     DMAPPEND, DMDIR, DMEXCL, DMTMP, Fault, FileFlags, Group, Groups, Kind, Mode, Name, NoMemory,
@@ -83,7 +84,7 @@ fn faults_have_their_numbers_and_texts(rt: HostRuntime) {
         let (number, text) = (fault.number(), fault.text());
         writeln!(told, "{number} {text} = {fault}").expect(&rt, "memory");
     }
-    assert!(rt; told.as_str() == TOLD);
+    is_text(&rt, told.as_str(), TOLD);
 }
 
 #[test]
@@ -114,9 +115,14 @@ a\0 = nothing
 #[test]
 fn names_and_users_are_bounded(rt: HostRuntime) {
     for line in TEXTS.lines() {
-        let (text, want) = line.split_once(" = ").expect(&rt, "a text");
-        assert!(rt; told_of(text) == want, "{line}");
+        is_told_of(&rt, line);
     }
+}
+
+// What a line says of its text is told of it.
+fn is_told_of(rt: &impl Abort, line: &str) {
+    let (text, want) = line.split_once(" = ").expect(rt, "a text");
+    assert!(rt; told_of(text) == want, "{line}");
 }
 
 #[test]
@@ -135,18 +141,25 @@ fn is_told(rt: &impl Abort, alloc: Global, letters: usize, want: &str) {
 
 // Whether a text is a name, and a user.
 fn told_of(text: &str) -> &'static str {
-    let name = Name::new(text);
-    let user = User::new(text);
-    if valid_name(text) != name.is_some() {
+    if valid_name(text) != Name::new(text).is_some() {
         return "a name in one way alone";
     }
-    match (name, user) {
-        (Some(name), Some(user)) if name.as_str() == text && user.as_str() == text => "name, user",
-        (Some(name), None) if name.as_str() == text => "name",
-        (None, Some(user)) if user.as_str() == text => "user",
-        (None, None) => "nothing",
-        _ => "another text",
+    match (is_name(text), is_user(text)) {
+        (true, true) => "name, user",
+        (true, false) => "name",
+        (false, true) => "user",
+        (false, false) => "nothing",
     }
+}
+
+// Whether a text is a name, which has this text then.
+fn is_name(text: &str) -> bool {
+    Name::new(text).is_some_and(|name| name.as_str() == text)
+}
+
+// Whether a text is a user's, who has this name then.
+fn is_user(text: &str) -> bool {
+    User::new(text).is_some_and(|user| user.as_str() == text)
 }
 
 #[test]
@@ -359,9 +372,13 @@ fn are_in_order(rt: &impl Abort, alloc: Global, groups: &Groups<Global>) {
     assert!(rt; groups.len() == 2);
     let mut told = String::new(alloc);
     for position in 0..3 {
-        assert!(rt; tell_in_order(groups, position, &mut told).is_ok());
+        tell_in_order(groups, position, &mut told).expect(rt, "memory");
     }
-    assert!(rt; told.as_str() == "staff rob \"glenda\" \"ken\"\nnone ken\n");
+    is_text(
+        rt,
+        told.as_str(),
+        "staff rob \"glenda\" \"ken\"\nnone ken\n",
+    );
 }
 
 // Adds the name, the leader and the members of the group at a position, if there is one.

@@ -4,6 +4,7 @@
 use crate::calls::plays;
 use crate::nodes::gives_root;
 use crate::refused::{asks_again_for_its_root, grows_again};
+use crate::saved::restores;
 use p9_index::IndexTree;
 use p9_testing::Refusing;
 use p9_tree::{PlainTree, Tree};
@@ -24,6 +25,8 @@ pub enum Work<'a> {
     Calls(&'a str),
     /// The root is given.
     Root,
+    /// The calls of these lines are made over a tree.
+    Restored(&'a str),
 }
 
 /// Does the work over trees of both kinds.
@@ -45,6 +48,7 @@ fn does<T: Tree>(rt: &impl Abort, alloc: T::Alloc, printing: Global, work: Work<
     match work {
         Work::Calls(lines) => plays::<T>(rt, alloc, printing, lines),
         Work::Root => gives_root::<T>(rt, alloc, printing),
+        Work::Restored(lines) => restores::<T>(rt, alloc, printing, lines),
     }
 }
 

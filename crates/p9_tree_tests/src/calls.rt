@@ -1,6 +1,7 @@
 //! The calls of a forest, made from lines. Each goes to the tree of its server.
 
 use crate::both::{Work, on_both};
+use crate::checks::is_text_of;
 use crate::growths::grow;
 use crate::looks::look;
 use crate::words::{take_number, take_u16, take_u32, take_word, user};
@@ -22,9 +23,9 @@ pub fn two_servers<T: Tree>(rt: &impl Abort, alloc: T::Alloc) -> Forest<T> {
     trees.push(root).expect(rt, "memory");
     let root = T::with_root(alloc).expect(rt, "memory");
     trees.push(root).expect(rt, "memory");
-    let mut forest = Forest { trees };
+    let mut forest = Forest::new(trees);
     for line in SMALL.lines() {
-        assert!(rt; call(rt, &mut forest, line).is_ok());
+        call(rt, &mut forest, line).expect(rt, "memory");
     }
     forest
 }
@@ -47,7 +48,7 @@ pub fn make_all<T: Tree>(rt: &impl Abort, printing: Global, forest: &mut Forest<
     for line in lines.lines() {
         match line.split_once(" = ") {
             Some((words, want)) => is_found(rt, printing, forest, words, want),
-            None => assert!(rt; call(rt, forest, line).is_ok()),
+            None => call(rt, forest, line).expect(rt, "memory"),
         }
     }
 }
@@ -62,7 +63,7 @@ fn is_found<T: Tree>(
 ) {
     let mut told = String::new(printing);
     look(rt, forest, words, &mut told);
-    assert!(rt; told.as_str() == want, "{words}");
+    is_text_of(rt, told.as_str(), want, words);
 }
 
 /// Makes the call of a line: its server, what it does, at which number, and with what.

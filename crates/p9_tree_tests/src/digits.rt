@@ -1,12 +1,13 @@
 //! Bytes of hexadecimal digits.
 
+use crate::checks::are_bytes;
 use hex::FromHexError;
 use p9_testing::bytes_of;
 
 #[test]
 fn blanks_part_fields(rt: HostRuntime) {
     let bytes = bytes_of(rt.alloc(), "07000000 6d 0300").expect(&rt, "bytes");
-    assert!(rt; bytes.as_slice() == [7, 0, 0, 0, 0x6d, 3, 0].as_slice());
+    are_bytes(&rt, bytes.as_slice(), &[7, 0, 0, 0, 0x6d, 3, 0]);
 }
 
 #[test]

@@ -20,11 +20,8 @@ pub fn grow<T: Tree>(
     line: &mut &str,
 ) -> Result<(), NoMemory> {
     match word {
-        "add" => add(rt, forest, at, &take_new(rt, line)),
-        "write" => {
-            let offset = take_number(rt, line);
-            write(rt, forest, at, offset, line.as_bytes())
-        }
+        "add" => add(rt, forest, at, line),
+        "write" => write(rt, forest, at, line),
         _ => change(rt, forest, at, line),
     }
 }
@@ -48,22 +45,24 @@ fn add<T: Tree>(
     rt: &impl Abort,
     forest: &mut Forest<T>,
     dir: NodeRef,
-    new: &New<'_>,
+    line: &mut &str,
 ) -> Result<(), NoMemory> {
+    let new = take_new(rt, line);
     let number = forest.next_of(dir.server);
     assert!(rt; number < NEXT_MAX && new.bytes.len() <= FILE_MAX);
     assert!(rt; is_dir(forest.node(dir)) && forest.child(dir, &new.name).is_none());
     assert!(rt; !new.mode.is_dir() || new.bytes.is_empty());
-    match forest.add(dir, new) {
-        Ok(made) => {
-            assert!(rt; made.server == dir.server && made.number == number);
-            Ok(())
-        }
-        Err(NoMemory) => Err(NoMemory),
-    }
+    let made = forest.add(dir, &new)?;
+    is_made(rt, made, dir.server, number);
+    Ok(())
 }
 
-fn is_dir<A: Allocator>(found: Option<&Node<A>>) -> bool
+fn is_made(rt: &impl Abort, made: NodeRef, server: u16, number: u64) {
+    assert!(rt; made.server == server && made.number == number);
+}
+
+/// Whether it is a directory that exists.
+pub fn is_dir<A: Allocator>(found: Option<&Node<A>>) -> bool
     ensures { result ≡ option_map_or is_dir_node (option_copied found.entry) false }
 {
     match found {
@@ -76,9 +75,10 @@ fn write<T: Tree>(
     rt: &impl Abort,
     forest: &mut Forest<T>,
     at: NodeRef,
-    offset: u64,
-    bytes: &[u8],
+    line: &mut &str,
 ) -> Result<(), NoMemory> {
+    let offset = take_number(rt, line);
+    let bytes = line.as_bytes();
     assert!(rt; !is_dir(forest.node(at)));
     assert!(rt; offset <= FILE_MAX as u64 && bytes.len() <= FILE_MAX - offset as usize);
     forest.write(at, offset, bytes)

@@ -17,6 +17,8 @@ mod calls;
 #[cfg(test)]
 mod changes;
 #[cfg(test)]
+mod checks;
+#[cfg(test)]
 mod clean;
 #[cfg(test)]
 mod digits;
@@ -25,6 +27,8 @@ mod forests;
 #[cfg(test)]
 mod growths;
 #[cfg(test)]
+mod kept;
+#[cfg(test)]
 mod looks;
 #[cfg(test)]
 mod many;
@@ -32,6 +36,8 @@ mod many;
 mod nodes;
 #[cfg(test)]
 mod refused;
+#[cfg(test)]
+mod saved;
 #[cfg(test)]
 mod testing;
 #[cfg(test)]

@@ -14,7 +14,7 @@ pub fn look<T: Tree>(rt: &impl Abort, forest: &Forest<T>, line: &str, told: &mut
     let word = take_word(&mut rest);
     if word == "next" {
         let next = forest.next_of(server);
-        assert!(rt; write!(told, "{next}").is_ok());
+        write!(told, "{next}").expect(rt, "memory");
     } else {
         let number = take_number(rt, &mut rest);
         look_at(
@@ -57,23 +57,31 @@ pub fn tell<A: Allocator>(rt: &impl Abort, found: Option<&Node<A>>, told: &mut S
         Some(node) => write_node(node, told),
         None => told.push_str("none"),
     };
-    assert!(rt; written.is_ok());
+    written.expect(rt, "memory");
 }
 
 // Adds what a node is.
 fn write_node<A: Allocator>(node: &Node<A>, told: &mut String) -> Result<(), AllocError> {
-    write!(told, "{} {:?} ", node.number(), node.parent())?;
-    told.push_str(node.name())?;
-    let (mode, uid, gid, muid) = (
+    write!(
+        told,
+        "{} {:?} {} {:x} {} {} {} {} {} {} [{}]",
+        node.number(),
+        node.parent(),
+        node.name(),
         node.mode().bits(),
         node.uid().as_str(),
         node.gid().as_str(),
         node.muid().as_str(),
-    );
-    write!(told, " {mode:x} {uid} {gid} {muid}")?;
-    let (version, atime, mtime) = (node.version(), node.atime(), node.mtime());
-    let text = str::from_utf8(node.bytes()).unwrap_or("?");
-    write!(told, " {version} {atime} {mtime} [{text}]")
+        node.version(),
+        node.atime(),
+        node.mtime(),
+        text_of(node.bytes())
+    )
+}
+
+// The text of bytes.
+fn text_of(bytes: &[u8]) -> &str {
+    str::from_utf8(bytes).unwrap_or("?")
 }
 
 // Adds how many bytes a node has.
@@ -82,7 +90,7 @@ fn length<A: Allocator>(rt: &impl Abort, found: Option<&Node<A>>, told: &mut Str
         Some(node) => node.bytes().len(),
         None => 0,
     };
-    assert!(rt; write!(told, "{length}").is_ok());
+    write!(told, "{length}").expect(rt, "memory");
 }
 
 // Adds the count and the whole buffer of six bytes, after a read at the offset over its first bytes,
@@ -99,9 +107,16 @@ fn read<T: Tree>(
     let mut buffer = *b"......";
     let mut again = *b"......";
     let count = read_forest(forest, at, offset, room, &mut buffer);
-    assert!(rt; read_tree(forest, at, offset, room, &mut again) == count && buffer == again);
-    let text = str::from_utf8(&buffer).unwrap_or("?");
-    assert!(rt; write!(told, "{count} {text}").is_ok());
+    let counted = read_tree(forest, at, offset, room, &mut again);
+    assert!(rt; counted == count);
+    tell_read(rt, count, &buffer, &again, told);
+}
+
+// Adds a count and the buffers of both reads, which are the same.
+fn tell_read(rt: &impl Abort, count: usize, buffer: &[u8], again: &[u8], told: &mut String) {
+    assert!(rt; buffer == again);
+    let text = text_of(buffer);
+    write!(told, "{count} {text}").expect(rt, "memory");
 }
 
 // Reads over so many bytes of a buffer.
@@ -127,7 +142,7 @@ fn read_tree<T: Tree>(
     buffer: &mut [u8],
 ) -> usize {
     match (
-        forest.trees.get(at.server as usize),
+        forest.trees().get(at.server as usize),
         buffer.split_at_mut_checked(room),
     ) {
         (Some(tree), Some((front, _))) => tree.read_into(at.number, offset, front),

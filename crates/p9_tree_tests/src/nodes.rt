@@ -2,6 +2,7 @@
 
 use crate::both::{Work, on_both};
 use crate::calls::plays_in_both;
+use crate::checks::is_text;
 use crate::looks::tell;
 use crate::words::user;
 use p9_base::Permissions;
@@ -72,7 +73,11 @@ pub fn gives_root<T: Tree>(rt: &impl Abort, alloc: T::Alloc, printing: Global) {
     let mut told = String::new(printing);
     tell(rt, tree.node(0), &mut told);
     drop(tree);
-    assert!(rt; told.as_str() == "0 None / 800001ff glenda staff glenda 0 0 0 []");
+    is_text(
+        rt,
+        told.as_str(),
+        "0 None / 800001ff glenda staff glenda 0 0 0 []",
+    );
 }
 
 #[test]

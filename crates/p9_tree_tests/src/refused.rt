@@ -2,8 +2,9 @@
 
 use crate::both::{Kind, Trial, refusals};
 use crate::calls::{call, make_all, two_servers};
+use crate::checks::is_text;
 use crate::looks::look;
-use p9_testing::{Refusing, refuse_each};
+use p9_testing::Refusing;
 use p9_tree::{Forest, Tree};
 use std::alloc::{AllocError, Global};
 use std::process::Abort;
@@ -49,9 +50,13 @@ fn told<T: Tree>(rt: &impl Abort, printing: Global, forest: &Forest<T>, looks: &
     let mut told = String::new(printing);
     for words in looks.lines() {
         look(rt, forest, words, &mut told);
-        assert!(rt; told.push_str("\n").is_ok());
+        end_line(rt, &mut told);
     }
     told
+}
+
+fn end_line(rt: &impl Abort, told: &mut String) {
+    told.push_str("\n").expect(rt, "memory");
 }
 
 // Makes the call, again where it was refused, when every look returns what it returned before.
@@ -64,10 +69,21 @@ fn grow<T: Tree>(
 ) {
     let before = told(rt, printing, forest, looks);
     if call(rt, forest, line).is_err() {
-        let after = told(rt, printing, forest, looks);
-        assert!(rt; after.as_str() == before.as_str(), "{line}");
-        assert!(rt; call(rt, forest, line).is_ok());
+        are_told(rt, printing, forest, looks, before.as_str());
+        call(rt, forest, line).expect(rt, "memory");
     }
+}
+
+// The looks find this.
+fn are_told<T: Tree>(
+    rt: &impl Abort,
+    printing: Global,
+    forest: &Forest<T>,
+    looks: &str,
+    want: &str,
+) {
+    let found = told(rt, printing, forest, looks);
+    is_text(rt, found.as_str(), want);
 }
 
 // Makes the calls, and looks at the end.
@@ -93,15 +109,21 @@ pub fn grows_again<T: Tree>(
 ) -> u64 {
     let mut calls = String::new(printing);
     let mut looks = String::new(printing);
-    assert!(rt; write_calls(&mut calls).is_ok() && write_looks(&mut looks).is_ok());
-    refuse_each(
-        memory,
-        || two_servers::<T>(rt, lent),
-        |mut forest| {
-            grows(rt, printing, &mut forest, looks.as_str(), calls.as_str());
-            drop(forest);
-        },
-    )
+    write_calls(&mut calls).expect(rt, "memory");
+    write_looks(&mut looks).expect(rt, "memory");
+    let mut refusals = 0;
+    for n in 1..u64::MAX {
+        refusals = n - 1;
+        let mut forest = two_servers::<T>(rt, lent);
+        memory.refuse(n);
+        grows(rt, printing, &mut forest, looks.as_str(), calls.as_str());
+        drop(forest);
+        if !memory.has_refused() {
+            break;
+        }
+    }
+    memory.refuse(0);
+    refusals
 }
 
 // Each request of the growths is refused in turn. A file and its longer bytes ask for one each.

@@ -28,15 +28,20 @@ const NUMBERS: &str = "\
 #[test]
 fn reads_numbers(rt: HostRuntime) {
     for row in NUMBERS.lines() {
-        let (word, bounds) = row.split_once('|').expect(&rt, "a word");
-        let (limit, want) = bounds.split_once('|').expect(&rt, "a limit");
-        let limit = limit.parse::<u64>().expect(&rt, "a limit");
-        assert!(rt; number(word, limit) == want.parse::<u64>().ok(), "{row:?}");
+        is_number(&rt, row);
     }
 }
 
-// The texts that are found are those between bars.
-fn are(rt: &impl Abort, found: &[&str], want: &str) {
+// The word of a row is this number below its limit.
+fn is_number(rt: &impl Abort, row: &str) {
+    let (word, bounds) = row.split_once('|').expect(rt, "a word");
+    let (limit, want) = bounds.split_once('|').expect(rt, "a limit");
+    let limit = limit.parse::<u64>().expect(rt, "a limit");
+    assert!(rt; number(word, limit) == want.parse::<u64>().ok(), "{row:?}");
+}
+
+/// The texts that are found are those between bars.
+pub fn are(rt: &impl Abort, found: &[&str], want: &str) {
     assert!(rt; found.iter().copied().eq(want.split('|')), "{want:?}");
 }
 

@@ -7,13 +7,13 @@
 #![tactic(auto)]
 
 mod constants;
-mod fields;
+pub mod fields;
 mod fits;
 mod frame;
 pub mod laws;
 mod message;
 mod names;
-mod put;
+pub mod put;
 mod qids;
 mod r_reading;
 mod r_writing;

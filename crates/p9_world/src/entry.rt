@@ -37,8 +37,7 @@ pub(crate) fn add_dir<T: Tree>(
     ensures { Makes (in_last_server (dir_line words.entry.path.now words.entry.mode.now
         words.entry.uid.now words.entry.gid.now) world.old) world.old world.new result }
 {
-    let forest = &mut world.forest;
-    let Some(tree) = forest.trees.last_mut() else {
+    let Some(tree) = world.trees.last_mut() else {
         return Err(Stop::Refused(LineFault::NoServer));
     };
     add_dir_to(alloc, tree, &mut world.last_dir, words)
@@ -54,8 +53,7 @@ pub(crate) fn add_file<T: Tree>(
     ensures { Makes (in_last_server (file_line words.entry.path.now words.entry.mode.now
         words.entry.uid.now words.entry.gid.now hex.now) world.old) world.old world.new result }
 {
-    let forest = &mut world.forest;
-    let Some(tree) = forest.trees.last_mut() else {
+    let Some(tree) = world.trees.last_mut() else {
         return Err(Stop::Refused(LineFault::NoServer));
     };
     add_file_to(alloc, tree, &mut world.last_dir, words, hex)

@@ -26,8 +26,7 @@ pub(crate) fn hide<T: Tree>(
     let Some(names) = names_of(alloc, path)? else {
         return Err(Stop::Refused(LineFault::BadPath));
     };
-    let forest = &world.forest;
-    let Some(number) = dir_of(&forest.trees[server], names.as_slice()) else {
+    let Some(number) = dir_of(&world.trees[server], names.as_slice()) else {
         return Err(Stop::Refused(LineFault::NoParent));
     };
     add_hidden(

@@ -19,7 +19,7 @@ use std::marker::Model;
 /// It is seen as the world.
 #[derive(Drop)]
 pub(crate) struct Reader<T: Tree> {
-    pub forest: Forest<T>,
+    pub trees: Vec<T, T::Alloc>,
     pub users: Vec<User, T::Alloc>,
     pub groups: Groups<T::Alloc>,
     pub hidden: Vec<NodeRef, T::Alloc>,
@@ -33,15 +33,16 @@ pub(crate) struct Reader<T: Tree> {
 }
 
 impl<T: Tree> Model for Reader<T> {
+    ghost use Rattle.std.specs.Prelude.{map};
     ghost use Rattle.p9_world.specs.World.{World as WorldOf, world_view};
     ghost use Rattle.p9_world.specs.Reader.{IsReader};
 
     ghost Value = { WorldOf };
 
-    ghost view = { λ r. world_view r.forest r.users.items r.groups
+    ghost view = { λ r. world_view (map T.state r.trees.items) r.users.items r.groups
         r.hidden.items r.vars.items r.servers.items };
 
-    ghost invariant = { λ r. IsReader (world_view r.forest r.users.items
+    ghost invariant = { λ r. IsReader (world_view (map T.state r.trees.items) r.users.items
         r.groups r.hidden.items r.vars.items r.servers.items) r.user_positions r.variable_positions
         r.server_positions r.hidden_set r.last_dir };
 }
@@ -52,9 +53,7 @@ impl<T: Tree> Reader<T> {
         ensures { result ≡ empty_world }
     {
         Reader {
-            forest: Forest {
-                trees: Vec::new(alloc),
-            },
+            trees: Vec::new(alloc),
             users: Vec::new(alloc),
             groups: Groups::new(alloc),
             hidden: Vec::new(alloc),
@@ -73,7 +72,7 @@ impl<T: Tree> Reader<T> {
         ensures { result ≡ self }
     {
         World {
-            forest: self.forest,
+            forest: Forest::new(self.trees),
             users: self.users,
             groups: self.groups,
             hidden: self.hidden,

@@ -33,12 +33,11 @@ pub(crate) fn add_server<T: Tree>(
     }
     let tree = T::with_root(alloc)?;
     let owned = String::from_str(alloc, name)?;
-    let forest = &mut world.forest;
-    forest.trees.reserve(1)?;
+    world.trees.reserve(1)?;
     world.servers.reserve(1)?;
     world.server_positions.insert(name, world.servers.len())?;
     world.servers.push(owned).unwrap();
-    forest.trees.push(tree).unwrap();
+    world.trees.push(tree).unwrap();
     world.last_dir = LastDir::root(alloc);
     Ok(())
 }

@@ -103,18 +103,18 @@ fn without(
     rows: &[NodeRef],
     left_out: usize,
 ) -> Certificate<Global> {
-    let text = text_without(alloc, rows, left_out).expect(rt, "a text");
+    let text = text_without(rt, alloc, rows, left_out);
     read_cert(alloc, text.as_str()).expect(rt, "a certificate")
 }
 
-fn text_without(alloc: Global, rows: &[NodeRef], left_out: usize) -> Result<String, AllocError> {
-    let mut text = String::from_str(alloc, "cert 1\n")?;
+fn text_without(rt: &impl Abort, alloc: Global, rows: &[NodeRef], left_out: usize) -> String {
+    let mut text = String::from_str(alloc, "cert 1\n").expect(rt, "a text");
     for (i, row) in rows.iter().enumerate() {
         if i != left_out {
-            writeln!(text, "dir {} {}", row.server, row.number)?;
+            writeln!(text, "dir {} {}", row.server, row.number).expect(rt, "a row");
         }
     }
-    Ok(text)
+    text
 }
 
 // A certificate is accepted, and needs each row.

@@ -1,5 +1,6 @@
 //! Texts of a world and a mount table.
 
+use crate::checks::is_text_of;
 use crate::printing::world_of;
 use crate::tables::{nodes_of, table_of};
 use p9_base::{NoMemory, NodeRef};
@@ -48,7 +49,7 @@ pub fn is_judged<T: Tree>(rt: &impl Abort, alloc: Global, lent: T::Alloc, row: &
     let space = space_of::<T>(rt, lent, row);
     let told = told_of(rt, alloc, &space);
     drop(space);
-    assert!(rt; told.as_str() == want, "{row}");
+    is_text_of(rt, told.as_str(), want, row);
 }
 
 // Tells what `judge` returns.

@@ -2,6 +2,7 @@
 
 use super::printing::{Space, space_of};
 use crate::both::{Work, on_both};
+use crate::checks::is_text;
 use p9_base::NoMemory;
 use p9_judge::{Verdict, judge};
 use p9_testing::{Refusing, refuse_each};
@@ -27,11 +28,11 @@ dir /a 755 sys sys;dir /a/b 755 sys sys;dir /a/c 755 sys sys;dir /a/d 755 sys sy
 dir /a/b/e 755 sys sys;dir /a/b/e/v 000 sys sys;hide main /a/b/e/v | 0 4 0 4 0 3 |";
 
 // Judges, again where an allocation failed.
-fn judge_again<'a, T: Tree>(
+fn judge_again<A: Allocator + Copy, T: Tree>(
     rt: &impl Abort,
-    memory: &'a Refusing<Global>,
+    memory: A,
     space: &Space<T>,
-) -> Verdict<&'a Refusing<Global>> {
+) -> Verdict<A> {
     match judge(memory, &space.world, &space.table) {
         Ok(verdict) => verdict,
         Err(NoMemory) => judge(memory, &space.world, &space.table).expect(
@@ -50,9 +51,9 @@ fn verdict_text<A: Allocator>(alloc: Global, verdict: &Verdict<A>) -> Result<Str
 }
 
 // Judges so, and compares what is found.
-fn is_judged<T: Tree>(
+fn is_judged<A: Allocator + Copy, T: Tree>(
     rt: &impl Abort,
-    memory: &Refusing<Global>,
+    memory: A,
     space: &Space<T>,
     alloc: Global,
     want: &str,
@@ -60,7 +61,7 @@ fn is_judged<T: Tree>(
     let verdict = judge_again(rt, memory, space);
     let text = verdict_text(alloc, &verdict).expect(rt, "a text");
     drop(verdict);
-    assert!(rt; text.as_str() == want);
+    is_text(rt, text.as_str(), want);
 }
 
 // Judges with each request of memory refused in turn.

@@ -1,6 +1,7 @@
 //! What is wrong with a line: each fault once, and which of two it is.
 
 use crate::both::{Work, on_both};
+use crate::checks::is_text;
 use p9_tree::Tree;
 use p9_world::read_world;
 use std::alloc::{AllocError, Global};
@@ -181,7 +182,7 @@ pub fn is_reported<T: Tree>(
     want: &str,
 ) {
     let told = told_over::<T>(alloc, lent, text).expect(rt, "a text");
-    assert!(rt; told.as_str() == want, "{told}, not {want}");
+    is_text(rt, told.as_str(), want);
 }
 
 // What is reported of the text.

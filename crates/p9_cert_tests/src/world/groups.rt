@@ -1,6 +1,7 @@
 //! Groups of a world: who is a member, and who leads.
 
 use crate::both::{Reading, Work, on_both, read_refused};
+use crate::checks::is_text;
 use p9_base::{Groups, User};
 use p9_tree::Tree;
 use p9_world::read_world;
@@ -55,7 +56,7 @@ pub fn is_asked<A: Allocator + Copy>(
 ) {
     for row in rows.lines() {
         let told = row_of(rt, alloc, groups, row).expect(rt, "a text");
-        assert!(rt; told.as_str() == row);
+        is_text(rt, told.as_str(), row);
     }
 }
 
@@ -122,13 +123,13 @@ fn groups_are_read_after_each_refusal(rt: HostRuntime) {
 }
 
 // A world with a group of 10,000 members, and more words after them.
-fn many_members(alloc: Global, more: &str) -> Result<String, AllocError> {
-    let mut text = String::from_str(alloc, "server main\ngroup many u1")?;
+fn many_members(rt: &impl Abort, alloc: Global, more: &str) -> String {
+    let mut text = String::from_str(alloc, "server main\ngroup many u1").expect(rt, "a text");
     for number in 0..10_000 {
-        write!(&mut text, " u{number}")?;
+        write!(&mut text, " u{number}").expect(rt, "a member");
     }
-    text.push_str(more)?;
-    Ok(text)
+    text.push_str(more).expect(rt, "a text");
+    text
 }
 
 const MANY_ASKED: &str = "\
@@ -142,7 +143,7 @@ few u9999 false true";
 
 #[test]
 fn a_group_may_have_many_members(rt: HostRuntime) {
-    let text = many_members(rt.alloc(), "\ngroup few u9999 u0").expect(&rt, "a text");
+    let text = many_members(&rt, rt.alloc(), "\ngroup few u9999 u0");
     let (text, rows) = (text.as_str(), MANY_ASKED);
     on_both(&rt, rt.alloc(), Work::Groups { text, rows });
 }
@@ -157,15 +158,14 @@ no fault = u10000";
 #[test]
 fn one_of_many_members_is_there_twice(rt: HostRuntime) {
     for row in TWICE.lines() {
-        let (want, more) = row.split_once(" =").expect(&rt, "a member");
-        let text = many_members(rt.alloc(), more).expect(&rt, "a text");
-        on_both(
-            &rt,
-            rt.alloc(),
-            Work::Report {
-                text: text.as_str(),
-                want,
-            },
-        );
+        is_there_twice(&rt, rt.alloc(), row);
     }
+}
+
+// This is reported of many members and one more.
+fn is_there_twice(rt: &impl Abort, alloc: Global, row: &str) {
+    let (want, more) = row.split_once(" =").expect(rt, "a member");
+    let text = many_members(rt, alloc, more);
+    let text = text.as_str();
+    on_both(rt, alloc, Work::Report { text, want });
 }

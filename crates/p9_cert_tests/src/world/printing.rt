@@ -8,8 +8,7 @@ use std::alloc::{AllocError, Allocator};
 /// Writes the servers' names and nodes, the users, the hidden directories and the variables.
 pub fn tell_world<T: Tree>(told: &mut String, world: &World<T>) -> Result<(), AllocError> {
     servers(told, world.servers.as_slice())?;
-    let forest = &world.forest;
-    trees(told, forest.trees.as_slice())?;
+    trees(told, world.forest.trees())?;
     users(told, world.users.as_slice())?;
     hidden(told, world.hidden.as_slice())?;
     vars(told, world.vars.as_slice())
@@ -71,19 +70,19 @@ fn nodes<T: Tree>(told: &mut String, tree: &T) -> Result<(), AllocError> {
 
 // A node's number, parent, name, mode, owner, group, last changer, version, times and bytes.
 fn fields<A: Allocator>(told: &mut String, node: &Node<A>) -> Result<(), AllocError> {
-    let (name, mode) = (node.name(), node.mode().bits());
-    write!(
+    writeln!(
         told,
-        "{} {:?} {name} {mode:o}",
+        "{} {:?} {} {:o} {} {} {} {} {} {} {:?}",
         node.number(),
-        node.parent()
-    )?;
-    let (uid, gid, muid) = (
+        node.parent(),
+        node.name(),
+        node.mode().bits(),
         node.uid().as_str(),
         node.gid().as_str(),
         node.muid().as_str(),
-    );
-    let (version, atime, mtime) = (node.version(), node.atime(), node.mtime());
-    write!(told, " {uid} {gid} {muid} {version} {atime} {mtime}")?;
-    writeln!(told, " {:?}", node.bytes())
+        node.version(),
+        node.atime(),
+        node.mtime(),
+        node.bytes()
+    )
 }

@@ -1,6 +1,7 @@
 //! The sample worlds are read, each with its nodes.
 
 use crate::both::{Work, on_both};
+use crate::checks::is_text;
 use crate::world::printing::tell_world;
 use crate::world::worlds::{
     BOUND_INSIDE, COVERED_VAULT, DEEP, HOME, SMALL, Sample, TWO_SERVERS, TWO_UNIONS, VAULT,
@@ -15,7 +16,7 @@ use std::process::Abort;
 pub fn is_sample<T: Tree>(rt: &impl Abort, alloc: Global, world: &World<T>, sample: &Sample) {
     let mut told = String::new(alloc);
     tell_world(&mut told, world).expect(rt, "memory");
-    assert!(rt; told.as_str() == sample.told);
+    is_text(rt, told.as_str(), sample.told);
 }
 
 /// The sample is read.
@@ -52,7 +53,7 @@ fn comes_apart(rt: &impl Abort, world: World<PlainTree<Global>>) {
         vars,
         servers,
     } = world;
-    prove!(servers.len() == forest.trees.len());
+    prove!(servers.len() == forest.trees().len());
     assert!(rt; (users.len(), hidden.len(), vars.len()) == (1, 1, 0));
     have_no_group(rt, users.as_slice(), &groups);
 }

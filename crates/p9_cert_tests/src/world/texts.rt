@@ -1,5 +1,6 @@
 //! The text of each fault.
 
+use crate::checks::is_text;
 use p9_world::{LineFault, WorldError};
 use std::alloc::Global;
 use std::process::Abort;
@@ -25,7 +26,7 @@ fn fault_has_text(rt: &impl Abort, alloc: Global, kind: LineFault, text: &str) {
     let error = WorldError::BadWorld { line: 7, kind };
     let shown = format!(in alloc; "{kind}, {error}").expect(rt, "memory");
     let want = format!(in alloc; "{text}, line 7: {text}").expect(rt, "memory");
-    assert!(rt; shown.as_str() == want.as_str());
+    is_text(rt, shown.as_str(), want.as_str());
 }
 
 #[test]
@@ -34,5 +35,5 @@ fn faults_have_texts(rt: HostRuntime) {
         fault_has_text(&rt, rt.alloc(), *fault, text);
     }
     let shown = format!(in rt.alloc(); "{}", WorldError::NoMemory).expect(&rt, "memory");
-    assert!(rt; shown.as_str() == "out of memory");
+    is_text(&rt, shown.as_str(), "out of memory");
 }

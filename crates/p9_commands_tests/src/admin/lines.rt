@@ -216,7 +216,7 @@ fn are_made<T: Tree>(rt: &impl Abort, tree: &T) {
 // A text is read as a world whose first tree has these nodes.
 fn is_read<T: Tree>(rt: &impl Abort, alloc: T::Alloc, text: &str) {
     let world = read_world::<T>(alloc, text).expect(rt, "a world");
-    let tree = world.forest.trees.first().expect(rt, "a tree");
+    let tree = world.forest.trees().first().expect(rt, "a tree");
     are_made(rt, tree);
 }
 

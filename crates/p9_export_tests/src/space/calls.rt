@@ -1,5 +1,6 @@
 //! The calls of mount tables and walks, made from lines.
 
+use crate::checks::{is_text, is_text_of};
 use crate::space::printing::{channels_text, members, row, step, trail};
 use crate::space::words::{nodes, take_node, take_order, take_position, take_user, take_word};
 use crate::space::worlds::{Space, space_of};
@@ -40,7 +41,7 @@ fn plays_on<T: Tree>(rt: &impl Abort, alloc: Global, space: &mut Space<T>, lines
 fn is_told<T: Tree>(rt: &impl Abort, alloc: Global, space: &mut Space<T>, words: &str, want: &str) {
     let mut told = String::new(alloc);
     tell(rt, alloc, space, words, &mut told);
-    assert!(rt; told.as_str() == want, "{words}");
+    is_text_of(rt, told.as_str(), want, words);
 }
 
 // Makes the call of the words, and writes what it returns.
@@ -55,14 +56,27 @@ fn tell<T: Tree>(
     let word = take_word(&mut rest);
     match word {
         "walk" => walk(rt, alloc, space, &mut rest, told),
-        "step" => find(rt, space, &mut rest, told),
         "up" => space.trail.step_up(),
         "remove" => remove(rt, &mut space.forest, &mut rest),
         "keep" => keep(rt, space),
-        "kept" => row(rt, told, &space.kept, take_position(rt, &mut rest)),
-        "given" => tell_given(rt, space, told),
-        "may" => rights(rt, space, &mut rest, told),
+        "step" | "kept" | "given" | "may" => tell_space(rt, space, word, &mut rest, told),
         _ => tell_table(rt, alloc, &mut space.table, word, &mut rest, told),
+    }
+}
+
+// Writes what a look returns.
+fn tell_space<T: Tree>(
+    rt: &impl Abort,
+    space: &Space<T>,
+    word: &str,
+    line: &mut &str,
+    told: &mut String,
+) {
+    match word {
+        "step" => find(rt, space, line, told),
+        "kept" => row(rt, told, &space.kept, take_position(rt, line)),
+        "given" => tell_given(rt, space, told),
+        _ => rights(rt, space, line, told),
     }
 }
 
@@ -124,7 +138,7 @@ fn walk_both<T: Tree>(
     let mut by_channels = String::new(alloc);
     walk_by_channels(rt, space, names, user, &mut by_channels);
     walk_by_trail(rt, space, names, user, told);
-    assert!(rt; by_channels.as_str() == told.as_str());
+    is_text(rt, by_channels.as_str(), told.as_str());
 }
 
 // Walks the names by the trail, and goes there.

@@ -5,8 +5,7 @@ use crate::space::words::node;
 use p9_base::{Fault, NoMemory};
 use p9_fids::{Fid, FidTable};
 use p9_space::{Channels, MountTable, Trail};
-use p9_testing::Refusing;
-use std::alloc::{Allocator, Global};
+use std::alloc::Allocator;
 use std::process::Abort;
 
 // Channels at the root.
@@ -43,7 +42,7 @@ fn put_all<A: Allocator + Copy>(rt: &impl Abort, memory: A, fids: &mut FidTable<
 }
 
 /// Makes 40 fids.
-pub fn make_fids(rt: &impl Abort, memory: &Refusing<Global>) {
+pub fn make_fids<A: Allocator + Copy>(rt: &impl Abort, memory: A) {
     let mut fids = FidTable::new(memory);
     put_all(rt, memory, &mut fids);
     drop(fids);

@@ -2,6 +2,7 @@
 
 ghost use Rattle.p9_space.specs.Channel.{Fits};
 
+use crate::checks::is_text;
 use p9_base::Fault;
 use p9_space::{Channels, Members, MountTable, Step, Trail};
 use std::alloc::{Allocator, Global};
@@ -67,7 +68,7 @@ pub fn is_row<A: Allocator + Copy>(
 ) {
     let mut told = String::new(alloc);
     row(rt, &mut told, table, position);
-    assert!(rt; told.as_str() == want);
+    is_text(rt, told.as_str(), want);
 }
 
 /// Writes members, each with a `+` where it permits creation.

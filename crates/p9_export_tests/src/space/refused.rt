@@ -1,16 +1,17 @@
 //! Calls in which an allocation fails change nothing, and succeed when made again.
 
 use crate::both::{Trial, refusals};
+use crate::checks::is_text;
 use crate::space::calls::bind;
 use crate::space::fids_refused::make_fids;
 use crate::space::printing::{is_row, trail};
 use crate::space::words::node;
 use crate::space::worlds::Space;
-use p9_base::Fault;
+use p9_base::{Fault, NoMemory};
 use p9_space::{Channels, MountTable, PLACES_MAX, Trail, Who, advance, resolve};
 use p9_testing::{Refusing, refuse_each};
 use p9_tree::Tree;
-use std::alloc::Global;
+use std::alloc::{Allocator, Global};
 use std::process::Abort;
 
 // What is made in memory that refuses.
@@ -28,7 +29,7 @@ fn make_refused(rt: &impl Abort, alloc: Global, making: Making) -> u64 {
 }
 
 // Makes it once.
-fn make(rt: &impl Abort, alloc: Global, memory: &Refusing<Global>, making: Making) {
+fn make<A: Allocator + Copy>(rt: &impl Abort, alloc: Global, memory: A, making: Making) {
     match making {
         Making::Table => make_table(rt, alloc, memory),
         Making::Trail => make_trail(rt, memory),
@@ -38,21 +39,30 @@ fn make(rt: &impl Abort, alloc: Global, memory: &Refusing<Global>, making: Makin
 
 // Binds by a line, again where it was refused: the table has as many rows as before then. The row
 // is printed like this.
-fn bind_again(
+fn bind_again<A: Allocator + Copy>(
     rt: &impl Abort,
     alloc: Global,
-    table: &mut MountTable<&Refusing<Global>>,
+    table: &mut MountTable<A>,
     line: &str,
     want: &str,
 ) {
     let count = table.len();
-    let mut rest = line;
-    if bind(rt, alloc, table, &mut rest).is_err() {
+    if bind_line(rt, alloc, table, line).is_err() {
         assert!(rt; table.len() == count);
-        rest = line;
-        assert!(rt; bind(rt, alloc, table, &mut rest).is_ok());
+        bind_line(rt, alloc, table, line).expect(rt, "memory");
     }
     is_row(rt, alloc, table, count, want);
+}
+
+// Binds by a line.
+fn bind_line<A: Allocator + Copy>(
+    rt: &impl Abort,
+    alloc: Global,
+    table: &mut MountTable<A>,
+    line: &str,
+) -> Result<(), NoMemory> {
+    let mut rest = line;
+    bind(rt, alloc, table, &mut rest)
 }
 
 // What is bound, and the row that this makes.
@@ -62,7 +72,7 @@ const BINDS: &str = "\
 7 after create 1 2 = 7 in 0 is 7 1+ 2";
 
 // Binds at three keys.
-fn bind_all(rt: &impl Abort, alloc: Global, table: &mut MountTable<&Refusing<Global>>) {
+fn bind_all<A: Allocator + Copy>(rt: &impl Abort, alloc: Global, table: &mut MountTable<A>) {
     for row in BINDS.lines() {
         let (line, want) = row.split_once(" = ").expect(rt, "a row");
         bind_again(rt, alloc, table, line, want);
@@ -71,7 +81,7 @@ fn bind_all(rt: &impl Abort, alloc: Global, table: &mut MountTable<&Refusing<Glo
 }
 
 // Copies the table, again where it was refused.
-fn copy_table(rt: &impl Abort, table: &MountTable<&Refusing<Global>>) {
+fn copy_table<A: Allocator + Copy>(rt: &impl Abort, table: &MountTable<A>) {
     match table.copy() {
         Ok(copy) => drop(copy),
         Err(_) => drop(table.copy().expect(rt, "a copy")),
@@ -79,7 +89,7 @@ fn copy_table(rt: &impl Abort, table: &MountTable<&Refusing<Global>>) {
 }
 
 // Makes a table, and copies it.
-fn make_table(rt: &impl Abort, alloc: Global, memory: &Refusing<Global>) {
+fn make_table<A: Allocator + Copy>(rt: &impl Abort, alloc: Global, memory: A) {
     let mut table = MountTable::new(memory);
     bind_all(rt, alloc, &mut table);
     copy_table(rt, &table);
@@ -92,7 +102,7 @@ fn a_table_is_as_before_at_each_refusal(rt: HostRuntime) {
 }
 
 // A trail's beginning, made again where it was refused.
-fn begin<'a>(rt: &impl Abort, memory: &'a Refusing<Global>) -> Trail<&'a Refusing<Global>> {
+fn begin<A: Allocator + Copy>(rt: &impl Abort, memory: A) -> Trail<A> {
     match Trail::at(memory, node(0)) {
         Ok(trail) => trail,
         Err(_) => Trail::at(memory, node(0)).expect(rt, "a trail"),
@@ -100,16 +110,16 @@ fn begin<'a>(rt: &impl Abort, memory: &'a Refusing<Global>) -> Trail<&'a Refusin
 }
 
 // Goes to a place, again where it was refused: the trail leads to the place before then.
-fn push(rt: &impl Abort, trail: &mut Trail<&Refusing<Global>>, number: u64) {
+fn push<A: Allocator + Copy>(rt: &impl Abort, trail: &mut Trail<A>, number: u64) {
     assert!(rt; (trail.len() as u64) == number && trail.len() < PLACES_MAX);
     if trail.push(node(number)).is_err() {
         assert!(rt; trail.here() == node(number.saturating_sub(1)));
-        assert!(rt; trail.push(node(number)).is_ok());
+        trail.push(node(number)).expect(rt, "memory");
     }
 }
 
 // Goes to 39 places.
-fn push_all(rt: &impl Abort, trail: &mut Trail<&Refusing<Global>>) {
+fn push_all<A: Allocator + Copy>(rt: &impl Abort, trail: &mut Trail<A>) {
     for number in 1..40 {
         push(rt, trail, number);
     }
@@ -117,7 +127,7 @@ fn push_all(rt: &impl Abort, trail: &mut Trail<&Refusing<Global>>) {
 }
 
 // Copies the trail, again where it was refused.
-fn copy_trail(rt: &impl Abort, trail: &Trail<&Refusing<Global>>) {
+fn copy_trail<A: Allocator + Copy>(rt: &impl Abort, trail: &Trail<A>) {
     match trail.copy() {
         Ok(copy) => drop(copy),
         Err(_) => drop(trail.copy().expect(rt, "a copy")),
@@ -125,7 +135,7 @@ fn copy_trail(rt: &impl Abort, trail: &Trail<&Refusing<Global>>) {
 }
 
 // Makes a trail, and copies it.
-fn make_trail(rt: &impl Abort, memory: &Refusing<Global>) {
+fn make_trail<A: Allocator + Copy>(rt: &impl Abort, memory: A) {
     let mut trail = begin(rt, memory);
     push_all(rt, &mut trail);
     copy_trail(rt, &trail);
@@ -201,7 +211,7 @@ pub fn walk_again<T: Tree>(rt: &impl Abort, alloc: Global, space: &Space<T>, way
         assert!(rt; fault == Fault::OutOfMemory);
         tell_walk(rt, space, way, &mut told).expect(rt, "a walk");
     }
-    assert!(rt; told.as_str() == "0 1 2 ");
+    is_text(rt, told.as_str(), "0 1 2 ");
 }
 
 // Walks over both kinds of tree.

@@ -1,5 +1,6 @@
 //! The text of each error.
 
+use crate::checks::is_text;
 use p9_base::{Fault, NoMemory};
 use p9_nsfile::{BadForm, NsError, OpFault};
 use p9_space::UnmountError;
@@ -31,7 +32,7 @@ fn form_has_texts(rt: &impl Abort, alloc: Global, kind: BadForm, text: &str) {
     let error = NsError::BadLine { line: 7, kind };
     let shown = format!(in alloc; "{kind}, {error}").expect(rt, "memory");
     let want = format!(in alloc; "{text}, line 7: {text}").expect(rt, "memory");
-    assert!(rt; shown.as_str() == want.as_str());
+    is_text(rt, shown.as_str(), want.as_str());
 }
 
 #[test]
@@ -45,7 +46,7 @@ fn bad_forms_have_texts(rt: HostRuntime) {
 fn fault_has_text(rt: &impl Abort, alloc: Global, fault: OpFault, text: &str) {
     assert!(rt; fault.text() == text);
     let shown = format!(in alloc; "{fault}").expect(rt, "memory");
-    assert!(rt; shown.as_str() == text);
+    is_text(rt, shown.as_str(), text);
 }
 
 #[test]
@@ -65,5 +66,9 @@ fn other_errors_have_texts(rt: HostRuntime) {
         NoMemory
     );
     let shown = shown.expect(&rt, "memory");
-    assert!(rt; shown.as_str() == "not mounted, not in the union, out of memory, out of memory");
+    is_text(
+        &rt,
+        shown.as_str(),
+        "not mounted, not in the union, out of memory, out of memory",
+    );
 }

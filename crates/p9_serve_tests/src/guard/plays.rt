@@ -6,7 +6,7 @@ use crate::guard::stops::run_refused;
 use crate::guard::worlds::guard_of;
 use p9_guard::Guard;
 use p9_index::IndexTree;
-use p9_testing::{Refusing, refuse_each};
+use p9_testing::Refusing;
 use p9_tree::{PlainTree, Tree};
 use std::alloc::Global;
 use std::process::Abort;
@@ -39,11 +39,18 @@ fn refusals<T: Tree>(
     script: &Script,
     play: Play,
 ) -> u64 {
-    refuse_each(
-        memory,
-        || guard_of::<T>(rt, lent, &script.scene),
-        |guard| play_and_drop(rt, alloc, guard, lent, script, play),
-    )
+    let mut refusals = 0;
+    for n in 1..u64::MAX {
+        refusals = n - 1;
+        let guard = guard_of::<T>(rt, lent, &script.scene);
+        memory.refuse(n);
+        play_and_drop(rt, alloc, guard, lent, script, play);
+        if !memory.has_refused() {
+            break;
+        }
+    }
+    memory.refuse(0);
+    refusals
 }
 
 fn play_and_drop<T: Tree>(

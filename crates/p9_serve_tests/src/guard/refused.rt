@@ -31,7 +31,7 @@ fn is_same_node<A: Allocator, B: Allocator>(rt: &impl Abort, one: &Node<A>, othe
 
 // The trees of server 0 are the same, and there is no other.
 fn is_same_tree<T: Tree, U: Tree>(rt: &impl Abort, one: &Forest<T>, other: &Forest<U>) {
-    assert!(rt; one.trees.len() == 1 && other.trees.len() == 1);
+    assert!(rt; one.trees().len() == 1 && other.trees().len() == 1);
     assert!(rt; one.next_of(0) == other.next_of(0));
     for number in 0..one.next_of(0) {
         let at = NodeRef { server: 0, number };

@@ -33,10 +33,14 @@ fn row_frame_sizes(rt: HostRuntime) {
 fn has_front(rt: &impl Abort, alloc: Global, row: &str) {
     let (digits, want) = row.split_once("= ").expect(rt, "digits");
     let bytes = bytes_of(alloc, digits).expect(rt, "hexadecimal digits");
-    let is_front = match frame_of(&bytes) {
+    assert!(rt; is_front(frame_of(bytes.as_slice()), want), "{row}");
+}
+
+// Whether this was found.
+fn is_front(found: Frame, want: &str) -> bool {
+    match found {
         Frame::Need => want == "need",
         Frame::Broken => want == "broken",
         Frame::Whole(size) => want.parse::<usize>().ok() == Some(size),
-    };
-    assert!(rt; is_front, "{row}");
+    }
 }

@@ -1,5 +1,6 @@
 //! Allocations that fail: a call says so and changes nothing, and with memory it does all.
 
+use crate::checks::are_bytes;
 use crate::trials::{Call, refusals};
 use crate::wire::lines::{REPLIES, REQUESTS};
 use p9_testing::{Refusing, bytes_of};
@@ -12,7 +13,7 @@ use std::process::Abort;
 pub fn reads<A: Allocator + Copy>(rt: &impl Abort, alloc: A, line: &str, frame: &[u8]) -> bool {
     match read_words(alloc, line) {
         Ok(read) => {
-            assert!(rt; read.as_slice() == frame);
+            are_bytes(rt, read.as_slice(), frame);
             true
         }
         Err(error) => {
@@ -32,7 +33,7 @@ pub fn prints<A: Allocator + Copy>(rt: &impl Abort, alloc: A, line: &str, frame:
     let is_printed = print(rt, line, frame, &mut out);
     let want = if is_printed { line } else { "" };
     let text = out.as_slice().strip_prefix(b">").expect(rt, "the letter");
-    assert!(rt; text == want.as_bytes());
+    are_bytes(rt, text, want.as_bytes());
     is_printed
 }
 
@@ -59,27 +60,38 @@ pub fn print<A: Allocator + Copy>(
 }
 
 // The call of each line and its frame is made with each request refused in turn.
-fn are_refused(rt: &impl Abort, alloc: Global, prints: bool) {
+fn are_refused(rt: &impl Abort, alloc: Global, rows: &str, prints: bool) {
+    for row in rows.lines() {
+        is_refused(rt, alloc, row, prints);
+    }
+}
+
+// The same of one line and its frame.
+fn is_refused(rt: &impl Abort, alloc: Global, row: &str, prints: bool) {
+    let (line, digits) = row.split_once(" = ").expect(rt, "a line");
+    let frame = bytes_of(alloc, digits).expect(rt, "hexadecimal digits");
     let memory = Refusing::new(alloc);
-    for row in REQUESTS.lines().chain(REPLIES.lines()) {
-        let (line, digits) = row.split_once(" = ").expect(rt, "a line");
-        let frame = bytes_of(alloc, digits).expect(rt, "hexadecimal digits");
-        let frame = frame.as_slice();
-        let call = if prints {
-            Call::Print { line, frame }
-        } else {
-            Call::Read { line, frame }
-        };
-        assert!(rt; refusals(rt, &memory, call, false) > 0);
+    let call = call_of(line, frame.as_slice(), prints);
+    assert!(rt; refusals(rt, &memory, call, false) > 0);
+}
+
+// The line is printed of the frame, or it is read as the frame.
+fn call_of<'a>(line: &'a str, frame: &'a [u8], prints: bool) -> Call<'a> {
+    if prints {
+        Call::Print { line, frame }
+    } else {
+        Call::Read { line, frame }
     }
 }
 
 #[test]
 fn lines_are_read_at_each_refusal(rt: HostRuntime) {
-    are_refused(&rt, rt.alloc(), false);
+    are_refused(&rt, rt.alloc(), REQUESTS, false);
+    are_refused(&rt, rt.alloc(), REPLIES, false);
 }
 
 #[test]
 fn messages_are_printed_at_each_refusal(rt: HostRuntime) {
-    are_refused(&rt, rt.alloc(), true);
+    are_refused(&rt, rt.alloc(), REQUESTS, true);
+    are_refused(&rt, rt.alloc(), REPLIES, true);
 }

@@ -5,6 +5,7 @@ use crate::words::{take_u16, take_u32, take_word};
 use p9_base::Qid;
 use p9_testing::bytes_of;
 use p9_wire::{HEADER, NOTAG, Qids, RMsg, Stat, finish_read, write_stat};
+use std::alloc::Global;
 use std::process::Abort;
 
 /// The qid of a directory, or of a file, with this number of server 0.
@@ -81,11 +82,16 @@ const ERRORS: &str = "\
 #[test]
 fn vector_errors(rt: HostRuntime) {
     for row in ERRORS.lines() {
-        let (error, digits) = row.split_once(" = ").expect(&rt, "an error");
-        let mut ename = error;
-        let tag = take_u16(&rt, &mut ename);
-        reply(&rt, rt.alloc(), tag, RMsg::Error { ename }, digits);
+        is_error(&rt, rt.alloc(), row);
     }
+}
+
+// The error of a row has its bytes.
+fn is_error(rt: &impl Abort, alloc: Global, row: &str) {
+    let (error, digits) = row.split_once(" = ").expect(rt, "an error");
+    let mut ename = error;
+    let tag = take_u16(rt, &mut ename);
+    reply(rt, alloc, tag, RMsg::Error { ename }, digits);
 }
 
 #[test]

@@ -1,5 +1,6 @@
 //! Each line is printed of its frame, and is read as it.
 
+use crate::checks::are_bytes;
 use crate::wire::lines::{REPLIES, REQUESTS};
 use crate::wire::refusals::print;
 use p9_testing::bytes_of;
@@ -11,7 +12,7 @@ use std::process::Abort;
 fn is_read(rt: &impl Abort, alloc: Global, line: &str, digits: &str) -> Vec<u8> {
     let frame = bytes_of(alloc, digits).expect(rt, "hexadecimal digits");
     match read_words(alloc, line) {
-        Ok(read) => assert!(rt; read.as_slice() == frame.as_slice()),
+        Ok(read) => are_bytes(rt, read.as_slice(), frame.as_slice()),
         Err(error) => panic!(rt; "{line}: {error}"),
     }
     frame
@@ -21,16 +22,21 @@ fn is_read(rt: &impl Abort, alloc: Global, line: &str, digits: &str) -> Vec<u8> 
 fn is_printed(rt: &impl Abort, alloc: Global, line: &str, frame: &[u8]) {
     let mut out = Vec::new(alloc);
     assert!(rt; print(rt, line, frame, &mut out));
-    assert!(rt; out.as_slice() == line.as_bytes());
+    are_bytes(rt, out.as_slice(), line.as_bytes());
 }
 
 // Each line is read as its frame, of which it is printed.
 fn are_read_and_printed(rt: &impl Abort, alloc: Global, rows: &str) {
     for row in rows.lines() {
-        let (line, digits) = row.split_once(" = ").expect(rt, "a line");
-        let frame = is_read(rt, alloc, line, digits);
-        is_printed(rt, alloc, line, frame.as_slice());
+        is_read_and_printed(rt, alloc, row);
     }
+}
+
+// The same of one line.
+fn is_read_and_printed(rt: &impl Abort, alloc: Global, row: &str) {
+    let (line, digits) = row.split_once(" = ").expect(rt, "a line");
+    let frame = is_read(rt, alloc, line, digits);
+    is_printed(rt, alloc, line, frame.as_slice());
 }
 
 #[test]

@@ -1,5 +1,6 @@
 //! Exchanges, by hand: what is asked, what comes of it, and each reason of a skip.
 
+use crate::checks::are_bytes;
 use p9_exchange::show_exchange;
 use std::alloc::Global;
 use std::process::Abort;
@@ -31,7 +32,7 @@ fn is_shown(rt: &impl Abort, alloc: Global, input: &str, want: &str) {
     let text = show_exchange(alloc, input.as_bytes())
         .ok()
         .expect(rt, "an exchange");
-    assert!(rt; text.as_slice() == want.as_bytes());
+    are_bytes(rt, text.as_slice(), want.as_bytes());
 }
 
 #[test]

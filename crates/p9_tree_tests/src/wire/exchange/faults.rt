@@ -1,5 +1,6 @@
 //! Inputs that are refused, and what is printed of each.
 
+use crate::checks::is_text;
 use crate::wire::faults::take_expected;
 use crate::words::{take_usize, take_word};
 use p9_exchange::{Awaited, Refusal, Stop, show_exchange, write_script};
@@ -37,26 +38,40 @@ msg 1 0 00 00|1 11 end
 #[test]
 fn bad_lines_tell_the_place(rt: HostRuntime) {
     for row in LINES.lines() {
-        let (lines, place) = row.split_once('|').expect(&rt, "lines");
-        let text = lines.replace(rt.alloc(), ';', "\n").expect(&rt, "memory");
-        is_bad(&rt, rt.alloc(), text.as_str(), place);
+        is_bad(&rt, rt.alloc(), row);
     }
 }
 
-// A script is refused for its bad line, whether it is to be written or shown.
-fn is_bad(rt: &impl Abort, alloc: Global, text: &str, place: &str) {
+// The script of a row is refused for its bad line, whether it is to be written or shown.
+fn is_bad(rt: &impl Abort, alloc: Global, row: &str) {
+    let (lines, place) = row.split_once('|').expect(rt, "lines");
+    let bad = Some(Stop::Refused(bad_line_at(rt, place)));
+    let input = script_of(rt, alloc, lines, "x");
+    let written = write_script(alloc, input.as_str().as_bytes()).err();
+    let input = script_of(rt, alloc, lines, "%% replies");
+    let shown = show_exchange(alloc, input.as_str().as_bytes()).err();
+    assert!(rt; written == bad && shown == bad, "{row}");
+}
+
+// A bad line at this place, and what was expected there.
+fn bad_line_at(rt: &impl Abort, place: &str) -> Refusal {
     let mut rest = place;
-    let bad = Refusal::BadLine {
+    Refusal::BadLine {
         line: take_usize(rt, &mut rest),
         at: take_usize(rt, &mut rest),
         expected: take_expected(rt, &mut rest),
-    };
-    let input = format!(in alloc; "%% script\n{text}\nx").expect(rt, "memory");
-    let written = write_script(alloc, input.as_str().as_bytes()).err();
-    assert!(rt; written == Some(Stop::Refused(bad)), "{text}");
-    let input = format!(in alloc; "%% script\n{text}\n%% replies").expect(rt, "memory");
-    let shown = show_exchange(alloc, input.as_str().as_bytes()).err();
-    assert!(rt; shown == Some(Stop::Refused(bad)), "{text}");
+    }
+}
+
+// A script of lines with semicolons between them, and a line after them.
+fn script_of(rt: &impl Abort, alloc: Global, lines: &str, end: &str) -> String {
+    let text = text_of(rt, alloc, lines);
+    format!(in alloc; "%% script\n{text}\n{end}").expect(rt, "memory")
+}
+
+// The text of lines with semicolons between them.
+fn text_of(rt: &impl Abort, alloc: Global, lines: &str) -> String {
+    lines.replace(alloc, ';', "\n").expect(rt, "memory")
 }
 
 // Inputs, with semicolons between their lines; the bad reply, and what was awaited.
@@ -74,21 +89,21 @@ const REPLIES: &str = "\
 #[test]
 fn bad_replies_tell_the_line(rt: HostRuntime) {
     for row in REPLIES.lines() {
-        let (lines, place) = row.split_once('|').expect(&rt, "an input");
-        let input = lines.replace(rt.alloc(), ';', "\n").expect(&rt, "memory");
-        is_bad_reply(&rt, rt.alloc(), input.as_str(), place);
+        is_bad_reply(&rt, rt.alloc(), row);
     }
 }
 
-// An exchange is refused for its bad reply.
-fn is_bad_reply(rt: &impl Abort, alloc: Global, input: &str, place: &str) {
+// The exchange of a row is refused for its bad reply.
+fn is_bad_reply(rt: &impl Abort, alloc: Global, row: &str) {
+    let (lines, place) = row.split_once('|').expect(rt, "an input");
     let mut rest = place;
     let bad = Refusal::BadReply {
         line: take_usize(rt, &mut rest),
         awaited: take_awaited(rt, &mut rest),
     };
-    let shown = show_exchange(alloc, input.as_bytes()).err();
-    assert!(rt; shown == Some(Stop::Refused(bad)), "{input}");
+    let input = text_of(rt, alloc, lines);
+    let shown = show_exchange(alloc, input.as_str().as_bytes()).err();
+    assert!(rt; shown == Some(Stop::Refused(bad)), "{row}");
 }
 
 // Takes off a line what is awaited.
@@ -112,7 +127,7 @@ fn an_input_is_a_text_with_replies(rt: HostRuntime) {
 // A refusal has this text.
 fn is_line(rt: &impl Abort, alloc: Global, refusal: Refusal, text: &str) {
     let shown = format!(in alloc; "{refusal}").expect(rt, "memory");
-    assert!(rt; shown.as_str() == text);
+    is_text(rt, shown.as_str(), text);
 }
 
 #[test]

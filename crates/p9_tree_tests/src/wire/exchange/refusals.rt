@@ -3,6 +3,7 @@
 
 use super::exchanges::{EXCHANGE, PLAYED};
 use super::scripts::{SCRIPT, WORDS};
+use crate::checks::{are_bytes, is_text};
 use crate::trials::{Call, refusals};
 use p9_exchange::{Stop, show_exchange, write_script};
 use p9_testing::Refusing;
@@ -13,7 +14,7 @@ use std::process::Abort;
 pub fn writes<A: Allocator + Copy>(rt: &impl Abort, alloc: A) -> bool {
     match write_script(alloc, WORDS.as_bytes()) {
         Ok(text) => {
-            assert!(rt; text.as_str() == SCRIPT);
+            is_text(rt, text.as_str(), SCRIPT);
             true
         }
         Err(stop) => {
@@ -27,7 +28,7 @@ pub fn writes<A: Allocator + Copy>(rt: &impl Abort, alloc: A) -> bool {
 pub fn shows<A: Allocator + Copy>(rt: &impl Abort, alloc: A) -> bool {
     match show_exchange(alloc, PLAYED.as_bytes()) {
         Ok(text) => {
-            assert!(rt; text.as_slice() == EXCHANGE.as_bytes());
+            are_bytes(rt, text.as_slice(), EXCHANGE.as_bytes());
             true
         }
         Err(stop) => {

@@ -1,5 +1,6 @@
 //! Scripts in words, and the scripts that say the same. The frames are by hand from the manual.
 
+use crate::checks::is_text;
 use p9_exchange::write_script;
 use std::alloc::Global;
 use std::process::Abort;
@@ -19,10 +20,13 @@ pub const SCRIPT: &str = "%% world\nserver main\n%% script\n# a session\nopen 1\
 
 // A text is written as this script.
 fn is_written(rt: &impl Abort, alloc: Global, text: &str, script: &str) {
-    let written = write_script(alloc, text.as_bytes())
-        .ok()
-        .expect(rt, "a script");
-    assert!(rt; written.as_str() == script);
+    is_text(rt, written(rt, alloc, text).as_str(), script);
+}
+
+// What is written of a text.
+fn written(rt: &impl Abort, alloc: Global, text: &str) -> String {
+    let written = write_script(alloc, text.as_bytes()).ok();
+    written.expect(rt, "a script")
 }
 
 #[test]
@@ -41,16 +45,14 @@ fn scripts_stay_as_they_are(rt: HostRuntime) {
 // The tag that follows 65534 is 0.
 #[test]
 fn a_counted_tag_is_never_65535(rt: HostRuntime) {
-    let frames = "msg 1 0 00\n"
-        .repeat(rt.alloc(), 65_535)
-        .expect(&rt, "memory");
-    let words = format!(in rt.alloc(); "%% script\n{frames}1 0 Tclunk fid 1\n");
-    let words = words.expect(&rt, "memory");
-    let script = write_script(rt.alloc(), words.as_str().as_bytes()).ok();
-    let script = script.expect(&rt, "a script");
-    assert!(rt;
-        script
-            .as_str()
-            .ends_with("msg 1 0 0b00000078000001000000\n")
-    );
+    let words = many_frames(&rt, rt.alloc());
+    let script = written(&rt, rt.alloc(), words.as_str());
+    let end = "msg 1 0 0b00000078000001000000\n";
+    assert!(rt; script.as_str().ends_with(end));
+}
+
+// So many frames that the next tag is the last one, and a request in words.
+fn many_frames(rt: &impl Abort, alloc: Global) -> String {
+    let frames = "msg 1 0 00\n".repeat(alloc, 65_535).expect(rt, "memory");
+    format!(in alloc; "%% script\n{frames}1 0 Tclunk fid 1\n").expect(rt, "memory")
 }

@@ -1,4 +1,4 @@
-use Rattle.std.proofs.Common.{◌≡◌, ◌++◌, ◌∷◌, [], true, false, not, sym, ap, ◌∙◌}
+use Rattle.std.proofs.Common.{◌≡◌, ◌++◌, ◌∷◌, [], true, false, not, sym, ap, map, ◌∙◌}
 use Rattle.p9_world.specs.Hide.{is_hidden_by}
 use Rattle.p9_world.specs.World.{World, world_view}
 use Rattle.p9_world.proofs.Readers.{IsWorld-hidden, hidden-joined}
@@ -29,7 +29,7 @@ returns g c =
     ∙ c.if-not-branch.false in
     rw (← c.world.view_is, joined)
     (with_hidden-new c.args.node
-    (world_view c.world.inside.forest c.world.inside.users.items c.world.inside.groups
+    (world_view (map g.T.Tree.state c.world.inside.trees.items) c.world.inside.users.items c.world.inside.groups
     c.world.inside.hidden.items c.world.inside.vars.items c.world.inside.servers.items) absent)
 
 pub returns-then-not-branch : goal.returns-then-not-branch

@@ -1,4 +1,4 @@
-use Rattle.std.proofs.Common.{◌≡◌, ◌<◌, [], map, Some, None, refl, sym, ap, subst, ◌∙◌, string_bytes}
+use Rattle.std.proofs.Common.{◌≡◌, ◌<◌, [], map, Some, None, refl, sym, subst, ◌∙◌, string_bytes}
 use Rattle.std.proofs.Common.{arith, length}
 use Rattle.std.specs.Str.{bytes_eq}
 use Rattle.std.proofs.lemmas.List.{length-map}
@@ -18,8 +18,8 @@ add_hidden-requires g c =
     ≡ Some c.in-Some.server =
     sym (c.in-Some.ensures ∙ c.world.invariant.servers c.args.server.now) in
     let here =
-    server_at-named g.T.Tree.state c.args.server.now c.forest.inside.trees.items
-    c.world.inside.forest c.forest.view_is c.world.inside.servers.items c.in-Some.server c.index.result.now c.world.invariant.world.named at
+    server_at-named g.T.Tree.state c.args.server.now c.world.inside.trees.items
+    (map g.T.Tree.state c.world.inside.trees.items) refl c.world.inside.servers.items c.in-Some.server c.index.result.now c.world.invariant.world.named at
     c.index.ensures in
     let below : c.in-Some-dir_of.number < (g.T.Tree.state c.index.result.now).next =
     dir_of-below c.as_slice.result.now (g.T.Tree.state c.index.result.now)
@@ -34,8 +34,8 @@ returns g c =
     ≡ Some c.in-Some.server =
     sym (c.in-Some.ensures ∙ c.world.invariant.servers c.args.server.now) in
     let here =
-    server_at-named g.T.Tree.state c.args.server.now c.forest.inside.trees.items
-    c.world.inside.forest c.forest.view_is c.world.inside.servers.items c.in-Some.server c.index.result.now c.world.invariant.world.named at
+    server_at-named g.T.Tree.state c.args.server.now c.world.inside.trees.items
+    (map g.T.Tree.state c.world.inside.trees.items) refl c.world.inside.servers.items c.in-Some.server c.index.result.now c.world.invariant.world.named at
     c.index.ensures in
     let names : names_of c.args.path.now ≡ Some c.in-Some-2.names.items =
     sym (rw c.in-Some-2.is at c.in_ok-names.ensures) in
@@ -81,8 +81,8 @@ returns-in_default-dir_of g c =
     ≡ Some c.in-Some.server =
     sym (c.in-Some.ensures ∙ c.world.invariant.servers c.args.server.now) in
     let here =
-    server_at-named g.T.Tree.state c.args.server.now c.forest.inside.trees.items
-    c.world.inside.forest c.forest.view_is c.world.inside.servers.items c.in-Some.server c.index.result.now c.world.invariant.world.named at
+    server_at-named g.T.Tree.state c.args.server.now c.world.inside.trees.items
+    (map g.T.Tree.state c.world.inside.trees.items) refl c.world.inside.servers.items c.in-Some.server c.index.result.now c.world.invariant.world.named at
     c.index.ensures in
     let names : names_of c.args.path.now ≡ Some c.in-Some-2.names.items =
     sym (rw c.in-Some-2.is at c.in_ok-names.ensures) in
@@ -107,9 +107,8 @@ index-requires g c =
     omega (
       arith,
       c.world.invariant.world.named,
-      ap length c.forest.view_is,
-      length-map c.forest.inside.trees.items g.T.Tree.state,
-      c.forest.inside.trees.ok.0,
+      length-map c.world.inside.trees.items g.T.Tree.state,
+      c.world.inside.trees.ok.0,
     )
 
 pub overflow_cast-server : goal.overflow_cast-server

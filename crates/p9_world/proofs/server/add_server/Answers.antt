@@ -30,7 +30,7 @@ invariant_of-world-2 g c =
       c.world.inside.servers.ok.0,
     ) in
     record {
-      world = rw (forest, c.forest.view_is, servers)
+      world = rw (forest, servers)
           (IsWorld-with_server c.args.name.now _ c.world.invariant.world absent room);
       users = c.world.invariant.users;
       vars = c.world.invariant.vars;
@@ -70,7 +70,7 @@ returns g c =
     ) in
     let valid : is_server_name c.args.name.now ≡ true =
     sym c.is_server_name.ensures ∙ c.if-not-is_server_name.false in
-    rw (← c.world.view_is, forest, c.forest.view_is, servers) (server_line-ok c.args.name.now _ valid absent room)
+    rw (← c.world.view_is, forest, servers) (server_line-ok c.args.name.now _ valid absent room)
 
 pub returns-then-not-is_server_name : goal.returns-then-not-is_server_name
 returns-then-not-is_server_name g c = (
@@ -94,6 +94,6 @@ returns-then-has g c =
 
 pub invariant_of-world-in_err-insert : goal.invariant_of-world-in_err-insert
 invariant_of-world-in_err-insert g c =
-    rw (c.reserve.ensures.items, c.forest.view_is, c.reserve-2.ensures.items)
+    rw (c.reserve.ensures.items, c.reserve-2.ensures.items)
     (reader-same _ _ _ _ _ _ c.world.invariant _ _ c.insert.new.self (λ q. refl) (λ q. refl)
     c.in_err-insert.ensures.err)

@@ -1,8 +1,8 @@
 use Rattle.p9_world.proofs.Readers.{IsWorld-empty, reader-none}
 use Rattle.p9_world.proofs.reader.Reader.new.Goals as goal
 
-pub invariant_of-result-2 : goal.invariant_of-result-2
-invariant_of-result-2 g c =
+pub invariant_of-result : goal.invariant_of-result
+invariant_of-result g c =
     rw (
       c.new.ensures.items,
       c.new-2.ensures.items,

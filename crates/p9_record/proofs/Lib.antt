@@ -1,0 +1,4 @@
+pub mod Modes
+pub mod Texts
+pub mod Saved
+pub mod ReadBack

@@ -1,0 +1,8 @@
+use Rattle.p9_wire.proofs.Puts.{puts_then}
+use Rattle.p9_record.specs.Record.{spelling}
+use Rattle.p9_record.proofs.writing.put_write.Goals as goal
+
+pub returns-clause-bytes : goal.returns-clause-bytes
+unfolding spelling
+returns-clause-bytes c =
+    puts_then c.put_u8-kind.ensures.bytes (puts_then (puts_then c.put_u64-node.ensures.bytes c.put_u64-place.ensures.bytes) c.put_counted.ensures.bytes)
