@@ -2,13 +2,13 @@
 
 ghost use Rattle.std.specs.Prelude.{◌≡◌, ◌<◌, ◌≤◌, ◌+◌, ◌^◌, [], None, count_by, length, slice_set};
 ghost use Rattle.std.specs.Prelude.{IfOk, OnErr, OnOk};
-ghost use Rattle.p9_tree.specs.Journal.{IsSettled, IsSynced};
+ghost use Rattle.p9_tree.specs.Journal.{IsSettled, IsSynced, Keeps, KeepsIfAny};
 ghost use Rattle.p9_clients.specs.Serving.{AreKeyed, EndAt, HasTurns, IsFinished, TakesIn, TurnAt};
 ghost use Rattle.p9_clients.specs.Serving.{has_nobody, is_closed, is_moved, turns_of, slot_at};
 
 use p9_conn::{Conn, Stream, Turn};
 use p9_guard::Guard;
-use p9_tree::{Tree, Unsettled};
+use p9_tree::{Forest, Tree, Unsettled};
 use slab::Slab;
 use std::alloc::Allocator;
 use std::marker::Model;
@@ -95,6 +95,31 @@ impl<S: Stream + Drop, T: Tree> Clients<S, T> {
         ensures { AreKeyed self.now.slots self.now.guard.state.sessions }
     {
         let _conns = &self.conns;
+    }
+
+    /// The trees.
+    pub fn forest(&self) -> &Forest<T>
+        ensures { result.now ≡ self.now.guard.state.forest }
+    {
+        self.guard.forest()
+    }
+
+    /// Notes all changes of the trees from now on in the journal, as [`Forest::keep`].
+    pub fn keep(&mut self, journal: T::Journal)
+        requires { Keeps T.Journal.is_whole T.Journal.stands_for journal
+            self.old.guard.state.forest }
+        ensures { self.new ≡ self.old }
+    {
+        self.guard.keep(journal);
+    }
+
+    /// Takes the journal out, as [`Forest::take_journal`].
+    pub fn take_journal(&mut self) -> Option<T::Journal>
+        ensures same { self.new ≡ self.old }
+        ensures kept { KeepsIfAny T.Journal.is_whole T.Journal.stands_for result
+            self.old.guard.state.forest }
+    {
+        self.guard.take_journal()
     }
 
     /// Makes all changes of the trees outlast the process, as [`Guard::settle`].
@@ -197,8 +222,26 @@ impl<S: Stream + Drop, T: Tree> Clients<S, T> {
         Ok(self.turns(clock))
     }
 
-    // A turn of the connection of this key, if there is one.
+    // A turn of the connection of this key, if there is one. Then what the journal of the trees holds
+    // in memory is bounded.
     fn turn_at(&mut self, key: usize, clock: u32) -> Option<Turn>
+        ensures { TurnAt S.remaining S.contents clock key (slot_at self.old.slots key) self.old
+            self.new result }
+    {
+        let turn = self.turn_of(key, clock);
+        self.relieve();
+        turn
+    }
+
+    // Bounds what the journal of the trees holds in memory, as [`Guard::relieve`].
+    fn relieve(&mut self)
+        ensures { self.new ≡ self.old }
+    {
+        self.guard.relieve();
+    }
+
+    // A turn of the connection of this key, if there is one.
+    fn turn_of(&mut self, key: usize, clock: u32) -> Option<Turn>
         ensures { TurnAt S.remaining S.contents clock key (slot_at self.old.slots key) self.old
             self.new result }
     {

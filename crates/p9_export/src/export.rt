@@ -12,7 +12,7 @@ ghost use Rattle.p9_step.specs.Laws.{reply_max};
 ghost use Rattle.std.specs.List.{list_all};
 ghost use Rattle.p9_base.specs.User.{is_user};
 ghost use Rattle.p9_space.specs.Given.{is_table_given};
-ghost use Rattle.p9_tree.specs.Journal.{IsSettled, IsSynced};
+ghost use Rattle.p9_tree.specs.Journal.{IsSettled, IsSynced, Keeps, KeepsIfAny};
 ghost use Rattle.p9_wire.specs.Frame.{is_frame, msize_max};
 ghost use Rattle.p9_export.specs.declared.export.OpenError.TheVariants.{Live};
 ghost use Rattle.p9_export.specs.Room.{reply_room};
@@ -187,6 +187,36 @@ impl<T: Tree> Export<T> {
             reply,
         );
         write_reply(&self.forest, &answered, tag, reply)
+    }
+
+    /// The trees.
+    pub fn forest(&self) -> &Forest<T>
+        ensures { result.now ≡ self.now.forest }
+    {
+        &self.forest
+    }
+
+    /// Notes all changes of the trees from now on in the journal, as [`Forest::keep`].
+    pub fn keep(&mut self, journal: T::Journal)
+        requires { Keeps T.Journal.is_whole T.Journal.stands_for journal self.old.forest }
+        ensures { self.new ≡ self.old }
+    {
+        self.forest.keep(journal);
+    }
+
+    /// Takes the journal out, as [`Forest::take_journal`].
+    pub fn take_journal(&mut self) -> Option<T::Journal>
+        ensures same { self.new ≡ self.old }
+        ensures kept { KeepsIfAny T.Journal.is_whole T.Journal.stands_for result self.old.forest }
+    {
+        self.forest.take_journal()
+    }
+
+    /// Bounds what the journal holds in memory, as [`Forest::relieve`].
+    pub fn relieve(&mut self)
+        ensures { self.new ≡ self.old }
+    {
+        self.forest.relieve();
     }
 
     /// Makes all changes of the trees outlast the process, as [`Forest::settle`].

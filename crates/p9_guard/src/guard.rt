@@ -2,7 +2,7 @@
 
 ghost use Rattle.std.specs.Prelude.{◌≡◌, ◌≤◌, ◌↔◌, [], ◌∷◌, Err, None, false, IfErr, IfOk, IsSome};
 ghost use Rattle.std.specs.Prelude.{IfSome, IsTrue, OnErr, OnOk, length, map, take, unwrap_or};
-ghost use Rattle.p9_tree.specs.Journal.{IsSettled, IsSynced};
+ghost use Rattle.p9_tree.specs.Journal.{IsSettled, IsSynced, Keeps, KeepsIfAny};
 ghost use Rattle.p9_wire.specs.Frame.{is_frame, msize_max};
 ghost use Rattle.p9_step.specs.Event.{Open, Message, Close};
 ghost use Rattle.p9_step.specs.Laws.{reply_max};
@@ -190,6 +190,37 @@ impl<T: Tree> Guard<T> {
             ((Close name clock, false) ∷ []) self.new.state [] }
     {
         self.export.close(name, clock)
+    }
+
+    /// The trees.
+    pub fn forest(&self) -> &Forest<T>
+        ensures { result.now ≡ self.now.state.forest }
+    {
+        self.export.forest()
+    }
+
+    /// Notes all changes of the trees from now on in the journal, as [`Forest::keep`].
+    pub fn keep(&mut self, journal: T::Journal)
+        requires { Keeps T.Journal.is_whole T.Journal.stands_for journal self.old.state.forest }
+        ensures { self.new ≡ self.old }
+    {
+        self.export.keep(journal);
+    }
+
+    /// Takes the journal out, as [`Forest::take_journal`].
+    pub fn take_journal(&mut self) -> Option<T::Journal>
+        ensures same { self.new ≡ self.old }
+        ensures kept { KeepsIfAny T.Journal.is_whole T.Journal.stands_for result
+            self.old.state.forest }
+    {
+        self.export.take_journal()
+    }
+
+    /// Bounds what the journal holds in memory, as [`Forest::relieve`].
+    pub fn relieve(&mut self)
+        ensures { self.new ≡ self.old }
+    {
+        self.export.relieve();
     }
 
     /// Makes all changes of the trees outlast the process, as [`Forest::settle`].

@@ -88,6 +88,21 @@ impl<T: Tree> Forest<T> {
         self.journal.as_ref()
     }
 
+    /// Takes the journal out, if there is one. Changes are not noted from then on.
+    pub fn take_journal(&mut self) -> Option<T::Journal>
+        ensures same { self.new ≡ self.old }
+        ensures kept { KeepsIfAny T.Journal.is_whole T.Journal.stands_for result self.old }
+    {
+        self.journal.take()
+    }
+
+    /// Bounds what the journal holds in memory, as [`Journal::relieve`].
+    pub fn relieve(&mut self)
+        ensures { self.new ≡ self.old }
+    {
+        relieve(&mut self.journal);
+    }
+
     /// Makes all changes outlast the process, as [`Journal::settle`].
     pub fn settle(&mut self) -> Result<(), Unsettled>
         ensures same { self.new ≡ self.old }
@@ -353,6 +368,16 @@ fn note<J: Journal>(journal: &mut Option<J>, change: &ForestChange<'_>)
 {
     if let Some(journal) = journal {
         journal.note(change);
+    }
+}
+
+// Bounds what a journal holds in memory, where there is one.
+fn relieve<J: Journal>(journal: &mut Option<J>)
+    ensures { (forest : List Server) → KeepsIfAny J.is_whole J.stands_for journal.old forest
+        → KeepsIfAny J.is_whole J.stands_for journal.new forest }
+{
+    if let Some(journal) = journal {
+        journal.relieve();
     }
 }
 

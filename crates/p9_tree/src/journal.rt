@@ -52,6 +52,20 @@ pub trait Journal: Sized + Drop {
         ensures stand { (forest : List Server) → may_stand self.new forest
             → may_stand self.old forest };
 
+    /// Settles where much was noted since, so that what a journal holds in memory is bounded. Where
+    /// that fails it isn't whole from then on. A caller does so between events, never within one.
+    fn relieve(&mut self)
+        ensures whole { IsTrue (is_whole self.new) → IsTrue (is_whole self.old) }
+        ensures same { IsTrue (is_whole self.new) → stands_for self.new ≡ stands_for self.old }
+        ensures settled { IsTrue (is_whole self.new) → (settled self.new ≡ settled self.old)
+            ⊎ (settled self.new ≡ stands_for self.new) }
+        ensures synced { IsTrue (is_whole self.new) → synced self.new ≡ synced self.old }
+        ensures stay { (forest : List Server) → may_stay self.new forest
+            → may_stay self.old forest ⊎ (forest ≡ settled self.old)
+            ⊎ (forest ≡ stands_for self.old) }
+        ensures stand { (forest : List Server) → may_stand self.new forest
+            → may_stand self.old forest ⊎ (forest ≡ synced self.old) };
+
     /// Makes what was noted outlast the process, all of it or nothing. After an `Ok`, a process that
     /// is killed has lost nothing of it. After an `Err` the journal may be whole or not.
     fn settle(&mut self) -> Result<(), Unsettled>
@@ -108,6 +122,8 @@ impl Journal for NoJournal {
     ghost may_stand = { λ _ _. ⊥ };
 
     fn note(&mut self, _change: &ForestChange<'_>) {}
+
+    fn relieve(&mut self) {}
 
     fn settle(&mut self) -> Result<(), Unsettled> {
         Err(Unsettled::Missing)

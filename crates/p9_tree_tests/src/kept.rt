@@ -33,6 +33,8 @@ impl Journal for Counts {
         self.notes = self.notes.wrapping_add(1);
     }
 
+    fn relieve(&mut self) {}
+
     fn settle(&mut self) -> Result<(), Unsettled> {
         self.settles = self.settles.wrapping_add(1);
         Err(Unsettled::Missing)

@@ -6,7 +6,7 @@ use Rattle.p9_conn.specs.declared.conn.Turn.TheVariants.{Closed}
 use Rattle.p9_clients.specs.Serving.{slot_at}
 use Rattle.p9_clients.proofs.Keyed.{is-open, is-shut, keyed-closed, keyed-open, stays-open}
 use Rattle.p9_clients.proofs.Keyed.{turn-closed, turn-left-open}
-use Rattle.p9_clients.proofs.clients.Clients.turn_at.Goals as goal
+use Rattle.p9_clients.proofs.clients.Clients.turn_of.Goals as goal
 
 pub invariant_of-self-else-eq : goal.invariant_of-self-else-eq
 invariant_of-self-else-eq g c =
