@@ -2,17 +2,17 @@
 use Rattle.std.proofs.Common.{◌≡◌, ◌≢◌, ℕ, zero, suc, ◌-◌, ◌<◌, ◌≤◌, Bool, true, false}
 use Rattle.std.proofs.Common.{List, [], ◌∷◌, ◌++◌, length, get_or, set, Option, Some, None, refl}
 use Rattle.std.proofs.Common.{sym, ap, ◌∙◌, subst, arith, length-append, is_some, get_or-set_same}
-use Rattle.std.proofs.Common.{map, string_bytes, Result, Ok, Err}
+use Rattle.std.proofs.Common.{All, map, nat_lt, string_bytes, Result, Ok, Err}
 use Rattle.std.specs.declared.string.String.{String}
-use Rattle.std.specs.List.{position_or_len}
+use Rattle.std.specs.List.{list_all, position_or_len}
 use Rattle.std.specs.Str.{bytes_eq}
-use Rattle.std.proofs.lemmas.Bool.{lt-ltb}
+use Rattle.std.proofs.lemmas.Bool.{lt-ltb, ltb-true}
 use Rattle.std.proofs.lemmas.Bool.Decides.{nat_tests}
 use Rattle.std.proofs.lemmas.Slice.Eq.{bytes_eq-Decides}
 use Rattle.std.proofs.lemmas.List.{length-set, length-map}
 use Rattle.std.proofs.lemmas.List.Elements.{All-weaker}
 use Rattle.std.proofs.lemmas.List.Quantifiers.{all_pairs_push, position-Some}
-use Rattle.std.proofs.lemmas.List.Sums.{fails_before_first}
+use Rattle.std.proofs.lemmas.List.Sums.{AllPass-from_list_all, fails_before_first}
 use Rattle.p9_base.specs.Group.{GroupRow}
 use Rattle.p9_base.specs.declared.node_ref.NodeRef.{NodeRef}
 use Rattle.p9_base.specs.NodeRef.{servers_max}
@@ -243,3 +243,12 @@ pub hide_line-found : (server path : List ℕ) (w : World) (number dir : ℕ) (n
 unfolding obtain
 hide_line-found server path w number dir names at_server at_path at_dir =
     rw (at_server, at_path, ← at_dir) refl
+
+-- nodes that were tested were made
+pub all_made : (forest : List Server) (refs : List NodeRef)
+    → list_all (λ r. nat_lt r.number (next_of r.server forest)) refs ≡ true
+    → All (λ r. r.number < next_of r.server forest) refs
+all_made forest refs test =
+    All-weaker (λ r. nat_lt r.number (next_of r.server forest) ≡ true)
+    (λ r. r.number < next_of r.server forest) (λ r h. ltb-true _ _ h) refs
+    (AllPass-from_list_all (λ r. nat_lt r.number (next_of r.server forest)) refs test)

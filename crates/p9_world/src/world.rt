@@ -1,5 +1,8 @@
 //! A world, as the lines of its text make it.
 
+ghost use Rattle.std.specs.Prelude.{◌≡◌, IsFalse, IsTrue, nat_lt};
+ghost use Rattle.std.specs.List.{list_all};
+ghost use Rattle.p9_tree.specs.Forest.{next_of};
 ghost use Rattle.p9_world.specs.World.{IsWorld};
 
 use p9_base::{Groups, NodeRef, User};
@@ -48,4 +51,27 @@ impl<T: Tree> World<T> {
     {
         let _forest = &self.forest;
     }
+
+    /// Puts another forest in the place of the trees, where it has as many servers, and each hidden
+    /// number lies below its server's next one. Returns whether it did. Else the forest is dropped,
+    /// and the world is unchanged.
+    pub fn go_on_with(&mut self, forest: Forest<T>) -> bool
+        ensures yes { IsTrue result → self.new ≡ record self.old { forest = forest } }
+        ensures no { IsFalse result → self.new ≡ self.old }
+    {
+        if forest.trees().len() != self.servers.len() || !are_made(&self.hidden, &forest) {
+            return false;
+        }
+        self.forest = forest;
+        true
+    }
+}
+
+// Whether each of these numbers lies below its server's next one.
+fn are_made<T: Tree>(nodes: &[NodeRef], forest: &Forest<T>) -> bool
+    ensures { result ≡ list_all (λ r. nat_lt r.number (next_of r.server forest.now)) nodes.now }
+{
+    nodes
+        .iter()
+        .all(|node| node.number < forest.next_of(node.server))
 }
