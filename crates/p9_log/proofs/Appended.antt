@@ -1,5 +1,5 @@
 -- What a crash leaves while a block is added to a file.
-use Rattle.std.proofs.Common.{◌≡◌, ◌⊎◌, inl, inr, ⊎_elim, ℕ, ◌+◌, ◌<◌, ◌≤◌, ◌^◌, List, [], ◌∷◌, ◌++◌, length, take, drop}
+use Rattle.std.proofs.Common.{◌≡◌, ◌⊎◌, inl, inr, ⊎_elim, ℕ, ◌+◌, ◌<◌, ◌^◌, List, [], ◌∷◌, ◌++◌, length, take, drop}
 use Rattle.std.proofs.Common.{get_or, sym, ap, subst, ◌∙◌, append_assoc, arith, length-append}
 use Rattle.std.proofs.lemmas.List.{append-nil, drop_all}
 use Rattle.p9_log.specs.declared.crash.Crash.{Crash}
@@ -57,10 +57,6 @@ module _ (file : List ℕ) (kept end : ℕ) (r : IsAtRest file kept end) (bytes 
       ∙ ap (λ (bs : List ℕ). (blocks ++ 1 ∷ 0 ∷ []) ++ bs) (append-nil (staged bytes))
       ∙ append_assoc blocks (1 ∷ 0 ∷ []) (staged bytes)
       ∙ sym (append_assoc blocks (1 ∷ []) (0 ∷ staged bytes))
-
-  pub behind-long : end + 2 ≤ length behind_it
-  unfolding behind_it
-  behind-long = omega (arith, long, length-append (blocks ++ 1 ∷ []) (0 ∷ staged bytes), length-append blocks (1 ∷ []))
 
   -- its write gate is opened
   abbrev inner : List ℕ

@@ -1,5 +1,5 @@
 mod Appended
-mod Cleared
+mod Drafts
 mod Cuts
 mod Ends
 mod Kept

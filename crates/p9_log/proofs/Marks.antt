@@ -86,7 +86,7 @@ module _ (front content : List ℕ) (end : ℕ) (size : length front ≡ end) (r
   gate-long = omega (arith, size, length-append front (0 ∷ []))
 
   -- the rest of the mark
-  pub rest-killed : (c : List ℕ) → IsWritten Killed (end + 1) behind_gate (front ++ 0 ∷ []) c → (next : Crash) → content_in next c ≡ content
+  rest-killed : (c : List ℕ) → IsWritten Killed (end + 1) behind_gate (front ++ 0 ∷ []) c → (next : Crash) → content_in next c ≡ content
   rest-killed c written next =
       let at = killed-at (front ++ 0 ∷ []) [] behind_gate c (end + 1) gate-long (subst (λ f. IsWritten Killed (end + 1) behind_gate f c) (sym (append-nil (front ++ 0 ∷ []))) written) in
       let parted : c ≡ front ++ take (suc at.0) marks =

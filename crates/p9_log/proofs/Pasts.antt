@@ -42,11 +42,6 @@ cut-whole Stopped old new n le is =
       before = ap (λ (k : ℕ). take k new) least ∙ ap (take n) is ∙ take-take n n old (omega arith);
     }
 
--- and one that isn't
-pub cut-none : (how : Crash) (file : List ℕ) (n : ℕ) → IsCut how n file file
-cut-none Killed file n = inl refl
-cut-none Stopped file n = record { no_shorter = omega arith; no_longer = omega arith; before = take_min n file }
-
 keeps : {A : Type 0} (past : List (Vec ℕ A)) (v : Vec ℕ A) (c : List ℕ) → HadBeen past c → HadBeen (past ++ v ∷ []) c
 keeps [] v c had = absurd had
 keeps (p ∷ past) v c (inl here) = inl here

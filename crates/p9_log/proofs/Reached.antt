@@ -1,5 +1,5 @@
 -- How far a file has been read, one block after another.
-use Rattle.std.proofs.Common.{◌≡◌, ℕ, ◌-◌, Bool, true, false, cond, eqb, List, [], ◌∷◌, ◌++◌, length}
+use Rattle.std.proofs.Common.{◌≡◌, ℕ, ◌-◌, Bool, true, false, cond, eqb, List, ◌∷◌, ◌++◌, length}
 use Rattle.std.proofs.Common.{Option, Some, None, refl, sym, ap, subst, ◌∙◌, append_assoc, arith, length-append}
 use Rattle.std.proofs.lemmas.Bool.{eqb-true}
 use Rattle.byteorder.specs.Endian.{little_number}
@@ -10,10 +10,6 @@ use Rattle.p9_log.specs.Reading.{HasBlocks, IsReadTo, closed_at}
 use Rattle.p9_log.specs.Rest.{Runs}
 use Rattle.p9_log.proofs.Readings.{block-parts, content-step}
 use Rattle.p9_log.proofs.Rest.{runs-head, runs-join, behind-open, counts-open, parts-more, stopped-front}
-
--- before the first block
-pub read-none : (how : Crash) (file : List ℕ) → IsReadTo how how file file [] None
-read-none how file = record { front = []; whole = refl; content = refl; blocks = (refl, λ x more. refl) }
 
 module _ (how mode : Crash) (file rest bytes : List ℕ) (block behind_it : List ℕ) (gate : ℕ) (head : List ℕ)
     (front : List ℕ) (whole : file ≡ front ++ rest) (is_rest : rest ≡ (gate ∷ 1 ∷ head ++ block) ++ behind_it) where

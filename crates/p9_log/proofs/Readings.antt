@@ -201,18 +201,6 @@ pub closed : (gate : ℕ) (rest : List ℕ) → eqb gate 1 ≡ false → block_a
 closed gate [] e = refl
 closed gate (w ∷ rest) e = rw e refl
 
--- no block in bytes, no block in a front of them
-pub front-stop : (how : Crash) (n : ℕ) (file : List ℕ) → block_at how file ≡ None
-    → block_at how (take n file) ≡ None
-front-stop how n file none =
-    none_unless _ (λ x e.
-    let b = block-parts how (take n file) x e in
-    let whole : file ≡ (b.gate ∷ 1 ∷ b.head ++ x.0) ++ (x.2 ++ drop n file) =
-    sym (take-append-drop n file) ∙ ap (λ bs. bs ++ drop n file) b.whole
-    ∙ append_assoc (b.gate ∷ 1 ∷ b.head ++ x.0) x.2 (drop n file) in
-    none_is_not_some (block_at how file) (x.0, behind how b.gate, x.2 ++ drop n file) none
-    (ap (block_at how) whole ∙ block-back how b.gate b.head x.0 (x.2 ++ drop n file) b.counted b.eight b.is))
-
 counts-killed : (gate : ℕ) → counts Killed gate 1 ≡ true
 counts-killed gate = refl
 

@@ -1,5 +1,5 @@
 -- What a crash leaves of a file whose parts are known.
-use Rattle.std.proofs.Common.{◌≡◌, inl, inr, ⊎_elim, ℕ, zero, suc, ◌+◌, ◌≤◌, Bool, true, false, eqb}
+use Rattle.std.proofs.Common.{◌≡◌, inl, inr, ⊎_elim, ℕ, zero, suc, ◌+◌, Bool, true, false, eqb}
 use Rattle.std.proofs.Common.{List, [], ◌∷◌, ◌++◌, length, get_or, take, drop, refl, sym, ap, subst}
 use Rattle.std.proofs.Common.{◌∙◌, append_assoc, arith, take-append-drop, length-append, length-drop}
 use Rattle.std.proofs.lemmas.Bool.{eqb-true}
@@ -116,10 +116,6 @@ module _ (file : List ℕ) (kept end : ℕ) (s : IsSplit file kept end) where
       ∙ ap (λ (bs : List ℕ). (front ++ gate ∷ rest) ++ (marks ++ bs)) (drop_all 12 tail (omega (arith, length-drop end file)))
       ∙ ap (λ (bs : List ℕ). (front ++ gate ∷ rest) ++ bs) (append-nil marks)
       ∙ append_assoc front (gate ∷ rest) marks
-
-  pub marked-long : kept ≤ length marked
-  unfolding marked
-  marked-long = omega (arith, front-long, length-append front (gate ∷ (rest ++ marks)))
 
   opened : List ℕ
   opened = (front ++ 1 ∷ rest) ++ marks

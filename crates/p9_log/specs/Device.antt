@@ -35,6 +35,10 @@ abbrev pub IsCut : Crash → ℕ → List ℕ → List ℕ → Type 0
 IsCut Killed n old new = (new ≡ old) ⊎ (new ≡ take n old)
 IsCut Stopped n old new = CutShort n old new
 
+-- after a draft is put in the place of the file, or wasn't
+abbrev pub IsPut : (draft : List ℕ) → List ℕ → List ℕ → Type 0
+IsPut draft old new = (new ≡ old) ⊎ (new ≡ draft)
+
 -- after a call that changes nothing
 abbrev pub IsSame : List ℕ → List ℕ → Type 0
 IsSame old new = new ≡ old

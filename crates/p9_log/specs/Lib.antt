@@ -1,5 +1,6 @@
 pub mod Blocks
 pub mod Device
+pub mod Draft
 pub mod Log
 pub mod Memory
 pub mod Past

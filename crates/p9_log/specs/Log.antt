@@ -3,7 +3,7 @@ use Rattle.std.specs.Prelude.{◌≡◌, ◌⊎◌, List, [], ◌++◌, ◌≤�
 use Rattle.p9_log.specs.declared.crash.Crash.{Crash}
 use Rattle.p9_log.specs.declared.crash.Crash.TheVariants.{Killed, Stopped}
 use Rattle.p9_log.specs.declared.error.LogError.{LogError}
-use Rattle.p9_log.specs.declared.error.LogError.TheVariants.{Memory, Full, Ended, Device}
+use Rattle.p9_log.specs.declared.error.LogError.TheVariants.{Memory, Full, Ended, NoDraft, Device}
 use Rattle.p9_log.specs.Blocks.{content_in}
 
 -- each crash leaves a file in which there is what there is in this one, read as after such a crash
@@ -26,9 +26,13 @@ IsKept Killed file c = content_in Killed c ≡ content_in Killed file
 IsKept Stopped file c =
     (content_in Stopped c ≡ content_in Stopped file) ⊎ (content_in Stopped c ≡ content_in Killed file)
 
+-- this content is in a file, whichever way it is read
+abbrev pub AlwaysHas : (content : List ℕ) → List ℕ → Type 0
+AlwaysHas content c = (next : Crash) → content_in next c ≡ content
+
 -- a crash of this kind leaves a file that is recovered as this content
 abbrev pub StillHas : (kind : Crash) → (content : List ℕ) → List ℕ → Type 0
-StillHas Killed content c = (next : Crash) → content_in next c ≡ content
+StillHas Killed content c = AlwaysHas content c
 StillHas Stopped content c = content_in Stopped c ≡ content
 
 -- While a file is emptied for a log, a crash leaves at most as many bytes as were there, or an empty
@@ -42,6 +46,7 @@ IfRefused (Ok x) P = Unit {0}
 IfRefused (Err Memory) P = P
 IfRefused (Err Full) P = P
 IfRefused (Err Ended) P = P
+IfRefused (Err NoDraft) P = P
 IfRefused (Err (Device error)) P = Unit {0}
 
 -- While a file that a crash of the first kind left is recovered, one of the second kind leaves a file
@@ -51,14 +56,10 @@ abbrev pub IsRecovered : (how kind : Crash) → (file : List ℕ) → List ℕ �
 IsRecovered Killed kind file c = IsKept kind file c
 IsRecovered Stopped kind file c = content_in Stopped c ≡ content_in Stopped file
 
--- While a log in this file, all of which is synced, is emptied, a crash leaves what was there or
--- nothing.
-abbrev pub IsCleared : (kind : Crash) → (file : List ℕ) → List ℕ → Type 0
-IsCleared Killed file c =
-    (next : Crash) → (content_in next c ≡ content_in Killed file) ⊎ (content_in next c ≡ [])
-IsCleared Stopped file c =
-    (content_in Stopped c ≡ content_in Killed file) ⊎ (content_in Stopped c ≡ [])
+-- no crash leaves what none might have left before
+abbrev pub NoMore : (before now : Crash → List ℕ → Type 0) → Type 0
+NoMore before now = (how : Crash) (c : List ℕ) → now how c → before how c
 
--- While a log in this file is emptied, a crash leaves what a sync leaves, or nothing.
-abbrev pub IsKeptOrNothing : (kind : Crash) → (file : List ℕ) → List ℕ → Type 0
-IsKeptOrNothing kind file c = IsKept kind file c ⊎ (content_in kind c ≡ [])
+-- While a draft is written, a crash leaves nothing that it might not have left before.
+abbrev pub Nothing : List ℕ → Type 0
+Nothing c = ⊥

@@ -1,10 +1,10 @@
-//! A file as a log sees it: what a read returns, and what a crash may leave.
+//! A file as a log sees it: what a read returns, what a crash may leave, and a draft beside it.
 
-ghost use Rattle.std.specs.Prelude.{◌≡◌, ◌≤◌, IfOk, List, OnOk, length, take, ℕ};
+ghost use Rattle.std.specs.Prelude.{◌≡◌, ◌≤◌, [], ◌++◌, IfOk, List, OnOk, length, take, ℕ};
 ghost use Rattle.p9_log.specs.declared.crash.Crash.{Crash};
 ghost use Rattle.p9_log.specs.declared.crash.Crash.TheVariants.{Killed, Stopped};
 ghost use Rattle.p9_log.specs.declared.device.DeviceError.TheVariants.{Memory};
-ghost use Rattle.p9_log.specs.Device.{HasCause, Holds, IsCut, IsSame, IsWritten, Only, Passes};
+ghost use Rattle.p9_log.specs.Device.{HasCause, Holds, IsCut, IsPut, IsSame, IsWritten, Only, Passes};
 
 use std::alloc::{AllocError, AllocFailed, Allocator};
 use thiserror::Error;
@@ -40,9 +40,15 @@ impl<T: Drop> From<AllocFailed<T>> for DeviceError {
 ///
 /// The contract speaks of each moment, also of those within a call, by a clock that an
 /// implementation keeps for it. Of a file after a failed call it says only what a crash may leave.
+///
+/// The draft is begun, added to and put by calls that follow one another: the other calls say nothing of
+/// it.
 pub trait Device: Sized + Drop {
     /// The bytes that a read returns.
     ghost seen: { Self → List ℕ };
+
+    /// The bytes of the draft.
+    ghost drafted: { Self → List ℕ };
 
     /// What a crash of this kind at this moment may leave.
     ghost may_leave: { Self → Crash → List ℕ → Type 0 };
@@ -88,6 +94,31 @@ pub trait Device: Sized + Drop {
         ensures seen { seen self.new ≡ seen self.old }
         ensures crash { (how : Crash) → Passes moment may_leave left_since how IsSame self.old
             self.new }
+        ensures cause { HasCause (faults self.old) (faults self.new) result };
+
+    /// Begins a draft without bytes, in the place of one that was begun before.
+    fn begin_draft(&mut self) -> Result<(), DeviceError>
+        ensures drafted { OnOk result (drafted self.new ≡ []) }
+        ensures seen { seen self.new ≡ seen self.old }
+        ensures crash { (how : Crash) → Passes moment may_leave left_since how IsSame self.old
+            self.new }
+        ensures cause { HasCause (faults self.old) (faults self.new) result };
+
+    /// Adds bytes behind those of the draft.
+    fn add_to_draft(&mut self, bytes: &[u8]) -> Result<(), DeviceError>
+        ensures drafted { OnOk result (drafted self.new ≡ drafted self.old ++ bytes.now) }
+        ensures seen { seen self.new ≡ seen self.old }
+        ensures crash { (how : Crash) → Passes moment may_leave left_since how IsSame self.old
+            self.new }
+        ensures cause { HasCause (faults self.old) (faults self.new) result };
+
+    /// Puts the draft in the place of the file, and syncs it. A crash meanwhile leaves the file as it
+    /// was, or the draft, whole.
+    fn put_draft(&mut self) -> Result<(), DeviceError>
+        ensures put { OnOk result (seen self.new ≡ drafted self.old) }
+        ensures durable { OnOk result (Only (drafted self.old) (may_leave self.new Stopped)) }
+        ensures crash { (how : Crash) → Passes moment may_leave left_since how
+            (IsPut (drafted self.old)) self.old self.new }
         ensures cause { HasCause (faults self.old) (faults self.new) result };
 
     /// Between two calls, a process that is killed leaves what a read returns.

@@ -13,13 +13,16 @@ pub enum LogError {
     /// An allocation failed, and nothing has changed.
     #[error("out of memory")]
     Memory,
-    /// The log would be longer than 2^60 bytes. Nothing has changed.
+    /// The log, or its draft, would be longer than 2^60 bytes. Nothing has changed.
     #[error("the log is full")]
     Full,
-    /// A call of the device failed before, and nothing has changed.
+    /// A call of the device for the file failed before, and nothing has changed.
     #[error("the log has failed before")]
     Ended,
-    /// A call of the device failed. The log refuses all from then on.
+    /// No draft is open, and nothing has changed.
+    #[error("no draft is open")]
+    NoDraft,
+    /// A call of the device failed. The log refuses all from then on, if the call was for the file.
     #[error("{0}")]
     Device(DeviceError),
 }

@@ -6,7 +6,7 @@ use crate::device::{Device, DeviceError};
 use std::alloc::Allocator;
 
 /// A device that passes so many calls on, and fails each one after. The first write that fails is cut
-/// short: so many of its bytes are written.
+/// short: so many of its bytes are written, or added to the draft.
 #[derive(Drop)]
 pub struct Fuse<D: Device, A: Allocator> {
     device: D,
@@ -55,6 +55,8 @@ fn spend<A: Allocator>(calls: &mut usize, failures: &mut Vec<u8, A>) -> Result<(
 impl<D: Device, A: Allocator> Device for Fuse<D, A> {
     ghost seen = { λ f. D.Device.seen f.device };
 
+    ghost drafted = { λ f. D.Device.drafted f.device };
+
     ghost may_leave = { λ f. D.Device.may_leave f.device };
 
     ghost moment = { λ f. D.Device.moment f.device };
@@ -94,5 +96,27 @@ impl<D: Device, A: Allocator> Device for Fuse<D, A> {
     fn sync(&mut self) -> Result<(), DeviceError> {
         spend(&mut self.calls, &mut self.failures)?;
         self.device.sync()
+    }
+
+    fn begin_draft(&mut self) -> Result<(), DeviceError> {
+        spend(&mut self.calls, &mut self.failures)?;
+        self.device.begin_draft()
+    }
+
+    fn add_to_draft(&mut self, bytes: &[u8]) -> Result<(), DeviceError> {
+        match spend(&mut self.calls, &mut self.failures) {
+            Ok(()) => self.device.add_to_draft(bytes),
+            Err(error) => {
+                let added = self.short.min(bytes.len());
+                self.short = 0;
+                let _ = self.device.add_to_draft(&bytes[..added]);
+                Err(error)
+            }
+        }
+    }
+
+    fn put_draft(&mut self) -> Result<(), DeviceError> {
+        spend(&mut self.calls, &mut self.failures)?;
+        self.device.put_draft()
     }
 }

@@ -10,6 +10,9 @@ pub(crate) const MARK: [u8; 12] = [0, 1, 0, 0, 0, 0, 0, 0, 0, 0, 1, 0];
 // The gates behind a block: behind what isn't synced the sync gate may be open.
 pub(crate) const NEXT: [u8; 2] = [1, 0];
 
+// The gates of a block of a draft.
+pub(crate) const OPEN: [u8; 2] = [1, 1];
+
 // The most bytes of a block, and the greatest offset at which the blocks of a log end, where one is
 // added or the log is opened.
 pub(crate) const MOST: usize = 1 << 60;

@@ -5,7 +5,6 @@
 //! order and shape.
 #![tactic(auto)]
 
-mod clearing;
 mod crash;
 mod device;
 mod error;

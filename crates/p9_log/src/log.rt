@@ -3,14 +3,14 @@
 ghost use Rattle.std.specs.Prelude.{◌≡◌, ◌≤◌, ◌+◌, ◌^◌, false, if◌then◌else◌, IsTrue};
 ghost use Rattle.p9_log.specs.declared.crash.Crash.TheVariants.{Killed, Stopped};
 ghost use Rattle.p9_log.specs.Blocks.{content_in};
+ghost use Rattle.p9_log.specs.Draft.{IsDraft};
 ghost use Rattle.p9_log.specs.Rest.{Begin, IsAtRest};
 
-use crate::clearing::clear;
 use crate::device::{Device, DeviceError};
 use crate::error::LogError;
 use crate::keeping::keep;
-use crate::layout::{HEAD, MOST};
-use crate::staging::stage;
+use crate::layout::{HEAD, MARK, MOST};
+use crate::staging::{stage, stage_open};
 use std::alloc::Allocator;
 
 /// A log in a file.
@@ -18,8 +18,9 @@ use std::alloc::Allocator;
 /// What is in it is all that was added, one run of bytes after another. What a crash leaves of it is
 /// read by [`recover`](crate::recover).
 ///
-/// Where a call of the device fails, the log refuses all calls from then on, and changes nothing. What
-/// its file then has is as before that call, or as after it.
+/// Where a call of the device for the file fails, the log refuses all calls from then on, and changes
+/// nothing. What its file then has is as before that call, or as after it. A call for a draft that
+/// fails ends the draft, and the log is as it was.
 #[derive(Drop)]
 pub struct Log<D: Device, A: Allocator> {
     device: D,
@@ -31,20 +32,26 @@ pub struct Log<D: Device, A: Allocator> {
     end: usize,
     // whether there may be something to sync
     pending: bool,
-    // whether no call of the device has failed
+    // whether no call of the device for the file has failed
     usable: bool,
+    // whether a draft is open
+    drafting: bool,
+    // how many bytes it has
+    drafted: usize,
     ghost at_rest: { IsTrue usable → IsAtRest (D.seen device) kept end },
     ghost durable: { IsTrue usable → Begin (kept + 1) (D.seen device) (D.may_leave device Stopped) },
     ghost synced: { IsTrue usable → pending ≡ false
         → content_in Killed (D.seen device) ≡ content_in Stopped (D.seen device) },
     ghost near: { IsTrue usable → end ≤ 2 ^ 61 + (if pending then 10 else 20) },
+    ghost in_use: { IsTrue drafting → IsTrue usable },
+    ghost draft: { IsTrue drafting → IsDraft (D.drafted device) drafted },
 }
 
 impl<D: Device, A: Allocator> Log<D, A> {
-    ghost use Rattle.std.specs.Prelude.{◌++◌, ◌<◌, [], length, IsErrOf, IsOkAnd, List, OnOk, ℕ};
+    ghost use Rattle.std.specs.Prelude.{◌++◌, ◌<◌, [], length, IsErrOf, List, OnErr, OnOk, ℕ};
     ghost use Rattle.p9_log.specs.declared.crash.Crash.{Crash};
     ghost use Rattle.p9_log.specs.Device.{LeavesOnly, Only};
-    ghost use Rattle.p9_log.specs.Log.{IfRefused, IsAppended, IsKept, IsKeptOrNothing, LeaveAsSeen};
+    ghost use Rattle.p9_log.specs.Log.{AlwaysHas, IfRefused, IsAppended, IsKept, LeaveAsSeen, NoMore, Nothing};
 
     /// A log in a file at rest, all of it on the disk.
     pub(crate) fn at_rest(alloc: A, device: D, kept: usize) -> Log<D, A>
@@ -64,6 +71,8 @@ impl<D: Device, A: Allocator> Log<D, A> {
             end: kept + HEAD,
             pending: false,
             usable: true,
+            drafting: false,
+            drafted: 0,
         }
     }
 
@@ -74,11 +83,19 @@ impl<D: Device, A: Allocator> Log<D, A> {
         &self.device
     }
 
-    /// Whether no call of the device has failed. Else the log refuses all.
+    /// Whether no call of the device for the file has failed. Else the log refuses all.
     pub fn is_usable(&self) -> bool
         ensures { result ≡ self.now.usable }
     {
         self.usable
+    }
+
+    /// Where the next block goes: how many bytes of the file count.
+    pub fn len(&self) -> usize
+        ensures end { result ≡ self.now.end }
+        ensures size { IsTrue self.now.usable → result + 2 ≡ length (D.seen self.now.device) }
+    {
+        self.end
     }
 
     /// The file, which the log gives up.
@@ -108,6 +125,7 @@ impl<D: Device, A: Allocator> Log<D, A> {
             ((self.new.device ≡ self.old.device) × (self.new.usable ≡ self.old.usable)) }
         // It doesn't give up by itself.
         ensures ended { IsErrOf result LogError.Ended → self.old.usable ≡ false }
+        ensures no_draft { IsErrOf result LogError.NoDraft → ⊥ }
         ensures full { IsErrOf result LogError.Full
             → 2 ^ 60 < length (D.seen self.old.device) + length bytes.now }
         ensures faults { D.faults self.old.device ≤ D.faults self.new.device }
@@ -122,6 +140,7 @@ impl<D: Device, A: Allocator> Log<D, A> {
         }
         stage(&mut self.block, bytes)?;
         self.usable = false;
+        self.drafting = false;
         self.device.write_at(self.end + 2, &self.block)?;
         self.device.write_at(self.end + 1, &[1])?;
         self.end += HEAD + bytes.len();
@@ -149,6 +168,7 @@ impl<D: Device, A: Allocator> Log<D, A> {
             ((self.new.device ≡ self.old.device) × (self.new.usable ≡ self.old.usable)) }
         // It doesn't give up by itself.
         ensures ended { IsErrOf result LogError.Ended → self.old.usable ≡ false }
+        ensures no_draft { IsErrOf result LogError.NoDraft → ⊥ }
         ensures full { IsErrOf result LogError.Full → ⊥ }
         ensures memory { IsErrOf result LogError.Memory → ⊥ }
         ensures faults { D.faults self.old.device ≤ D.faults self.new.device }
@@ -162,6 +182,7 @@ impl<D: Device, A: Allocator> Log<D, A> {
             return Ok(());
         }
         self.usable = false;
+        self.drafting = false;
         keep(&mut self.device, self.kept, self.end)?;
         self.kept = self.end;
         self.end += HEAD;
@@ -170,32 +191,118 @@ impl<D: Device, A: Allocator> Log<D, A> {
         Ok(())
     }
 
-    /// Empties the log. At each moment what it had is there, or nothing. The errors are those of
-    /// [`sync`](Log::sync).
-    pub fn clear(&mut self) -> Result<(), LogError>
-        ensures usable { OnOk result (IsTrue self.new.usable) }
-        ensures content { OnOk result ((next : Crash) → content_in next (D.seen self.new.device)
-            ≡ []) }
-        ensures outcomes { OnOk result (LeaveAsSeen (D.seen self.new.device)
-            (D.may_leave self.new.device)) }
-        // A crash at any moment of the call leaves what it might have left before, or this.
-        ensures any_moment { (how : Crash) → LeavesOnly D.moment D.left_since how
-            (IsKeptOrNothing how (D.seen self.old.device)) self.old.device self.new.device }
-        ensures refused { IfRefused result
-            ((self.new.device ≡ self.old.device) × (self.new.usable ≡ self.old.usable)) }
+    /// Begins a draft of the log, without bytes, in the place of one that was begun before. The log is
+    /// as it was, and a crash leaves what it might have left before. The draft ends where
+    /// [`append`](Log::append) or [`sync`](Log::sync) calls the device.
+    ///
+    /// The errors are a log that has failed before, which changes nothing, and a failure of the device,
+    /// after which no draft is open.
+    pub fn begin_draft(&mut self) -> Result<(), LogError>
+        ensures drafting { OnOk result (IsTrue self.new.drafting) }
+        ensures drafted { OnOk result (content_in Stopped (D.drafted self.new.device) ≡ []) }
+        ensures seen { D.seen self.new.device ≡ D.seen self.old.device }
+        ensures usable { self.new.usable ≡ self.old.usable }
+        ensures outcomes { NoMore (D.may_leave self.old.device) (D.may_leave self.new.device) }
+        // A crash at any moment of the call leaves what it might have left before.
+        ensures any_moment { (how : Crash) → LeavesOnly D.moment D.left_since how Nothing
+            self.old.device self.new.device }
+        ensures refused { IfRefused result (self.new.device ≡ self.old.device) }
         // It doesn't give up by itself.
         ensures ended { IsErrOf result LogError.Ended → self.old.usable ≡ false }
+        ensures no_draft { IsErrOf result LogError.NoDraft → ⊥ }
         ensures full { IsErrOf result LogError.Full → ⊥ }
         ensures memory { IsErrOf result LogError.Memory → ⊥ }
         ensures faults { D.faults self.old.device ≤ D.faults self.new.device }
         ensures failed { IsErrOf result (LogError.Device DeviceError.Failed)
             → D.faults self.old.device < D.faults self.new.device }
     {
-        self.sync()?;
+        if !self.usable {
+            return Err(LogError::Ended);
+        }
+        self.drafting = false;
+        self.device.begin_draft()?;
+        self.drafted = 0;
+        self.drafting = true;
+        Ok(())
+    }
+
+    /// Adds bytes to the draft. The log is as it was, and a crash leaves what it might have left before.
+    ///
+    /// The errors are a failed allocation, a draft that would be longer than 2^60 bytes or isn't open,
+    /// which change nothing, and a failure of the device, after which no draft is open.
+    pub fn add_to_draft(&mut self, bytes: &[u8]) -> Result<(), LogError>
+        ensures drafting { OnOk result (IsTrue self.new.drafting) }
+        ensures drafted { OnOk result (content_in Stopped (D.drafted self.new.device)
+            ≡ content_in Stopped (D.drafted self.old.device) ++ bytes.now) }
+        ensures seen { D.seen self.new.device ≡ D.seen self.old.device }
+        ensures usable { self.new.usable ≡ self.old.usable }
+        ensures outcomes { NoMore (D.may_leave self.old.device) (D.may_leave self.new.device) }
+        // A crash at any moment of the call leaves what it might have left before.
+        ensures any_moment { (how : Crash) → LeavesOnly D.moment D.left_since how Nothing
+            self.old.device self.new.device }
+        ensures refused { IfRefused result ((self.new.device ≡ self.old.device)
+            × (self.new.drafting ≡ self.old.drafting)) }
+        // It doesn't give up by itself.
+        ensures ended { IsErrOf result LogError.Ended → ⊥ }
+        ensures no_draft { IsErrOf result LogError.NoDraft → self.old.drafting ≡ false }
+        ensures full { IsErrOf result LogError.Full
+            → 2 ^ 60 < length (D.drafted self.old.device) + length bytes.now }
+        ensures faults { D.faults self.old.device ≤ D.faults self.new.device }
+        ensures failed { IsErrOf result (LogError.Device DeviceError.Failed)
+            → D.faults self.old.device < D.faults self.new.device }
+    {
+        if !self.drafting {
+            return Err(LogError::NoDraft);
+        }
+        if self.drafted > MOST || bytes.len() > MOST {
+            return Err(LogError::Full);
+        }
+        stage_open(&mut self.block, bytes)?;
+        self.drafting = false;
+        self.device.add_to_draft(&self.block)?;
+        self.drafted += HEAD + bytes.len();
+        self.drafting = true;
+        Ok(())
+    }
+
+    /// Puts the draft in the place of the log. At `Ok` the log has what the draft had, all of it on the
+    /// disk. A crash meanwhile leaves the log as it was, or that.
+    ///
+    /// The errors are a draft that isn't open, which changes nothing, and a failure of the device. After
+    /// that no draft is open, and the log refuses all, or can be used and is as it was.
+    pub fn put_draft(&mut self) -> Result<(), LogError>
+        ensures usable { OnOk result (IsTrue self.new.usable) }
+        ensures content { OnOk result (AlwaysHas (content_in Stopped (D.drafted self.old.device))
+            (D.seen self.new.device)) }
+        ensures outcomes { OnOk result (LeaveAsSeen (D.seen self.new.device)
+            (D.may_leave self.new.device)) }
+        ensures as_it_was { OnErr result (IsTrue self.new.usable
+            → (D.seen self.new.device ≡ D.seen self.old.device)
+            × NoMore (D.may_leave self.old.device) (D.may_leave self.new.device)) }
+        // A crash at any moment of the call leaves what it might have left before, or the draft.
+        ensures any_moment { (how : Crash) → LeavesOnly D.moment D.left_since how
+            (AlwaysHas (content_in Stopped (D.drafted self.old.device))) self.old.device
+            self.new.device }
+        ensures refused { IfRefused result
+            ((self.new.device ≡ self.old.device) × (self.new.usable ≡ self.old.usable)) }
+        // It doesn't give up by itself.
+        ensures ended { IsErrOf result LogError.Ended → ⊥ }
+        ensures no_draft { IsErrOf result LogError.NoDraft → self.old.drafting ≡ false }
+        ensures full { IsErrOf result LogError.Full → ⊥ }
+        ensures memory { IsErrOf result LogError.Memory → ⊥ }
+        ensures faults { D.faults self.old.device ≤ D.faults self.new.device }
+        ensures failed { IsErrOf result (LogError.Device DeviceError.Failed)
+            → D.faults self.old.device < D.faults self.new.device }
+    {
+        if !self.drafting {
+            return Err(LogError::NoDraft);
+        }
+        self.drafting = false;
+        self.device.add_to_draft(&MARK)?;
         self.usable = false;
-        clear(&mut self.device)?;
-        self.kept = 0;
-        self.end = HEAD;
+        self.device.put_draft()?;
+        self.kept = self.drafted;
+        self.end = self.drafted + HEAD;
         self.pending = false;
         self.usable = true;
         Ok(())

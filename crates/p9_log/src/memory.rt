@@ -15,6 +15,7 @@ pub struct MemoryDevice<A: Allocator> {
     alloc: A,
     bytes: Vec<u8, A>,
     past: Vec<Vec<u8, A>, A>,
+    draft: Vec<u8, A>,
 }
 
 impl<A: Allocator + Copy> MemoryDevice<A> {
@@ -28,6 +29,7 @@ impl<A: Allocator + Copy> MemoryDevice<A> {
             alloc,
             bytes,
             past: Vec::new(alloc),
+            draft: Vec::new(alloc),
         }
     }
 
@@ -77,6 +79,8 @@ fn written_over<A: Allocator + Copy>(
 impl<A: Allocator + Copy> Device for MemoryDevice<A> {
     ghost seen = { λ m. m.bytes.items };
 
+    ghost drafted = { λ m. m.draft.items };
+
     ghost may_leave = { λ m how c. c ≡ m.bytes.items };
 
     ghost moment = { λ m. length m.past.items };
@@ -107,5 +111,19 @@ impl<A: Allocator + Copy> Device for MemoryDevice<A> {
 
     fn sync(&mut self) -> Result<(), DeviceError> {
         Ok(())
+    }
+
+    fn begin_draft(&mut self) -> Result<(), DeviceError> {
+        self.draft.clear();
+        Ok(())
+    }
+
+    fn add_to_draft(&mut self, bytes: &[u8]) -> Result<(), DeviceError> {
+        Ok(self.draft.extend_from_slice(bytes)?)
+    }
+
+    fn put_draft(&mut self) -> Result<(), DeviceError> {
+        let next = self.draft.to_vec(self.alloc)?;
+        Ok(replace(self.alloc, &mut self.bytes, &mut self.past, next)?)
     }
 }

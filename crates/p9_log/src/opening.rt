@@ -57,6 +57,7 @@ pub fn recover<D: Device, A: Allocator + Copy>(
         → D.faults device < D.faults e.1) }
     ensures full { IfErr result (λ e. e.0 ≡ LogError.Full → 2 ^ 60 < length (D.seen device)) }
     ensures ended { IfErr result (λ e. e.0 ≡ LogError.Ended → ⊥) }
+    ensures no_draft { IfErr result (λ e. e.0 ≡ LogError.NoDraft → ⊥) }
 {
     let mut device = device;
     match reopen(alloc, &mut device, how) {
@@ -89,6 +90,7 @@ fn reopen<D: Device, A: Allocator + Copy>(
         → D.faults device.old < D.faults device.new }
     ensures full { IsErrOf result LogError.Full → 2 ^ 60 < length (D.seen device.old) }
     ensures ended { IsErrOf result LogError.Ended → ⊥ }
+    ensures no_draft { IsErrOf result LogError.NoDraft → ⊥ }
 {
     let file = device.read(alloc)?;
     let found = read_blocks(alloc, &file, how)?;

@@ -14,6 +14,11 @@ const APPENDED: [u8; 24] = [
     0, 1, 0, 0, 0, 0, 0, 0, 0, 0, 1, 1, 2, 0, 0, 0, 0, 0, 0, 0, 7, 8, 1, 0,
 ];
 
+// A draft of a block, which was put.
+const PUT: [u8; 24] = [
+    1, 1, 2, 0, 0, 0, 0, 0, 0, 0, 7, 8, 0, 1, 0, 0, 0, 0, 0, 0, 0, 0, 1, 0,
+];
+
 #[test]
 fn a_block_is_written_and_synced(rt: HostRuntime) {
     let alloc = rt.alloc();
@@ -38,15 +43,16 @@ fn what_is_recovered_is_on_the_disk(rt: HostRuntime) {
 }
 
 #[test]
-fn a_log_is_emptied(rt: HostRuntime) {
+fn a_draft_is_blocks_and_a_mark(rt: HostRuntime) {
     let alloc = rt.alloc();
     let file = APPENDED.to_vec(alloc).expect(&rt, "memory");
-    let Ok(found) = recover(alloc, MemoryDevice::new(alloc, file), Crash::Killed) else {
+    let Ok(found) = recover(alloc, MemoryDevice::new(alloc, file), Crash::Stopped) else {
         panic!(rt; "not recovered");
     };
     let mut log = found.log;
-    assert!(rt; log.clear().is_ok());
-    assert!(rt; log.device().bytes() == [0, 1, 0, 0, 0, 0, 0, 0, 0, 0, 1, 0].as_slice());
-    assert!(rt; log.append(&[7, 8]).is_ok());
-    assert!(rt; log.device().bytes() == APPENDED.as_slice());
+    assert!(rt; log.begin_draft().is_ok());
+    assert!(rt; log.add_to_draft(&[7, 8]).is_ok());
+    assert!(rt; log.put_draft().is_ok());
+    assert!(rt; log.device().bytes() == PUT.as_slice());
+    assert!(rt; log.len() == 22);
 }

@@ -1,9 +1,14 @@
 //! Tests of p9_log: the bytes of a log's file, and what is recovered where a block was torn at each of
-//! its bytes, and where each call of the device fails in turn.
+//! its bytes, where each call of the device fails in turn, and where a draft takes the place of a log. Tests
+//! of p9_disk: a log in a file of a folder.
 #![tactic(auto)]
 
 #[cfg(test)]
+mod drafts;
+#[cfg(test)]
 mod failing;
+#[cfg(test)]
+mod files;
 #[cfg(test)]
 mod layout;
 #[cfg(test)]

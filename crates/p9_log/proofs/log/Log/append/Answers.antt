@@ -78,7 +78,7 @@ invariant_of-self-2 g c =
     let written = subst (λ (b : List ℕ). Holds (D.seen self.device) (self.end + 2) b (D.seen c.write_at.new.self)) block c.in_ok-write_at.ensures.written in
     let longer = at_last D.seen D.moment D.may_leave D.left_since g.met.D.Device.alive self.kept self.end self.device rest begin c.args.bytes.now small c.write_at.new.self first written c.write_at-2.new.self c.write_at-2.ensures.crash c.in_ok-write_at-2.ensures.written in
     let new_begin = begin-again D.seen D.moment D.may_leave D.left_since g.met.D.Device.alive self.kept self.end self.device rest begin c.args.bytes.now small c.write_at.new.self first written c.write_at-2.new.self c.write_at-2.ensures.crash longer in
-    record { at_rest = λ _. longer.at_rest; durable = λ _. new_begin; synced = λ _ e. absurd cc; near = λ _. omega arith }
+    record { at_rest = λ _. longer.at_rest; durable = λ _. new_begin; synced = λ _ e. absurd cc; near = λ _. omega arith; in_use = λ e. absurd cc; draft = λ e. absurd cc }
 
 pub returns-clause-outcomes : goal.returns-clause-outcomes
 returns-clause-outcomes g c =

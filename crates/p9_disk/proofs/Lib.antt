@@ -1,0 +1,4 @@
+mod Effects
+mod Moments
+mod Pieces
+mod Walks

@@ -1,0 +1,14 @@
+use Rattle.std.proofs.Common.{◌≡◌, ◌+◌, ◌-◌, ◌≤◌, ◌<◌, ◌^◌, length, take}
+use Rattle.p9_log.specs.declared.crash.Crash.{Crash}
+use Rattle.p9_log.specs.Device.{Holds, IsWritten}
+use Rattle.p9_disk.specs.Crashes.{Goes}
+use Rattle.p9_disk.specs.Events.{faults, is_unsure, seen}
+use Rattle.p9_disk.proofs.writing.write_all.Given as goal
+
+-- a front of the bytes is written
+abbrev pub invariant-loop-done : goal.invariant-loop-done
+invariant-loop-done l = (l.done ≤ length l.bytes) × (l.at + length l.bytes < 2 ^ 63) × Holds (seen l.fn.calls.events) l.at (take l.done l.bytes) (seen l.calls.events)
+    × ((how : Crash) → Goes how (IsWritten how l.at l.bytes) l.fn.calls.events l.calls.events) × (faults l.calls.events ≡ faults l.fn.calls.events) × (is_unsure l.calls.events ≡ is_unsure l.fn.calls.events)
+
+abbrev pub decreases-loop-done : goal.decreases-loop-done
+decreases-loop-done l = length l.bytes - l.done

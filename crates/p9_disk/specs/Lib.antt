@@ -1,0 +1,4 @@
+pub mod Crashes
+pub mod Disk
+pub mod Events
+pub mod Noted

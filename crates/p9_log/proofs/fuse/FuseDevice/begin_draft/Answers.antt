@@ -1,0 +1,8 @@
+use Rattle.p9_log.specs.Device.{IsSame}
+use Rattle.p9_log.proofs.Lifted.{lifted}
+use Rattle.p9_log.proofs.fuse.FuseDevice.begin_draft.Goals as goal
+
+pub returns-clause-crash : goal.returns-clause-crash
+returns-clause-crash g c how =
+    lifted (λ f. f.device) g.D.Device.moment g.D.Device.may_leave g.D.Device.left_since how IsSame c.args.self.now _
+    (c.begin_draft.ensures.crash how)
