@@ -1,3 +1,7 @@
 pub mod Edits
 pub mod Crashes
 pub mod Noted
+pub mod Making
+pub mod Untouched
+pub mod Renewed
+pub mod Runs

@@ -3,7 +3,7 @@ use Rattle.std.specs.Prelude.{◌≡◌, ℕ, zero, suc, List, [], ◌∷◌, �
 use Rattle.std.specs.Prelude.{nat_lt, if◌then◌else◌}
 use Rattle.p9_tree.specs.ForestEdit.{ForestEdit, all_forest_edited}
 use Rattle.p9_tree.specs.Server.{Server}
-use Rattle.p9_record.specs.RecordReading.{forest_edit_at}
+use Rattle.p9_record.specs.Closed.{closed_edit_at}
 
 -- a change that was read in front of bytes, and those that are read of the rest
 abbrev pub edits_after : (List ℕ → List ForestEdit) → (bytes : List ℕ)
@@ -15,7 +15,7 @@ edits_after others bytes (Some x) =
 -- at most so many changes, one after another, up to the first bytes that are none
 abbrev pub edits_by : (most : ℕ) → List ℕ → List ForestEdit
 edits_by zero bytes = []
-edits_by (suc most) bytes = edits_after (edits_by most) bytes (forest_edit_at bytes)
+edits_by (suc most) bytes = edits_after (edits_by most) bytes (closed_edit_at bytes)
 
 -- all of them. Each takes a byte at least
 unfoldable pub edits_in : List ℕ → List ForestEdit

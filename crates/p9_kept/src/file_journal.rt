@@ -6,10 +6,43 @@ ghost use Rattle.p9_log.specs.Blocks.{content_in};
 ghost use Rattle.p9_log.specs.Log.{LeaveAsSeen};
 ghost use Rattle.p9_kept.specs.Edits.{IsWhole, stood_for};
 
+use crate::drafting::put_forest;
 use crate::noting::put_behind;
-use p9_log::{Device, Log};
-use p9_tree::{ForestChange, Journal, Unsettled};
+use p9_base::NoMemory;
+use p9_log::{Device, Log, LogError};
+use p9_tree::{Forest, ForestChange, Journal, Tree, Unsettled};
 use std::alloc::Allocator;
+use thiserror::Error;
+
+// From so many bytes on that were noted a journal is settled between two events. An event notes at
+// most the bytes of a frame, and some more for each change.
+const RELIEVED: usize = 1 << 19;
+
+// For so many bytes there is room when a journal begins.
+const ROOM: usize = 1 << 20;
+
+/// Why a journal was not renewed. If it is still whole, it is as it was, and can be renewed later.
+#[derive(Clone, Copy, Debug, PartialEq, Eq, Error)]
+pub enum RenewError {
+    /// The journal could not be settled.
+    #[error("the journal can't be settled")]
+    Unsettled(Unsettled),
+    /// The draft could not be written, or not be put in the place of the log.
+    #[error("{0}")]
+    Log(LogError),
+}
+
+impl From<Unsettled> for RenewError {
+    fn from(error: Unsettled) -> RenewError {
+        RenewError::Unsettled(error)
+    }
+}
+
+impl From<LogError> for RenewError {
+    fn from(error: LogError) -> RenewError {
+        RenewError::Log(error)
+    }
+}
 
 /// A journal of records: those that were noted since it was settled are in a buffer, and those before
 /// them in a log.
@@ -19,6 +52,8 @@ pub struct FileJournal<D: Device, A: Allocator + Copy> {
     // the records that were noted since it was settled
     noted: Vec<u8, A>,
     whole: bool,
+    // how many bytes the log had when it began or was last renewed
+    renewed: usize,
     ghost records: { IsTrue whole
         → IsWhole (content_in Killed (D.seen log.device) ++ noted.items) },
     ghost as_seen: { IsTrue whole → LeaveAsSeen (D.seen log.device) (D.may_leave log.device) },
@@ -45,16 +80,122 @@ impl<D: Device, A: Allocator + Copy> Journal for FileJournal<D, A> {
         × (forest ≡ stood_for (content_in Stopped file)) };
 
     fn note(&mut self, change: &ForestChange<'_>) {
-        if !self.whole {
-            return;
-        }
-        match put_behind(&mut self.noted, change) {
-            Ok(()) => {}
-            Err(_) => self.whole = false,
-        }
+        self.note_change(change);
+    }
+
+    fn relieve(&mut self) {
+        self.relieve_noted();
     }
 
     fn settle(&mut self) -> Result<(), Unsettled> {
+        self.settle_noted()
+    }
+
+    fn sync(&mut self) -> Result<(), Unsettled> {
+        self.sync_noted()
+    }
+}
+
+impl<D: Device, A: Allocator + Copy> FileJournal<D, A> {
+    ghost use Rattle.std.specs.Prelude.{◌≡◌, ◌++◌, ◌⊎◌, [], false, IfOk, IsTrue, List, OnErr, OnOk, ℕ};
+    ghost use Rattle.p9_log.specs.declared.crash.Crash.{Crash};
+    ghost use Rattle.p9_log.specs.declared.crash.Crash.TheVariants.{Killed, Stopped};
+    ghost use Rattle.p9_log.specs.Blocks.{content_in};
+    ghost use Rattle.p9_log.specs.Device.{LeavesOnly};
+    ghost use Rattle.p9_log.specs.Log.{AlwaysHas, IsAppended, LeaveAsSeen};
+    ghost use Rattle.p9_record.specs.Closed.{closed_spelling};
+    ghost use Rattle.p9_record.specs.Record.{FitsForestEdit};
+    ghost use Rattle.p9_tree.specs.ForestChange.{forest_edit_of};
+    ghost use Rattle.p9_tree.specs.Server.{Server};
+    ghost use Rattle.p9_kept.specs.Edits.{IsWhole, stood_for};
+    ghost use Rattle.p9_kept.specs.Making.{IsAppendedAndKept, IsRenewed, IsUntouched, Makes};
+
+    /// A journal behind the records of a log, with room for what is noted between two calls of
+    /// [`relieve`](Journal::relieve). The only error is a failed allocation.
+    pub fn begin(alloc: A, log: Log<D, A>) -> Result<FileJournal<D, A>, NoMemory>
+        requires whole { IsWhole (content_in Killed (D.seen log.device)) }
+        requires as_seen { LeaveAsSeen (D.seen log.device) (D.may_leave log.device) }
+        ensures whole { IfOk result (λ journal.
+            IsTrue (⟦<FileJournal<D, A> as Journal>⟧.is_whole journal)) }
+        ensures stands_for { IfOk result (λ journal.
+            ⟦<FileJournal<D, A> as Journal>⟧.stands_for journal
+            ≡ stood_for (content_in Killed (D.seen log.device))) }
+    {
+        let noted = Vec::with_capacity(alloc, ROOM)?;
+        let renewed = log.len();
+        Ok(FileJournal {
+            log,
+            noted,
+            whole: true,
+            renewed,
+        })
+    }
+
+    /// The file.
+    pub fn device(&self) -> &D
+        ensures { result.now ≡ self.now.log.device }
+    {
+        self.log.device()
+    }
+
+    /// The file, which the journal gives up, with what was noted since it was settled.
+    pub fn into_device(self) -> D
+        ensures { result ≡ self.log.device }
+    {
+        self.log.into_device()
+    }
+
+    /// How many bytes of the file count.
+    pub fn len(&self) -> usize
+        ensures { result ≡ self.now.log.end }
+    {
+        self.log.len()
+    }
+
+    /// How many bytes of the file counted when the journal began, or was last renewed.
+    pub fn renewed_len(&self) -> usize
+        ensures { result ≡ self.now.renewed }
+    {
+        self.renewed
+    }
+
+    /// Notes a change, as [`Journal::note`], and returns whether the journal is whole. Its file is
+    /// unchanged.
+    pub fn note_change(&mut self, change: &ForestChange<'_>) -> bool
+        ensures whole { result ≡ self.new.whole }
+        ensures less { IsTrue self.new.whole → IsTrue self.old.whole }
+        ensures log { self.new.log ≡ self.old.log }
+        ensures noted { IsTrue self.new.whole → self.new.noted.items
+            ≡ self.old.noted.items ++ closed_spelling (forest_edit_of change.now) }
+        ensures fits { IsTrue self.new.whole → FitsForestEdit (forest_edit_of change.now) }
+    {
+        if !self.whole {
+            return false;
+        }
+        match put_behind(&mut self.noted, change) {
+            Ok(()) => true,
+            Err(_) => {
+                self.whole = false;
+                false
+            }
+        }
+    }
+
+    /// Makes what was noted outlast the process, as [`Journal::settle`].
+    pub fn settle_noted(&mut self) -> Result<(), Unsettled>
+        ensures whole { IsTrue self.new.whole → IsTrue self.old.whole }
+        ensures ok { OnOk result (IsTrue self.new.whole) }
+        ensures err { OnErr result (self.new.whole ≡ false) }
+        ensures empty { OnOk result (self.new.noted.items ≡ []) }
+        ensures settled { OnOk result (content_in Killed (D.seen self.new.log.device)
+            ≡ content_in Killed (D.seen self.old.log.device) ++ self.old.noted.items) }
+        ensures synced { OnOk result (content_in Stopped (D.seen self.new.log.device)
+            ≡ content_in Stopped (D.seen self.old.log.device)) }
+        // A crash at any moment of the call leaves what it might have left before, or this.
+        ensures any_moment { (how : Crash) → LeavesOnly D.moment D.left_since how
+            (IsAppended how (D.seen self.old.log.device) self.old.noted.items)
+            self.old.log.device self.new.log.device }
+    {
         if !self.whole {
             return Err(Unsettled::Missing);
         }
@@ -69,37 +210,129 @@ impl<D: Device, A: Allocator + Copy> Journal for FileJournal<D, A> {
         Ok(())
     }
 
-    fn sync(&mut self) -> Result<(), Unsettled> {
-        self.settle()?;
-        match self.log.sync() {
-            Ok(()) => Ok(()),
-            Err(_) => {
-                self.whole = false;
-                Err(Unsettled::Failed)
-            }
+    /// Settles where much was noted since, as [`Journal::relieve`].
+    pub fn relieve_noted(&mut self)
+        ensures whole { IsTrue self.new.whole → IsTrue self.old.whole }
+        ensures same { IsTrue self.new.whole
+            → content_in Killed (D.seen self.new.log.device) ++ self.new.noted.items
+            ≡ content_in Killed (D.seen self.old.log.device) ++ self.old.noted.items }
+        ensures settled { IsTrue self.new.whole
+            → (D.seen self.new.log.device ≡ D.seen self.old.log.device)
+            ⊎ (self.new.noted.items ≡ []) }
+        ensures synced { IsTrue self.new.whole → content_in Stopped (D.seen self.new.log.device)
+            ≡ content_in Stopped (D.seen self.old.log.device) }
+        // A crash at any moment of the call leaves what it might have left before, or this.
+        ensures any_moment { (how : Crash) → LeavesOnly D.moment D.left_since how
+            (IsAppended how (D.seen self.old.log.device) self.old.noted.items)
+            self.old.log.device self.new.log.device }
+    {
+        if self.noted.len() >= RELIEVED {
+            let _ = self.settle_noted();
         }
     }
-}
 
-impl<D: Device, A: Allocator + Copy> FileJournal<D, A> {
-    ghost use Rattle.std.specs.Prelude.{◌≡◌, IsTrue};
-    ghost use Rattle.p9_log.specs.declared.crash.Crash.TheVariants.{Killed};
-    ghost use Rattle.p9_log.specs.Blocks.{content_in};
-    ghost use Rattle.p9_log.specs.Log.{LeaveAsSeen};
-    ghost use Rattle.p9_kept.specs.Edits.{IsWhole, stood_for};
-
-    /// A journal behind the records of a log.
-    pub fn begin(alloc: A, log: Log<D, A>) -> FileJournal<D, A>
-        requires whole { IsWhole (content_in Killed (D.seen log.device)) }
-        requires as_seen { LeaveAsSeen (D.seen log.device) (D.may_leave log.device) }
-        ensures whole { IsTrue (⟦<FileJournal<D, A> as Journal>⟧.is_whole result) }
-        ensures stands_for { ⟦<FileJournal<D, A> as Journal>⟧.stands_for result
-            ≡ stood_for (content_in Killed (D.seen log.device)) }
+    /// Makes what was noted outlast the machine, as [`Journal::sync`].
+    pub fn sync_noted(&mut self) -> Result<(), Unsettled>
+        ensures whole { IsTrue self.new.whole → IsTrue self.old.whole }
+        ensures ok { OnOk result (IsTrue self.new.whole) }
+        ensures err { OnErr result (self.new.whole ≡ false) }
+        ensures empty { OnOk result (self.new.noted.items ≡ []) }
+        ensures settled { OnOk result (content_in Killed (D.seen self.new.log.device)
+            ≡ content_in Killed (D.seen self.old.log.device) ++ self.old.noted.items) }
+        ensures synced { OnOk result (content_in Stopped (D.seen self.new.log.device)
+            ≡ content_in Killed (D.seen self.old.log.device) ++ self.old.noted.items) }
+        // A crash at any moment of the call leaves what it might have left before, or this.
+        ensures any_moment { (how : Crash) → LeavesOnly D.moment D.left_since how
+            (IsAppendedAndKept how (D.seen self.old.log.device) self.old.noted.items)
+            self.old.log.device self.new.log.device }
     {
-        FileJournal {
-            log,
-            noted: Vec::new(alloc),
-            whole: true,
+        self.settle_noted()?;
+        if self.log.sync().is_err() {
+            self.whole = false;
+            return Err(Unsettled::Failed);
         }
+        Ok(())
+    }
+
+    /// Makes the journal one of the fewest changes that make this forest from none: they take the
+    /// place of all that it had, which a crash leaves whole until then. At `Ok` neither a process that
+    /// is killed nor a machine that stops has lost anything of the forest.
+    ///
+    /// After an error the journal may be whole or not. It isn't where it couldn't be settled. Where
+    /// the draft couldn't be written, as on a full disk, it is as whole as before.
+    pub fn renew<T: Tree>(&mut self, forest: &Forest<T>) -> Result<(), RenewError>
+        ensures whole { IsTrue self.new.whole → IsTrue self.old.whole }
+        ensures ok { OnOk result (IsTrue self.new.whole) }
+        ensures stands { OnOk result (⟦<FileJournal<D, A> as Journal>⟧.stands_for self.new
+            ≡ forest.now) }
+        ensures settled { OnOk result (⟦<FileJournal<D, A> as Journal>⟧.settled self.new
+            ≡ forest.now) }
+        ensures synced { OnOk result (⟦<FileJournal<D, A> as Journal>⟧.synced self.new
+            ≡ forest.now) }
+        ensures kept { OnOk result ((left : List Server)
+            → ⟦<FileJournal<D, A> as Journal>⟧.may_stay self.new left
+            ⊎ ⟦<FileJournal<D, A> as Journal>⟧.may_stand self.new left → left ≡ forest.now) }
+        ensures same { OnErr result (IsTrue self.new.whole
+            → ⟦<FileJournal<D, A> as Journal>⟧.stands_for self.new
+            ≡ ⟦<FileJournal<D, A> as Journal>⟧.stands_for self.old) }
+        ensures stay { (left : List Server) → ⟦<FileJournal<D, A> as Journal>⟧.may_stay self.new left
+            → ⟦<FileJournal<D, A> as Journal>⟧.may_stay self.old left
+            ⊎ (left ≡ ⟦<FileJournal<D, A> as Journal>⟧.settled self.old)
+            ⊎ (left ≡ ⟦<FileJournal<D, A> as Journal>⟧.stands_for self.old)
+            ⊎ (left ≡ forest.now) }
+        ensures stand { (left : List Server) → ⟦<FileJournal<D, A> as Journal>⟧.may_stand self.new left
+            → ⟦<FileJournal<D, A> as Journal>⟧.may_stand self.old left
+            ⊎ (left ≡ ⟦<FileJournal<D, A> as Journal>⟧.synced self.old) ⊎ (left ≡ forest.now) }
+        // A crash at any moment of the call leaves what it might have left before, or this.
+        ensures any_moment { (how : Crash) → LeavesOnly D.moment D.left_since how
+            (IsRenewed how (D.seen self.old.log.device) self.old.noted.items forest.now)
+            self.old.log.device self.new.log.device }
+    {
+        self.settle_noted()?;
+        self.draft(forest)?;
+        self.put_draft()?;
+        Ok(())
+    }
+
+    // Writes the changes that make a forest into a draft of the log.
+    fn draft<T: Tree>(&mut self, forest: &Forest<T>) -> Result<(), LogError>
+        requires { self.old.noted.items ≡ [] }
+        ensures whole { self.new.whole ≡ self.old.whole }
+        ensures noted { self.new.noted.items ≡ [] }
+        ensures made { OnOk result (Makes (D.drafted self.new.log.device) [] forest.now) }
+        ensures log { IsUntouched D.seen D.moment D.may_leave D.left_since self.old.log.device
+            self.new.log.device }
+    {
+        forest.well_formed();
+        self.log.begin_draft()?;
+        let drafted = put_forest(&mut self.log, &mut self.noted, forest.trees());
+        self.noted.clear();
+        drafted
+    }
+
+    // Puts the draft in the place of the log.
+    fn put_draft(&mut self) -> Result<(), LogError>
+        requires noted { self.old.noted.items ≡ [] }
+        requires draft { IsWhole (content_in Stopped (D.drafted self.old.log.device)) }
+        ensures whole { IsTrue self.new.whole → IsTrue self.old.whole }
+        ensures ok { OnOk result (self.new.whole ≡ self.old.whole) }
+        ensures noted { self.new.noted.items ≡ [] }
+        ensures content { OnOk result (AlwaysHas (content_in Stopped (D.drafted self.old.log.device))
+            (D.seen self.new.log.device)) }
+        ensures outcomes { OnOk result (LeaveAsSeen (D.seen self.new.log.device)
+            (D.may_leave self.new.log.device)) }
+        ensures same { OnErr result (IsTrue self.new.whole
+            → D.seen self.new.log.device ≡ D.seen self.old.log.device) }
+        // A crash at any moment of the call leaves what it might have left before, or the draft.
+        ensures any_moment { (how : Crash) → LeavesOnly D.moment D.left_since how
+            (AlwaysHas (content_in Stopped (D.drafted self.old.log.device)))
+            self.old.log.device self.new.log.device }
+    {
+        if let Err(error) = self.log.put_draft() {
+            self.whole = self.whole && self.log.is_usable();
+            return Err(error);
+        }
+        self.renewed = self.log.len();
+        Ok(())
     }
 }

@@ -53,9 +53,12 @@ pub fn reopen<D: Device, A: Allocator + Copy, T: Tree<Alloc = A>>(
         Ok(forest) => forest,
         Err(refused) => return Err(ReopenError::Changes(refused)),
     };
+    let Ok(journal) = FileJournal::begin(alloc, recovered.log) else {
+        return Err(ReopenError::Log(LogError::Memory));
+    };
     Ok(Reopened {
         forest,
-        journal: FileJournal::begin(alloc, recovered.log),
+        journal,
         left_out: recovered.left_out,
     })
 }

@@ -17,7 +17,7 @@ ghost use Rattle.p9_tree.specs.TreeChange.{edit_of};
 ghost use Rattle.p9_kept.specs.Edits.{IsWhole, stood_for, stood_from};
 
 use p9_base::{NoMemory, SERVERS_MAX};
-use p9_record::take_change;
+use p9_record::take_closed;
 use p9_tree::{
     Change, FILE_MAX, Forest, ForestChange, NEXT_MAX, New, Node, Saved, Tree, TreeChange, fits_file,
 };
@@ -65,7 +65,7 @@ fn replay_in<T: Tree>(
 {
     let mut rest = bytes;
     while !rest.is_empty() {
-        let Some((change, after)) = take_change(rest) else {
+        let Some((change, after)) = take_closed(rest) else {
             return Err(Refused::Damaged);
         };
         if after.len() >= rest.len() {

@@ -1,6 +1,6 @@
 -- A change is read as it is spelled: what is spelled is read back, and nothing else is read.
 use Rattle.std.proofs.Common.{◌≡◌, ℕ, ◌<◌, ◌^◌, Bool, true, false, IsTrue, List, ◌++◌, cond, eqb}
-use Rattle.std.proofs.Common.{length, Option, Some, None, refl, sym, ap, subst, ◌∙◌, append_assoc, arith}
+use Rattle.std.proofs.Common.{Option, Some, None, refl, sym, ap, subst, ◌∙◌, append_assoc, arith}
 use Rattle.std.specs.Prelude.{option_map}
 use Rattle.std.specs.Option.{ForSome, option_map_or}
 use Rattle.std.proofs.lemmas.Bool.{eqb-true}
@@ -11,21 +11,19 @@ use Rattle.p9_base.specs.declared.mode.Permissions.{Permissions}
 use Rattle.p9_base.specs.Mode.{is_dir, is_dir_kind, mode_bits, mode_of}
 use Rattle.p9_base.specs.Name.{is_name}
 use Rattle.p9_base.specs.User.{is_user}
-use Rattle.p9_tree.specs.declared.change.Change.{Change}
-use Rattle.p9_tree.specs.Edit.{Edit, NewFields, SetRoot, Create, Remove, Wstat, Mark, Write}
+use Rattle.p9_tree.specs.Edit.{Edit, SetRoot, Create, Remove, Wstat, Mark, Write}
 use Rattle.p9_tree.specs.Edit.{Truncate, PutBack, Skip}
 use Rattle.p9_tree.specs.ForestEdit.{ForestEdit, AddServer, OnServer}
 use Rattle.p9_tree.specs.Node.{Node, root_name}
 use Rattle.p9_wire.specs.Fields.{number, text, counted}
 use Rattle.p9_wire.specs.FieldReading.{◌and_then◌, Reader, ◌then◌, mapped, number_at, text_at}
-use Rattle.p9_wire.specs.FieldReading.{counted_at}
 use Rattle.p9_wire.specs.Frame.{IsBytes}
 use Rattle.p9_wire.proofs.Bytes.{IsBytes-back}
-use Rattle.p9_wire.proofs.Codes.{Codes, bind_some, when_passed, number-codes, text-codes, then-codes}
+use Rattle.p9_wire.proofs.Codes.{Codes, bind_some, number-codes, text-codes, then-codes}
 use Rattle.p9_wire.proofs.Codes.{counted-codes, made-complete, made-sound, same-codes}
 use Rattle.p9_record.specs.Record.{mode_bytes, permissions_bytes, optional, change_bytes}
 use Rattle.p9_record.specs.Record.{entry_bytes, entry_of, node_bytes, spelling, forest_spelling}
-use Rattle.p9_record.specs.Record.{FitsEdit, FitsChange, FitsEntry, FitsNew, FitsNode}
+use Rattle.p9_record.specs.Record.{FitsEdit, FitsChange, FitsEntry, FitsNode}
 use Rattle.p9_record.specs.Record.{FitsForestEdit, kind_of, body}
 use Rattle.p9_record.specs.RecordReading.{name_at, user_at, mode_at, permissions_at, optional_at}
 use Rattle.p9_record.specs.RecordReading.{given, entry_at, node_at, change_at, set_root_at}

@@ -2,9 +2,10 @@
 //! back from it.
 #![tactic(auto)]
 
+mod closed;
 pub mod laws;
 mod reading;
 mod writing;
 
-pub use reading::take_change;
-pub use writing::{data_len, put_change};
+pub use closed::{put_closed, take_closed};
+pub use writing::data_len;

@@ -131,6 +131,7 @@ fn put_set_root(
     gid: &User,
 ) -> usize
     requires { at + fixed_max ≤ length out.old }
+    ensures next { result ≤ at + fixed_max }
     ensures bytes { Puts (spelling (SetRoot permissions uid.now gid.now)) at result out.old out.new }
     ensures fits { FitsEdit (SetRoot permissions uid.now gid.now) }
 {
@@ -151,6 +152,7 @@ fn put_set_root(
 fn put_create(out: &mut [u8], at: usize, dir: u64, new: &New<'_>) -> usize
     requires small { length new.now.bytes.now < 2 ^ 32 }
     requires room { at + fixed_max + length new.now.bytes.now ≤ length out.old }
+    ensures next { result ≤ at + fixed_max + length new.now.bytes.now }
     ensures bytes { Puts (spelling (edit_of (TreeChange.Create dir new.now))) at result out.old
         out.new }
     ensures fits { FitsEdit (edit_of (TreeChange.Create dir new.now)) }
@@ -170,6 +172,7 @@ fn put_create(out: &mut [u8], at: usize, dir: u64, new: &New<'_>) -> usize
 #[tactic(auto, unfolding(crate::specs::Record::spelling))]
 fn put_remove(out: &mut [u8], at: usize, number: u64) -> usize
     requires { at + fixed_max ≤ length out.old }
+    ensures next { result ≤ at + fixed_max }
     ensures bytes { Puts (spelling (Remove number)) at result out.old out.new }
     ensures fits { FitsEdit (Remove number) }
 {
@@ -179,6 +182,7 @@ fn put_remove(out: &mut [u8], at: usize, number: u64) -> usize
 
 fn put_fields(out: &mut [u8], at: usize, change: &Change) -> usize
     requires { at + 480 ≤ length out.old }
+    ensures next { result ≤ at + 480 }
     ensures bytes { Puts (change_bytes change.now) at result out.old out.new }
     ensures fits { FitsChange change.now }
 {
@@ -194,6 +198,7 @@ fn put_fields(out: &mut [u8], at: usize, change: &Change) -> usize
 #[tactic(auto, unfolding(crate::specs::Record::spelling))]
 fn put_wstat(out: &mut [u8], at: usize, number: u64, change: &Change) -> usize
     requires { at + fixed_max ≤ length out.old }
+    ensures next { result ≤ at + fixed_max }
     ensures bytes { Puts (spelling (Wstat number change.now)) at result out.old out.new }
     ensures fits { FitsEdit (Wstat number change.now) }
 {
@@ -205,6 +210,7 @@ fn put_wstat(out: &mut [u8], at: usize, number: u64, change: &Change) -> usize
 #[tactic(auto, unfolding(crate::specs::Record::spelling))]
 fn put_mark(out: &mut [u8], at: usize, number: u64, user: &User, clock: u32) -> usize
     requires { at + fixed_max ≤ length out.old }
+    ensures next { result ≤ at + fixed_max }
     ensures bytes { Puts (spelling (Mark number user.now clock)) at result out.old out.new }
     ensures fits { FitsEdit (Mark number user.now clock) }
 {
@@ -218,6 +224,7 @@ fn put_mark(out: &mut [u8], at: usize, number: u64, user: &User, clock: u32) -> 
 fn put_write(out: &mut [u8], at: usize, number: u64, offset: u64, bytes: &[u8]) -> usize
     requires small { length bytes.now < 2 ^ 32 }
     requires room { at + fixed_max + length bytes.now ≤ length out.old }
+    ensures next { result ≤ at + fixed_max + length bytes.now }
     ensures bytes { Puts (spelling (Write number offset bytes.now)) at result out.old out.new }
     ensures fits { FitsEdit (Write number offset bytes.now) }
 {
@@ -230,6 +237,7 @@ fn put_write(out: &mut [u8], at: usize, number: u64, offset: u64, bytes: &[u8]) 
 #[tactic(auto, unfolding(crate::specs::Record::spelling))]
 fn put_truncate(out: &mut [u8], at: usize, number: u64, size: u64) -> usize
     requires { at + fixed_max ≤ length out.old }
+    ensures next { result ≤ at + fixed_max }
     ensures bytes { Puts (spelling (Truncate number size)) at result out.old out.new }
     ensures fits { FitsEdit (Truncate number size) }
 {
@@ -267,6 +275,7 @@ fn put_optional_entry(out: &mut [u8], at: usize, entry: &Option<Entry>) -> usize
 fn put_saved(out: &mut [u8], at: usize, saved: &Saved<'_>) -> usize
     requires small { length saved.now.bytes.now < 2 ^ 32 }
     requires room { at + 511 + length saved.now.bytes.now ≤ length out.old }
+    ensures next { result ≤ at + 511 + length saved.now.bytes.now }
     ensures bytes { Puts (node_bytes (saved_node saved.now)) at result out.old out.new }
     ensures fits { FitsNode (saved_node saved.now) }
 {
@@ -286,6 +295,7 @@ fn put_saved(out: &mut [u8], at: usize, saved: &Saved<'_>) -> usize
 fn put_put_back(out: &mut [u8], at: usize, saved: &Saved<'_>) -> usize
     requires small { length saved.now.bytes.now < 2 ^ 32 }
     requires room { at + fixed_max + length saved.now.bytes.now ≤ length out.old }
+    ensures next { result ≤ at + fixed_max + length saved.now.bytes.now }
     ensures bytes { Puts (spelling (PutBack (saved_node saved.now))) at result out.old out.new }
     ensures fits { FitsEdit (PutBack (saved_node saved.now)) }
 {
@@ -296,6 +306,7 @@ fn put_put_back(out: &mut [u8], at: usize, saved: &Saved<'_>) -> usize
 #[tactic(auto, unfolding(crate::specs::Record::spelling))]
 fn put_skip(out: &mut [u8], at: usize, next: u64) -> usize
     requires { at + fixed_max ≤ length out.old }
+    ensures next { result ≤ at + fixed_max }
     ensures bytes { Puts (spelling (Skip next)) at result out.old out.new }
     ensures fits { FitsEdit (Skip next) }
 {
@@ -307,6 +318,7 @@ fn put_skip(out: &mut [u8], at: usize, next: u64) -> usize
 fn put_tree_change(out: &mut [u8], at: usize, change: &TreeChange<'_>) -> usize
     requires small { length (data_of (edit_of change.now)) < 2 ^ 32 }
     requires room { at + fixed_max + length (data_of (edit_of change.now)) ≤ length out.old }
+    ensures next { result ≤ at + fixed_max + length (data_of (edit_of change.now)) }
     ensures bytes { Puts (spelling (edit_of change.now)) at result out.old out.new }
     ensures fits { FitsEdit (edit_of change.now) }
 {
@@ -339,6 +351,7 @@ fn put_tree_change(out: &mut [u8], at: usize, change: &TreeChange<'_>) -> usize
 fn put_on_server(out: &mut [u8], at: usize, server: u16, change: &TreeChange<'_>) -> usize
     requires small { length (data_of (edit_of change.now)) < 2 ^ 32 }
     requires room { at + forest_fixed_max + length (data_of (edit_of change.now)) ≤ length out.old }
+    ensures next { result ≤ at + forest_fixed_max + length (data_of (edit_of change.now)) }
     ensures bytes { Puts (forest_spelling (forest_edit_of (ForestChange.OnServer server change.now)))
         at result out.old out.new }
     ensures fits { FitsForestEdit (forest_edit_of (ForestChange.OnServer server change.now)) }
@@ -351,7 +364,8 @@ fn put_on_server(out: &mut [u8], at: usize, server: u16, change: &TreeChange<'_>
 #[tactic(auto, unfolding(crate::specs::Record::forest_spelling))]
 fn put_add_server(out: &mut [u8], at: usize) -> usize
     requires { at + forest_fixed_max ≤ length out.old }
-    ensures { Puts (forest_spelling (forest_edit_of ForestChange.AddServer)) at result out.old out.new }
+    ensures next { result ≡ at + 1 }
+    ensures bytes { Puts (forest_spelling (forest_edit_of ForestChange.AddServer)) at result out.old out.new }
 {
     put_u8(out, at, 0)
 }
@@ -362,6 +376,7 @@ pub fn put_change(out: &mut [u8], at: usize, change: &ForestChange<'_>) -> usize
     requires small { length (forest_data_of (forest_edit_of change.now)) < 2 ^ 32 }
     requires room { at + forest_fixed_max + length (forest_data_of (forest_edit_of change.now))
         ≤ length out.old }
+    ensures next { result ≤ at + forest_fixed_max + length (forest_data_of (forest_edit_of change.now)) }
     ensures bytes { Puts (forest_spelling (forest_edit_of change.now)) at result out.old out.new }
     ensures fits { FitsForestEdit (forest_edit_of change.now) }
 {

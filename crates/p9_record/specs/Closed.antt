@@ -1,0 +1,26 @@
+-- Changes with a checksum behind them.
+use Rattle.std.specs.Prelude.{ℕ, List, ◌++◌, take, Some, None, if◌then◌else◌}
+use Rattle.std.specs.Str.{bytes_eq}
+use Rattle.md5.specs.Md5.{md5}
+use Rattle.p9_tree.specs.ForestEdit.{ForestEdit}
+use Rattle.p9_wire.specs.FieldReading.{◌and_then◌, Reader, bytes_at}
+use Rattle.p9_record.specs.Record.{forest_spelling}
+use Rattle.p9_record.specs.RecordReading.{forest_edit_at}
+
+-- the first eight bytes of the MD5 of the bytes
+unfoldable pub checksum : List ℕ → List ℕ
+checksum bytes = take 8 (md5 bytes)
+
+-- the bytes of a closed record: the spelling of a change, and its checksum
+unfoldable pub closed_spelling : ForestEdit → List ℕ
+closed_spelling edit = forest_spelling edit ++ checksum (forest_spelling edit)
+
+-- the change that is read at the front of the bytes, where its checksum follows it
+unfoldable pub closed_edit_at : Reader ForestEdit
+closed_edit_at bytes =
+    forest_edit_at bytes and_then λ x. bytes_at 8 x.1 and_then λ sum.
+    if bytes_eq sum.0 (checksum (forest_spelling x.0)) then Some (x.0, sum.1) else None
+
+-- all of a closed record but for the bytes of a file that it carries takes no more bytes
+abbrev pub closed_fixed_max : ℕ
+closed_fixed_max = 523
