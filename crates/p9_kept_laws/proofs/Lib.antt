@@ -1,0 +1,3 @@
+mod Alike
+mod Gaps
+mod Lives
