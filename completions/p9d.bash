@@ -5,10 +5,11 @@ _p9d() {
     case "$command" in
         *)
             case "$previous" in
-                -a|--clients|--per-address|--idle) return ;;
+                -d|--check) compopt -o filenames 2>/dev/null; mapfile -t COMPREPLY < <(compgen -f -- "$word"); return ;;
+                -a|-s|--clients|--per-address|--idle) return ;;
             esac
             compopt -o filenames 2>/dev/null
-            mapfile -t COMPREPLY < <(compgen -W "-a --clients --per-address --idle --anyway -q --quiet -h --help -V --version" -- "$word"; compgen -f -- "$word") ;;
+            mapfile -t COMPREPLY < <(compgen -W "-a -d -s --check --clients --per-address --idle --anyway -q --quiet -h --help -V --version" -- "$word"; compgen -f -- "$word") ;;
     esac
 }
 complete -F _p9d p9d

@@ -1,5 +1,8 @@
 # fish completion of p9d, made by scripts/completions
 complete -c p9d -s a -x -d 'An IP address with a port, or unix:PATH; who comes there may attach as these users alone'
+complete -c p9d -s d -r -F -d 'Keep in this folder what clients change'
+complete -c p9d -s s -x -d 'Sync so often: 1; 0 syncs before each reply'
+complete -c p9d -l check -r -F -d 'Say what is kept in a folder, and change nothing'
 complete -c p9d -l clients -x -d 'The most clients at once: 1000'
 complete -c p9d -l per-address -x -d 'The most from one address: 100'
 complete -c p9d -l idle -x -d 'Close clients that send nothing so long'

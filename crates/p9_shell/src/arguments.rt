@@ -43,6 +43,8 @@ pub enum Given {
     Name,
     /// By its name, or by a letter.
     NameOr(char),
+    /// By its name, and nothing else is given.
+    Alone,
     /// It is a word.
     Word,
     /// It is one word or more.
@@ -123,6 +125,7 @@ fn as_given<'a>(arg: Arg<'a>, shape: &ArgShape) -> Arg<'a> {
         Given::Letter(letter) => arg.short(letter),
         Given::Name => arg.long(shape.name),
         Given::NameOr(letter) => arg.long(shape.name).short(letter),
+        Given::Alone => arg.long(shape.name).exclusive(true),
         Given::Word => arg,
         Given::Words => arg.num_args(1..),
     }

@@ -1,11 +1,14 @@
 //! The export that is served.
 
 use crate::PROGRAM;
+use crate::counting::nodes_of;
+use crate::folder::Folder;
+use crate::keeping::{Trees, keep_in};
+use crate::words::Asked;
 use p9_base::{NoMemory, User};
 use p9_commands::{Needs, Prepared, path_of, prepare, print_reports};
 use p9_explain::explain;
 use p9_guard::Guard;
-use p9_index::IndexTree;
 use p9_shell::{Failure, tell};
 use p9_shown::AsShown;
 use p9_tree::Tree;
@@ -16,8 +19,10 @@ use std::fs;
 /// What is served: the guard over an export, and what is known of that.
 #[derive(Drop)]
 pub(crate) struct Export {
-    pub guard: Guard<IndexTree<Global>>,
+    pub guard: Guard<Trees>,
     pub about: About,
+    /// The folder in which changes are kept, if they are kept.
+    pub folder: Option<Folder>,
 }
 
 /// What is known of an export.
@@ -30,23 +35,20 @@ pub(crate) struct About {
     pub text: String,
 }
 
-/// Reads the export of a file, and verifies its certificate. Where it can't be served, that is reported.
-pub(crate) fn read_export(
-    rt: &HostRuntime,
-    file: &str,
-    is_anyway: bool,
-) -> Result<Export, Failure> {
-    let input = PROGRAM.had(rt, file, fs::read(rt, file))?;
-    match export_of(rt, input.as_slice(), is_anyway)? {
+/// Reads the export of a file, and verifies its certificate. Where changes are kept, its trees are
+/// those that were kept. Where it can't be served, that is reported.
+pub(crate) fn read_export(rt: &HostRuntime, asked: Asked<'_>) -> Result<Export, Failure> {
+    let input = PROGRAM.had(rt, asked.export, fs::read(rt, asked.export))?;
+    match export_of(rt, input.as_slice(), asked)? {
         Some(export) => Ok(export),
-        None => Err(say_why(rt, file, input.as_slice())),
+        None => Err(say_why(rt, asked.export, input.as_slice())),
     }
 }
 
 // The export of an input, unless the input has a fault or no certificate without a gap.
-fn export_of(rt: &HostRuntime, input: &[u8], is_anyway: bool) -> Result<Option<Export>, Failure> {
-    match prepare::<IndexTree<Global>>(rt.alloc(), input, Needs::Certificate) {
-        Ok(prepared) => guarded(rt, prepared, is_anyway),
+fn export_of(rt: &HostRuntime, input: &[u8], asked: Asked<'_>) -> Result<Option<Export>, Failure> {
+    match prepare::<Trees>(rt.alloc(), input, Needs::Certificate) {
+        Ok(prepared) => guarded(rt, input, prepared, asked),
         Err(_) => Ok(None),
     }
 }
@@ -54,11 +56,17 @@ fn export_of(rt: &HostRuntime, input: &[u8], is_anyway: bool) -> Result<Option<E
 // The export of an input that is prepared, where its certificate has no gap.
 fn guarded(
     rt: &HostRuntime,
-    prepared: Prepared<IndexTree<Global>>,
-    is_anyway: bool,
+    input: &[u8],
+    prepared: Prepared<Trees>,
+    asked: Asked<'_>,
 ) -> Result<Option<Export>, Failure> {
-    match known(rt, &prepared, is_anyway) {
-        Ok(about) => Ok(with_guard(prepared, about)),
+    if prepared.gap().is_some() {
+        prepared.discard();
+        return Ok(None);
+    }
+    let mut prepared = prepared;
+    match made_ready(rt, input, &mut prepared, asked) {
+        Ok((about, folder)) => Ok(with_guard(prepared, about, folder)),
         Err(failure) => {
             prepared.discard();
             Err(failure)
@@ -66,10 +74,43 @@ fn guarded(
     }
 }
 
+// What is known of an input that is prepared, once it has the trees that are kept.
+fn made_ready(
+    rt: &HostRuntime,
+    input: &[u8],
+    prepared: &mut Prepared<Trees>,
+    asked: Asked<'_>,
+) -> Result<(About, Option<Folder>), Failure> {
+    let folder = match asked.folder {
+        Some(path) => Some(kept(rt, input, prepared, asked.export, path)?),
+        None => None,
+    };
+    let about = known(rt, prepared, asked.is_anyway)?;
+    Ok((about, folder))
+}
+
+// Gives an input that is prepared the trees that are kept in a folder, which becomes its own.
+fn kept(
+    rt: &HostRuntime,
+    input: &[u8],
+    prepared: &mut Prepared<Trees>,
+    export: &str,
+    path: &str,
+) -> Result<Folder, Failure> {
+    let folder = Folder::take(rt, path)?;
+    folder.belong_to(rt, export, input)?;
+    keep_in(rt, &folder, prepared)?;
+    Ok(folder)
+}
+
 // The guard of an input that is prepared, with what is known of it.
-fn with_guard(prepared: Prepared<IndexTree<Global>>, about: About) -> Option<Export> {
+fn with_guard(prepared: Prepared<Trees>, about: About, folder: Option<Folder>) -> Option<Export> {
     match prepared.guard() {
-        Ok(guard) => Some(Export { guard, about }),
+        Ok(guard) => Some(Export {
+            guard,
+            about,
+            folder,
+        }),
         Err(_) => None,
     }
 }
@@ -85,17 +126,13 @@ fn say_why(rt: &HostRuntime, file: &str, input: &[u8]) -> Failure {
 // Says what is wrong with an export.
 fn explained(rt: &HostRuntime, file: &str, input: &[u8]) -> Result<(), Failure> {
     let mut text = Vec::new(rt.alloc());
-    let _ = explain::<IndexTree<Global>>(file, input, &mut text)?;
+    let _ = explain::<Trees>(file, input, &mut text)?;
     Ok(tell(rt, text.as_slice())?)
 }
 
 // What is known of an input that is prepared. One that hides nothing is refused, unless it is to be
 // served anyway.
-fn known(
-    rt: &HostRuntime,
-    prepared: &Prepared<IndexTree<Global>>,
-    is_anyway: bool,
-) -> Result<About, Failure> {
+fn known(rt: &HostRuntime, prepared: &Prepared<Trees>, is_anyway: bool) -> Result<About, Failure> {
     let world = &prepared.space.world;
     if world.hidden.is_empty() && !is_anyway {
         eprintln!(rt; "p9d: the export hides nothing; --anyway serves it")?;
@@ -114,24 +151,12 @@ fn known(
 
 impl About {
     // Adds what is known of an input that is prepared.
-    fn fill(&mut self, prepared: &Prepared<IndexTree<Global>>) -> Result<(), NoMemory> {
+    fn fill(&mut self, prepared: &Prepared<Trees>) -> Result<(), NoMemory> {
         let space = &prepared.space;
         self.users.extend_from_slice(space.world.users.as_slice())?;
         print_reports(space.reports.as_slice(), &mut self.reports)?;
         push_about(&space.world, &mut self.text)
     }
-}
-
-// How many files and directories a world has that was read and never changed: its numbers are those
-// from 0 on.
-fn count_of<T: Tree>(world: &World<T>) -> u64 {
-    let mut count = 0u64;
-    for server in 0..world.servers.len() {
-        if let Ok(number) = u16::try_from(server) {
-            count = count.saturating_add(world.forest.next_of(number));
-        }
-    }
-    count
 }
 
 // Adds a line that says what is served: how many trees, files and users there are, and what is hidden.
@@ -143,7 +168,7 @@ fn push_about<T: Tree<Alloc = Global>>(
         text,
         "p9d: trees: {}, files and directories: {}, users: {}, ",
         world.servers.len(),
-        count_of(world),
+        nodes_of(&world.forest),
         world.users.len()
     )?;
     if world.hidden.is_empty() {

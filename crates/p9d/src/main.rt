@@ -3,11 +3,17 @@
 #![tactic(auto)]
 
 mod address;
+mod boot;
+mod check;
 mod client;
+mod counting;
 mod door;
 mod end;
 mod export;
+mod folder;
 mod journal;
+mod keeper;
+mod keeping;
 mod peer;
 mod serve;
 mod visit;
@@ -16,15 +22,17 @@ mod watch;
 mod words;
 
 use crate::address::{Address, BadAddress, address_of};
+use crate::check::check;
 use crate::door::{Door, close_doors};
 use crate::export::{About, Export, read_export};
+use crate::keeper::Keeper;
+use crate::keeping::Trees;
 use crate::serve::Daemon;
 use crate::visitors::Visitors;
 use crate::words::{Asked, SHAPE, asked_in};
 use clap::ArgMatches;
 use p9_base::User;
 use p9_guard::Guard;
-use p9_index::IndexTree;
 use p9_restricted::has_no_blank_name;
 use p9_shell::status::DONE;
 use p9_shell::{Failure, Program, exit, tell};
@@ -51,6 +59,12 @@ fn run(rt: &HostRuntime) -> Result<u8, Failure> {
 
 // Does what the words ask for that `clap` read.
 fn run_words(rt: &HostRuntime, matches: &ArgMatches<'_>) -> Result<u8, Failure> {
+    if let Some(folder) = matches.get_str("check") {
+        return check(rt, folder);
+    }
+    if matches.get_str("folder").is_none() && matches.get_one::<usize>("seconds").is_some() {
+        return Err(PROGRAM.refuse(rt, "-s", &"nothing is kept without -d", Failure::BadWords));
+    }
     match (asked_in(matches), matches.get_strs("address")) {
         (Some(asked), Some(addresses)) => run_asked(rt, asked, addresses),
         _ => Err(PROGRAM.bad_words(rt)),
@@ -60,10 +74,15 @@ fn run_words(rt: &HostRuntime, matches: &ArgMatches<'_>) -> Result<u8, Failure> 
 // Serves an export at addresses.
 fn run_asked(rt: &HostRuntime, asked: Asked<'_>, texts: &[&str]) -> Result<u8, Failure> {
     let addresses = addresses_of(rt, texts)?;
-    let Export { guard, about } = read_export(rt, asked.export, asked.is_anyway)?;
+    let Export {
+        guard,
+        about,
+        folder,
+    } = read_export(rt, asked)?;
+    let keeper = folder.map(|folder| Keeper::new(folder, asked.sync_seconds));
     let mut doors = Vec::new(rt.alloc());
     match open_doors(rt, asked.export, &about, addresses.as_slice(), &mut doors) {
-        Ok(()) => serve_doors(rt, asked, doors, guard),
+        Ok(()) => serve_doors(rt, asked, doors, keeper, guard),
         Err(failure) => {
             close_doors(rt, doors.as_slice());
             drop(guard);
@@ -77,11 +96,12 @@ fn serve_doors(
     rt: &HostRuntime,
     asked: Asked<'_>,
     doors: Vec<Door>,
-    guard: Guard<IndexTree<Global>>,
+    keeper: Option<Keeper>,
+    guard: Guard<Trees>,
 ) -> Result<u8, Failure> {
     match Visitors::new(rt.alloc(), asked.limits, asked.is_quiet) {
         Ok(visitors) => {
-            Daemon::new(doors, visitors).serve(rt, guard)?;
+            Daemon::new(doors, visitors, keeper).serve(rt, guard)?;
             Ok(DONE)
         }
         Err(error) => {

@@ -5,14 +5,17 @@ use crate::client::Client;
 use crate::door::{Arrival, Door, Origin, close_doors, shown_origin};
 use crate::end::{has_ended, is_pipe};
 use crate::journal::Level;
+use crate::keeper::Keeper;
+use crate::keeping::Trees;
 use crate::peer::Peer;
 use crate::visit::{Shared, Visit, Visited};
 use crate::visitors::Visitors;
 use p9_base::User;
 use p9_guard::Guard;
-use p9_index::IndexTree;
 use p9_restricted::Restricted;
-use p9_serve::{Clients, Pace, Round, Socket};
+use p9_serve::{Clients, Pace, Round, Socket, Tally};
+use p9_shell::Failure;
+use p9_tree::Unsettled;
 use std::alloc::{AllocError, Global};
 use std::io::{self, ErrorKind};
 use std::net::SocketAddr;
@@ -20,8 +23,38 @@ use std::rc::Rc;
 use std::thread;
 use std::time::{SystemTime, UNIX_EPOCH};
 
-// The clients of a guard.
-type Served = Clients<Client, IndexTree<Global>>;
+/// The clients of a guard.
+pub(crate) type Served = Clients<Client, Trees>;
+
+// Why the rounds end before the standard input has.
+#[derive(Drop)]
+enum Stop {
+    // Changes can't be kept any more.
+    Unsettled,
+    // The clock can't be read.
+    Failed(Failure),
+}
+
+impl From<Unsettled> for Stop {
+    fn from(_error: Unsettled) -> Stop {
+        Stop::Unsettled
+    }
+}
+
+impl From<io::Error> for Stop {
+    fn from(error: io::Error) -> Stop {
+        Stop::Failed(Failure::from(error))
+    }
+}
+
+impl From<Stop> for Failure {
+    fn from(stop: Stop) -> Failure {
+        match stop {
+            Stop::Unsettled => Failure::Failed,
+            Stop::Failed(failure) => failure,
+        }
+    }
+}
 
 /// A server: its doors, and who came to them.
 #[derive(Drop)]
@@ -29,40 +62,90 @@ pub(crate) struct Daemon {
     doors: Vec<Door>,
     visitors: Visitors,
     pace: Pace,
+    // What keeps the changes, if they are kept.
+    keeper: Option<Keeper>,
 }
 
 impl Daemon {
     /// A server to who comes to these doors.
-    pub fn new(doors: Vec<Door>, visitors: Visitors) -> Daemon {
+    pub fn new(doors: Vec<Door>, visitors: Visitors, keeper: Option<Keeper>) -> Daemon {
         Daemon {
             doors,
             visitors,
             pace: Pace::new(),
+            keeper,
         }
     }
 
     /// Serves a guard until the standard input, where that is a pipe, has ended. Then all sessions are
-    /// closed.
-    pub fn serve(mut self, rt: &HostRuntime, guard: Guard<IndexTree<Global>>) -> io::Result<()> {
+    /// closed. Where changes can't be kept any more it ends before any reply that tells of them.
+    pub fn serve(mut self, rt: &HostRuntime, guard: Guard<Trees>) -> Result<(), Failure> {
         let mut clients = Clients::new(rt.alloc(), guard);
         let done = self.rounds(rt, &mut clients);
-        drop(clients.finish(self.clock()));
+        let ended = self.end(rt, done, clients);
         self.close(rt);
-        done
+        ended
     }
 
     // Serves clients until the standard input, where that is a pipe, has ended.
-    fn rounds(&mut self, rt: &HostRuntime, clients: &mut Served) -> io::Result<()> {
+    fn rounds(&mut self, rt: &HostRuntime, clients: &mut Served) -> Result<(), Stop> {
         let ends = is_pipe(rt);
         for _ in 0..u64::MAX {
             self.rest(rt);
-            if self.is_new_second(rt)? && ends && has_ended(rt) {
-                break;
+            if self.is_new_second(rt)? {
+                if ends && has_ended(rt) {
+                    break;
+                }
+                self.begin_second(clients)?;
             }
-            self.round(rt.alloc(), clients);
+            self.round(rt.alloc(), clients)?;
             self.visitors.shared.print(rt);
         }
         Ok(())
+    }
+
+    // Closes all sessions, and brings all changes to the disk, where changes could be kept so far.
+    fn end(
+        &self,
+        rt: &HostRuntime,
+        done: Result<(), Stop>,
+        clients: Served,
+    ) -> Result<(), Failure> {
+        let mut clients = clients;
+        match (done, &self.keeper) {
+            (Err(Stop::Unsettled), Some(keeper)) => {
+                let failure = keeper.fail(rt, &mut clients);
+                drop(clients);
+                Err(failure)
+            }
+            (done, keeper) => {
+                let mut guard = clients.finish(self.clock());
+                let kept = match keeper {
+                    Some(keeper) => keeper.end(rt, &mut guard),
+                    None => Ok(()),
+                };
+                drop(guard);
+                kept?;
+                Ok(done?)
+            }
+        }
+    }
+
+    // Lets the keeper do what is due in a new second.
+    fn begin_second(&mut self, clients: &mut Served) -> Result<(), Unsettled> {
+        let shared = &self.visitors.shared;
+        match &mut self.keeper {
+            Some(keeper) => keeper.begin_second(shared.now.get(), clients, shared),
+            None => Ok(()),
+        }
+    }
+
+    // Turns of the clients.
+    fn turns(&self, clients: &mut Served) -> Result<Tally, Unsettled> {
+        match &self.keeper {
+            Some(keeper) => keeper.turns(clients, self.clock()),
+            None => Ok(clients.turns(self.clock())),
+        }
     }
 
     // Rests, where nothing has happened for some rounds.
@@ -91,13 +174,13 @@ impl Daemon {
     }
 
     // A round, as that of `p9 serve`, with an accept at each door.
-    fn round(&mut self, alloc: Global, clients: &mut Served) {
+    fn round(&mut self, alloc: Global, clients: &mut Served) -> Result<(), Unsettled> {
         let accepted = if self.pace.is_due() || clients.is_empty() {
             self.accept_all(alloc, clients)
         } else {
             0
         };
-        let tally = clients.turns(self.clock());
+        let tally = self.turns(clients)?;
         self.pace.count(Round {
             accepted,
             moved: tally.moved,
@@ -106,6 +189,7 @@ impl Daemon {
         if tally.closed > 0 {
             self.visitors.forget_gone();
         }
+        Ok(())
     }
 
     // Takes in a client at each door, where one waits. Returns how many were taken in.

@@ -8,11 +8,18 @@ const CLIENTS: usize = 1_000;
 
 const PER_ADDRESS: usize = 100;
 
+// The seconds between two syncs.
+const SYNC_SECONDS: usize = 1;
+
 /// What the words ask for.
 #[derive(Clone, Copy)]
 pub(crate) struct Asked<'a> {
     /// The file of the export.
     pub export: &'a str,
+    /// The folder in which changes are kept, if they are kept.
+    pub folder: Option<&'a str>,
+    /// The seconds between two syncs. Where they are 0, each reply waits for a sync.
+    pub sync_seconds: usize,
     /// Whether an export that hides nothing is served.
     pub is_anyway: bool,
     /// Whether nothing but failures is told.
@@ -35,6 +42,8 @@ pub(crate) struct Limits {
 pub(crate) fn asked_in<'a>(words: &ArgMatches<'a>) -> Option<Asked<'a>> {
     Some(Asked {
         export: words.get_str("export")?,
+        folder: words.get_str("folder"),
+        sync_seconds: words.get_one::<usize>("seconds").unwrap_or(SYNC_SECONDS),
         is_anyway: words.get_flag("anyway"),
         is_quiet: words.get_flag("quiet"),
         limits: Limits {
@@ -46,13 +55,34 @@ pub(crate) fn asked_in<'a>(words: &ArgMatches<'a>) -> Option<Asked<'a>> {
 }
 
 // The options, and the word.
-const ARGS: [ArgShape; 7] = [
+const ARGS: [ArgShape; 10] = [
     ArgShape {
         name: "address",
         given: Given::Letter('a'),
         value: Value::Texts("ADDR[=USER,..]"),
         help: "An IP address with a port, or unix:PATH; who comes there may attach as these users alone",
         is_needed: true,
+    },
+    ArgShape {
+        name: "folder",
+        given: Given::Letter('d'),
+        value: Value::Text("DIR"),
+        help: "Keep in this folder what clients change",
+        is_needed: false,
+    },
+    ArgShape {
+        name: "seconds",
+        given: Given::Letter('s'),
+        value: Value::Number("SECONDS"),
+        help: "Sync so often: 1; 0 syncs before each reply",
+        is_needed: false,
+    },
+    ArgShape {
+        name: "check",
+        given: Given::Alone,
+        value: Value::Text("DIR"),
+        help: "Say what is kept in a folder, and change nothing",
+        is_needed: false,
     },
     ArgShape {
         name: "clients",

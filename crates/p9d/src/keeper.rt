@@ -1,0 +1,138 @@
+//! What keeps the changes of clients while a server runs.
+
+use crate::boot::forget_start;
+use crate::counting::size_of;
+use crate::folder::Folder;
+use crate::journal::Level;
+use crate::keeping::{Changes, Trees, failed};
+use crate::serve::Served;
+use crate::visit::Shared;
+use p9_guard::Guard;
+use p9_serve::Tally;
+use p9_shell::Failure;
+use p9_tree::Unsettled;
+use std::fmt::{self, Display};
+use std::io;
+
+// A journal gets no snapshot before it has so many bytes.
+const FEWEST: usize = 1 << 20;
+
+/// What keeps the changes of clients while a server runs: before a reply leaves they are in the file,
+/// and after some seconds on the disk.
+#[derive(Drop)]
+pub(crate) struct Keeper {
+    folder: Folder,
+    // The seconds between two syncs. Where they are 0, each reply waits for one.
+    seconds: u64,
+    // The second of the last sync.
+    synced: u64,
+    // How many bytes the journal has before a snapshot takes its place, once that is known.
+    most: Option<usize>,
+}
+
+impl Keeper {
+    /// Keeps changes in a folder, and syncs them so often.
+    pub fn new(folder: Folder, seconds: usize) -> Keeper {
+        Keeper {
+            folder,
+            seconds: seconds as u64,
+            synced: 0,
+            most: None,
+        }
+    }
+
+    /// Turns of the clients, before which all that was changed is in the file, or on the disk.
+    pub fn turns(&self, clients: &mut Served, clock: u32) -> Result<Tally, Unsettled> {
+        if self.seconds == 0 {
+            clients.synced_turns(clock)
+        } else {
+            clients.settled_turns(clock)
+        }
+    }
+
+    /// Syncs where that is due, and puts a snapshot in the place of a journal that has grown long.
+    pub fn begin_second(
+        &mut self,
+        now: u64,
+        clients: &mut Served,
+        shared: &Shared,
+    ) -> Result<(), Unsettled> {
+        if now.saturating_sub(self.synced) < self.seconds {
+            return Ok(());
+        }
+        self.synced = now;
+        clients.sync()?;
+        self.renew(clients, shared)
+    }
+
+    // Puts a snapshot in the place of a journal that has grown long.
+    fn renew(&mut self, clients: &mut Served, shared: &Shared) -> Result<(), Unsettled> {
+        let Some(mut journal) = clients.take_journal() else {
+            return Err(Unsettled::NoJournal);
+        };
+        let most = match self.most {
+            Some(most) => most,
+            None => most_over(size_of(clients.forest())),
+        };
+        if journal.len() < most {
+            self.most = Some(most);
+        } else {
+            match journal.renew(clients.forest()) {
+                Ok(()) => {}
+                Err(_) => shared.tell(Level::Warning, &NoSnapshot(journal.device().last_error())),
+            }
+            self.most = Some(most_over(journal.len()));
+        }
+        clients.keep(journal);
+        Ok(())
+    }
+
+    /// Brings all changes to the disk.
+    pub fn end(&self, rt: &HostRuntime, guard: &mut Guard<Trees>) -> Result<(), Failure> {
+        match guard.sync() {
+            Ok(()) => Ok(()),
+            Err(_) => {
+                let journal = guard.take_journal();
+                Err(self.failed(rt, journal))
+            }
+        }
+    }
+
+    /// Reports why changes can't be kept any more.
+    pub fn fail(&self, rt: &HostRuntime, clients: &mut Served) -> Failure {
+        let journal = clients.take_journal();
+        self.failed(rt, journal)
+    }
+
+    // Reports why changes can't be kept any more. After a sync that failed it isn't known what of the
+    // file the system still has, so the next server takes what was synced before.
+    fn failed(&self, rt: &HostRuntime, journal: Option<Changes>) -> Failure {
+        let Some(journal) = journal else {
+            return Failure::Failed;
+        };
+        if journal.device().is_unsure() {
+            let _ = forget_start(rt, &self.folder);
+        }
+        let failure = failed(rt, &self.folder, &journal);
+        drop(journal);
+        failure
+    }
+}
+
+// How many bytes a journal has before a snapshot takes its place, where one has so many.
+fn most_over(snapshot: usize) -> usize {
+    snapshot.saturating_mul(2).max(FEWEST)
+}
+
+// That there is no new snapshot, and why.
+#[derive(Drop)]
+struct NoSnapshot(Option<io::Error>);
+
+impl Display for NoSnapshot {
+    fn fmt<W: fmt::Write>(&self, f: &mut fmt::Formatter<W>) -> fmt::Result {
+        match &self.0 {
+            Some(error) => write!(f, "no snapshot was written: {error}"),
+            None => f.write_str("no snapshot was written: out of memory"),
+        }
+    }
+}

@@ -1,0 +1,199 @@
+//! What is kept of an export, and the journal that keeps it.
+
+use crate::PROGRAM;
+use crate::boot::{last_crash, note_start};
+use crate::folder::Folder;
+use p9_base::NoMemory;
+use p9_commands::Prepared;
+use p9_disk::FileDevice;
+use p9_index::IndexTree;
+use p9_judge::{Verdict, judge};
+use p9_kept::{FileJournal, Refused, ReopenError, Reopened, reopen};
+use p9_log::Crash;
+use p9_shell::{Failure, tell};
+use p9_shown::AsShown;
+use p9_space::is_table_given;
+use p9_tree::Forest;
+use std::alloc::Global;
+use std::fmt::{self, Display};
+
+/// What keeps the changes of the trees that are served.
+pub(crate) type Changes = FileJournal<FileDevice, Global>;
+
+/// The trees that are served.
+pub(crate) type Trees = IndexTree<Global, Changes>;
+
+/// The file with the changes.
+pub(crate) const JOURNAL: &str = "journal";
+
+// A log that was ended whole has so many bytes behind the last block that counts.
+const END: usize = 12;
+
+// What is kept in a folder.
+#[derive(Drop)]
+enum Kept {
+    // No trees. A journal is there for them.
+    Nothing(Changes),
+    // Trees, whose changes are kept.
+    Trees(Forest<Trees>),
+}
+
+/// Gives an input that is prepared the trees that are kept in a folder, with a certificate over them,
+/// and the journal in which their changes are kept. In a folder without trees its own are kept.
+pub(crate) fn keep_in(
+    rt: &HostRuntime,
+    folder: &Folder,
+    prepared: &mut Prepared<Trees>,
+) -> Result<(), Failure> {
+    let how = last_crash(rt, folder.path());
+    let (kept, left_out) = opened(rt, folder, how)?;
+    match noted(rt, folder, how) {
+        Ok(()) => {}
+        Err(failure) => {
+            drop(kept);
+            return Err(failure);
+        }
+    }
+    match kept {
+        Kept::Nothing(journal) => begin(rt, folder, journal, left_out, prepared),
+        Kept::Trees(forest) => {
+            tell_of(rt, folder, &Found { how, left_out })?;
+            go_on(rt, folder, forest, prepared)
+        }
+    }
+}
+
+// Keeps that a folder is written in this start of the machine, where that isn't kept yet.
+fn noted(rt: &HostRuntime, folder: &Folder, how: Crash) -> Result<(), Failure> {
+    match how {
+        Crash::Killed => Ok(()),
+        Crash::Stopped => PROGRAM.had(rt, folder.path(), note_start(rt, folder)),
+    }
+}
+
+// What is kept in a folder, and how many bytes of its changes don't count.
+fn opened(rt: &HostRuntime, folder: &Folder, how: Crash) -> Result<(Kept, usize), Failure> {
+    let device = match FileDevice::open(rt, folder.path(), JOURNAL) {
+        Ok(device) => device,
+        Err(error) => return Err(PROGRAM.failed(rt, folder.path(), error)),
+    };
+    let Reopened {
+        forest,
+        journal,
+        left_out,
+    } = match reopen::<FileDevice, Global, Trees>(rt.alloc(), device, how) {
+        Ok(reopened) => reopened,
+        Err(error) => return Err(refuse(rt, folder, error)),
+    };
+    if forest.trees().is_empty() {
+        drop(forest);
+        return Ok((Kept::Nothing(journal), left_out));
+    }
+    let mut forest = forest;
+    forest.keep(journal);
+    Ok((Kept::Trees(forest), left_out))
+}
+
+// Reports why what is kept in a folder can't be read.
+fn refuse(rt: &HostRuntime, folder: &Folder, error: ReopenError) -> Failure {
+    PROGRAM.refuse(rt, folder.path(), &error, Failure::Refused)
+}
+
+// Keeps the trees of an input in a folder that has none. A journal that has something, of which nothing
+// counts, is damaged: its first trees come into their place whole.
+fn begin(
+    rt: &HostRuntime,
+    folder: &Folder,
+    journal: Changes,
+    left_out: usize,
+    prepared: &mut Prepared<Trees>,
+) -> Result<(), Failure> {
+    let mut journal = journal;
+    if left_out > END {
+        drop(journal);
+        return Err(PROGRAM.refuse(rt, folder.path(), &Refused::Damaged, Failure::Refused));
+    }
+    let forest = &mut prepared.space.world.forest;
+    match journal.renew(forest) {
+        Ok(()) => {
+            forest.keep(journal);
+            tell_of(rt, folder, &"begins with the trees of the export")
+        }
+        Err(error) => {
+            let failure = failed(rt, folder, &journal);
+            drop(journal);
+            Err(failure)
+        }
+    }
+}
+
+// Gives an input that is prepared the trees that were kept, with a certificate over them.
+fn go_on(
+    rt: &HostRuntime,
+    folder: &Folder,
+    forest: Forest<Trees>,
+    prepared: &mut Prepared<Trees>,
+) -> Result<(), Failure> {
+    let space = &mut prepared.space;
+    if !is_table_given(&forest, &space.table) {
+        drop(forest);
+        return Err(refuse_trees(rt, folder));
+    }
+    if !space.world.go_on_with(forest) {
+        return Err(refuse_trees(rt, folder));
+    }
+    match judge(rt.alloc(), &space.world, &space.table) {
+        Ok(Verdict::Yes(certificate)) => {
+            prepared.certificate = Some(certificate);
+            Ok(())
+        }
+        Ok(Verdict::No(_)) => {
+            let why = "what is kept has a way into a hidden directory";
+            Err(PROGRAM.refuse(rt, folder.path(), &why, Failure::Refused))
+        }
+        Err(NoMemory) => Err(Failure::NoMemory),
+    }
+}
+
+// Reports that the trees that are kept in a folder are not those of its export.
+fn refuse_trees(rt: &HostRuntime, folder: &Folder) -> Failure {
+    let why = "what is kept is not of this export";
+    PROGRAM.refuse(rt, folder.path(), &why, Failure::Refused)
+}
+
+// Tells of a folder.
+fn tell_of<D: Display>(rt: &HostRuntime, folder: &Folder, what: &D) -> Result<(), Failure> {
+    let line = format!(in rt.alloc(); "p9d: {}: {what}\n", AsShown(folder.path()))?;
+    Ok(tell(rt, line.as_bytes())?)
+}
+
+/// What was found in a folder: how its last server ended, and how many bytes of changes don't count.
+/// Those of a log that was ended whole are not told of.
+#[derive(Clone, Copy)]
+pub(crate) struct Found {
+    pub how: Crash,
+    pub left_out: usize,
+}
+
+impl Display for Found {
+    fn fmt<W: fmt::Write>(&self, f: &mut fmt::Formatter<W>) -> fmt::Result {
+        f.write_str(match self.how {
+            Crash::Killed => "all that was written is there",
+            Crash::Stopped => {
+                "the machine was started again since, and all that was synced is there"
+            }
+        })?;
+        if self.left_out <= END {
+            return Ok(());
+        }
+        write!(f, "; left out: {} bytes behind that", self.left_out)
+    }
+}
+
+/// Reports why changes can't be kept.
+pub(crate) fn failed(rt: &HostRuntime, folder: &Folder, journal: &Changes) -> Failure {
+    match journal.device().last_error() {
+        Some(error) => PROGRAM.failed(rt, folder.path(), error),
+        None => Failure::NoMemory,
+    }
+}
