@@ -53,14 +53,15 @@ fn export_of(rt: &HostRuntime, input: &[u8], asked: Asked<'_>) -> Result<Option<
     }
 }
 
-// The export of an input that is prepared, where its certificate has no gap.
+// The export of an input that is prepared, where its certificate has no gap. Where changes are kept,
+// another certificate takes its place, so it is verified before.
 fn guarded(
     rt: &HostRuntime,
     input: &[u8],
     prepared: Prepared<Trees>,
     asked: Asked<'_>,
 ) -> Result<Option<Export>, Failure> {
-    if prepared.gap().is_some() {
+    if asked.folder.is_some() && prepared.gap().is_some() {
         prepared.discard();
         return Ok(None);
     }
