@@ -1,6 +1,7 @@
 -- A world: what its lines have made so far.
-use Rattle.std.specs.Prelude.{◌≡◌, ◌≢◌, ℕ, ◌<◌, ◌≤◌, List, [], length, map, string_bytes, All}
-use Rattle.std.specs.Prelude.{AllPairs}
+use Rattle.std.specs.Prelude.{◌≡◌, ◌≢◌, ℕ, Bool, ◌<◌, ◌≤◌, List, [], length, map, string_bytes, All}
+use Rattle.std.specs.Prelude.{AllPairs, ◌&&◌, nat_eq, nat_lt}
+use Rattle.std.specs.List.{list_all}
 use Rattle.std.specs.declared.string.String.{String}
 use Rattle.p9_base.specs.Group.{GroupRow}
 use Rattle.p9_base.specs.declared.node_ref.NodeRef.{NodeRef}
@@ -25,6 +26,16 @@ pub record IsWorld (w : World) : Type 0 where
   pub few : length w.forest ≤ servers_max
   pub distinct : AllPairs (λ a b. a ≢ b) w.servers
   pub below : All (λ r. r.number < next_of r.server w.forest) w.hidden
+
+-- whether each of these numbers was given by its server
+abbrev pub are_given : List NodeRef → List Server → Bool
+are_given nodes forest = list_all (λ r. nat_lt r.number (next_of r.server forest)) nodes
+
+-- whether a forest can take the place of the world's: it has as many servers, and each hidden number
+-- was given
+abbrev pub takes_forest : List Server → World → Bool
+takes_forest forest w =
+    nat_eq (length forest) (length w.servers) && are_given w.hidden forest
 
 -- the world of no lines
 abbrev pub empty_world : World

@@ -1,9 +1,7 @@
 //! A world, as the lines of its text make it.
 
-ghost use Rattle.std.specs.Prelude.{◌≡◌, IsFalse, IsTrue, nat_lt};
-ghost use Rattle.std.specs.List.{list_all};
-ghost use Rattle.p9_tree.specs.Forest.{next_of};
-ghost use Rattle.p9_world.specs.World.{IsWorld};
+ghost use Rattle.std.specs.Prelude.{◌≡◌, IsFalse, IsTrue};
+ghost use Rattle.p9_world.specs.World.{IsWorld, are_given, takes_forest};
 
 use p9_base::{Groups, NodeRef, User};
 use p9_tree::{Forest, Tree};
@@ -56,6 +54,7 @@ impl<T: Tree> World<T> {
     /// number lies below its server's next one. Returns whether it did. Else the forest is dropped,
     /// and the world is unchanged.
     pub fn go_on_with(&mut self, forest: Forest<T>) -> bool
+        ensures result { result ≡ takes_forest forest self.old }
         ensures yes { IsTrue result → self.new ≡ record self.old { forest = forest } }
         ensures no { IsFalse result → self.new ≡ self.old }
     {
@@ -69,7 +68,7 @@ impl<T: Tree> World<T> {
 
 // Whether each of these numbers lies below its server's next one.
 fn are_made<T: Tree>(nodes: &[NodeRef], forest: &Forest<T>) -> bool
-    ensures { result ≡ list_all (λ r. nat_lt r.number (next_of r.server forest.now)) nodes.now }
+    ensures { result ≡ are_given nodes.now forest.now }
 {
     nodes
         .iter()
