@@ -5,6 +5,7 @@ use Rattle.std.proofs.lemmas.List.{drop_all, drop_more}
 use Rattle.p9_base.specs.declared.node_ref.NodeRef.{NodeRef}
 use Rattle.p9_world.specs.World.{World}
 use Rattle.p9_map.specs.Box.{box_text}
+use Rattle.p9_map.specs.Claim.{shown_path}
 use Rattle.p9_map.specs.Label.{label_texts}
 use Rattle.p9_map.specs.Mark.{mark_of}
 use Rattle.p9_map.specs.Picture.{boxes_text}
@@ -48,16 +49,16 @@ module _ {B : Type 0} (world : World) (rows : List NodeRef) (walk : Option Walk)
     (labels : List (Label B)) (i : ℕ) (text after whole : List ℕ) where
   pub drawn-more : (box d : Placed) (label e : Label B) → i < length boxes → i < length labels
       → box ≡ get_or boxes i d → label ≡ get_or labels i e
-      → after ≡ text ++ box_text box.rect (mark_of world rows walk box.node) (label_texts label).0
-      (label_texts label).1
+      → after ≡ text ++ box_text box.rect (mark_of world rows walk box.node) (shown_path world box.node)
+      (label_texts label).0 (label_texts label).1
       → text ++ boxes_text world rows walk (drop i boxes) (map label_texts (drop i labels)) ≡ whole
       → after ++ boxes_text world rows walk (drop (i + 1) boxes)
       (map label_texts (drop (i + 1) labels)) ≡ whole
   drawn-more box d label e l m at is grown so_far =
       let bs = drop (i + 1) boxes in
       let ls = drop (i + 1) labels in
-      let one = box_text box.rect (mark_of world rows walk box.node) (label_texts label).0
-      (label_texts label).1 in
+      let one = box_text box.rect (mark_of world rows walk box.node) (shown_path world box.node)
+      (label_texts label).0 (label_texts label).1 in
       let tail = boxes_text world rows walk bs (map label_texts ls) in
       let here : drop i boxes ≡ box ∷ bs = drop_more boxes i d l ∙ ap (λ x. x ∷ bs) (sym at) in
       let there : drop i labels ≡ label ∷ ls = drop_more labels i e m ∙ ap (λ x. x ∷ ls) (sym is) in

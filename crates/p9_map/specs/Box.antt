@@ -4,6 +4,7 @@ use Rattle.std.specs.Prelude.{is_some, length, min, if◌then◌else◌}
 use Rattle.std.specs.Fmt.{decimal}
 use Rattle.std.specs.List.{concat}
 use Rattle.std.specs.Str.{chars}
+use Rattle.p9_map.specs.Escape.{escaped_text}
 use Rattle.p9_map.specs.Mark.{class_of}
 use Rattle.p9_map.specs.Svg.{text_element}
 use Rattle.p9_map.specs.declared.mark.Look.{Look}
@@ -86,10 +87,16 @@ badge_text r None = []
 badge_text r (Some number) =
     circle_element r.left r.top ++ number_element r.left (limited (r.top + 4)) number
 
--- the whole box with its name and its note
-abbrev pub box_text : Rect → Mark → (name note : List ℕ) → List ℕ
-box_text r m name note =
+-- what a box consists of, with its name and its note
+abbrev pub parts_text : Rect → Mark → (name note : List ℕ) → List ℕ
+parts_text r m name note =
     let x = limited (r.left + 10) in
     let y = limited (r.top + 15) in
     rect_text r m ++ look_text m.look r ++ text_element (codes "name") x y name
     ++ note_text x y name note ++ badge_text r m.number
+
+-- the whole box, whose title is shown to who points at it
+abbrev pub box_text : Rect → Mark → (title name note : List ℕ) → List ℕ
+box_text r m title name note =
+    codes "<g><title>" ++ escaped_text title ++ codes "</title>\n" ++ parts_text r m name note
+    ++ codes "</g>\n"

@@ -12,11 +12,10 @@ use Rattle.p9_tree.specs.Forest.{node_of}
 use Rattle.p9_tree.specs.Node.{Node, is_dir}
 use Rattle.p9_world.specs.World.{World}
 use Rattle.p9_space.specs.Rights.{Who}
-use Rattle.p9_judge.specs.declared.breach.BreachKind.{BreachKind}
-use Rattle.p9_judge.specs.declared.breach.BreachKind.TheVariants.{Inside, Open, Owned, Removable}
 use Rattle.p9_judge.specs.declared.breach.Step.{Step}
 use Rattle.p9_commands.specs.Path.{server_name}
 use Rattle.p9_shown.specs.Text.{shown_text}
+use Rattle.p9_map.specs.Fault.{fault_note}
 use Rattle.p9_map.specs.Right.{right_of, right_words}
 use Rattle.p9_map.specs.Walk.{Walk}
 use Rattle.p9_map.specs.declared.label.Label.{Label}
@@ -68,19 +67,12 @@ words_of world step =
 abbrev pub right_note : World → Step → List ℕ
 right_note world step = shown_text step.user ++ codes ": " ++ words_of world step
 
--- what is wrong with the member that a breach leads to
-abbrev pub fault_note : BreachKind → List ℕ
-fault_note Inside = codes "inside a hidden directory"
-fault_note Open = codes "a listed user may use it"
-fault_note Owned = codes "a listed user may change its mode"
-fault_note Removable = codes "a listed user may remove it"
-
 -- what is said of a node on the walk of a breach: who passes it, and by which right; or what is wrong
 -- with it
 abbrev pub walk_note : World → Walk → NodeRef → List ℕ
 walk_note world walk at =
     option_map_or (right_note world) (find (λ s. same_node s.member at) walk.steps)
-    (if same_node walk.member at then fault_note walk.kind else [])
+    (if same_node walk.member at then fault_note world at walk.kind else [])
 
 -- nothing is said where there is no walk
 abbrev pub note_text : World → Option Walk → NodeRef → List ℕ

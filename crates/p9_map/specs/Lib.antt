@@ -10,6 +10,7 @@ pub mod Walk
 pub mod Scene
 pub mod Mark
 pub mod Box
+pub mod Fault
 pub mod Label
 pub mod Claim
 pub mod Legend

@@ -15,7 +15,7 @@ use Rattle.p9_commands.specs.NameSpace.{NameSpace, gap_over}
 use Rattle.p9_commands.specs.Prepared.{Prepared, Rejected, gap_in, rejected_text}
 use Rattle.p9_commands.specs.Report.{reports_text}
 use Rattle.p9_map.specs.Box.{box_text}
-use Rattle.p9_map.specs.Claim.{claim_text}
+use Rattle.p9_map.specs.Claim.{claim_text, shown_path}
 use Rattle.p9_map.specs.Label.{AreLabels, cut_text}
 use Rattle.p9_map.specs.Legend.{left_out_line}
 use Rattle.p9_map.specs.Mark.{mark_of}
@@ -37,13 +37,14 @@ title_text world standing =
     codes "</text>\n" ++ text_element (codes "name") 24 52 (cut_text 100 (claim_text world))
     ++ text_element (codes "name") 24 74 standing
 
--- boxes with their labels
+-- boxes with their labels, and the paths of their nodes as titles
 abbrev pub boxes_text : World → (rows : List NodeRef) → Option Walk → List Placed
     → List (List ℕ × List ℕ) → List ℕ
 boxes_text world rows walk [] labels = []
 boxes_text world rows walk (b ∷ bs) [] = []
 boxes_text world rows walk (b ∷ bs) (l ∷ ls) =
-    box_text b.rect (mark_of world rows walk b.node) l.0 l.1 ++ boxes_text world rows walk bs ls
+    box_text b.rect (mark_of world rows walk b.node) (shown_path world b.node) l.0 l.1
+    ++ boxes_text world rows walk bs ls
 
 -- the end: what is left out
 abbrev pub last_text : (y left_out marked_left_out : ℕ) → List ℕ

@@ -4,9 +4,15 @@ ghost use Rattle.std.specs.Prelude.{◌≡◌, ◌^◌, ◌<◌, ◌≤◌, All,
 ghost use Rattle.p9_map.specs.Rect.{AreApart, IsWithin};
 
 use crate::item::{Item, Placed};
-use crate::pen::Pen;
+use crate::pen::{Ends, Pen, ROW, TOP, box_width};
 use p9_base::NoMemory;
 use std::alloc::Allocator;
+
+// How many boxes a column has at the least before it ends.
+const ROWS_MIN: u64 = 20;
+
+// How many columns a server has at the most, but for those that are twice as wide.
+const COLUMNS_MAX: u64 = 1000;
 
 /// The boxes, and what they lie within.
 #[derive(Drop)]
@@ -31,7 +37,8 @@ pub(crate) fn place_all<A: Allocator + Copy>(
     ensures within { IfOk result (λ b. All (λ p. IsWithin b.right b.bottom p.rect) b.boxes.items) }
 {
     let mut boxes = Vec::new(alloc);
-    let mut pen = Pen::new(items.first().map_or(0, |item| item.node.server), gutter);
+    let server = items.first().map_or(0, |item| item.node.server);
+    let mut pen = Pen::new(server, gutter, ends(items, gutter));
     for item in items {
         boxes.push(pen.place(*item, gutter))?;
     }
@@ -40,4 +47,44 @@ pub(crate) fn place_all<A: Allocator + Copy>(
         right: pen.right,
         bottom: pen.bottom,
     })
+}
+
+// Where columns end, so that all together are about as wide as they are high.
+fn ends(items: &[Item], gutter: u64) -> Ends {
+    let count = items.len() as u64;
+    let height = ROW.saturating_mul(count);
+    let width = all_widths(items)
+        .checked_div(count)
+        .unwrap_or(0)
+        .saturating_add(gutter);
+    let rows = count
+        .checked_div(columns(width, height))
+        .unwrap_or(0)
+        .saturating_add(1)
+        .max(ROWS_MIN);
+    let early = ROW.saturating_mul(rows);
+    Ends {
+        early: TOP.saturating_add(early),
+        late: TOP.saturating_add(early).saturating_add(early / 2),
+    }
+}
+
+// How wide all boxes are together.
+fn all_widths(items: &[Item]) -> u64 {
+    let mut width = 0u64;
+    for item in items {
+        width = width.saturating_add(box_width(*item));
+    }
+    width
+}
+
+// The least number of columns of this width that are together as wide as each is high, where one would
+// be so high.
+fn columns(width: u64, height: u64) -> u64 {
+    for columns in 1..COLUMNS_MAX {
+        if columns.saturating_mul(columns).saturating_mul(width) >= height {
+            return columns;
+        }
+    }
+    COLUMNS_MAX
 }

@@ -51,6 +51,19 @@ fn hidden_paths<T: Tree>(
     Ok(text)
 }
 
+/// The path of a node as it is shown.
+pub(crate) fn shown_path<T: Tree>(
+    alloc: T::Alloc,
+    world: &World<T>,
+    at: NodeRef,
+) -> Result<String<T::Alloc>, NoMemory>
+    ensures { IfOk result (λ text. string_bytes text ≡ shown_path world.now at) }
+{
+    let mut text = String::new(alloc);
+    push_path(world, at, &mut text)?;
+    Ok(text)
+}
+
 // Adds the path of a directory as it is shown.
 fn push_path<T: Tree>(
     world: &World<T>,

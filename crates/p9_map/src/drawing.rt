@@ -3,8 +3,8 @@
 ghost use Rattle.std.specs.Prelude.{◌≡◌, ◌++◌, OnOk};
 ghost use Rattle.std.specs.String.{string_bytes};
 ghost use Rattle.p9_map.specs.Box.{badge_text, box_text, circle_element, corners_of, lock_text};
-ghost use Rattle.p9_map.specs.Box.{look_text, note_text, number_element, place_text, rect_element};
-ghost use Rattle.p9_map.specs.Box.{rect_text, walk_class};
+ghost use Rattle.p9_map.specs.Box.{look_text, note_text, number_element, parts_text, place_text};
+ghost use Rattle.p9_map.specs.Box.{rect_element, rect_text, walk_class};
 
 use crate::item::{LinkKind, Placed};
 use crate::label::{CHARACTER, Label};
@@ -105,15 +105,33 @@ fn beside(end: Point, comes_from_the_left: bool, position: usize) -> u64 {
     }
 }
 
-/// Draws a box with what it says.
+/// Draws a box with what it says, and a title that is shown to who points at it.
 pub(crate) fn draw_box<A: Allocator + Copy, B: Allocator>(
+    svg: &mut Svg<A>,
+    rect: Rect,
+    mark: Mark,
+    title: &str,
+    label: &Label<B>,
+) -> Result<(), NoMemory>
+    ensures { OnOk result (string_bytes svg.new.text ≡ string_bytes svg.old.text ++ box_text rect mark
+        title.now (string_bytes label.now.name) (string_bytes label.now.note)) }
+{
+    svg.push("<g><title>")?;
+    svg.words(title)?;
+    svg.push("</title>\n")?;
+    draw_parts(svg, rect, mark, label)?;
+    svg.push("</g>\n")
+}
+
+// Draws what a box consists of.
+fn draw_parts<A: Allocator + Copy, B: Allocator>(
     svg: &mut Svg<A>,
     rect: Rect,
     mark: Mark,
     label: &Label<B>,
 ) -> Result<(), NoMemory>
     ensures { OnOk result (string_bytes svg.new.text ≡ string_bytes svg.old.text
-        ++ box_text rect mark (string_bytes label.now.name) (string_bytes label.now.note)) }
+        ++ parts_text rect mark (string_bytes label.now.name) (string_bytes label.now.note)) }
 {
     draw_rect(svg, rect, mark)?;
     draw_look(svg, mark.look, rect)?;

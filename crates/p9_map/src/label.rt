@@ -6,17 +6,18 @@ ghost use Rattle.std.specs.Str.{chars};
 ghost use Rattle.std.specs.String.{string_bytes};
 ghost use Rattle.p9_base.specs.NodeRef.{same_node};
 ghost use Rattle.p9_shown.specs.Text.{shown_text};
-ghost use Rattle.p9_map.specs.Label.{AreLabels, IsLabel, cut_text, fault_note, label_texts};
-ghost use Rattle.p9_map.specs.Label.{left_out_text, name_max, name_text, note_text, right_note};
-ghost use Rattle.p9_map.specs.Label.{walk_note, words_of};
+ghost use Rattle.p9_map.specs.Label.{AreLabels, IsLabel, cut_text, label_texts, left_out_text};
+ghost use Rattle.p9_map.specs.Label.{name_max, name_text, note_text, right_note, walk_note};
+ghost use Rattle.p9_map.specs.Label.{words_of};
 ghost use Rattle.p9_map.specs.Walk.{walk_in, walk_of};
 
+use crate::fault::fault_note;
 use crate::order::Spot;
 use crate::right::right_of;
 use crate::scene::Scene;
 use p9_base::{NoMemory, NodeRef};
 use p9_commands::server_name;
-use p9_judge::{Breach, BreachKind, Step};
+use p9_judge::{Breach, Step};
 use p9_shown::shown;
 use p9_space::Who;
 use p9_tree::{Forest, Tree};
@@ -234,7 +235,7 @@ fn walk_note<T: Tree>(
 {
     match step_at(breach.steps.as_slice(), at) {
         Some(step) => right_note(alloc, world, step),
-        None if breach.member == at => Ok(String::from_str(alloc, fault_note(breach.kind))?),
+        None if breach.member == at => fault_note(alloc, world, at, breach.kind),
         None => Ok(String::new(alloc)),
     }
 }
@@ -274,17 +275,5 @@ fn words_of<T: Tree>(world: &World<T>, step: &Step) -> &'static str
     match right_of(who, dir) {
         Some(right) => right.words(),
         None => "",
-    }
-}
-
-// What is wrong with the member that a breach leads to.
-fn fault_note(kind: BreachKind) -> &'static str
-    ensures { result.now ≡ fault_note kind }
-{
-    match kind {
-        BreachKind::Inside => "inside a hidden directory",
-        BreachKind::Open => "a listed user may use it",
-        BreachKind::Owned => "a listed user may change its mode",
-        BreachKind::Removable => "a listed user may remove it",
     }
 }

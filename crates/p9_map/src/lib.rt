@@ -1,4 +1,4 @@
-//! A picture of an input of p9, as SVG: each server a column of boxes, mounts as arrows, what is hidden
+//! A picture of an input of p9, as SVG: each server in columns of boxes, mounts as arrows, what is hidden
 //! with a lock, what clients can reach in green, and the walk of a breach in red.
 //!
 //! The picture is made in three parts. A [`plan_of`] says which nodes have boxes, and in which order. A
@@ -10,6 +10,7 @@ mod boxes;
 mod claim;
 mod drawing;
 mod escape;
+mod fault;
 mod item;
 mod label;
 mod layout;

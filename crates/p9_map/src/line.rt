@@ -15,6 +15,20 @@ pub(crate) const LANE: u64 = 11;
 /// How far the first lane is from the boxes of the column before it.
 pub(crate) const LANE_FIRST: u64 = 34;
 
+/// How many lanes there are before those, for lines to what is in a directory of another column.
+const ENTRY_LANES: usize = 3;
+
+/// How far the first of these is from the boxes of the column before it, and each from the next.
+const ENTRY_LANE_FIRST: u64 = 12;
+
+const ENTRY_LANE: u64 = 7;
+
+/// At which height the first of these goes from column to column, above all boxes, and how much higher
+/// each next one.
+const ENTRY_HEIGHT: u64 = 92;
+
+const ENTRY_RISE: u64 = 5;
+
 /// How many lanes there are between two columns.
 pub(crate) const LANES: usize = 20;
 
@@ -56,7 +70,8 @@ fn line_of(boxes: &[Placed], link: Link) -> Line
 {
     let (from, to) = (boxes[link.from], boxes[link.to]);
     match link.kind {
-        LinkKind::Entry => entry_line(link, from, to),
+        LinkKind::Entry if from.column == to.column => entry_line(link, from, to),
+        LinkKind::Entry => far_entry_line(boxes, link, from, to),
         LinkKind::Member { row, .. } => member_line(boxes, link, row, from, to),
     }
 }
@@ -76,6 +91,31 @@ fn entry_line(link: Link, from: Placed, to: Placed) -> Line
         out: start.x,
         across: end.y,
         into: start.x,
+    }
+}
+
+// The line from a directory to what is in it, in another column: above all boxes, in one of three lanes,
+// so that those of two directories are seldom the same.
+fn far_entry_line(boxes: &[Placed], link: Link, from: Placed, to: Placed) -> Line
+    ensures link { result.link ≡ link }
+    ensures starts { IsOnBorder from.rect result.start }
+    ensures ends { IsOnBorder to.rect result.end }
+{
+    let number = (link.from % ENTRY_LANES) as u64;
+    let lane = ENTRY_LANE_FIRST + ENTRY_LANE * number;
+    let height = ENTRY_HEIGHT - ENTRY_RISE * number;
+    let (leaves, comes) = sides(from.column, to.column);
+    let start = from.rect.beside(leaves, 11);
+    let end = to.rect.beside(comes, 11);
+    let out_of = gutter(boxes, beside(from.column, leaves));
+    let into_of = gutter(boxes, beside(to.column, comes));
+    Line {
+        link,
+        start,
+        end,
+        out: out_of.saturating_add(lane),
+        across: if out_of == into_of { end.y } else { height },
+        into: into_of.saturating_add(lane),
     }
 }
 

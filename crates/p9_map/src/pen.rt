@@ -6,10 +6,13 @@ use crate::item::{Item, Placed};
 use crate::rect::{HEIGHT, Rect, WIDTH_MIN};
 
 /// How far below a box the next one begins.
-const ROW: u64 = 34;
+pub(crate) const ROW: u64 = 34;
 
 /// How far a box is to the right of that of its directory.
 const INDENT: u64 = 24;
+
+/// How deep the boxes are at the most with which a column begins behind its height.
+const BREAK_DEPTH: u64 = 1;
 
 /// The greatest depth that is shown by an indent, and the greatest width.
 const DEPTH_MAX: u64 = 200;
@@ -17,7 +20,21 @@ const DEPTH_MAX: u64 = 200;
 const WIDTH_MAX: u64 = 2000;
 
 /// Where the boxes begin, from the top.
-const TOP: u64 = 98;
+pub(crate) const TOP: u64 = 98;
+
+/// How wide the box of an item is, with how far it is to the right of the least deep ones.
+pub(crate) fn box_width(item: Item) -> u64 {
+    indent(item.depth)
+        .saturating_add(WIDTH_MIN)
+        .saturating_add(item.width.min(WIDTH_MAX))
+}
+
+// How far a box of this depth is to the right of the least deep ones.
+fn indent(depth: u64) -> u64
+    ensures { result ≤ 4800 }
+{
+    INDENT * depth.min(DEPTH_MAX)
+}
 
 /// A column, and where its next box begins.
 #[derive(Clone, Copy)]
@@ -27,12 +44,28 @@ pub(crate) struct Corner {
     pub top: u64,
 }
 
+/// Where a column ends: before the first box behind a height that is a root or in one, and before each
+/// box behind another.
+#[derive(Clone, Copy)]
+pub(crate) struct Ends {
+    pub early: u64,
+    pub late: u64,
+}
+
+impl Ends {
+    // Whether a column ends before a box of this depth, whose top would be at this height.
+    fn end_before(self, depth: u64, top: u64) -> bool {
+        top >= self.late || (top >= self.early && depth <= BREAK_DEPTH)
+    }
+}
+
 /// The boxes so far, as far as the next one needs to know them: the server of the last one, and where
 /// the next one of that server begins.
 #[derive(Clone, Copy)]
 pub(crate) struct Pen {
     pub count: u64,
     server: u16,
+    ends: Ends,
     pub corner: Corner,
     /// What all boxes lie within.
     pub right: u64,
@@ -49,7 +82,7 @@ impl Pen {
     ghost use Rattle.p9_map.specs.declared.rect.Rect.{Rect};
 
     /// Before the first box, which is one of this server.
-    pub fn new(server: u16, left: u64) -> Pen
+    pub fn new(server: u16, left: u64, ends: Ends) -> Pen
         requires { left < 1000 }
         ensures { result.count ≡ 0 }
     {
@@ -61,13 +94,15 @@ impl Pen {
         Pen {
             count: 0,
             server,
+            ends,
             corner,
             right: 0,
             bottom: 0,
         }
     }
 
-    /// Places a box. One of another server begins a column, so far to the right of the last one.
+    /// Places a box. One of another server begins a column, so far to the right of the last one, and so
+    /// does one before which a column ends.
     pub fn place(&mut self, item: Item, gutter: u64) -> Placed
         requires few { self.old.count < 2 ^ 50 }
         requires gutter { 0 < gutter }
@@ -78,8 +113,8 @@ impl Pen {
         ensures kept { (r : Rect) → IsBefore r self.old → IsBefore r self.new }
         ensures own { IsBefore result.rect self.new }
     {
-        let corner = self.corner_for(item.node.server, gutter);
-        let left = corner.left + INDENT * item.depth.min(DEPTH_MAX);
+        let corner = self.corner_for(item, gutter);
+        let left = corner.left + indent(item.depth);
         let rect = Rect {
             left,
             top: corner.top,
@@ -89,6 +124,7 @@ impl Pen {
         *self = Pen {
             count: self.count + 1,
             server: item.node.server,
+            ends: self.ends,
             corner: Corner {
                 top: corner.top + ROW,
                 ..corner
@@ -103,8 +139,8 @@ impl Pen {
         }
     }
 
-    // Where the next box begins, if it is one of this server.
-    fn corner_for(self, server: u16, gutter: u64) -> Corner
+    // Where the next box begins, if it is that of this item.
+    fn corner_for(self, item: Item, gutter: u64) -> Corner
         requires few { self.count < 2 ^ 50 }
         requires gutter { 0 < gutter }
         requires gutter_most { gutter < 1000 }
@@ -113,7 +149,8 @@ impl Pen {
         ensures top { result.top ≤ 10000 * (self.count + 1) }
         ensures clear { (r : Rect) → IsBefore r self → IsClear r result }
     {
-        if server == self.server {
+        let goes_on = item.node.server == self.server;
+        if goes_on && !self.ends.end_before(item.depth, self.corner.top) {
             return self.corner;
         }
         Corner {

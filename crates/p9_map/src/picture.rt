@@ -5,15 +5,17 @@ ghost use Rattle.std.specs.Option.{option_copied};
 ghost use Rattle.std.specs.String.{string_bytes};
 ghost use Rattle.p9_commands.specs.Prepared.{prepared_of};
 ghost use Rattle.p9_commands.specs.declared.prepared.Needs.TheVariants.{Nothing};
+ghost use Rattle.p9_map.specs.Box.{box_text};
+ghost use Rattle.p9_map.specs.Claim.{shown_path};
 ghost use Rattle.p9_map.specs.Label.{label_texts};
-ghost use Rattle.p9_map.specs.Mark.{rows_of};
+ghost use Rattle.p9_map.specs.Mark.{mark_of, rows_of};
 ghost use Rattle.p9_map.specs.Picture.{IsDrawing, IsDrawn, IsMapped, IsPage, IsPicture};
 ghost use Rattle.p9_map.specs.Picture.{boxes_text, last_text, title_text};
 ghost use Rattle.p9_map.specs.Rect.{AreApart};
 ghost use Rattle.p9_map.specs.Standing.{standing_text};
 ghost use Rattle.p9_map.specs.Walk.{walk_in};
 
-use crate::claim::claim_of;
+use crate::claim::{claim_of, shown_path};
 use crate::drawing::{draw_box, draw_line, draw_number, is_walked};
 use crate::item::{Item, Placed};
 use crate::label::{Label, cut, labels};
@@ -325,15 +327,26 @@ fn boxes<T: Tree>(
 {
     let mut svg = Svg::new(alloc);
     for i in 0..boxes.len() {
-        let placed = boxes[i];
-        draw_box(
-            &mut svg,
-            placed.rect,
-            Mark::of(scene, placed.node),
-            &labels[i],
-        )?;
+        draw_node(&mut svg, scene, boxes[i], &labels[i])?;
     }
     Ok(svg)
+}
+
+// Draws the box of a node, with its path as the title.
+fn draw_node<T: Tree>(
+    svg: &mut Svg<T::Alloc>,
+    scene: &Scene<'_, T>,
+    placed: Placed,
+    label: &Label<T::Alloc>,
+) -> Result<(), NoMemory>
+    ensures { OnOk result (string_bytes svg.new.text ≡ string_bytes svg.old.text
+        ++ box_text placed.rect (mark_of scene.now.world.now (rows_of (option_copied scene.now.reached))
+        (walk_in (option_copied scene.now.breach)) placed.node) (shown_path scene.now.world.now
+        placed.node) (label_texts label.now).0 (label_texts label.now).1) }
+{
+    let title = shown_path(*svg.text.allocator(), scene.world, placed.node)?;
+    let mark = Mark::of(scene, placed.node);
+    draw_box(svg, placed.rect, mark, title.as_str(), label)
 }
 
 // The legend, from this height on.

@@ -1,7 +1,6 @@
-use Rattle.std.proofs.Common.{◌<◌, ◌++◌, length, ap, ◌∙◌, arith}
+use Rattle.std.proofs.Common.{◌<◌, length, arith}
 use Rattle.std.specs.Option.{option_copied}
 use Rattle.std.specs.String.{string_bytes}
-use Rattle.p9_map.specs.Box.{box_text}
 use Rattle.p9_map.specs.Mark.{rows_of}
 use Rattle.p9_map.specs.Walk.{walk_in}
 use Rattle.p9_map.proofs.Drawn.{drawn-more}
@@ -18,9 +17,5 @@ loop-i-preserved g c =
     let m : i < length labels = omega (arith, c.requires) in
     drawn-more c.args.scene.now.world.now (rows_of (option_copied c.args.scene.now.reached))
     (walk_in (option_copied c.args.scene.now.breach)) boxes labels i (string_bytes c.loop-i.svg.text)
-    (string_bytes c.draw_box.new.svg.text) _ box box label label l m c.index-boxes-i.is
-    c.index-labels-i.is
-    (c.in_ok-draw_box.ensures
-    ∙ ap (λ m. string_bytes c.loop-i.svg.text
-    ++ box_text box.rect m (string_bytes label.name) (string_bytes label.note)) c.of.ensures)
-    c.loop-i.invariant
+    (string_bytes c.draw_node.new.svg.text) _ box box label label l m c.index-boxes-i.is
+    c.index-labels-i.is c.in_ok-draw_node.ensures c.loop-i.invariant

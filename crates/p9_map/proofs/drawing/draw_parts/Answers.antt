@@ -4,7 +4,7 @@ use Rattle.std.specs.String.{string_bytes}
 use Rattle.p9_map.specs.Box.{badge_text, limited, look_text, note_text, rect_text}
 use Rattle.p9_map.specs.Svg.{text_element}
 use Rattle.p9_map.proofs.Drawn.{boxed}
-use Rattle.p9_map.proofs.drawing.draw_box.Goals as goal
+use Rattle.p9_map.proofs.drawing.draw_parts.Goals as goal
 
 pub returns : goal.returns
 returns g c =
