@@ -52,8 +52,6 @@ pub struct FileJournal<D: Device, A: Allocator + Copy> {
     // the records that were noted since it was settled
     noted: Vec<u8, A>,
     whole: bool,
-    // how many bytes the log had when it began or was last renewed
-    renewed: usize,
     ghost records: { IsTrue whole
         → IsWhole (content_in Killed (D.seen log.device) ++ noted.items) },
     ghost as_seen: { IsTrue whole → LeaveAsSeen (D.seen log.device) (D.may_leave log.device) },
@@ -97,7 +95,7 @@ impl<D: Device, A: Allocator + Copy> Journal for FileJournal<D, A> {
 }
 
 impl<D: Device, A: Allocator + Copy> FileJournal<D, A> {
-    ghost use Rattle.std.specs.Prelude.{◌≡◌, ◌++◌, ◌⊎◌, [], false, IfOk, IsTrue, List, OnErr, OnOk, ℕ};
+    ghost use Rattle.std.specs.Prelude.{◌≡◌, ◌++◌, ◌⊎◌, ◌==◌, [], false, IfOk, IsTrue, List, OnErr, OnOk, length, ℕ};
     ghost use Rattle.p9_log.specs.declared.crash.Crash.{Crash};
     ghost use Rattle.p9_log.specs.declared.crash.Crash.TheVariants.{Killed, Stopped};
     ghost use Rattle.p9_log.specs.Blocks.{content_in};
@@ -122,12 +120,10 @@ impl<D: Device, A: Allocator + Copy> FileJournal<D, A> {
             ≡ stood_for (content_in Killed (D.seen log.device))) }
     {
         let noted = Vec::with_capacity(alloc, ROOM)?;
-        let renewed = log.len();
         Ok(FileJournal {
             log,
             noted,
             whole: true,
-            renewed,
         })
     }
 
@@ -138,13 +134,6 @@ impl<D: Device, A: Allocator + Copy> FileJournal<D, A> {
         self.log.device()
     }
 
-    /// The file, which the journal gives up, with what was noted since it was settled.
-    pub fn into_device(self) -> D
-        ensures { result ≡ self.log.device }
-    {
-        self.log.into_device()
-    }
-
     /// How many bytes of the file count.
     pub fn len(&self) -> usize
         ensures { result ≡ self.now.log.end }
@@ -152,11 +141,11 @@ impl<D: Device, A: Allocator + Copy> FileJournal<D, A> {
         self.log.len()
     }
 
-    /// How many bytes of the file counted when the journal began, or was last renewed.
-    pub fn renewed_len(&self) -> usize
-        ensures { result ≡ self.now.renewed }
+    /// Whether nothing was noted since the journal was settled.
+    pub fn is_settled(&self) -> bool
+        ensures { result ≡ (length self.now.noted.items == 0) }
     {
-        self.renewed
+        self.noted.is_empty()
     }
 
     /// Notes a change, as [`Journal::note`], and returns whether the journal is whole. Its file is
@@ -332,7 +321,6 @@ impl<D: Device, A: Allocator + Copy> FileJournal<D, A> {
             self.whole = self.whole && self.log.is_usable();
             return Err(error);
         }
-        self.renewed = self.log.len();
         Ok(())
     }
 }

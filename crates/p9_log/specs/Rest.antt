@@ -10,9 +10,9 @@ use Rattle.p9_log.specs.Blocks.{number, block_at, content_in}
 abbrev pub block : (synced : ℕ) → List ℕ → List ℕ
 block synced bytes = synced ∷ 1 ∷ number (length bytes) ++ bytes
 
--- what a block is written as behind its gates, and the gates of the next
+-- what a block is written as behind its sync gate, and the gates of the next
 abbrev pub staged : List ℕ → List ℕ
-staged bytes = number (length bytes) ++ bytes ++ 1 ∷ 0 ∷ []
+staged bytes = 1 ∷ number (length bytes) ++ bytes ++ 1 ∷ 0 ∷ []
 
 -- a block without bytes, whose sync gate is closed, and the gates of the next
 abbrev pub mark : List ℕ

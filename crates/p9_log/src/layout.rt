@@ -7,6 +7,9 @@ pub(crate) const HEAD: usize = 10;
 // A block without bytes, whose sync gate is closed, and the gates of the next block.
 pub(crate) const MARK: [u8; 12] = [0, 1, 0, 0, 0, 0, 0, 0, 0, 0, 1, 0];
 
+// The write gate of a block that is there.
+pub(crate) const WRITTEN: [u8; 1] = [1];
+
 // The gates behind a block: behind what isn't synced the sync gate may be open.
 pub(crate) const NEXT: [u8; 2] = [1, 0];
 

@@ -141,8 +141,7 @@ impl<D: Device, A: Allocator> Log<D, A> {
         stage(&mut self.block, bytes)?;
         self.usable = false;
         self.drafting = false;
-        self.device.write_at(self.end + 2, &self.block)?;
-        self.device.write_at(self.end + 1, &[1])?;
+        self.device.write_at(self.end + 1, &self.block)?;
         self.end += HEAD + bytes.len();
         self.pending = true;
         self.usable = true;

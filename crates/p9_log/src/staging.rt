@@ -4,17 +4,18 @@ ghost use Rattle.std.specs.Prelude.{◌≡◌, ◌≤◌, ◌++◌, ◌^◌, OnO
 ghost use Rattle.p9_log.specs.Blocks.{number};
 ghost use Rattle.p9_log.specs.Rest.{block, staged};
 
-use crate::layout::{NEXT, OPEN};
+use crate::layout::{NEXT, OPEN, WRITTEN};
 use byteorder::{ByteOrder, LittleEndian};
 use std::alloc::{AllocError, Allocator};
 
-/// Puts the size of a block, its bytes and the gates of the next into a buffer, in place of what is
-/// there.
+/// Puts the open write gate of a block, its size, its bytes and the gates of the next into a buffer, in
+/// place of what is there.
 pub(crate) fn stage<A: Allocator>(buffer: &mut Vec<u8, A>, bytes: &[u8]) -> Result<(), AllocError>
     requires { length bytes.now ≤ 2 ^ 60 }
     ensures { OnOk result (buffer.new.items ≡ staged bytes.now) }
 {
     buffer.clear();
+    buffer.extend_from_slice(&WRITTEN)?;
     add_sized(buffer, bytes)?;
     buffer.extend_from_slice(&NEXT)
 }

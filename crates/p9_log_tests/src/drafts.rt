@@ -1,6 +1,7 @@
 //! A draft takes the place of a log.
 
-use p9_log::{Crash, Device, Fuse, Log, LogError, MemoryDevice, create, recover};
+use crate::logs::{MemoryLog, log_over, new_log, recovers};
+use p9_log::{Crash, Device, Fuse, Log, LogError, MemoryDevice};
 use std::alloc::{Allocator, Global};
 
 const OLD: [u8; 2] = [1, 2];
@@ -8,13 +9,15 @@ const OLD: [u8; 2] = [1, 2];
 const NEW: [u8; 3] = [7, 8, 9];
 
 // A log with the old bytes, all of them synced.
-fn old_log(alloc: Global) -> Option<Log<MemoryDevice<Global>, Global>> {
-    let Ok(mut log) = create(alloc, MemoryDevice::new(alloc, Vec::new(alloc))) else {
-        return None;
-    };
-    log.append(&OLD).ok()?;
-    log.sync().ok()?;
-    Some(log)
+fn old_log(alloc: Global) -> Option<MemoryLog> {
+    let mut log = new_log(alloc)?;
+    let added = add_synced(&mut log);
+    if added { Some(log) } else { None }
+}
+
+// Whether the old bytes are added and synced.
+fn add_synced(log: &mut MemoryLog) -> bool {
+    log.append(&OLD).is_ok() && log.sync().is_ok()
 }
 
 fn write_draft<D: Device, A: Allocator>(log: &mut Log<D, A>) -> Result<(), LogError> {
@@ -32,40 +35,59 @@ fn put<D: Device, A: Allocator>(log: &mut Log<D, A>) -> Option<bool> {
     if log.is_usable() { Some(false) } else { None }
 }
 
-fn recovers(alloc: Global, file: &[u8], how: Crash, bytes: &[u8]) -> bool {
-    let Ok(copy) = file.to_vec(alloc) else {
-        return false;
-    };
-    match recover(alloc, MemoryDevice::new(alloc, copy), how) {
-        Ok(found) => found.bytes.as_slice() == bytes,
-        Err(_) => false,
-    }
+// Whether these bytes are recovered of a log's file.
+fn leaves(alloc: Global, log: &MemoryLog, how: Crash, bytes: &[u8]) -> bool {
+    recovers(alloc, log.device().bytes(), how, bytes)
+}
+
+// Whether a draft that is put is the log, and it goes on from there.
+fn goes_on_from_a_draft(alloc: Global, log: &mut MemoryLog) -> bool {
+    put(log) == Some(true)
+        && log.put_draft() == Err(LogError::NoDraft)
+        && leaves(alloc, log, Crash::Killed, &NEW)
+        && leaves(alloc, log, Crash::Stopped, &NEW)
+        && log.append(&[5]).is_ok()
+        && leaves(alloc, log, Crash::Killed, &[7, 8, 9, 5])
+        && leaves(alloc, log, Crash::Stopped, &NEW)
+        && log.sync().is_ok()
+        && leaves(alloc, log, Crash::Stopped, &[7, 8, 9, 5])
 }
 
 #[test]
 fn a_draft_that_is_put_is_the_log(rt: HostRuntime) {
     let alloc = rt.alloc();
     let mut log = old_log(alloc).expect(&rt, "a log");
-    assert!(rt; put(&mut log) == Some(true));
-    assert!(rt; log.put_draft() == Err(LogError::NoDraft));
-    assert!(rt; recovers(alloc, log.device().bytes(), Crash::Killed, &NEW));
-    assert!(rt; recovers(alloc, log.device().bytes(), Crash::Stopped, &NEW));
-    assert!(rt; log.append(&[5]).is_ok());
-    assert!(rt; recovers(alloc, log.device().bytes(), Crash::Killed, &[7, 8, 9, 5]));
-    assert!(rt; recovers(alloc, log.device().bytes(), Crash::Stopped, &NEW));
-    assert!(rt; log.sync().is_ok());
-    assert!(rt; recovers(alloc, log.device().bytes(), Crash::Stopped, &[7, 8, 9, 5]));
+    let goes_on = goes_on_from_a_draft(alloc, &mut log);
+    drop(log);
+    assert!(rt; goes_on);
+}
+
+// Whether a log has no draft once it is added to.
+fn has_no_draft_then(alloc: Global, log: &mut MemoryLog) -> bool {
+    write_draft(log).is_ok()
+        && log.append(&[3]).is_ok()
+        && log.add_to_draft(&[4]) == Err(LogError::NoDraft)
+        && log.put_draft() == Err(LogError::NoDraft)
+        && leaves(alloc, log, Crash::Killed, &[1, 2, 3])
 }
 
 #[test]
 fn a_log_that_is_added_to_has_no_draft(rt: HostRuntime) {
     let alloc = rt.alloc();
     let mut log = old_log(alloc).expect(&rt, "a log");
-    assert!(rt; write_draft(&mut log).is_ok());
-    assert!(rt; log.append(&[3]).is_ok());
-    assert!(rt; log.add_to_draft(&[4]) == Err(LogError::NoDraft));
-    assert!(rt; log.put_draft() == Err(LogError::NoDraft));
-    assert!(rt; recovers(alloc, log.device().bytes(), Crash::Killed, &[1, 2, 3]));
+    let has_none = has_no_draft_then(alloc, &mut log);
+    drop(log);
+    assert!(rt; has_none);
+}
+
+// The device below a log, which is used up to its failure, and whether a draft was put.
+fn put_and_ended(
+    log: Log<Fuse<MemoryDevice<Global>, Global>, Global>,
+) -> Option<(MemoryDevice<Global>, bool)> {
+    let mut log = log;
+    let put = put(&mut log);
+    let device = log.into_device().into_device();
+    Some((device, put?))
 }
 
 // The file after the device has failed, and whether the draft was put.
@@ -75,18 +97,17 @@ fn after_failure(
     short: usize,
 ) -> Option<(MemoryDevice<Global>, bool)> {
     let device = old_log(alloc)?.into_device();
-    match recover(
-        alloc,
-        Fuse::new(alloc, device, calls, short),
-        Crash::Stopped,
-    ) {
-        Ok(found) => {
-            let mut log = found.log;
-            let put = put(&mut log)?;
-            Some((log.into_device().into_device(), put))
-        }
-        Err((_, device)) => Some((device.into_device(), false)),
+    let device = Fuse::new(alloc, device, calls, short);
+    match log_over(alloc, device, Crash::Stopped) {
+        Ok(log) => put_and_ended(log),
+        Err(device) => Some((device.into_device(), false)),
     }
+}
+
+// Whether the new bytes are recovered of a file where they were put, and else the old ones.
+fn is_left_by(alloc: Global, file: &[u8], put: bool) -> bool {
+    let want = if put { NEW.as_slice() } else { OLD.as_slice() };
+    recovers(alloc, file, Crash::Killed, want) && recovers(alloc, file, Crash::Stopped, want)
 }
 
 #[test]
@@ -95,10 +116,9 @@ fn each_call_fails_in_turn(rt: HostRuntime) {
     for calls in 0..15 {
         for short in 0..13 {
             let (device, put) = after_failure(alloc, calls, short).expect(&rt, "a log");
-            let want = if put { NEW.as_slice() } else { OLD.as_slice() };
-            assert!(rt; put == (calls == 14));
-            assert!(rt; recovers(alloc, device.bytes(), Crash::Killed, want));
-            assert!(rt; recovers(alloc, device.bytes(), Crash::Stopped, want));
+            let is_left = is_left_by(alloc, device.bytes(), put);
+            drop(device);
+            assert!(rt; is_left && put == (calls == 14));
         }
     }
 }

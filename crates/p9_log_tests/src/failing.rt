@@ -1,6 +1,7 @@
 //! Each call of the device fails in turn.
 
-use p9_log::{Crash, Device, Fuse, Log, LogError, MemoryDevice, create, recover};
+use crate::logs::bytes_over;
+use p9_log::{Crash, Device, Fuse, Log, LogError, MemoryDevice, create};
 use std::alloc::{Allocator, Global};
 
 // Adds three runs, and syncs behind the second. It returns how many were added, or 9 where a log that
@@ -28,26 +29,30 @@ fn unless_it_takes_more<D: Device, A: Allocator>(log: &mut Log<D, A>, added: u8)
     }
 }
 
+// A device that fails after so many calls.
+type Failing = Fuse<MemoryDevice<Global>, Global>;
+
+// The device after a log over it was run, and how many runs were added.
+fn run_over(alloc: Global, device: Failing) -> (Failing, u8) {
+    match create(alloc, device) {
+        Ok(log) => run_and_ended(log),
+        Err(refused) => (refused.1, 0),
+    }
+}
+
+// The device below a log after it was run, and how many runs were added.
+fn run_and_ended(log: Log<Failing, Global>) -> (Failing, u8) {
+    let mut log = log;
+    let added = run(&mut log);
+    (log.into_device(), added)
+}
+
 // What is recovered where the device fails after so many calls, and how many runs were added.
 fn after_failure(alloc: Global, calls: usize, short: usize) -> Option<(Vec<u8>, u8)> {
-    let device = Fuse::new(
-        alloc,
-        MemoryDevice::new(alloc, Vec::new(alloc)),
-        calls,
-        short,
-    );
-    let (device, added) = match create(alloc, device) {
-        Ok(log) => {
-            let mut log = log;
-            let added = run(&mut log);
-            (log.into_device(), added)
-        }
-        Err((_, device)) => (device, 0),
-    };
-    match recover(alloc, device.into_device(), Crash::Killed) {
-        Ok(found) => Some((found.bytes, added)),
-        Err(_) => None,
-    }
+    let device = MemoryDevice::new(alloc, Vec::new(alloc));
+    let (device, added) = run_over(alloc, Fuse::new(alloc, device, calls, short));
+    let bytes = bytes_over(alloc, device.into_device(), Crash::Killed)?;
+    Some((bytes, added))
 }
 
 // The runs that were added, or one more.

@@ -1,7 +1,9 @@
 //! Logs in files of a folder.
 
+use crate::logs::{bytes_over, is_found};
 use p9_disk::FileDevice;
-use p9_log::{Crash, Device, DeviceError, create, recover};
+use p9_log::{Crash, Device, DeviceError, Log, create};
+use std::alloc::Global;
 use std::fs;
 use std::io::{self, ErrorKind};
 use std::os::unix::fs::{MetadataExt, symlink};
@@ -12,51 +14,79 @@ fn make_folder(rt: &HostRuntime, folder: &str) -> io::Result<()> {
     fs::create_dir(rt, folder)
 }
 
+// Whether a log is made in a file of a folder, and what is added to it.
+fn is_made(rt: &HostRuntime, folder: &str) -> bool {
+    let Ok(device) = FileDevice::open(rt, folder, "log") else {
+        return false;
+    };
+    let Ok(log) = create(rt.alloc(), device) else {
+        return false;
+    };
+    is_written(log)
+}
+
+fn is_written(log: Log<FileDevice, Global>) -> bool {
+    let mut log = log;
+    log.append(&[7, 8]).is_ok() && log.sync().is_ok() && log.append(&[9]).is_ok()
+}
+
+// What is recovered of it.
+fn recovered(rt: &HostRuntime, folder: &str) -> Option<Vec<u8>> {
+    let device = FileDevice::open(rt, folder, "log").ok()?;
+    bytes_over(rt.alloc(), device, Crash::Killed)
+}
+
 #[test]
 fn a_log_is_recovered_from_its_file(rt: HostRuntime) {
     make_folder(&rt, "log_in_a_file").expect(&rt, "a folder");
-    let device = FileDevice::open(&rt, "log_in_a_file", "log").expect(&rt, "a device");
-    let Ok(mut log) = create(rt.alloc(), device) else {
-        panic!(rt; "not created");
-    };
-    assert!(rt; log.append(&[7, 8]).is_ok());
-    assert!(rt; log.sync().is_ok());
-    assert!(rt; log.append(&[9]).is_ok());
-    drop(log);
-    let device = FileDevice::open(&rt, "log_in_a_file", "log").expect(&rt, "a device");
-    let Ok(found) = recover(rt.alloc(), device, Crash::Killed) else {
-        panic!(rt; "not recovered");
-    };
-    assert!(rt; found.bytes.as_slice() == [7, 8, 9].as_slice());
+    assert!(rt; is_made(&rt, "log_in_a_file"));
+    assert!(rt; is_found(recovered(&rt, "log_in_a_file"), &[7, 8, 9]));
     let made = fs::metadata(&rt, "log_in_a_file/log").expect(&rt, "metadata");
     assert!(rt; made.mode() & 0o777 == 0o600);
     fs::remove_dir_all(&rt, "log_in_a_file").expect(&rt, "removed");
 }
 
+// Whether a file has these bytes.
+fn has_bytes(rt: &HostRuntime, path: &str, bytes: &[u8]) -> bool {
+    match fs::read(rt, path) {
+        Ok(file) => file.as_slice() == bytes,
+        Err(_) => false,
+    }
+}
+
+// Whether a draft is written beside the file, of which the first one is given up, and then put in its place.
+fn is_put(rt: &HostRuntime, device: FileDevice) -> bool {
+    let mut device = device;
+    device.write_at(0, &[1, 2, 3]).is_ok()
+        && device.put_draft() == Err(DeviceError::Failed)
+        && device.begin_draft().is_ok()
+        && device.add_to_draft(&[4]).is_ok()
+        && device.begin_draft().is_ok()
+        && device.add_to_draft(&[5]).is_ok()
+        && device.add_to_draft(&[6, 7]).is_ok()
+        && has_bytes(rt, "draft_of_a_file/log", &[1, 2, 3])
+        && device.put_draft().is_ok()
+        && device.write_at(3, &[8, 9]).is_ok()
+        && device.cut(4).is_ok()
+        && device.sync().is_ok()
+}
+
+// Whether these bytes are read of a device, and nothing a second time.
+fn is_read_once(rt: &HostRuntime, device: FileDevice, bytes: &[u8]) -> bool {
+    let mut device = device;
+    let first = device.read(rt.alloc()).ok();
+    let fails = device.last_error().is_some();
+    let second = device.read(rt.alloc()).is_err();
+    is_found(first, bytes) && !fails && second && device.last_error().is_some()
+}
+
 #[test]
 fn a_draft_is_put_in_place(rt: HostRuntime) {
     make_folder(&rt, "draft_of_a_file").expect(&rt, "a folder");
-    let mut device = FileDevice::open(&rt, "draft_of_a_file", "log").expect(&rt, "a device");
-    assert!(rt; device.write_at(0, &[1, 2, 3]).is_ok());
-    assert!(rt; device.put_draft() == Err(DeviceError::Failed));
-    assert!(rt; device.begin_draft().is_ok());
-    assert!(rt; device.add_to_draft(&[4]).is_ok());
-    assert!(rt; device.begin_draft().is_ok());
-    assert!(rt; device.add_to_draft(&[5]).is_ok());
-    assert!(rt; device.add_to_draft(&[6, 7]).is_ok());
-    let before = fs::read(&rt, "draft_of_a_file/log").expect(&rt, "a file");
-    assert!(rt; before.as_slice() == [1, 2, 3].as_slice());
-    assert!(rt; device.put_draft().is_ok());
-    assert!(rt; device.write_at(3, &[8, 9]).is_ok());
-    assert!(rt; device.cut(4).is_ok());
-    assert!(rt; device.sync().is_ok());
-    drop(device);
-    let mut device = FileDevice::open(&rt, "draft_of_a_file", "log").expect(&rt, "a device");
-    let bytes = device.read(rt.alloc()).expect(&rt, "the file");
-    assert!(rt; bytes.as_slice() == [5, 6, 7, 8].as_slice());
-    assert!(rt; device.last_error().is_none());
-    assert!(rt; device.read(rt.alloc()).is_err());
-    assert!(rt; device.last_error().is_some());
+    let device = FileDevice::open(&rt, "draft_of_a_file", "log").expect(&rt, "a device");
+    assert!(rt; is_put(&rt, device));
+    let device = FileDevice::open(&rt, "draft_of_a_file", "log").expect(&rt, "a device");
+    assert!(rt; is_read_once(&rt, device, &[5, 6, 7, 8]));
     assert!(rt; fs::symlink_metadata(&rt, "draft_of_a_file/log.new").is_err());
     fs::remove_dir_all(&rt, "draft_of_a_file").expect(&rt, "removed");
 }

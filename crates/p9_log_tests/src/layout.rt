@@ -1,6 +1,7 @@
 //! The bytes of a log's file.
 
-use p9_log::{Crash, MemoryDevice, create, recover};
+use crate::logs::{MemoryLog, log_of, new_log, recovers};
+use p9_log::Crash;
 
 // An open sync gate, an open write gate, the size and the bytes of a block; a mark, with its sync gate
 // closed; and the gates of the next block.
@@ -19,40 +20,45 @@ const PUT: [u8; 24] = [
     1, 1, 2, 0, 0, 0, 0, 0, 0, 0, 7, 8, 0, 1, 0, 0, 0, 0, 0, 0, 0, 0, 1, 0,
 ];
 
+// Whether the bytes are those when a block is written, and when it is synced.
+fn writes_a_block(log: &mut MemoryLog) -> bool {
+    log.append(&[7, 8]).is_ok()
+        && log.device().bytes() == APPENDED.as_slice()
+        && log.sync().is_ok()
+        && log.device().bytes() == SYNCED.as_slice()
+}
+
 #[test]
 fn a_block_is_written_and_synced(rt: HostRuntime) {
-    let alloc = rt.alloc();
-    let Ok(mut log) = create(alloc, MemoryDevice::new(alloc, Vec::new(alloc))) else {
-        panic!(rt; "not created");
-    };
-    assert!(rt; log.append(&[7, 8]).is_ok());
-    assert!(rt; log.device().bytes() == APPENDED.as_slice());
-    assert!(rt; log.sync().is_ok());
-    assert!(rt; log.device().bytes() == SYNCED.as_slice());
+    let mut log = new_log(rt.alloc()).expect(&rt, "a log");
+    let writes = writes_a_block(&mut log);
+    drop(log);
+    assert!(rt; writes);
 }
 
 #[test]
 fn what_is_recovered_is_on_the_disk(rt: HostRuntime) {
     let alloc = rt.alloc();
-    let file = APPENDED.to_vec(alloc).expect(&rt, "memory");
-    let Ok(found) = recover(alloc, MemoryDevice::new(alloc, file), Crash::Killed) else {
-        panic!(rt; "not recovered");
-    };
-    assert!(rt; found.bytes.as_slice() == [7, 8].as_slice());
-    assert!(rt; found.log.device().bytes() == SYNCED.as_slice());
+    let log = log_of(alloc, &APPENDED, Crash::Killed).expect(&rt, "a log");
+    let is_synced = log.device().bytes() == SYNCED.as_slice();
+    drop(log);
+    assert!(rt; is_synced);
+    assert!(rt; recovers(alloc, &APPENDED, Crash::Killed, &[7, 8]));
+}
+
+// Whether the bytes are those of a draft that was put.
+fn puts_a_draft(log: &mut MemoryLog) -> bool {
+    log.begin_draft().is_ok()
+        && log.add_to_draft(&[7, 8]).is_ok()
+        && log.put_draft().is_ok()
+        && log.device().bytes() == PUT.as_slice()
+        && log.len() == 22
 }
 
 #[test]
 fn a_draft_is_blocks_and_a_mark(rt: HostRuntime) {
-    let alloc = rt.alloc();
-    let file = APPENDED.to_vec(alloc).expect(&rt, "memory");
-    let Ok(found) = recover(alloc, MemoryDevice::new(alloc, file), Crash::Stopped) else {
-        panic!(rt; "not recovered");
-    };
-    let mut log = found.log;
-    assert!(rt; log.begin_draft().is_ok());
-    assert!(rt; log.add_to_draft(&[7, 8]).is_ok());
-    assert!(rt; log.put_draft().is_ok());
-    assert!(rt; log.device().bytes() == PUT.as_slice());
-    assert!(rt; log.len() == 22);
+    let mut log = log_of(rt.alloc(), &APPENDED, Crash::Stopped).expect(&rt, "a log");
+    let puts = puts_a_draft(&mut log);
+    drop(log);
+    assert!(rt; puts);
 }

@@ -12,4 +12,6 @@ mod files;
 #[cfg(test)]
 mod layout;
 #[cfg(test)]
+mod logs;
+#[cfg(test)]
 mod torn;

@@ -1,6 +1,7 @@
 //! A block that was torn at each of its bytes.
 
-use p9_log::{Crash, MemoryDevice, recover};
+use crate::logs::{bytes_over, is_found, log_of, recovers};
+use p9_log::Crash;
 use std::alloc::Global;
 
 // A synced block of the byte 5, a mark, and a block of the bytes 7 and 8.
@@ -18,17 +19,14 @@ const KEPT: usize = 21;
 const GATE: usize = 32;
 
 // Whether this is recovered after such a crash, and once more from what the recovery leaves.
-fn recovers(alloc: Global, file: &[u8], how: Crash, bytes: &[u8]) -> bool {
-    let Ok(copy) = file.to_vec(alloc) else {
-        return false;
-    };
-    let Ok(found) = recover(alloc, MemoryDevice::new(alloc, copy), how) else {
-        return false;
-    };
-    let Ok(again) = recover(alloc, found.log.into_device(), Crash::Stopped) else {
-        return false;
-    };
-    found.bytes.as_slice() == bytes && again.bytes.as_slice() == bytes
+fn recovers_twice(alloc: Global, file: &[u8], how: Crash, bytes: &[u8]) -> bool {
+    recovers(alloc, file, how, bytes) && is_found(again(alloc, file, how), bytes)
+}
+
+// What is recovered of what the recovery of a file leaves.
+fn again(alloc: Global, file: &[u8], how: Crash) -> Option<Vec<u8>> {
+    let log = log_of(alloc, file, how)?;
+    bytes_over(alloc, log.into_device(), Crash::Stopped)
 }
 
 #[test]
@@ -36,11 +34,11 @@ fn a_block_that_is_cut_short_does_not_count(rt: HostRuntime) {
     let alloc = rt.alloc();
     let mut file = FILE.to_vec(alloc).expect(&rt, "memory");
     file.extend_from_slice(&REST).expect(&rt, "memory");
-    assert!(rt; recovers(alloc, &file, Crash::Killed, &[5, 7, 8]));
-    assert!(rt; recovers(alloc, &file, Crash::Stopped, &[5]));
+    assert!(rt; recovers_twice(alloc, &file, Crash::Killed, &[5, 7, 8]));
+    assert!(rt; recovers_twice(alloc, &file, Crash::Stopped, &[5]));
     for len in KEPT..file.len() - 2 {
-        assert!(rt; recovers(alloc, &file[..len], Crash::Killed, &[5]));
-        assert!(rt; recovers(alloc, &file[..len], Crash::Stopped, &[5]));
+        assert!(rt; recovers_twice(alloc, &file[..len], Crash::Killed, &[5]));
+        assert!(rt; recovers_twice(alloc, &file[..len], Crash::Stopped, &[5]));
     }
 }
 
@@ -53,10 +51,10 @@ fn bytes_behind_a_closed_gate_do_not_matter(rt: HostRuntime) {
         let byte = file[at];
         for other in [0, 1, 2, 255] {
             file[at] = other;
-            assert!(rt; recovers(alloc, &file, Crash::Stopped, &[5]));
+            assert!(rt; recovers_twice(alloc, &file, Crash::Stopped, &[5]));
         }
         file[at] = byte;
     }
     file[GATE] = 0;
-    assert!(rt; recovers(alloc, &file, Crash::Killed, &[5]));
+    assert!(rt; recovers_twice(alloc, &file, Crash::Killed, &[5]));
 }

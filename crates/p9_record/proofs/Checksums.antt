@@ -9,8 +9,8 @@ use Rattle.std.proofs.lemmas.List.{take-append-drop}
 use Rattle.std.proofs.lemmas.List.Elements.{All-from_get_or}
 use Rattle.std.proofs.lemmas.Option.{cond_some, same_Some}
 use Rattle.std.proofs.lemmas.Slice.Eq.{bytes_eq-Decides}
-use Rattle.md5.specs.Md5.{md5}
-use Rattle.md5.proofs.StandardFacts.{length-md5}
+use Rattle.std.specs.Hash.DefaultHasher as sip
+use Rattle.byteorder.specs.Numbers.{length-bytes_low_first}
 use Rattle.p9_tree.specs.ForestEdit.{ForestEdit}
 use Rattle.p9_wire.specs.FieldReading.{◌and_then◌, bytes_at}
 use Rattle.p9_wire.specs.Frame.{IsBytes}
@@ -29,7 +29,7 @@ all_bytes bytes each = All-from_get_or (λ b. b < 256) bytes 0 (λ i lt. omega (
 -- a checksum is eight bytes
 pub length-checksum : (bytes : List ℕ) → length (checksum bytes) ≡ 8
 unfolding checksum
-length-checksum bytes = length-take-le 8 (md5 bytes) (omega (arith, length-md5 bytes))
+length-checksum bytes = length-bytes_low_first 0 8 (sip.finish (sip.write sip.initial bytes))
 
 -- what was put is between its two indices
 pub put_between : (bytes old new : List ℕ) (at next : ℕ) → at ≤ length old → Puts bytes at next old new

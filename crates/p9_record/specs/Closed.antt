@@ -1,15 +1,16 @@
 -- Changes with a checksum behind them.
-use Rattle.std.specs.Prelude.{ℕ, List, ◌++◌, take, Some, None, if◌then◌else◌}
+use Rattle.std.specs.Prelude.{ℕ, List, ◌++◌, Some, None, if◌then◌else◌}
+use Rattle.std.specs.Hash.DefaultHasher as sip
+use Rattle.std.specs.Int.{w64, to_le_bytes}
 use Rattle.std.specs.Str.{bytes_eq}
-use Rattle.md5.specs.Md5.{md5}
 use Rattle.p9_tree.specs.ForestEdit.{ForestEdit}
 use Rattle.p9_wire.specs.FieldReading.{◌and_then◌, Reader, bytes_at}
 use Rattle.p9_record.specs.Record.{forest_spelling}
 use Rattle.p9_record.specs.RecordReading.{forest_edit_at}
 
--- the first eight bytes of the MD5 of the bytes
+-- the SipHash-1-3 of the bytes with both keys 0, in eight bytes, the lowest first
 unfoldable pub checksum : List ℕ → List ℕ
-checksum bytes = take 8 (md5 bytes)
+checksum bytes = to_le_bytes w64 (sip.finish (sip.write sip.initial bytes))
 
 -- the bytes of a closed record: the spelling of a change, and its checksum
 unfoldable pub closed_spelling : ForestEdit → List ℕ

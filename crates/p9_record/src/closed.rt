@@ -10,21 +10,20 @@ ghost use Rattle.p9_record.specs.Record.{FitsForestEdit, forest_data_of};
 
 use crate::reading::take_change;
 use crate::writing::put_change;
-use md5::{Digest, Md5};
 use p9_tree::ForestChange;
 use p9_wire::put::put_bytes;
+use std::hash::{DefaultHasher, Hasher};
 
 const CHECKSUM_LEN: usize = 8;
 
-// The first eight bytes of the MD5 of the bytes.
+// The SipHash-1-3 of the bytes, in eight bytes, the lowest first.
 #[tactic(auto, unfolding(crate::specs::Closed::checksum))]
 fn checksum(bytes: &[u8]) -> [u8; CHECKSUM_LEN]
     ensures { result ≡ checksum_of bytes.now }
 {
-    let digest = Md5::digest(bytes);
-    let mut sum = [0; CHECKSUM_LEN];
-    sum.copy_from_slice(&digest[..CHECKSUM_LEN]);
-    sum
+    let mut hasher = DefaultHasher::new();
+    hasher.write(bytes);
+    hasher.finish().to_le_bytes()
 }
 
 /// Puts a change of a forest into the buffer at the index, and its checksum behind it. It returns the
