@@ -133,10 +133,12 @@ pub fn finish_local<T: Drop>(
     }
 }
 
-/// Returns what was done with the standard output, of which a failure is reported.
+/// Returns what was done with the standard output, of which a failure is reported, but not that its
+/// reader has read enough, as `head` has.
 pub fn finish_output(rt: &HostRuntime, done: io::Result<()>) -> Result<(), Failure> {
     match done {
         Ok(()) => Ok(()),
+        Err(error) if error.kind() == ErrorKind::BrokenPipe => Err(Failure::Failed),
         Err(error) => Err(report_about(rt, "standard output", &error, Failure::Failed)),
     }
 }

@@ -1,5 +1,6 @@
 //! Tables of commands with their options and words, from which `clap` reads a command line.
 
+use crate::version::VERSION;
 use clap::{Arg, ArgAction, Command, value_parser};
 use std::alloc::{AllocError, Global};
 
@@ -73,7 +74,7 @@ pub fn program_of<'a>(alloc: Global, shape: &ProgramShape) -> Result<Command<'a>
 // A program without its arguments.
 fn bare_program<'a>(alloc: Global, shape: &ProgramShape) -> Command<'a> {
     Command::new(alloc, shape.name)
-        .version("1.0")
+        .version(VERSION)
         .about(shape.about)
         .subcommand_required(!shape.commands.is_empty())
         .arg_required_else_help(shape.is_helping)

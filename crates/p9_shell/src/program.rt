@@ -50,7 +50,7 @@ impl Program {
         if error.kind() == WordsError::OutOfMemory {
             return Err(Failure::NoMemory);
         }
-        self.had(rt, "standard output", error.print(rt))?;
+        self.had_output(rt, error.print(rt))?;
         if error.use_stderr() {
             return Err(Failure::BadWords);
         }
@@ -64,7 +64,16 @@ impl Program {
 
     /// Prints bytes on the standard output.
     pub fn print(self, rt: &HostRuntime, bytes: &[u8]) -> Result<(), Failure> {
-        self.had(rt, "standard output", print(rt, bytes))
+        self.had_output(rt, print(rt, bytes))
+    }
+
+    /// What came of the standard output. Where it failed, that is reported, but not that its reader
+    /// has read enough, as `head` has.
+    pub fn had_output(self, rt: &HostRuntime, done: io::Result<()>) -> Result<(), Failure> {
+        match done {
+            Err(error) if error.kind() == ErrorKind::BrokenPipe => Err(Failure::from(error)),
+            done => self.had(rt, "standard output", done),
+        }
     }
 
     /// What was had of a place. Where input or output failed there, that is reported.
