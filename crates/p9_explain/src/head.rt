@@ -27,6 +27,16 @@ impl Section {
             Section::Script => "%% script",
         }
     }
+
+    /// Its name, by which `p9` tells its lines.
+    pub fn name(self) -> &'static str {
+        match self {
+            Section::World => "world",
+            Section::Ns => "ns",
+            Section::Cert => "cert",
+            Section::Script => "script",
+        }
+    }
 }
 
 /// The way in which a line is bad that is to begin a section, or is before the first one.

@@ -84,9 +84,9 @@ fn push_carriage_returns<A: Allocator + Copy>(
     source: &Source<'_, A>,
 ) -> Result<(), NoMemory> {
     for line in source.lines.as_slice() {
-        if line.text.ends_with('\r') {
-            let (name, number) = (source.name, line.number);
-            writeln!(text, "hint: {name}:{number}: a carriage return ends it")?;
+        if let (Some(section), true) = (line.section, line.text.ends_with('\r')) {
+            let at = (section, source.number_in_section(section, line.number));
+            push_hint(text, source, at, "", "a carriage return ends it")?;
         }
     }
     Ok(())

@@ -47,7 +47,8 @@ impl<'a, A: Allocator + Copy> Source<'a, A> {
         Ok(statements(alloc, self.text(section).unwrap_or(""))?)
     }
 
-    /// Adds `NAME:L` for this line of a section to a text.
+    /// Adds `NAME:M, SECTION:L` for the line L of a section to a text: its number among all lines, and
+    /// that in its section, by which `p9` tells it.
     pub fn push_line(
         &self,
         text: &mut String<A>,
@@ -55,8 +56,13 @@ impl<'a, A: Allocator + Copy> Source<'a, A> {
         line: u64,
     ) -> Result<(), NoMemory> {
         let number = number_in(self.lines.as_slice(), section, line);
-        write!(text, "{}:{number}", self.name)?;
+        write!(text, "{}:{number}, {}:{line}", self.name, section.name())?;
         Ok(())
+    }
+
+    /// The number in its section of the line that has this number among all lines.
+    pub fn number_in_section(&self, section: Section, number: u64) -> u64 {
+        number.saturating_sub(number_in(self.lines.as_slice(), section, 0))
     }
 
     /// The line of the world that made a node.
