@@ -2,6 +2,7 @@
 
 ghost use Rattle.std.specs.Io.{ReadsAtMost, WritesAtMost};
 
+use crate::gate::Gated;
 use crate::peer::Peer;
 use crate::visit::Visited;
 use p9_conn::Stream;
@@ -10,13 +11,16 @@ use p9_serve::Socket;
 use std::alloc::Global;
 use std::io::{self, Read, Write};
 
+/// The stream of a visit.
+pub(crate) type Visiting = Visited<Socket<Gated<Peer>, Global>>;
+
 /// A client's stream.
 #[derive(Drop)]
 pub(crate) enum Client {
     /// Of one who may attach as each listed user.
-    Any(Visited<Socket<Peer, Global>>),
+    Any(Visiting),
     /// Of one who may attach as some users alone.
-    Some(Restricted<Visited<Socket<Peer, Global>>, Global>),
+    Some(Restricted<Visiting, Global>),
 }
 
 impl Read for Client {

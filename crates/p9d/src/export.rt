@@ -2,12 +2,12 @@
 
 use crate::PROGRAM;
 use crate::counting::nodes_of;
-use crate::folder::Folder;
 use crate::keeping::{Trees, keep_in};
 use crate::words::Asked;
 use p9_base::{NoMemory, User};
 use p9_commands::{Needs, Prepared, path_of, prepare, print_reports};
 use p9_explain::explain;
+use p9_folder::Folder;
 use p9_guard::Guard;
 use p9_shell::{Failure, tell};
 use p9_shown::AsShown;
@@ -98,7 +98,7 @@ fn kept(
     export: &str,
     path: &str,
 ) -> Result<Folder, Failure> {
-    let folder = Folder::take(rt, path)?;
+    let folder = Folder::take(rt, PROGRAM, path)?;
     folder.belong_to(rt, export, input)?;
     keep_in(rt, &folder, prepared)?;
     Ok(folder)

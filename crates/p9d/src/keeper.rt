@@ -1,18 +1,21 @@
 //! What keeps the changes of clients while a server runs.
 
-use crate::boot::forget_start;
 use crate::counting::size_of;
-use crate::folder::Folder;
+use crate::gate::Gate;
 use crate::journal::Level;
 use crate::keeping::{Changes, Trees, failed};
 use crate::serve::Served;
 use crate::visit::Shared;
+use p9_folder::{Folder, forget_start};
 use p9_guard::Guard;
 use p9_serve::Tally;
 use p9_shell::Failure;
 use p9_tree::Unsettled;
 use std::fmt::{self, Display};
 use std::io;
+
+// After so many turns that moved something replies leave.
+const HELD_MOST: u64 = 256;
 
 // A journal gets no snapshot before it has so many bytes.
 const FEWEST: usize = 1 << 20;
@@ -41,8 +44,34 @@ impl Keeper {
         }
     }
 
-    /// Turns of the clients, before which all that was changed is in the file, or on the disk.
-    pub fn turns(&self, clients: &mut Served, clock: u32) -> Result<Tally, Unsettled> {
+    /// Turns of the clients. Where a change is not in the file yet, the first ones are held: no reply
+    /// leaves in them. Then all that was changed is brought into the file, or to the disk, and replies
+    /// leave in the last ones. Where changes can't be kept, none leaves from then on.
+    pub fn turns(&self, clients: &mut Served, clock: u32, gate: &Gate) -> Result<Tally, Unsettled> {
+        let mut held = Tally {
+            moved: 0,
+            closed: 0,
+        };
+        if !is_settled(clients) {
+            gate.close();
+            held = held_turns(clients, clock);
+            self.keep(clients)?;
+            gate.open();
+        }
+        Ok(both(held, self.kept_turns(clients, clock)?))
+    }
+
+    // Brings all that was changed into the file, or to the disk.
+    fn keep(&self, clients: &mut Served) -> Result<(), Unsettled> {
+        if self.seconds == 0 {
+            clients.sync()
+        } else {
+            clients.settle()
+        }
+    }
+
+    // Turns of the clients, before which all that was changed is in the file, or on the disk.
+    fn kept_turns(&self, clients: &mut Served, clock: u32) -> Result<Tally, Unsettled> {
         if self.seconds == 0 {
             clients.synced_turns(clock)
         } else {
@@ -116,6 +145,39 @@ impl Keeper {
         let failure = failed(rt, &self.folder, &journal);
         drop(journal);
         failure
+    }
+}
+
+// Whether nothing was changed since all of it was in the file.
+fn is_settled(clients: &Served) -> bool {
+    match clients.forest().journal() {
+        Some(journal) => journal.is_settled(),
+        None => true,
+    }
+}
+
+// Turns of the clients, as long as they move something. They end where many did, or where so much was
+// changed that the journal was settled between two of them.
+fn held_turns(clients: &mut Served, clock: u32) -> Tally {
+    let mut held = Tally {
+        moved: 0,
+        closed: 0,
+    };
+    for _ in 0..HELD_MOST {
+        let tally = clients.turns(clock);
+        held = both(held, tally);
+        if tally.moved == 0 || held.moved >= HELD_MOST || is_settled(clients) {
+            break;
+        }
+    }
+    held
+}
+
+// What two lots of turns came to.
+fn both(first: Tally, second: Tally) -> Tally {
+    Tally {
+        moved: first.moved.saturating_add(second.moved),
+        closed: first.closed.saturating_add(second.closed),
     }
 }
 

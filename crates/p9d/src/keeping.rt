@@ -1,33 +1,25 @@
 //! What is kept of an export, and the journal that keeps it.
 
 use crate::PROGRAM;
-use crate::boot::{last_crash, note_start};
-use crate::folder::Folder;
 use p9_base::NoMemory;
 use p9_commands::Prepared;
 use p9_disk::FileDevice;
+use p9_folder::{Folder, Found, JOURNAL, go_on_with, last_crash, note_start};
 use p9_index::IndexTree;
 use p9_judge::{Verdict, judge};
 use p9_kept::{FileJournal, Refused, ReopenError, Reopened, reopen};
 use p9_log::Crash;
 use p9_shell::{Failure, tell};
 use p9_shown::AsShown;
-use p9_space::is_table_given;
 use p9_tree::Forest;
 use std::alloc::Global;
-use std::fmt::{self, Display};
+use std::fmt::Display;
 
 /// What keeps the changes of the trees that are served.
 pub(crate) type Changes = FileJournal<FileDevice, Global>;
 
 /// The trees that are served.
 pub(crate) type Trees = IndexTree<Global, Changes>;
-
-/// The file with the changes.
-pub(crate) const JOURNAL: &str = "journal";
-
-// A log that was ended whole has so many bytes behind the last block that counts.
-const END: usize = 12;
 
 // What is kept in a folder.
 #[derive(Drop)]
@@ -46,7 +38,7 @@ pub(crate) fn keep_in(
     prepared: &mut Prepared<Trees>,
 ) -> Result<(), Failure> {
     let how = last_crash(rt, folder.path());
-    let (kept, left_out) = opened(rt, folder, how)?;
+    let (kept, found) = opened(rt, folder, how)?;
     match noted(rt, folder, how) {
         Ok(()) => {}
         Err(failure) => {
@@ -55,9 +47,9 @@ pub(crate) fn keep_in(
         }
     }
     match kept {
-        Kept::Nothing(journal) => begin(rt, folder, journal, left_out, prepared),
+        Kept::Nothing(journal) => begin(rt, folder, journal, found, prepared),
         Kept::Trees(forest) => {
-            tell_of(rt, folder, &Found { how, left_out })?;
+            tell_of(rt, folder, &found)?;
             go_on(rt, folder, forest, prepared)
         }
     }
@@ -71,8 +63,8 @@ fn noted(rt: &HostRuntime, folder: &Folder, how: Crash) -> Result<(), Failure> {
     }
 }
 
-// What is kept in a folder, and how many bytes of its changes don't count.
-fn opened(rt: &HostRuntime, folder: &Folder, how: Crash) -> Result<(Kept, usize), Failure> {
+// What is kept in a folder, and what was found there.
+fn opened(rt: &HostRuntime, folder: &Folder, how: Crash) -> Result<(Kept, Found), Failure> {
     let device = match FileDevice::open(rt, folder.path(), JOURNAL) {
         Ok(device) => device,
         Err(error) => return Err(PROGRAM.failed(rt, folder.path(), error)),
@@ -85,13 +77,14 @@ fn opened(rt: &HostRuntime, folder: &Folder, how: Crash) -> Result<(Kept, usize)
         Ok(reopened) => reopened,
         Err(error) => return Err(refuse(rt, folder, error)),
     };
+    let found = Found { how, left_out };
     if forest.trees().is_empty() {
         drop(forest);
-        return Ok((Kept::Nothing(journal), left_out));
+        return Ok((Kept::Nothing(journal), found));
     }
     let mut forest = forest;
     forest.keep(journal);
-    Ok((Kept::Trees(forest), left_out))
+    Ok((Kept::Trees(forest), found))
 }
 
 // Reports why what is kept in a folder can't be read.
@@ -105,11 +98,11 @@ fn begin(
     rt: &HostRuntime,
     folder: &Folder,
     journal: Changes,
-    left_out: usize,
+    found: Found,
     prepared: &mut Prepared<Trees>,
 ) -> Result<(), Failure> {
     let mut journal = journal;
-    if left_out > END {
+    if found.is_cut() {
         drop(journal);
         return Err(PROGRAM.refuse(rt, folder.path(), &Refused::Damaged, Failure::Refused));
     }
@@ -135,12 +128,9 @@ fn go_on(
     prepared: &mut Prepared<Trees>,
 ) -> Result<(), Failure> {
     let space = &mut prepared.space;
-    if !is_table_given(&forest, &space.table) {
-        drop(forest);
-        return Err(refuse_trees(rt, folder));
-    }
-    if !space.world.go_on_with(forest) {
-        return Err(refuse_trees(rt, folder));
+    if !go_on_with(space, forest) {
+        let why = "what is kept is not of this export";
+        return Err(PROGRAM.refuse(rt, folder.path(), &why, Failure::Refused));
     }
     match judge(rt.alloc(), &space.world, &space.table) {
         Ok(Verdict::Yes(certificate)) => {
@@ -155,39 +145,10 @@ fn go_on(
     }
 }
 
-// Reports that the trees that are kept in a folder are not those of its export.
-fn refuse_trees(rt: &HostRuntime, folder: &Folder) -> Failure {
-    let why = "what is kept is not of this export";
-    PROGRAM.refuse(rt, folder.path(), &why, Failure::Refused)
-}
-
 // Tells of a folder.
 fn tell_of<D: Display>(rt: &HostRuntime, folder: &Folder, what: &D) -> Result<(), Failure> {
     let line = format!(in rt.alloc(); "p9d: {}: {what}\n", AsShown(folder.path()))?;
     Ok(tell(rt, line.as_bytes())?)
-}
-
-/// What was found in a folder: how its last server ended, and how many bytes of changes don't count.
-/// Those of a log that was ended whole are not told of.
-#[derive(Clone, Copy)]
-pub(crate) struct Found {
-    pub how: Crash,
-    pub left_out: usize,
-}
-
-impl Display for Found {
-    fn fmt<W: fmt::Write>(&self, f: &mut fmt::Formatter<W>) -> fmt::Result {
-        f.write_str(match self.how {
-            Crash::Killed => "all that was written is there",
-            Crash::Stopped => {
-                "the machine was started again since, and all that was synced is there"
-            }
-        })?;
-        if self.left_out <= END {
-            return Ok(());
-        }
-        write!(f, "; left out: {} bytes behind that", self.left_out)
-    }
 }
 
 /// Reports why changes can't be kept.

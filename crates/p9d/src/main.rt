@@ -3,14 +3,13 @@
 #![tactic(auto)]
 
 mod address;
-mod boot;
 mod check;
 mod client;
 mod counting;
 mod door;
 mod end;
 mod export;
-mod folder;
+mod gate;
 mod journal;
 mod keeper;
 mod keeping;

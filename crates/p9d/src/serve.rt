@@ -1,9 +1,10 @@
 //! The rounds: clients are taken in at each address, and each has a turn.
 
 use crate::address::copy_of;
-use crate::client::Client;
+use crate::client::{Client, Visiting};
 use crate::door::{Arrival, Door, Origin, close_doors, shown_origin};
 use crate::end::{has_ended, is_pipe};
+use crate::gate::Gated;
 use crate::journal::Level;
 use crate::keeper::Keeper;
 use crate::keeping::Trees;
@@ -143,7 +144,7 @@ impl Daemon {
     // Turns of the clients.
     fn turns(&self, clients: &mut Served) -> Result<Tally, Unsettled> {
         match &self.keeper {
-            Some(keeper) => keeper.turns(clients, self.clock()),
+            Some(keeper) => keeper.turns(clients, self.clock(), &self.visitors.shared.gate),
             None => Ok(clients.turns(self.clock())),
         }
     }
@@ -292,8 +293,8 @@ fn visited(
     peer: Peer,
     visit: Rc<Visit>,
     shared: &Rc<Shared>,
-) -> Result<Visited<Socket<Peer, Global>>, AllocError> {
-    match Socket::new(alloc, peer) {
+) -> Result<Visiting, AllocError> {
+    match Socket::new(alloc, Gated::new(peer, shared.clone()?)) {
         Ok(socket) => Ok(Visited::new(alloc, socket, visit, shared.clone()?)),
         Err(_) => Err(AllocError),
     }

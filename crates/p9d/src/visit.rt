@@ -3,6 +3,7 @@
 ghost use Rattle.std.specs.Io.{ReadsAtMost, WritesAtMost};
 
 use crate::door::Origin;
+use crate::gate::Gate;
 use crate::journal::{Journal, Level};
 use crate::watch::{Attach, Seen, Watch};
 use byteorder::{ByteOrder, LittleEndian};
@@ -20,10 +21,11 @@ const RATTACH: u8 = 105;
 // The most attaches of a client that wait for their reply and are told of.
 const ASKED_MAX: usize = 64;
 
-/// What all clients share: the seconds since 1970, and the journal.
+/// What all clients share: the seconds since 1970, the gate of their replies, and the journal.
 #[derive(Drop)]
 pub(crate) struct Shared {
     pub now: Cell<u64>,
+    pub gate: Gate,
     journal: RefCell<Journal>,
 }
 
@@ -32,6 +34,7 @@ impl Shared {
     pub fn new(journal: Journal) -> Shared {
         Shared {
             now: Cell::new(0),
+            gate: Gate::new(),
             journal: RefCell::new(journal),
         }
     }
@@ -90,6 +93,9 @@ pub(crate) struct Visit {
 }
 
 /// A client's stream that tells what happens on it. Where the client is late, it fails.
+///
+/// While the gate is closed, a reply that no other one follows at once isn't taken, so a client has one
+/// pending as long as others are kept below.
 #[derive(Drop)]
 pub(crate) struct Visited<S> {
     stream: S,
@@ -265,6 +271,9 @@ impl<S: Stream> Stream for Visited<S> {
     fn send(&mut self, bytes: &[u8], more: bool) -> io::Result<usize> {
         if self.notes.visit.is_late.get() {
             return Err(io::Error::from(ErrorKind::TimedOut));
+        }
+        if !more && !self.notes.shared.gate.is_open() {
+            return Err(io::Error::from(ErrorKind::WouldBlock));
         }
         self.notes.note_reply(bytes);
         let written = self.stream.send(bytes, more);

@@ -1,12 +1,12 @@
-//! The folder in which changes are kept: who has it, and which export it belongs to.
+//! A folder that a process has, and which export it belongs to.
 
-use crate::PROGRAM;
+use crate::reading::{place_in, read_in};
 use p9_files::{NewFile, OUTPUT_MODE};
-use p9_shell::Failure;
+use p9_shell::{Failure, Program};
 use p9_shown::AsShown;
 use std::alloc::AllocError;
 use std::fs::{self, DirBuilder, File, OpenOptions, TryLockError};
-use std::io::{self, ErrorKind};
+use std::io::{self, Error, ErrorKind};
 use std::os::unix::fs::{DirBuilderExt, OpenOptionsExt};
 
 // What is hidden from clients is kept there, so nobody else may read it.
@@ -16,28 +16,33 @@ const FOLDER_MODE: u32 = 0o700;
 const LOCK: &str = "lock";
 
 /// The file with the export.
-pub(crate) const EXPORT: &str = "export";
+pub const EXPORT: &str = "export";
+
+/// The file with the changes.
+pub const JOURNAL: &str = "journal";
 
 /// A folder that no other process has.
 #[derive(Drop)]
-pub(crate) struct Folder {
+pub struct Folder {
+    program: Program,
     path: String,
     // It is locked while it is open.
     _lock: File,
 }
 
 impl Folder {
-    /// Takes a folder, which is made where it is missing.
-    pub fn take(rt: &HostRuntime, path: &str) -> Result<Folder, Failure> {
-        PROGRAM.had(rt, path, make(rt, path))?;
-        match PROGRAM.had(rt, path, lock(rt, path))? {
+    /// Takes a folder, which is made where it is missing. That another process has it is reported.
+    pub fn take(rt: &HostRuntime, program: Program, path: &str) -> Result<Folder, Failure> {
+        program.had(rt, path, make(rt, path))?;
+        match program.had(rt, path, lock(rt, path))? {
             Some(lock) => Ok(Folder {
+                program,
                 path: String::from_str(rt.alloc(), path)?,
                 _lock: lock,
             }),
             None => {
                 let why = "another process has this folder";
-                Err(PROGRAM.refuse(rt, path, &why, Failure::Refused))
+                Err(program.refuse(rt, path, &why, Failure::Refused))
             }
         }
     }
@@ -47,16 +52,30 @@ impl Folder {
         self.path.as_str()
     }
 
-    /// Makes this export its own, where it has none. Another one is refused.
+    /// Makes this export, which is in a file, its own, where it has none. Another one is refused.
     pub fn belong_to(&self, rt: &HostRuntime, file: &str, export: &[u8]) -> Result<(), Failure> {
         let place = place_in(rt, self.path(), EXPORT)?;
-        match PROGRAM.had(rt, place.as_str(), read_in(rt, self.path(), EXPORT))? {
+        let read = read_in(rt, self.path(), EXPORT);
+        match self.program.had(rt, place.as_str(), read)? {
             None => {
                 let put = self.put(rt, EXPORT, export);
-                PROGRAM.had(rt, place.as_str(), put)
+                self.program.had(rt, place.as_str(), put)
             }
             Some(own) if own.as_slice() == export => Ok(()),
-            Some(_) => Err(refuse_other(rt, place.as_str(), file)),
+            Some(_) => Err(self.refuse_other(rt, place.as_str(), file)),
+        }
+    }
+
+    // Reports that it belongs to another export.
+    fn refuse_other(&self, rt: &HostRuntime, own: &str, file: &str) -> Failure {
+        match format!(in rt.alloc();
+            "the folder keeps the changes of another export: {}",
+            AsShown(own)
+        ) {
+            Ok(why) => self
+                .program
+                .refuse(rt, file, &why.as_str(), Failure::Refused),
+            Err(AllocError) => Failure::NoMemory,
         }
     }
 
@@ -82,21 +101,6 @@ impl Folder {
     }
 }
 
-// The path of a file in a folder.
-fn place_in(rt: &HostRuntime, folder: &str, name: &str) -> Result<String, AllocError> {
-    format!(in rt.alloc(); "{folder}/{name}")
-}
-
-/// What a file in a folder has, if it is there.
-pub(crate) fn read_in(rt: &HostRuntime, folder: &str, name: &str) -> io::Result<Option<Vec<u8>>> {
-    let place = place_in(rt, folder, name)?;
-    match fs::read(rt, place.as_str()) {
-        Ok(bytes) => Ok(Some(bytes)),
-        Err(error) if error.kind() == ErrorKind::NotFound => Ok(None),
-        Err(error) => Err(error),
-    }
-}
-
 // Makes a folder, unless it is there.
 fn make(rt: &HostRuntime, path: &str) -> io::Result<()> {
     let mut builder = DirBuilder::new();
@@ -110,9 +114,7 @@ fn make(rt: &HostRuntime, path: &str) -> io::Result<()> {
 // Locks a folder, unless another process has it.
 fn lock(rt: &HostRuntime, path: &str) -> io::Result<Option<File>> {
     let place = place_in(rt, path, LOCK)?;
-    let mut options = OpenOptions::new();
-    options.write(true).create(true).mode(OUTPUT_MODE);
-    let file = options.open(rt, place.as_str())?;
+    let file = open_lock(rt, place.as_str())?;
     match file.try_lock() {
         Ok(()) => Ok(Some(file)),
         Err(TryLockError::WouldBlock) => Ok(None),
@@ -120,13 +122,18 @@ fn lock(rt: &HostRuntime, path: &str) -> io::Result<Option<File>> {
     }
 }
 
-// Reports that a folder belongs to another export.
-fn refuse_other(rt: &HostRuntime, own: &str, file: &str) -> Failure {
-    match format!(in rt.alloc();
-        "the folder keeps the changes of another export: {}",
-        AsShown(own)
-    ) {
-        Ok(why) => PROGRAM.refuse(rt, file, &why.as_str(), Failure::Refused),
-        Err(AllocError) => Failure::NoMemory,
+// Opens the file that is locked, which is made where it is missing. A pipe that is opened to be read and
+// written is not waited for.
+fn open_lock(rt: &HostRuntime, place: &str) -> io::Result<File> {
+    let mut options = OpenOptions::new();
+    options
+        .read(true)
+        .write(true)
+        .create(true)
+        .mode(OUTPUT_MODE);
+    let file = options.open(rt, place)?;
+    if !file.metadata()?.is_file() {
+        return Err(Error::other("its lock is not a file"));
     }
+    Ok(file)
 }

@@ -1,10 +1,11 @@
 //! How the last server that wrote a folder ended: whether the machine has gone on since.
 
-use crate::folder::{Folder, read_in};
+use crate::folder::Folder;
+use crate::reading::read_in;
 use p9_log::Crash;
 use std::{fs, io};
 
-/// Where the system names its start, which no other start has.
+// Where the system names its start, which no other start has.
 const START: &str = "/proc/sys/kernel/random/boot_id";
 
 // The file in which the start is kept in which a folder was written.
@@ -12,7 +13,7 @@ const BOOT: &str = "boot";
 
 /// How the last server that wrote a folder ended. Where that isn't known, the machine has stopped:
 /// then less counts.
-pub(crate) fn last_crash(rt: &HostRuntime, folder: &str) -> Crash {
+pub fn last_crash(rt: &HostRuntime, folder: &str) -> Crash {
     let then = noted_start(rt, folder);
     let now = this_start(rt);
     if !now.is_empty() && then.as_slice() == now.as_slice() {
@@ -39,11 +40,11 @@ fn this_start(rt: &HostRuntime) -> Vec<u8> {
 }
 
 /// Keeps that a folder is written in this start of the machine.
-pub(crate) fn note_start(rt: &HostRuntime, folder: &Folder) -> io::Result<()> {
+pub fn note_start(rt: &HostRuntime, folder: &Folder) -> io::Result<()> {
     folder.put(rt, BOOT, this_start(rt).as_slice())
 }
 
 /// Makes a folder be read as if the machine had stopped: what was written and not synced is in doubt.
-pub(crate) fn forget_start(rt: &HostRuntime, folder: &Folder) -> io::Result<()> {
+pub fn forget_start(rt: &HostRuntime, folder: &Folder) -> io::Result<()> {
     folder.remove(rt, BOOT)
 }
