@@ -12,6 +12,7 @@ complete -c p9_admin -n '__fish_seen_subcommand_from pack' -l leader -x -d 'The 
 complete -c p9_admin -n '__fish_seen_subcommand_from pack' -l user -x -d 'A listed user, who may attach'
 complete -c p9_admin -n '__fish_seen_subcommand_from pack' -l hide -x -d 'A directory to be hidden, whose inside is not packed'
 complete -c p9_admin -n '__fish_seen_subcommand_from pack' -l with-hidden -d 'Packs what is inside hidden directories, too'
+complete -c p9_admin -n '__fish_seen_subcommand_from pack' -l rename -x -d 'A character of names, and what takes its place, as \' =_\''
 complete -c p9_admin -n '__fish_seen_subcommand_from pack' -s o -l output -r -F -d 'The file of the output, which is replaced once all of it is written'
 complete -c p9_admin -n '__fish_seen_subcommand_from pack' -l skip -d 'Exits with 0 where something is left out'
 complete -c p9_admin -n '__fish_seen_subcommand_from pack' -s h -l help -d 'Print help'
@@ -28,3 +29,14 @@ complete -c p9_admin -n __fish_use_subcommand -a tree -d 'Prints the name space 
 complete -c p9_admin -n '__fish_seen_subcommand_from tree' -s h -l help -d 'Print help'
 complete -c p9_admin -n __fish_use_subcommand -a map -d 'Prints the input as a picture, in SVG'
 complete -c p9_admin -n '__fish_seen_subcommand_from map' -s h -l help -d 'Print help'
+complete -c p9_admin -n __fish_use_subcommand -a demo -d 'Makes an example to pack, with the commands that pack and seal it'
+complete -c p9_admin -n '__fish_seen_subcommand_from demo' -s h -l help -d 'Print help'
+complete -c p9_admin -n '__fish_seen_subcommand_from demo' -F
+complete -c p9_admin -n __fish_use_subcommand -a world -d 'Prints what p9d -d keeps as an input for seal, with its present trees and no certificate'
+complete -c p9_admin -n '__fish_seen_subcommand_from world' -s o -l output -r -F -d 'The file of the output, which is replaced once all of it is written'
+complete -c p9_admin -n '__fish_seen_subcommand_from world' -s h -l help -d 'Print help'
+complete -c p9_admin -n '__fish_seen_subcommand_from world' -F
+complete -c p9_admin -n __fish_use_subcommand -a unpack -d 'Writes the trees that p9d -d keeps into a new directory, each in one of its server\'s name'
+complete -c p9_admin -n '__fish_seen_subcommand_from unpack' -s p -l preserve -d 'Gives files their owners and groups too, which only root may'
+complete -c p9_admin -n '__fish_seen_subcommand_from unpack' -s h -l help -d 'Print help'
+complete -c p9_admin -n '__fish_seen_subcommand_from unpack' -F

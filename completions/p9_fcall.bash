@@ -11,7 +11,7 @@ _p9_fcall() {
         exchange)
             mapfile -t COMPREPLY < <(compgen -W "" -- "$word") ;;
         *)
-            mapfile -t COMPREPLY < <(compgen -W "frames exchange" -- "$word") ;;
+            mapfile -t COMPREPLY < <(compgen -W "--version frames exchange" -- "$word") ;;
     esac
 }
 complete -F _p9_fcall p9_fcall

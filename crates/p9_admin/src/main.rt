@@ -1,9 +1,11 @@
-//! The program `p9_admin`: from a directory of the disk to a world, and from an input to a sealed one,
-//! to a verdict in words, to its name space, or to a picture.
+//! The program `p9_admin`: from a directory of the disk to a world, from an input to a sealed one, to a
+//! verdict in words, to its name space, or to a picture, and from what a server keeps to an input or to
+//! directories of the disk. It has an example, too.
 #![tactic(auto)]
 
 mod accounts;
 mod attributes;
+mod demo;
 mod explain;
 mod hide;
 mod map;
@@ -11,22 +13,30 @@ mod node;
 mod output;
 mod owner;
 mod pack;
+mod present;
 mod reason;
+mod rename;
 mod seal;
 mod settings;
 mod sink;
 mod source;
 mod streams;
 mod tree;
+mod unpack;
+mod unpacking;
 mod view;
 mod words;
+mod world;
 
+use crate::demo::run_demo;
 use crate::explain::run_explain;
 use crate::map::run_map;
 use crate::pack::run_pack;
 use crate::seal::run_seal;
+use crate::unpack::run_unpack;
 use crate::view::run_tree;
 use crate::words::SHAPE;
+use crate::world::run_world;
 use clap::ArgMatches;
 use p9_shell::status::DONE;
 use p9_shell::{Failure, Program, exit};
@@ -56,6 +66,9 @@ fn run_command(rt: &HostRuntime, matches: &ArgMatches<'_>) -> Result<u8, Failure
         Some(("explain", options)) => run_explain(rt, options),
         Some(("tree", options)) => run_tree(rt, options),
         Some(("map", _)) => run_map(rt),
+        Some(("demo", options)) => run_demo(rt, options),
+        Some(("world", options)) => run_world(rt, options),
+        Some(("unpack", options)) => run_unpack(rt, options),
         _ => Err(PROGRAM.bad_words(rt)),
     }
 }

@@ -7,6 +7,7 @@ use crate::attributes::{Attributes, attributes_of};
 use crate::hide::{Hide, is_entered, is_hidden};
 use crate::output::Output;
 use crate::reason::Reason;
+use crate::rename::{Rename, is_taken, with_new_names};
 use crate::settings::{Settings, add_user};
 use p9_base::FileFlags;
 use p9_files::Dir;
@@ -25,6 +26,8 @@ use std::io::{self, ErrorKind, Read};
 pub(crate) struct Packing<'s> {
     pub output: Output,
     pub settings: &'s Settings,
+    /// What is renamed.
+    pub renames: &'s [Rename<'s>],
     /// What is to be hidden, each once.
     pub hides: Vec<Hide>,
     /// Whether what is inside a hidden directory is packed too.
@@ -39,8 +42,25 @@ pub(crate) struct Level {
     pub dir: Dir,
     /// Its path on the disk, as it is shown.
     pub disk: String,
-    /// The names of its entries, the next one last.
-    pub names: Vec<String>,
+    /// The names of its entries in the world and on the disk, the next one last.
+    pub names: Vec<(String, String)>,
+    /// The name in the world of the entry before these.
+    pub before: Option<String>,
+}
+
+impl Level {
+    /// Whether a name of the disk was renamed to one that the entry before or after it gets, too.
+    pub fn is_taken(&self, name: &str, disk: &str) -> bool {
+        let before = match &self.before {
+            Some(before) => Some(before.as_str()),
+            None => None,
+        };
+        let after = match self.names.last() {
+            Some((after, _)) => Some(after.as_str()),
+            None => None,
+        };
+        is_taken(name, disk, before, after)
+    }
 }
 
 /// A name of an open directory.
@@ -135,8 +155,13 @@ impl Packing<'_> {
         self.dir_lines(rt, server, names, attributes, disk.as_str())?;
         self.output
             .leave_out_names(rt, disk.as_str(), found.others)?;
-        let names = found.names;
-        Ok(Some(Level { dir, disk, names }))
+        let names = with_new_names(rt.alloc(), self.renames, found.names)?;
+        Ok(Some(Level {
+            dir,
+            disk,
+            names,
+            before: None,
+        }))
     }
 
     // Packs a directory without its entries. The line of the server is before that of its root.

@@ -10,6 +10,7 @@ use crate::node::Packing;
 use crate::output::Output;
 use crate::owner::leader_of;
 use crate::reason::Reason;
+use crate::rename::renames_in;
 use crate::settings::{Settings, settings_asked};
 use crate::source::{Source, hides_in, sources_in};
 use crate::tree::pack_tree;
@@ -56,10 +57,13 @@ fn pack_dirs(
     let sources = sources_in(rt, settings, accounts, options.get_str("name"), dirs)?;
     let values = options.get_strs("hide").unwrap_or(&[]);
     let with_hidden = options.get_flag("with-hidden");
-    let hides = hides_in(rt, values, with_hidden, sources.as_slice())?;
+    let renames = renames_in(rt, options.get_strs("rename").unwrap_or(&[]))?;
+    let renames = renames.as_slice();
+    let hides = hides_in(rt, values, renames, with_hidden, sources.as_slice())?;
     let mut packing = Packing {
         output: Output::open(rt, options.get_str("output"))?,
         settings,
+        renames,
         hides,
         with_hidden,
         groups: Vec::new(rt.alloc()),
@@ -79,6 +83,7 @@ fn end(
     let Packing {
         output,
         settings: _,
+        renames: _,
         hides,
         with_hidden: _,
         groups: _,
@@ -174,7 +179,7 @@ fn push_member(
 ) -> Result<(), Failure> {
     match PlainUser::new(name) {
         Ok(member) => Ok(members.push(member)?),
-        Err(unfit) => output.leave_out(rt, name, Reason::Unfit(unfit)),
+        Err(unfit) => output.leave_out(rt, name, Reason::from(unfit)),
     }
 }
 

@@ -10,6 +10,12 @@ pub(crate) enum Reason {
     /// A world can't have it.
     #[error("{0}")]
     Unfit(Unfit),
+    /// A world can't have its name, which has a blank, a tab or a newline.
+    #[error("a blank, tab or newline in the name, which no line of a world can have; --rename C=TEXT replaces it, as ' =_'")]
+    Blank,
+    /// It was renamed to a name that another entry of the directory gets, too.
+    #[error("another entry of the directory is renamed to the same, or has that name")]
+    SameName,
     /// A link, which is not followed.
     #[error("a link")]
     Link,
@@ -37,4 +43,13 @@ pub(crate) enum Reason {
     /// It is inside of another hidden directory, or has one inside.
     #[error("another --hide is on its path; with --with-hidden both are there")]
     Nested,
+}
+
+impl From<Unfit> for Reason {
+    fn from(unfit: Unfit) -> Reason {
+        match unfit {
+            Unfit::BlankInName => Reason::Blank,
+            unfit => Reason::Unfit(unfit),
+        }
+    }
 }

@@ -34,21 +34,19 @@ impl Sink {
 
     /// Writes bytes after those that are written.
     pub fn write_all(&mut self, rt: &HostRuntime, bytes: &[u8]) -> Result<(), Failure> {
-        let done = match &mut self.file {
-            Some(file) => file.write_all(bytes),
-            None => rt.stdout().write_all(bytes),
-        };
-        PROGRAM.had(rt, self.place.as_str(), done)
+        match &mut self.file {
+            Some(file) => PROGRAM.had(rt, self.place.as_str(), file.write_all(bytes)),
+            None => PROGRAM.had_output(rt, rt.stdout().write_all(bytes)),
+        }
     }
 
     /// Ends what is written: a file takes its place.
     pub fn keep(self, rt: &HostRuntime) -> Result<(), Failure> {
         let Sink { place, file } = self;
-        let done = match file {
-            Some(file) => file.finish(rt, OUTPUT_MODE),
-            None => rt.stdout().flush(),
-        };
-        PROGRAM.had(rt, place.as_str(), done)
+        match file {
+            Some(file) => PROGRAM.had(rt, place.as_str(), file.finish(rt, OUTPUT_MODE)),
+            None => PROGRAM.had_output(rt, rt.stdout().flush()),
+        }
     }
 
     /// Removes a file, so that the one before stays. What is on standard output is there.

@@ -6,12 +6,14 @@ ghost use Rattle.p9_admin.specs.Server.{new_server};
 
 use crate::PROGRAM;
 use crate::attributes::{Attributes, attributes_of};
-use crate::hide::{Hide, hide_in, is_below, is_hidden};
+use crate::hide::{Hide, HideFault, hide_in, is_below, is_hidden};
 use crate::reason::Reason;
+use crate::rename::{Rename, renamed_place};
 use crate::settings::Settings;
-use p9_base::Stop;
+use p9_base::{NoMemory, Stop};
+use p9_clean::elements;
 use p9_files::Dir;
-use p9_pack::{Accounts, PlainName, ServerName};
+use p9_pack::{Accounts, ServerName};
 use p9_shell::Failure;
 use std::alloc::{AllocError, Global};
 use std::fs::{Metadata, symlink_metadata};
@@ -152,14 +154,20 @@ fn why_not_seen(error: io::Error) -> Reason {
 pub(crate) fn hides_in(
     rt: &HostRuntime,
     values: &[&str],
+    renames: &[Rename<'_>],
     with_hidden: bool,
     sources: &[Source],
 ) -> Result<Vec<Hide>, Failure> {
     let servers = servers_of(rt.alloc(), sources)?;
     let mut hides: Vec<Hide> = Vec::new(rt.alloc());
     for value in values {
-        let hide = hide_of(rt, value, servers.as_slice())?;
-        if let Some(reason) = why_not_hidden(rt, &hide, with_hidden, hides.as_slice(), sources) {
+        let hide = hide_of(rt, value, renames, servers.as_slice())?;
+        let names = names_in(rt.alloc(), value)?;
+        let why_not = match why_not_there(rt, &hide.server, names.as_slice(), sources) {
+            None => why_not_beside(&hide, with_hidden, hides.as_slice()),
+            why_not => why_not,
+        };
+        if let Some(reason) = why_not {
             return Err(PROGRAM.refuse_option(rt, "--hide", value, &reason));
         }
         if !is_hidden(hides.as_slice(), &hide.server, hide.path.as_slice()) {
@@ -169,34 +177,53 @@ pub(crate) fn hides_in(
     Ok(hides)
 }
 
-// The directory that a value names. Where it names none that may be hidden, that is reported.
-fn hide_of(rt: &HostRuntime, value: &str, servers: &[ServerName]) -> Result<Hide, Failure> {
-    match hide_in(rt.alloc(), value, servers) {
+// The directory that a value names, with its names renamed. Where it names none that may be hidden,
+// that is reported.
+fn hide_of(
+    rt: &HostRuntime,
+    value: &str,
+    renames: &[Rename<'_>],
+    servers: &[ServerName],
+) -> Result<Hide, Failure> {
+    let place = renamed_place(rt.alloc(), renames, value)?;
+    match hide_in(rt.alloc(), place.as_str(), servers) {
         Ok(hide) => Ok(hide),
+        Err(Stop::Refused(HideFault::Unfit(unfit))) => {
+            Err(PROGRAM.refuse_option(rt, "--hide", value, &Reason::from(unfit)))
+        }
         Err(Stop::Refused(fault)) => Err(PROGRAM.refuse_option(rt, "--hide", value, &fault)),
         Err(Stop::NoMemory) => Err(Failure::NoMemory),
     }
 }
 
-// Why a directory can't be hidden beside others, where it can't.
-fn why_not_hidden(
+// The names of the path of a value on the disk, from the directory of its server on.
+fn names_in(alloc: Global, value: &str) -> Result<Vec<&str>, NoMemory> {
+    match value.split_once('/') {
+        Some((_, path)) => elements(alloc, path),
+        None => Ok(Vec::new(alloc)),
+    }
+}
+
+// Why there is no directory of these names on the disk for a server, where there is none.
+fn why_not_there(
     rt: &HostRuntime,
-    hide: &Hide,
-    with_hidden: bool,
-    hides: &[Hide],
+    server: &ServerName,
+    names: &[&str],
     sources: &[Source],
 ) -> Option<Reason> {
     for source in sources {
-        if source.server == hide.server {
-            if let Some(reason) = why_no_path(rt, &source.dir, hide.path.as_slice()) {
+        if source.server == *server {
+            if let Some(reason) = why_no_path(rt, &source.dir, names) {
                 return Some(reason);
             }
         }
     }
-    if !with_hidden && is_nested(hide, hides) {
-        return Some(Reason::Nested);
-    }
     None
+}
+
+// Why a directory can't be hidden beside others, where it can't.
+fn why_not_beside(hide: &Hide, with_hidden: bool, hides: &[Hide]) -> Option<Reason> {
+    (!with_hidden && is_nested(hide, hides)).then_some(Reason::Nested)
 }
 
 // Whether a directory is below one of others, or one of them is below it.
@@ -207,9 +234,9 @@ fn is_nested(hide: &Hide, hides: &[Hide]) -> bool {
 }
 
 // Why no directory of these names is below a directory, where there is none. No link is followed.
-fn why_no_path(rt: &HostRuntime, dir: &Dir, path: &[PlainName]) -> Option<Reason> {
+fn why_no_path(rt: &HostRuntime, dir: &Dir, path: &[&str]) -> Option<Reason> {
     let (name, names) = path.split_first()?;
-    let seen = match dir.look(rt, name.as_str()) {
+    let seen = match dir.look(rt, name) {
         Ok(seen) => seen,
         Err(error) => return Some(why_not_seen(error)),
     };
@@ -219,7 +246,7 @@ fn why_no_path(rt: &HostRuntime, dir: &Dir, path: &[PlainName]) -> Option<Reason
     if names.is_empty() {
         return None;
     }
-    match dir.open_dir(name.as_str()) {
+    match dir.open_dir(name) {
         Ok(below) => why_no_path(rt, &below, names),
         Err(error) => Some(Reason::System(error)),
     }

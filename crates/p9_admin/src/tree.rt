@@ -58,40 +58,49 @@ fn pack_next(
     let Some(level) = levels.last_mut() else {
         return Ok(());
     };
-    let Some(name) = level.names.pop() else {
+    let Some((name, on_disk)) = level.names.pop() else {
         let _ = levels.pop();
         let _ = names.pop();
         return Ok(());
     };
-    let disk = joined(rt, level.disk.as_str(), name.as_str())?;
+    let disk = joined(rt, level.disk.as_str(), on_disk.as_str())?;
+    if level.is_taken(name.as_str(), on_disk.as_str()) {
+        packing
+            .output
+            .leave_out(rt, disk.as_str(), Reason::SameName)?;
+        level.before = Some(name);
+        return Ok(());
+    }
     let entry = Entry {
         dir: &level.dir,
-        name: name.as_str(),
+        name: on_disk.as_str(),
         disk: disk.as_str(),
     };
-    let below = pack_entry(rt, packing, accounts, server, names, entry)?;
+    let below = pack_entry(rt, packing, accounts, server, names, name.as_str(), entry)?;
+    level.before = Some(name);
     if let Some(below) = below {
         levels.push(below)?;
     }
     Ok(())
 }
 
-// Packs an entry of the directory of these names, which are then those of a directory that is
-// returned.
+// Packs an entry of the directory of these names under a name, after which they are those of a
+// directory that is returned.
 fn pack_entry(
     rt: &HostRuntime,
     packing: &mut Packing<'_>,
     accounts: &Accounts<'_, Global>,
     server: &ServerName,
     names: &mut Vec<PlainName>,
+    name: &str,
     entry: Entry<'_>,
 ) -> Result<Option<Level>, Failure> {
-    match PlainName::new(entry.name) {
+    match PlainName::new(name) {
         Ok(name) => names.push(name)?,
         Err(unfit) => {
             packing
                 .output
-                .leave_out(rt, entry.disk, Reason::Unfit(unfit))?;
+                .leave_out(rt, entry.disk, Reason::from(unfit))?;
             return Ok(None);
         }
     }

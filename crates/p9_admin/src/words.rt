@@ -20,8 +20,17 @@ const OUTPUT: ArgShape = ArgShape {
     is_needed: false,
 };
 
+// The folder in which `p9d -d` keeps changes.
+const FOLDER: ArgShape = ArgShape {
+    name: "folder",
+    given: Given::Word,
+    value: Value::Text("DIR"),
+    help: "The folder of p9d -d, of which nothing is changed",
+    is_needed: true,
+};
+
 // The options of `pack`, and its directories.
-const PACK: [ArgShape; 12] = [
+const PACK: [ArgShape; 13] = [
     ArgShape {
         name: "name",
         given: Given::Name,
@@ -85,6 +94,13 @@ const PACK: [ArgShape; 12] = [
         help: "Packs what is inside hidden directories, too",
         is_needed: false,
     },
+    ArgShape {
+        name: "rename",
+        given: Given::Name,
+        value: Value::Texts("C=TEXT"),
+        help: "A character of names, and what takes its place, as ' =_'",
+        is_needed: false,
+    },
     OUTPUT,
     ArgShape {
         name: "skip",
@@ -102,7 +118,7 @@ const PACK: [ArgShape; 12] = [
     },
 ];
 
-const COMMANDS: [CommandShape; 5] = [
+const COMMANDS: [CommandShape; 8] = [
     CommandShape {
         name: "pack",
         about: "Prints the text of a world of directories of the disk",
@@ -143,6 +159,43 @@ const COMMANDS: [CommandShape; 5] = [
         name: "map",
         about: "Prints the input as a picture, in SVG",
         args: &[],
+    },
+    CommandShape {
+        name: "demo",
+        about: "Makes an example to pack, with the commands that pack and seal it",
+        args: &[ArgShape {
+            name: "dir",
+            given: Given::Word,
+            value: Value::Text("DIR"),
+            help: "The directory of the example, which must not be there",
+            is_needed: true,
+        }],
+    },
+    CommandShape {
+        name: "world",
+        about: "Prints what p9d -d keeps as an input for seal, with its present trees and no certificate",
+        args: &[OUTPUT, FOLDER],
+    },
+    CommandShape {
+        name: "unpack",
+        about: "Writes the trees that p9d -d keeps into a new directory, each in one of its server's name",
+        args: &[
+            ArgShape {
+                name: "preserve",
+                given: Given::NameOr('p'),
+                value: Value::None,
+                help: "Gives files their owners and groups too, which only root may",
+                is_needed: false,
+            },
+            FOLDER,
+            ArgShape {
+                name: "local",
+                given: Given::Word,
+                value: Value::Text("LOCAL"),
+                help: "The directory that is made for them",
+                is_needed: true,
+            },
+        ],
     },
 ];
 

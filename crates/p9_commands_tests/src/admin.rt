@@ -4,6 +4,7 @@
 mod accounts;
 mod lines;
 mod pictures;
+mod present;
 mod sealed_again;
 mod shown_again;
 mod unfit;

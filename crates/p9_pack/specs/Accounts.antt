@@ -19,6 +19,16 @@ abbrev pub group_name : ℕ → AccountRows → Option (List ℕ)
 group_name gid accounts =
     option_map (λ group. group.name) (find (λ group. group.gid == gid) accounts.groups)
 
+-- the number of the first user of a name
+abbrev pub user_number : List ℕ → AccountRows → Option ℕ
+user_number name accounts =
+    option_map (λ user. user.uid) (find (λ user. bytes_eq user.name name) accounts.users)
+
+-- the number of the first group of a name
+abbrev pub group_number : List ℕ → AccountRows → Option ℕ
+group_number name accounts =
+    option_map (λ group. group.gid) (find (λ group. bytes_eq group.name name) accounts.groups)
+
 -- whether a user has the name
 abbrev pub has_user : List ℕ → AccountRows → Bool
 has_user name accounts = list_any (λ user. bytes_eq user.name name) accounts.users

@@ -4,7 +4,8 @@ ghost use Rattle.std.specs.Prelude.{◌≡◌, ◌==◌, ◌++◌, IfOk, OnOk, f
 ghost use Rattle.std.specs.List.{list_any};
 ghost use Rattle.std.specs.Str.{bytes_eq};
 ghost use Rattle.p9_pack.specs.Account.{group_row, user_row, users_of};
-ghost use Rattle.p9_pack.specs.Accounts.{accounts_of, group_name, has_user, members_of, user_name};
+ghost use Rattle.p9_pack.specs.Accounts.{accounts_of, group_name, group_number, has_user, members_of};
+ghost use Rattle.p9_pack.specs.Accounts.{user_name, user_number};
 
 use crate::account::{GroupAccount, UserAccount, group_accounts, listed, user_accounts};
 use crate::once::each_once;
@@ -61,6 +62,22 @@ impl<'a, A: Allocator + Copy> Accounts<'a, A> {
         Some(group.name)
     }
 
+    /// The number of the first user of this name.
+    pub fn user_number(&self, name: &str) -> Option<u32>
+        ensures { result ≡ user_number name.now self.now }
+    {
+        let user = user_named(name, self.users.as_slice())?;
+        Some(user.uid)
+    }
+
+    /// The number of the first group of this name.
+    pub fn group_number(&self, name: &str) -> Option<u32>
+        ensures { result ≡ group_number name.now self.now }
+    {
+        let group = group_named(name, self.groups.as_slice())?;
+        Some(group.gid)
+    }
+
     /// Whether a user has this name.
     pub fn has_user(&self, name: &str) -> bool
         ensures { result ≡ has_user name.now self.now }
@@ -91,6 +108,19 @@ fn user_numbered<'a>(uid: u32, users: &[UserAccount<'a>]) -> Option<UserAccount<
 {
     for user in users {
         if user.uid == uid {
+            return Some(*user);
+        }
+    }
+    None
+}
+
+// The first user of this name.
+fn user_named<'a>(name: &str, users: &[UserAccount<'a>]) -> Option<UserAccount<'a>>
+    ensures { option_map user_row result
+        ≡ find (λ user. bytes_eq user.name name.now) (map user_row users.now) }
+{
+    for user in users {
+        if user.name == name {
             return Some(*user);
         }
     }

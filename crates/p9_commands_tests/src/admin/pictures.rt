@@ -169,10 +169,14 @@ const WHOLE: [(&str, &str, &str); 2] = [
 <text x=\"24\" y=\"74\" class=\"name\">certificate: none</text>
 <path class=\"entry\" d=\"M89 120H89V143H89V143H103\"/>
 <path class=\"member\" d=\"M151 102H201V142H201V142H167\"/>
+<g><title>a:/</title>
 <rect class=\"plain\" x=\"79\" y=\"98\" width=\"72\" height=\"22\"/>
 <text x=\"89\" y=\"113\" class=\"name\">a:/</text>
+</g>
+<g><title>a:/b</title>
 <rect class=\"reached\" x=\"103\" y=\"132\" width=\"64\" height=\"22\"/>
 <text x=\"113\" y=\"147\" class=\"name\">b/</text>
+</g>
 <rect class=\"reached\" x=\"24\" y=\"174\" width=\"40\" height=\"16\"/>
 <text x=\"76\" y=\"187\" class=\"name\">clients can reach it, as the certificate says</text>
 <rect class=\"hidden\" x=\"24\" y=\"198\" width=\"40\" height=\"16\"/>
@@ -193,19 +197,25 @@ const WHOLE: [(&str, &str, &str); 2] = [
 <text x=\"24\" y=\"74\" class=\"name\">certificate: none</text>
 <path class=\"entry\" d=\"M102 154H102V177H102V177H116\"/>
 <path class=\"entry walk\" d=\"M78 120H78V143H78V143H92\"/>
+<g><title>a:/</title>
 <rect class=\"plain walk\" x=\"68\" y=\"98\" width=\"232\" height=\"22\"/>
 <text x=\"78\" y=\"113\" class=\"name\">a:/</text>
 <text x=\"110\" y=\"113\" class=\"note\">u: others may search</text>
 <circle class=\"badge\" cx=\"68\" cy=\"98\" r=\"8\"/>
 <text class=\"step\" x=\"68\" y=\"102\">1</text>
-<rect class=\"hidden walk\" x=\"92\" y=\"132\" width=\"256\" height=\"22\"/>
-<path class=\"lock\" d=\"M330 141h10v8h-10zm2 0v-3a3 3 0 0 1 6 0v3\"/>
+</g>
+<g><title>a:/v</title>
+<rect class=\"hidden walk\" x=\"92\" y=\"132\" width=\"160\" height=\"22\"/>
+<path class=\"lock\" d=\"M234 141h10v8h-10zm2 0v-3a3 3 0 0 1 6 0v3\"/>
 <text x=\"102\" y=\"147\" class=\"name\">v/</text>
-<text x=\"126\" y=\"147\" class=\"note\">a listed user may use it</text>
+<text x=\"126\" y=\"147\" class=\"note\">u may use it</text>
 <circle class=\"badge\" cx=\"92\" cy=\"132\" r=\"8\"/>
 <text class=\"step\" x=\"92\" y=\"136\">2</text>
+</g>
+<g><title>a:/v/k</title>
 <rect class=\"inside\" x=\"116\" y=\"166\" width=\"56\" height=\"22\" rx=\"9\"/>
 <text x=\"126\" y=\"181\" class=\"name\">k</text>
+</g>
 <rect class=\"reached\" x=\"24\" y=\"208\" width=\"40\" height=\"16\"/>
 <text x=\"76\" y=\"221\" class=\"name\">clients can reach it, as the certificate says</text>
 <rect class=\"hidden\" x=\"24\" y=\"232\" width=\"40\" height=\"16\"/>

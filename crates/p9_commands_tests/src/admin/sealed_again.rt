@@ -75,8 +75,8 @@ cert 1
 const EXPLAINED: &str = "claim: glenda neither sees nor changes what is inside main:/vault
 yes: clients can reach 1 directory, and nothing hidden
 certificate: not accepted: a walk begins at main:/
-  main:/ (mine:2, 755 sys sys) is no row: others may read and search it
-hint: mine:4: ann is no listed user
+  main:/ (mine:2, world:1, 755 sys sys) is no row: others may read and search it
+hint: mine:4, world:3: ann is no listed user
 ";
 
 // An input that leaks, and what is said of it.
@@ -85,16 +85,16 @@ const LEAK: &str = "%% world\nserver a\ndir /v 755 u u\nuser u\nhide a /v\n%% ns
 const LEAK_EXPLAINED: &str = "claim: u neither sees nor changes what is inside a:/v
 no: the inside of a:/v is within reach
   u attaches at a:/
-  u passes a:/   (mine:2, 755 sys sys: others may search)
-  a:/v           (mine:3, 755 u u) is open: others may read, write and search it
+  u passes a:/   (mine:2, world:1, 755 sys sys: others may search)
+  a:/v           (mine:3, world:2, 755 u u) is open: others may read, write and search it
 mend: give it to an owner and a group leader who is not listed, and no bits to others or to groups with listed members
 certificate: none
-hint: mine:7: this failed, and did nothing: file does not exist
+hint: mine:7, ns:1: this failed, and did nothing: file does not exist
 ";
 
 // What is said of the vault with its bad certificate.
 const VAULT_EXPLAINED: &str = "refused: cert:1: bad line
-mine:10: bad line: 'cert 1' is to be the first
+mine:10, cert:1: bad line: 'cert 1' is to be the first
 ";
 
 // Inputs, and what is said of them.
