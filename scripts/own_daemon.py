@@ -124,9 +124,10 @@ class Server:
         return status
 
 
-def make_export(folder: str) -> None:
-    """A sealed export of three users, with a hidden directory."""
+def make_export(folder: str, more: str = "") -> None:
+    """A sealed export of three users, with a hidden directory, and more lines of its world."""
     world = ["%% world", "server main", "dir / 755 sys sys", "dir /vault 700 root root", "file /vault/key 600 root root 01"]
+    world += more.splitlines()
     world += [f"user {user}" for user in USERS] + ["hide main /vault"]
     with open(os.path.join(folder, "world"), "w", encoding="utf-8") as file:
         file.write("\n".join(world) + "\n")

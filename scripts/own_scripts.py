@@ -11,7 +11,10 @@ from pathlib import Path
 
 REPOSITORY = Path(__file__).resolve().parent.parent
 # The scripts with their words, and the seconds that each may take.
-SCRIPTS = ("trusted --check", "program", "pack", "pages", "pictures", "completions --check", "misled", "hostile-server", "daemon", "kept")
+SCRIPTS = (
+    "trusted --check", "program", "pack", "pages", "pictures", "completions --check", "misled", "hostile-server", "daemon", "kept",
+    "unpack",
+)
 SCRIPT_LIMIT = 900
 COUNTS = re.compile(r"(\d+) passed, (\d+) failed")
 
