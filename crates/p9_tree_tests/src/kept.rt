@@ -2,9 +2,8 @@
 
 use crate::calls::{make_all, two_servers};
 use p9_index::IndexTree;
-use p9_tree::{Forest, ForestChange, Journal, Unsettled};
+use p9_tree::{Forest, ForestChange, Journal, Tree, Unsettled};
 use std::alloc::Global;
-use std::process::Abort;
 
 // A journal that keeps nothing, and counts what it is asked for.
 #[derive(Drop)]
@@ -56,26 +55,38 @@ const CHANGES: &str = "\
 1 change 4 h - - - -
 1 drop 4";
 
-fn tells(rt: &impl Abort, printing: Global, forest: &mut Forest<IndexTree<Global, Counts>>) {
-    assert!(rt; forest.journal().is_none());
-    assert!(rt; matches!(forest.settle(), Err(Unsettled::NoJournal)));
-    assert!(rt; matches!(forest.sync(), Err(Unsettled::NoJournal)));
-    forest.keep(Counts {
-        notes: 0,
-        settles: 0,
-        syncs: 0,
-    });
-    make_all(rt, printing, forest, CHANGES);
-    assert!(rt; matches!(forest.settle(), Err(Unsettled::Missing)));
-    assert!(rt; matches!(forest.sync(), Err(Unsettled::Failed)));
-    assert!(rt; matches!(forest.sync(), Err(Unsettled::Failed)));
-    let counts = forest.journal().expect(rt, "a journal");
-    assert!(rt; (counts.notes, counts.settles, counts.syncs) == (6, 1, 2));
+// Whether a forest has no journal, and so nothing is settled or synced.
+fn has_none<T: Tree>(forest: &mut Forest<T>) -> bool {
+    forest.journal().is_none()
+        && matches!(forest.settle(), Err(Unsettled::NoJournal))
+        && matches!(forest.sync(), Err(Unsettled::NoJournal))
+}
+
+// Whether a journal is asked to settle once, and to sync twice.
+fn asks<T: Tree>(forest: &mut Forest<T>) -> bool {
+    matches!(forest.settle(), Err(Unsettled::Missing))
+        && matches!(forest.sync(), Err(Unsettled::Failed))
+        && matches!(forest.sync(), Err(Unsettled::Failed))
+}
+
+// What a forest's journal has counted: changes, settles and syncs.
+fn counted(forest: &Forest<IndexTree<Global, Counts>>) -> Option<(u32, u32, u32)> {
+    let counts = forest.journal()?;
+    Some((counts.notes, counts.settles, counts.syncs))
 }
 
 #[test]
 fn changes_are_noted(rt: HostRuntime) {
     let mut forest = two_servers(&rt, rt.alloc());
-    tells(&rt, rt.alloc(), &mut forest);
+    let had_none = has_none(&mut forest);
+    forest.keep(Counts {
+        notes: 0,
+        settles: 0,
+        syncs: 0,
+    });
+    make_all(&rt, rt.alloc(), &mut forest, CHANGES);
+    let is_asked = asks(&mut forest);
+    let counted = counted(&forest);
     drop(forest);
+    assert!(rt; had_none && is_asked && counted == Some((6, 1, 2)));
 }
