@@ -18,20 +18,14 @@ use Rattle.p9_space.specs.Walk.{arrived, child_among, step_among, step_down, ste
 use Rattle.p9_space.specs.declared.row.Member.{Member}
 use Rattle.p9_space.specs.declared.trail.Step.{Step}
 use Rattle.p9_space.specs.declared.trail.Step.TheVariants.{To}
-use Rattle.p9_wire.specs.Message.{RMessage, TMessage, Tattach, Tauth, Tclunk, Tcreate, Tflush, Topen}
-use Rattle.p9_wire.specs.Message.{Tread, Tremove, Tstat, Tversion, Twalk, Twrite, Twstat}
 use Rattle.p9_step.specs.Answer.{Answer, Outcome}
+use Rattle.p9_wire.specs.Message.{RMessage}
 use Rattle.p9_step.specs.Attach.{attach_answer, attach_walk, attached_at}
-use Rattle.p9_step.specs.Memory.{is_beyond_session, is_done, is_of_file, may_run_out}
-use Rattle.p9_step.specs.Step.{message_answer}
-use Rattle.p9_step.specs.Walk.{walk_answer}
-use Rattle.p9_step.specs.State.{Session, SessionRow, Setting, who_of}
+use Rattle.p9_step.specs.Memory.{is_beyond_session, is_done, is_of_file}
+use Rattle.p9_step.specs.State.{Session, Setting, who_of}
 use Rattle.p9_requests.specs.Answers.{Answers, IsRefusal}
-use Rattle.p9_requests.specs.declared.room.Reserved.{Reserved}
-use Rattle.p9_requests.specs.declared.room.Reserved.TheVariants.{Attach, Nothing, Walk}
-use Rattle.p9_requests.specs.Reserved.{attach_rest, attach_tested, attach_with_memory, before_of}
-use Rattle.p9_requests.specs.Reserved.{may_fail_later}
-use Rattle.p9_requests.specs.Reserved.{message_with_memory, names_of, room_of, with_memory}
+use Rattle.p9_requests.specs.Reserved.{attach_rest, attach_tested, attach_with_memory}
+use Rattle.p9_requests.specs.Reserved.{with_memory}
 
 -- where a result is a fault, that tells of a file
 abbrev pub IfErr : {X : Type 0} → Result X Fault → Type 0
@@ -248,7 +242,7 @@ module _ (forest forest' : List Server) (session new : Session) (result : Result
         did.2,
       )
 
-  attach-or : (reserved : Bool) (setting : Setting) (fid afid : ℕ) (uname aname : List ℕ)
+  pub attach-or : (reserved : Bool) (setting : Setting) (fid afid : ℕ) (uname aname : List ℕ)
       → Answers (attach_with_memory reserved setting forest session fid afid uname aname) false forest
       forest' session new result
       → Answers (attach_answer setting forest session fid afid uname aname)
@@ -274,39 +268,8 @@ module _ (forest forest' : List Server) (session new : Session) (result : Result
       go (Err given) (Ok reply) did = did
       go (Err given) (Err fault) did = (weaker (Err given) false fault did.0, did.1, did.2)
 
-  walk-or : (reserved : Bool) (answer : Answer)
+  pub walk-or : (reserved : Bool) (answer : Answer)
       → Answers (with_memory reserved answer) false forest forest' session new result
       → Answers answer (is_done answer) forest forest' session new result
   walk-or true answer did = weaker-all answer (is_done answer) did
   walk-or false answer did = without answer did
-
-  pub message-or : {A : Type 0} (reserved : Reserved A) (setting : Setting)
-      (sessions : List SessionRow) (clock : ℕ) (m : TMessage)
-      → Answers (message_with_memory reserved setting forest sessions session clock m)
-      (may_fail_later m (message_with_memory reserved setting forest sessions session clock m))
-      forest forest' session new result
-      → Answers (message_answer setting forest sessions session clock m)
-      (may_run_out m (message_answer setting forest sessions session clock m)) forest forest' session
-      new result
-  message-or reserved setting sessions clock (Tversion msize version) did = did
-  message-or reserved setting sessions clock (Tauth afid uname aname) did = did
-  message-or reserved setting sessions clock (Tattach fid afid uname aname) did =
-      attach-or (is_some (names_of reserved)) setting fid afid uname aname did
-  message-or reserved setting sessions clock (Tflush oldtag) did = did
-  message-or reserved setting sessions clock (Twalk fid newfid names) did =
-      walk-or (is_some (room_of reserved)) (walk_answer setting forest session fid newfid names) did
-  message-or reserved setting sessions clock (Topen fid mode) did = did
-  message-or reserved setting sessions clock (Tcreate fid name perm mode) did = did
-  message-or reserved setting sessions clock (Tread fid offset count) did = did
-  message-or reserved setting sessions clock (Twrite fid offset bytes) did = did
-  message-or reserved setting sessions clock (Tclunk fid) did = did
-  message-or reserved setting sessions clock (Tremove fid) did = did
-  message-or reserved setting sessions clock (Tstat fid) did = did
-  message-or reserved setting sessions clock (Twstat fid stat) did = did
-
--- nothing is reserved for a remove
-pub before-remove : {A : Type 0} (fid : ℕ) (reserved : Reserved A) (session : Session)
-    → before_of (Tremove fid) reserved session ≡ session
-before-remove fid Nothing session = refl
-before-remove fid (Attach names) session = refl
-before-remove fid (Walk room) session = refl

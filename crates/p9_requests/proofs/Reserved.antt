@@ -18,8 +18,8 @@ use Rattle.p9_fids.proofs.Fids.{can_put}
 use Rattle.p9_fids.proofs.Places.{lookup-added, lookup-beside, set-added}
 use Rattle.p9_step.specs.State.{Session}
 use Rattle.p9_step.specs.Walk.{moved, newfid_fault}
-use Rattle.p9_requests.specs.declared.room.Room.{Room}
-use Rattle.p9_requests.specs.declared.room.Room.TheVariants.{Added, Channels}
+use Rattle.p9_requests.specs.declared.walk.Room.{Room}
+use Rattle.p9_requests.specs.declared.walk.Room.TheVariants.{Added, Channels}
 use Rattle.p9_requests.specs.Reserved.{IsWalkRoom, unreserved}
 
 -- a fid that is at a trail, and not open

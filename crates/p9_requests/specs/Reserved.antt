@@ -13,20 +13,13 @@ use Rattle.p9_space.specs.Channel.{Fits}
 use Rattle.p9_space.specs.Table.{MountRow}
 use Rattle.p9_space.specs.Trail.{here, places_max}
 use Rattle.p9_fids.specs.Fid.{Fid, fid_at, nofid, put_fault, with_fid}
-use Rattle.p9_step.specs.State.{Session, SessionRow, Setting}
+use Rattle.p9_step.specs.State.{Session, Setting}
 use Rattle.p9_step.specs.Answer.{Answer}
 use Rattle.p9_step.specs.Attach.{attach_answer, attach_walk, attached_at, is_attach_name, listed_user}
 use Rattle.p9_step.specs.Clunk.{without}
 use Rattle.p9_step.specs.Walk.{newfid_fault, walk_answer}
-use Rattle.p9_wire.specs.Message.{TMessage, Tattach, Tcreate, Twalk, Twrite, Twstat}
-use Rattle.std.specs.Prelude.{Vec}
-use Rattle.std.specs.Borrow.{Bor}
-use Rattle.p9_step.specs.Memory.{is_done}
-use Rattle.p9_step.specs.Step.{message_answer}
-use Rattle.p9_requests.specs.declared.room.Reserved.{Reserved}
-use Rattle.p9_requests.specs.declared.room.Reserved.TheVariants.{Attach, Nothing, Walk}
-use Rattle.p9_requests.specs.declared.room.Room.{Room}
-use Rattle.p9_requests.specs.declared.room.Room.TheVariants.{Added, Channels}
+use Rattle.p9_requests.specs.declared.walk.Room.{Room}
+use Rattle.p9_requests.specs.declared.walk.Room.TheVariants.{Added, Channels}
 
 -- the answer, by whether memory was reserved for it: what would be granted is 'out of memory'
 -- without
@@ -117,49 +110,3 @@ pub record Leads (setting : Setting) (forest : List Server) (user aname : List �
   pub trail : List NodeRef
   pub walked : attach_walk setting forest user aname ≡ Ok trail
   pub last : place ≡ here trail
-
--- what was reserved for an attach, and for a walk
-abbrev pub names_of : {A : Type 0} → Reserved A → Option (Vec (Bor (List ℕ)) A)
-names_of Nothing = None
-names_of (Attach names) = Some names
-names_of (Walk room) = None
-
-abbrev pub room_of : {A : Type 0} → Reserved A → Option (Room A)
-room_of Nothing = None
-room_of (Attach names) = None
-room_of (Walk room) = Some room
-
--- the session before memory was reserved for the request
-abbrev pub before_of : {A : Type 0} → TMessage → Reserved A → Session → Session
-before_of m Nothing session = session
-before_of (Tattach fid afid uname aname) (Attach names) session = without fid session
-before_of (Twalk fid newfid names) (Walk room) session = unreserved (Some room) newfid session
-before_of m reserved session = session
-
--- what was reserved is for the request
-abbrev pub IsReservedFor : {A : Type 0} → Setting → TMessage → (before session : Session) → Reserved A
-    → Type 0
-IsReservedFor setting m before session Nothing = Unit {0}
-IsReservedFor setting (Tattach fid afid uname aname) before session (Attach names) =
-    IsAttachRoom setting fid afid uname aname before session (map (λ n. n.now) names.items)
-IsReservedFor setting (Twalk fid newfid names) before session (Walk room) =
-    IsWalkRoom setting.table fid newfid (most_places (length names)) before session room
-IsReservedFor setting m before session reserved = ⊥
-
--- the answer to a request, by what was reserved for it
-abbrev pub message_with_memory : {A : Type 0} → Reserved A → Setting → List Server → List SessionRow
-    → Session → (clock : ℕ) → TMessage → Answer
-message_with_memory reserved setting forest sessions session clock (Tattach fid afid uname aname) =
-    attach_with_memory (is_some (names_of reserved)) setting forest session fid afid uname aname
-message_with_memory reserved setting forest sessions session clock (Twalk fid newfid names) =
-    with_memory (is_some (room_of reserved)) (walk_answer setting forest session fid newfid names)
-message_with_memory reserved setting forest sessions session clock other =
-    message_answer setting forest sessions session clock other
-
--- whether memory may still be refused to the request, in the place of this answer: to those that
--- need it behind a look-up
-abbrev pub may_fail_later : TMessage → Answer → Bool
-may_fail_later (Tcreate fid name perm mode) answer = is_done answer
-may_fail_later (Twrite fid offset bytes) answer = is_done answer
-may_fail_later (Twstat fid stat) answer = is_done answer
-may_fail_later other answer = false

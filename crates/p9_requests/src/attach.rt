@@ -10,6 +10,7 @@ ghost use Rattle.p9_fids.specs.Fid.{nofid, put_fault};
 ghost use Rattle.p9_step.specs.Answer.{Answer};
 ghost use Rattle.p9_step.specs.Attach.{attach_answer, attach_walk, attached, is_attach_name};
 ghost use Rattle.p9_step.specs.Attach.{listed_user};
+ghost use Rattle.p9_step.specs.Memory.{is_beyond_session};
 ghost use Rattle.p9_step.specs.State.{Session as SessionOf};
 ghost use Rattle.p9_requests.specs.Held.{SessionFits};
 ghost use Rattle.p9_requests.specs.Answers.{Answers, replied};
@@ -26,12 +27,12 @@ use p9_space::{Channels, ROOT_PLACE, Way, advance_on};
 use p9_tree::{Forest, Tree};
 use std::alloc::Allocator;
 
-/// Reserves memory for an attach, and returns the names of its path; or returns `None`, where an
-/// allocation fails or where a test that looks at no file refuses the attach. The session is
-/// unchanged then.
-///
-/// The fid is added to the session, to keep its place.
-pub fn reserve_attach<'a, A: Allocator + Copy>(
+// Reserves memory for an attach, and returns the names of its path; or returns `None`, where an
+// allocation fails or where a test that looks at no file refuses the attach. The session is
+// unchanged then.
+//
+// The fid is added to the session, to keep its place.
+fn reserve_attach<'a, A: Allocator + Copy>(
     setting: &Setting<A>,
     session: &mut Session<A>,
     fid: u32,
@@ -68,14 +69,36 @@ pub fn reserve_attach<'a, A: Allocator + Copy>(
 /// Makes a fid for a directory of the name space, held by a listed user: the root, or the one that
 /// the attach name leads to. `..` from there stays there.
 ///
-/// The first that applies refuses, and the session is as it was before memory was reserved: the fid
-/// can't be added ([`p9_fids::FidTable::put_fault`]); an afid is given,
-/// [`Fault::NoAuthentication`]; the user isn't listed, [`Fault::UnknownUser`]; the attach name is
-/// neither empty nor begins with a slash, [`Fault::UnknownAttachName`]; no memory was reserved for
-/// it by [`reserve_attach`], [`Fault::OutOfMemory`]; the root place has no file,
-/// [`Fault::PhaseError`]; a step of the user's walk along the cleaned name is refused
-/// ([`p9_space::find_arrival`]); the file there is no directory, [`Fault::NotDirectory`].
+/// The first that applies refuses, and the session is unchanged: the fid can't be added
+/// ([`p9_fids::FidTable::put_fault`]); an afid is given, [`Fault::NoAuthentication`]; the user isn't
+/// listed, [`Fault::UnknownUser`]; the attach name is neither empty nor begins with a slash,
+/// [`Fault::UnknownAttachName`]; an allocation fails, [`Fault::OutOfMemory`]; the root place has no
+/// file, [`Fault::PhaseError`]; a step of the user's walk along the cleaned name is refused
+/// ([`p9_space::find_arrival`]); the file there is no directory, [`Fault::NotDirectory`]. No memory
+/// is allocated once a file is looked at.
 pub fn attach<T: Tree>(
+    setting: &Setting<T::Alloc>,
+    forest: &Forest<T>,
+    session: &mut Session<T::Alloc>,
+    fid: u32,
+    afid: u32,
+    uname: &str,
+    aname: &str,
+) -> Result<Qid, Fault>
+    requires channels { SessionFits setting.now.table session.old }
+    ensures channels { SessionFits setting.now.table session.new }
+    ensures answer { let answer = attach_answer setting.now forest.now session.old.session fid afid
+        uname.now aname.now in Answers answer (is_beyond_session answer) forest.now forest.now
+        session.old.session session.new.session (replied Rattach result) }
+{
+    let names = reserve_attach(setting, session, fid, afid, uname, aname);
+    attach_reserved(setting, forest, session, names, fid, afid, uname, aname)
+}
+
+// The answer to an attach, for which these names were reserved. Where there are none, what would
+// look at a file is refused, and that is [`Fault::OutOfMemory`]. At a refusal the session is as it
+// was before memory was reserved.
+fn attach_reserved<T: Tree>(
     setting: &Setting<T::Alloc>,
     forest: &Forest<T>,
     session: &mut Session<T::Alloc>,

@@ -17,7 +17,6 @@ mod read;
 mod remove;
 mod reply;
 mod rights;
-mod room;
 mod session;
 mod setting;
 mod stat;

@@ -5,8 +5,6 @@ ghost use Rattle.p9_wire.specs.Frame.{msize_max};
 ghost use Rattle.p9_wire.specs.Message.{t_view};
 ghost use Rattle.p9_requests.specs.Held.{SessionFits};
 ghost use Rattle.p9_requests.specs.Answers.{Answers, CanWrite, replied, reply_view};
-ghost use Rattle.p9_requests.specs.Reserved.{IsReservedFor, before_of, may_fail_later};
-ghost use Rattle.p9_requests.specs.Reserved.{message_with_memory};
 ghost use Rattle.p9_requests.specs.Room.{IsDataWithin};
 ghost use Rattle.p9_requests.specs.Taken.{wants_taken_file};
 ghost use Rattle.p9_step.specs.Sound.{AreWellOpen};
@@ -21,7 +19,6 @@ use crate::open::open;
 use crate::read::{ReadRequest, read};
 use crate::remove::remove;
 use crate::reply::Reply;
-use crate::room::{Reserved, reserve};
 use crate::session::Session;
 use crate::setting::Setting;
 use crate::stat::stat;
@@ -62,54 +59,6 @@ pub fn message<T: Tree>(
         forest.old forest.new session.old.session session.new.session
         (replied (reply_view forest.new buffer.new) result) }
 {
-    let reserved = reserve(setting, session, request);
-    answer_reserved(
-        setting, forest, session, reserved, taken, clock, request, buffer,
-    )
-}
-
-/// Answers a request of a session, for which this was reserved. `taken` says whether the file that
-/// an open asks for is taken ([`crate::open::exclusive_file_of`]). What a read gives is put at the
-/// front of `buffer`.
-///
-/// An auth is [`Fault::NoAuthentication`]. A flush has nothing to do, since each request is
-/// answered before the next one. Where it is an `Err`, the forest is unchanged, and the session is
-/// as it was before memory was reserved.
-///
-/// Whether an attach or a walk is [`Fault::OutOfMemory`] depends on what was reserved and on the
-/// answer alone. A create, a write and a wstat need memory behind a look-up: where nothing else
-/// refuses them, an allocation may fail.
-fn answer_reserved<T: Tree>(
-    setting: &Setting<T::Alloc>,
-    forest: &mut Forest<T>,
-    session: &mut Session<T::Alloc>,
-    reserved: Reserved<'_, T::Alloc>,
-    taken: bool,
-    clock: u32,
-    request: &TMsg<'_>,
-    buffer: &mut [u8],
-) -> Result<Reply, Fault>
-    requires channels { SessionFits setting.now.table session.old }
-    requires reserved { let before = before_of (t_view request.now) reserved session.old.session in
-        IsReservedFor setting.now (t_view request.now) before session.old.session reserved }
-    requires fids { let before = before_of (t_view request.now) reserved session.old.session in
-        AreWellOpen setting.now.table forest.old before.fids }
-    requires buffer { let before = before_of (t_view request.now) reserved session.old.session in
-        iounit_of before ≤ length buffer.old }
-    requires room { let before = before_of (t_view request.now) reserved session.old.session in
-        io_header + iounit_of before ≤ msize_max }
-    ensures channels { SessionFits setting.now.table session.new }
-    ensures reply { CanWrite result }
-    ensures data { let before = before_of (t_view request.now) reserved.entry session.old.session in
-        IsDataWithin (iounit_of before) result }
-    ensures answer { (sessions : List SessionRow)
-        → let before = before_of (t_view request.now) reserved.entry session.old.session in
-        wants_taken_file setting.now forest.old sessions before (t_view request.now) ≡ taken
-        → let answer = message_with_memory reserved.entry setting.now forest.old sessions before clock
-        (t_view request.now) in Answers answer (may_fail_later (t_view request.now) answer)
-        forest.old forest.new before session.new.session
-        (replied (reply_view forest.new buffer.new) result) }
-{
     match request {
         TMsg::Version {
             msize,
@@ -122,14 +71,12 @@ fn answer_reserved<T: Tree>(
             uname,
             aname,
         } => {
-            let names = reserved.names();
-            let qid = attach(setting, forest, session, names, *fid, *afid, uname, aname)?;
+            let qid = attach(setting, forest, session, *fid, *afid, uname, aname)?;
             Ok(Reply::Message(RMsg::Attach { qid }))
         }
         TMsg::Flush { .. } => Ok(Reply::Message(RMsg::Flush)),
         TMsg::Walk { fid, newfid, names } => {
-            let room = reserved.room();
-            let qids = walk(setting, forest, session, room, *fid, *newfid, names)?;
+            let qids = walk(setting, forest, session, *fid, *newfid, names)?;
             Ok(Reply::Message(RMsg::Walk { qids }))
         }
         TMsg::Open { fid, mode } => {

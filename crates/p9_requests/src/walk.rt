@@ -13,12 +13,12 @@ ghost use Rattle.p9_wire.specs.Message.{Rwalk};
 ghost use Rattle.p9_requests.specs.Held.{SessionFits, WalkFits};
 ghost use Rattle.p9_requests.specs.Answers.{Answers, replied};
 ghost use Rattle.p9_requests.specs.Reserved.{IsWalkRoom, most_places, unreserved, with_memory};
+ghost use Rattle.p9_step.specs.Memory.{is_done};
 ghost use Rattle.p9_step.specs.Qid.{qid_of};
 ghost use Rattle.p9_step.specs.State.{Session as SessionOf};
 ghost use Rattle.p9_step.specs.Walk.{moved, newfid_fault, walk_answer, walk_outcome, walked};
 
 use crate::qid::qid_of;
-use crate::room::Room;
 use crate::session::Session;
 use crate::setting::Setting;
 use p9_base::{Fault, NOFID, Qid, User};
@@ -29,11 +29,20 @@ use p9_wire::{Names, Qids};
 use std::alloc::Allocator;
 use std::marker::Model;
 
-/// Reserves memory for a walk along so many names, or returns `None`, where an allocation fails or
-/// where the session refuses the walk. The session is unchanged then.
-///
-/// Where newfid is another fid, it is added to the session, to keep its place.
-pub fn reserve_walk<A: Allocator + Copy>(
+// What was reserved for where a walk leads.
+#[derive(Drop)]
+enum Room<A: Allocator + Copy> {
+    // newfid was added to the session, and has room for its places.
+    Added,
+    // Channels with room for the places of the fid itself.
+    Channels(Channels<A>),
+}
+
+// Reserves memory for a walk along so many names, or returns `None`, where an allocation fails or
+// where the session refuses the walk. The session is unchanged then.
+//
+// Where newfid is another fid, it is added to the session, to keep its place.
+fn reserve_walk<A: Allocator + Copy>(
     setting: &Setting<A>,
     session: &mut Session<A>,
     fid: u32,
@@ -78,9 +87,30 @@ pub fn reserve_walk<A: Allocator + Copy>(
 /// The first that applies refuses: the fid isn't there, [`Fault::UnknownFid`]; it is open,
 /// [`Fault::FidOpen`]; newfid is [`NOFID`], [`Fault::UnknownFid`]; newfid is another fid and can't
 /// be added ([`p9_fids::FidTable::put_fault`]); the first step is refused
-/// ([`p9_space::find_arrival`]); no memory was reserved for it by [`reserve_walk`],
-/// [`Fault::OutOfMemory`]. At a refusal the session is as it was before memory was reserved.
+/// ([`p9_space::find_arrival`]); an allocation failed, [`Fault::OutOfMemory`]. At a refusal the
+/// session is unchanged. No memory is allocated once a file is looked at.
 pub fn walk<T: Tree>(
+    setting: &Setting<T::Alloc>,
+    forest: &Forest<T>,
+    session: &mut Session<T::Alloc>,
+    fid: u32,
+    newfid: u32,
+    names: &Names<'_>,
+) -> Result<Qids, Fault>
+    requires channels { SessionFits setting.now.table session.old }
+    ensures channels { SessionFits setting.now.table session.new }
+    ensures answer { let answer = walk_answer setting.now forest.now session.old.session fid newfid
+        names.now in Answers answer (is_done answer) forest.now forest.now session.old.session
+        session.new.session (replied Rwalk result) }
+{
+    let room = reserve_walk(setting, session, fid, newfid, names.len());
+    walk_reserved(setting, forest, session, room, fid, newfid, names)
+}
+
+// The answer to a walk, for which this was reserved. Where nothing was, a walk that nothing else
+// refuses is [`Fault::OutOfMemory`]. At a refusal the session is as it was before memory was
+// reserved.
+fn walk_reserved<T: Tree>(
     setting: &Setting<T::Alloc>,
     forest: &Forest<T>,
     session: &mut Session<T::Alloc>,
