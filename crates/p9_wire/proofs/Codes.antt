@@ -20,7 +20,8 @@ use Rattle.p9_wire.specs.Fields.{number, text, counted, several, sized, qid_byte
 use Rattle.p9_wire.specs.Fields.{stat_bytes, FitsText, FitsStat, QidNumbersFit, StatNumbersFit}
 use Rattle.p9_wire.specs.FieldReading.{◌and_then◌, Reader, number_at, bytes_at, ◌then◌, mapped}
 use Rattle.p9_wire.specs.FieldReading.{text_at, nothing_at, qid_at, counted_at, times, several_at}
-use Rattle.p9_wire.specs.FieldReading.{sized_bytes_at, sized_at, stat_fields_at, stat_at}
+use Rattle.p9_wire.specs.FieldReading.{sized_bytes_at, sized_at, stat_at}
+use Rattle.p9_wire.specs.FieldReading.{stat_fields_at, stat_numbers_at}
 use Rattle.p9_wire.specs.Frame.{IsBytes}
 use Rattle.p9_wire.proofs.Bytes.{IsBytes-back, IsBytes-front, each_below, number-back}
 use Rattle.p9_wire.proofs.Lengths.{length-stat_bytes, length-stat_fields}
@@ -353,7 +354,7 @@ pub record StatFieldsFit (s : StatFields) : Type 0 where
 
 -- they are read as they are spelled
 stat_fields-codes : Codes stat_fields StatFieldsFit stat_fields_at
-unfolding stat_fields_at
+unfolding stat_numbers_at stat_fields_at
 stat_fields-codes =
     let numbers =
     then-codes

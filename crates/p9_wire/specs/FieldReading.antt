@@ -5,6 +5,7 @@ use Rattle.byteorder.specs.Endian.{little_number}
 use Rattle.p9_base.specs.declared.qid.Qid.{Qid}
 use Rattle.p9_base.specs.Text.{is_text}
 use Rattle.p9_wire.specs.Frame.{elements_max}
+use Rattle.p9_wire.specs.declared.fields.StatNumbers.{StatNumbers}
 use Rattle.p9_wire.specs.Message.{StatFields}
 
 -- goes on with the value, where there is one
@@ -105,12 +106,24 @@ stat_of_fields kind dev qid mode atime mtime size name uid gid muid = record {
   muid = muid;
 }
 
+-- the numbers of a stat: kind, dev, qid, mode, atime, mtime and length
+abbrev pub StatNumbersOf : Type 0
+StatNumbersOf = (((((ℕ × ℕ) × Qid) × ℕ) × ℕ) × ℕ) × ℕ
+
+unfoldable pub stat_numbers_at : Reader StatNumbersOf
+stat_numbers_at =
+    number_at 2 then number_at 4 then qid_at then number_at 4 then number_at 4 then number_at 4
+    then number_at 8
+
+-- the numbers that were read
+abbrev pub numbers_view : StatNumbers → StatNumbersOf
+numbers_view n = ((((((n.kind, n.dev), n.qid), n.mode), n.atime), n.mtime), n.length)
+
 -- its fields are eleven: four, twice three more, and one more
 unfoldable pub stat_fields_at : Reader StatFields
 stat_fields_at =
     mapped (of_two (of_four (of_four (of_four stat_of_fields))))
-    (number_at 2 then number_at 4 then qid_at then number_at 4 then number_at 4 then number_at 4
-    then number_at 8 then text_at then text_at then text_at then text_at)
+    (stat_numbers_at then text_at then text_at then text_at then text_at)
 
 -- as a message holds a stat: a length, and the stat's own size and fields, which take it up
 abbrev pub stat_at : Reader StatFields

@@ -7,7 +7,8 @@ ghost use Rattle.p9_wire.specs.Frame.{elements_max};
 ghost use Rattle.p9_wire.specs.Message.{stat_view};
 ghost use Rattle.p9_wire.specs.FieldReading.{◌and_then◌, Gives, number_at, bytes_at, text_at};
 ghost use Rattle.p9_wire.specs.FieldReading.{sized_bytes_at, qid_at, counted_at, times};
-ghost use Rattle.p9_wire.specs.FieldReading.{several_at, sized_at, stat_fields_at, stat_at};
+ghost use Rattle.p9_wire.specs.FieldReading.{numbers_view, several_at, sized_at, stat_at};
+ghost use Rattle.p9_wire.specs.FieldReading.{stat_fields_at, stat_numbers_at};
 ghost use Rattle.p9_wire.specs.Reading.{header_at};
 
 use crate::constants::MAXWELEM;
@@ -179,10 +180,22 @@ pub fn take_qids(bytes: &[u8]) -> Option<(Qids, &[u8])>
     some_qids(count, rest)
 }
 
-/// A stat without its size.
-#[tactic(auto, unfolding(crate::specs::FieldReading::stat_fields_at))]
-fn take_stat_fields(bytes: &[u8]) -> Option<(Stat<'_>, &[u8])>
-    ensures { Gives (λ x. (stat_view x.0, x.1.now)) result (stat_fields_at bytes.now) }
+// The numbers of a stat, in the order of their bytes.
+#[derive(Clone, Copy)]
+struct StatNumbers {
+    kind: u16,
+    dev: u32,
+    qid: Qid,
+    mode: u32,
+    atime: u32,
+    mtime: u32,
+    length: u64,
+}
+
+// The numbers of a stat, which come before its texts.
+#[tactic(auto, unfolding(crate::specs::FieldReading::stat_numbers_at))]
+fn take_stat_numbers(bytes: &[u8]) -> Option<(StatNumbers, &[u8])>
+    ensures { Gives (λ x. (numbers_view x.0, x.1.now)) result (stat_numbers_at bytes.now) }
 {
     let (kind, rest) = take_u16(bytes)?;
     let (dev, rest) = take_u32(rest)?;
@@ -191,10 +204,37 @@ fn take_stat_fields(bytes: &[u8]) -> Option<(Stat<'_>, &[u8])>
     let (atime, rest) = take_u32(rest)?;
     let (mtime, rest) = take_u32(rest)?;
     let (length, rest) = take_u64(rest)?;
+    let numbers = StatNumbers {
+        kind,
+        dev,
+        qid,
+        mode,
+        atime,
+        mtime,
+        length,
+    };
+    Some((numbers, rest))
+}
+
+// A stat without its size.
+#[tactic(auto, unfolding(crate::specs::FieldReading::stat_fields_at))]
+fn take_stat_fields(bytes: &[u8]) -> Option<(Stat<'_>, &[u8])>
+    ensures { Gives (λ x. (stat_view x.0, x.1.now)) result (stat_fields_at bytes.now) }
+{
+    let (numbers, rest) = take_stat_numbers(bytes)?;
     let (name, rest) = take_text(rest)?;
     let (uid, rest) = take_text(rest)?;
     let (gid, rest) = take_text(rest)?;
     let (muid, rest) = take_text(rest)?;
+    let StatNumbers {
+        kind,
+        dev,
+        qid,
+        mode,
+        atime,
+        mtime,
+        length,
+    } = numbers;
     let stat = Stat {
         kind,
         dev,
@@ -211,7 +251,7 @@ fn take_stat_fields(bytes: &[u8]) -> Option<(Stat<'_>, &[u8])>
     Some((stat, rest))
 }
 
-/// A stat after its size, which its fields take up.
+// A stat after its size, which its fields take up.
 #[tactic(auto, unfolding(crate::specs::FieldReading::sized_at))]
 fn take_stat(bytes: &[u8]) -> Option<(Stat<'_>, &[u8])>
     ensures { Gives (λ x. (stat_view x.0, x.1.now)) result (sized_at stat_fields_at bytes.now) }

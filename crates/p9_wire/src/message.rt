@@ -33,7 +33,7 @@ pub struct Stat<'a> {
 }
 
 /// What a client asks, in the order of the manual. Texts and data are slices of the frame.
-#[derive(Debug, Drop)]
+#[derive(Drop)]
 pub enum TMsg<'a> {
     /// Begins a session, as version(5): the greatest frame that the client will send or take, and
     /// the dialect that it speaks.
@@ -109,7 +109,7 @@ pub enum TMsg<'a> {
 }
 
 /// What a server answers, in the order of the manual. Texts and data are slices of the frame.
-#[derive(Debug, Drop)]
+#[derive(Drop)]
 pub enum RMsg<'a> {
     /// The session's greatest frame and its dialect, `unknown` where it has none, as version(5).
     Version { msize: u32, version: &'a str },
