@@ -1,6 +1,6 @@
 //! A draft takes the place of a log.
 
-use crate::logs::{MemoryLog, log_over, new_log, recovers};
+use crate::logs::{InMemory, MemoryLog, log_over, new_log, recovers};
 use p9_log::{Crash, Device, Fuse, Log, LogError, MemoryDevice};
 use std::alloc::{Allocator, Global};
 
@@ -16,7 +16,7 @@ fn old_log(alloc: Global) -> Option<MemoryLog> {
 }
 
 // Whether the old bytes are added and synced.
-fn add_synced(log: &mut MemoryLog) -> bool {
+fn add_synced<D: Device, A: Allocator>(log: &mut Log<D, A>) -> bool {
     log.append(&OLD).is_ok() && log.sync().is_ok()
 }
 
@@ -36,12 +36,12 @@ fn put<D: Device, A: Allocator>(log: &mut Log<D, A>) -> Option<bool> {
 }
 
 // Whether these bytes are recovered of a log's file.
-fn leaves(alloc: Global, log: &MemoryLog, how: Crash, bytes: &[u8]) -> bool {
-    recovers(alloc, log.device().bytes(), how, bytes)
+fn leaves<D: InMemory>(alloc: Global, log: &Log<D, Global>, how: Crash, bytes: &[u8]) -> bool {
+    recovers(alloc, log.device().file(), how, bytes)
 }
 
 // Whether a draft that is put is the log, and it goes on from there.
-fn goes_on_from_a_draft(alloc: Global, log: &mut MemoryLog) -> bool {
+fn goes_on_from_a_draft<D: InMemory>(alloc: Global, log: &mut Log<D, Global>) -> bool {
     put(log) == Some(true)
         && log.put_draft() == Err(LogError::NoDraft)
         && leaves(alloc, log, Crash::Killed, &NEW)
@@ -63,7 +63,7 @@ fn a_draft_that_is_put_is_the_log(rt: HostRuntime) {
 }
 
 // Whether a log has no draft once it is added to.
-fn has_no_draft_then(alloc: Global, log: &mut MemoryLog) -> bool {
+fn has_no_draft_then<D: InMemory>(alloc: Global, log: &mut Log<D, Global>) -> bool {
     write_draft(log).is_ok()
         && log.append(&[3]).is_ok()
         && log.add_to_draft(&[4]) == Err(LogError::NoDraft)
@@ -80,14 +80,19 @@ fn a_log_that_is_added_to_has_no_draft(rt: HostRuntime) {
     assert!(rt; has_none);
 }
 
-// The device below a log, which is used up to its failure, and whether a draft was put.
-fn put_and_ended(
-    log: Log<Fuse<MemoryDevice<Global>, Global>, Global>,
-) -> Option<(MemoryDevice<Global>, bool)> {
+// The device below a log that is used up to its failure, and whether a draft was put.
+fn put_and_ended<D: Device, A: Allocator>(log: Log<D, A>) -> (D, Option<bool>) {
     let mut log = log;
     let put = put(&mut log);
-    let device = log.into_device().into_device();
-    Some((device, put?))
+    (log.into_device(), put)
+}
+
+// The device after a log over it was used up to its failure, and whether a draft was put.
+fn put_over<D: Device>(alloc: Global, device: D) -> (D, Option<bool>) {
+    match log_over(alloc, device, Crash::Stopped) {
+        Ok(log) => put_and_ended(log),
+        Err(device) => (device, Some(false)),
+    }
 }
 
 // The file after the device has failed, and whether the draft was put.
@@ -97,11 +102,9 @@ fn after_failure(
     short: usize,
 ) -> Option<(MemoryDevice<Global>, bool)> {
     let device = old_log(alloc)?.into_device();
-    let device = Fuse::new(alloc, device, calls, short);
-    match log_over(alloc, device, Crash::Stopped) {
-        Ok(log) => put_and_ended(log),
-        Err(device) => Some((device.into_device(), false)),
-    }
+    let (device, put) = put_over(alloc, Fuse::new(alloc, device, calls, short));
+    let device = device.into_device();
+    Some((device, put?))
 }
 
 // Whether the new bytes are recovered of a file where they were put, and else the old ones.

@@ -29,11 +29,8 @@ fn unless_it_takes_more<D: Device, A: Allocator>(log: &mut Log<D, A>, added: u8)
     }
 }
 
-// A device that fails after so many calls.
-type Failing = Fuse<MemoryDevice<Global>, Global>;
-
 // The device after a log over it was run, and how many runs were added.
-fn run_over(alloc: Global, device: Failing) -> (Failing, u8) {
+fn run_over<D: Device>(alloc: Global, device: D) -> (D, u8) {
     match create(alloc, device) {
         Ok(log) => run_and_ended(log),
         Err(refused) => (refused.1, 0),
@@ -41,7 +38,7 @@ fn run_over(alloc: Global, device: Failing) -> (Failing, u8) {
 }
 
 // The device below a log after it was run, and how many runs were added.
-fn run_and_ended(log: Log<Failing, Global>) -> (Failing, u8) {
+fn run_and_ended<D: Device, A: Allocator>(log: Log<D, A>) -> (D, u8) {
     let mut log = log;
     let added = run(&mut log);
     (log.into_device(), added)

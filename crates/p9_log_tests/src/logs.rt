@@ -1,10 +1,23 @@
 //! Logs over devices in memory, for tests.
 
 use p9_log::{Crash, Device, Log, MemoryDevice, create, recover};
-use std::alloc::Global;
+use std::alloc::{Allocator, Global};
 
 /// A log over a device in memory.
 pub(crate) type MemoryLog = Log<MemoryDevice<Global>, Global>;
+
+/// A device whose file is in memory. What is generic over it is cheaper to prove than what names the
+/// device.
+pub(crate) trait InMemory: Device {
+    /// The bytes of the file.
+    fn file(&self) -> &[u8];
+}
+
+impl<A: Allocator + Copy> InMemory for MemoryDevice<A> {
+    fn file(&self) -> &[u8] {
+        self.bytes()
+    }
+}
 
 /// A log without bytes.
 pub(crate) fn new_log(alloc: Global) -> Option<MemoryLog> {
