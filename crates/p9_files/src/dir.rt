@@ -8,7 +8,7 @@ use libc::AT_FDCWD;
 use os::FromRawFd;
 use p9_base::Name;
 use std::alloc::AllocError;
-use std::fs::{self, File, Metadata};
+use std::fs::{self, DirEntry, File, Metadata};
 use std::io::{self, Error, ErrorKind};
 use std::os::fd::{AsRawFd, OwnedFd, RawFd};
 use std::os::unix::fs::MetadataExt;
@@ -122,12 +122,9 @@ impl Dir {
         let mut names = Vec::new(rt.alloc());
         let mut others: u64 = 0;
         for entry in fs::read_dir(rt, path.as_str())? {
-            match entry {
-                Ok(entry) => names.push(String::from_str(rt.alloc(), entry.file_name())?)?,
-                Err(error) if error.kind() == ErrorKind::InvalidFilename => {
-                    others = others.saturating_add(1);
-                }
-                Err(error) => return Err(error),
+            match name_of(rt, entry)? {
+                Some(name) => names.push(name)?,
+                None => others = others.saturating_add(1),
             }
         }
         let names = greatest_first(names)?;
@@ -144,6 +141,18 @@ impl Dir {
     fn path_of(&self, rt: &HostRuntime, name: &str) -> io::Result<String> {
         let fd = self.fd.as_raw_fd();
         Ok(format!(in rt.alloc(); "/proc/self/fd/{fd}/{name}")?)
+    }
+}
+
+// The name of an entry, if it is a text.
+fn name_of(
+    rt: &HostRuntime,
+    entry: io::Result<DirEntry<HostRuntime>>,
+) -> io::Result<Option<String>> {
+    match entry {
+        Ok(entry) => Ok(Some(String::from_str(rt.alloc(), entry.file_name())?)),
+        Err(error) if error.kind() == ErrorKind::InvalidFilename => Ok(None),
+        Err(error) => Err(error),
     }
 }
 

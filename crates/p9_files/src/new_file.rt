@@ -119,15 +119,36 @@ fn new_beside<R: Files, A: Allocator + Clone>(
     target: &str,
 ) -> io::Result<NewFile<R::File, A>> {
     for number in 0..TRIES {
-        let name = format!(in alloc.clone()?; ".p9-{number}.new")?;
-        let path = beside(alloc.clone()?, target, name.as_str())?;
-        match create_private(files, &path) {
-            Ok(file) => return placed(files, alloc, file, path, target),
-            Err(error) if error.kind() == ErrorKind::AlreadyExists => {}
-            Err(error) => return Err(error),
+        if let Some(made) = new_of_number(files, alloc.clone()?, target, number)? {
+            return Ok(made);
         }
     }
     Err(Error::from(ErrorKind::AlreadyExists))
+}
+
+// Creates a file beside a target, under the name of this number, if that is free.
+fn new_of_number<R: Files, A: Allocator + Clone>(
+    files: &R,
+    alloc: A,
+    target: &str,
+    number: u64,
+) -> io::Result<Option<NewFile<R::File, A>>> {
+    let path = path_of_number(alloc.clone()?, target, number)?;
+    match create_private(files, &path) {
+        Ok(file) => Ok(Some(placed(files, alloc, file, path, target)?)),
+        Err(error) if error.kind() == ErrorKind::AlreadyExists => Ok(None),
+        Err(error) => Err(error),
+    }
+}
+
+// The path beside a target that has the name of this number.
+fn path_of_number<A: Allocator + Clone>(
+    alloc: A,
+    target: &str,
+    number: u64,
+) -> Result<PathBuf<A>, AllocError> {
+    let name = format!(in alloc.clone()?; ".p9-{number}.new")?;
+    beside(alloc, target, name.as_str())
 }
 
 // A file that was created beside its target. Where memory for that path lacks, the file is removed.
