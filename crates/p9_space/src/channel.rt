@@ -15,9 +15,9 @@ ghost use Rattle.p9_tree.specs.Forest.{node_of};
 use crate::rights::Who;
 use crate::row::Members;
 use crate::table::MountTable;
-use crate::trail::{Step, Trail, last, position_above};
+use crate::trail::{ROOT_PLACE, Trail, last, position_above};
 use crate::walk::{Arrival, arrive_down, arrive_up};
-use crate::way::Way;
+use crate::way::{Way, advance_on};
 use p9_base::{Fault, NoMemory, NodeRef};
 use p9_tree::{Forest, Tree};
 use std::alloc::Allocator;
@@ -87,6 +87,20 @@ impl<A: Allocator + Copy> Channels<A> {
         let mut rows = Vec::new(alloc);
         rows.resize(count, table.position(place))?;
         Ok(Channels { trail, rows })
+    }
+
+    /// Channels of the places and rows of a way. The only error is that an allocation fails.
+    pub fn along<B: Allocator + Copy>(
+        alloc: A,
+        table: &MountTable<B>,
+        way: &Way,
+    ) -> Result<Channels<A>, NoMemory>
+        ensures { IfOk result (λ channels. channels ≡ way.now) }
+    {
+        way.well_formed();
+        let mut channels = Channels::filled(alloc, table, ROOT_PLACE, way.places().len())?;
+        channels.follow(way);
+        Ok(channels)
     }
 
     /// Goes where a way leads, which has no more places than there are. This takes no memory.
@@ -173,58 +187,6 @@ impl<A: Allocator + Copy> Channels<A> {
         self.trail.step_up();
         self.rows.truncate(self.trail.len());
     }
-
-    /// Takes a step, where the place after it has this row in the table. Where an allocation fails the
-    /// channels are unchanged.
-    pub fn take(&mut self, step: Step, row: Option<usize>) -> Result<(), NoMemory>
-        requires { length (stepped (trail_of self.old) step) ≤ places_max }
-        ensures ok { OnOk result (trail_of self.new ≡ stepped (trail_of self.old) step) }
-        ensures fits { OnOk result ((table : List MountRow) →
-            row ≡ row_position (here (stepped (trail_of self.old) step)) table →
-            Fits table self.old → Fits table self.new) }
-        ensures err { OnErr result (self.new ≡ self.old) }
-    {
-        match step {
-            Step::Up => {
-                self.step_up();
-                Ok(())
-            }
-            Step::To(place) => self.push_with_row(place, row),
-        }
-    }
-}
-
-/// One step from the last place, as [`crate::find_arrival`]. The channels are unchanged. For `..` no
-/// row is looked up.
-pub fn find_arrival_from<'a, T: Tree, A: Allocator + Copy, B: Allocator + Copy>(
-    forest: &'a Forest<T>,
-    table: &MountTable<A>,
-    channels: &Channels<B>,
-    name: &str,
-    who: Option<Who<'_, B>>,
-) -> Result<Arrival<'a, T::Alloc>, Fault>
-    requires { Fits table.now channels.now }
-    ensures ok { IfOk result (λ arrival. step_of forest.now table.now
-        (option_map who_view who.entry) (trail_of channels.now) name.now ≡ Ok arrival.step) }
-    ensures err { IfErr result (λ fault. step_of forest.now table.now
-        (option_map who_view who.entry) (trail_of channels.now) name.now ≡ Err fault) }
-    ensures row { IfOk result (λ arrival. arrival.row
-        ≡ row_position (here (stepped (trail_of channels.now) arrival.step)) table.now) }
-    ensures at { IfOk result (λ arrival. arrival.at
-        ≡ file_ref (here (stepped (trail_of channels.now) arrival.step)) table.now) }
-    ensures file { IfOk result (λ arrival. node_of arrival.at forest.now ≡ Some arrival.file.now) }
-    ensures places { IfOk result (λ arrival. length (stepped (trail_of channels.now) arrival.step)
-        ≤ places_max) }
-{
-    channels.trail.well_formed();
-    find_arrival_by_rows(
-        forest,
-        table,
-        channels.trail.as_slice(),
-        &channels.rows,
-        name,
-        who,
-    )
 }
 
 /// One step from the last of places whose rows are these, as [`crate::find_arrival`].
@@ -290,31 +252,8 @@ pub fn advance<T: Tree, A: Allocator + Copy, B: Allocator + Copy>(
         (map (λ n. n.now) names.now) ≡ Err fault)) }
     ensures unchanged { OnErr result (channels.new ≡ channels.old) }
 {
-    let walked = walked_along(forest, table, channels, names, who)?;
-    *channels = walked;
+    let mut way = Way::of(channels);
+    advance_on(forest, table, &mut way, names, who)?;
+    *channels = Channels::along(*channels.rows.allocator(), table, &way)?;
     Ok(())
-}
-
-// The channels that a walk along names leads to.
-fn walked_along<T: Tree, A: Allocator + Copy, B: Allocator + Copy>(
-    forest: &Forest<T>,
-    table: &MountTable<A>,
-    start: &Channels<B>,
-    names: &[&str],
-    who: Option<Who<'_, B>>,
-) -> Result<Channels<B>, Fault>
-    requires { Fits table.now start.now }
-    ensures ok { IfOk result (λ walked. walk forest.now table.now (option_map who_view who.entry)
-        (trail_of start.now) (map (λ n. n.now) names.now) ≡ Ok (trail_of walked)) }
-    ensures fits { IfOk result (λ walked. Fits table.now walked) }
-    ensures err { IfErr result (λ fault. (fault ≡ OutOfMemory) ⊎
-        (walk forest.now table.now (option_map who_view who.entry) (trail_of start.now)
-        (map (λ n. n.now) names.now) ≡ Err fault)) }
-{
-    let mut walked = start.copy()?;
-    for name in names {
-        let arrival = find_arrival_from(forest, table, &walked, name, who)?;
-        walked.take(arrival.step, arrival.row)?;
-    }
-    Ok(walked)
 }

@@ -14,7 +14,7 @@ mod trail;
 mod walk;
 mod way;
 
-pub use channel::{Channels, advance, find_arrival_from};
+pub use channel::{Channels, advance};
 pub use given::{is_given, is_table_given};
 pub use p9_clean::clean;
 pub use rights::{TO_EXECUTE, TO_READ, TO_WRITE, Who, may, rules};

@@ -137,7 +137,8 @@ impl Way {
     }
 }
 
-/// One step from the last place, as [`crate::find_arrival_from`].
+/// One step from the last place, as [`crate::find_arrival`]. For `..` no row is looked
+/// up.
 pub fn find_arrival_on<'a, T: Tree, A: Allocator + Copy, B: Allocator + Copy>(
     forest: &'a Forest<T>,
     table: &MountTable<A>,
@@ -172,6 +173,7 @@ pub fn advance_on<T: Tree, A: Allocator + Copy, B: Allocator + Copy>(
     who: Option<Who<'_, B>>,
 ) -> Result<(), Fault>
     requires { Fits table.now way.old }
+    ensures fits { Fits table.now way.new }
     ensures ok { OnOk result (walk forest.now table.now (option_map who_view who.entry)
         (trail_of way.old) (map (λ n. n.now) names.now) ≡ Ok (trail_of way.new)) }
     ensures err { IfErr result (λ fault. walk forest.now table.now (option_map who_view who.entry)

@@ -37,3 +37,6 @@ find_arrival_on-requires g c = c.loop-name.invariant.1
 
 pub take-requires : goal.take-requires
 take-requires g c = c.in_ok-arrival.ensures.places
+
+pub returns-clause-fits : goal.returns-clause-fits
+returns-clause-fits g c = c.loop-name.invariant.1
