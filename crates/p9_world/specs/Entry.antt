@@ -98,6 +98,14 @@ dir_line path mode uid gid server =
 abbrev pub bytes_in : List ℕ → Option (List ℕ)
 bytes_in word = if bytes_eq word (codes "-") then Some [] else result_ok (decode_of word)
 
+-- the server with a new file, whose bytes a word writes
+abbrev pub with_bytes : Component → List Component → Mode → (uid gid hex : List ℕ) → Server
+    → Result Server LineFault
+with_bytes name names mode uid gid hex server =
+    obtain (bytes_in hex) BadHex (λ bytes.
+    need (nat_le (length bytes) file_max) TooLarge (
+    with_entry name names (record { mode = mode; uid = uid; gid = gid; bytes = bytes }) server))
+
 -- what comes of it by 'file PATH MODE UID GID HEX'
 abbrev pub file_line : (path mode uid gid hex : List ℕ) → Server → Result Server LineFault
 file_line path mode uid gid hex server =
@@ -105,7 +113,4 @@ file_line path mode uid gid hex server =
     obtain (last_and_rest names) BadPath (λ place.
     obtain (file_mode_in mode) BadMode (λ mode.
     need (are_users uid gid) BadUser (
-    obtain (bytes_in hex) BadHex (λ bytes.
-    need (nat_le (length bytes) file_max) TooLarge (
-    with_entry place.0 place.1 (record { mode = mode; uid = uid; gid = gid; bytes = bytes })
-    server))))))
+    with_bytes place.0 place.1 mode uid gid hex server))))

@@ -5,7 +5,7 @@ ghost use Rattle.std.specs.Prelude.{option_map, true};
 ghost use Rattle.p9_base.specs.Mode.{is_dir};
 ghost use Rattle.p9_tree.specs.Bytes.{file_max};
 ghost use Rattle.p9_world.specs.Entry.{are_users, bytes_in, dir_line, file_line, in_last_server};
-ghost use Rattle.p9_world.specs.Entry.{with_dir, with_entry};
+ghost use Rattle.p9_world.specs.Entry.{with_bytes, with_dir, with_entry};
 ghost use Rattle.p9_world.specs.LastDir.{IsWhereNamesLead};
 ghost use Rattle.p9_world.specs.Meaning.{Makes};
 ghost use Rattle.p9_world.specs.Path.{last_and_rest};
@@ -142,6 +142,29 @@ fn add_file_to<T: Tree>(
     let Some((uid, gid)) = owners(words.uid, words.gid) else {
         return Err(Stop::Refused(LineFault::BadUser));
     };
+    add_file_of(alloc, tree, last_dir, name, names, mode, uid, gid, hex)
+}
+
+// A file joins the tree, of this name in the directory that the names lead to, with the bytes that a
+// word writes.
+fn add_file_of<T: Tree>(
+    alloc: T::Alloc,
+    tree: &mut T,
+    last_dir: &mut LastDir<T::Alloc>,
+    name: Name,
+    names: Vec<Name, T::Alloc>,
+    mode: Mode,
+    uid: User,
+    gid: User,
+    hex: &str,
+) -> Result<(), Stop>
+    requires led { IsWhereNamesLead last_dir.old (T.state tree.old) }
+    requires file { is_dir mode ≡ false }
+    ensures made { Makes (with_bytes name names.items mode uid gid hex.now (T.state tree.old))
+        (T.state tree.old) (T.state tree.new) result }
+    ensures next { (T.state tree.old).next ≤ (T.state tree.new).next }
+    ensures led { IsWhereNamesLead last_dir.new (T.state tree.new) }
+{
     let Some(bytes) = bytes_in(alloc, hex)? else {
         return Err(Stop::Refused(LineFault::BadHex));
     };
