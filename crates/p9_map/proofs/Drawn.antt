@@ -15,10 +15,12 @@ use Rattle.p9_map.specs.declared.label.Label.{Label}
 
 -- Parts of a picture that are printed one after another.
 
-joined : (o h v t l b g z : List ℕ)
-    → o ++ h ++ v ++ t ++ l ++ b ++ g ++ z ≡ o ++ (h ++ v ++ t ++ l ++ b ++ g ++ z)
-joined [] h v t l b g z = refl
-joined (x ∷ o) h v t l b g z = ap (λ xs. x ∷ xs) (joined o h v t l b g z)
+pub two : (o a b o1 o2 : List ℕ) → o1 ≡ o ++ a → o2 ≡ o1 ++ b → o2 ≡ o ++ (a ++ b)
+two o a b o1 o2 e1 e2 = e2 ∙ ap (λ x. x ++ b) e1 ∙ append_assoc o a b
+
+pub three : (o a b c o1 o2 o3 : List ℕ) → o1 ≡ o ++ a → o2 ≡ o1 ++ b → o3 ≡ o2 ++ c
+    → o3 ≡ o ++ (a ++ b ++ c)
+three o a b c o1 o2 o3 e1 e2 e3 = two o (a ++ b) c o2 o3 (two o a b o1 o2 e1 e2) e3
 
 joined-five : (o a b c d e : List ℕ)
     → o ++ a ++ b ++ c ++ d ++ e ≡ o ++ (a ++ b ++ c ++ d ++ e)
@@ -34,16 +36,15 @@ boxed o a b c d e o1 o2 o3 o4 o5 e1 e2 e3 e4 e5 =
     let f4 : o4 ≡ o ++ a ++ b ++ c ++ d = e4 ∙ ap (λ x. x ++ d) f3 in
     e5 ∙ ap (λ x. x ++ e) f4 ∙ joined-five o a b c d e
 
-pub printed : (o h v t l b g z o1 o2 o3 o4 o5 o6 o7 : List ℕ) → o1 ≡ o ++ h → o2 ≡ o1 ++ v
-    → o3 ≡ o2 ++ t → o4 ≡ o3 ++ l → o5 ≡ o4 ++ b → o6 ≡ o5 ++ g → o7 ≡ o6 ++ z
-    → o7 ≡ o ++ (h ++ v ++ t ++ l ++ b ++ g ++ z)
-printed o h v t l b g z o1 o2 o3 o4 o5 o6 o7 e1 e2 e3 e4 e5 e6 e7 =
-    let f2 : o2 ≡ o ++ h ++ v = e2 ∙ ap (λ x. x ++ v) e1 in
-    let f3 : o3 ≡ o ++ h ++ v ++ t = e3 ∙ ap (λ x. x ++ t) f2 in
-    let f4 : o4 ≡ o ++ h ++ v ++ t ++ l = e4 ∙ ap (λ x. x ++ l) f3 in
-    let f5 : o5 ≡ o ++ h ++ v ++ t ++ l ++ b = e5 ∙ ap (λ x. x ++ b) f4 in
-    let f6 : o6 ≡ o ++ h ++ v ++ t ++ l ++ b ++ g = e6 ∙ ap (λ x. x ++ g) f5 in
-    e7 ∙ ap (λ x. x ++ z) f6 ∙ joined o h v t l b g z
+-- the top, the middle and the end of a picture
+pub printed : (o h v t l b k z o1 o2 o3 : List ℕ) → o1 ≡ o ++ (h ++ v ++ t) → o2 ≡ o1 ++ (l ++ b)
+    → o3 ≡ o2 ++ (k ++ z) → o3 ≡ o ++ (h ++ v ++ t ++ l ++ b ++ k ++ z)
+printed o h v t l b k z o1 o2 o3 e1 e2 e3 =
+    let top = h ++ v ++ t in
+    let both : o2 ≡ o ++ (top ++ l ++ b) =
+    two o top (l ++ b) o1 o2 e1 e2 ∙ ap (λ x. o ++ x) (sym (append_assoc top l b)) in
+    two o (top ++ l ++ b) (k ++ z) o2 o3 both e3
+    ∙ ap (λ x. o ++ x) (sym (append_assoc (top ++ l ++ b) k z))
 
 module _ {B : Type 0} (world : World) (rows : List NodeRef) (walk : Option Walk) (boxes : List Placed)
     (labels : List (Label B)) (i : ℕ) (text after whole : List ℕ) where

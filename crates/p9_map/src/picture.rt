@@ -178,17 +178,70 @@ fn draw_plan<T: Tree>(
     let spots = plan.spots.as_slice();
     let labels = labels(alloc, scene, spots)?;
     let layout = laid_out(alloc, scene, spots, labels.as_slice())?;
+    print_top(scene, verdict, standing, &layout, plan.left_out, out)?;
+    print_middle(scene, &layout, labels.as_slice(), out)?;
+    print_end(scene, &layout, plan, out)?;
+    Ok(())
+}
+
+// Prints what comes before the lines: the head, the verdict, the claim and how the certificate stands.
+fn print_top<T: Tree>(
+    scene: &Scene<'_, T>,
+    verdict: &str,
+    standing: Standing,
+    layout: &Layout<T::Alloc>,
+    left_out: usize,
+    out: &mut Vec<u8, T::Alloc>,
+) -> Result<(), NoMemory>
+    ensures { OnOk result ((head : List ℕ)
+        × (out.new.items ≡ out.old.items
+        ++ (head ++ verdict.now ++ title_text scene.now.world.now (standing_text standing)))) }
+{
+    let alloc = *out.allocator();
     let title = title(alloc, scene, standing)?;
-    let head = head(alloc, scene, &layout, plan.left_out)?;
-    let lines = lines(alloc, scene, &layout)?;
-    let boxes = boxes(alloc, scene, layout.boxes.as_slice(), labels.as_slice())?;
-    let legend = legend(alloc, scene, layout.height)?;
-    let last = last(alloc, scene, layout.height, plan)?;
+    let head = head(alloc, scene, layout, left_out)?;
     print_text(&head, out)?;
     out.extend_from_slice(verdict.as_bytes())?;
     print_text(&title, out)?;
+    Ok(())
+}
+
+// Prints the lines and the boxes.
+fn print_middle<T: Tree>(
+    scene: &Scene<'_, T>,
+    layout: &Layout<T::Alloc>,
+    labels: &[Label<T::Alloc>],
+    out: &mut Vec<u8, T::Alloc>,
+) -> Result<(), NoMemory>
+    requires { length layout.now.boxes.items ≡ length labels.now }
+    ensures { OnOk result ((lines : List ℕ)
+        × (out.new.items ≡ out.old.items
+        ++ (lines ++ boxes_text scene.now.world.now (rows_of (option_copied scene.now.reached))
+        (walk_in (option_copied scene.now.breach)) layout.now.boxes.items
+        (map label_texts labels.now)))) }
+{
+    let alloc = *out.allocator();
+    let lines = lines(alloc, scene, layout)?;
+    let boxes = boxes(alloc, scene, layout.boxes.as_slice(), labels)?;
     print_text(&lines, out)?;
     print_text(&boxes, out)?;
+    Ok(())
+}
+
+// Prints what comes behind the boxes: the legend, and what is left out.
+fn print_end<T: Tree>(
+    scene: &Scene<'_, T>,
+    layout: &Layout<T::Alloc>,
+    plan: &Plan<T::Alloc>,
+    out: &mut Vec<u8, T::Alloc>,
+) -> Result<(), NoMemory>
+    ensures { OnOk result ((legend : List ℕ) × (y : ℕ)
+        × (out.new.items ≡ out.old.items
+        ++ (legend ++ last_text y plan.now.left_out plan.now.marked_left_out))) }
+{
+    let alloc = *out.allocator();
+    let legend = legend(alloc, scene, layout.height)?;
+    let last = last(alloc, scene, layout.height, plan)?;
     print_text(&legend, out)?;
     print_text(&last, out)?;
     Ok(())

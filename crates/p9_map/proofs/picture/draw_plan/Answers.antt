@@ -1,11 +1,10 @@
-use Rattle.std.proofs.Common.{◌≡◌, ◌++◌, List, length, map, ap, subst, ◌∙◌, arith}
+use Rattle.std.proofs.Common.{◌≡◌, ◌++◌, List, length, map, ap, subst, refl, ◌∙◌, arith}
 use Rattle.std.specs.Option.{option_copied}
-use Rattle.std.specs.String.{string_bytes}
 use Rattle.std.proofs.lemmas.List.{length-map}
 use Rattle.std.proofs.lemmas.Slice.Zip.{AllZip-long}
 use Rattle.p9_map.specs.Label.{AreLabels, IsLabel, label_texts}
 use Rattle.p9_map.specs.Mark.{rows_of}
-use Rattle.p9_map.specs.Picture.{boxes_text, title_text}
+use Rattle.p9_map.specs.Picture.{boxes_text, last_text, title_text}
 use Rattle.p9_map.specs.Standing.{standing_text}
 use Rattle.p9_map.specs.Walk.{walk_in}
 use Rattle.p9_map.specs.declared.item.Placed.{Placed}
@@ -13,8 +12,8 @@ use Rattle.p9_map.specs.declared.order.Spot.{Spot}
 use Rattle.p9_map.proofs.Drawn.{printed}
 use Rattle.p9_map.proofs.picture.draw_plan.Goals as goal
 
-pub boxes-requires : goal.boxes-requires
-boxes-requires g c =
+pub print_middle-requires : goal.print_middle-requires
+print_middle-requires g c =
     let world = c.args.scene.now.world.now in
     let walk = walk_in (option_copied c.args.scene.now.breach) in
     let spots = c.as_slice-spots.result.now in
@@ -25,7 +24,6 @@ boxes-requires g c =
     c.in_ok-labels.ensures in
     omega (
       arith,
-      ap length c.as_slice-2.ensures.value,
       ap length c.as_slice-3.ensures.value,
       zipped,
       ap length c.in_ok-layout.ensures.nodes,
@@ -40,24 +38,20 @@ returns g c =
     let rows = rows_of (option_copied scene.reached) in
     let walk = walk_in (option_copied scene.breach) in
     let plan = c.args.plan.now in
-    let spots = plan.spots.items in
     let boxes = c.in_ok-layout.layout.boxes.items in
     let labels = map label_texts c.in_ok-labels.labels.items in
-    let standing = standing_text c.args.standing in
-    let h = string_bytes c.in_ok-head.head.text in
+    let top = c.in_ok-print_top.ensures in
+    let middle = c.in_ok-print_middle.ensures in
+    let last = c.in_ok-print_end.ensures in
     let v = c.args.verdict.now in
-    let t = string_bytes c.in_ok-title.title.text in
-    let l = string_bytes c.in_ok-lines.lines.text in
-    let b = string_bytes c.in_ok-boxes.boxes.text in
-    let k = string_bytes c.in_ok-legend.legend.text in
-    let z = string_bytes c.in_ok-last.last.text in
-    let y = c.in_ok-last.ensures.0 in
-    let is_boxes : b ≡ boxes_text world rows walk boxes labels =
-    c.in_ok-boxes.ensures
-    ∙ ap (λ bs. boxes_text world rows walk bs (map label_texts c.as_slice-3.result.now))
-    c.as_slice-2.ensures.value
-    ∙ ap (λ ls. boxes_text world rows walk boxes (map label_texts ls)) c.as_slice-3.ensures.value in (
-      h ++ v ++ t ++ l ++ b ++ k ++ z,
+    let t = title_text world (standing_text c.args.standing) in
+    let b = boxes_text world rows walk boxes labels in
+    let z = last_text last.1.0 plan.left_out plan.marked_left_out in
+    let is_middle : c.print_middle.new.out.items ≡ c.print_top.new.out.items ++ (middle.0 ++ b) =
+    middle.1
+    ∙ ap (λ ls. c.print_top.new.out.items
+    ++ (middle.0 ++ boxes_text world rows walk boxes (map label_texts ls))) c.as_slice-3.ensures.value in (
+      top.0 ++ v ++ t ++ middle.0 ++ b ++ last.0 ++ z,
       record {
         boxes = boxes;
         nodes =
@@ -67,22 +61,12 @@ returns g c =
         labelled =
             subst (λ (ss : List Spot). AreLabels world walk (map (λ s. s.node) ss) labels)
             c.as_slice-spots.ensures.value c.in_ok-labels.ensures;
-        head = h;
-        lines = l;
-        legend = k;
-        left_out_at = y;
-        is =
-            ap (λ t. h ++ v ++ t ++ l ++ b ++ k ++ z) c.in_ok-title.ensures
-            ∙ ap (λ b. h ++ v ++ title_text world standing ++ l ++ b ++ k ++ z) is_boxes
-            ∙ ap (λ z. h ++ v ++ title_text world standing ++ l
-            ++ boxes_text world rows walk boxes labels ++ k ++ z) c.in_ok-last.ensures.1;
+        head = top.0;
+        lines = middle.0;
+        legend = last.0;
+        left_out_at = last.1.0;
+        is = refl;
       },
-      printed c.args.out.now.items h v t l b k z c.print_text.new.out.items
-          c.extend_from_slice.new.self.items c.print_text-2.new.out.items c.print_text-3.new.out.items
-          c.print_text-4.new.out.items c.print_text-5.new.out.items c.print_text-6.new.out.items
-          c.in_ok-print_text.ensures
-          (c.in_ok-extend_from_slice.ensures.items
-          ∙ ap (λ bs. c.print_text.new.out.items ++ bs) c.as_bytes.ensures.value)
-          c.in_ok-print_text-2.ensures c.in_ok-print_text-3.ensures c.in_ok-print_text-4.ensures
-          c.in_ok-print_text-5.ensures c.in_ok-print_text-6.ensures,
+      printed c.args.out.now.items top.0 v t middle.0 b last.0 z c.print_top.new.out.items
+          c.print_middle.new.out.items c.print_end.new.out.items top.1 is_middle last.1.1,
     )
