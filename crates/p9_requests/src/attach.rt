@@ -74,7 +74,7 @@ fn reserve_attach<'a, A: Allocator + Copy>(
 /// listed, [`Fault::UnknownUser`]; the attach name is neither empty nor begins with a slash,
 /// [`Fault::UnknownAttachName`]; an allocation fails, [`Fault::OutOfMemory`]; the root place has no
 /// file, [`Fault::PhaseError`]; a step of the user's walk along the cleaned name is refused
-/// ([`p9_space::find_arrival`]); the file there is no directory, [`Fault::NotDirectory`]. No memory
+/// ([`p9_space::find_arrival_on`]); the file there is no directory, [`Fault::NotDirectory`]. No memory
 /// is allocated once a file is looked at.
 pub fn attach<T: Tree>(
     setting: &Setting<T::Alloc>,

@@ -87,7 +87,7 @@ fn reserve_walk<A: Allocator + Copy>(
 /// The first that applies refuses: the fid isn't there, [`Fault::UnknownFid`]; it is open,
 /// [`Fault::FidOpen`]; newfid is [`NOFID`], [`Fault::UnknownFid`]; newfid is another fid and can't
 /// be added ([`p9_fids::FidTable::put_fault`]); the first step is refused
-/// ([`p9_space::find_arrival`]); an allocation failed, [`Fault::OutOfMemory`]. At a refusal the
+/// ([`p9_space::find_arrival_on`]); an allocation failed, [`Fault::OutOfMemory`]. At a refusal the
 /// session is unchanged. No memory is allocated once a file is looked at.
 pub fn walk<T: Tree>(
     setting: &Setting<T::Alloc>,

@@ -122,6 +122,13 @@ impl<A: Allocator + Copy> Channels<A> {
         &self.trail
     }
 
+    /// The places alone.
+    pub fn into_trail(self) -> Trail<A>
+        ensures { result ≡ trail_of self.entry }
+    {
+        self.trail
+    }
+
     /// The rows of the places.
     pub(crate) fn rows(&self) -> &[Option<usize>]
         ensures { result.now ≡ self.now.rows }
@@ -189,7 +196,7 @@ impl<A: Allocator + Copy> Channels<A> {
     }
 }
 
-/// One step from the last of places whose rows are these, as [`crate::find_arrival`].
+/// One step from the last of places whose rows are these, as [`crate::find_arrival_on`].
 pub(crate) fn find_arrival_by_rows<'a, T: Tree, A: Allocator + Copy, B: Allocator + Copy>(
     forest: &'a Forest<T>,
     table: &MountTable<A>,

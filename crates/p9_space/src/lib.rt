@@ -21,5 +21,5 @@ pub use rights::{TO_EXECUTE, TO_READ, TO_WRITE, Who, may, rules};
 pub use row::{Member, Members, Order};
 pub use table::{MountTable, UnmountError};
 pub use trail::{PLACES_MAX, ROOT_PLACE, Step, Trail};
-pub use walk::{Arrival, dir_fault, find_arrival, resolve};
+pub use walk::{Arrival, dir_fault, resolve};
 pub use way::{Way, advance_on, find_arrival_on};

@@ -18,10 +18,11 @@ ghost use Rattle.p9_space.specs.Walk.{step_among, step_of, walk};
 ghost use Rattle.p9_space.specs.declared.trail.Step.TheVariants.{To};
 ghost use Rattle.p9_tree.specs.Forest.{node_of};
 
+use crate::channel::{Channels, advance};
 use crate::rights::{TO_EXECUTE, Who, may};
 use crate::row::Member;
 use crate::table::MountTable;
-use crate::trail::{PLACES_MAX, Step, Trail, above, last};
+use crate::trail::{PLACES_MAX, Step, Trail, above};
 use p9_base::{Fault, Name, NodeRef};
 use p9_tree::{Forest, Node, Tree};
 use std::alloc::Allocator;
@@ -243,68 +244,6 @@ pub struct Arrival<'a, A: Allocator + Copy> {
     pub file: &'a Node<A>,
 }
 
-/// One step of a walk from the last place of a trail, by any text as a name, and the file where it
-/// arrives. Without a user it isn't tested whether a directory may be searched.
-///
-/// The first that applies is the fault: no member of the last place exists: [`Fault::PhaseError`];
-/// none that exists is a directory: [`Fault::NotDirectory`]; for a name other than `..`, none of
-/// these directories may be searched by the user: [`Fault::PermissionDenied`]; none that may has a
-/// child of the name: [`Fault::NotFound`]; the trail has [`PLACES_MAX`] places:
-/// [`Fault::PathTooDeep`]; and the file of the new last place doesn't exist: [`Fault::PhaseError`].
-pub fn find_arrival<'a, T: Tree, A: Allocator + Copy, B: Allocator + Copy>(
-    forest: &'a Forest<T>,
-    table: &MountTable<A>,
-    trail: &Trail<B>,
-    name: &str,
-    who: Option<Who<'_, B>>,
-) -> Result<Arrival<'a, T::Alloc>, Fault>
-    ensures ok { IfOk result (λ arrival. step_of forest.now table.now
-        (option_map who_view who.entry) trail.now name.now ≡ Ok arrival.step) }
-    ensures err { IfErr result (λ fault. step_of forest.now table.now
-        (option_map who_view who.entry) trail.now name.now ≡ Err fault) }
-    ensures row { IfOk result (λ arrival. arrival.row
-        ≡ row_position (here (stepped trail.now arrival.step)) table.now) }
-    ensures at { IfOk result (λ arrival. arrival.at
-        ≡ file_ref (here (stepped trail.now arrival.step)) table.now) }
-    ensures file { IfOk result (λ arrival. node_of arrival.at forest.now ≡ Some arrival.file.now) }
-    ensures places { IfOk result (λ arrival. length (stepped trail.now arrival.step) ≤ places_max) }
-{
-    trail.well_formed();
-    let row = table.position(trail.here());
-    find_arrival_at(forest, table, trail.as_slice(), row, name, who)
-}
-
-// The same, by the row of the last place.
-fn find_arrival_at<'a, T: Tree, A: Allocator + Copy, B: Allocator + Copy>(
-    forest: &'a Forest<T>,
-    table: &MountTable<A>,
-    trail: &[NodeRef],
-    row: Option<usize>,
-    name: &str,
-    who: Option<Who<'_, B>>,
-) -> Result<Arrival<'a, T::Alloc>, Fault>
-    requires trail { IsTrail trail.now }
-    requires row { row ≡ row_position (here trail.now) table.now }
-    ensures ok { IfOk result (λ arrival. step_of forest.now table.now
-        (option_map who_view who.entry) trail.now name.now ≡ Ok arrival.step) }
-    ensures err { IfErr result (λ fault. step_of forest.now table.now
-        (option_map who_view who.entry) trail.now name.now ≡ Err fault) }
-    ensures row { IfOk result (λ arrival. arrival.row
-        ≡ row_position (here (stepped trail.now arrival.step)) table.now) }
-    ensures at { IfOk result (λ arrival. arrival.at
-        ≡ file_ref (here (stepped trail.now arrival.step)) table.now) }
-    ensures file { IfOk result (λ arrival. node_of arrival.at forest.now ≡ Some arrival.file.now) }
-    ensures places { IfOk result (λ arrival. length (stepped trail.now arrival.step) ≤ places_max) }
-{
-    let members = table.members_at(row, last(trail));
-    if name == ".." {
-        let row = table.position(above(trail));
-        arrive_up(forest, table, trail, members.as_slice(), row)
-    } else {
-        arrive_down(forest, table, trail, members.as_slice(), name, who)
-    }
-}
-
 /// Where `..` arrives from the members of the last place, by the row of the place above.
 pub(crate) fn arrive_up<'a, T: Tree, A: Allocator + Copy>(
     forest: &'a Forest<T>,
@@ -398,7 +337,7 @@ fn arrive_at<'a, T: Tree, A: Allocator + Copy>(
 }
 
 /// Walks from a trail along names, each any text; the answer is a trail of its own. The fault is
-/// that of the first step that is refused, as [`find_arrival`] says, or [`Fault::OutOfMemory`].
+/// that of the first step that is refused, as [`crate::find_arrival_on`] says, or [`Fault::OutOfMemory`].
 pub fn resolve<T: Tree, A: Allocator + Copy, B: Allocator + Copy>(
     forest: &Forest<T>,
     table: &MountTable<A>,
@@ -412,13 +351,7 @@ pub fn resolve<T: Tree, A: Allocator + Copy, B: Allocator + Copy>(
         (walk forest.now table.now (option_map who_view who.entry) start.now
         (map (λ n. n.now) names.now) ≡ Err fault)) }
 {
-    let mut trail = start.copy()?;
-    let mut row = table.position(trail.here());
-    for name in names {
-        trail.well_formed();
-        let arrival = find_arrival_at(forest, table, trail.as_slice(), row, name, who)?;
-        trail.take(arrival.step)?;
-        row = arrival.row;
-    }
-    Ok(trail)
+    let mut channels = Channels::of(table, start)?;
+    advance(forest, table, &mut channels, names, who)?;
+    Ok(channels.into_trail())
 }

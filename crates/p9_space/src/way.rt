@@ -137,8 +137,14 @@ impl Way {
     }
 }
 
-/// One step from the last place, as [`crate::find_arrival`]. For `..` no row is looked
-/// up.
+/// One step of a walk from the last place, by any text as a name, and the file where it arrives. Without
+/// a user it isn't tested whether a directory may be searched.
+///
+/// The first that applies is the fault: no member of the last place exists: [`Fault::PhaseError`];
+/// none that exists is a directory: [`Fault::NotDirectory`]; for a name other than `..`, none of
+/// these directories may be searched by the user: [`Fault::PermissionDenied`]; none that may has a
+/// child of the name: [`Fault::NotFound`]; the way has [`PLACES_MAX`] places:
+/// [`Fault::PathTooDeep`]; and the file of the new last place doesn't exist: [`Fault::PhaseError`].
 pub fn find_arrival_on<'a, T: Tree, A: Allocator + Copy, B: Allocator + Copy>(
     forest: &'a Forest<T>,
     table: &MountTable<A>,

@@ -7,7 +7,7 @@ use crate::space::worlds::{Space, space_of};
 use p9_base::{Groups, NoMemory, User};
 use p9_index::IndexTree;
 use p9_space::{
-    Channels, MountTable, TO_EXECUTE, TO_READ, TO_WRITE, Who, advance, find_arrival,
+    Channels, MountTable, TO_EXECUTE, TO_READ, TO_WRITE, Way, Who, advance, find_arrival_on,
     is_table_given, may, resolve, rules,
 };
 use p9_tree::{Forest, PlainTree, Tree};
@@ -103,10 +103,11 @@ fn who<'a, A: Allocator + Copy>(
 // Looks where one step leads.
 fn find<T: Tree>(rt: &impl Abort, space: &Space<T>, line: &mut &str, told: &mut String) {
     let user = take_user(line);
-    let found = find_arrival(
+    let channels = Channels::of(&space.table, &space.trail).expect(rt, "memory");
+    let found = find_arrival_on(
         &space.forest,
         &space.table,
-        &space.trail,
+        &Way::of(&channels),
         line,
         who(&user, &space.groups),
     );
