@@ -67,27 +67,48 @@ fn push_faults_in<T: Tree>(
     let Some(first) = source.text(section) else {
         return Ok(());
     };
-    let alloc = *text.allocator();
-    let mut draft = Draft::of(alloc, first)?;
+    let mut draft = Draft::of(*text.allocator(), first)?;
+    push_faults_of::<T>(text, source, section, &mut draft)
+}
+
+// Adds the bad lines of a section, whose text the draft has. Each is mended there.
+fn push_faults_of<T: Tree>(
+    text: &mut String<T::Alloc>,
+    source: &Source<'_, T::Alloc>,
+    section: Section,
+    draft: &mut Draft<T::Alloc>,
+) -> Result<(), NoMemory> {
     let mut last = None;
     for _ in 0..FAULTS_MAX {
-        let Some(fault) = first_fault::<T>(alloc, section, draft.text.as_str())? else {
-            return Ok(());
-        };
-        let line = fault.line.saturating_sub(draft.before);
-        let again = last == Some(line);
-        if !again {
-            source.push_line(text, section, line)?;
-            push_fault(text, fault, draft.text.as_str())?;
-        }
-        draft.mend(alloc, fault, again)?;
-        last = Some(line);
-        if fault.line == 0 {
+        last = push_next_fault::<T>(text, source, section, draft, last)?;
+        if last.is_none() {
             return Ok(());
         }
     }
     writeln!(text, "{}: there may be more bad lines", source.name)?;
     Ok(())
+}
+
+// Adds the first bad line that is left, and mends it. Returns its number, or `None` where none is left.
+fn push_next_fault<T: Tree>(
+    text: &mut String<T::Alloc>,
+    source: &Source<'_, T::Alloc>,
+    section: Section,
+    draft: &mut Draft<T::Alloc>,
+    last: Option<u64>,
+) -> Result<Option<u64>, NoMemory> {
+    let alloc = *text.allocator();
+    let Some(fault) = first_fault::<T>(alloc, section, draft.text.as_str())? else {
+        return Ok(None);
+    };
+    let line = fault.line.saturating_sub(draft.before);
+    let again = last == Some(line);
+    if !again {
+        source.push_line(text, section, line)?;
+        push_fault(text, fault, draft.text.as_str())?;
+    }
+    draft.mend(alloc, fault, again)?;
+    Ok(if fault.line == 0 { None } else { Some(line) })
 }
 
 // Adds what is wrong with a line of the text that is read of a section, and what was expected.

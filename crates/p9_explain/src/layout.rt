@@ -30,39 +30,70 @@ pub(crate) fn layout_of<A: Allocator + Copy>(
     alloc: A,
     input: &str,
 ) -> Result<Vec<Line<'_>, A>, NoMemory> {
-    let mut layout = Vec::new(alloc);
-    let mut begun = Vec::new(alloc);
-    let mut current = None;
-    let mut headed = false;
-    let (mut number, mut start) = (0u64, 0usize);
+    let mut layout = Layout {
+        lines: Vec::new(alloc),
+        begun: Vec::new(alloc),
+        current: None,
+        headed: false,
+        start: 0,
+    };
     for text in lines(alloc, input)?.as_slice() {
-        number = number.saturating_add(1);
+        layout.add(text)?;
+    }
+    Ok(layout.lines)
+}
+
+// The lines that were read so far.
+#[derive(Drop)]
+struct Layout<'a, A: Allocator + Copy> {
+    lines: Vec<Line<'a>, A>,
+    // the sections that were begun, also those that were begun before
+    begun: Vec<Section, A>,
+    // the section that the next line belongs to
+    current: Option<Section>,
+    // whether there was a section line
+    headed: bool,
+    // the place of the next line's first byte
+    start: usize,
+}
+
+impl<'a, A: Allocator + Copy> Layout<'a, A> {
+    // Adds the next line.
+    fn add(&mut self, text: &'a str) -> Result<(), NoMemory> {
         let head = head_of(text);
-        let way = way_of(head, text, begun.as_slice(), headed);
-        let mut begins = None;
-        if let Head::Begins(section) | Head::Bad(Some(section), _) = head {
-            begins = new_section(section, begun.as_slice());
-            begun.push(section)?;
-        }
-        let mut section = None;
-        if matches!(head, Head::Other) {
-            section = current;
+        let way = way_of(head, text, self.begun.as_slice(), self.headed);
+        let begins = self.begin(head)?;
+        let section = if matches!(head, Head::Other) {
+            self.current
         } else {
-            current = begins;
-            headed = true;
+            None
+        };
+        if !matches!(head, Head::Other) {
+            self.current = begins;
+            self.headed = true;
         }
         let line = Line {
-            number,
-            start,
+            number: (self.lines.len() as u64).saturating_add(1),
+            start: self.start,
             text,
             section,
             begins,
             way,
         };
-        start = line.end();
-        layout.push(line)?;
+        self.start = line.end();
+        self.lines.push(line)?;
+        Ok(())
     }
-    Ok(layout)
+
+    // The section that a line with this head begins, unless it was begun before.
+    fn begin(&mut self, head: Head) -> Result<Option<Section>, NoMemory> {
+        let (Head::Begins(section) | Head::Bad(Some(section), _)) = head else {
+            return Ok(None);
+        };
+        let begins = new_section(section, self.begun.as_slice());
+        self.begun.push(section)?;
+        Ok(begins)
+    }
 }
 
 // The section, unless it was begun before.

@@ -95,6 +95,7 @@ impl<A: Allocator + Copy> Channels<A> {
         table: &MountTable<B>,
         way: &Way,
     ) -> Result<Channels<A>, NoMemory>
+        requires { Fits table.now way.now }
         ensures { IfOk result (λ channels. channels ≡ way.now) }
     {
         way.well_formed();
@@ -124,7 +125,7 @@ impl<A: Allocator + Copy> Channels<A> {
 
     /// The places alone.
     pub fn into_trail(self) -> Trail<A>
-        ensures { result ≡ trail_of self.entry }
+        ensures { result ≡ trail_of self }
     {
         self.trail
     }
