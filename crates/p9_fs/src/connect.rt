@@ -105,30 +105,39 @@ fn begin(
     }
 }
 
-// Connects to the server of an address: to the first of its addresses that answers. All of them together
-// have so many seconds.
+// Connects to the server of an address within so many seconds.
 fn connected(
     rt: &HostRuntime,
     address: &str,
     is_reported: bool,
     timeout: u64,
 ) -> io::Result<Watched> {
+    let stream = stream_to(rt, address, timeout)?;
+    let _ = stream.set_nodelay(true);
+    Watched::new(*rt, stream, is_reported, timeout)
+}
+
+// A stream to the first of the addresses that answers. All of them together have so many seconds.
+fn stream_to(rt: &HostRuntime, address: &str, timeout: u64) -> io::Result<TcpStream> {
     let start = Instant::now(rt)?;
+    let addresses = address.to_socket_addrs(rt)?;
     let mut last = io::Error::from(ErrorKind::InvalidInput);
-    for found in address.to_socket_addrs(rt)? {
-        let left = Duration::from_secs(timeout).saturating_sub(start.elapsed(rt)?);
+    for found in addresses {
+        let left = left_since(rt, start, timeout)?;
         if left.is_zero() {
             break;
         }
         match TcpStream::connect_timeout(rt, &found, left) {
-            Ok(stream) => {
-                let _ = stream.set_nodelay(true);
-                return Watched::new(*rt, stream, is_reported, timeout);
-            }
+            Ok(stream) => return Ok(stream),
             Err(error) => last = error,
         }
     }
     Err(last)
+}
+
+// How long is left of so many seconds since an instant.
+fn left_since(rt: &HostRuntime, start: Instant, timeout: u64) -> io::Result<Duration> {
+    Ok(Duration::from_secs(timeout).saturating_sub(start.elapsed(rt)?))
 }
 
 // Reports why the server of an address has no session for the user.

@@ -9,7 +9,7 @@ use crate::remote::{FILE, PERMISSIONS, clunk_after, entries_of, open_file, stat_
 use crate::sink::Sink;
 use p9_client::{Entry, FileError};
 use p9_files::NewFile;
-use std::alloc::Global;
+use std::alloc::{AllocError, Global};
 use std::fs::{self, DirBuilder, File, Permissions};
 use std::io::ErrorKind;
 use std::os::unix::fs::{DirBuilderExt, PermissionsExt};
@@ -161,12 +161,23 @@ impl Getting {
         self.left.count(rt, first.path.as_str(), first.depth)?;
         let mut pending = Vec::new(rt.alloc());
         pending.push(first)?;
+        self.get_pending(rt, client, &mut pending)
+    }
+
+    // Copies what is to be copied, the last one first. What can't be copied is reported, and the rest is
+    // copied.
+    fn get_pending(
+        &mut self,
+        rt: &HostRuntime,
+        client: &mut Client,
+        pending: &mut Vec<Pending>,
+    ) -> Result<(), Failure> {
         let mut outcome = Outcome::new();
         for _ in 0..u64::MAX {
             let Some(next) = pending.pop() else {
                 break;
             };
-            outcome.note(self.get_next(rt, client, next, &mut pending))?;
+            outcome.note(self.get_next(rt, client, next, pending))?;
         }
         outcome.end()
     }
@@ -216,21 +227,12 @@ impl Getting {
         dir: &Pending,
         pending: &mut Vec<Pending>,
     ) -> Result<(), Failure> {
-        let name = entry.name.as_str();
-        if !is_inside(name) {
-            let text = format!(in rt.alloc(); "a file is named '{name}'")?;
-            return Err(report_about(rt, dir.path.as_str(), &text.as_str(), Failure::Refused));
+        if !is_inside(entry.name.as_str()) {
+            return Err(leads_elsewhere(rt, dir.path.as_str(), entry.name.as_str()));
         }
-        let path = joined(rt.alloc(), dir.path.as_str(), name)?;
-        let local = joined(rt.alloc(), dir.local.as_str(), name)?;
-        let depth = dir.depth.saturating_add(1);
-        self.left.count(rt, path.as_str(), depth)?;
-        pending.push(Pending {
-            entry,
-            path,
-            local,
-            depth,
-        })?;
+        let next = pending_in(rt.alloc(), dir, entry)?;
+        self.left.count(rt, next.path.as_str(), next.depth)?;
+        pending.push(next)?;
         Ok(())
     }
 
@@ -276,16 +278,26 @@ impl Getting {
             is_exceeded: _,
             is_copied: _,
         } = sink;
-        let local = next.local.as_str();
-        let entry = &next.entry;
-        if let Err(failure) = read {
-            finish_local(rt, local, file.discard(rt))?;
-            return Err(failure);
-        }
-        finish_local(rt, local, file.finish(rt, self.mode_of(entry)))?;
+        end_file(
+            rt,
+            next.local.as_str(),
+            file,
+            self.mode_of(&next.entry),
+            read,
+        )?;
+        self.end_copied(rt, next, copy.as_slice())
+    }
+
+    // Notes a file that was copied with its bytes, and gives it its owner.
+    fn end_copied(
+        &mut self,
+        rt: &HostRuntime,
+        next: &Pending,
+        bytes: &[u8],
+    ) -> Result<(), Failure> {
         self.owners
-            .note_file(rt, next.path.as_str(), entry, copy.as_slice())?;
-        self.owners.give(rt, local, entry)
+            .note_file(rt, next.path.as_str(), &next.entry, bytes)?;
+        self.owners.give(rt, next.local.as_str(), &next.entry)
     }
 
     // Reads the server's open file, as far as the limits go.
@@ -320,14 +332,55 @@ impl Getting {
     fn set_modes(&self, rt: &HostRuntime) -> Result<(), Failure> {
         let mut outcome = Outcome::new();
         for dir in self.made.iter().rev() {
-            let local = dir.local.as_str();
-            let permissions = Permissions::from_mode(self.mode_of(&dir.entry));
-            outcome.note(self.owners.give(rt, local, &dir.entry))?;
-            let set = fs::set_permissions(rt, local, permissions);
-            outcome.note(finish_local(rt, local, set))?;
+            self.set_mode(rt, dir, &mut outcome)?;
         }
         outcome.end()
     }
+
+    // Gives a directory that was made its owner, and then its mode.
+    fn set_mode(&self, rt: &HostRuntime, dir: &Made, outcome: &mut Outcome) -> Result<(), Failure> {
+        let local = dir.local.as_str();
+        outcome.note(self.owners.give(rt, local, &dir.entry))?;
+        let permissions = Permissions::from_mode(self.mode_of(&dir.entry));
+        let set = fs::set_permissions(rt, local, permissions);
+        outcome.note(finish_local(rt, local, set))
+    }
+}
+
+// Reports that a file of a directory has a name that leads elsewhere, and returns how its copy failed.
+fn leads_elsewhere(rt: &HostRuntime, dir: &str, name: &str) -> Failure {
+    match format!(in rt.alloc(); "a file is named '{name}'") {
+        Ok(text) => report_about(rt, dir, &text.as_str(), Failure::Refused),
+        Err(_) => Failure::NoMemory,
+    }
+}
+
+// What an entry of a directory is copied from, and where it goes.
+fn pending_in(alloc: Global, dir: &Pending, entry: Entry<Global>) -> Result<Pending, AllocError> {
+    let path = joined(alloc, dir.path.as_str(), entry.name.as_str())?;
+    let local = joined(alloc, dir.local.as_str(), entry.name.as_str())?;
+    Ok(Pending {
+        entry,
+        path,
+        local,
+        depth: dir.depth.saturating_add(1),
+    })
+}
+
+// Ends a new file into which was read: it takes its place with this mode, or is discarded where that
+// failed.
+fn end_file(
+    rt: &HostRuntime,
+    local: &str,
+    file: NewFile<File, Global>,
+    mode: u32,
+    read: Result<(), Failure>,
+) -> Result<(), Failure> {
+    if let Err(failure) = read {
+        finish_local(rt, local, file.discard(rt))?;
+        return Err(failure);
+    }
+    finish_local(rt, local, file.finish(rt, mode))
 }
 
 // Makes the directory of the system for one of the server, where there is none. Returns whether it was

@@ -98,23 +98,7 @@ impl Owners {
             return Ok(());
         };
         let names = plain_names(rt, path, lines.root.as_str())?;
-        let (uid, gid) = plain_owners(rt, path, entry)?;
-        if let Err(unfit) = fit_size(bytes.len() as u64) {
-            return Err(unfit_of(rt, path, unfit));
-        }
-        let line = FileLine {
-            path: names.as_slice(),
-            flags: FileFlags {
-                append_only: entry.mode & DMAPPEND != 0,
-                exclusive: entry.mode & DMEXCL != 0,
-                temporary: entry.mode & DMTMP != 0,
-            },
-            permissions: permissions_of(entry.mode),
-            uid,
-            gid,
-            bytes,
-        };
-        Ok(write_file(rt.alloc(), &line, &mut lines.text)?)
+        lines.add_file(rt, path, names.as_slice(), entry, bytes)
     }
 
     /// Gives a file of the system the owner and the group of one of the server, where owners are given
@@ -135,6 +119,18 @@ impl Owners {
         }
         let uid = number_of(accounts.users.as_str(), entry.uid.as_str());
         let gid = number_of(accounts.groups.as_str(), entry.gid.as_str());
+        self.give_numbers(rt, local, uid, gid)
+    }
+
+    // Gives a file of the system the owner and the group of these numbers. One that is missing is
+    // reported, unless the lines of a world have it.
+    fn give_numbers(
+        &self,
+        rt: &HostRuntime,
+        local: &str,
+        uid: Option<u32>,
+        gid: Option<u32>,
+    ) -> Result<(), Failure> {
         let given = finish_local(rt, local, lchown(rt, local, uid, gid));
         if (uid.is_none() || gid.is_none()) && !self.are_noted() {
             let what = "this system has no such owner or group";
@@ -221,19 +217,54 @@ impl Lines {
         self.text.extend_from_slice(b"%% world\n")?;
         write_server(alloc, server, &mut self.text)
     }
+
+    // Adds the file of these names with its bytes. One that a world can't have is reported.
+    fn add_file(
+        &mut self,
+        rt: &HostRuntime,
+        path: &str,
+        names: &[PlainName],
+        entry: &Entry<Global>,
+        bytes: &[u8],
+    ) -> Result<(), Failure> {
+        let (uid, gid) = plain_owners(rt, path, entry)?;
+        if let Err(unfit) = fit_size(bytes.len() as u64) {
+            return Err(unfit_of(rt, path, unfit));
+        }
+        let line = FileLine {
+            path: names,
+            flags: flags_of(entry.mode),
+            permissions: permissions_of(entry.mode),
+            uid,
+            gid,
+            bytes,
+        };
+        Ok(write_file(rt.alloc(), &line, &mut self.text)?)
+    }
 }
 
 // The names of a path below the root, as a world has them.
 fn plain_names(rt: &HostRuntime, path: &str, root: &str) -> Result<Vec<PlainName>, Failure> {
     let below = path.strip_prefix(root).unwrap_or(path);
-    let mut names = Vec::new(rt.alloc());
-    for name in names_of(rt.alloc(), below)?.as_slice() {
-        match PlainName::new(name) {
-            Ok(name) => names.push(name)?,
-            Err(unfit) => return Err(unfit_of(rt, path, unfit)),
-        }
+    let names = names_of(rt.alloc(), below)?;
+    all_plain(rt, path, names.as_slice())
+}
+
+// The names of a path, as a world has them.
+fn all_plain(rt: &HostRuntime, path: &str, names: &[&str]) -> Result<Vec<PlainName>, Failure> {
+    let mut plain = Vec::new(rt.alloc());
+    for name in names {
+        plain.push(plain_name(rt, path, name)?)?;
     }
-    Ok(names)
+    Ok(plain)
+}
+
+// A name of a path, as a world has it.
+fn plain_name(rt: &HostRuntime, path: &str, name: &str) -> Result<PlainName, Failure> {
+    match PlainName::new(name) {
+        Ok(name) => Ok(name),
+        Err(unfit) => Err(unfit_of(rt, path, unfit)),
+    }
 }
 
 // The owner and the group of a file, as a world has them.
@@ -248,6 +279,15 @@ fn plain_owners(
     ) {
         (Ok(uid), Ok(gid)) => Ok((uid, gid)),
         (Err(unfit), _) | (_, Err(unfit)) => Err(unfit_of(rt, path, unfit)),
+    }
+}
+
+// The flags of a file of this mode.
+fn flags_of(mode: u32) -> FileFlags {
+    FileFlags {
+        append_only: mode & DMAPPEND != 0,
+        exclusive: mode & DMEXCL != 0,
+        temporary: mode & DMTMP != 0,
     }
 }
 

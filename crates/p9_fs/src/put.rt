@@ -11,6 +11,7 @@ use p9_base::DMAPPEND;
 use p9_client::{ClientError, FileError};
 use p9_files::Dir;
 use p9_wire::Stat;
+use std::alloc::{AllocError, Global};
 use std::fs;
 use std::fs::{File, Metadata};
 use std::io::{self, Read};
@@ -142,10 +143,20 @@ fn begin_write(
         return Ok(Target::There);
     }
     let name = walk_to_parent(rt, client, path)?;
-    let error = match client.create(FILE, name, mode, OWRITE) {
-        Ok(_) => return Ok(Target::Made),
-        Err(error) => error,
-    };
+    match client.create(FILE, name, mode, OWRITE) {
+        Ok(_) => Ok(Target::Made),
+        Err(error) => open_instead(rt, client, path, length, error),
+    }
+}
+
+// Opens the file of a path after it could not be made.
+fn open_instead(
+    rt: &HostRuntime,
+    client: &mut Client,
+    path: &str,
+    length: u64,
+    error: ClientError,
+) -> Result<Target, Failure> {
     clunk_after(rt, client, path, Ok(()))?;
     // Another client may have made it meanwhile.
     if !error.ends_session() && opened(rt, client, path, length)? {
@@ -184,14 +195,20 @@ fn try_open(rt: &HostRuntime, client: &mut Client, length: u64) -> Result<(), Cl
     Ok(())
 }
 
+// The path of a file of the system, and that of the server's file that it is copied to.
+#[derive(Drop)]
+struct Paths {
+    local: String,
+    path: String,
+}
+
 // A directory of the system that is copied: it is open, of its entries these are still to be copied, the
 // next one last.
 #[derive(Drop)]
 struct Level {
     dir: Dir,
     names: Vec<String>,
-    local: String,
-    path: String,
+    paths: Paths,
 }
 
 // A directory of the server that was made, with the permissions that it gets at the end.
@@ -217,44 +234,102 @@ fn put_tree(rt: &HostRuntime, client: &mut Client, local: &str, path: &str) -> R
         made: Vec::new(rt.alloc()),
         outcome: Outcome::new(),
     };
-    let dir = finish_local(rt, local, Dir::open(local))?;
-    let local = String::from_str(rt.alloc(), local)?;
-    let path = String::from_str(rt.alloc(), path)?;
-    putting.push(rt, client, dir, local, path)?;
-    let done = putting.put_levels(rt, client);
-    putting.set_modes(rt, client)?;
-    done?;
-    putting.outcome.end()
+    putting.push_first(rt, client, local, path)?;
+    putting.put_all(rt, client)
+}
+
+// The paths of a file of the system and of the server.
+fn paths_of(alloc: Global, local: &str, path: &str) -> Result<Paths, AllocError> {
+    let local = String::from_str(alloc, local)?;
+    let path = String::from_str(alloc, path)?;
+    Ok(Paths { local, path })
+}
+
+// The paths of a name in a directory.
+fn paths_in(alloc: Global, dir: &Paths, name: &str) -> Result<Paths, AllocError> {
+    let local = joined(alloc, dir.local.as_str(), name)?;
+    let path = joined(alloc, dir.path.as_str(), name)?;
+    Ok(Paths { local, path })
 }
 
 impl Putting {
+    // Begins the directory of a path.
+    fn push_first(
+        &mut self,
+        rt: &HostRuntime,
+        client: &mut Client,
+        local: &str,
+        path: &str,
+    ) -> Result<(), Failure> {
+        let dir = finish_local(rt, local, Dir::open(local))?;
+        let paths = paths_of(rt.alloc(), local, path)?;
+        self.push(rt, client, dir, paths)
+    }
+
+    // Copies what is in the directories, and then gives those that were made their permissions.
+    fn put_all(&mut self, rt: &HostRuntime, client: &mut Client) -> Result<(), Failure> {
+        let done = self.put_levels(rt, client);
+        self.set_modes(rt, client)?;
+        done?;
+        self.outcome.end()
+    }
+
     // Begins a directory: makes that of the server, and adds its entries.
     fn push(
         &mut self,
         rt: &HostRuntime,
         client: &mut Client,
         dir: Dir,
-        local: String,
-        path: String,
+        paths: Paths,
     ) -> Result<(), Failure> {
-        let metadata = finish_local(rt, local.as_str(), dir.metadata(rt))?;
+        let names = self.begin_dir(rt, client, &dir, &paths)?;
+        self.levels.push(Level { dir, names, paths })?;
+        Ok(())
+    }
+
+    // Makes the directory of the server for one of the system, and returns the names of its entries.
+    fn begin_dir(
+        &mut self,
+        rt: &HostRuntime,
+        client: &mut Client,
+        dir: &Dir,
+        paths: &Paths,
+    ) -> Result<Vec<String>, Failure> {
+        let metadata = finish_local(rt, paths.local.as_str(), dir.metadata(rt))?;
+        let names = self.names_in(rt, dir, paths.local.as_str())?;
         let mode = metadata.permissions().mode() & PERMISSIONS;
-        let listing = finish_local(rt, local.as_str(), dir.names(rt))?;
+        self.make(rt, client, paths.path.as_str(), mode)?;
+        Ok(names)
+    }
+
+    // The names of a directory of the system. That some are not UTF-8 is reported.
+    fn names_in(
+        &mut self,
+        rt: &HostRuntime,
+        dir: &Dir,
+        local: &str,
+    ) -> Result<Vec<String>, Failure> {
+        let listing = finish_local(rt, local, dir.names(rt))?;
         if listing.others > 0 {
             let what = "left out: names that are not UTF-8";
-            let failure = report_about(rt, local.as_str(), &what, Failure::Local);
+            let failure = report_about(rt, local, &what, Failure::Local);
             self.outcome.note(Err(failure))?;
         }
-        if make_dir(rt, client, path.as_str(), mode)? {
-            let path = String::from_str(rt.alloc(), path.as_str())?;
+        Ok(listing.names)
+    }
+
+    // Makes a directory of the server, unless it is there, and notes one whose permissions are to be set.
+    fn make(
+        &mut self,
+        rt: &HostRuntime,
+        client: &mut Client,
+        path: &str,
+        mode: u32,
+    ) -> Result<(), Failure> {
+        if make_dir(rt, client, path, mode)? {
+            let path = String::from_str(rt.alloc(), path)?;
             self.made.push(Made { path, mode })?;
         }
-        self.levels.push(Level {
-            dir,
-            names: listing.names,
-            local,
-            path,
-        })?;
         Ok(())
     }
 
@@ -268,12 +343,24 @@ impl Putting {
                 let _ = self.levels.pop();
                 continue;
             };
-            let local = joined(rt.alloc(), level.local.as_str(), name.as_str())?;
-            let path = joined(rt.alloc(), level.path.as_str(), name.as_str())?;
-            let done = self.put_entry(rt, client, name.as_str(), local, path);
-            self.outcome.note(done)?;
+            self.put_name(rt, client, name.as_str())?;
         }
         Ok(())
+    }
+
+    // Copies the entry of this name of the last directory, and notes how that ended.
+    fn put_name(
+        &mut self,
+        rt: &HostRuntime,
+        client: &mut Client,
+        name: &str,
+    ) -> Result<(), Failure> {
+        let Some(level) = self.levels.last() else {
+            return Ok(());
+        };
+        let paths = paths_in(rt.alloc(), &level.paths, name)?;
+        let done = self.put_entry(rt, client, name, paths);
+        self.outcome.note(done)
     }
 
     // Copies the entry of this name of the last directory.
@@ -282,28 +369,17 @@ impl Putting {
         rt: &HostRuntime,
         client: &mut Client,
         name: &str,
-        local: String,
-        path: String,
+        paths: Paths,
     ) -> Result<(), Failure> {
         let Some(level) = self.levels.last() else {
             return Ok(());
         };
-        let metadata = finish_local(rt, local.as_str(), level.dir.look(rt, name))?;
+        let metadata = finish_local(rt, paths.local.as_str(), level.dir.look(rt, name))?;
         if metadata.is_dir() {
-            let dir = finish_local(rt, local.as_str(), level.dir.open_dir(name))?;
-            return self.push(rt, client, dir, local, path);
+            let dir = finish_local(rt, paths.local.as_str(), level.dir.open_dir(name))?;
+            return self.push(rt, client, dir, paths);
         }
-        if !metadata.is_file() {
-            let what = if metadata.is_symlink() {
-                "left out: a link"
-            } else {
-                "left out: a device"
-            };
-            return Err(report_about(rt, local.as_str(), &what, Failure::Local));
-        }
-        let file = finish_local(rt, local.as_str(), level.dir.open_file(rt, name))?;
-        let bytes = finish_local(rt, local.as_str(), bytes_of(rt, file))?;
-        put_bytes(rt, client, path.as_str(), &metadata, bytes.as_slice())
+        put_file(rt, client, &level.dir, name, &paths, &metadata)
     }
 
     // Gives the directories that were made their permissions, the last one first.
@@ -314,6 +390,34 @@ impl Putting {
         }
         Ok(())
     }
+}
+
+// Copies the file of this name of a directory. A link or a device is reported.
+fn put_file(
+    rt: &HostRuntime,
+    client: &mut Client,
+    dir: &Dir,
+    name: &str,
+    paths: &Paths,
+    metadata: &Metadata,
+) -> Result<(), Failure> {
+    let local = paths.local.as_str();
+    if !metadata.is_file() {
+        return Err(left_out(rt, local, metadata));
+    }
+    let file = finish_local(rt, local, dir.open_file(rt, name))?;
+    let bytes = finish_local(rt, local, bytes_of(rt, file))?;
+    put_bytes(rt, client, paths.path.as_str(), metadata, bytes.as_slice())
+}
+
+// Reports a link or a device, which is left out.
+fn left_out(rt: &HostRuntime, local: &str, metadata: &Metadata) -> Failure {
+    let what = if metadata.is_symlink() {
+        "left out: a link"
+    } else {
+        "left out: a device"
+    };
+    report_about(rt, local, &what, Failure::Local)
 }
 
 // The bytes of an open file.

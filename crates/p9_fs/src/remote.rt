@@ -235,13 +235,23 @@ pub fn make_dirs(rt: &HostRuntime, client: &mut Client, path: &str) -> Result<()
     let names = names_of(rt.alloc(), path)?;
     let mut here = String::from_str(rt.alloc(), "/")?;
     for name in names.as_slice() {
-        if here.len() > 1 {
-            here.push('/')?;
-        }
-        here.push_str(name)?;
-        make_missing(rt, client, here.as_str())?;
+        make_below(rt, client, &mut here, name)?;
     }
     Ok(())
+}
+
+// Makes the directory of a name below a path, unless it is there, and adds the name to the path.
+fn make_below(
+    rt: &HostRuntime,
+    client: &mut Client,
+    here: &mut String,
+    name: &str,
+) -> Result<(), Failure> {
+    if here.len() > 1 {
+        here.push('/')?;
+    }
+    here.push_str(name)?;
+    make_missing(rt, client, here.as_str())
 }
 
 // Makes a directory, unless it is there.

@@ -10,6 +10,7 @@ use crate::usage::finish_words;
 use crate::words::{Verb, line_program, verb_of};
 use p9_base::{NoMemory, is_skipped, words};
 use std::alloc::Global;
+use std::io;
 
 /// Runs one command. `sh` within lines is refused as a bad word.
 pub fn run_line(rt: &HostRuntime, client: &mut Client, verb: Verb<'_>) -> Result<(), Failure> {
@@ -43,15 +44,21 @@ pub fn run_line(rt: &HostRuntime, client: &mut Client, verb: Verb<'_>) -> Result
 pub fn run_lines(rt: &HostRuntime, client: &mut Client) -> Result<(), Failure> {
     let mut outcome = Outcome::new();
     for line in rt.lines(rt.alloc()) {
-        let line = match line {
-            Ok(line) => line,
-            Err(error) => {
-                return Err(report_about(rt, "standard input", &error, Failure::Failed));
-            }
-        };
-        outcome.note(run_text(rt, client, line.as_str()))?;
+        outcome.note(run_read(rt, client, line))?;
     }
     outcome.end()
+}
+
+// Runs the command of a line that was read. Where it could not be read, that is reported, and ends all.
+fn run_read(
+    rt: &HostRuntime,
+    client: &mut Client,
+    line: io::Result<String>,
+) -> Result<(), Failure> {
+    match line {
+        Ok(line) => run_text(rt, client, line.as_str()),
+        Err(error) => Err(report_about(rt, "standard input", &error, Failure::Failed)),
+    }
 }
 
 // Runs the command of a line.

@@ -142,6 +142,30 @@ impl Watched {
         }
         Ok(())
     }
+
+    // Reports, where an error says that the system waited. Any other error is returned.
+    fn wait_after(&mut self, error: Error) -> io::Result<()> {
+        if is_wait(&error) {
+            return self.wait();
+        }
+        Err(error)
+    }
+
+    // Counts bytes that were received. A reply that ends among them begins the time of the next one.
+    fn pass_received(&mut self, bytes: &[u8]) -> io::Result<()> {
+        self.received = self.received.saturating_add(bytes.len() as u64);
+        if self.replies.pass(bytes) {
+            self.restart()?;
+        }
+        self.wait()
+    }
+
+    // Counts bytes that were sent.
+    fn pass_sent(&mut self, bytes: &[u8]) -> io::Result<()> {
+        self.sent = self.sent.saturating_add(bytes.len() as u64);
+        let _ = self.requests.pass(bytes);
+        self.wait()
+    }
 }
 
 // Whether the system waited and nothing moved.
@@ -157,15 +181,10 @@ impl Read for Watched {
         for _ in 0..u64::MAX {
             match self.stream.read(bytes) {
                 Ok(count) => {
-                    self.received = self.received.saturating_add(count as u64);
-                    if self.replies.pass(&bytes[..count]) {
-                        self.restart()?;
-                    }
-                    self.wait()?;
+                    self.pass_received(&bytes[..count])?;
                     return Ok(count);
                 }
-                Err(error) if is_wait(&error) => self.wait()?,
-                Err(error) => return Err(error),
+                Err(error) => self.wait_after(error)?,
             }
         }
         Ok(0)
@@ -180,13 +199,10 @@ impl Write for Watched {
         for _ in 0..u64::MAX {
             match self.stream.write(bytes) {
                 Ok(count) => {
-                    self.sent = self.sent.saturating_add(count as u64);
-                    let _ = self.requests.pass(&bytes[..count]);
-                    self.wait()?;
+                    self.pass_sent(&bytes[..count])?;
                     return Ok(count);
                 }
-                Err(error) if is_wait(&error) => self.wait()?,
-                Err(error) => return Err(error),
+                Err(error) => self.wait_after(error)?,
             }
         }
         Ok(0)

@@ -84,17 +84,7 @@ fn file_verb<'a>(name: &str, words: &ArgMatches<'a>, path: &'a str) -> Option<Ve
             path,
             is_recursive: words.get_flag("recursive"),
         }),
-        "get" => Some(Verb::Get {
-            path,
-            local: words.get_str("other")?,
-            options: get_options(words),
-        }),
-        "put" => Some(Verb::Put {
-            local: words.get_str("other")?,
-            path,
-            is_recursive: words.get_flag("recursive"),
-        }),
-        _ => verb_of_two(name, path, words.get_str("other")?),
+        _ => verb_of_two(name, words, path, words.get_str("other")?),
     }
 }
 
@@ -109,8 +99,23 @@ fn get_options<'a>(words: &ArgMatches<'a>) -> GetOptions<'a> {
 }
 
 // What a command of this name asks for of the file of a path, with another word.
-fn verb_of_two<'a>(name: &str, path: &'a str, other: &'a str) -> Option<Verb<'a>> {
+fn verb_of_two<'a>(
+    name: &str,
+    words: &ArgMatches<'a>,
+    path: &'a str,
+    other: &'a str,
+) -> Option<Verb<'a>> {
     match name {
+        "get" => Some(Verb::Get {
+            path,
+            local: other,
+            options: get_options(words),
+        }),
+        "put" => Some(Verb::Put {
+            local: other,
+            path,
+            is_recursive: words.get_flag("recursive"),
+        }),
         "mv" => Some(Verb::Rename { path, name: other }),
         "chmod" => Some(Verb::ChangeMode {
             mode: permissions_in(other)?,
