@@ -74,15 +74,27 @@ p9_admin seal -o export < world
 pub(crate) fn run_demo(rt: &HostRuntime, options: &ArgMatches<'_>) -> Result<u8, Failure> {
     let dir = options.get_str("dir").unwrap_or("");
     make_top(rt, dir)?;
-    for example in &DIRS {
-        make_example_dir(rt, dir, example)?;
-    }
-    for example in &FILES {
-        make_example_file(rt, dir, example)?;
-    }
+    make_dirs(rt, dir)?;
+    make_files(rt, dir)?;
     let told = format!(in rt.alloc(); "to pack and seal it: cd {} && sh pack.sh\n", AsShown(dir))?;
     PROGRAM.print(rt, told.as_bytes())?;
     Ok(DONE)
+}
+
+// Makes the directories of the example.
+fn make_dirs(rt: &HostRuntime, dir: &str) -> Result<(), Failure> {
+    for example in &DIRS {
+        make_example_dir(rt, dir, example)?;
+    }
+    Ok(())
+}
+
+// Makes the files of the example.
+fn make_files(rt: &HostRuntime, dir: &str) -> Result<(), Failure> {
+    for example in &FILES {
+        make_example_file(rt, dir, example)?;
+    }
+    Ok(())
 }
 
 // Makes the directory that is named. Where it is there already, that is reported.

@@ -10,16 +10,18 @@ use crate::node::Packing;
 use crate::output::Output;
 use crate::owner::leader_of;
 use crate::reason::Reason;
-use crate::rename::renames_in;
+use crate::rename::{Rename, renames_in};
 use crate::settings::{Settings, settings_asked};
 use crate::source::{Source, hides_in, sources_in};
 use crate::tree::pack_tree;
 use clap::ArgMatches;
-use p9_pack::{Accounts, GroupLine, HideLine, PlainUser, write_group, write_hide, write_user};
+use p9_pack::{
+    Accounts, GroupLine, HideLine, PlainName, PlainUser, write_group, write_hide, write_user,
+};
 use p9_shell::Failure;
 use p9_shell::status::{DONE, REFUSED};
 use p9_shown::AsShown;
-use std::alloc::Global;
+use std::alloc::{AllocError, Global};
 
 /// Runs the command, and returns the exit status.
 pub(crate) fn run_pack(rt: &HostRuntime, options: &ArgMatches<'_>) -> Result<u8, Failure> {
@@ -55,21 +57,44 @@ fn pack_dirs(
     accounts: &Accounts<'_, Global>,
 ) -> Result<u8, Failure> {
     let sources = sources_in(rt, settings, accounts, options.get_str("name"), dirs)?;
+    let renames = renames_in(rt, options.get_strs("rename").unwrap_or(&[]))?;
+    pack_sources(rt, options, settings, accounts, renames.as_slice(), sources)
+}
+
+// Packs open directories, and returns the exit status.
+fn pack_sources(
+    rt: &HostRuntime,
+    options: &ArgMatches<'_>,
+    settings: &Settings,
+    accounts: &Accounts<'_, Global>,
+    renames: &[Rename<'_>],
+    sources: Vec<Source>,
+) -> Result<u8, Failure> {
+    let mut packing = packing_of(rt, options, settings, renames, sources.as_slice())?;
+    let done = pack_world(rt, &mut packing, accounts, sources);
+    end(rt, packing, done, options.get_flag("skip"))
+}
+
+// Begins what is packed of these directories.
+fn packing_of<'s>(
+    rt: &HostRuntime,
+    options: &ArgMatches<'_>,
+    settings: &'s Settings,
+    renames: &'s [Rename<'s>],
+    sources: &[Source],
+) -> Result<Packing<'s>, Failure> {
     let values = options.get_strs("hide").unwrap_or(&[]);
     let with_hidden = options.get_flag("with-hidden");
-    let renames = renames_in(rt, options.get_strs("rename").unwrap_or(&[]))?;
-    let renames = renames.as_slice();
-    let hides = hides_in(rt, values, renames, with_hidden, sources.as_slice())?;
-    let mut packing = Packing {
-        output: Output::open(rt, options.get_str("output"))?,
+    let hides = hides_in(rt, values, renames, with_hidden, sources)?;
+    let output = Output::open(rt, options.get_str("output"))?;
+    Ok(Packing {
+        output,
         settings,
         renames,
         hides,
         with_hidden,
         groups: Vec::new(rt.alloc()),
-    };
-    let done = pack_world(rt, &mut packing, accounts, sources);
-    end(rt, packing, done, options.get_flag("skip"))
+    })
 }
 
 // Ends what is printed, and returns the exit status. A file stays as it was, where a directory that
@@ -114,14 +139,25 @@ fn pack_world(
     sources: Vec<Source>,
 ) -> Result<(), Failure> {
     packing.output.text.extend_from_slice(b"%% world\n")?;
-    for source in sources {
-        pack_tree(rt, packing, accounts, source)?;
-    }
+    pack_trees(rt, packing, accounts, sources)?;
     pack_groups(rt, packing, accounts)?;
     pack_users(rt, &mut packing.output, packing.settings.users.as_slice())?;
     pack_hides(rt, &mut packing.output, packing.hides.as_slice())?;
     packing.output.flush(rt)?;
     Ok(eprintln!(rt; "note: times are not packed")?)
+}
+
+// Packs directories, each as a server.
+fn pack_trees(
+    rt: &HostRuntime,
+    packing: &mut Packing<'_>,
+    accounts: &Accounts<'_, Global>,
+    sources: Vec<Source>,
+) -> Result<(), Failure> {
+    for source in sources {
+        pack_tree(rt, packing, accounts, source)?;
+    }
+    Ok(())
 }
 
 // Packs the groups that occur.
@@ -211,15 +247,26 @@ fn pack_hides(rt: &HostRuntime, output: &mut Output, hides: &[Hide]) -> Result<(
 
 // Reports a directory that is to be hidden and is not there.
 fn report_missing(rt: &HostRuntime, hide: &Hide) -> Result<(), Failure> {
-    let mut path = String::from_str(rt.alloc(), hide.server.as_str())?;
-    path.push(':')?;
-    for name in &hide.path {
-        path.push('/')?;
-        path.push_str(name.as_str())?;
+    let place = place_of(rt.alloc(), hide)?;
+    let place = AsShown(place.as_str());
+    Ok(eprintln!(rt;
+        "p9_admin: --hide {place}: the directory is not packed, so no program takes this world"
+    )?)
+}
+
+// The server and the path of a directory that is to be hidden.
+fn place_of(alloc: Global, hide: &Hide) -> Result<String, AllocError> {
+    let mut place = String::from_str(alloc, hide.server.as_str())?;
+    place.push(':')?;
+    push_path(&mut place, hide.path.as_slice())?;
+    Ok(place)
+}
+
+// Adds a path of these names.
+fn push_path(text: &mut String, names: &[PlainName]) -> Result<(), AllocError> {
+    for name in names {
+        text.push('/')?;
+        text.push_str(name.as_str())?;
     }
-    let path = AsShown(path.as_str());
-    eprintln!(rt;
-        "p9_admin: --hide {path}: the directory is not packed, so no program takes this world"
-    )?;
     Ok(())
 }

@@ -41,11 +41,24 @@ pub(crate) fn sources_in(
     let mut servers = Vec::new(rt.alloc());
     let mut sources = Vec::new(rt.alloc());
     for disk in dirs {
-        let server = server_in(rt, name, disk, servers.as_slice())?;
-        servers.push(server)?;
-        sources.push(source_of(rt, settings, accounts, server, disk)?)?;
+        sources.push(next_source(rt, settings, accounts, name, disk, &mut servers)?)?;
     }
     Ok(sources)
+}
+
+// The next directory of the disk, whose server is added to those before it. Where it can't be had, that
+// is reported.
+fn next_source(
+    rt: &HostRuntime,
+    settings: &Settings,
+    accounts: &Accounts<'_, Global>,
+    name: Option<&str>,
+    disk: &str,
+    servers: &mut Vec<ServerName>,
+) -> Result<Source, Failure> {
+    let server = server_in(rt, name, disk, servers.as_slice())?;
+    servers.push(server)?;
+    source_of(rt, settings, accounts, server, disk)
 }
 
 // The servers of directories.
@@ -159,22 +172,74 @@ pub(crate) fn hides_in(
     sources: &[Source],
 ) -> Result<Vec<Hide>, Failure> {
     let servers = servers_of(rt.alloc(), sources)?;
-    let mut hides: Vec<Hide> = Vec::new(rt.alloc());
+    let asked = HidesAsked {
+        renames,
+        with_hidden,
+        servers: servers.as_slice(),
+        sources,
+    };
+    hides_asked(rt, values, asked)
+}
+
+// What the values are read with: what is renamed, whether what is inside hidden directories is packed
+// too, and the servers with their directories.
+#[derive(Clone, Copy)]
+struct HidesAsked<'a> {
+    renames: &'a [Rename<'a>],
+    with_hidden: bool,
+    servers: &'a [ServerName],
+    sources: &'a [Source],
+}
+
+// What the values hide, each once. Where one can't be had, that is reported.
+fn hides_asked(
+    rt: &HostRuntime,
+    values: &[&str],
+    asked: HidesAsked<'_>,
+) -> Result<Vec<Hide>, Failure> {
+    let mut hides = Vec::new(rt.alloc());
     for value in values {
-        let hide = hide_of(rt, value, renames, servers.as_slice())?;
-        let names = names_in(rt.alloc(), value)?;
-        let why_not = match why_not_there(rt, &hide.server, names.as_slice(), sources) {
-            None => why_not_beside(&hide, with_hidden, hides.as_slice()),
-            why_not => why_not,
-        };
-        if let Some(reason) = why_not {
-            return Err(PROGRAM.refuse_option(rt, "--hide", value, &reason));
-        }
-        if !is_hidden(hides.as_slice(), &hide.server, hide.path.as_slice()) {
-            hides.push(hide)?;
-        }
+        let hide = hide_beside(rt, value, asked, hides.as_slice())?;
+        add_hide(hide, &mut hides)?;
     }
     Ok(hides)
+}
+
+// The directory that a value hides beside others. Where it can't be had, that is reported.
+fn hide_beside(
+    rt: &HostRuntime,
+    value: &str,
+    asked: HidesAsked<'_>,
+    hides: &[Hide],
+) -> Result<Hide, Failure> {
+    let hide = hide_of(rt, value, asked.renames, asked.servers)?;
+    let names = names_in(rt.alloc(), value)?;
+    match why_not_hidden(rt, &hide, names.as_slice(), asked, hides) {
+        Some(reason) => Err(PROGRAM.refuse_option(rt, "--hide", value, &reason)),
+        None => Ok(hide),
+    }
+}
+
+// Why a directory of these names on the disk can't be hidden beside others, where it can't.
+fn why_not_hidden(
+    rt: &HostRuntime,
+    hide: &Hide,
+    names: &[&str],
+    asked: HidesAsked<'_>,
+    hides: &[Hide],
+) -> Option<Reason> {
+    match why_not_there(rt, &hide.server, names, asked.sources) {
+        None => why_not_beside(hide, asked.with_hidden, hides),
+        why_not => why_not,
+    }
+}
+
+// Adds a directory that is to be hidden, unless it is there.
+fn add_hide(hide: Hide, hides: &mut Vec<Hide>) -> Result<(), NoMemory> {
+    if !is_hidden(hides.as_slice(), &hide.server, hide.path.as_slice()) {
+        hides.push(hide)?;
+    }
+    Ok(())
 }
 
 // The directory that a value names, with its names renamed. Where it names none that may be hidden,

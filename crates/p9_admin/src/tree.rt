@@ -58,30 +58,45 @@ fn pack_next(
     let Some(level) = levels.last_mut() else {
         return Ok(());
     };
-    let Some((name, on_disk)) = level.names.pop() else {
+    let Some(pair) = level.names.pop() else {
         let _ = levels.pop();
         let _ = names.pop();
         return Ok(());
     };
-    let disk = joined(rt, level.disk.as_str(), on_disk.as_str())?;
-    if level.is_taken(name.as_str(), on_disk.as_str()) {
-        packing
-            .output
-            .leave_out(rt, disk.as_str(), Reason::SameName)?;
-        level.before = Some(name);
-        return Ok(());
-    }
-    let entry = Entry {
-        dir: &level.dir,
-        name: on_disk.as_str(),
-        disk: disk.as_str(),
-    };
-    let below = pack_entry(rt, packing, accounts, server, names, name.as_str(), entry)?;
+    let below = pack_name(rt, packing, accounts, server, names, level, &pair)?;
+    let (name, _) = pair;
     level.before = Some(name);
     if let Some(below) = below {
         levels.push(below)?;
     }
     Ok(())
+}
+
+// Packs the entry of a directory that has these names in the world and on the disk. One whose name in
+// the world another entry gets too is left out. What is returned is that of `pack_entry`.
+fn pack_name(
+    rt: &HostRuntime,
+    packing: &mut Packing<'_>,
+    accounts: &Accounts<'_, Global>,
+    server: &ServerName,
+    names: &mut Vec<PlainName>,
+    level: &Level,
+    pair: &(String, String),
+) -> Result<Option<Level>, Failure> {
+    let (name, on_disk) = (pair.0.as_str(), pair.1.as_str());
+    let disk = joined(rt, level.disk.as_str(), on_disk)?;
+    if level.is_taken(name, on_disk) {
+        packing
+            .output
+            .leave_out(rt, disk.as_str(), Reason::SameName)?;
+        return Ok(None);
+    }
+    let entry = Entry {
+        dir: &level.dir,
+        name: on_disk,
+        disk: disk.as_str(),
+    };
+    pack_entry(rt, packing, accounts, server, names, name, entry)
 }
 
 // Packs an entry of the directory of these names under a name, after which they are those of a

@@ -66,13 +66,21 @@ fn unpack_world(
     let made = DirBuilder::new().mode(LOCAL_MODE).create(rt, local);
     PROGRAM.had(rt, local, made)?;
     let mut unpacking = Unpacking::new(accounts);
-    let mut done = Ok(());
-    for (server, tree) in world.servers.iter().zip(world.forest.trees()) {
-        if done.is_ok() {
-            done = unpacking.tree(rt, local, server.as_str(), tree);
-        }
-    }
+    let done = unpack_trees(rt, world, local, &mut unpacking);
     tell_end(rt, local, &unpacking, done)
+}
+
+// Writes the trees of a world, each into a directory of its server's name.
+fn unpack_trees(
+    rt: &HostRuntime,
+    world: &World<IndexTree<Global>>,
+    local: &str,
+    unpacking: &mut Unpacking<'_>,
+) -> Result<(), Failure> {
+    for (server, tree) in world.servers.iter().zip(world.forest.trees()) {
+        unpacking.tree(rt, local, server.as_str(), tree)?;
+    }
+    Ok(())
 }
 
 // Tells what was written, where that isn't all, and returns the exit status.

@@ -7,7 +7,7 @@ use clap::ArgMatches;
 use p9_base::{NoMemory, NodeRef, Stop, lines, words};
 use p9_commands::{Bundle, BundleError, NameSpace, Needs, path_of, prepare, split_bundle};
 use p9_index::IndexTree;
-use p9_pack::{Unfit, is_same_world, unfit_nodes, write_world};
+use p9_pack::{Unfit, UnfitNode, is_same_world, unfit_nodes, write_world};
 use p9_shell::Failure;
 use p9_shell::status::{DONE, REFUSED};
 use p9_shown::AsShown;
@@ -54,14 +54,28 @@ fn text_in(
 fn refuse_unfit(rt: &HostRuntime, world: &World<IndexTree<Global>>) -> Result<(), Failure> {
     let found = unfit_nodes(rt.alloc(), world)?;
     for node in found.as_slice() {
-        let path = path_of(rt.alloc(), world, node.at)?;
-        let why = node.unfit;
-        let _ = PROGRAM.refuse(rt, path.as_str(), &why, Failure::Refused);
+        report_unfit(rt, world, node)?;
     }
-    if found.is_empty() {
+    refuse_some(rt, found.len())
+}
+
+// Reports a file or directory that a world's text can't have.
+fn report_unfit(
+    rt: &HostRuntime,
+    world: &World<IndexTree<Global>>,
+    node: &UnfitNode,
+) -> Result<(), Failure> {
+    let path = path_of(rt.alloc(), world, node.at)?;
+    let why = node.unfit;
+    let _ = PROGRAM.refuse(rt, path.as_str(), &why, Failure::Refused);
+    Ok(())
+}
+
+// Refuses a world of which so many files and directories were reported, unless there are none.
+fn refuse_some(rt: &HostRuntime, count: usize) -> Result<(), Failure> {
+    if count == 0 {
         return Ok(());
     }
-    let count = found.len();
     eprintln!(rt; "p9_admin: {count} can't be in a world, so nothing is printed")?;
     Err(Failure::Refused)
 }
@@ -102,10 +116,16 @@ fn sections(alloc: Global, export: &[u8]) -> Result<Bundle<Global>, NoMemory> {
 // Adds the lines of variables as they are in a world section.
 fn push_variables(alloc: Global, section: &str, text: &mut Vec<u8>) -> Result<(), NoMemory> {
     for line in &lines(alloc, section)? {
-        if words(alloc, line)?.as_slice().first() == Some(&"set") {
-            text.extend_from_slice(line.as_bytes())?;
-            text.push(b'\n')?;
-        }
+        push_variable(alloc, line, text)?;
+    }
+    Ok(())
+}
+
+// Adds a line, where it is that of a variable.
+fn push_variable(alloc: Global, line: &str, text: &mut Vec<u8>) -> Result<(), NoMemory> {
+    if words(alloc, line)?.as_slice().first() == Some(&"set") {
+        text.extend_from_slice(line.as_bytes())?;
+        text.push(b'\n')?;
     }
     Ok(())
 }
@@ -169,25 +189,36 @@ fn is_same_table(alloc: Global, one: &Space, other: &Space) -> Result<bool, NoMe
         return Ok(false);
     }
     for position in 0..one.table.len() {
-        let (Some((key, members)), Some((other_key, other_members))) = (
-            one.table.row(position),
-            other.table.row(position),
-        ) else {
-            return Ok(false);
-        };
-        if !is_same_path(alloc, one, key, other, other_key)?
-            || !are_same_members(
-                alloc,
-                one,
-                members.as_slice(),
-                other,
-                other_members.as_slice(),
-            )?
-        {
+        if !is_same_row(alloc, one, other, position)? {
             return Ok(false);
         }
     }
     Ok(true)
+}
+
+// Whether the rows at a position of the mount tables are the same by the paths of their places.
+fn is_same_row(
+    alloc: Global,
+    one: &Space,
+    other: &Space,
+    position: usize,
+) -> Result<bool, NoMemory> {
+    let (Some((key, members)), Some((other_key, other_members))) = (
+        one.table.row(position),
+        other.table.row(position),
+    ) else {
+        return Ok(false);
+    };
+    if !is_same_path(alloc, one, key, other, other_key)? {
+        return Ok(false);
+    }
+    are_same_members(
+        alloc,
+        one,
+        members.as_slice(),
+        other,
+        other_members.as_slice(),
+    )
 }
 
 // Whether the members of two rows are the same by their paths.
