@@ -60,13 +60,18 @@ fn place_of(text: &str) -> Result<Place<'_>, BadAddress<'_>> {
 fn users_of(alloc: Global, text: &str) -> Result<Vec<User>, BadAddress<'_>> {
     let mut users = Vec::new(alloc);
     for name in text.split(',') {
-        match User::new(name) {
-            Some(user) if users.push(user).is_ok() => {}
-            Some(_) => return Err(BadAddress::NoMemory),
-            None => return Err(BadAddress::User(name)),
-        }
+        push_user(name, &mut users)?;
     }
     Ok(users)
+}
+
+// Adds the user of a name.
+fn push_user<'a>(name: &'a str, users: &mut Vec<User>) -> Result<(), BadAddress<'a>> {
+    match User::new(name) {
+        Some(user) if users.push(user).is_ok() => Ok(()),
+        Some(_) => Err(BadAddress::NoMemory),
+        None => Err(BadAddress::User(name)),
+    }
 }
 
 /// The same users.

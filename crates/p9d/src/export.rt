@@ -4,7 +4,7 @@ use crate::PROGRAM;
 use crate::counting::nodes_of;
 use crate::keeping::{Trees, keep_in};
 use crate::words::Asked;
-use p9_base::{NoMemory, User};
+use p9_base::{NoMemory, NodeRef, User};
 use p9_commands::{Needs, Prepared, path_of, prepare, print_reports};
 use p9_explain::explain;
 use p9_folder::Folder;
@@ -185,9 +185,19 @@ fn push_hidden<T: Tree<Alloc = Global>>(
 ) -> Result<(), NoMemory> {
     let mut before = "hidden: ";
     for dir in world.hidden.as_slice() {
-        let path = path_of(*text.allocator(), world, *dir)?;
-        write!(text, "{before}{}", AsShown(path.as_str()))?;
+        push_dir(world, *dir, before, text)?;
         before = ", ";
     }
     Ok(text.push('\n')?)
+}
+
+// Adds the path of a directory after a text.
+fn push_dir<T: Tree<Alloc = Global>>(
+    world: &World<T>,
+    dir: NodeRef,
+    before: &str,
+    text: &mut String,
+) -> Result<(), NoMemory> {
+    let path = path_of(*text.allocator(), world, dir)?;
+    Ok(write!(text, "{before}{}", AsShown(path.as_str()))?)
 }

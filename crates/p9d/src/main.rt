@@ -123,22 +123,37 @@ fn open_doors(
     tell(rt, about.text.as_bytes())?;
     check_users(rt, export, addresses, about.users.as_slice())?;
     for address in addresses {
-        let door = Door::open(rt, address);
-        doors.push(PROGRAM.had(rt, address.text, door)?)?;
+        open_door(rt, address, doors)?;
     }
     PROGRAM.had(rt, "standard output", print_addresses(rt, doors.as_slice()))
+}
+
+// Listens at an address.
+fn open_door(
+    rt: &HostRuntime,
+    address: &Address<'_>,
+    doors: &mut Vec<Door>,
+) -> Result<(), Failure> {
+    let door = PROGRAM.had(rt, address.text, Door::open(rt, address))?;
+    doors.push(door)?;
+    Ok(())
 }
 
 // The addresses that texts write. The first one that is none is reported.
 fn addresses_of<'a>(rt: &HostRuntime, texts: &[&'a str]) -> Result<Vec<Address<'a>>, Failure> {
     let mut addresses = Vec::new(rt.alloc());
     for text in texts {
-        match address_of(rt.alloc(), text) {
-            Ok(address) => addresses.push(address)?,
-            Err(bad) => return Err(report_bad(rt, text, bad)),
-        }
+        addresses.push(address_in(rt, text)?)?;
     }
     Ok(addresses)
+}
+
+// The address that a text writes. A text that writes none is reported.
+fn address_in<'a>(rt: &HostRuntime, text: &'a str) -> Result<Address<'a>, Failure> {
+    match address_of(rt.alloc(), text) {
+        Ok(address) => Ok(address),
+        Err(bad) => Err(report_bad(rt, text, bad)),
+    }
 }
 
 // Reports why a text is no address.
