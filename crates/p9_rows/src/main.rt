@@ -19,12 +19,18 @@ use std::{env, fs, io};
 fn main(rt: HostRuntime) -> io::Result<ExitCode> {
     let folder = folder(&rt)?;
     let list = io::read_to_string(rt.alloc(), rt.stdin())?;
+    let is_well = are_files_well(&rt, folder.as_str(), list.as_str())?;
+    Ok(ExitCode::from(if is_well { 0 } else { 1 }))
+}
+
+// Plays the rows of the files of a list, a line each, and returns whether all are as written.
+fn are_files_well(rt: &HostRuntime, folder: &str, list: &str) -> io::Result<bool> {
     let mut parts = Vec::new(rt.alloc());
     let mut is_well = true;
-    for file in list.as_str().lines() {
-        is_well &= is_file_well(&rt, folder.as_str(), file, &mut parts)?;
+    for file in list.lines() {
+        is_well &= is_file_well(rt, folder, file, &mut parts)?;
     }
-    Ok(ExitCode::from(if is_well { 0 } else { 1 }))
+    Ok(is_well)
 }
 
 // The folder of the row files: the first word of the command line, or else the present folder.

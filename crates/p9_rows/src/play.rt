@@ -27,17 +27,34 @@ pub fn play_rows(rt: &HostRuntime, file: &str, rows: &[Row]) -> io::Result<bool>
 // Whether each command of the row ends as it is written, over either kind of tree, and each frame in
 // the row is read back from its words.
 fn is_as_written(rt: &HostRuntime, file: &str, row: &Row) -> io::Result<bool> {
-    let name = row.name.as_str();
-    let label = format!(in rt.alloc(); "{file}: {name}")?;
-    let mut is_well = !print_not_read_back(rt, label.as_str(), row.body.input.as_slice())?;
-    is_well &= !print_not_read_back(rt, label.as_str(), row.body.wanted.out.as_slice())?;
+    let mut is_well = is_read_back(rt, file, row)?;
     for command in row.commands.as_str().split('+') {
-        let label = format!(in rt.alloc(); "{file}: {command}: {name}")?;
-        is_well &= ends_as_written::<IndexTree<Global>>(rt, label.as_str(), command, row)?;
-        let label = format!(in rt.alloc(); "{file}: {command} over plain trees: {name}")?;
-        is_well &= ends_as_written::<PlainTree<Global>>(rt, label.as_str(), command, row)?;
+        is_well &= ends_over::<IndexTree<Global>>(rt, file, command, "", row)?;
+        is_well &= ends_over::<PlainTree<Global>>(rt, file, command, " over plain trees", row)?;
     }
     Ok(is_well)
+}
+
+// Whether each frame in the row is read back from its words. Prints those that are not.
+fn is_read_back(rt: &HostRuntime, file: &str, row: &Row) -> io::Result<bool> {
+    let name = row.name.as_str();
+    let label = format!(in rt.alloc(); "{file}: {name}")?;
+    let in_input = print_not_read_back(rt, label.as_str(), row.body.input.as_slice())?;
+    let in_output = print_not_read_back(rt, label.as_str(), row.body.wanted.out.as_slice())?;
+    Ok(!in_input && !in_output)
+}
+
+// Whether a command ends over trees of a kind, which words name, as it is written. Prints what differs.
+fn ends_over<T: Tree<Alloc = Global>>(
+    rt: &HostRuntime,
+    file: &str,
+    command: &str,
+    over: &str,
+    row: &Row,
+) -> io::Result<bool> {
+    let name = row.name.as_str();
+    let label = format!(in rt.alloc(); "{file}: {command}{over}: {name}")?;
+    ends_as_written::<T>(rt, label.as_str(), command, row)
 }
 
 // Whether a command ends over the row's input as it is written. Prints under the label what differs.

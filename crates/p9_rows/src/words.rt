@@ -33,9 +33,7 @@ pub fn exchange<T: Tree<Alloc = Global>>(
         return Ok(written);
     }
     let played = played::<T>(alloc, "play", written.out.as_slice())?;
-    let mut text = Vec::from_slice(alloc, input)?;
-    text.extend_from_slice(b"%% replies\n")?;
-    text.extend_from_slice(played.out.as_slice())?;
+    let text = with_replies(alloc, input, played.out.as_slice())?;
     match show_exchange(alloc, text.as_slice()) {
         Ok(out) => Ok(Ending {
             out,
@@ -44,6 +42,14 @@ pub fn exchange<T: Tree<Alloc = Global>>(
         }),
         Err(stop) => refused(alloc, stop),
     }
+}
+
+// An input in words with the section of these replies.
+fn with_replies(alloc: Global, input: &[u8], replies: &[u8]) -> Result<Vec<u8>, AllocError> {
+    let mut text = Vec::from_slice(alloc, input)?;
+    text.extend_from_slice(b"%% replies\n")?;
+    text.extend_from_slice(replies)?;
+    Ok(text)
 }
 
 /// How a command of p9 ends over an input, with a tree of this kind for each server.
@@ -88,18 +94,23 @@ pub fn first_not_read_back<'a>(
 
 // Whether a word is no frame of a message, or is read back.
 fn is_read_back(alloc: Global, digits: &str) -> Result<bool, AllocError> {
-    let Ok(frame) = hex::decode(alloc, digits) else {
-        return Ok(true);
-    };
+    match hex::decode(alloc, digits) {
+        Ok(frame) => is_frame_read_back(alloc, frame.as_slice()),
+        Err(_) => Ok(true),
+    }
+}
+
+// Whether bytes are no frame of a message, or are read back.
+fn is_frame_read_back(alloc: Global, frame: &[u8]) -> Result<bool, AllocError> {
     let mut words = Vec::new(alloc);
-    if !is_printed(frame.as_slice(), &mut words)? {
+    if !is_printed(frame, &mut words)? {
         return Ok(true);
     }
     let Ok(line) = str::from_utf8(words.as_slice()) else {
         return Ok(false);
     };
     match read_words(alloc, line) {
-        Ok(read) => Ok(read.as_slice() == frame.as_slice()),
+        Ok(read) => Ok(read.as_slice() == frame),
         Err(WordsError::NoMemory) => Err(AllocError),
         Err(_) => Ok(false),
     }
