@@ -1,4 +1,5 @@
-//! Work over both kinds of tree.
+//! Work over both kinds of tree. Each kind is named here once for each allocator, as naming one costs
+//! a proof much.
 
 use crate::again::{Play, play_again, ready};
 use crate::exchange::room;
@@ -8,7 +9,7 @@ use crate::many::lists_all;
 use crate::modes::{Opening, opens};
 use crate::renamed::renames_all;
 use crate::sessions::opens_and_closes;
-use crate::space::{Given, SMALL, Space, Way, make_given, run, space_of, walk_again};
+use crate::space::{Given, SMALL, Space, Way, make_given, plays_over, run, space_of, walk_again};
 use crate::unions::{lists_places, reads_at_each_count};
 use crate::worlds::{Bind, exporter};
 use p9_export::Export;
@@ -48,22 +49,47 @@ pub fn on_both_in(
     work: Work,
     reply: &mut [u8],
 ) {
-    on_new::<PlainTree<Global>>(rt, alloc, text, binds, work, reply);
-    on_new::<IndexTree<Global>>(rt, alloc, text, binds, work, reply);
+    over_both(rt, alloc, text, Job::Export(binds, work), reply);
 }
 
-// Does the work over one kind of tree.
-fn on_new<T: Tree<Alloc = Global>>(
+/// Over the world of a text, in a tree of each kind, makes the call of each line, and compares what
+/// it prints with the text after `=`.
+pub fn plays(rt: &impl Abort, alloc: Global, text: &str, lines: &str) {
+    over_both(rt, alloc, text, Job::Calls(lines), &mut []);
+}
+
+// What is done over the world of a text.
+#[derive(Clone, Copy)]
+enum Job<'a> {
+    // The work with an exporter that has these binds.
+    Export(&'a [Bind], Work),
+    // The calls of these lines.
+    Calls(&'a str),
+}
+
+// Does it over each kind of tree.
+fn over_both(rt: &impl Abort, alloc: Global, text: &str, job: Job<'_>, reply: &mut [u8]) {
+    over::<PlainTree<Global>>(rt, alloc, alloc, text, job, reply);
+    over::<IndexTree<Global>>(rt, alloc, alloc, text, job, reply);
+}
+
+// Does it over one kind of tree.
+fn over<T: Tree>(
     rt: &impl Abort,
     alloc: Global,
+    lent: T::Alloc,
     text: &str,
-    binds: &[Bind],
-    work: Work,
+    job: Job<'_>,
     reply: &mut [u8],
 ) {
-    let mut export = exporter::<T>(rt, alloc, text, binds);
-    on(rt, alloc, &mut export, work, reply);
-    drop(export);
+    match job {
+        Job::Export(binds, work) => {
+            let mut export = exporter::<T>(rt, lent, text, binds);
+            on(rt, alloc, &mut export, work, reply);
+            drop(export);
+        }
+        Job::Calls(lines) => plays_over::<T>(rt, alloc, lent, text, lines),
+    }
 }
 
 // Does the work with an exporter.

@@ -48,13 +48,24 @@ pub fn make<T: Tree>(
         20, 0, 0, 0, 110, 1, 0, 0, 0, 0, 0, 1, 0, 0, 0, 1, 0, 1, 0, b'a',
     ];
     has_reply_of(rt, export, session, &walk, reply, 22);
+    create(rt, export, session, number, reply);
+    clunk(rt, export, session, reply);
+}
+
+// A session makes the file, with its fid 1 at /a.
+fn create<T: Tree>(
+    rt: &impl Abort,
+    export: &mut Export<T>,
+    session: u32,
+    number: u32,
+    reply: &mut [u8],
+) {
     let mut create = [
         22, 0, 0, 0, 114, 1, 0, 1, 0, 0, 0, 4, 0, 0, 0, 0, 0, 0xa4, 1, 0, 0, 0,
     ];
     create[13..17].copy_from_slice(&name_of(number));
     has_reply_of(rt, export, session, &create, reply, 24);
     assert!(rt; is_numbered(reply, number));
-    clunk(rt, export, session, reply);
 }
 
 // Whether an Rcreate has the qid of the file of this number.
@@ -105,16 +116,20 @@ pub fn listed<T: Tree>(
 /// stat(5) has it. The name has at most 190 bytes.
 pub fn push_entry(rt: &impl Abort, number: u32, name: &[u8], listing: &mut Vec<u8, Global>) {
     let length = u8::try_from(name.len()).expect(rt, "a length");
-    // The size, the server's type and number, and the qid's kind and version.
-    push(rt, &[length.saturating_add(65)], listing);
-    push(rt, b"\0\0\0\0\0\0\0\0\0\0\0\0", listing);
-    push(rt, &u64::from(number).to_le_bytes(), listing);
-    // The mode, both times, the length of the bytes and of the name.
-    push(rt, b"\xa4\x01\0\0\0\0\0\0\0\0\0\0", listing);
-    push(rt, b"\0\0\0\0\0\0\0\0", listing);
+    push_qid(rt, length.saturating_add(65), number, listing);
+    // The mode, both times and the length of the bytes.
+    push(rt, b"\xa4\x01\0\0\0\0\0\0\0\0\0\0\0\0\0\0\0\0\0\0", listing);
     push(rt, &[length, 0], listing);
     push(rt, name, listing);
     push(rt, b"\x06\0glenda\x06\0glenda\x06\0glenda", listing);
+}
+
+// Adds an entry's size, the server's type and number, and the qid of the file of this number.
+fn push_qid(rt: &impl Abort, size: u8, number: u32, listing: &mut Vec<u8, Global>) {
+    push(rt, &[size], listing);
+    // The server's type and number, and the qid's kind and version.
+    push(rt, b"\0\0\0\0\0\0\0\0\0\0\0\0", listing);
+    push(rt, &u64::from(number).to_le_bytes(), listing);
 }
 
 fn push(rt: &impl Abort, bytes: &[u8], listing: &mut Vec<u8, Global>) {

@@ -92,10 +92,20 @@ fn repeat<T: Tree>(
     let used = heap.used();
     for _ in 0..50 {
         succeed(rt, alloc, export, work.takes, reply);
-        assert!(rt; heap.used() > used);
+        is_more_lent(rt, heap, used);
         succeed(rt, alloc, export, work.gives, reply);
-        assert!(rt; heap.used() == used);
+        is_as_much_lent(rt, heap, used);
     }
+}
+
+// More is lent than before.
+fn is_more_lent(rt: &impl Abort, heap: &LocalHeap, before: usize) {
+    assert!(rt; heap.used() > before);
+}
+
+// As much is lent as before.
+fn is_as_much_lent(rt: &impl Abort, heap: &LocalHeap, before: usize) {
+    assert!(rt; heap.used() == before);
 }
 
 // The same of session 2: it begins, and is closed.
@@ -111,16 +121,20 @@ fn begin_and_close<T: Tree>(
     let used = heap.used();
     for _ in 0..50 {
         begin(rt, alloc, export, 2, reply);
-        assert!(rt; heap.used() > used);
+        is_more_lent(rt, heap, used);
         close(rt, export, 2);
-        assert!(rt; heap.used() == used);
+        is_as_much_lent(rt, heap, used);
     }
 }
 
 // Does all of this.
-fn work_all<T: Tree>(rt: &impl Abort, alloc: Global, heap: &LocalHeap, export: &mut Export<T>) {
-    let mut room = room(rt, alloc);
-    let reply = room.as_mut_slice();
+fn work_all<T: Tree>(
+    rt: &impl Abort,
+    alloc: Global,
+    heap: &LocalHeap,
+    export: &mut Export<T>,
+    reply: &mut [u8],
+) {
     begin(rt, alloc, export, 1, reply);
     repeat(rt, alloc, heap, export, CLUNK, reply);
     repeat(rt, alloc, heap, export, REMOVE, reply);
@@ -128,18 +142,24 @@ fn work_all<T: Tree>(rt: &impl Abort, alloc: Global, heap: &LocalHeap, export: &
     begin_and_close(rt, alloc, heap, export, reply);
 }
 
-// Does all of this with an exporter, which is then dropped.
+// Does all of this with an exporter, which is then dropped: nothing is lent.
 fn serve<T: Tree>(rt: &impl Abort, alloc: Global, heap: &LocalHeap, lent: T::Alloc) {
+    let mut room = room(rt, alloc);
     let mut export = exporter::<T>(rt, lent, SMALL, &[]);
-    work_all(rt, alloc, heap, &mut export);
+    work_all(rt, alloc, heap, &mut export, room.as_mut_slice());
     drop(export);
+    is_as_much_lent(rt, heap, 0);
+}
+
+// Does so over each kind of tree.
+fn serve_both(rt: &impl Abort, alloc: Global, heap: &LocalHeap) {
+    serve::<PlainTree<&LocalHeap>>(rt, alloc, heap, heap);
+    serve::<IndexTree<&LocalHeap>>(rt, alloc, heap, heap);
 }
 
 #[test]
 fn what_was_taken_is_given_back(rt: HostRuntime) {
     let heap = LocalHeap::new(rt.alloc(), 1 << 20).expect(&rt, "memory");
-    serve::<PlainTree<&LocalHeap>>(&rt, rt.alloc(), &heap, &heap);
-    assert!(rt; heap.used() == 0);
-    serve::<IndexTree<&LocalHeap>>(&rt, rt.alloc(), &heap, &heap);
-    assert!(rt; heap.used() == 0);
+    serve_both(&rt, rt.alloc(), &heap);
+    drop(heap);
 }

@@ -93,8 +93,13 @@ pub fn lists_all<T: Tree>(
     begin(rt, alloc, export, 2, reply);
     exchange_all(rt, alloc, export, 0, OPENING, reply);
     let listing = listed(rt, alloc, export, reply);
+    are_entries(rt, alloc, listing.as_slice());
+}
+
+// The entries are those that are to be listed.
+fn are_entries(rt: &impl Abort, alloc: Global, listing: &[u8]) {
     let want = entries(rt, alloc);
-    are_bytes(rt, listing.as_slice(), want.as_slice());
+    are_bytes(rt, listing, want.as_slice());
 }
 
 #[test]

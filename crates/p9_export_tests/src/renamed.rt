@@ -79,9 +79,14 @@ pub fn renames_all<T: Tree>(
     rename_all(rt, export, reply);
     exchange_all(rt, alloc, export, 0, OPENING, reply);
     let listing = listed(rt, alloc, export, 8_168, END, reply);
+    are_entries(rt, alloc, listing.as_slice());
+}
+
+// The entries are those of all files.
+fn are_entries(rt: &impl Abort, alloc: Global, listing: &[u8]) {
     assert!(rt; listing.len() == 71 * 5_000);
     let want = entries(rt, alloc);
-    are_bytes(rt, listing.as_slice(), want.as_slice());
+    are_bytes(rt, listing, want.as_slice());
 }
 
 #[test]

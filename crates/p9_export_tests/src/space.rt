@@ -13,6 +13,7 @@ mod walks;
 mod words;
 mod worlds;
 
+pub use calls::plays_over;
 pub use files_refused::{Given, make_given, run};
 pub use refused::{Way, walk_again};
 pub use worlds::{SMALL, Space, space_of};

@@ -151,12 +151,17 @@ fn walk_to<T: Tree>(
 // Session 2, which is the system's, takes its place from all others.
 fn shut<T: Tree>(rt: &impl Abort, export: &mut Export<T>, place: u32, reply: &mut [u8]) {
     walk_to(rt, export, 2, 1, place_number(place), reply);
+    has_reply_of(rt, export, 2, &shutting(), reply, 7);
+    clunk(rt, export, 2, reply);
+}
+
+// A wstat of fid 1 that changes the mode alone, to 711 of a directory.
+fn shutting() -> [u8; 62] {
     let mut wstat = [255; 62];
     wstat[..15].copy_from_slice(&[62, 0, 0, 0, 126, 1, 0, 1, 0, 0, 0, 49, 0, 47, 0]);
     wstat[34..38].copy_from_slice(&[0xc9, 1, 0, 0x80]);
     wstat[54..].copy_from_slice(&[0; 8]);
-    has_reply_of(rt, export, 2, &wstat, reply, 7);
-    clunk(rt, export, 2, reply);
+    wstat
 }
 
 // Session 2 removes the members that are to be.
@@ -289,17 +294,19 @@ fn reads_on<T: Tree>(
     let got = read_at(rt, export, 2, offset, count, reply);
     if more > 0 {
         assert!(rt; got.get(11..) == left.get(..more));
-    } else if left.is_empty() {
-        is_reply(rt, alloc, got, "0b000000 75 0100 00000000");
     } else {
-        is_reply(
-            rt,
-            alloc,
-            got,
-            "1d000000 6b 0100 1400 7265616420636f756e7420746f6f20736d616c6c",
-        );
+        is_reply(rt, alloc, got, reply_without_entries(left.is_empty()));
     }
     more
+}
+
+// The reply where no entry fits: there is none, or the count is too small.
+fn reply_without_entries(is_at_end: bool) -> &'static str {
+    if is_at_end {
+        "0b000000 75 0100 00000000"
+    } else {
+        "1d000000 6b 0100 1400 7265616420636f756e7420746f6f20736d616c6c"
+    }
 }
 
 // Reads all that fid 2 lists by reads of so many bytes, from the beginning on.

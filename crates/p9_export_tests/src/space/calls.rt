@@ -5,26 +5,25 @@ use crate::space::printing::{channels_text, members, row, step, trail};
 use crate::space::words::{nodes, take_node, take_order, take_position, take_user, take_word};
 use crate::space::worlds::{Space, space_of};
 use p9_base::{Groups, NoMemory, User};
-use p9_index::IndexTree;
 use p9_space::{
     Channels, MountTable, TO_EXECUTE, TO_READ, TO_WRITE, Way, Who, advance, find_arrival_on,
     is_table_given, may, resolve, rules,
 };
-use p9_tree::{Forest, PlainTree, Tree};
+use p9_tree::{Forest, Node, Tree};
 use std::alloc::{Allocator, Global};
 use std::mem;
 use std::process::Abort;
 
-/// Over the world of a text, in a tree of each kind, makes the call of each line, and compares what
-/// it prints with the text after `=`.
-pub fn plays(rt: &impl Abort, alloc: Global, text: &str, lines: &str) {
-    plays_over::<PlainTree<Global>>(rt, alloc, text, lines);
-    plays_over::<IndexTree<Global>>(rt, alloc, text, lines);
-}
-
-// Makes the calls in a tree of one kind.
-fn plays_over<T: Tree<Alloc = Global>>(rt: &impl Abort, alloc: Global, text: &str, lines: &str) {
-    let mut space = space_of::<T>(rt, alloc, text);
+/// Over the world of a text, makes the call of each line, and compares what it prints with the text
+/// after `=`.
+pub fn plays_over<T: Tree>(
+    rt: &impl Abort,
+    alloc: Global,
+    lent: T::Alloc,
+    text: &str,
+    lines: &str,
+) {
+    let mut space = space_of::<T>(rt, lent, text);
     plays_on(rt, alloc, &mut space, lines);
     drop(space);
 }
@@ -201,10 +200,20 @@ fn rights<T: Tree>(rt: &impl Abort, space: &Space<T>, line: &mut &str, told: &mu
     let groups = &space.groups;
     let who = Who { user, groups };
     let file = space.forest.node(take_node(rt, line)).expect(rt, "a file");
+    tell_rights(rt, who, file, told);
+}
+
+// Writes what the rights of one who is known are.
+fn tell_rights<A: Allocator + Copy>(
+    rt: &impl Abort,
+    who: Who<'_, A>,
+    file: &Node<A>,
+    told: &mut String,
+) {
     let (read, write) = (may(who, file, TO_READ), may(who, file, TO_WRITE));
-    let execute = may(who, file, TO_EXECUTE);
-    let written = write!(told, "{read} {write} {execute} {}", rules(who, file));
-    written.expect(rt, "memory");
+    write!(told, "{read} {write} ").expect(rt, "memory");
+    let (execute, is_ruled) = (may(who, file, TO_EXECUTE), rules(who, file));
+    write!(told, "{execute} {is_ruled}").expect(rt, "memory");
 }
 
 // Makes the call of a table, and writes what it returns.

@@ -9,8 +9,30 @@ use crate::space::words::node;
 use p9_base::{Fault, NOFID, User};
 use p9_fids::{Cursor, FIDS_MAX, Fid, FidTable, OpenMode, Opened};
 use p9_space::{Channels, MountTable, Order, Trail};
-use std::alloc::{Allocator, Global};
+use std::alloc::Allocator;
 use std::process::Abort;
+
+// What is done with a session's fids, of which there are none yet.
+#[derive(Clone, Copy)]
+enum Work {
+    Order,
+    Move { at_once: bool },
+    Refusals,
+}
+
+// Does the work over an empty table. What is generic over the allocator is cheaper to prove than
+// what names it.
+fn on_new<A: Allocator + Copy>(rt: &impl Abort, alloc: A, work: Work) {
+    let table = MountTable::new(alloc);
+    let mut fids = FidTable::new(alloc);
+    match work {
+        Work::Order => keeps_order(rt, &mut fids, &table, alloc),
+        Work::Move { at_once } => moves_and_is_opened(rt, &mut fids, &table, alloc, at_once),
+        Work::Refusals => refuses(rt, &mut fids, &table, alloc),
+    }
+    drop(fids);
+    drop(table);
+}
 
 /// A fid of glenda's where the channels lead, not open.
 pub fn fid_on<A: Allocator + Copy>(rt: &impl Abort, channels: Channels<A>) -> Fid<A>
@@ -24,12 +46,12 @@ pub fn fid_on<A: Allocator + Copy>(rt: &impl Abort, channels: Channels<A>) -> Fi
 }
 
 // Channels that begin at a place.
-fn channels_at(
+fn channels_at<A: Allocator + Copy>(
     rt: &impl Abort,
-    table: &MountTable<Global>,
-    alloc: Global,
+    table: &MountTable<A>,
+    alloc: A,
     place: u64,
-) -> Channels<Global>
+) -> Channels<A>
     ensures { Fits table.now result }
 {
     let trail = Trail::at(alloc, node(place)).expect(rt, "a trail");
@@ -37,12 +59,12 @@ fn channels_at(
 }
 
 // A fid joins at the place.
-fn put(
+fn put<A: Allocator + Copy>(
     rt: &impl Abort,
-    fids: &mut FidTable<Global>,
-    table: &MountTable<Global>,
+    fids: &mut FidTable<A>,
+    table: &MountTable<A>,
     fid: u32,
-    alloc: Global,
+    alloc: A,
     place: u64,
 )
     ensures { AllFit table.now fids.old → AllFit table.now fids.new }
@@ -52,7 +74,7 @@ fn put(
 }
 
 // The fid is opened.
-fn open(rt: &impl Abort, fids: &mut FidTable<Global>, fid: u32, opened: Opened)
+fn open<A: Allocator + Copy>(rt: &impl Abort, fids: &mut FidTable<A>, fid: u32, opened: Opened)
     ensures { (table : List MountRow) → AllFit table fids.old → AllFit table fids.new }
 {
     assert!(rt; fids.get(fid).is_some());
@@ -67,11 +89,11 @@ const TO_READ: Opened = Opened {
 };
 
 // Three fids join, and the first of them is taken.
-fn keeps_order(
+fn keeps_order<A: Allocator + Copy>(
     rt: &impl Abort,
-    fids: &mut FidTable<Global>,
-    table: &MountTable<Global>,
-    alloc: Global,
+    fids: &mut FidTable<A>,
+    table: &MountTable<A>,
+    alloc: A,
 ) {
     assert!(rt; fids.first() == None);
     for fid in [7, 3, 9] {
@@ -83,7 +105,7 @@ fn keeps_order(
 }
 
 // Takes a fid, and says whether it was there.
-fn is_taken(fids: &mut FidTable<Global>, fid: u32) -> bool {
+fn is_taken<A: Allocator + Copy>(fids: &mut FidTable<A>, fid: u32) -> bool {
     let taken = fids.take(fid);
     let is_taken = taken.is_some();
     drop(taken);
@@ -92,11 +114,7 @@ fn is_taken(fids: &mut FidTable<Global>, fid: u32) -> bool {
 
 #[test]
 fn fids_are_kept_by_rising_number(rt: HostRuntime) {
-    let table = MountTable::new(rt.alloc());
-    let mut fids = FidTable::new(rt.alloc());
-    keeps_order(&rt, &mut fids, &table, rt.alloc());
-    drop(fids);
-    drop(table);
+    on_new(&rt, rt.alloc(), Work::Order);
 }
 
 const REMOVED_ON_CLOSE: Opened = Opened {
@@ -110,10 +128,10 @@ const REMOVED_ON_CLOSE: Opened = Opened {
 };
 
 // The fid 5 moves to where the channels lead, and then is opened, at once or after that.
-fn move_and_open(
+fn move_and_open<A: Allocator + Copy>(
     rt: &impl Abort,
-    fids: &mut FidTable<Global>,
-    channels: Channels<Global>,
+    fids: &mut FidTable<A>,
+    channels: Channels<A>,
     at_once: bool,
 ) {
     assert!(rt; fids.get(5).is_some());
@@ -126,17 +144,17 @@ fn move_and_open(
 }
 
 // The fid has moved and is open.
-fn has_moved(rt: &impl Abort, fid: &Fid<Global>) {
+fn has_moved<A: Allocator + Copy>(rt: &impl Abort, fid: &Fid<A>) {
     assert!(rt; fid.channels.trail().here() == node(2));
     assert!(rt; fid.opened == Some(REMOVED_ON_CLOSE) && fid.user.as_str() == "glenda");
 }
 
 // A fid joins, moves and is opened.
-fn moves_and_is_opened(
+fn moves_and_is_opened<A: Allocator + Copy>(
     rt: &impl Abort,
-    fids: &mut FidTable<Global>,
-    table: &MountTable<Global>,
-    alloc: Global,
+    fids: &mut FidTable<A>,
+    table: &MountTable<A>,
+    alloc: A,
     at_once: bool,
 ) {
     put(rt, fids, table, 5, alloc, 1);
@@ -148,22 +166,18 @@ fn moves_and_is_opened(
 
 #[test]
 fn a_fid_moves_and_is_opened(rt: HostRuntime) {
-    let table = MountTable::new(rt.alloc());
     for at_once in [false, true] {
-        let mut fids = FidTable::new(rt.alloc());
-        moves_and_is_opened(&rt, &mut fids, &table, rt.alloc(), at_once);
-        drop(fids);
+        on_new(&rt, rt.alloc(), Work::Move { at_once });
     }
-    drop(table);
 }
 
 // The fid is refused for the reason, and none joins.
-fn is_refused(
+fn is_refused<A: Allocator + Copy>(
     rt: &impl Abort,
-    fids: &mut FidTable<Global>,
-    table: &MountTable<Global>,
+    fids: &mut FidTable<A>,
+    table: &MountTable<A>,
     fid: u32,
-    alloc: Global,
+    alloc: A,
     fault: Fault,
 ) {
     assert!(rt; fids.put_fault(fid) == Some(fault));
@@ -173,11 +187,11 @@ fn is_refused(
 }
 
 // As many fids join as there may be, and each more is refused.
-fn refuses(
+fn refuses<A: Allocator + Copy>(
     rt: &impl Abort,
-    fids: &mut FidTable<Global>,
-    table: &MountTable<Global>,
-    alloc: Global,
+    fids: &mut FidTable<A>,
+    table: &MountTable<A>,
+    alloc: A,
 ) {
     for fid in 0..FIDS_MAX as u32 {
         put(rt, fids, table, fid, alloc, 1);
@@ -189,19 +203,15 @@ fn refuses(
 
 #[test]
 fn a_fid_is_refused_for_the_first_reason(rt: HostRuntime) {
-    let table = MountTable::new(rt.alloc());
-    let mut fids = FidTable::new(rt.alloc());
-    refuses(&rt, &mut fids, &table, rt.alloc());
-    drop(fids);
-    drop(table);
+    on_new(&rt, rt.alloc(), Work::Refusals);
 }
 
 // Two fids are open: one on the file of a union, which is the first member, and one on that member.
-fn counts_open(
+fn counts_open<A: Allocator + Copy>(
     rt: &impl Abort,
-    fids: &mut FidTable<Global>,
-    table: &MountTable<Global>,
-    alloc: Global,
+    fids: &mut FidTable<A>,
+    table: &MountTable<A>,
+    alloc: A,
 )
     requires { AllFit table.now fids.old }
 {
@@ -213,15 +223,20 @@ fn counts_open(
     assert!(rt; fids.open_count(table, node(1)) == 2 && fids.open_count(table, node(3)) == 0);
 }
 
-#[test]
-fn open_fids_are_counted_by_their_files(rt: HostRuntime) {
-    let mut table = MountTable::new(rt.alloc());
+// The same over a table where the node 1 is bound before the node 3.
+fn counts_open_in_a_union<A: Allocator + Copy>(rt: &impl Abort, alloc: A) {
+    let mut table = MountTable::new(alloc);
     let bound = table.bind(node(3), &[node(1)], Order::Before, false);
     assert!(rt; bound.is_ok());
-    let mut fids = FidTable::new(rt.alloc());
-    counts_open(&rt, &mut fids, &table, rt.alloc());
+    let mut fids = FidTable::new(alloc);
+    counts_open(rt, &mut fids, &table, alloc);
     drop(fids);
     drop(table);
+}
+
+#[test]
+fn open_fids_are_counted_by_their_files(rt: HostRuntime) {
+    counts_open_in_a_union(&rt, rt.alloc());
 }
 
 // A mode gives these rights.

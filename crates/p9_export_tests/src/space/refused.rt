@@ -198,20 +198,42 @@ fn tell_walk<T: Tree>(
     told: &mut String,
 ) -> Result<(), Fault> {
     match way {
-        Way::Trail => trail(rt, told, &space.table, &walk(space)?),
-        Way::Channels => trail(rt, told, &space.table, walk_by_channels(space)?.trail()),
+        Way::Trail => tell_trail(rt, space, told),
+        Way::Channels => tell_channels(rt, space, told),
     }
+}
+
+fn tell_trail<T: Tree>(rt: &impl Abort, space: &Space<T>, told: &mut String) -> Result<(), Fault> {
+    let found = walk(space)?;
+    trail(rt, told, &space.table, &found);
+    drop(found);
+    Ok(())
+}
+
+fn tell_channels<T: Tree>(
+    rt: &impl Abort,
+    space: &Space<T>,
+    told: &mut String,
+) -> Result<(), Fault> {
+    let found = walk_by_channels(space)?;
+    trail(rt, told, &space.table, found.trail());
+    drop(found);
     Ok(())
 }
 
 /// Walks, again where it was refused.
 pub fn walk_again<T: Tree>(rt: &impl Abort, alloc: Global, space: &Space<T>, way: Way) {
     let mut told = String::new(alloc);
-    if let Err(fault) = tell_walk(rt, space, way, &mut told) {
-        assert!(rt; fault == Fault::OutOfMemory);
-        tell_walk(rt, space, way, &mut told).expect(rt, "a walk");
-    }
+    tell_again(rt, space, way, &mut told);
     is_text(rt, told.as_str(), "0 1 2 ");
+}
+
+// Writes the places, again where the walk was refused.
+fn tell_again<T: Tree>(rt: &impl Abort, space: &Space<T>, way: Way, told: &mut String) {
+    if let Err(fault) = tell_walk(rt, space, way, told) {
+        assert!(rt; fault == Fault::OutOfMemory);
+        tell_walk(rt, space, way, told).expect(rt, "a walk");
+    }
 }
 
 // Walks over both kinds of tree.

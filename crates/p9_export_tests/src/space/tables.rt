@@ -1,6 +1,6 @@
 //! Binds and unmounts, and what a user may do with a file.
 
-use crate::space::calls::plays;
+use crate::both::plays;
 use crate::space::worlds::{GROUPED, SMALL, UNIONS};
 
 #[test]

@@ -1,6 +1,6 @@
 //! Walks from place to place, and why a step may be refused.
 
-use crate::space::calls::plays;
+use crate::both::plays;
 use crate::space::worlds::{DEEP, SHUT, SMALL, UNIONS};
 
 #[test]
