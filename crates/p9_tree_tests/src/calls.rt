@@ -19,15 +19,24 @@ const SMALL: &str = "\
 /// A server of a root alone, and the sample world after it.
 pub fn two_servers<T: Tree>(rt: &impl Abort, alloc: T::Alloc) -> Forest<T> {
     let mut trees = Vec::new(alloc);
-    let root = T::with_root(alloc).expect(rt, "memory");
-    trees.push(root).expect(rt, "memory");
-    let root = T::with_root(alloc).expect(rt, "memory");
-    trees.push(root).expect(rt, "memory");
+    push_root(rt, alloc, &mut trees);
+    push_root(rt, alloc, &mut trees);
     let mut forest = Forest::new(trees);
-    for line in SMALL.lines() {
-        call(rt, &mut forest, line).expect(rt, "memory");
-    }
+    make_small(rt, &mut forest);
     forest
+}
+
+// Adds a tree of a root alone.
+fn push_root<T: Tree>(rt: &impl Abort, alloc: T::Alloc, trees: &mut Vec<T, T::Alloc>) {
+    let root = T::with_root(alloc).expect(rt, "memory");
+    trees.push(root).expect(rt, "memory");
+}
+
+// Makes the sample world's nodes.
+fn make_small<T: Tree>(rt: &impl Abort, forest: &mut Forest<T>) {
+    for line in SMALL.lines() {
+        call(rt, forest, line).expect(rt, "memory");
+    }
 }
 
 /// Makes the calls over the two servers, of a vector of nodes, and of ordered maps. What a look
@@ -46,10 +55,15 @@ pub fn plays<T: Tree>(rt: &impl Abort, alloc: T::Alloc, printing: Global, lines:
 /// Makes the call, or the look, of each line.
 pub fn make_all<T: Tree>(rt: &impl Abort, printing: Global, forest: &mut Forest<T>, lines: &str) {
     for line in lines.lines() {
-        match line.split_once(" = ") {
-            Some((words, want)) => is_found(rt, printing, forest, words, want),
-            None => call(rt, forest, line).expect(rt, "memory"),
-        }
+        make(rt, printing, forest, line);
+    }
+}
+
+// Makes the call, or the look, of a line.
+fn make<T: Tree>(rt: &impl Abort, printing: Global, forest: &mut Forest<T>, line: &str) {
+    match line.split_once(" = ") {
+        Some((words, want)) => is_found(rt, printing, forest, words, want),
+        None => call(rt, forest, line).expect(rt, "memory"),
     }
 }
 
