@@ -66,12 +66,14 @@ fn file_name(alloc: Global, number: u32) -> Result<String, AllocError> {
 
 // The lines of a directory of this mode and of its file.
 fn push_directory(rt: &impl Abort, alloc: Global, text: &mut String, number: u32, mode: &str) {
+    writeln!(text, "dir /{number:04} {mode} sys sys").expect(rt, "memory");
     let name = file_name(alloc, number.saturating_add(1)).expect(rt, "memory");
-    let pushed = writeln!(
-        text,
-        "dir /{number:04} {mode} sys sys\nfile /{number:04}/{name} 644 glenda glenda -"
-    );
-    pushed.expect(rt, "memory");
+    write_file(text, number, name.as_str()).expect(rt, "memory");
+}
+
+// Adds the line of a directory's file.
+fn write_file(text: &mut String, directory: u32, name: &str) -> Result<(), AllocError> {
+    writeln!(text, "file /{directory:04}/{name} 644 glenda glenda -")
 }
 
 // The lines of two nodes of the root, of which the second is a directory.

@@ -24,10 +24,16 @@ a type that is none: 07000000 80 0100";
 #[test]
 fn hostile_requests(rt: HostRuntime) {
     for row in REQUESTS.lines() {
-        let bytes = bytes_in(&rt, rt.alloc(), row);
-        needs_all_bytes(&rt, &bytes);
-        assert!(rt; !is_request(&bytes), "{row}");
+        is_frame(&rt, rt.alloc(), row, false);
     }
+}
+
+// The bytes of a row are a frame, and no whole one where they are cut short. Whether they are a
+// request is as it is to be.
+fn is_frame(rt: &impl Abort, alloc: Global, row: &str, is_read: bool) {
+    let bytes = bytes_in(rt, alloc, row);
+    needs_all_bytes(rt, &bytes);
+    assert!(rt; is_request(&bytes) == is_read, "{row}");
 }
 
 const SEVENTEEN: &str = "seventeen names: 55000000 6e 0400 00000000 03000000 1100 \
@@ -53,12 +59,8 @@ const WRONG: &str = "size and three: 3f000000 7e 0a00 01000000 3200 2f00 \
 
 #[test]
 fn length_of_a_stat(rt: HostRuntime) {
-    let right = bytes_in(&rt, rt.alloc(), RIGHT);
-    needs_all_bytes(&rt, &right);
-    assert!(rt; is_request(&right));
-    let wrong = bytes_in(&rt, rt.alloc(), WRONG);
-    needs_all_bytes(&rt, &wrong);
-    assert!(rt; !is_request(&wrong));
+    is_frame(&rt, rt.alloc(), RIGHT, true);
+    is_frame(&rt, rt.alloc(), WRONG, false);
 }
 
 const REPLIES: &str = "\
@@ -70,7 +72,12 @@ count 1, no byte: 0b000000 75 0100 01000000";
 #[test]
 fn hostile_replies(rt: HostRuntime) {
     for row in REPLIES.lines() {
-        let bytes = bytes_in(&rt, rt.alloc(), row);
-        assert!(rt; !is_reply(&bytes), "{row}");
+        is_no_reply(&rt, rt.alloc(), row);
     }
+}
+
+// The bytes of a row are no reply.
+fn is_no_reply(rt: &impl Abort, alloc: Global, row: &str) {
+    let bytes = bytes_in(rt, alloc, row);
+    assert!(rt; !is_reply(&bytes), "{row}");
 }
