@@ -97,6 +97,43 @@ pub enum Answer {
 
 /// A stream over bytes in memory. Its calls, reads and writes together, answer by a list, and once
 /// that is used up each moves at most so many bytes. A read that finds no byte would block then.
+///
+/// What is generic over it is cheaper to prove than what names [`Scripted`].
+pub trait Script: Stream + Drop + Sized {
+    /// A stream that gives these bytes. Its list is empty.
+    fn over(alloc: Global, input: Vec<u8, Global>, most: usize) -> Self;
+
+    /// Puts an answer at the end of the list. Returns whether there was memory for it.
+    fn put(&mut self, answer: Answer) -> bool;
+
+    /// What was written to it.
+    fn output(&self) -> &[u8];
+
+    /// How many calls were made.
+    fn calls(&self) -> u64;
+
+    /// How many reads moved bytes.
+    fn moving_reads(&self) -> u64;
+
+    /// How many writes moved bytes.
+    fn moving_writes(&self) -> u64;
+
+    /// How many writes were told that more bytes will follow.
+    fn writes_with_more(&self) -> u64;
+
+    /// How many bytes were read.
+    fn bytes_read(&self) -> u64;
+
+    /// Whether its list is used up, and its bytes were read.
+    fn is_used_up(&self) -> bool;
+}
+
+/// Puts an answer at the end of a stream's list.
+pub fn then<S: Script>(rt: &impl Abort, stream: &mut S, answer: Answer) {
+    assert!(rt; stream.put(answer));
+}
+
+/// The stream that is a [`Script`].
 #[derive(Drop)]
 pub struct Scripted {
     answers: VecDeque<Answer, Global>,
@@ -108,9 +145,8 @@ pub struct Scripted {
     writes_with_more: u64,
 }
 
-impl Scripted {
-    /// A stream that gives these bytes. Its list is empty.
-    pub fn new(alloc: Global, input: Vec<u8, Global>, most: usize) -> Scripted {
+impl Script for Scripted {
+    fn over(alloc: Global, input: Vec<u8, Global>, most: usize) -> Scripted {
         Scripted {
             answers: VecDeque::new(alloc),
             most,
@@ -122,46 +158,40 @@ impl Scripted {
         }
     }
 
-    /// Puts an answer at the end of the list.
-    pub fn then(&mut self, rt: &impl Abort, answer: Answer) {
-        assert!(rt; self.answers.push_back(answer).is_ok());
+    fn put(&mut self, answer: Answer) -> bool {
+        self.answers.push_back(answer).is_ok()
     }
 
-    /// What was written to it.
-    pub fn output(&self) -> &[u8] {
+    fn output(&self) -> &[u8] {
         self.memory.output()
     }
 
-    /// How many calls were made.
-    pub fn calls(&self) -> u64 {
+    fn calls(&self) -> u64 {
         self.calls
     }
 
-    /// How many reads moved bytes.
-    pub fn moving_reads(&self) -> u64 {
+    fn moving_reads(&self) -> u64 {
         self.moving_reads
     }
 
-    /// How many writes moved bytes.
-    pub fn moving_writes(&self) -> u64 {
+    fn moving_writes(&self) -> u64 {
         self.moving_writes
     }
 
-    /// How many writes were told that more bytes will follow.
-    pub fn writes_with_more(&self) -> u64 {
+    fn writes_with_more(&self) -> u64 {
         self.writes_with_more
     }
 
-    /// How many bytes were read.
-    pub fn bytes_read(&self) -> u64 {
+    fn bytes_read(&self) -> u64 {
         self.memory.input.position()
     }
 
-    /// Whether its list is used up, and its bytes were read.
-    pub fn is_used_up(&self) -> bool {
+    fn is_used_up(&self) -> bool {
         self.answers.is_empty() && self.memory.is_read()
     }
+}
 
+impl Scripted {
     // How many bytes a call may move, by the front of the list.
     fn room(&mut self) -> io::Result<usize>
         ensures { self.new.memory ≡ self.old.memory }

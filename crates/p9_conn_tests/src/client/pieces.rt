@@ -32,18 +32,36 @@ pub enum Fault {
     Silent,
 }
 
-/// A server of one file.
+/// A server of one file. What is generic over it is cheaper to prove than what names [`Pieces`].
+pub trait OneFile: Server {
+    /// The bytes of the file.
+    fn file(&self) -> &[u8];
+
+    /// The most requests that waited for an answer at once.
+    fn most_waiting(&self) -> usize;
+}
+
+/// The server that is [`OneFile`].
 #[derive(Drop)]
 pub struct Pieces {
-    pub file: Vec<u8, Global>,
+    file: Vec<u8, Global>,
     // The reply that is late.
     late: Vec<u8, Global>,
     fault: Fault,
     // The number of the request at which it does that.
     place: usize,
     requests: usize,
-    /// The most requests that waited for an answer at once.
-    pub most_waiting: usize,
+    most_waiting: usize,
+}
+
+impl OneFile for Pieces {
+    fn file(&self) -> &[u8] {
+        self.file.as_slice()
+    }
+
+    fn most_waiting(&self) -> usize {
+        self.most_waiting
+    }
 }
 
 impl Pieces {
