@@ -126,8 +126,8 @@ fn serve_and_drop<T: Tree, S: Script>(
     drop(conn);
 }
 
-// Serves the rows again and again on one guard, over trees of this kind, and drops the guard. Nothing
-// is lent after that.
+// Serves the rows again and again on one guard, over trees of this kind, and drops the guard.
+// Nothing is lent after that.
 fn repeat<T: Tree, S: Script>(
     rt: &impl Abort,
     alloc: Global,

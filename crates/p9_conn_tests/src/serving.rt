@@ -15,8 +15,8 @@ use p9_world::{World, read_world};
 use std::alloc::{Allocator, Global};
 use std::process::Abort;
 
-/// The trees of most guards here. Each test names them once: what is generic over the tree is cheaper
-/// to prove.
+/// The trees of most guards here. Each test names them once: what is generic over the tree is
+/// cheaper to prove.
 pub type Trees = IndexTree<Global>;
 
 /// A connection of session 1, with its guard.

@@ -52,7 +52,8 @@ fn fine(call: Call, len: usize) -> Play {
     }
 }
 
-// A server where this goes wrong. The file that is read is there, and that which is written is empty.
+// A server where this goes wrong. The file that is read is there, and that which is written is
+// empty.
 fn server_of(rt: &impl Abort, alloc: Global, play: Play) -> Pieces {
     let file = match play.call {
         Call::Read => file_of(rt, alloc, play.len),

@@ -1,9 +1,8 @@
 //! Replies of a hostile server, each of which is an error.
 
-use crate::client::answered::{Answered, Server};
+use crate::client::answered::{Answered, Server, session_over};
 use crate::client::canned::server_of;
 use crate::client::kinds::answer_kind;
-use crate::client::served::session_over;
 use p9_client::{ClientError, Session};
 use p9_wire::Names;
 use std::alloc::Global;

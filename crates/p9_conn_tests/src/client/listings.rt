@@ -1,9 +1,8 @@
 //! Listings of a hostile server.
 
-use crate::client::answered::{Answered, Server, reply_frame};
+use crate::client::answered::{Answered, Server, reply_frame, session_over};
 use crate::client::canned::server_of;
 use crate::client::kinds::{file_kind_of, outcome};
-use crate::client::served::session_over;
 use p9_client::Session;
 use p9_testing::bytes_of;
 use std::alloc::Global;

@@ -90,6 +90,21 @@ impl Pieces {
         }
     }
 
+    // Answers the requests that wait. Returns how many these are.
+    fn answer_waiting(
+        &mut self,
+        input: &mut Vec<u8, Global>,
+        output: &mut Vec<u8, Global>,
+    ) -> io::Result<usize> {
+        for waiting in 0..100 {
+            let Some(frame) = take_frame(input)? else {
+                return Ok(waiting);
+            };
+            self.answer_one(frame.as_slice(), output)?;
+        }
+        Ok(100)
+    }
+
     // Answers one request.
     fn answer_one(&mut self, frame: &[u8], output: &mut Vec<u8, Global>) -> io::Result<()> {
         let fault = self.next_fault();
@@ -117,16 +132,21 @@ impl Pieces {
 
     // The reply with the bytes of the file from an offset on.
     fn read(&self, fault: Fault, tag: u16, offset: u64, count: u32) -> io::Result<Vec<u8, Global>> {
-        let alloc = *self.file.allocator();
-        let rest = self.file.get(offset as usize..).unwrap_or(&[]);
-        let rest = &rest[..rest.len().min(count as usize)];
-        let mut data = Vec::from_slice(alloc, moved(fault, rest))?;
+        let body = self.body(fault, offset as usize, count as usize)?;
+        reply_frame(*self.file.allocator(), 117, tag, body.as_slice())
+    }
+
+    // The body of this reply: how many bytes there are, and the bytes.
+    fn body(&self, fault: Fault, offset: usize, count: usize) -> io::Result<Vec<u8, Global>> {
+        let rest = self.file.get(offset..).unwrap_or(&[]);
+        let data = moved(fault, &rest[..rest.len().min(count)]);
+        let mut body = Vec::new(*self.file.allocator());
         if matches!(fault, Fault::More) {
-            data.resize((count as usize).saturating_add(1), 0)?;
+            add_data(&mut body, data, count.saturating_add(1))?;
+        } else {
+            add_data(&mut body, data, data.len())?;
         }
-        let mut body = Vec::from_slice(alloc, &len_of(data.as_slice()).to_le_bytes())?;
-        body.extend_from_slice(data.as_slice())?;
-        reply_frame(alloc, 117, tag, body.as_slice())
+        Ok(body)
     }
 
     // Writes bytes to the file from an offset on. The reply says how many these are.
@@ -182,19 +202,21 @@ impl Server for Pieces {
         input: &mut Vec<u8, Global>,
         output: &mut Vec<u8, Global>,
     ) -> io::Result<()> {
-        let mut waiting = 0usize;
-        for _ in 0..100 {
-            let Some(frame) = take_frame(input)? else {
-                break;
-            };
-            self.answer_one(frame.as_slice(), output)?;
-            waiting = waiting.saturating_add(1);
-        }
+        let waiting = self.answer_waiting(input, output)?;
         self.most_waiting = self.most_waiting.max(waiting);
         output.extend_from_slice(self.late.as_slice())?;
         self.late.clear();
         Ok(())
     }
+}
+
+// Adds a number of bytes and the data, filled up with zeros to as many.
+fn add_data(body: &mut Vec<u8, Global>, data: &[u8], len: usize) -> io::Result<()> {
+    let count = u32::try_from(len).unwrap_or(u32::MAX);
+    body.extend_from_slice(&count.to_le_bytes())?;
+    body.extend_from_slice(data)?;
+    body.resize(len.saturating_add(4), 0)?;
+    Ok(())
 }
 
 // The tag of the reply to a request of this tag.

@@ -83,15 +83,6 @@ fn guard_of<T: Tree>(rt: &impl Abort, alloc: T::Alloc) -> Guard<T> {
     guard
 }
 
-/// A session over a server, with frames of at most 8,192 bytes.
-pub fn session_over<S: Server>(
-    rt: &impl Abort,
-    alloc: Global,
-    server: S,
-) -> Session<Answered<S>, Global> {
-    Session::new(alloc, Answered::new(alloc, server), 8_192).expect(rt, "memory")
-}
-
 /// A session over this stream, where glenda has attached fid 0.
 pub fn attach<S: Server, A: Allocator + Copy>(
     rt: &impl Abort,
