@@ -187,11 +187,17 @@ impl Script for Scripted {
     }
 
     fn is_used_up(&self) -> bool {
-        self.answers.is_empty() && self.memory.is_read()
+        self.is_over()
     }
 }
 
 impl Scripted {
+    // Whether its list is used up, and its bytes were read. The reads call this, since the trait
+    // `Script` is built on them.
+    fn is_over(&self) -> bool {
+        self.answers.is_empty() && self.memory.is_read()
+    }
+
     // How many bytes a call may move, by the front of the list.
     fn room(&mut self) -> io::Result<usize>
         ensures { self.new.memory ≡ self.old.memory }
@@ -210,7 +216,7 @@ impl Scripted {
     fn room_to_read(&mut self) -> io::Result<usize>
         ensures { self.new.memory ≡ self.old.memory }
     {
-        let is_blocked = self.is_used_up();
+        let is_blocked = self.is_over();
         let room = self.room()?;
         if is_blocked {
             return Err(io::Error::from(ErrorKind::WouldBlock));

@@ -140,12 +140,12 @@ impl Pieces {
     fn body(&self, fault: Fault, offset: usize, count: usize) -> io::Result<Vec<u8, Global>> {
         let rest = self.file.get(offset..).unwrap_or(&[]);
         let data = moved(fault, &rest[..rest.len().min(count)]);
+        let len = match fault {
+            Fault::More => count.saturating_add(1),
+            _ => data.len(),
+        };
         let mut body = Vec::new(*self.file.allocator());
-        if matches!(fault, Fault::More) {
-            add_data(&mut body, data, count.saturating_add(1))?;
-        } else {
-            add_data(&mut body, data, data.len())?;
-        }
+        add_data(&mut body, data, len)?;
         Ok(body)
     }
 
