@@ -24,7 +24,7 @@ print_middle-requires g c =
     c.in_ok-labels.ensures in
     omega (
       arith,
-      ap length c.as_slice-3.ensures.value,
+      ap length c.as_slice-2.ensures.value,
       zipped,
       ap length c.in_ok-layout.ensures.nodes,
       length-map boxes (λ (b : Placed). b.node),
@@ -46,11 +46,11 @@ returns g c =
     let v = c.args.verdict.now in
     let t = title_text world (standing_text c.args.standing) in
     let b = boxes_text world rows walk boxes labels in
-    let z = last_text last.1.0 plan.left_out plan.marked_left_out in
+    let z = last_text last.1 plan.left_out plan.marked_left_out in
     let is_middle : c.print_middle.new.out.items ≡ c.print_top.new.out.items ++ (middle.0 ++ b) =
     middle.1
     ∙ ap (λ ls. c.print_top.new.out.items
-    ++ (middle.0 ++ boxes_text world rows walk boxes (map label_texts ls))) c.as_slice-3.ensures.value in (
+    ++ (middle.0 ++ boxes_text world rows walk boxes (map label_texts ls))) c.as_slice-2.ensures.value in (
       top.0 ++ v ++ t ++ middle.0 ++ b ++ last.0 ++ z,
       record {
         boxes = boxes;
@@ -64,9 +64,9 @@ returns g c =
         head = top.0;
         lines = middle.0;
         legend = last.0;
-        left_out_at = last.1.0;
+        left_out_at = last.1;
         is = refl;
       },
       printed c.args.out.now.items top.0 v t middle.0 b last.0 z c.print_top.new.out.items
-          c.print_middle.new.out.items c.print_end.new.out.items top.1 is_middle last.1.1,
+          c.print_middle.new.out.items c.print_end.new.out.items top.1 is_middle last.2,
     )
