@@ -13,7 +13,7 @@ use Rattle.p9_base.specs.Mode.{permissions_of}
 use Rattle.p9_base.specs.Results.{need, obtain, unless}
 use Rattle.p9_base.specs.Statement.{statements_of}
 use Rattle.p9_wire.specs.FieldReading.{counted_at, qid_at, several_at, sized_at, stat_fields_at}
-use Rattle.p9_wire.specs.FieldReading.{text_at, times}
+use Rattle.p9_wire.specs.FieldReading.{stat_numbers_at, text_at, times}
 use Rattle.p9_wire.specs.Fields.{number}
 use Rattle.p9_wire.specs.Reading.{header_at, t_attach_at, t_body_at, t_message_of, t_open_at}
 use Rattle.p9_wire.specs.Reading.{t_create_at, t_read_at, t_remove_at, t_version_at, t_walk_at}
@@ -186,7 +186,7 @@ differ same = true≢false (ap (is_dir_of (at 3)) same)
 prints : play_text (exported (prepared file).space) events [] ≡ reply_lines
 unfolding encode_with chars is_utf8 encode_utf8 need obtain unless text_at counted_at times
     several_at sized_at qid_at number header_at t_version_at t_attach_at t_walk_at t_create_at t_wstat_at
-    stat_fields_at t_open_at t_read_at t_remove_at t_body_at t_message_of r_spelling edited applied
+    stat_fields_at stat_numbers_at t_open_at t_read_at t_remove_at t_body_at t_message_of r_spelling edited applied
     entry_bytes
 prints = refl
 
