@@ -226,7 +226,7 @@ other same = true≢false (sym (ap (λ forest. is_some (node_of (at 3) forest)) 
 prints-outer : play_text (served (outer_world (world file)) table) events [] ≡ reply_lines
 unfolding outer encode_with chars is_utf8 encode_utf8 need obtain unless text_at counted_at times
     several_at sized_at qid_at number header_at t_version_at t_attach_at t_walk_at t_create_at
-    t_wstat_at stat_fields_at t_open_at t_read_at t_remove_at t_body_at t_message_of r_spelling
+    t_wstat_at stat_fields_at stat_numbers_at t_open_at t_read_at t_remove_at t_body_at t_message_of r_spelling
     edited applied entry_bytes
 prints-outer = refl
 
@@ -259,7 +259,7 @@ lives = unmarked (prepared file) ∷ unmarked (prepared file) ∷ []
 left-is-other : (left_after_all (world file) table lives).forest ≢ (world file).forest
 unfolding lives encode_with chars is_utf8 encode_utf8 need obtain unless text_at counted_at times
     several_at sized_at qid_at number header_at t_version_at t_attach_at t_walk_at t_create_at
-    t_wstat_at stat_fields_at t_open_at t_read_at t_remove_at t_body_at t_message_of r_spelling
+    t_wstat_at stat_fields_at stat_numbers_at t_open_at t_read_at t_remove_at t_body_at t_message_of r_spelling
     edited applied entry_bytes
 left-is-other same = true≢false (sym (ap (λ forest. next_of 0 forest == 4) same))
 
