@@ -69,27 +69,22 @@ fn opened(rt: &HostRuntime, folder: &Folder, how: Crash) -> Result<(Kept, Found)
         Ok(device) => device,
         Err(error) => return Err(PROGRAM.failed(rt, folder.path(), error)),
     };
-    match reopen::<FileDevice, Global, Trees>(rt.alloc(), device, how) {
-        Ok(reopened) => Ok(kept_of(reopened, how)),
-        Err(error) => Err(refuse(rt, folder, error)),
-    }
-}
-
-// What is kept of a forest that such a crash left, and what was found there.
-fn kept_of(reopened: Reopened<FileDevice, Global, Trees>, how: Crash) -> (Kept, Found) {
     let Reopened {
         forest,
         journal,
         left_out,
-    } = reopened;
+    } = match reopen::<FileDevice, Global, Trees>(rt.alloc(), device, how) {
+        Ok(reopened) => reopened,
+        Err(error) => return Err(refuse(rt, folder, error)),
+    };
     let found = Found { how, left_out };
     if forest.trees().is_empty() {
         drop(forest);
-        return (Kept::Nothing(journal), found);
+        return Ok((Kept::Nothing(journal), found));
     }
     let mut forest = forest;
     forest.keep(journal);
-    (Kept::Trees(forest), found)
+    Ok((Kept::Trees(forest), found))
 }
 
 // Reports why what is kept in a folder can't be read.
