@@ -19,17 +19,13 @@ const SMALL: &str = "\
 /// A server of a root alone, and the sample world after it.
 pub fn two_servers<T: Tree>(rt: &impl Abort, alloc: T::Alloc) -> Forest<T> {
     let mut trees = Vec::new(alloc);
-    push_root(rt, alloc, &mut trees);
-    push_root(rt, alloc, &mut trees);
+    let root = T::with_root(alloc).expect(rt, "memory");
+    trees.push(root).expect(rt, "memory");
+    let root = T::with_root(alloc).expect(rt, "memory");
+    trees.push(root).expect(rt, "memory");
     let mut forest = Forest::new(trees);
     make_small(rt, &mut forest);
     forest
-}
-
-// Adds a tree of a root alone.
-fn push_root<T: Tree>(rt: &impl Abort, alloc: T::Alloc, trees: &mut Vec<T, T::Alloc>) {
-    let root = T::with_root(alloc).expect(rt, "memory");
-    trees.push(root).expect(rt, "memory");
 }
 
 // Makes the sample world's nodes.
