@@ -318,31 +318,18 @@ fn play(rt: &impl Abort, alloc: Global, groups: &mut Groups<Global>, line: &str)
 fn list(rt: &impl Abort, alloc: Global, groups: &mut Groups<Global>, line: &str) {
     let mut rest = line.strip_prefix("list ").expect(rt, "a group");
     let name = user(rt, take_word(&mut rest));
-    let leader = user(rt, take_word(&mut rest));
-    list_group(rt, alloc, groups, name, leader, rest);
-}
-
-fn list_group(
-    rt: &impl Abort,
-    alloc: Global,
-    groups: &mut Groups<Global>,
-    name: User,
-    leader: User,
-    members: &str,
-) {
-    let mut group = Group::new(alloc, leader);
-    for word in members.split_whitespace() {
-        add(rt, &mut group, word);
-    }
+    let mut group = Group::new(alloc, user(rt, take_word(&mut rest)));
+    add(rt, &mut group, rest);
     groups.insert(name, group).expect(rt, "memory");
 }
 
-fn add(rt: &impl Abort, group: &mut Group<Global>, word: &str) {
-    let is_new = word.starts_with('+');
-    let sign = if is_new { "+" } else { "-" };
-    let name = word.strip_prefix(sign).expect(rt, "a member");
-    let was_new = group.add_member(user(rt, name)).expect(rt, "memory");
-    assert!(rt; was_new == is_new, "{word}");
+fn add(rt: &impl Abort, group: &mut Group<Global>, members: &str) {
+    for word in members.split_whitespace() {
+        let is_new = word.starts_with('+');
+        let sign = if is_new { "+" } else { "-" };
+        let name = word.strip_prefix(sign).expect(rt, "a member");
+        assert!(rt; group.add_member(user(rt, name)) == Ok(is_new));
+    }
 }
 
 fn told(rt: &impl Abort, groups: &Groups<Global>, words: &str) -> &'static str {
@@ -400,29 +387,23 @@ fn tell_in_order(
     position: usize,
     told: &mut String,
 ) -> Result<(), AllocError> {
-    match groups.at(position) {
-        Some((name, group)) => tell_group(name, group, told),
-        None => Ok(()),
-    }
-}
-
-fn tell_group(name: &User, group: &Group<Global>, told: &mut String) -> Result<(), AllocError> {
+    let Some((name, group)) = groups.at(position) else {
+        return Ok(());
+    };
     write!(told, "{name} {}", group.leader())?;
-    tell_members(group, told)?;
-    told.push_str("\n")
-}
-
-fn tell_members(group: &Group<Global>, told: &mut String) -> Result<(), AllocError> {
     for member in group.members() {
         write!(told, " {member:?}")?;
     }
-    Ok(())
+    writeln!(told)
 }
 
 fn are_found(rt: &impl Abort, groups: &Groups<Global>) {
-    let rob = user(rt, "rob");
+    let (rob, ken) = (user(rt, "rob"), user(rt, "ken"));
     let staff = groups.get(&user(rt, "staff")).expect(rt, "a group");
-    assert!(rt; staff.has_member(&user(rt, "ken")));
-    assert!(rt; !staff.has_member(&rob));
-    assert!(rt; groups.get(&rob).is_none());
+    let found = (
+        staff.has_member(&ken),
+        staff.has_member(&rob),
+        groups.get(&rob).is_some(),
+    );
+    assert!(rt; found == (true, false, false));
 }

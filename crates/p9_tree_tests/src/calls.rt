@@ -24,15 +24,10 @@ pub fn two_servers<T: Tree>(rt: &impl Abort, alloc: T::Alloc) -> Forest<T> {
     let root = T::with_root(alloc).expect(rt, "memory");
     trees.push(root).expect(rt, "memory");
     let mut forest = Forest::new(trees);
-    make_small(rt, &mut forest);
-    forest
-}
-
-// Makes the sample world's nodes.
-fn make_small<T: Tree>(rt: &impl Abort, forest: &mut Forest<T>) {
     for line in SMALL.lines() {
-        call(rt, forest, line).expect(rt, "memory");
+        call(rt, &mut forest, line).expect(rt, "memory");
     }
+    forest
 }
 
 /// Makes the calls over the two servers, of a vector of nodes, and of ordered maps. What a look
@@ -51,15 +46,10 @@ pub fn plays<T: Tree>(rt: &impl Abort, alloc: T::Alloc, printing: Global, lines:
 /// Makes the call, or the look, of each line.
 pub fn make_all<T: Tree>(rt: &impl Abort, printing: Global, forest: &mut Forest<T>, lines: &str) {
     for line in lines.lines() {
-        make(rt, printing, forest, line);
-    }
-}
-
-// Makes the call, or the look, of a line.
-fn make<T: Tree>(rt: &impl Abort, printing: Global, forest: &mut Forest<T>, line: &str) {
-    match line.split_once(" = ") {
-        Some((words, want)) => is_found(rt, printing, forest, words, want),
-        None => call(rt, forest, line).expect(rt, "memory"),
+        match line.split_once(" = ") {
+            Some((words, want)) => is_found(rt, printing, forest, words, want),
+            None => call(rt, forest, line).expect(rt, "memory"),
+        }
     }
 }
 

@@ -17,30 +17,15 @@ use std::process::Abort;
 /// A wstat of rob's at the time 7, of a line: new name, mode, group, length and time of change.
 /// What is `-` stays.
 pub fn take_change(rt: &impl Abort, line: &mut &str) -> Change {
+    let (name, mode, gid) = (take_word(line), take_word(line), take_word(line));
     Change {
-        name: take_name(line),
-        mode: mode_of(take_word(line)),
-        gid: take_group(line),
+        name: if name == "-" { None } else { Name::new(name) },
+        mode: mode_of(mode),
+        gid: if gid == "-" { None } else { User::new(gid) },
         length: take_word(line).parse::<u64>().ok(),
         mtime: take_word(line).parse::<u32>().ok(),
         user: user(rt, "rob"),
         clock: 7,
-    }
-}
-
-// The next word of a line as a name, unless it is `-`.
-fn take_name(line: &mut &str) -> Option<Name> {
-    match take_word(line) {
-        "-" => None,
-        name => Name::new(name),
-    }
-}
-
-// The next word of a line as a group, unless it is `-`.
-fn take_group(line: &mut &str) -> Option<User> {
-    match take_word(line) {
-        "-" => None,
-        name => User::new(name),
     }
 }
 

@@ -1,15 +1,12 @@
 //! The calls of a forest that may ask for memory, where its look-ups say that they may be made.
 
-ghost use Rattle.std.specs.Prelude.{◌≡◌, ◌<◌, ◌≤◌, [], None, false, length, IsTrue};
+ghost use Rattle.std.specs.Prelude.{◌≡◌, false};
 ghost use Rattle.std.specs.Option.{option_copied, option_map_or};
-ghost use Rattle.p9_base.specs.Mode.{is_dir as is_dir_mode};
-ghost use Rattle.p9_tree.specs.Forest.{next_of, server_at};
 ghost use Rattle.p9_tree.specs.Node.{is_dir as is_dir_node};
-ghost use Rattle.p9_tree.specs.Server.{child_of, is_dir_at, next_max};
 
 use crate::changes::{may_change, take_change};
 use crate::words::{mode_of, name, take_number, take_u32, take_word, user};
-use p9_base::{Mode, NoMemory, NodeRef};
+use p9_base::{NoMemory, NodeRef};
 use p9_tree::{FILE_MAX, Forest, NEXT_MAX, New, Node, Tree};
 use std::alloc::Allocator;
 use std::process::Abort;
@@ -51,42 +48,13 @@ fn add<T: Tree>(
     line: &mut &str,
 ) -> Result<(), NoMemory> {
     let new = take_new(rt, line);
-    add_new(rt, forest, dir, &new)
-}
-
-// The same of this new node.
-fn add_new<T: Tree>(
-    rt: &impl Abort,
-    forest: &mut Forest<T>,
-    dir: NodeRef,
-    new: &New<'_>,
-) -> Result<(), NoMemory> {
-    assert!(rt; has_place(forest, dir, new) && has_bytes(new.mode, new.bytes));
     let number = forest.next_of(dir.server);
-    let made = forest.add(dir, new)?;
+    assert!(rt; number < NEXT_MAX && new.bytes.len() <= FILE_MAX);
+    assert!(rt; is_dir(forest.node(dir)) && forest.child(dir, &new.name).is_none());
+    assert!(rt; !new.mode.is_dir() || new.bytes.is_empty());
+    let made = forest.add(dir, &new)?;
     is_made(rt, made, dir.server, number);
     Ok(())
-}
-
-// Whether the directory exists, and has a place for the node.
-fn has_place<T: Tree>(forest: &Forest<T>, dir: NodeRef, new: &New<'_>) -> bool
-    ensures number_left { IsTrue result → next_of dir.server forest.now < next_max }
-    ensures into { let nodes = (server_at dir.server forest.now).nodes in
-        IsTrue result → IsTrue (is_dir_at dir.number nodes) }
-    ensures free { let nodes = (server_at dir.server forest.now).nodes in
-        IsTrue result → child_of dir.number new.now.name nodes ≡ None }
-{
-    forest.next_of(dir.server) < NEXT_MAX
-        && is_dir(forest.node(dir))
-        && forest.child(dir, &new.name).is_none()
-}
-
-/// Whether a node of this mode may have these bytes.
-pub fn has_bytes(mode: Mode, bytes: &[u8]) -> bool
-    ensures small { IsTrue result → length bytes.now ≤ FILE_MAX }
-    ensures empty_dir { IsTrue result → IsTrue (is_dir_mode mode) → bytes.now ≡ [] }
-{
-    bytes.len() <= FILE_MAX && (!mode.is_dir() || bytes.is_empty())
 }
 
 fn is_made(rt: &impl Abort, made: NodeRef, server: u16, number: u64) {

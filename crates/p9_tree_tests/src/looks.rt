@@ -13,7 +13,8 @@ pub fn look<T: Tree>(rt: &impl Abort, forest: &Forest<T>, line: &str, told: &mut
     let server = take_u16(rt, &mut rest);
     let word = take_word(&mut rest);
     if word == "next" {
-        tell_next(rt, forest, server, told);
+        let next = forest.next_of(server);
+        write!(told, "{next}").expect(rt, "memory");
     } else {
         let number = take_number(rt, &mut rest);
         look_at(
@@ -27,12 +28,6 @@ pub fn look<T: Tree>(rt: &impl Abort, forest: &Forest<T>, line: &str, told: &mut
     }
 }
 
-// Adds the number that a server's next node gets.
-fn tell_next<T: Tree>(rt: &impl Abort, forest: &Forest<T>, server: u16, told: &mut String) {
-    let next = forest.next_of(server);
-    write!(told, "{next}").expect(rt, "memory");
-}
-
 // Adds what the look finds at a node.
 fn look_at<T: Tree>(
     rt: &impl Abort,
@@ -43,24 +38,15 @@ fn look_at<T: Tree>(
     told: &mut String,
 ) {
     match word {
+        "node" => tell(rt, forest.node(at), told),
+        "child" => tell(rt, forest.child(at, &name(rt, take_word(line))), told),
+        "after" => tell(
+            rt,
+            forest.after(at, take_word(line).parse::<u64>().ok()),
+            told,
+        ),
         "length" => length(rt, forest.node(at), told),
         "read" => read(rt, forest, at, line, told),
-        _ => tell(rt, find(rt, forest, word, at, line), told),
-    }
-}
-
-// The node that the look finds.
-fn find<'a, T: Tree>(
-    rt: &impl Abort,
-    forest: &'a Forest<T>,
-    word: &str,
-    at: NodeRef,
-    line: &mut &str,
-) -> Option<&'a Node<T::Alloc>> {
-    match word {
-        "node" => forest.node(at),
-        "child" => forest.child(at, &name(rt, take_word(line))),
-        "after" => forest.after(at, take_word(line).parse::<u64>().ok()),
         _ => panic!(rt; "no look"),
     }
 }
@@ -76,33 +62,21 @@ pub fn tell<A: Allocator>(rt: &impl Abort, found: Option<&Node<A>>, told: &mut S
 
 // Adds what a node is.
 fn write_node<A: Allocator>(node: &Node<A>, told: &mut String) -> Result<(), AllocError> {
-    write_entry(node, told)?;
-    write_users(node, told)?;
-    write_times(node, told)?;
-    write!(told, "[{}]", text_of(node.bytes()))
-}
-
-// Adds a node's number, parent, name and mode.
-fn write_entry<A: Allocator>(node: &Node<A>, told: &mut String) -> Result<(), AllocError> {
-    let (number, parent) = (node.number(), node.parent());
     write!(
         told,
-        "{number} {parent:?} {} {:x} ",
+        "{} {:?} {} {:x} {} {} {} {} {} {} [{}]",
+        node.number(),
+        node.parent(),
         node.name(),
-        node.mode().bits()
+        node.mode().bits(),
+        node.uid().as_str(),
+        node.gid().as_str(),
+        node.muid().as_str(),
+        node.version(),
+        node.atime(),
+        node.mtime(),
+        text_of(node.bytes())
     )
-}
-
-// Adds a node's owner, group and last changer.
-fn write_users<A: Allocator>(node: &Node<A>, told: &mut String) -> Result<(), AllocError> {
-    let (uid, gid) = (node.uid().as_str(), node.gid().as_str());
-    write!(told, "{uid} {gid} {} ", node.muid().as_str())
-}
-
-// Adds a node's version and times.
-fn write_times<A: Allocator>(node: &Node<A>, told: &mut String) -> Result<(), AllocError> {
-    let (version, atime) = (node.version(), node.atime());
-    write!(told, "{version} {atime} {} ", node.mtime())
 }
 
 // The text of bytes.

@@ -12,15 +12,11 @@ fn write_adds(lines: &mut String, files: u32) -> Result<(), AllocError> {
     Ok(())
 }
 
-// What is in the new name of a file of this number. The new names fall while the numbers rise.
-fn new_name(number: u32) -> u32 {
-    u32::MAX - number
-}
-
-// Each is given another name.
+// Each is given another name. The new names fall while the numbers rise.
 fn write_changes(lines: &mut String, files: u32) -> Result<(), AllocError> {
     for number in 1..=files {
-        writeln!(lines, "0 change {number} m{} - - - -", new_name(number))?;
+        let name = u32::MAX - number;
+        writeln!(lines, "0 change {number} m{name} - - - -")?;
     }
     Ok(())
 }
@@ -28,29 +24,16 @@ fn write_changes(lines: &mut String, files: u32) -> Result<(), AllocError> {
 // Then each file comes in the listing at its number, and is found under its new name alone.
 fn write_looks(lines: &mut String, files: u32) -> Result<(), AllocError> {
     for number in 1..=files {
-        write_listed(lines, number)?;
-        write_found(lines, number)?;
+        let (name, before) = (u32::MAX - number, number - 1);
+        let file = "1a4 glenda glenda glenda 0 0 0 [hi]";
+        writeln!(
+            lines,
+            "0 after 0 {before} = {number} Some(0) m{name} {file}\n\
+            0 child 0 m{name} = {number} Some(0) m{name} {file}\n\
+            0 child 0 n{number} = none"
+        )?;
     }
     write!(lines, "0 after 0 {files} = none")
-}
-
-// The file comes after the one before it.
-fn write_listed(lines: &mut String, number: u32) -> Result<(), AllocError> {
-    write!(lines, "0 after 0 {} = ", number.saturating_sub(1))?;
-    write_file(lines, number)
-}
-
-// The file is found under its new name, and not under its old one.
-fn write_found(lines: &mut String, number: u32) -> Result<(), AllocError> {
-    write!(lines, "0 child 0 m{} = ", new_name(number))?;
-    write_file(lines, number)?;
-    writeln!(lines, "0 child 0 n{number} = none")
-}
-
-// What is told of the file under its new name.
-fn write_file(lines: &mut String, number: u32) -> Result<(), AllocError> {
-    write!(lines, "{number} Some(0) m{} ", new_name(number))?;
-    lines.push_str("1a4 glenda glenda glenda 0 0 0 [hi]\n")
 }
 
 // So many files are renamed in trees of this kind.

@@ -68,21 +68,11 @@ fn a_node_is_marked_and_read(rt: HostRuntime) {
 /// The root is glenda's and staff's afterwards.
 pub fn gives_root<T: Tree>(rt: &impl Abort, alloc: T::Alloc, printing: Global) {
     let mut tree = T::with_root(alloc).expect(rt, "memory");
-    give_root(rt, &mut tree);
-    is_root_given(rt, printing, &tree);
-    drop(tree);
-}
-
-// Gives the root to glenda and staff.
-fn give_root<T: Tree>(rt: &impl Abort, tree: &mut T) {
     let glenda = user(rt, "glenda");
     tree.set_root(Permissions::from_bits(0o777), glenda, user(rt, "staff"));
-}
-
-// The root is theirs.
-fn is_root_given<T: Tree>(rt: &impl Abort, printing: Global, tree: &T) {
     let mut told = String::new(printing);
     tell(rt, tree.node(0), &mut told);
+    drop(tree);
     is_text(
         rt,
         told.as_str(),

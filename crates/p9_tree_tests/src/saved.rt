@@ -1,16 +1,11 @@
 //! Nodes are put back with all their fields, and found from a number on.
 
-ghost use Rattle.std.specs.Prelude.{◌≡◌, ◌<◌, ◌≤◌, None, IsTrue};
-ghost use Rattle.p9_tree.specs.Saved.{CanPutBack, saved_node};
-ghost use Rattle.p9_tree.specs.Server.{child_of, is_dir_at, next_max};
-
 use crate::both::{Work, on_both};
-use crate::checks::is_text_of;
-use crate::growths::{has_bytes, is_dir};
+use crate::growths::is_dir;
 use crate::looks::tell;
 use crate::words::{mode_of, name, take_number, take_u32, take_word, user};
 use p9_base::NoMemory;
-use p9_tree::{Entry, NEXT_MAX, Saved, Tree};
+use p9_tree::{Entry, FILE_MAX, NEXT_MAX, Saved, Tree};
 use std::alloc::Global;
 use std::process::Abort;
 
@@ -18,42 +13,27 @@ use std::process::Abort;
 /// line.
 pub fn restores<T: Tree>(rt: &impl Abort, alloc: T::Alloc, printing: Global, lines: &str) {
     let mut tree = T::with_root(alloc).expect(rt, "memory");
-    restore_all(rt, printing, &mut tree, lines);
-    drop(tree);
-}
-
-// Makes the call, or the look, of each line.
-fn restore_all<T: Tree>(rt: &impl Abort, printing: Global, tree: &mut T, lines: &str) {
     for line in lines.lines() {
         match line.split_once(" = ") {
-            Some((words, want)) => is_found(rt, printing, tree, words, want),
-            None => restore(rt, tree, line),
+            Some((words, want)) => is_found(rt, printing, &tree, words, want),
+            None => restore(rt, &mut tree, line),
         }
     }
+    drop(tree);
 }
 
 // The look finds this: `next`, or `from` a number on. A node that is found is the one that its
 // fields say.
 fn is_found<T: Tree>(rt: &impl Abort, printing: Global, tree: &T, words: &str, want: &str) {
     let mut told = String::new(printing);
-    look(rt, tree, words, &mut told);
-    is_text_of(rt, told.as_str(), want, words);
-}
-
-// Adds what the look finds.
-fn look<T: Tree>(rt: &impl Abort, tree: &T, words: &str, told: &mut String) {
     match words.strip_prefix("from ") {
         Some(number) => {
             let number = number.parse::<u64>().expect(rt, "a number");
-            tell(rt, tree.first_from(number), told);
+            tell(rt, tree.first_from(number), &mut told);
         }
-        None => tell_next(rt, tree.next(), told),
+        None => assert!(rt; write!(told, "{}", tree.next()).is_ok()),
     }
-}
-
-// Adds the next number.
-fn tell_next(rt: &impl Abort, next: u64, told: &mut String) {
-    write!(told, "{next}").expect(rt, "memory");
+    assert!(rt; told.as_str() == want, "{words}");
 }
 
 // `skip` to a number, or `root` or `node` with the fields of a node.
@@ -97,38 +77,13 @@ fn take_saved<'a>(rt: &impl Abort, number: u64, entry: Option<Entry>, line: &'a 
 }
 
 fn put_back<T: Tree>(rt: &impl Abort, tree: &mut T, saved: &Saved<'_>) -> Result<(), NoMemory> {
-    assert!(rt; may_put_back(tree, saved));
+    let Some(Entry { parent, name }) = saved.entry else {
+        return tree.put_back(saved);
+    };
+    assert!(rt; tree.next() <= saved.number && saved.number < NEXT_MAX);
+    assert!(rt; is_dir(tree.node(parent)) && tree.child(parent, &name).is_none());
+    assert!(rt; saved.bytes.len() <= FILE_MAX && (!saved.mode.is_dir() || saved.bytes.is_empty()));
     tree.put_back(saved)
-}
-
-// Whether the node may be put back.
-fn may_put_back<T: Tree>(tree: &T, saved: &Saved<'_>) -> bool
-    ensures { IsTrue result → CanPutBack (T.state tree.now) (saved_node saved.now) }
-{
-    match &saved.entry {
-        Some(entry) => {
-            has_number(tree, saved.number)
-                && has_free(tree, entry)
-                && has_bytes(saved.mode, saved.bytes)
-        }
-        None => true,
-    }
-}
-
-fn has_number<T: Tree>(tree: &T, number: u64) -> bool
-    ensures not_given { IsTrue result → (T.state tree.now).next ≤ number }
-    ensures number_left { IsTrue result → number < next_max }
-{
-    tree.next() <= number && number < NEXT_MAX
-}
-
-fn has_free<T: Tree>(tree: &T, entry: &Entry) -> bool
-    ensures into { let nodes = (T.state tree.now).nodes in
-        IsTrue result → IsTrue (is_dir_at entry.now.parent nodes) }
-    ensures free { let nodes = (T.state tree.now).nodes in
-        IsTrue result → child_of entry.now.parent entry.now.name nodes ≡ None }
-{
-    is_dir(tree.node(entry.parent)) && tree.child(entry.parent, &entry.name).is_none()
 }
 
 // The root keeps its kind, and numbers that were given are not given again.

@@ -42,12 +42,7 @@ fn is_number(rt: &impl Abort, row: &str) {
 
 /// The texts that are found are those between bars.
 pub fn are(rt: &impl Abort, found: &[&str], want: &str) {
-    assert!(rt; are_split(found, want), "{want:?}");
-}
-
-// Whether they are those between bars.
-fn are_split(found: &[&str], want: &str) -> bool {
-    found.iter().copied().eq(want.split('|'))
+    assert!(rt; found.iter().copied().eq(want.split('|')), "{want:?}");
 }
 
 #[test]

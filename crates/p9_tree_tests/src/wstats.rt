@@ -2,7 +2,7 @@
 
 use crate::calls::plays_in_both;
 use crate::words::take_word;
-use std::alloc::{AllocError, Global};
+use std::alloc::Global;
 use std::process::Abort;
 
 // Each new name, mode, group, length and time of change, and the file that it makes. A new length
@@ -40,18 +40,12 @@ fn a_file_is_changed(rt: HostRuntime) {
 // The sample world's file is changed so, and found by its number and its name.
 fn becomes(rt: &impl Abort, alloc: Global, row: &str) {
     let (wanted, after) = row.split_once(" | ").expect(rt, "a change and a file");
-    let lines = lines_of(alloc, wanted, after).expect(rt, "memory");
-    plays_in_both(rt, alloc, lines.as_str());
-}
-
-// The change, the file after it by its number and by its name, and what is unchanged.
-fn lines_of(alloc: Global, wanted: &str, after: &str) -> Result<String, AllocError> {
-    let mut lines = String::new(alloc);
-    write!(lines, "1 change 3 {wanted}\n1 node 3 = 3 Some(1) {after}\n")?;
     let mut rest = after;
     let name = take_word(&mut rest);
-    write!(lines, "1 child 1 {name} = 3 Some(1) {after}\n{REST}")?;
-    Ok(lines)
+    let lines = format!(in alloc;
+        "1 change 3 {wanted}\n1 node 3 = 3 Some(1) {after}\n1 child 1 {name} = 3 Some(1) {after}\n{REST}"
+    ).expect(rt, "memory");
+    plays_in_both(rt, alloc, lines.as_str());
 }
 
 // The old name is free, and may be given again.

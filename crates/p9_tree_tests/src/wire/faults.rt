@@ -75,14 +75,9 @@ Tstat tag 1 fid 0 stat|18 end";
 #[test]
 fn bad_lines_tell_the_place(rt: HostRuntime) {
     for row in BAD.lines() {
-        is_bad_row(&rt, rt.alloc(), row);
+        let (line, place) = row.split_once('|').expect(&rt, "a line");
+        is_bad(&rt, rt.alloc(), line, place);
     }
-}
-
-// The line of a row is refused at its place.
-fn is_bad_row(rt: &impl Abort, alloc: Global, row: &str) {
-    let (line, place) = row.split_once('|').expect(rt, "a line");
-    is_bad(rt, alloc, line, place);
 }
 
 // Of the line this is expected at this place, where it has something else.
@@ -108,15 +103,10 @@ fn line_of(alloc: Global, front: &str, count: usize, behind: &str) -> Result<Str
 // frame of the longest has nine more.
 fn has_most(rt: &impl Abort, alloc: Global, front: &str, most: usize, behind: &str, place: &str) {
     let line = line_of(alloc, front, most, behind).expect(rt, "memory");
-    is_longest(rt, alloc, line.as_str());
+    let frame = read_words(alloc, line.as_str()).expect(rt, "a frame");
+    assert!(rt; frame.len() == 65_544);
     let longer = line_of(alloc, front, most.saturating_add(1), behind).expect(rt, "memory");
     is_bad(rt, alloc, longer.as_str(), place);
-}
-
-// The line is read as the longest frame.
-fn is_longest(rt: &impl Abort, alloc: Global, line: &str) {
-    let frame = read_words(alloc, line).expect(rt, "a frame");
-    assert!(rt; frame.len() == 65_544);
 }
 
 #[test]
@@ -163,19 +153,15 @@ event = 'open', 'close', 'msg' or the number of a session";
 
 #[test]
 fn an_error_says_what_was_expected(rt: HostRuntime) {
+    let end = " expected after byte 13";
     for row in TEXTS.lines() {
-        has_text(&rt, rt.alloc(), row);
+        let (words, text) = row.split_once(" = ").expect(&rt, "a text");
+        let mut rest = words;
+        let expected = take_expected(&rt, &mut rest);
+        let error = WordsError::Unexpected { at: 13, expected };
+        is_shown(&rt, rt.alloc(), error, text, end);
     }
     is_shown(&rt, rt.alloc(), WordsError::NoMemory, "out of memory", "");
-}
-
-// What was expected in a row has its text.
-fn has_text(rt: &impl Abort, alloc: Global, row: &str) {
-    let (words, text) = row.split_once(" = ").expect(rt, "a text");
-    let mut rest = words;
-    let expected = take_expected(rt, &mut rest);
-    let error = WordsError::Unexpected { at: 13, expected };
-    is_shown(rt, alloc, error, text, " expected after byte 13");
 }
 
 // An error is shown as this text, and this end of it.

@@ -24,16 +24,10 @@ a type that is none: 07000000 80 0100";
 #[test]
 fn hostile_requests(rt: HostRuntime) {
     for row in REQUESTS.lines() {
-        is_frame(&rt, rt.alloc(), row, false);
+        let bytes = bytes_in(&rt, rt.alloc(), row);
+        needs_all_bytes(&rt, &bytes);
+        assert!(rt; !is_request(&bytes), "{row}");
     }
-}
-
-// The bytes of a row are a frame, and no whole one where they are cut short. Whether they are a
-// request is as it is to be.
-fn is_frame(rt: &impl Abort, alloc: Global, row: &str, is_read: bool) {
-    let bytes = bytes_in(rt, alloc, row);
-    needs_all_bytes(rt, &bytes);
-    assert!(rt; is_request(&bytes) == is_read, "{row}");
 }
 
 const SEVENTEEN: &str = "seventeen names: 55000000 6e 0400 00000000 03000000 1100 \
@@ -59,8 +53,12 @@ const WRONG: &str = "size and three: 3f000000 7e 0a00 01000000 3200 2f00 \
 
 #[test]
 fn length_of_a_stat(rt: HostRuntime) {
-    is_frame(&rt, rt.alloc(), RIGHT, true);
-    is_frame(&rt, rt.alloc(), WRONG, false);
+    let right = bytes_in(&rt, rt.alloc(), RIGHT);
+    needs_all_bytes(&rt, &right);
+    assert!(rt; is_request(&right));
+    let wrong = bytes_in(&rt, rt.alloc(), WRONG);
+    needs_all_bytes(&rt, &wrong);
+    assert!(rt; !is_request(&wrong));
 }
 
 const REPLIES: &str = "\
@@ -72,12 +70,7 @@ count 1, no byte: 0b000000 75 0100 01000000";
 #[test]
 fn hostile_replies(rt: HostRuntime) {
     for row in REPLIES.lines() {
-        is_no_reply(&rt, rt.alloc(), row);
+        let bytes = bytes_in(&rt, rt.alloc(), row);
+        assert!(rt; !is_reply(&bytes), "{row}");
     }
-}
-
-// The bytes of a row are no reply.
-fn is_no_reply(rt: &impl Abort, alloc: Global, row: &str) {
-    let bytes = bytes_in(rt, alloc, row);
-    assert!(rt; !is_reply(&bytes), "{row}");
 }

@@ -52,16 +52,12 @@ const VERSIONS: &str = "\
 #[test]
 fn vector_versions(rt: HostRuntime) {
     for row in VERSIONS.lines() {
-        is_version(&rt, rt.alloc(), row);
+        let mut digits = row;
+        let msize = take_u32(&rt, &mut digits);
+        let version = take_word(&mut digits);
+        let message = RMsg::Version { msize, version };
+        reply(&rt, rt.alloc(), NOTAG, message, digits);
     }
-}
-
-// The version of a row has its bytes.
-fn is_version(rt: &impl Abort, alloc: Global, row: &str) {
-    let mut digits = row;
-    let msize = take_u32(rt, &mut digits);
-    let version = take_word(&mut digits);
-    reply(rt, alloc, NOTAG, RMsg::Version { msize, version }, digits);
 }
 
 #[test]
@@ -101,29 +97,24 @@ fn is_error(rt: &impl Abort, alloc: Global, row: &str) {
 #[test]
 fn vector_walks(rt: HostRuntime) {
     // walk_clones_fid
-    is_walk(&rt, rt.alloc(), 2, Qids::new(), "09000000 6f 0200 0000");
+    let none = RMsg::Walk { qids: Qids::new() };
+    reply(&rt, rt.alloc(), 2, none, "09000000 6f 0200 0000");
     // partial_walk
-    is_walk(&rt, rt.alloc(), 5, two_qids(&rt), PARTIAL_WALK);
+    let digits = "23000000 6f 0500 0200 80 00000000 0100000000000000 80 00000000 0200000000000000";
+    let qids = two_qids(&rt);
+    reply(&rt, rt.alloc(), 5, RMsg::Walk { qids }, digits);
     // dot_dots
-    is_walk(&rt, rt.alloc(), 3, sixteen_qids(&rt), DOT_DOTS);
-}
-
-const PARTIAL_WALK: &str =
-    "23000000 6f 0500 0200 80 00000000 0100000000000000 80 00000000 0200000000000000";
-
-const DOT_DOTS: &str = "d9000000 6f 0300 1000 \
-    80 00000000 0000000000000000 80 00000000 0000000000000000 \
-    80 00000000 0000000000000000 80 00000000 0000000000000000 \
-    80 00000000 0000000000000000 80 00000000 0000000000000000 \
-    80 00000000 0000000000000000 80 00000000 0000000000000000 \
-    80 00000000 0000000000000000 80 00000000 0000000000000000 \
-    80 00000000 0000000000000000 80 00000000 0000000000000000 \
-    80 00000000 0000000000000000 80 00000000 0000000000000000 \
-    80 00000000 0000000000000000 80 00000000 0000000000000000";
-
-// A walk with these qids has these bytes.
-fn is_walk(rt: &impl Abort, alloc: Global, tag: u16, qids: Qids, digits: &str) {
-    reply(rt, alloc, tag, RMsg::Walk { qids }, digits);
+    let digits = "d9000000 6f 0300 1000 \
+        80 00000000 0000000000000000 80 00000000 0000000000000000 \
+        80 00000000 0000000000000000 80 00000000 0000000000000000 \
+        80 00000000 0000000000000000 80 00000000 0000000000000000 \
+        80 00000000 0000000000000000 80 00000000 0000000000000000 \
+        80 00000000 0000000000000000 80 00000000 0000000000000000 \
+        80 00000000 0000000000000000 80 00000000 0000000000000000 \
+        80 00000000 0000000000000000 80 00000000 0000000000000000 \
+        80 00000000 0000000000000000 80 00000000 0000000000000000";
+    let qids = sixteen_qids(&rt);
+    reply(&rt, rt.alloc(), 3, RMsg::Walk { qids }, digits);
 }
 
 // The qids of the directories 1 and 2.
@@ -148,7 +139,19 @@ fn sixteen_qids(rt: &impl Abort) -> Qids {
 
 #[test]
 fn vector_open_read(rt: HostRuntime) {
-    is_open(&rt, rt.alloc());
+    let open = RMsg::Open {
+        qid: file(3),
+        iounit: 8168,
+    };
+    let digits = "18000000 71 0900 00 00000000 0300000000000000 e81f0000";
+    reply(&rt, rt.alloc(), 9, open, digits);
+    // union_create
+    let create = RMsg::Create {
+        qid: file(5),
+        iounit: 8168,
+    };
+    let digits = "18000000 73 0600 00 00000000 0500000000000000 e81f0000";
+    reply(&rt, rt.alloc(), 6, create, digits);
     let read = RMsg::Read { bytes: b"hi" };
     reply(&rt, rt.alloc(), 10, read, "0d000000 75 0a00 02000000 6869");
     // union_create
@@ -156,37 +159,16 @@ fn vector_open_read(rt: HostRuntime) {
     reply(&rt, rt.alloc(), 7, write, "0b000000 77 0700 02000000");
 }
 
-// What is opened, and what is made, have their bytes.
-fn is_open(rt: &impl Abort, alloc: Global) {
-    let (qid, iounit) = (file(3), 8168);
-    let digits = "18000000 71 0900 00 00000000 0300000000000000 e81f0000";
-    reply(rt, alloc, 9, RMsg::Open { qid, iounit }, digits);
-    // union_create
-    let qid = file(5);
-    let digits = "18000000 73 0600 00 00000000 0500000000000000 e81f0000";
-    reply(rt, alloc, 6, RMsg::Create { qid, iounit }, digits);
-}
-
 /// Two entries written in place after the header and the count, and then the reply around them.
 #[test]
 fn vector_union_listing(rt: HostRuntime) {
     let mut room = [UNTOUCHED; 200];
-    write_listing(&rt, &mut room);
-    is_listing(&rt, rt.alloc(), &room);
-}
-
-// Writes the two entries, and the reply.
-fn write_listing(rt: &impl Abort, room: &mut [u8; 200]) {
     let out = &mut room[..];
     let first = stat_of(4, "n", 1);
     let second = stat_of(2, "n", 1);
-    assert!(rt; write_entry(rt, &first, &mut out[HEADER + 4..]) == 68);
-    assert!(rt; write_entry(rt, &second, &mut out[HEADER + 4 + 68..]) == 68);
+    assert!(rt; write_entry(&rt, &first, &mut out[HEADER + 4..]) == 68);
+    assert!(rt; write_entry(&rt, &second, &mut out[HEADER + 4 + 68..]) == 68);
     assert!(rt; finish_read(5, 136, out) == 147);
-}
-
-// The bytes of the reply were written, and nothing after them.
-fn is_listing(rt: &impl Abort, alloc: Global, out: &[u8]) {
     let digits = "93000000 75 0500 88000000 \
         4200 0000 00000000 00 00000000 0400000000000000 a4010000 \
         00000000 00000000 0100000000000000 0100 6e \
@@ -194,7 +176,7 @@ fn is_listing(rt: &impl Abort, alloc: Global, out: &[u8]) {
         4200 0000 00000000 00 00000000 0200000000000000 a4010000 \
         00000000 00000000 0100000000000000 0100 6e \
         0600 676c656e6461 0600 676c656e6461 0600 676c656e6461";
-    let want = bytes_of(alloc, digits).expect(rt, "hexadecimal digits");
+    let want = bytes_of(rt.alloc(), digits).expect(&rt, "hexadecimal digits");
     assert!(rt; holds_only(out, &want));
 }
 

@@ -4,8 +4,6 @@ use crate::wire::bytes::request;
 use crate::words::{take_u32, take_word};
 use p9_base::{NOFID, Qid};
 use p9_wire::{NOTAG, Names, Stat, TMsg};
-use std::alloc::Global;
-use std::process::Abort;
 
 // The msize, the version and the bytes of version, unknown_version, dialect_u, smallest_msize (twice)
 // and greatest_msize.
@@ -20,16 +18,12 @@ const VERSIONS: &str = "\
 #[test]
 fn vector_versions(rt: HostRuntime) {
     for row in VERSIONS.lines() {
-        is_version(&rt, rt.alloc(), row);
+        let mut digits = row;
+        let msize = take_u32(&rt, &mut digits);
+        let version = take_word(&mut digits);
+        let message = TMsg::Version { msize, version };
+        request(&rt, rt.alloc(), NOTAG, message, digits);
     }
-}
-
-// The version of a row has its bytes.
-fn is_version(rt: &impl Abort, alloc: Global, row: &str) {
-    let mut digits = row;
-    let msize = take_u32(rt, &mut digits);
-    let version = take_word(&mut digits);
-    request(rt, alloc, NOTAG, TMsg::Version { msize, version }, digits);
 }
 
 #[test]
@@ -70,10 +64,15 @@ fn vector_walk_clones_fid(rt: HostRuntime) {
 
 #[test]
 fn vector_dot_dots(rt: HostRuntime) {
+    let mut names = Names::new();
+    for _ in 0..16 {
+        assert!(rt; names.len() < 16);
+        names.push("..");
+    }
     let walk = TMsg::Walk {
         fid: 0,
         newfid: 2,
-        names: sixteen_names(&rt),
+        names,
     };
     let digits = "51000000 6e 0300 00000000 02000000 1000 \
         0200 2e2e 0200 2e2e 0200 2e2e 0200 2e2e 0200 2e2e 0200 2e2e 0200 2e2e 0200 2e2e \
@@ -81,33 +80,18 @@ fn vector_dot_dots(rt: HostRuntime) {
     request(&rt, rt.alloc(), 3, walk, digits);
 }
 
-// As many names of parents as a walk may have.
-fn sixteen_names(rt: &impl Abort) -> Names<'static> {
-    let mut names = Names::new();
-    for _ in 0..16 {
-        assert!(rt; names.len() < 16);
-        names.push("..");
-    }
-    names
-}
-
-// The names a, b and none.
-fn three_names(rt: &impl Abort) -> Names<'static> {
+#[test]
+fn vector_partial_walk(rt: HostRuntime) {
     let mut names = Names::new();
     names.push("a");
     names.push("b");
     names.push("none");
     assert!(rt; !names.is_empty() && names.as_slice().len() == 3);
     assert!(rt; names.get(2) == "none");
-    names
-}
-
-#[test]
-fn vector_partial_walk(rt: HostRuntime) {
     let walk = TMsg::Walk {
         fid: 0,
         newfid: 9,
-        names: three_names(&rt),
+        names,
     };
     let digits = "1d000000 6e 0500 00000000 09000000 0300 0100 61 0100 62 0400 6e6f6e65";
     request(&rt, rt.alloc(), 5, walk, digits);

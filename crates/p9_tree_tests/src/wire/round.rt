@@ -58,12 +58,7 @@ Rwalk tag 7 nwqid 1 0 : ( A3 7 0 ) = 16000000 6f 0700 0100 00 07000000 a30000000
 #[test]
 fn other_spellings_are_read(rt: HostRuntime) {
     for row in SPELLINGS.lines() {
-        is_read_row(&rt, rt.alloc(), row);
+        let (line, digits) = row.split_once(" = ").expect(&rt, "a line");
+        is_read(&rt, rt.alloc(), line, digits);
     }
-}
-
-// The line of a row is read as its frame.
-fn is_read_row(rt: &impl Abort, alloc: Global, row: &str) {
-    let (line, digits) = row.split_once(" = ").expect(rt, "a line");
-    is_read(rt, alloc, line, digits);
 }

@@ -45,23 +45,12 @@ fn bad_lines_tell_the_place(rt: HostRuntime) {
 // The script of a row is refused for its bad line, whether it is to be written or shown.
 fn is_bad(rt: &impl Abort, alloc: Global, row: &str) {
     let (lines, place) = row.split_once('|').expect(rt, "lines");
-    let bad = bad_line_at(rt, place);
-    is_not_written(rt, alloc, lines, bad);
-    is_not_shown(rt, alloc, lines, bad);
-}
-
-// A script of the lines is not written, for this reason.
-fn is_not_written(rt: &impl Abort, alloc: Global, lines: &str, bad: Refusal) {
+    let bad = Some(Stop::Refused(bad_line_at(rt, place)));
     let input = script_of(rt, alloc, lines, "x");
     let written = write_script(alloc, input.as_str().as_bytes()).err();
-    assert!(rt; written == Some(Stop::Refused(bad)), "{lines}");
-}
-
-// Nor is the exchange shown.
-fn is_not_shown(rt: &impl Abort, alloc: Global, lines: &str, bad: Refusal) {
     let input = script_of(rt, alloc, lines, "%% replies");
     let shown = show_exchange(alloc, input.as_str().as_bytes()).err();
-    assert!(rt; shown == Some(Stop::Refused(bad)), "{lines}");
+    assert!(rt; written == bad && shown == bad, "{row}");
 }
 
 // A bad line at this place, and what was expected there.
