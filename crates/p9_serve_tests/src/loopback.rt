@@ -6,12 +6,11 @@
 use crate::rows::{READ, Row, WRITE};
 use byteorder::{ByteOrder, LittleEndian};
 use mio::net::{TcpListener, TcpStream};
-use p9_guard::Guard;
 use p9_index::IndexTree;
 use p9_serve::{Listener, Server, Sockets, served_guard};
 use p9_testing::bytes_of;
 use p9_tree::Tree;
-use std::alloc::{Allocator, Global};
+use std::alloc::Global;
 use std::io::{ErrorKind, Read, Write};
 use std::net::{Ipv4Addr, Net, SocketAddr};
 use std::process::Abort;
@@ -38,9 +37,14 @@ pub struct Loopback {
 impl Loopback {
     /// A server of an input.
     pub fn new(rt: &(impl Abort + AllocGlobal + Net), input: &str) -> Loopback {
-        let guard = guard_of(rt, rt.alloc(), input);
+        let mut reported = Vec::new(rt.alloc());
+        let guard = served_guard(input.as_bytes(), &mut reported)
+            .expect(rt, "memory")
+            .expect(rt, "a guard");
+        let listener = TcpListener::bind(rt, any_port()).expect(rt, "a listener");
+        let listener = Sockets::new(rt.alloc(), listener);
         Loopback {
-            server: Server::new(rt.alloc(), sockets(rt), guard),
+            server: Server::new(rt.alloc(), listener, guard),
             rounds: 0,
             accepted: 0,
             moved: 0,
@@ -189,25 +193,7 @@ impl Loopback {
     }
 }
 
-/// The guard of an input.
-pub fn guard_of<A: Allocator + Copy>(
-    rt: &impl Abort,
-    alloc: A,
-    input: &str,
-) -> Guard<IndexTree<A>> {
-    let mut reported = Vec::new(alloc);
-    served_guard(input.as_bytes(), &mut reported)
-        .expect(rt, "memory")
-        .expect(rt, "a guard")
-}
-
-// The sockets of those who connect to a port that the system chooses.
-fn sockets(rt: &(impl Abort + AllocGlobal + Net)) -> Sockets<Global> {
-    let listener = TcpListener::bind(rt, any_port()).expect(rt, "a listener");
-    Sockets::new(rt.alloc(), listener)
-}
-
-// Closes a server, and compares that no session of the first keys is open.
+// The same, of a server with a listener and trees of any kind.
 fn finish<L: Listener, T: Tree>(rt: &impl Abort, server: Server<L, T>, keys: u32) {
     let guard = server.finish(0);
     for key in 0..keys {

@@ -7,10 +7,8 @@ ghost use Rattle.std.specs.Io.KnownBytes.{ReadConsumes, WriteAppends};
 
 use crate::loopback::{replies, requests};
 use crate::rows::{ATTACH, OPEN, REMOVE, REMOVED, Row, SMALL, VERSION, WALK};
-use p9_guard::Guard;
 use p9_serve::{Listener, Stream, Timer, serve_clients};
-use p9_tree::Tree;
-use std::alloc::{Allocator, Global};
+use std::alloc::Global;
 use std::cell::RefCell;
 use std::collections::VecDeque;
 use std::io;
@@ -178,37 +176,25 @@ fn both<'a>(rt: &(impl Abort + AllocGlobal), first: &'a Copied, second: &'a Copi
     Waiting { clients }
 }
 
-// Serves them, and returns whether a guard is left without sessions, and nothing was reported. The
-// clock is read once a round.
+// Serves them, and returns whether a guard is left without sessions, and nothing was reported.
 fn serve(rt: &(impl Abort + AllocGlobal), listener: Waiting<'_>) -> bool {
     let mut clock = Seconds {
         given: Vec::new(rt.alloc()),
     };
-    let is_served = is_served(rt.alloc(), &mut clock, listener);
-    assert!(rt; clock.given.len() as u64 == ROUNDS);
-    is_served
-}
-
-// Whether a guard is left without sessions when those who come to a listener were served, and
-// nothing was reported.
-fn is_served<A: Allocator + Copy, L: Listener, C: Timer>(
-    alloc: A,
-    timer: &mut C,
-    listener: L,
-) -> bool {
-    let mut err = Vec::new(alloc);
-    let served = serve_clients(alloc, timer, listener, ROUNDS, SMALL.as_bytes(), &mut err);
-    let is_left = match &served {
-        Ok(Some(guard)) => has_no_session(guard),
+    let mut err = Vec::new(rt.alloc());
+    let served = serve_clients(
+        rt.alloc(),
+        &mut clock,
+        listener,
+        ROUNDS,
+        SMALL.as_bytes(),
+        &mut err,
+    );
+    assert!(rt; clock.given.len() as u64 == ROUNDS && err.is_empty());
+    match served {
+        Ok(Some(guard)) => !guard.live(0) && !guard.live(1),
         _ => false,
-    };
-    drop(served);
-    is_left && err.is_empty()
-}
-
-// Whether the sessions of both clients are closed.
-fn has_no_session<T: Tree>(guard: &Guard<T>) -> bool {
-    !guard.live(0) && !guard.live(1)
+    }
 }
 
 #[test]

@@ -1,12 +1,11 @@
 //! Allocations that fail while a client is taken in.
 
-use crate::loopback::guard_of;
 use crate::rows::SMALL;
 use p9_index::IndexTree;
-use p9_serve::{Clients, Stream, Tally};
+use p9_serve::{Clients, Stream, Tally, served_guard};
 use p9_testing::{Refusing, refuse_each};
 use p9_tree::Tree;
-use std::alloc::{Allocator, Global};
+use std::alloc::Global;
 use std::io;
 use std::io::{Read, Write};
 use std::process::Abort;
@@ -41,9 +40,16 @@ impl Stream for Ended {
     }
 }
 
+// Clients with streams that have ended.
+type EndedClients<'a> = Clients<Ended, IndexTree<&'a Refusing<Global>>>;
+
 // No clients of a guard without sessions.
-fn no_clients<A: Allocator + Copy>(rt: &impl Abort, alloc: A) -> Clients<Ended, IndexTree<A>> {
-    Clients::new(alloc, guard_of(rt, alloc, SMALL))
+fn no_clients<'a>(rt: &impl Abort, memory: &'a Refusing<Global>) -> EndedClients<'a> {
+    let mut reported = Vec::new(memory);
+    let guard = served_guard(SMALL.as_bytes(), &mut reported)
+        .expect(rt, "memory")
+        .expect(rt, "a guard");
+    Clients::new(memory, guard)
 }
 
 // Takes a client in, and closes all.
@@ -69,19 +75,14 @@ fn closings(closed: u64) -> Tally {
     Tally { moved: 0, closed }
 }
 
-// Takes a client in with each request for memory refused in turn. Returns how many there are.
-fn refusals<A: Allocator + Copy>(rt: &impl Abort, memory: &Refusing<Global>, lent: A) -> u64 {
-    refuse_each(
-        memory,
-        || no_clients(rt, lent),
-        |clients| take_in_and_finish(rt, clients),
-    )
-}
-
 // The place, the two buffers and the session are taken one after another.
 #[test]
 fn a_client_is_taken_in_after_each_refusal(rt: HostRuntime) {
     let memory = Refusing::new(rt.alloc());
-    let refusals = refusals(&rt, &memory, &memory);
+    let refusals = refuse_each(
+        &memory,
+        || no_clients(&rt, &memory),
+        |clients| take_in_and_finish(&rt, clients),
+    );
     assert!(rt; refusals > 3);
 }

@@ -74,12 +74,6 @@ fn socket_over<'a>(rt: &impl Abort, alloc: Global, log: &'a Log) -> Socket<Late<
 fn what_a_late_client_did_not_take_is_sent_later(rt: HostRuntime) {
     let log = Log::new(rt.alloc(), 0);
     let mut socket = socket_over(&rt, rt.alloc(), &log);
-    are_sent_later(&rt, &mut socket, &log);
-    drop(socket);
-}
-
-// Two replies are sent when their stream takes bytes again.
-fn are_sent_later<S: Stream>(rt: &impl Abort, socket: &mut S, log: &Log) {
     assert!(rt; matches!(socket.send(b"one reply", true), Ok(9)));
     assert!(rt; matches!(socket.send(b", another", false), Ok(9)));
     assert!(rt; log.has(b""));
@@ -96,7 +90,7 @@ fn reply_of(rt: &impl Abort, alloc: Global, place: u8, len: usize) -> Vec<u8, Gl
 }
 
 // Sends a reply whole, in as many calls as that takes. The stream takes 10,000 bytes more for each.
-fn send_whole<S: Stream>(socket: &mut S, log: &Log, reply: &[u8], more: bool) {
+fn send_whole(socket: &mut Socket<Late<'_>, Global>, log: &Log, reply: &[u8], more: bool) {
     let mut rest = reply;
     for _ in 0..1_000 {
         log.room.set(10_000);
@@ -109,50 +103,27 @@ fn send_whole<S: Stream>(socket: &mut S, log: &Log, reply: &[u8], more: bool) {
     }
 }
 
-// The lengths of the replies of a batch, some of which are longer than what a socket keeps.
-const LENGTHS: [usize; 7] = [20, 100_000, 7, 65_536, 65_535, 100_000, 30];
-
-// Sends the reply of a place, counted from 1, and adds it to those that are wanted.
-fn send_reply<S: Stream>(
-    rt: &impl Abort,
-    alloc: Global,
-    socket: &mut S,
-    log: &Log,
-    place: u8,
-    len: usize,
-    wanted: &mut Vec<u8, Global>,
-) {
-    let reply = reply_of(rt, alloc, place, len);
-    send_whole(socket, log, reply.as_slice(), place < 7);
-    assert!(rt; wanted.extend_from_slice(reply.as_slice()).is_ok());
-}
-
-// Sends the replies of a batch.
-fn send_batch<S: Stream>(
-    rt: &impl Abort,
-    alloc: Global,
-    socket: &mut S,
-    log: &Log,
-) -> Vec<u8, Global> {
+// Replies of a batch, of which some are longer than what a socket keeps, go out in their order.
+#[test]
+fn long_replies_follow_what_is_kept(rt: HostRuntime) {
+    let alloc = rt.alloc();
+    let log = Log::new(alloc, 0);
+    let mut socket = socket_over(&rt, alloc, &log);
     let mut wanted = Vec::new(alloc);
-    for (place, len) in (1..8).zip(LENGTHS) {
-        send_reply(rt, alloc, socket, log, place, len, &mut wanted);
+    for (place, len) in [
+        (1, 20),
+        (2, 100_000),
+        (3, 7),
+        (4, 65_536),
+        (5, 65_535),
+        (6, 100_000),
+        (7, 30),
+    ] {
+        let reply = reply_of(&rt, alloc, place, len);
+        send_whole(&mut socket, &log, reply.as_slice(), place < 7);
+        assert!(rt; wanted.extend_from_slice(reply.as_slice()).is_ok());
     }
-    wanted
-}
-
-// The replies of a batch go out in their order.
-fn go_out_in_order<S: Stream>(rt: &impl Abort, alloc: Global, socket: &mut S, log: &Log) {
-    let wanted = send_batch(rt, alloc, socket, log);
     log.room.set(usize::MAX);
     assert!(rt; socket.receive(&mut [0; 8]).is_err());
     assert!(rt; log.has(wanted.as_slice()));
-}
-
-#[test]
-fn long_replies_follow_what_is_kept(rt: HostRuntime) {
-    let log = Log::new(rt.alloc(), 0);
-    let mut socket = socket_over(&rt, rt.alloc(), &log);
-    go_out_in_order(&rt, rt.alloc(), &mut socket, &log);
-    drop(socket);
 }

@@ -37,8 +37,9 @@ const NO_VERSION: Row = (
 /// A size that is more than the bytes, so no whole frame.
 const SHORT: &str = "14000000 64 ffff";
 
-// Adds a session, among events of each kind that do not fit.
-fn add_session(rt: &impl Abort, alloc: Global, list: &mut Run) {
+// Two sessions, among events of each kind that do not fit.
+fn two_sessions(rt: &impl Abort, alloc: Global) -> Run {
+    let mut list = Run::new(alloc);
     list.ask(rt, alloc, 1, VERSION.0, 7);
     list.add(rt, Event::Close(1, 7));
     list.add(rt, Event::Open(1));
@@ -46,33 +47,17 @@ fn add_session(rt: &impl Abort, alloc: Global, list: &mut Run) {
     list.add(rt, Event::Open(1));
     list.send(rt, alloc, 1, &ATTACH, 7);
     list.send(rt, alloc, 1, &WALK, 7);
-}
-
-// Adds the opening of a second session, and the end of the first one, among more such events.
-fn add_second(rt: &impl Abort, alloc: Global, list: &mut Run) {
     list.ask(rt, alloc, 1, SHORT, 7);
     list.ask(rt, alloc, 2, VERSION.0, 7);
     list.add(rt, Event::Open(2));
     list.add(rt, Event::Close(1, 7));
     list.add(rt, Event::Close(1, 7));
     list.ask(rt, alloc, 1, VERSION.0, 7);
-}
-
-// Adds the first session anew, and a request of the second one.
-fn add_anew(rt: &impl Abort, alloc: Global, list: &mut Run) {
     list.add(rt, Event::Open(1));
     list.send(rt, alloc, 1, &NO_VERSION, 7);
     list.send(rt, alloc, 1, &VERSION, 7);
     list.send(rt, alloc, 1, &NO_FID, 7);
     list.send(rt, alloc, 2, &VERSION, 7);
-}
-
-// Two sessions, among events of each kind that do not fit.
-fn two_sessions(rt: &impl Abort, alloc: Global) -> Run {
-    let mut list = Run::new(alloc);
-    add_session(rt, alloc, &mut list);
-    add_second(rt, alloc, &mut list);
-    add_anew(rt, alloc, &mut list);
     list
 }
 

@@ -22,21 +22,10 @@ const ITSELF: Bind = Bind {
 };
 
 fn is_same_node<A: Allocator, B: Allocator>(rt: &impl Abort, one: &Node<A>, other: &Node<B>) {
-    is_same_entry(rt, one, other);
-    is_same_content(rt, one, other);
-}
-
-// The place, the name and the rights of two nodes are the same.
-fn is_same_entry<A: Allocator, B: Allocator>(rt: &impl Abort, one: &Node<A>, other: &Node<B>) {
     assert!(rt; one.number() == other.number() && one.parent() == other.parent());
     assert!(rt; one.name() == other.name() && one.mode().bits() == other.mode().bits());
-    assert!(rt; one.uid() == other.uid() && one.gid() == other.gid());
-}
-
-// The bytes of two nodes are the same, and who changed them when.
-fn is_same_content<A: Allocator, B: Allocator>(rt: &impl Abort, one: &Node<A>, other: &Node<B>) {
+    assert!(rt; one.uid() == other.uid() && one.gid() == other.gid() && one.muid() == other.muid());
     assert!(rt; one.version() == other.version() && one.bytes() == other.bytes());
-    assert!(rt; one.muid() == other.muid());
     assert!(rt; one.atime() == other.atime() && one.mtime() == other.mtime());
 }
 
@@ -77,15 +66,14 @@ fn is_same_table<A: Allocator + Copy, B: Allocator + Copy>(
     }
 }
 
-// A world and a table are those of the vault, with the public directory in its own place. These are
-// made anew, over a tree of the second kind.
-fn are_unchanged<T: Tree, U: Tree>(
+// A world and a table are those of the vault, with the public directory in its own place.
+fn are_unchanged<T: Tree>(
     rt: &impl Abort,
-    alloc: U::Alloc,
+    alloc: Global,
     world: &World<T>,
     table: &MountTable<T::Alloc>,
 ) {
-    let fresh = world_of::<U>(rt, alloc, VAULT);
+    let fresh = world_of::<PlainTree<Global>>(rt, alloc, VAULT);
     is_same_world(rt, world, &fresh);
     drop(fresh);
     let bound = table_of(rt, alloc, Some(ITSELF));
@@ -94,7 +82,7 @@ fn are_unchanged<T: Tree, U: Tree>(
 }
 
 // Makes a guard, again where an allocation failed: the world and the table are what they were.
-fn make_again<T: Tree, U: Tree>(rt: &impl Abort, alloc: U::Alloc, lent: T::Alloc) {
+fn make_again<T: Tree>(rt: &impl Abort, alloc: Global, lent: T::Alloc) {
     let world = world_of::<T>(rt, lent, VAULT);
     let table = table_of(rt, lent, Some(ITSELF));
     let certificate = certificate_of(rt, lent, CERTIFICATE);
@@ -102,37 +90,26 @@ fn make_again<T: Tree, U: Tree>(rt: &impl Abort, alloc: U::Alloc, lent: T::Alloc
         Ok(guard) => drop(guard),
         Err((world, table, cause)) => {
             assert!(rt; cause == Cause::NoMemory);
-            are_unchanged::<T, U>(rt, alloc, &world, &table);
+            are_unchanged(rt, alloc, &world, &table);
             drop(guard_with(rt, lent, world, table, CERTIFICATE));
         }
     }
 }
 
 // Makes a guard with each request for memory refused in turn. Returns how many there are.
-fn refusals<T: Tree, U: Tree>(
+fn refusals<T: Tree>(
     rt: &impl Abort,
-    alloc: U::Alloc,
+    alloc: Global,
     memory: &Refusing<Global>,
     lent: T::Alloc,
 ) -> u64 {
-    refuse_each(memory, || (), |()| make_again::<T, U>(rt, alloc, lent))
-}
-
-// A guard over trees of this kind asks for memory more than 20 times.
-fn is_made_again<T: Tree, U: Tree>(
-    rt: &impl Abort,
-    alloc: U::Alloc,
-    memory: &Refusing<Global>,
-    lent: T::Alloc,
-) {
-    let refusals = refusals::<T, U>(rt, alloc, memory, lent);
-    assert!(rt; refusals > 20);
+    refuse_each(memory, || (), |()| make_again::<T>(rt, alloc, lent))
 }
 
 #[test]
 fn a_guard_is_made_after_each_refusal(rt: HostRuntime) {
     let memory = Refusing::new(rt.alloc());
-    let (alloc, lent) = (rt.alloc(), &memory);
-    is_made_again::<PlainTree<&Refusing<Global>>, PlainTree<Global>>(&rt, alloc, lent, lent);
-    is_made_again::<IndexTree<&Refusing<Global>>, PlainTree<Global>>(&rt, alloc, lent, lent);
+    let plain = refusals::<PlainTree<&Refusing<Global>>>(&rt, rt.alloc(), &memory, &memory);
+    let index = refusals::<IndexTree<&Refusing<Global>>>(&rt, rt.alloc(), &memory, &memory);
+    assert!(rt; plain > 20 && index > 20);
 }

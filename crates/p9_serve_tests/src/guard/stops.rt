@@ -45,39 +45,8 @@ fn keep_message<'a>(
     behind
 }
 
-// Adds what was not refused of the step of a line. Returns the replies to the later steps. Requests
-// of a session that isn't open have none.
-fn keep_step<'a, T: Tree>(
-    rt: &impl Abort,
-    alloc: Global,
-    kept: &mut Run,
-    guard: &Guard<T>,
-    line: &'static str,
-    now: u32,
-    replies: &'a [u8],
-) -> &'a [u8] {
-    match step_of(rt, line) {
-        Step::Open(session) => {
-            if guard.live(session) {
-                kept.add(rt, Event::Open(session));
-            }
-            replies
-        }
-        Step::Send {
-            session,
-            request,
-            ..
-        } => {
-            if guard.live(session) {
-                return keep_message(rt, alloc, kept, session, request, now, replies);
-            }
-            kept.ask(rt, alloc, session, request, now);
-            replies
-        }
-    }
-}
-
-// What was not refused of the script, whose sessions are never closed.
+// What was not refused of the script, whose sessions are never closed. Requests of a session that
+// isn't open have no replies.
 fn kept<T: Tree>(
     rt: &impl Abort,
     alloc: Global,
@@ -88,7 +57,24 @@ fn kept<T: Tree>(
     let mut kept = Run::new(alloc);
     let mut rest = replies;
     for line in script.steps.lines() {
-        rest = keep_step(rt, alloc, &mut kept, guard, line, script.now, rest);
+        match step_of(rt, line) {
+            Step::Open(session) => {
+                if guard.live(session) {
+                    kept.add(rt, Event::Open(session));
+                }
+            }
+            Step::Send {
+                session,
+                request,
+                ..
+            } => {
+                if guard.live(session) {
+                    rest = keep_message(rt, alloc, &mut kept, session, request, script.now, rest);
+                } else {
+                    kept.ask(rt, alloc, session, request, script.now);
+                }
+            }
+        }
     }
     assert!(rt; rest.is_empty());
     kept
