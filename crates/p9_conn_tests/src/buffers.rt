@@ -1,11 +1,10 @@
 //! Many frames in one read, and a frame that is longer than the buffer is at first.
 
 use crate::rows::{ATTACH, GREATEST_VERSION, Row, VERSION, WALK, add, replies, requests};
-use crate::scripted::{Answer, Script, Scripted, then};
-use crate::serving::{Trees, served};
+use crate::scripted::{Answer, Scripted};
+use crate::serving::served;
 use p9_conn::Conn;
-use p9_tree::Tree;
-use std::alloc::{Allocator, Global};
+use std::alloc::Global;
 use std::process::Abort;
 
 fn append(rt: &impl Abort, bytes: &mut Vec<u8, Global>, more: &[u8]) {
@@ -47,22 +46,13 @@ fn flushed(rt: &impl Abort, alloc: Global) -> Vec<u8, Global> {
 fn frames_that_come_in_one_read_are_answered_in_order(rt: HostRuntime) {
     let input = flushes(&rt, rt.alloc());
     assert!(rt; input.len() == 2_719);
-    come_in_one_read::<Trees, Scripted>(&rt, rt.alloc(), input);
-}
-
-// One read moves all of the input, which is answered.
-fn come_in_one_read<T: Tree<Alloc = Global>, S: Script>(
-    rt: &impl Abort,
-    alloc: Global,
-    input: Vec<u8, Global>,
-) {
-    let alone = served::<T, S>(rt, alloc, S::over(alloc, input, 10_000));
-    are_flushed(rt, alloc, &alone.conn);
+    let alone = served(&rt, rt.alloc(), Scripted::new(rt.alloc(), input, 10_000));
+    are_flushed(&rt, rt.alloc(), &alone.conn);
     drop(alone);
 }
 
 // One read moved bytes, and each reply has a write, of which the last alone is told as the last.
-fn are_flushed<S: Script, A: Allocator + Copy>(rt: &impl Abort, alloc: Global, conn: &Conn<S, A>) {
+fn are_flushed(rt: &impl Abort, alloc: Global, conn: &Conn<Scripted, Global>) {
     is_written(rt, conn, flushed(rt, alloc).as_slice());
     assert!(rt; conn.stream().moving_reads() == 1 && conn.stream().moving_writes() == 301);
     assert!(rt; conn.stream().writes_with_more() == 300);
@@ -71,36 +61,27 @@ fn are_flushed<S: Script, A: Allocator + Copy>(rt: &impl Abort, alloc: Global, c
 // Where no whole frame is there, a reply is written as the last one.
 #[test]
 fn no_reply_waits_for_a_frame_that_is_cut(rt: HostRuntime) {
-    comes_cut::<Trees, Scripted>(&rt, rt.alloc());
-}
-
-// The replies to frames of which the second is cut don't wait.
-fn comes_cut<T: Tree<Alloc = Global>, S: Script>(rt: &impl Abort, alloc: Global) {
-    let alone = served::<T, S>(rt, alloc, cut_stream(rt, alloc));
-    is_not_waited_for(rt, alloc, &alone.conn);
+    let alone = served(&rt, rt.alloc(), cut_stream(&rt, rt.alloc()));
+    is_not_waited_for(&rt, rt.alloc(), &alone.conn);
     drop(alone);
 }
 
 // A stream of a version and an attach, whose last byte comes in the second read.
-fn cut_stream<S: Script>(rt: &impl Abort, alloc: Global) -> S {
+fn cut_stream(rt: &impl Abort, alloc: Global) -> Scripted {
     let input = requests(rt, alloc, &[VERSION, ATTACH]);
-    let mut stream = S::over(alloc, input, 100);
-    then(rt, &mut stream, Answer::Moves(43));
+    let mut stream = Scripted::new(alloc, input, 100);
+    stream.then(rt, Answer::Moves(43));
     stream
 }
 
 // Two reads moved bytes, and each write was told as the last.
-fn is_not_waited_for<S: Script, A: Allocator + Copy>(
-    rt: &impl Abort,
-    alloc: Global,
-    conn: &Conn<S, A>,
-) {
+fn is_not_waited_for(rt: &impl Abort, alloc: Global, conn: &Conn<Scripted, Global>) {
     is_written(rt, conn, replies(rt, alloc, &[VERSION, ATTACH]).as_slice());
     assert!(rt; conn.stream().moving_reads() == 2 && conn.stream().writes_with_more() == 0);
 }
 
 // Compares what an open connection wrote.
-fn is_written<S: Script, A: Allocator + Copy>(rt: &impl Abort, conn: &Conn<S, A>, wanted: &[u8]) {
+fn is_written(rt: &impl Abort, conn: &Conn<Scripted, Global>, wanted: &[u8]) {
     assert!(rt; !conn.is_closed() && conn.stream().output() == wanted);
 }
 
@@ -164,13 +145,13 @@ fn long_replies(rt: &impl Abort, alloc: Global, data: &[u8]) -> Vec<u8, Global> 
 #[test]
 fn a_long_frame_comes_in_pieces(rt: HostRuntime) {
     let data = data_of(&rt, rt.alloc(), 20_000);
-    is_read_back::<Trees, Scripted>(&rt, rt.alloc(), data.as_slice());
+    is_read_back(&rt, rt.alloc(), data.as_slice());
 }
 
 // The data is written and read back, by calls that move at most 1,000 bytes.
-fn is_read_back<T: Tree<Alloc = Global>, S: Script>(rt: &impl Abort, alloc: Global, data: &[u8]) {
-    let stream = S::over(alloc, long_requests(rt, alloc, data), 1_000);
-    let alone = served::<T, S>(rt, alloc, stream);
+fn is_read_back(rt: &impl Abort, alloc: Global, data: &[u8]) {
+    let stream = Scripted::new(alloc, long_requests(rt, alloc, data), 1_000);
+    let alone = served(rt, alloc, stream);
     is_written(rt, &alone.conn, long_replies(rt, alloc, data).as_slice());
     drop(alone);
 }

@@ -1,9 +1,8 @@
 //! Bytes that come and go in pieces.
 
 use crate::rows::{ATTACH, Row, VERSION, WORK};
-use crate::scripted::{Answer, Script, Scripted, then};
-use crate::serving::{Alone, Trees, are_answered, is_answered, served, served_beside, stream_of};
-use p9_tree::Tree;
+use crate::scripted::{Answer, Scripted};
+use crate::serving::{Alone, are_answered, is_answered, served, served_beside, stream_of};
 use std::alloc::Global;
 use std::process::Abort;
 
@@ -14,19 +13,19 @@ const TWO: [Row; 2] = [VERSION, ATTACH];
 #[test]
 fn two_frames_are_cut_at_each_place(rt: HostRuntime) {
     for cut in 1..44 {
-        cut_at::<Trees, Scripted>(&rt, rt.alloc(), cut);
+        cut_at(&rt, rt.alloc(), cut);
     }
 }
 
 // The first read moves so many bytes.
-fn cut_at<T: Tree<Alloc = Global>, S: Script>(rt: &impl Abort, alloc: Global, cut: usize) {
-    let alone = served::<T, S>(rt, alloc, cut_stream(rt, alloc, cut));
+fn cut_at(rt: &impl Abort, alloc: Global, cut: usize) {
+    let alone = served(rt, alloc, cut_stream(rt, alloc, cut));
     is_read_twice(rt, alloc, &alone);
     drop(alone);
 }
 
 // A stream whose first read moves so many bytes. The next read and the first write would block.
-fn cut_stream<S: Script>(rt: &impl Abort, alloc: Global, cut: usize) -> S {
+fn cut_stream(rt: &impl Abort, alloc: Global, cut: usize) -> Scripted {
     let mut stream = stream_of(rt, alloc, &TWO, 100);
     for answer in [
         Answer::Moves(cut),
@@ -34,13 +33,13 @@ fn cut_stream<S: Script>(rt: &impl Abort, alloc: Global, cut: usize) -> S {
         Answer::Moves(100),
         Answer::WouldBlock,
     ] {
-        then(rt, &mut stream, answer);
+        stream.then(rt, answer);
     }
     stream
 }
 
 // Two reads moved the requests, which are answered.
-fn is_read_twice<T: Tree, S: Script>(rt: &impl Abort, alloc: Global, alone: &Alone<T, S>) {
+fn is_read_twice(rt: &impl Abort, alloc: Global, alone: &Alone) {
     is_answered(rt, alloc, &alone.guard, &alone.conn, &TWO);
     assert!(rt; alone.conn.stream().moving_reads() == 2);
 }
@@ -49,14 +48,14 @@ fn is_read_twice<T: Tree, S: Script>(rt: &impl Abort, alloc: Global, alone: &Alo
 #[test]
 fn every_length_of_a_piece_makes_the_same_bytes(rt: HostRuntime) {
     for most in [1, 2, 3, 7, 16, 19, 20, 64, 1_000] {
-        moves_at_most::<Trees, Scripted>(&rt, rt.alloc(), most);
+        moves_at_most(&rt, rt.alloc(), most);
     }
 }
 
 // Each call moves at most so many bytes.
-fn moves_at_most<T: Tree<Alloc = Global>, S: Script>(rt: &impl Abort, alloc: Global, most: usize) {
-    let stream = stream_of::<S>(rt, alloc, &WORK, most);
-    let pair = served_beside::<T, S>(rt, alloc, stream, most);
+fn moves_at_most(rt: &impl Abort, alloc: Global, most: usize) {
+    let stream = stream_of(rt, alloc, &WORK, most);
+    let pair = served_beside(rt, alloc, stream, most);
     are_answered(rt, alloc, &pair, &WORK);
     drop(pair);
 }

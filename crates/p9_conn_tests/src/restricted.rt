@@ -1,7 +1,7 @@
 //! A stream whose client may attach as some users only.
 
 use crate::rows::add;
-use crate::scripted::{Answer, Script, Scripted, then};
+use crate::scripted::{Answer, Scripted};
 use p9_base::User;
 use p9_restricted::Restricted;
 use p9_testing::{Refusing, bytes_of};
@@ -91,10 +91,10 @@ fn masked(rt: &impl Abort, alloc: Global) -> Vec<u8, Global> {
 }
 
 // All that a stream gives, in reads of so much room.
-fn all_of<S: Script, A: Allocator>(
+fn all_of<A: Allocator>(
     rt: &impl Abort,
     alloc: Global,
-    stream: &mut Restricted<S, A>,
+    stream: &mut Restricted<Scripted, A>,
     room: usize,
 ) -> Vec<u8, Global> {
     let mut all = Vec::new(alloc);
@@ -107,9 +107,9 @@ fn all_of<S: Script, A: Allocator>(
 }
 
 // Reads once, and puts what came behind the bytes before. Returns whether more may come.
-fn reads_on<S: Script, A: Allocator>(
+fn reads_on<A: Allocator>(
     rt: &impl Abort,
-    stream: &mut Restricted<S, A>,
+    stream: &mut Restricted<Scripted, A>,
     room: usize,
     all: &mut Vec<u8, Global>,
 ) -> bool {
@@ -124,23 +124,11 @@ fn reads_on<S: Script, A: Allocator>(
 }
 
 // Reads what is sent in reads of so much room, and compares what comes with what is wanted.
-fn is_read<S: Script>(rt: &impl Abort, alloc: Global, stream: S, room: usize, wanted: &[u8]) {
+fn is_read(rt: &impl Abort, alloc: Global, stream: Scripted, room: usize, wanted: &[u8]) {
     let mut restricted = Restricted::new(stream, anna(rt, alloc));
     let all = all_of(rt, alloc, &mut restricted, room);
     assert!(rt; all.as_slice() == wanted);
     drop(restricted);
-}
-
-// The same, of all requests, by calls that move at most so many bytes.
-fn comes_in_pieces<S: Script>(
-    rt: &impl Abort,
-    alloc: Global,
-    most: usize,
-    room: usize,
-    wanted: &[u8],
-) {
-    let stream = S::over(alloc, sent(rt, alloc), most);
-    is_read(rt, alloc, stream, room, wanted);
 }
 
 // Pieces of each length up to that of the longest frame, and reads of as much room.
@@ -150,24 +138,19 @@ fn frames_are_masked_in_all_pieces(rt: HostRuntime) {
     let wanted = masked(&rt, alloc);
     for most in 1..26 {
         for room in 1..26 {
-            comes_in_pieces::<Scripted>(&rt, alloc, most, room, wanted.as_slice());
+            let stream = Scripted::new(alloc, sent(&rt, alloc), most);
+            is_read(&rt, alloc, stream, room, wanted.as_slice());
         }
     }
 }
 
 // The first read moves so many bytes, the next one would block, and another is interrupted.
-fn cut_stream<S: Script>(rt: &impl Abort, alloc: Global, cut: usize) -> S {
-    let mut stream = S::over(alloc, sent(rt, alloc), ROOM);
+fn cut_stream(rt: &impl Abort, alloc: Global, cut: usize) -> Scripted {
+    let mut stream = Scripted::new(alloc, sent(rt, alloc), ROOM);
     for answer in [Answer::Moves(cut), Answer::WouldBlock, Answer::Interrupted] {
-        then(rt, &mut stream, answer);
+        stream.then(rt, answer);
     }
     stream
-}
-
-// All frames are read of such a stream.
-fn comes_cut<S: Script>(rt: &impl Abort, alloc: Global, cut: usize, wanted: &[u8]) {
-    let stream = cut_stream::<S>(rt, alloc, cut);
-    is_read(rt, alloc, stream, ROOM, wanted);
 }
 
 // All frames in two pieces, and in one.
@@ -176,7 +159,13 @@ fn frames_are_cut_at_each_place(rt: HostRuntime) {
     let alloc = rt.alloc();
     let wanted = masked(&rt, alloc);
     for cut in 1..wanted.len() {
-        comes_cut::<Scripted>(&rt, alloc, cut, wanted.as_slice());
+        is_read(
+            &rt,
+            alloc,
+            cut_stream(&rt, alloc, cut),
+            ROOM,
+            wanted.as_slice(),
+        );
     }
 }
 
@@ -194,16 +183,10 @@ fn attach_by(rt: &impl Abort, alloc: Global, letter: u8, count: u16) -> Vec<u8, 
     frame
 }
 
-// A name of so many letters is read as one of as many of these.
-fn is_masked_by<S: Script>(rt: &impl Abort, alloc: Global, count: u16, letter: u8) {
-    let stream = S::over(alloc, attach_by(rt, alloc, b'g', count), ROOM);
-    let wanted = attach_by(rt, alloc, letter, count);
-    is_read(rt, alloc, stream, ROOM, wanted.as_slice());
-}
-
 // A name of at most 63 bytes is one that a user may have.
 #[test]
 fn names_of_each_length_are_masked(rt: HostRuntime) {
+    let alloc = rt.alloc();
     for (count, letter) in [
         (1, b' '),
         (62, b' '),
@@ -212,7 +195,9 @@ fn names_of_each_length_are_masked(rt: HostRuntime) {
         (255, b'g'),
         (65_535, b'g'),
     ] {
-        is_masked_by::<Scripted>(&rt, rt.alloc(), count, letter);
+        let stream = Scripted::new(alloc, attach_by(&rt, alloc, b'g', count), ROOM);
+        let wanted = attach_by(&rt, alloc, letter, count);
+        is_read(&rt, alloc, stream, ROOM, wanted.as_slice());
     }
 }
 
@@ -235,60 +220,40 @@ fn attaches(rt: &impl Abort, alloc: Global, name: &str) -> Vec<u8, Global> {
 // Of 256 bytes there are ten attaches and a part of one.
 #[test]
 fn many_attaches_come_at_once(rt: HostRuntime) {
-    come_at_once::<Scripted>(&rt, rt.alloc());
-}
-
-// Attaches that come at once are masked.
-fn come_at_once<S: Script>(rt: &impl Abort, alloc: Global) {
-    let wanted = attaches(rt, alloc, "202020202020");
-    let stream = S::over(alloc, attaches(rt, alloc, "676c656e6461"), ROOM);
-    is_read(rt, alloc, stream, ROOM, wanted.as_slice());
+    let alloc = rt.alloc();
+    let wanted = attaches(&rt, alloc, "202020202020");
+    let stream = Scripted::new(alloc, attaches(&rt, alloc, "676c656e6461"), ROOM);
+    is_read(&rt, alloc, stream, ROOM, wanted.as_slice());
 }
 
 // Behind a size that no frame has, nothing is masked.
 #[test]
 fn nothing_is_masked_behind_a_broken_size(rt: HostRuntime) {
+    let alloc = rt.alloc();
     for size in ["06000000", "01001000"] {
-        is_kept_behind::<Scripted>(&rt, rt.alloc(), size);
+        let mut input = bytes_of(alloc, size).expect(&rt, "hexadecimal digits");
+        add(&rt, alloc, &mut input, FRAMES[2].0);
+        let wanted = input.clone().ok().expect(&rt, "a copy");
+        is_read(
+            &rt,
+            alloc,
+            Scripted::new(alloc, input, 7),
+            ROOM,
+            wanted.as_slice(),
+        );
     }
-}
-
-// An attach behind this size is read as it is sent.
-fn is_kept_behind<S: Script>(rt: &impl Abort, alloc: Global, size: &str) {
-    let mut input = bytes_of(alloc, size).expect(rt, "hexadecimal digits");
-    add(rt, alloc, &mut input, FRAMES[2].0);
-    let wanted = input.clone().ok().expect(rt, "a copy");
-    is_read(rt, alloc, S::over(alloc, input, 7), ROOM, wanted.as_slice());
 }
 
 // The users are all that is in its memory: no read takes more, whatever the pieces.
 #[test]
 fn no_read_takes_memory(rt: HostRuntime) {
-    let memory = Refusing::new(rt.alloc());
-    takes_no_memory::<Scripted, &Refusing<Global>>(&rt, rt.alloc(), &memory, &memory);
-}
-
-// Reads all with the next request for memory refused, which doesn't come.
-fn takes_no_memory<S: Script, A: Allocator>(
-    rt: &impl Abort,
-    alloc: Global,
-    memory: &Refusing<Global>,
-    lent: A,
-) {
-    let stream = S::over(alloc, sent(rt, alloc), 5);
-    let mut restricted = Restricted::new(stream, anna(rt, lent));
+    let alloc = rt.alloc();
+    let memory = Refusing::new(alloc);
+    let wanted = masked(&rt, alloc);
+    let stream = Scripted::new(alloc, sent(&rt, alloc), 5);
+    let mut restricted = Restricted::new(stream, anna(&rt, &memory));
     memory.refuse(1);
-    is_all_masked(rt, alloc, &mut restricted);
-    assert!(rt; !memory.has_refused());
+    let all = all_of(&rt, alloc, &mut restricted, 3);
+    assert!(rt; all.as_slice() == wanted.as_slice() && !memory.has_refused());
     drop(restricted);
-}
-
-// All that a stream gives, in reads of three bytes, are the requests as they are read.
-fn is_all_masked<S: Script, A: Allocator>(
-    rt: &impl Abort,
-    alloc: Global,
-    stream: &mut Restricted<S, A>,
-) {
-    let all = all_of(rt, alloc, stream, 3);
-    assert!(rt; all.as_slice() == masked(rt, alloc).as_slice());
 }

@@ -97,43 +97,6 @@ pub enum Answer {
 
 /// A stream over bytes in memory. Its calls, reads and writes together, answer by a list, and once
 /// that is used up each moves at most so many bytes. A read that finds no byte would block then.
-///
-/// What is generic over it is cheaper to prove than what names [`Scripted`].
-pub trait Script: Stream + Drop + Sized {
-    /// A stream that gives these bytes. Its list is empty.
-    fn over(alloc: Global, input: Vec<u8, Global>, most: usize) -> Self;
-
-    /// Puts an answer at the end of the list. Returns whether there was memory for it.
-    fn put(&mut self, answer: Answer) -> bool;
-
-    /// What was written to it.
-    fn output(&self) -> &[u8];
-
-    /// How many calls were made.
-    fn calls(&self) -> u64;
-
-    /// How many reads moved bytes.
-    fn moving_reads(&self) -> u64;
-
-    /// How many writes moved bytes.
-    fn moving_writes(&self) -> u64;
-
-    /// How many writes were told that more bytes will follow.
-    fn writes_with_more(&self) -> u64;
-
-    /// How many bytes were read.
-    fn bytes_read(&self) -> u64;
-
-    /// Whether its list is used up, and its bytes were read.
-    fn is_used_up(&self) -> bool;
-}
-
-/// Puts an answer at the end of a stream's list.
-pub fn then<S: Script>(rt: &impl Abort, stream: &mut S, answer: Answer) {
-    assert!(rt; stream.put(answer));
-}
-
-/// The stream that is a [`Script`].
 #[derive(Drop)]
 pub struct Scripted {
     answers: VecDeque<Answer, Global>,
@@ -145,8 +108,9 @@ pub struct Scripted {
     writes_with_more: u64,
 }
 
-impl Script for Scripted {
-    fn over(alloc: Global, input: Vec<u8, Global>, most: usize) -> Scripted {
+impl Scripted {
+    /// A stream that gives these bytes. Its list is empty.
+    pub fn new(alloc: Global, input: Vec<u8, Global>, most: usize) -> Scripted {
         Scripted {
             answers: VecDeque::new(alloc),
             most,
@@ -158,43 +122,43 @@ impl Script for Scripted {
         }
     }
 
-    fn put(&mut self, answer: Answer) -> bool {
-        self.answers.push_back(answer).is_ok()
+    /// Puts an answer at the end of the list.
+    pub fn then(&mut self, rt: &impl Abort, answer: Answer) {
+        assert!(rt; self.answers.push_back(answer).is_ok());
     }
 
-    fn output(&self) -> &[u8] {
+    /// What was written to it.
+    pub fn output(&self) -> &[u8] {
         self.memory.output()
     }
 
-    fn calls(&self) -> u64 {
+    /// How many calls were made.
+    pub fn calls(&self) -> u64 {
         self.calls
     }
 
-    fn moving_reads(&self) -> u64 {
+    /// How many reads moved bytes.
+    pub fn moving_reads(&self) -> u64 {
         self.moving_reads
     }
 
-    fn moving_writes(&self) -> u64 {
+    /// How many writes moved bytes.
+    pub fn moving_writes(&self) -> u64 {
         self.moving_writes
     }
 
-    fn writes_with_more(&self) -> u64 {
+    /// How many writes were told that more bytes will follow.
+    pub fn writes_with_more(&self) -> u64 {
         self.writes_with_more
     }
 
-    fn bytes_read(&self) -> u64 {
+    /// How many bytes were read.
+    pub fn bytes_read(&self) -> u64 {
         self.memory.input.position()
     }
 
-    fn is_used_up(&self) -> bool {
-        self.is_over()
-    }
-}
-
-impl Scripted {
-    // Whether its list is used up, and its bytes were read. The reads call this, since the trait
-    // `Script` is built on them.
-    fn is_over(&self) -> bool {
+    /// Whether its list is used up, and its bytes were read.
+    pub fn is_used_up(&self) -> bool {
         self.answers.is_empty() && self.memory.is_read()
     }
 
@@ -216,7 +180,7 @@ impl Scripted {
     fn room_to_read(&mut self) -> io::Result<usize>
         ensures { self.new.memory ≡ self.old.memory }
     {
-        let is_blocked = self.is_over();
+        let is_blocked = self.is_used_up();
         let room = self.room()?;
         if is_blocked {
             return Err(io::Error::from(ErrorKind::WouldBlock));

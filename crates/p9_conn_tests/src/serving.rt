@@ -4,7 +4,7 @@
 //! once, and not in each owner.
 
 use crate::rows::{ASIDE, Row, replies, requests};
-use crate::scripted::Script;
+use crate::scripted::Scripted;
 use p9_cert::read_cert;
 use p9_conn::{Conn, Turn};
 use p9_guard::Guard;
@@ -15,23 +15,22 @@ use p9_world::{World, read_world};
 use std::alloc::{Allocator, Global};
 use std::process::Abort;
 
-/// The trees of most guards here. Each test names them once: what is generic over the tree is
-/// cheaper to prove.
-pub type Trees = IndexTree<Global>;
+/// The guard of the world below.
+pub type Served = Guard<IndexTree<Global>>;
 
 /// A connection of session 1, with its guard.
 #[derive(Drop)]
-pub struct Alone<T: Tree, S: Script> {
-    pub guard: Guard<T>,
-    pub conn: Conn<S, T::Alloc>,
+pub struct Alone {
+    pub guard: Served,
+    pub conn: Conn<Scripted, Global>,
 }
 
 /// Connections of the sessions 1 and 2, with their guard.
 #[derive(Drop)]
-pub struct Pair<T: Tree, S: Script> {
-    pub guard: Guard<T>,
-    pub one: Conn<S, T::Alloc>,
-    pub two: Conn<S, T::Alloc>,
+pub struct Pair {
+    pub guard: Served,
+    pub one: Conn<Scripted, Global>,
+    pub two: Conn<Scripted, Global>,
 }
 
 // The root and a public directory, which is 1, beside a vault, which is 2, with its key.
@@ -51,6 +50,11 @@ const CERTIFICATE: &str = "cert 1\ndir 0 0\ndir 0 1\n";
 const TURNS: u32 = 100_000;
 
 /// A guard without sessions.
+pub fn new_guard(rt: &impl Abort, alloc: Global) -> Served {
+    guard_over(rt, alloc)
+}
+
+/// A guard without sessions, over trees of any kind.
 pub fn guard_over<T: Tree>(rt: &impl Abort, alloc: T::Alloc) -> Guard<T> {
     let world: World<T> = read_world(alloc, VAULT).expect(rt, "a world");
     let certificate = read_cert(alloc, CERTIFICATE).expect(rt, "a certificate");
@@ -60,13 +64,24 @@ pub fn guard_over<T: Tree>(rt: &impl Abort, alloc: T::Alloc) -> Guard<T> {
 }
 
 /// A connection of a session, which is opened.
-pub fn connect<T: Tree, S: Script>(
+pub fn connect(
+    rt: &impl Abort,
+    alloc: Global,
+    guard: &mut Served,
+    session: u32,
+    stream: Scripted,
+) -> Conn<Scripted, Global> {
+    connect_over(rt, alloc, guard, session, stream)
+}
+
+/// A connection of a session, which is opened, over trees of any kind.
+pub fn connect_over<T: Tree>(
     rt: &impl Abort,
     alloc: T::Alloc,
     guard: &mut Guard<T>,
     session: u32,
-    stream: S,
-) -> Conn<S, T::Alloc> {
+    stream: Scripted,
+) -> Conn<Scripted, T::Alloc> {
     assert!(rt; guard.open(session) == Ok(()));
     Conn::new(alloc, stream, session)
         .ok()
@@ -74,39 +89,34 @@ pub fn connect<T: Tree, S: Script>(
 }
 
 /// A stream of the requests of rows, which moves at most so many bytes a call.
-pub fn stream_of<S: Script>(rt: &impl Abort, alloc: Global, rows: &[Row], most: usize) -> S {
-    S::over(alloc, requests(rt, alloc, rows), most)
+pub fn stream_of(rt: &impl Abort, alloc: Global, rows: &[Row], most: usize) -> Scripted {
+    Scripted::new(alloc, requests(rt, alloc, rows), most)
 }
 
 /// Opens a session, and serves its stream alone, until nothing is left to do.
-pub fn serve_session<T: Tree, S: Script>(
+pub fn serve_session(
     rt: &impl Abort,
-    alloc: T::Alloc,
-    guard: &mut Guard<T>,
+    alloc: Global,
+    guard: &mut Served,
     session: u32,
-    stream: S,
-) -> Conn<S, T::Alloc> {
+    stream: Scripted,
+) -> Conn<Scripted, Global> {
     let mut conn = connect(rt, alloc, guard, session, stream);
     serve_alone(guard, &mut conn);
     conn
 }
 
 /// Serves a stream alone, until nothing is left to do.
-pub fn served<T: Tree, S: Script>(rt: &impl Abort, alloc: T::Alloc, stream: S) -> Alone<T, S> {
-    let mut guard = guard_over::<T>(rt, alloc);
+pub fn served(rt: &impl Abort, alloc: Global, stream: Scripted) -> Alone {
+    let mut guard = new_guard(rt, alloc);
     let conn = serve_session(rt, alloc, &mut guard, 1, stream);
     Alone { guard, conn }
 }
 
 /// Serves a stream beside one of the requests that change nothing, which moves at most so many bytes
 /// a call, until nothing is left to do.
-pub fn served_beside<T: Tree<Alloc = Global>, S: Script>(
-    rt: &impl Abort,
-    alloc: Global,
-    stream: S,
-    most: usize,
-) -> Pair<T, S> {
-    let mut guard = guard_over::<T>(rt, alloc);
+pub fn served_beside(rt: &impl Abort, alloc: Global, stream: Scripted, most: usize) -> Pair {
+    let mut guard = new_guard(rt, alloc);
     let one = connect(rt, alloc, &mut guard, 1, stream);
     let two = connect_aside(rt, alloc, &mut guard, most);
     let mut pair = Pair { guard, one, two };
@@ -115,18 +125,17 @@ pub fn served_beside<T: Tree<Alloc = Global>, S: Script>(
 }
 
 // A connection of session 2, which is opened, over a stream of the requests that change nothing.
-fn connect_aside<T: Tree<Alloc = Global>, S: Script>(
+fn connect_aside(
     rt: &impl Abort,
     alloc: Global,
-    guard: &mut Guard<T>,
+    guard: &mut Served,
     most: usize,
-) -> Conn<S, Global> {
-    let stream = stream_of::<S>(rt, alloc, &ASIDE, most);
-    connect(rt, alloc, guard, 2, stream)
+) -> Conn<Scripted, Global> {
+    connect(rt, alloc, guard, 2, stream_of(rt, alloc, &ASIDE, most))
 }
 
 // Gives the two connections a turn each, again and again, until neither has anything left to do.
-fn serve_pair<T: Tree, S: Script>(pair: &mut Pair<T, S>) {
+fn serve_pair(pair: &mut Pair) {
     for _ in 0..TURNS {
         let is_busy = is_served(&mut pair.guard, &mut pair.one);
         if !is_served(&mut pair.guard, &mut pair.two) && !is_busy {
@@ -136,10 +145,7 @@ fn serve_pair<T: Tree, S: Script>(pair: &mut Pair<T, S>) {
 }
 
 /// Gives connections a turn each, again and again, until none has anything left to do.
-pub fn serve<T: Tree, S: Script, A: Allocator + Copy>(
-    guard: &mut Guard<T>,
-    conns: &mut [Conn<S, A>],
-) {
+pub fn serve(guard: &mut Served, conns: &mut [Conn<Scripted, Global>]) {
     for _ in 0..TURNS {
         if !serve_round(guard, conns) {
             break;
@@ -148,9 +154,9 @@ pub fn serve<T: Tree, S: Script, A: Allocator + Copy>(
 }
 
 /// Gives one connection turns, until it has nothing left to do.
-pub fn serve_alone<T: Tree, S: Script, A: Allocator + Copy>(
+pub fn serve_alone<T: Tree, A: Allocator + Copy>(
     guard: &mut Guard<T>,
-    conn: &mut Conn<S, A>,
+    conn: &mut Conn<Scripted, A>,
 ) {
     for _ in 0..TURNS {
         if !is_served(guard, conn) {
@@ -160,10 +166,7 @@ pub fn serve_alone<T: Tree, S: Script, A: Allocator + Copy>(
 }
 
 // Gives connections a turn each, and returns whether one of them has something left to do.
-fn serve_round<T: Tree, S: Script, A: Allocator + Copy>(
-    guard: &mut Guard<T>,
-    conns: &mut [Conn<S, A>],
-) -> bool {
+fn serve_round(guard: &mut Served, conns: &mut [Conn<Scripted, Global>]) -> bool {
     let mut is_busy = false;
     for conn in conns {
         is_busy |= is_served(guard, conn);
@@ -172,9 +175,9 @@ fn serve_round<T: Tree, S: Script, A: Allocator + Copy>(
 }
 
 // Gives a connection a turn, and returns whether it has something left to do.
-fn is_served<T: Tree, S: Script, A: Allocator + Copy>(
+fn is_served<T: Tree, A: Allocator + Copy>(
     guard: &mut Guard<T>,
-    conn: &mut Conn<S, A>,
+    conn: &mut Conn<Scripted, A>,
 ) -> bool {
     let was_used_up = conn.stream().is_used_up();
     match conn.turn(guard, 0) {
@@ -185,11 +188,22 @@ fn is_served<T: Tree, S: Script, A: Allocator + Copy>(
 }
 
 /// Compares what a connection wrote with the replies of rows. It is open, and so is its session.
-pub fn is_answered<T: Tree, S: Script, A: Allocator + Copy>(
+pub fn is_answered(
+    rt: &impl Abort,
+    alloc: Global,
+    guard: &Served,
+    conn: &Conn<Scripted, Global>,
+    rows: &[Row],
+) {
+    is_answered_over(rt, alloc, guard, conn, rows);
+}
+
+/// The same as [`is_answered`], over trees of any kind.
+pub fn is_answered_over<T: Tree, A: Allocator + Copy>(
     rt: &impl Abort,
     alloc: Global,
     guard: &Guard<T>,
-    conn: &Conn<S, A>,
+    conn: &Conn<Scripted, A>,
     rows: &[Row],
 ) {
     assert!(rt; !conn.is_closed() && guard.live(conn.session()));
@@ -198,35 +212,25 @@ pub fn is_answered<T: Tree, S: Script, A: Allocator + Copy>(
 
 /// Compares what the first connection of a pair wrote with the replies of rows, and what the second
 /// wrote with those of the requests that change nothing. Both are open, and so are their sessions.
-pub fn are_answered<T: Tree, S: Script>(
-    rt: &impl Abort,
-    alloc: Global,
-    pair: &Pair<T, S>,
-    rows: &[Row],
-) {
+pub fn are_answered(rt: &impl Abort, alloc: Global, pair: &Pair, rows: &[Row]) {
     is_answered(rt, alloc, &pair.guard, &pair.one, rows);
     is_answered(rt, alloc, &pair.guard, &pair.two, &ASIDE);
 }
 
 /// Compares what the first connection of a pair wrote with the front of the replies of rows. It is
 /// closed, and so is its session. The second did as in [`are_answered`].
-pub fn one_is_closed<T: Tree, S: Script>(
-    rt: &impl Abort,
-    alloc: Global,
-    pair: &Pair<T, S>,
-    rows: &[Row],
-) {
-    is_closed(rt, alloc, &pair.guard, &pair.one, rows);
+pub fn one_is_closed(rt: &impl Abort, alloc: Global, pair: &Pair, rows: &[Row]) {
+    is_closed_over(rt, alloc, &pair.guard, &pair.one, rows);
     is_answered(rt, alloc, &pair.guard, &pair.two, &ASIDE);
 }
 
 /// Compares what a connection wrote with the front of the replies of rows. It is closed, and so is
-/// its session.
-pub fn is_closed<T: Tree, S: Script, A: Allocator + Copy>(
+/// its session. The trees are of any kind.
+pub fn is_closed_over<T: Tree, A: Allocator + Copy>(
     rt: &impl Abort,
     alloc: Global,
     guard: &Guard<T>,
-    conn: &Conn<S, A>,
+    conn: &Conn<Scripted, A>,
     rows: &[Row],
 ) {
     assert!(rt; conn.is_closed() && !guard.live(conn.session()));

@@ -1,10 +1,9 @@
 //! Sizes that no frame has.
 
 use crate::rows::{VERSION, add, requests};
-use crate::scripted::{Script, Scripted};
-use crate::serving::{Pair, Trees, one_is_closed, served_beside};
+use crate::scripted::Scripted;
+use crate::serving::{Pair, one_is_closed, served_beside};
 use p9_conn::Turn;
-use p9_tree::Tree;
 use std::alloc::Global;
 use std::process::Abort;
 
@@ -15,14 +14,14 @@ const SIZES: [&str; 5] = ["00000000", "04000000", "06000000", "01001000", "fffff
 #[test]
 fn a_broken_size_closes_its_connection(rt: HostRuntime) {
     for size in SIZES {
-        breaks_off::<Trees, Scripted>(&rt, rt.alloc(), size);
+        breaks_off(&rt, rt.alloc(), size);
     }
 }
 
 // The size is read beside an undisturbed connection.
-fn breaks_off<T: Tree<Alloc = Global>, S: Script>(rt: &impl Abort, alloc: Global, size: &str) {
-    let stream = S::over(alloc, version_and(rt, alloc, size), 16);
-    let mut pair = served_beside::<T, S>(rt, alloc, stream, 16);
+fn breaks_off(rt: &impl Abort, alloc: Global, size: &str) {
+    let stream = Scripted::new(alloc, version_and(rt, alloc, size), 16);
+    let mut pair = served_beside(rt, alloc, stream, 16);
     one_is_closed(rt, alloc, &pair, &[VERSION]);
     stays_closed(rt, &mut pair);
     drop(pair);
@@ -36,7 +35,7 @@ fn version_and(rt: &impl Abort, alloc: Global, size: &str) -> Vec<u8, Global> {
 }
 
 // The first connection wrote the reply to the version, and one more turn makes no call of its stream.
-fn stays_closed<T: Tree, S: Script>(rt: &impl Abort, pair: &mut Pair<T, S>) {
+fn stays_closed(rt: &impl Abort, pair: &mut Pair) {
     let calls = pair.one.stream().calls();
     assert!(rt; pair.one.stream().output().len() == 19);
     let turn = pair.one.turn(&mut pair.guard, 0);

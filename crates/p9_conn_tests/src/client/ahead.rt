@@ -2,7 +2,7 @@
 
 use crate::client::answered::{Answered, Server};
 use crate::client::kinds::outcome;
-use crate::client::pieces::{Fault, OneFile, Pieces};
+use crate::client::pieces::{Fault, Pieces};
 use p9_client::{AHEAD_MAX, Session};
 use std::alloc::Global;
 use std::io;
@@ -52,23 +52,14 @@ fn fine(call: Call, len: usize) -> Play {
     }
 }
 
-// A server where this goes wrong. The file that is read is there, and that which is written is
-// empty.
-fn server_of(rt: &impl Abort, alloc: Global, play: Play) -> Pieces {
+// A session with a server, where this goes wrong. The file that is read is there, and that which is
+// written is empty.
+fn session_with(rt: &impl Abort, alloc: Global, play: Play) -> Session<Answered<Pieces>, Global> {
     let file = match play.call {
         Call::Read => file_of(rt, alloc, play.len),
         Call::Write => Vec::new(alloc),
     };
-    Pieces::new(alloc, file, play.fault, play.place)
-}
-
-// A session with a server, over a stream where this goes wrong.
-fn session_with<S: Server>(
-    rt: &impl Abort,
-    alloc: Global,
-    server: S,
-    play: Play,
-) -> Session<Answered<S>, Global> {
+    let server = Pieces::new(alloc, file, play.fault, play.place);
     let mut stream = Answered::new(alloc, server);
     stream.broken = play.broken;
     Session::new(alloc, stream, MSIZE).expect(rt, "memory")
@@ -77,29 +68,16 @@ fn session_with<S: Server>(
 // Plays a call, which comes to what is wanted. Returns the most requests that were on their way at
 // once.
 fn check(rt: &impl Abort, alloc: Global, play: Play, wanted: &str) -> usize {
-    check_with(rt, alloc, server_of(rt, alloc, play), play, wanted)
-}
-
-// The same, with a server.
-fn check_with<S: OneFile>(
-    rt: &impl Abort,
-    alloc: Global,
-    server: S,
-    play: Play,
-    wanted: &str,
-) -> usize {
-    let mut session = session_with(rt, alloc, server, play);
-    let ahead = is_played(rt, alloc, &mut session, play, wanted);
-    drop(session);
-    ahead
+    let mut session = session_with(rt, alloc, play);
+    is_played(rt, alloc, &mut session, play, wanted)
 }
 
 // What a call over this session comes to is what is wanted, and so is whether the session goes on.
 // Returns the most requests of the call that were on their way at once.
-fn is_played<S: OneFile>(
+fn is_played(
     rt: &impl Abort,
     alloc: Global,
-    session: &mut Session<Answered<S>, Global>,
+    session: &mut Session<Answered<Pieces>, Global>,
     play: Play,
     wanted: &str,
 ) -> usize {
@@ -108,7 +86,7 @@ fn is_played<S: OneFile>(
         Call::Read => read(alloc, session),
         Call::Write => write(rt, alloc, session, len),
     };
-    let ahead = session.stream().server.most_waiting();
+    let ahead = session.stream().server.most_waiting;
     assert!(rt;
         came == wanted && is_as_after(session, wanted),
         "{len} bytes, request {place}"
@@ -117,17 +95,17 @@ fn is_played<S: OneFile>(
 }
 
 // Reads the file.
-fn read<S: OneFile>(alloc: Global, session: &mut Session<Answered<S>, Global>) -> &'static str {
+fn read(alloc: Global, session: &mut Session<Answered<Pieces>, Global>) -> &'static str {
     let mut out = Vec::new(alloc);
     let came = outcome(&session.read_to(1, &mut out));
     told(&session.stream().server, out.as_slice(), came)
 }
 
 // Writes the file.
-fn write<S: OneFile>(
+fn write(
     rt: &impl Abort,
     alloc: Global,
-    session: &mut Session<Answered<S>, Global>,
+    session: &mut Session<Answered<Pieces>, Global>,
     len: usize,
 ) -> &'static str {
     let bytes = file_of(rt, alloc, len);
@@ -137,8 +115,8 @@ fn write<S: OneFile>(
 
 // What a call came to. Where all is done, but these bytes are not those of the file, it is
 // `other bytes`.
-fn told<S: OneFile>(server: &S, bytes: &[u8], came: &'static str) -> &'static str {
-    if came == "done" && bytes != server.file() {
+fn told(server: &Pieces, bytes: &[u8], came: &'static str) -> &'static str {
+    if came == "done" && bytes != server.file.as_slice() {
         return "other bytes";
     }
     came
@@ -284,13 +262,6 @@ impl Write for Narrow {
     }
 }
 
-// A file of 17 pieces of a server is read by a writer that has room for fewer.
-fn is_cut_short<S: Server>(rt: &impl Abort, alloc: Global, server: S, play: Play, pieces: usize) {
-    let mut session = session_with(rt, alloc, server, play);
-    is_output_error(rt, &mut session, pieces);
-    drop(session);
-}
-
 // A file is read by a writer that has room for fewer pieces.
 fn is_output_error<S: Server>(
     rt: &impl Abort,
@@ -307,29 +278,25 @@ fn is_output_error<S: Server>(
 
 #[test]
 fn the_session_goes_on_where_the_writer_fails(rt: HostRuntime) {
-    let play = fine(Call::Read, 17 * PIECE);
     for pieces in 0..17 {
-        let server = server_of(&rt, rt.alloc(), play);
-        is_cut_short(&rt, rt.alloc(), server, play, pieces);
+        let mut session = session_with(&rt, rt.alloc(), fine(Call::Read, 17 * PIECE));
+        is_output_error(&rt, &mut session, pieces);
     }
 }
 
 // Plays a call after so many requests that its tags go past the greatest one, 65,534: the next one is 0.
-fn is_played_past_the_last_tag<S: OneFile>(rt: &impl Abort, alloc: Global, server: S, play: Play) {
-    let mut session = session_with(rt, alloc, server, play);
+fn is_played_past_the_last_tag(rt: &impl Abort, alloc: Global, play: Play) {
+    let mut session = session_with(rt, alloc, play);
     for _ in 0..65_530 {
         assert!(rt; session.clunk(1).is_ok());
     }
     let ahead = is_played(rt, alloc, &mut session, play, "done");
     assert!(rt; ahead == AHEAD_MAX);
-    drop(session);
 }
 
 #[test]
 fn tags_begin_anew_among_requests_ahead(rt: HostRuntime) {
     for call in [Call::Read, Call::Write] {
-        let play = fine(call, 17 * PIECE);
-        let server = server_of(&rt, rt.alloc(), play);
-        is_played_past_the_last_tag(&rt, rt.alloc(), server, play);
+        is_played_past_the_last_tag(&rt, rt.alloc(), fine(call, 17 * PIECE));
     }
 }

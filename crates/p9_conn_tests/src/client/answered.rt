@@ -1,10 +1,9 @@
 //! A stream whose requests a server in memory answers.
 
-use p9_client::{Session, Stream};
+use p9_client::Stream;
 use p9_wire::{Frame, frame_of};
 use std::alloc::Global;
 use std::io::{ErrorKind, Read, Write};
-use std::process::Abort;
 use std::{io, mem};
 
 /// A server in memory.
@@ -60,33 +59,22 @@ impl<S: Server> Answered<S> {
         }
         Ok(())
     }
-
-    // Has what was written answered, if no byte of the replies is left.
-    fn refill(&mut self) -> io::Result<()> {
-        if self.read < self.output.len() {
-            return Ok(());
-        }
-        self.output.clear();
-        self.read = 0;
-        self.server.answer(&mut self.input, &mut self.output)
-    }
-
-    // Reads of the replies. Returns how many bytes were read.
-    fn give(&mut self, buf: &mut [u8]) -> usize {
-        let start = self.read.min(self.output.len());
-        let rest = &self.output[start..];
-        let count = rest.len().min(buf.len()).min(self.most);
-        buf[..count].copy_from_slice(&rest[..count]);
-        self.read = start.saturating_add(count);
-        count
-    }
 }
 
 impl<S: Server> Read for Answered<S> {
     fn read(&mut self, buf: &mut [u8]) -> io::Result<usize> {
         self.count_call()?;
-        self.refill()?;
-        Ok(self.give(buf))
+        if self.read >= self.output.len() {
+            self.output.clear();
+            self.read = 0;
+            self.server.answer(&mut self.input, &mut self.output)?;
+        }
+        let start = self.read.min(self.output.len());
+        let rest = &self.output[start..];
+        let count = rest.len().min(buf.len()).min(self.most);
+        buf[..count].copy_from_slice(&rest[..count]);
+        self.read = start.saturating_add(count);
+        Ok(count)
     }
 }
 
@@ -114,15 +102,6 @@ impl<S: Server> Stream for Answered<S> {
     }
 }
 
-/// A session over a server, with frames of at most 8,192 bytes.
-pub fn session_over<S: Server>(
-    rt: &impl Abort,
-    alloc: Global,
-    server: S,
-) -> Session<Answered<S>, Global> {
-    Session::new(alloc, Answered::new(alloc, server), 8_192).expect(rt, "memory")
-}
-
 /// Takes the first of the frames that were written, if it is whole.
 pub fn take_frame(input: &mut Vec<u8, Global>) -> io::Result<Option<Vec<u8, Global>>> {
     let Frame::Whole(size) = frame_of(input.as_slice()) else {
@@ -134,19 +113,12 @@ pub fn take_frame(input: &mut Vec<u8, Global>) -> io::Result<Option<Vec<u8, Glob
 
 /// The frame of a reply of this type.
 pub fn reply_frame(alloc: Global, kind: u8, tag: u16, body: &[u8]) -> io::Result<Vec<u8, Global>> {
-    let mut frame = Vec::new(alloc);
-    add_reply(&mut frame, kind, tag, body)?;
-    Ok(frame)
-}
-
-// Adds the frame of a reply of this type.
-fn add_reply(frame: &mut Vec<u8, Global>, kind: u8, tag: u16, body: &[u8]) -> io::Result<()> {
     let size = len_of(body).saturating_add(7);
-    frame.extend_from_slice(&size.to_le_bytes())?;
+    let mut frame = Vec::from_slice(alloc, &size.to_le_bytes())?;
     frame.push(kind)?;
     frame.extend_from_slice(&tag.to_le_bytes())?;
     frame.extend_from_slice(body)?;
-    Ok(())
+    Ok(frame)
 }
 
 /// How many bytes these are, as a message says it.

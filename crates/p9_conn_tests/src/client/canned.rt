@@ -1,6 +1,7 @@
 //! A hostile server, which gives bytes from a list.
 
-use crate::client::answered::Server;
+use crate::client::answered::{Answered, Server};
+use p9_client::Session;
 use p9_testing::bytes_of;
 use std::alloc::Global;
 use std::io;
@@ -24,9 +25,16 @@ impl Server for Canned {
     }
 }
 
-/// A server of bytes in hexadecimal digits, without the last few of them.
-pub fn server_of(rt: &impl Abort, alloc: Global, digits: &str, missing: usize) -> Canned {
+/// A session over bytes in hexadecimal digits, without the last few of them, with frames of at most
+/// 8,192 bytes.
+pub fn session_of(
+    rt: &impl Abort,
+    alloc: Global,
+    digits: &str,
+    missing: usize,
+) -> Session<Answered<Canned>, Global> {
     let mut replies = bytes_of(alloc, digits).expect(rt, "bytes");
     replies.truncate(replies.len().saturating_sub(missing));
-    Canned { replies }
+    let stream = Answered::new(alloc, Canned { replies });
+    Session::new(alloc, stream, 8_192).expect(rt, "memory")
 }

@@ -1,7 +1,7 @@
 //! Replies of a hostile server, each of which is an error.
 
-use crate::client::answered::{Answered, Server, session_over};
-use crate::client::canned::server_of;
+use crate::client::answered::{Answered, Server};
+use crate::client::canned::session_of;
 use crate::client::kinds::answer_kind;
 use p9_client::{ClientError, Session};
 use p9_wire::Names;
@@ -107,32 +107,12 @@ const ROWS: [(Call, &str, &str); 29] = [
 
 // Asks over a reply without its last few bytes.
 fn check(rt: &impl Abort, alloc: Global, call: Call, reply: &str, missing: usize, wanted: &str) {
-    let server = server_of(rt, alloc, reply, missing);
-    assert!(rt; comes_to(rt, alloc, server, call, wanted), "{reply}");
-}
-
-// Whether a call over a server comes to what is wanted.
-fn comes_to<S: Server>(
-    rt: &impl Abort,
-    alloc: Global,
-    server: S,
-    call: Call,
-    wanted: &str,
-) -> bool {
-    let mut session = session_over(rt, alloc, server);
-    let is_as_wanted = is_told(&mut session, call, wanted);
-    drop(session);
-    is_as_wanted
-}
-
-// The same, over a session.
-fn is_told<S: Server>(
-    session: &mut Session<Answered<S>, Global>,
-    call: Call,
-    wanted: &str,
-) -> bool {
-    let came = answer_kind(&ask(session, call));
-    came == wanted && is_as_after(session, wanted)
+    let mut session = session_of(rt, alloc, reply, missing);
+    let came = answer_kind(&ask(&mut session, call));
+    assert!(rt;
+        came == wanted && is_as_after(&mut session, wanted),
+        "{reply}"
+    );
 }
 
 // Whether the session is as it should be after a call that came to this: after a value or a refusal it

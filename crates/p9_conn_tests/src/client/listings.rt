@@ -1,7 +1,7 @@
 //! Listings of a hostile server.
 
-use crate::client::answered::{Answered, Server, reply_frame, session_over};
-use crate::client::canned::server_of;
+use crate::client::answered::{Answered, Server, reply_frame};
+use crate::client::canned::session_of;
 use crate::client::kinds::{file_kind_of, outcome};
 use p9_client::Session;
 use p9_testing::bytes_of;
@@ -36,23 +36,13 @@ const ROWS: [(&str, &str, usize); 8] = [
 
 // Lists over the replies. The session has then failed, but where the listing is had.
 fn check(rt: &impl Abort, alloc: Global, replies: &str, wanted: &str, count: usize) {
-    let server = server_of(rt, alloc, replies, 0);
-    assert!(rt; comes_to(rt, alloc, server, wanted, count), "{replies}");
-}
-
-// Whether a listing over a server comes to what is wanted.
-fn comes_to<S: Server>(
-    rt: &impl Abort,
-    alloc: Global,
-    server: S,
-    wanted: &str,
-    count: usize,
-) -> bool {
-    let mut session = session_over(rt, alloc, server);
+    let mut session = session_of(rt, alloc, replies, 0);
     let (came, found) = list(alloc, &mut session);
-    let is_failed = session.is_failed();
-    drop(session);
-    came == wanted && found == count && is_failed == (wanted != "done")
+    let is_told = came == wanted && found == count;
+    assert!(rt;
+        is_told && session.is_failed() == (wanted != "done"),
+        "{replies}"
+    );
 }
 
 // Lists a directory. Returns what that comes to, and how many entries there are.
@@ -111,13 +101,8 @@ fn stats(rt: &impl Abort, alloc: Global) -> Vec<u8, Global> {
 #[test]
 fn entries_without_end_are_an_error(rt: HostRuntime) {
     let body = stats(&rt, rt.alloc());
-    are_endless(&rt, rt.alloc(), Endless { body, tag: 0 });
-}
-
-// The entries of a server are too many.
-fn are_endless<S: Server>(rt: &impl Abort, alloc: Global, server: S) {
-    let mut session = session_over(rt, alloc, server);
-    let came = outcome(&session.list_within(alloc, 0, 100_000));
+    let stream = Answered::new(rt.alloc(), Endless { body, tag: 0 });
+    let mut session = Session::new(rt.alloc(), stream, 8_192).expect(&rt, "memory");
+    let came = outcome(&session.list_within(rt.alloc(), 0, 100_000));
     assert!(rt; came == "endless" && session.is_failed());
-    drop(session);
 }

@@ -32,36 +32,18 @@ pub enum Fault {
     Silent,
 }
 
-/// A server of one file. What is generic over it is cheaper to prove than what names [`Pieces`].
-pub trait OneFile: Server {
-    /// The bytes of the file.
-    fn file(&self) -> &[u8];
-
-    /// The most requests that waited for an answer at once.
-    fn most_waiting(&self) -> usize;
-}
-
-/// The server that is [`OneFile`].
+/// A server of one file.
 #[derive(Drop)]
 pub struct Pieces {
-    file: Vec<u8, Global>,
+    pub file: Vec<u8, Global>,
     // The reply that is late.
     late: Vec<u8, Global>,
     fault: Fault,
     // The number of the request at which it does that.
     place: usize,
     requests: usize,
-    most_waiting: usize,
-}
-
-impl OneFile for Pieces {
-    fn file(&self) -> &[u8] {
-        self.file.as_slice()
-    }
-
-    fn most_waiting(&self) -> usize {
-        self.most_waiting
-    }
+    /// The most requests that waited for an answer at once.
+    pub most_waiting: usize,
 }
 
 impl Pieces {
@@ -88,21 +70,6 @@ impl Pieces {
             Fault::OtherTag | Fault::Again if self.place < request => Fault::Silent,
             _ => Fault::Nothing,
         }
-    }
-
-    // Answers the requests that wait. Returns how many these are.
-    fn answer_waiting(
-        &mut self,
-        input: &mut Vec<u8, Global>,
-        output: &mut Vec<u8, Global>,
-    ) -> io::Result<usize> {
-        for waiting in 0..100 {
-            let Some(frame) = take_frame(input)? else {
-                return Ok(waiting);
-            };
-            self.answer_one(frame.as_slice(), output)?;
-        }
-        Ok(100)
     }
 
     // Answers one request.
@@ -132,21 +99,16 @@ impl Pieces {
 
     // The reply with the bytes of the file from an offset on.
     fn read(&self, fault: Fault, tag: u16, offset: u64, count: u32) -> io::Result<Vec<u8, Global>> {
-        let body = self.body(fault, offset as usize, count as usize)?;
-        reply_frame(*self.file.allocator(), 117, tag, body.as_slice())
-    }
-
-    // The body of this reply: how many bytes there are, and the bytes.
-    fn body(&self, fault: Fault, offset: usize, count: usize) -> io::Result<Vec<u8, Global>> {
-        let rest = self.file.get(offset..).unwrap_or(&[]);
-        let data = moved(fault, &rest[..rest.len().min(count)]);
-        let len = match fault {
-            Fault::More => count.saturating_add(1),
-            _ => data.len(),
-        };
-        let mut body = Vec::new(*self.file.allocator());
-        add_data(&mut body, data, len)?;
-        Ok(body)
+        let alloc = *self.file.allocator();
+        let rest = self.file.get(offset as usize..).unwrap_or(&[]);
+        let rest = &rest[..rest.len().min(count as usize)];
+        let mut data = Vec::from_slice(alloc, moved(fault, rest))?;
+        if matches!(fault, Fault::More) {
+            data.resize((count as usize).saturating_add(1), 0)?;
+        }
+        let mut body = Vec::from_slice(alloc, &len_of(data.as_slice()).to_le_bytes())?;
+        body.extend_from_slice(data.as_slice())?;
+        reply_frame(alloc, 117, tag, body.as_slice())
     }
 
     // Writes bytes to the file from an offset on. The reply says how many these are.
@@ -202,21 +164,19 @@ impl Server for Pieces {
         input: &mut Vec<u8, Global>,
         output: &mut Vec<u8, Global>,
     ) -> io::Result<()> {
-        let waiting = self.answer_waiting(input, output)?;
+        let mut waiting = 0usize;
+        for _ in 0..100 {
+            let Some(frame) = take_frame(input)? else {
+                break;
+            };
+            self.answer_one(frame.as_slice(), output)?;
+            waiting = waiting.saturating_add(1);
+        }
         self.most_waiting = self.most_waiting.max(waiting);
         output.extend_from_slice(self.late.as_slice())?;
         self.late.clear();
         Ok(())
     }
-}
-
-// Adds a number of bytes and the data, filled up with zeros to as many.
-fn add_data(body: &mut Vec<u8, Global>, data: &[u8], len: usize) -> io::Result<()> {
-    let count = u32::try_from(len).unwrap_or(u32::MAX);
-    body.extend_from_slice(&count.to_le_bytes())?;
-    body.extend_from_slice(data)?;
-    body.resize(len.saturating_add(4), 0)?;
-    Ok(())
 }
 
 // The tag of the reply to a request of this tag.

@@ -47,23 +47,12 @@ pub fn contents<S: Server>(
     session: &mut Session<Answered<S>, Global>,
     path: &[&str],
 ) -> Result<Vec<u8>, FileError> {
-    let mut out = Vec::new(alloc);
-    read_path(rt, session, path, &mut out)?;
-    Ok(out)
-}
-
-// Reads the file of a path. The bytes are empty before.
-fn read_path<S: Server>(
-    rt: &impl Abort,
-    session: &mut Session<Answered<S>, Global>,
-    path: &[&str],
-    out: &mut Vec<u8>,
-) -> Result<(), FileError> {
     open_path(session, 1, path)?;
-    let count = session.read_to(1, out)?;
+    let mut out = Vec::new(alloc);
+    let count = session.read_to(1, &mut out)?;
     session.clunk(1)?;
     assert!(rt; count == out.len() as u64);
-    Ok(())
+    Ok(out)
 }
 
 /// The entries of the directory of a path.
