@@ -18,7 +18,7 @@ _p9_admin() {
                 -o|--output) compopt -o filenames 2>/dev/null; mapfile -t COMPREPLY < <(compgen -f -- "$word"); return ;;
                 --name) return ;;
             esac
-            mapfile -t COMPREPLY < <(compgen -W "--name -o --output --anyway -h --help" -- "$word") ;;
+            mapfile -t COMPREPLY < <(compgen -W "--name -o --output --anyway --fixed -h --help" -- "$word") ;;
         explain)
             case "$previous" in
                 --name) return ;;

@@ -21,6 +21,7 @@ complete -c p9_admin -n __fish_use_subcommand -a seal -d 'Prints the input with 
 complete -c p9_admin -n '__fish_seen_subcommand_from seal' -l name -x -d 'The input\'s name in what is printed [default: input]'
 complete -c p9_admin -n '__fish_seen_subcommand_from seal' -s o -l output -r -F -d 'The file of the output, which is replaced once all of it is written'
 complete -c p9_admin -n '__fish_seen_subcommand_from seal' -l anyway -d 'Seals also where nothing is hidden, no user is listed, or an operation failed'
+complete -c p9_admin -n '__fish_seen_subcommand_from seal' -l fixed -d 'Seals only where no listed user can change anything that he reaches'
 complete -c p9_admin -n '__fish_seen_subcommand_from seal' -s h -l help -d 'Print help'
 complete -c p9_admin -n __fish_use_subcommand -a explain -d 'Says in words whether what is hidden is out of reach, and why not'
 complete -c p9_admin -n '__fish_seen_subcommand_from explain' -l name -x -d 'The input\'s name in what is printed [default: input]'

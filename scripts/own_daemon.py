@@ -11,11 +11,12 @@ import sys
 import time
 from pathlib import Path
 
+from own_messages import NOFID, frame, text
+
 RESULTS = {"passed": 0, "failed": 0}
 USERS = ("anna", "bob", "carol")
 UNKNOWN = b"unknown user"
 TVERSION, RVERSION, TATTACH, RATTACH, RERROR = 100, 101, 104, 105, 107
-NOFID = 0xFFFFFFFF
 
 
 def program(name: str, variable: str) -> str:
@@ -37,14 +38,6 @@ def tell(what: str, holds: bool, got: object = "") -> None:
 
 
 # Messages.
-
-
-def text(data: bytes) -> bytes:
-    return struct.pack("<H", len(data)) + data
-
-
-def frame(kind: int, tag: int, body: bytes = b"") -> bytes:
-    return struct.pack("<IBH", 7 + len(body), kind, tag) + body
 
 
 def version(msize: int = 8192) -> bytes:
@@ -124,15 +117,15 @@ class Server:
         return status
 
 
-def make_export(folder: str, more: str = "") -> None:
-    """A sealed export of three users, with a hidden directory, and more lines of its world."""
+def make_export(folder: str, more: str = "", *words: str) -> None:
+    """A sealed export of three users, with a hidden directory, and more lines of its world; words are further ones for the sealing."""
     world = ["%% world", "server main", "dir / 755 sys sys", "dir /vault 700 root root", "file /vault/key 600 root root 01"]
     world += more.splitlines()
     world += [f"user {user}" for user in USERS] + ["hide main /vault"]
     with open(os.path.join(folder, "world"), "w", encoding="utf-8") as file:
         file.write("\n".join(world) + "\n")
     with open(os.path.join(folder, "world"), "rb") as file:
-        subprocess.run([P9_ADMIN, "seal", "-o", "export"], cwd=folder, stdin=file, check=True)
+        subprocess.run([P9_ADMIN, "seal", *words, "-o", "export"], cwd=folder, stdin=file, check=True)
 
 
 def run(folder: str, *words: str) -> tuple[int, str, str]:

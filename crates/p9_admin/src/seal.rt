@@ -4,9 +4,9 @@ use crate::sink::write_text;
 use crate::streams::read_input;
 use clap::ArgMatches;
 use p9_base::NoMemory;
-use p9_explain::explain;
+use p9_explain::{explain, explain_change};
 use p9_index::IndexTree;
-use p9_seal::{SealError, seal};
+use p9_seal::{SealError, Wishes, seal};
 use p9_shell::status::DONE;
 use p9_shell::{Failure, tell};
 use std::alloc::Global;
@@ -15,8 +15,11 @@ use std::alloc::Global;
 /// the file of the option `--output`, or reports why not. Returns the exit status.
 pub(crate) fn run_seal(rt: &HostRuntime, options: &ArgMatches<'_>) -> Result<u8, Failure> {
     let input = read_input(rt)?;
-    let anyway = options.get_flag("anyway");
-    match seal::<IndexTree<Global>>(rt.alloc(), input.as_slice(), anyway) {
+    let wishes = Wishes {
+        anyway: options.get_flag("anyway"),
+        fixed: options.get_flag("fixed"),
+    };
+    match seal::<IndexTree<Global>>(rt.alloc(), input.as_slice(), wishes) {
         Ok(text) => {
             write_text(rt, options.get_str("output"), text.as_bytes())?;
             Ok(DONE)
@@ -30,7 +33,7 @@ pub(crate) fn run_seal(rt: &HostRuntime, options: &ArgMatches<'_>) -> Result<u8,
     }
 }
 
-// Why nothing is sealed. The way to what is hidden is explained.
+// Why nothing is sealed. The way to what is hidden is explained, and what can be changed.
 fn why_not(
     alloc: Global,
     name: &str,
@@ -39,8 +42,14 @@ fn why_not(
 ) -> Result<Vec<u8>, NoMemory> {
     let text = error.text(alloc)?;
     let mut why = format!(in alloc; "{text}\n")?.into_bytes();
-    if let SealError::No(_) = error {
-        let _ = explain::<IndexTree<Global>>(name, input, &mut why)?;
+    match error {
+        SealError::No(_) => {
+            let _ = explain::<IndexTree<Global>>(name, input, &mut why)?;
+        }
+        SealError::Changeable(change) => {
+            explain_change::<IndexTree<Global>>(name, input, change, &mut why)?;
+        }
+        _ => {}
     }
     Ok(why)
 }

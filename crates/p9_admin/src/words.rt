@@ -137,6 +137,13 @@ const COMMANDS: [CommandShape; 8] = [
                 help: "Seals also where nothing is hidden, no user is listed, or an operation failed",
                 is_needed: false,
             },
+            ArgShape {
+                name: "fixed",
+                given: Given::Name,
+                value: Value::None,
+                help: "Seals only where no listed user can change anything that he reaches",
+                is_needed: false,
+            },
         ],
     },
     CommandShape {

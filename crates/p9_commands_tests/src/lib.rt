@@ -2,6 +2,8 @@
 //! prepared for other programs, calls that the commands don't make, a command of a name that no row
 //! can write, and frames that are too large for the data of a row. And of p9_asked and the libraries
 //! of p9_admin.
+//!
+//! `cert` has the tests of p9_world, p9_cert and p9_judge.
 #![tactic(auto)]
 
 #[cfg(test)]
@@ -10,6 +12,8 @@ mod admin;
 mod asked;
 #[cfg(test)]
 mod calls;
+#[cfg(test)]
+mod cert;
 #[cfg(test)]
 mod large;
 #[cfg(test)]

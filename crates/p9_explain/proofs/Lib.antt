@@ -3,3 +3,4 @@ pub mod Numbers
 pub mod Verdicts
 pub mod Refusals
 pub mod Walkers
+pub mod Changes

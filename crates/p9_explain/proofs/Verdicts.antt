@@ -12,6 +12,8 @@ use Rattle.p9_judge.specs.declared.breach.Breach.{Breach}
 use Rattle.p9_space.specs.Given.{is_table_given}
 use Rattle.p9_commands.specs.Judgement.{no_text, yes_text}
 use Rattle.p9_commands.specs.Prepared.{Prepared, gap_in}
+use Rattle.p9_commands.specs.NameSpace.{NameSpace}
+use Rattle.p9_explain.specs.Change.{IsReachTold}
 use Rattle.p9_explain.specs.Explained.{IsVerdictTold, yes_status}
 use Rattle.p9_explain.specs.Told.{IsBreachTold}
 
@@ -19,9 +21,9 @@ module _ {A : Type 0} (prepared : Prepared) where
   pub yes-told : (verdict : Verdict A) (rows : List NodeRef) (claim words text : List ℕ)
       → verdict ≡ Yes rows → IsTrue (is_table_given prepared.space.world.forest prepared.space.table) →
       IsVerdict (policy_of prepared.space.world) prepared.space.world.forest prepared.space.table verdict
-      → text ≡ claim ++ (codes "yes: " ++ words)
+      → IsReachTold prepared.space rows words → text ≡ claim ++ (codes "yes: " ++ words)
       → IsVerdictTold prepared (yes_status (gap_in prepared)) text
-  yes-told verdict rows claim words text is_yes given judged written =
+  yes-told verdict rows claim words text is_yes given judged told written =
       let is : IsLeast (policy_of prepared.space.world) prepared.space.world.forest prepared.space.table rows =
       subst (λ (v : Verdict A). IsVerdict (policy_of prepared.space.world) prepared.space.world.forest prepared.space.table v)
       is_yes judged in
@@ -30,7 +32,8 @@ module _ {A : Type 0} (prepared : Prepared) where
         printed = yes_text rows;
         said = record { rows = rows; printed = (refl, refl); closed = is.closed given; least = is };
         claim = claim;
-        rest = words;
+        words = words;
+        told = told;
         is = written ∙ sym (append_assoc claim (codes "yes: ") words);
       })
 
@@ -66,6 +69,17 @@ module _ {A : Type 0} (prepared : Prepared) where
             ∙ sym (append-nil ((claim ++ codes "no: ") ++ words));
       })
 
+-- more may follow what is told of a yes
+reach-more : (space : NameSpace) (rows : List NodeRef) (words more : List ℕ)
+    → IsReachTold space rows words → IsReachTold space rows (words ++ more)
+reach-more space rows words more told = record {
+  reach = told.reach;
+  kind = told.kind;
+  rest = told.rest ++ more;
+  told = told.told;
+  is = ap (λ t. t ++ more) told.is ∙ append_assoc (told.reach ++ told.kind) told.rest more;
+}
+
 module _ (prepared : Prepared) where
   -- more may follow a verdict
   pub told-more : (status : ℕ) (text more : List ℕ) → IsVerdictTold prepared status text
@@ -77,10 +91,11 @@ module _ (prepared : Prepared) where
           printed = said.printed;
           said = said.said;
           claim = said.claim;
-          rest = said.rest ++ more;
+          words = said.words ++ more;
+          told = reach-more prepared.space said.said.rows said.words more said.told;
           is =
               ap (λ t. t ++ more) said.is
-              ∙ append_assoc (said.claim ++ codes "yes: ") said.rest more;
+              ∙ append_assoc (said.claim ++ codes "yes: ") said.words more;
         })
         | inr said ↦ inr (record {
           status_is = said.status_is;

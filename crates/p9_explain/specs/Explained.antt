@@ -7,6 +7,7 @@ use Rattle.p9_commands.specs.declared.refusal.Refusal.{Refusal}
 use Rattle.p9_commands.specs.Judgement.{SaysNo, SaysYes}
 use Rattle.p9_cert.specs.declared.gap.Gap.{Gap}
 use Rattle.p9_commands.specs.Prepared.{Prepared, Rejected, gap_in}
+use Rattle.p9_explain.specs.Change.{IsReachTold}
 use Rattle.p9_explain.specs.Told.{IsBreachTold}
 
 -- the exit status of a yes, where the input's own certificate has this gap
@@ -14,14 +15,16 @@ abbrev pub yes_status : Option Gap → ℕ
 yes_status None = 0
 yes_status (Some gap) = 1
 
--- yes: `check` prints some text for it that says so
+-- yes: `check` prints some text for it that says so; it is told how much clients reach, and whether
+-- they can change it
 pub record IsYesTold (prepared : Prepared) (status : ℕ) (text : List ℕ) : Type 0 where
   pub status_is : status ≡ yes_status (gap_in prepared)
   pub printed : List ℕ
   pub said : SaysYes prepared.space [] printed 0
   pub claim : List ℕ
-  pub rest : List ℕ
-  pub is : text ≡ claim ++ codes "yes: " ++ rest
+  pub words : List ℕ
+  pub told : IsReachTold prepared.space said.rows words
+  pub is : text ≡ claim ++ codes "yes: " ++ words
 
 -- no: `check` prints some text for it that says so, and its breach is the one that is told
 pub record IsNoTold (prepared : Prepared) (status : ℕ) (text : List ℕ) : Type 0 where

@@ -1,4 +1,5 @@
 pub mod Walker
 pub mod Told
+pub mod Change
 pub mod Explained
 pub mod NodeLines

@@ -110,6 +110,10 @@ fn push_head<T: Tree>(
     }
 }
 
+/// How the directory is mended from which some listed user may remove something.
+pub(crate) const MEND_DIRECTORY: &str = "give the directory that it is in to an owner and a group \
+    leader who is not listed, and no write bit to others or to groups with listed members";
+
 // How a breach is mended.
 fn mend<T: Tree>(world: &World<T>, breach: &Breach<T::Alloc>) -> &'static str {
     match breach.kind {
@@ -123,10 +127,7 @@ fn mend<T: Tree>(world: &World<T>, breach: &Breach<T::Alloc>) -> &'static str {
              and no bits to groups with listed members"
         }
         BreachKind::Owned => "give it to an owner and a group leader who is not listed",
-        BreachKind::Removable => {
-            "give the directory that it is in to an owner and a group leader who is not listed, \
-             and no write bit to others or to groups with listed members"
-        }
+        BreachKind::Removable => MEND_DIRECTORY,
     }
 }
 

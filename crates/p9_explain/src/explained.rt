@@ -4,11 +4,13 @@ ghost use Rattle.std.specs.Prelude.{◌≡◌, ◌++◌, ℕ, IfOk, List, OnErr}
 ghost use Rattle.std.specs.String.{string_bytes};
 ghost use Rattle.p9_commands.specs.Prepared.{prepared_of};
 ghost use Rattle.p9_commands.specs.declared.prepared.Needs.TheVariants.{Nothing};
+ghost use Rattle.p9_explain.specs.Change.{IsKindTold, IsReachTold};
 ghost use Rattle.p9_explain.specs.Explained.{IsExplained, IsRefusal, IsRefusalTold};
 ghost use Rattle.p9_explain.specs.Explained.{IsVerdictTold, yes_status};
 
 use crate::breach::breach_words;
 use crate::certificate::push_certificate;
+use crate::change::change_words;
 use crate::claim::push_claim;
 use crate::faults::push_faults;
 use crate::hints::{push_hints, push_unneeded_rows};
@@ -19,7 +21,8 @@ use crate::teller::Teller;
 use p9_base::{NoMemory, NodeRef};
 use p9_cert::{Certificate, Gap};
 use p9_commands::status::{DONE, REFUSED};
-use p9_commands::{Needs, Prepared, Refusal, Stop, prepare};
+use p9_commands::{NameSpace, Needs, Prepared, Refusal, Stop, prepare};
+use p9_fixed::first_change;
 use p9_judge::{Verdict, judge};
 use p9_tree::Tree;
 use std::alloc::Allocator;
@@ -31,8 +34,10 @@ use std::alloc::Allocator;
 /// First is what is claimed: which listed users neither see nor change what is inside which hidden
 /// directories. Then:
 ///
-/// - `yes`, with the number of directories that clients can reach. The status is 0 where the input has
-///   no certificate, or one that is accepted, and 1 where its certificate has a gap.
+/// - `yes`, with the number of directories that clients can reach. The line after it says that the name
+///   space is `fixed`, where no listed user can change anything that listed users come to, and else
+///   that it is `changeable`, with what one of them can change. The status is 0 where the input has no
+///   certificate, or one that is accepted, and 1 where its certificate has a gap.
 /// - `no`, with a walk to what is hidden, line by line, and how to mend it; and for each further hidden
 ///   directory that is within reach the same, after `also`. The status is 1.
 ///
@@ -168,7 +173,7 @@ fn verdict_told<T: Tree>(
     let space = &prepared.space;
     match judge(alloc, &space.world, &space.table)? {
         Verdict::Yes(least) => {
-            let words = yes_words(alloc, source, prepared.certificate.as_ref(), &least);
+            let words = yes_words(alloc, source, prepared, &least);
             drop(least);
             let words = words?;
             Ok(Told {
@@ -201,26 +206,55 @@ fn yes_status(gap: Option<Gap>) -> u8
     }
 }
 
-// What follows a yes.
-fn yes_words<A: Allocator + Copy>(
-    alloc: A,
-    source: &Source<'_, A>,
-    certificate: Option<&Certificate<A>>,
-    least: &Certificate<A>,
-) -> Result<String<A>, NoMemory> {
-    let count = least.rows().len();
+// What follows a yes: how many directories clients can reach, what they can change, and hints.
+fn yes_words<T: Tree>(
+    alloc: T::Alloc,
+    source: &Source<'_, T::Alloc>,
+    prepared: &Prepared<T>,
+    least: &Certificate<T::Alloc>,
+) -> Result<String<T::Alloc>, NoMemory>
+    ensures { IfOk result (λ text.
+        IsReachTold prepared.now.space least.now (string_bytes text)) }
+{
+    let reach = reach_words(alloc, least.rows().len())?;
+    let kind = kind_words(alloc, source, &prepared.space, least)?;
+    let mut hints = String::new(alloc);
+    if let Some(certificate) = &prepared.certificate {
+        push_unneeded_rows(&mut hints, source, certificate, least)?;
+    }
+    Ok(format!(in alloc; "{reach}{kind}{hints}")?)
+}
+
+// How many directories clients can reach.
+fn reach_words<A: Allocator + Copy>(alloc: A, count: usize) -> Result<String<A>, NoMemory> {
     let directories = if count == 1 {
         "directory"
     } else {
         "directories"
     };
-    let mut text = format!(in alloc;
-        "clients can reach {count} {directories}, and nothing hidden\n"
-    )?;
-    if let Some(certificate) = certificate {
-        push_unneeded_rows(&mut text, source, certificate, least)?;
+    Ok(format!(in alloc; "clients can reach {count} {directories}, and nothing hidden\n")?)
+}
+
+// Whether a name space is fixed, by its least certificate, or what can be changed first.
+fn kind_words<T: Tree>(
+    alloc: T::Alloc,
+    source: &Source<'_, T::Alloc>,
+    space: &NameSpace<T>,
+    least: &Certificate<T::Alloc>,
+) -> Result<String<T::Alloc>, NoMemory>
+    ensures { IfOk result (λ text. IsKindTold space.now least.now (string_bytes text)) }
+{
+    let world = &space.world;
+    match first_change(alloc, world, &space.table, least)? {
+        None => Ok(String::from_str(
+            alloc,
+            "fixed: no listed user can change anything that he reaches\n",
+        )?),
+        Some(change) => {
+            let words = change_words(alloc, source, world, &change)?;
+            Ok(format!(in alloc; "changeable: {words}")?)
+        }
     }
-    Ok(text)
 }
 
 // What follows the verdict: what is said of the input's certificate, and hints.

@@ -6,6 +6,7 @@ mod above;
 mod bound;
 mod breach;
 mod certificate;
+mod change;
 mod claim;
 mod column;
 mod draft;
@@ -24,4 +25,5 @@ mod strangers;
 mod teller;
 mod walker;
 
+pub use change::explain_change;
 pub use explained::explain;

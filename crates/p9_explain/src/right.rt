@@ -50,6 +50,23 @@ impl Class {
     }
 }
 
+/// What a user changes of a node: what is in it, or its mode, so that he may come to write it.
+#[derive(Clone, Copy)]
+pub(crate) enum Alteration {
+    Content,
+    Mode,
+}
+
+impl Alteration {
+    /// What a class of users may do, after its words.
+    pub fn deed(self) -> &'static str {
+        match self {
+            Alteration::Content => " may write",
+            Alteration::Mode => " may change its mode",
+        }
+    }
+}
+
 /// As what the user has one of these rights of the node, by its bits.
 pub(crate) fn class_of<T: Tree>(
     world: &World<T>,
@@ -100,6 +117,18 @@ pub(crate) fn passing_class<T: Tree>(
     match class_of(world, user, node, TO_EXECUTE) {
         Some(class) => Some((class, " may search")),
         None => Some((ruling_class(world, user, node)?, " may change its mode")),
+    }
+}
+
+/// As what a user writes a node or rules it, and what that is.
+pub(crate) fn altering_class<T: Tree>(
+    world: &World<T>,
+    user: &User,
+    node: &Node<T::Alloc>,
+) -> Option<(Class, Alteration)> {
+    match class_of(world, user, node, TO_WRITE) {
+        Some(class) => Some((class, Alteration::Content)),
+        None => Some((ruling_class(world, user, node)?, Alteration::Mode)),
     }
 }
 

@@ -19,8 +19,9 @@ use Rattle.p9_step.proofs.Answering.{every-frame-is-answered, length-spelling}
 use Rattle.p9_step.proofs.Sounds.{session-served}
 use Rattle.p9_requests.specs.declared.reply.Reply.{Reply}
 use Rattle.p9_requests.specs.declared.reply.Reply.TheVariants.{Message, Data, StatOf}
-use Rattle.p9_requests.specs.Answers.{AnswersAmong, frame_among, message_of, replied, reply_view}
-use Rattle.p9_requests.specs.Answers.{stat_reply}
+use Rattle.p9_walks.specs.Answers.{replied}
+use Rattle.p9_requests.specs.Answers.{AnswersAmong, frame_among, message_of, reply_view}
+use Rattle.p9_walks.specs.Answers.{stat_reply}
 use Rattle.p9_requests.specs.Room.{IsDataWithin, IsRoom}
 use Rattle.p9_requests.proofs.Rooms.{data-room}
 use Rattle.p9_export.proofs.Steps.{among-makes}

@@ -12,8 +12,8 @@ use Rattle.p9_tree.specs.Server.{Server}
 use Rattle.p9_step.specs.Sound.{IsServed}
 use Rattle.p9_step.specs.State.{Setting, session_at}
 use Rattle.p9_step.proofs.Sounds.{served-opened}
-use Rattle.p9_requests.specs.Held.{HeldSession, SessionFits, SessionsFit, fresh_held}
-use Rattle.p9_requests.specs.Held.{session_in, sessions_in}
+use Rattle.p9_walks.specs.Held.{HeldSession, SessionFits, SessionsFit, fresh_held}
+use Rattle.p9_walks.specs.Held.{session_in, sessions_in}
 use Rattle.p9_export.specs.Kept.{IsKept}
 
 -- whether a session of a name is there

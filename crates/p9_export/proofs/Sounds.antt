@@ -20,7 +20,8 @@ use Rattle.p9_step.proofs.Done.{done-is}
 use Rattle.p9_step.proofs.Kept.{Kept}
 use Rattle.p9_step.proofs.Settled.{fits-of}
 use Rattle.p9_step.proofs.Sounds.{kept-frame, ready-served, served-outcome, session-served}
-use Rattle.p9_requests.specs.Answers.{AnswersAmong, changes_of, frame_among, session_of}
+use Rattle.p9_walks.specs.Answers.{changes_of}
+use Rattle.p9_requests.specs.Answers.{AnswersAmong, frame_among, session_of}
 
 -- after a frame
 pub served-answered : (setting : Setting) (forest forest' : List Server)

@@ -15,7 +15,8 @@ use Rattle.p9_wire.specs.Reply.{r_spelling}
 use Rattle.p9_step.specs.State.{Session, SessionRow, State, changed_session, session_at}
 use Rattle.p9_step.specs.ForestChange.{ForestChange, all_applied}
 use Rattle.p9_step.specs.Answer.{Answer, is_error}
-use Rattle.p9_requests.specs.Answers.{AnswersAmong, changes_of, frame_among, message_of}
+use Rattle.p9_walks.specs.Answers.{changes_of}
+use Rattle.p9_requests.specs.Answers.{AnswersAmong, frame_among, message_of}
 use Rattle.p9_requests.specs.Answers.{session_of}
 use Rattle.p9_step.specs.Step.{answered, frame_answer}
 use Rattle.p9_step.specs.Memory.{is_no_memory_reply, may_run_out, no_memory_reply, frame_may_fail}

@@ -48,7 +48,7 @@ pub struct Export<T: Tree> {
 
 impl<T: Tree> Model for Export<T> {
     ghost use Rattle.p9_step.specs.State.{State};
-    ghost use Rattle.p9_requests.specs.Held.{sessions_in};
+    ghost use Rattle.p9_walks.specs.Held.{sessions_in};
     ghost use Rattle.p9_export.specs.Kept.{IsKept};
 
     ghost Value = { State };

@@ -3,15 +3,9 @@
 
 use crate::again::{Play, play_again, ready};
 use crate::exchange::room;
-use crate::fids::has_1024_fids;
-use crate::large::{fills_a_gap, makes_several, reads_back};
-use crate::many::lists_all;
-use crate::modes::{Opening, opens};
-use crate::renamed::renames_all;
 use crate::sessions::opens_and_closes;
 use crate::space::{Given, SMALL, Space, Way, make_given, plays_over, run, space_of, walk_again};
-use crate::unions::{lists_places, reads_at_each_count};
-use crate::worlds::{Bind, exporter};
+use crate::worlds::exporter;
 use p9_export::Export;
 use p9_index::IndexTree;
 use p9_testing::Refusing;
@@ -19,37 +13,10 @@ use p9_tree::{PlainTree, Tree};
 use std::alloc::Global;
 use std::process::Abort;
 
-/// What is done with an exporter that has no session yet.
-#[derive(Clone, Copy)]
-pub enum Work {
-    Sessions,
-    Fids,
-    Opening(Opening),
-    GreatestWrite,
-    GreatestFiles,
-    Gap,
-    ManyFiles,
-    NewNames,
-    Unions,
-    UnionCounts,
-}
-
-/// Does the work over each kind of tree, with an exporter of the world of a text and its binds.
-pub fn on_both(rt: &impl Abort, alloc: Global, text: &str, binds: &[Bind], work: Work) {
+/// Opens sessions and closes them, with an exporter of the world of a text, over each kind of tree.
+pub fn sessions_on_both(rt: &impl Abort, alloc: Global, text: &str) {
     let mut room = room(rt, alloc);
-    on_both_in(rt, alloc, text, binds, work, room.as_mut_slice());
-}
-
-/// The same, where the replies are written over this room.
-pub fn on_both_in(
-    rt: &impl Abort,
-    alloc: Global,
-    text: &str,
-    binds: &[Bind],
-    work: Work,
-    reply: &mut [u8],
-) {
-    over_both(rt, alloc, text, Job::Export(binds, work), reply);
+    over_both(rt, alloc, text, Job::Sessions, room.as_mut_slice());
 }
 
 /// Over the world of a text, in a tree of each kind, makes the call of each line, and compares what
@@ -61,8 +28,8 @@ pub fn plays(rt: &impl Abort, alloc: Global, text: &str, lines: &str) {
 // What is done over the world of a text.
 #[derive(Clone, Copy)]
 enum Job<'a> {
-    // The work with an exporter that has these binds.
-    Export(&'a [Bind], Work),
+    // Sessions are opened and closed.
+    Sessions,
     // The calls of these lines.
     Calls(&'a str),
 }
@@ -83,34 +50,12 @@ fn over<T: Tree>(
     reply: &mut [u8],
 ) {
     match job {
-        Job::Export(binds, work) => {
-            let mut export = exporter::<T>(rt, lent, text, binds);
-            on(rt, alloc, &mut export, work, reply);
+        Job::Sessions => {
+            let mut export = exporter::<T>(rt, lent, text, &[]);
+            opens_and_closes(rt, alloc, &mut export, reply);
             drop(export);
         }
         Job::Calls(lines) => plays_over::<T>(rt, alloc, lent, text, lines),
-    }
-}
-
-// Does the work with an exporter.
-fn on<T: Tree>(
-    rt: &impl Abort,
-    alloc: Global,
-    export: &mut Export<T>,
-    work: Work,
-    reply: &mut [u8],
-) {
-    match work {
-        Work::Sessions => opens_and_closes(rt, alloc, export, reply),
-        Work::Fids => has_1024_fids(rt, alloc, export, reply),
-        Work::Opening(opening) => opens(rt, alloc, export, opening, reply),
-        Work::GreatestWrite => reads_back(rt, alloc, export, reply),
-        Work::GreatestFiles => makes_several(rt, alloc, export, reply),
-        Work::Gap => fills_a_gap(rt, alloc, export, reply),
-        Work::ManyFiles => lists_all(rt, alloc, export, reply),
-        Work::NewNames => renames_all(rt, alloc, export, reply),
-        Work::Unions => lists_places(rt, alloc, export, reply),
-        Work::UnionCounts => reads_at_each_count(rt, alloc, export, reply),
     }
 }
 

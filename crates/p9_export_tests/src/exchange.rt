@@ -54,18 +54,6 @@ pub fn send<'a, T: Tree>(
     room.get(..size).expect(rt, "a reply")
 }
 
-/// Sends a frame at the time 0, whose reply has so many bytes.
-pub fn has_reply_of<T: Tree>(
-    rt: &impl Abort,
-    export: &mut Export<T>,
-    session: u32,
-    frame: &[u8],
-    room: &mut [u8],
-    size: usize,
-) {
-    assert!(rt; send(rt, export, session, 0, frame, room).len() == size);
-}
-
 /// Sends a request, and compares the reply.
 pub fn exchange<T: Tree>(
     rt: &impl Abort,
@@ -98,20 +86,4 @@ pub fn exchange_all<T: Tree>(
 pub fn is_reply(rt: &impl Abort, alloc: Global, reply: &[u8], wanted: &str) {
     let wanted = bytes_of(alloc, wanted).expect(rt, "hexadecimal digits");
     are_bytes(rt, reply, wanted.as_slice());
-}
-
-/// Reads a fid of session 1, and returns the reply.
-pub fn read_at<'a, T: Tree>(
-    rt: &impl Abort,
-    export: &mut Export<T>,
-    fid: u8,
-    offset: u32,
-    count: u32,
-    room: &'a mut [u8],
-) -> &'a [u8] {
-    let mut frame = [0u8; 23];
-    frame[..8].copy_from_slice(&[23, 0, 0, 0, 116, 1, 0, fid]);
-    frame[11..15].copy_from_slice(&offset.to_le_bytes());
-    frame[19..].copy_from_slice(&count.to_le_bytes());
-    send(rt, export, 1, 0, &frame, room)
 }

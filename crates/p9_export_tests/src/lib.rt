@@ -1,5 +1,5 @@
-//! Tests of the exporter that no row of `p9_rows` has: allocations that fail, so many files, fids,
-//! modes or bytes that a loop says it better, and calls that the program's command doesn't make.
+//! Tests of the exporter that no row of `p9_rows` has: allocations that fail, and calls that the
+//! program's command doesn't make.
 //! Each test runs over both kinds of tree, and requires the same bytes of both.
 //!
 //! `space` has the tests of p9_space, p9_fids, p9_nsline and p9_nsfile.
@@ -12,11 +12,7 @@ mod both;
 #[cfg(test)]
 mod checks;
 #[cfg(test)]
-mod directory;
-#[cfg(test)]
 mod exchange;
-#[cfg(test)]
-mod fids;
 #[cfg(test)]
 mod growth;
 #[cfg(test)]
@@ -24,20 +20,12 @@ mod large;
 #[cfg(test)]
 mod lent;
 #[cfg(test)]
-mod many;
-#[cfg(test)]
-mod modes;
-#[cfg(test)]
 mod refused;
 #[cfg(test)]
 mod refused_scripts;
 #[cfg(test)]
-mod renamed;
-#[cfg(test)]
 mod sessions;
 #[cfg(test)]
 mod space;
-#[cfg(test)]
-mod unions;
 #[cfg(test)]
 mod worlds;

@@ -1,6 +1,6 @@
 //! Calls that open and close sessions.
 
-use crate::both::{Work, on_both};
+use crate::both::sessions_on_both;
 use crate::checks::is_text;
 use crate::exchange::{exchange, in_session};
 use crate::worlds::{ATTACH, VERSION, close};
@@ -33,8 +33,7 @@ pub fn opens_and_closes<T: Tree>(
 
 #[test]
 fn a_session_is_opened_once_and_closed(rt: HostRuntime) {
-    let text = "server main\nuser glenda\n";
-    on_both(&rt, rt.alloc(), text, &[], Work::Sessions);
+    sessions_on_both(&rt, rt.alloc(), "server main\nuser glenda\n");
 }
 
 #[test]

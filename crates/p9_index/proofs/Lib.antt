@@ -1,4 +1,5 @@
 pub mod Orders
+pub mod Shorts
 pub mod Ranges
 pub mod TakenBack
 pub mod Finds

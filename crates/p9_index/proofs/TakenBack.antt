@@ -1,29 +1,15 @@
 -- Entries that go in and are taken out again.
-use Rattle.std.proofs.Common.{◌≡◌, ℕ, true, false, List, Option, Some, None, refl, sym, ap, ◌∙◌}
-use Rattle.std.specs.BTreeMap.{BTreeMap, Updates, UpdatesBy, get, is_at}
-use Rattle.std.specs.declared.cmp.Ordering.{Ordering}
-use Rattle.std.proofs.lemmas.Map.Lookups.{CmpEqualImpliesEq}
+use Rattle.std.proofs.Common.{◌≡◌, ℕ, true, false, List, Option, None, refl, sym, ap, ◌∙◌}
+use Rattle.std.specs.BTreeMap.{is_at}
 use Rattle.p9_index.specs.declared.entries.Child.{Child}
 use Rattle.p9_index.specs.declared.entries.Entries.{Entries}
-use Rattle.p9_index.specs.Entries.{HasSame, Lists, ListsSame, Names, child_cmp, entry_cmp, is_listed}
-use Rattle.p9_index.specs.Entries.{number_at}
+use Rattle.p9_index.specs.declared.names.Numbers.{Numbers}
+use Rattle.p9_index.specs.Entries.{HasSame, HasSameNumbers, Lists, ListsSame, Renumbers, child_cmp}
+use Rattle.p9_index.specs.Entries.{entry_cmp, is_listed, number_at, number_of}
 use Rattle.p9_index.specs.Tree.{IsIndex}
 use Rattle.p9_index.proofs.Orders.{equal_by_test, exact_children, exact_entries}
 use Rattle.p9_tree.specs.declared.node.Entry.{Entry}
 use Rattle.p9_tree.specs.Node.{Node}
-
--- a map's entry of a key that it did not have
-module _ {K : Type 0} (R : K → K → Ordering) (exact : CmpEqualImpliesEq R) where
-  pub taken_back : {X : Type 0} (old mid new : BTreeMap K X) (k : K) (v : X)
-      → Updates R old mid k (Some v) → UpdatesBy R (R k) mid new None → get R old k ≡ None → (q : K)
-      → get R new q ≡ get R old q
-  taken_back old mid new k v put taken absent q =
-      elim (is_at (R k) q) as (λ b. is_at (R k) q ≡ b → get R new q ≡ get R old q) [
-        | true ↦ λ at.
-            let same : k ≡ q = equal_by_test R exact k q at in
-            taken.0 q ∙ rw at (sym (ap (get R old) (sym same) ∙ absent))
-        | false ↦ λ other. taken.0 q ∙ rw other (put.0 q ∙ rw other refl)
-      ] refl
 
 module _ {Z : Type 0} (s t u : Entries Z) where
   -- a child that was not listed
@@ -38,15 +24,16 @@ module _ {Z : Type 0} (s t u : Entries Z) where
         | false ↦ λ other. taken q ∙ rw other (put q ∙ rw other refl)
       ] refl
 
+module _ {Z : Type 0} (s t u : Numbers Z) where
   -- an entry that had no number
-  pub named_back : (e : Entry) (number : Option ℕ) → Names number e s t → Names None e t u
-      → number_at s e ≡ None → (q : Entry) → number_at u q ≡ number_at s q
+  pub named_back : (e : Entry) (number : Option ℕ) → Renumbers number e s t → Renumbers None e t u
+      → number_of s e ≡ None → HasSameNumbers s u
   named_back e number put taken absent q =
       elim (is_at (entry_cmp e) q) as
-      (λ b. is_at (entry_cmp e) q ≡ b → number_at u q ≡ number_at s q) [
+      (λ b. is_at (entry_cmp e) q ≡ b → number_of u q ≡ number_of s q) [
         | true ↦ λ at.
             let same : e ≡ q = equal_by_test entry_cmp exact_entries e q at in
-            taken q ∙ rw at (sym (ap (number_at s) (sym same) ∙ absent))
+            taken q ∙ rw at (sym (ap (number_of s) (sym same) ∙ absent))
         | false ↦ λ other. taken q ∙ rw other (put q ∙ rw other refl)
       ] refl
 

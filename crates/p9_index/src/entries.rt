@@ -5,10 +5,11 @@ ghost use Rattle.p9_index.specs.Entries.{HasNone, HasSame, IsLeast, IsNoneAbove,
 ghost use Rattle.p9_index.specs.Entries.{ListsSame, Names, child_at, children_from, is_listed};
 ghost use Rattle.p9_index.specs.Entries.{number_at};
 
+use crate::names::Numbers;
 use p9_base::NoMemory;
 use p9_tree::Entry;
 use std::alloc::Allocator;
-use std::collections::{BTreeMap, BTreeSet};
+use std::collections::BTreeSet;
 use std::ops::Bound;
 
 /// A node of a directory, by its number. Children are in the order of their directories, and in a
@@ -23,7 +24,7 @@ pub(crate) struct Child {
 #[derive(Drop)]
 pub(crate) struct Entries<A: Allocator + Copy> {
     children: BTreeSet<Child, A>,
-    numbers: BTreeMap<Entry, u64, A>,
+    numbers: Numbers<A>,
 }
 
 impl<A: Allocator + Copy> Entries<A> {
@@ -33,7 +34,7 @@ impl<A: Allocator + Copy> Entries<A> {
     {
         Entries {
             children: BTreeSet::new(alloc),
-            numbers: BTreeMap::new(alloc),
+            numbers: Numbers::new(alloc),
         }
     }
 
@@ -41,7 +42,7 @@ impl<A: Allocator + Copy> Entries<A> {
     pub fn number_at(&self, entry: &Entry) -> Option<u64>
         ensures { result ≡ number_at self.now entry.now }
     {
-        self.numbers.get(entry).copied()
+        self.numbers.get(entry)
     }
 
     /// The least number in the directory, above the floor if there is one.
@@ -72,7 +73,7 @@ impl<A: Allocator + Copy> Entries<A> {
             number,
         };
         if self.children.insert(child).is_err() {
-            let _ = self.numbers.remove(&entry);
+            self.numbers.remove(&entry);
             return Err(NoMemory);
         }
         Ok(())
@@ -97,8 +98,7 @@ impl<A: Allocator + Copy> Entries<A> {
         ensures named { OnOk result (Names (Some number) entry self.old self.new) }
         ensures err { OnErr result (HasSame self.old self.new) }
     {
-        self.numbers.insert(entry, number)?;
-        Ok(())
+        self.numbers.insert(entry, number)
     }
 
     /// Names no node by this entry. This takes no memory.
@@ -106,7 +106,7 @@ impl<A: Allocator + Copy> Entries<A> {
         ensures listed { ListsSame self.old self.new }
         ensures named { Names None entry.now self.old self.new }
     {
-        let _ = self.numbers.remove(entry);
+        self.numbers.remove(entry);
     }
 }
 

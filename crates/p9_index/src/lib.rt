@@ -5,6 +5,8 @@
 #![tactic(auto)]
 
 mod entries;
+mod kept;
+mod names;
 mod tree;
 
 pub use tree::IndexTree;

@@ -10,6 +10,7 @@ ghost use Rattle.p9_tree.specs.Saved.{saved_node, with_fields};
 ghost use Rattle.p9_tree.specs.Server.{WellFormed, added, child_after, child_of, with_changed};
 
 use crate::entries::Entries;
+use crate::kept::KeptNode;
 use p9_base::{Name, NoMemory, Permissions, User};
 use p9_tree::{Change, Entry, Journal, New, NoJournal, Node, Saved, Tree};
 use std::alloc::Allocator;
@@ -23,7 +24,7 @@ use std::marker::PhantomData;
 #[derive(Drop)]
 pub struct IndexTree<A: Allocator + Copy, J: Journal = NoJournal> {
     alloc: A,
-    nodes: BTreeMap<u64, Node<A>, A>,
+    nodes: BTreeMap<u64, KeptNode<A>, A>,
     entries: Entries<A>,
     next: u64,
     journal: PhantomData<J>,
@@ -42,7 +43,7 @@ impl<A: Allocator + Copy, J: Journal> Tree for IndexTree<A, J> {
 
     fn with_root(alloc: A) -> Result<Self, NoMemory> {
         let mut nodes = BTreeMap::new(alloc);
-        nodes.insert(0, Node::root(alloc))?;
+        nodes.insert(0, KeptNode::new(alloc, Node::root(alloc))?)?;
         Ok(IndexTree {
             alloc,
             nodes,
@@ -57,20 +58,20 @@ impl<A: Allocator + Copy, J: Journal> Tree for IndexTree<A, J> {
     }
 
     fn node(&self, number: u64) -> Option<&Node<A>> {
-        self.nodes.get(&number)
+        Some(self.nodes.get(&number)?.node())
     }
 
     fn first_from(&self, number: u64) -> Option<&Node<A>> {
         let (_, node) = self.nodes.range(number..).next()?;
-        Some(node)
+        Some(node.node())
     }
 
     fn child(&self, dir: u64, name: &Name) -> Option<&Node<A>> {
-        self.nodes.get(&self.child_number(dir, name)?)
+        self.node(self.child_number(dir, name)?)
     }
 
     fn after(&self, dir: u64, floor: Option<u64>) -> Option<&Node<A>> {
-        self.nodes.get(&self.number_after(dir, floor)?)
+        self.node(self.number_after(dir, floor)?)
     }
 
     fn set_root(&mut self, permissions: Permissions, uid: User, gid: User) {
@@ -189,8 +190,9 @@ impl<A: Allocator + Copy, J: Journal> IndexTree<A, J> {
         ensures err { OnErr result (server_of self.new.nodes.entries self.new.next
             ≡ server_of self.old.nodes.entries self.old.next) }
     {
+        let kept = KeptNode::new(self.alloc, node)?;
         self.entries.enter(entry, number)?;
-        if self.nodes.insert(number, node).is_err() {
+        if self.nodes.insert(number, kept).is_err() {
             self.entries.take_out(&entry, number);
             return Err(NoMemory);
         }
@@ -218,7 +220,7 @@ struct Renaming {
 }
 
 // The renaming of the node by the change, if that gives it another name.
-fn renaming_of<A: Allocator>(node: &Node<A>, change: &Change) -> Option<Renaming>
+fn renaming_of<A: Allocator>(node: &KeptNode<A>, change: &Change) -> Option<Renaming>
     requires { ForSome change.now.name (λ name. IsSome node.now.parent) }
     ensures some { IfSome result (λ it. Renames it.from it.to change.entry.now node.now) }
     ensures none { IfNone result (KeepsName change.entry.now node.now) }

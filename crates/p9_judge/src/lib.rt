@@ -13,4 +13,5 @@ mod search;
 mod verdict;
 
 pub use breach::{Breach, BreachKind, Step};
+pub use listed::Listed;
 pub use verdict::{Verdict, judge};

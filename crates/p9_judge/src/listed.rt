@@ -7,12 +7,14 @@ ghost use Rattle.std.specs.Option.{option_map_or};
 ghost use Rattle.std.specs.Str.{bytes_eq};
 ghost use Rattle.p9_base.specs.Group.{group_of, is_member, leads};
 ghost use Rattle.p9_cert.specs.Classes.{is_of};
+ghost use Rattle.p9_cert.specs.Gap.{is_removable};
 ghost use Rattle.p9_cert.specs.Listed.{is_alterable, is_open, is_owned, is_passable, some_listed};
+ghost use Rattle.p9_cert.specs.Policy.{policy_of};
 ghost use Rattle.p9_judge.specs.Listed.{Lists, has_in_group, has_listed, has_of_a_class};
 ghost use Rattle.p9_judge.specs.Listed.{is_marked};
 
 use indexmap::IndexSet;
-use p9_base::{Group, Groups, NoMemory, User};
+use p9_base::{Group, Groups, NoMemory, NodeRef, User};
 use p9_cert::Classes;
 use p9_tree::{Node, Tree};
 use p9_world::World;
@@ -22,15 +24,19 @@ use std::hash::{BuildHasherDefault, FoldHasher};
 type Users<A> = IndexSet<User, BuildHasherDefault<FoldHasher>, A>;
 
 /// The users that a world lists, and the names of those of its groups that have one of them as a
-/// member.
+/// member. With them it is known without a loop over the users whether one of them may do something
+/// with a node: the classes of the node's users are looked up.
+///
+/// The methods are asked of the world that it was made [of](Listed::of).
 #[derive(Drop)]
-pub(crate) struct Listed<A: Allocator + Copy> {
+pub struct Listed<A: Allocator + Copy> {
     users: Users<A>,
     groups: Users<A>,
 }
 
 impl<A: Allocator + Copy> Listed<A> {
-    /// Those of a world.
+    /// Those of a world. Its users are gone over once, and the members of its groups. The only error
+    /// is that an allocation fails.
     pub fn of<T: Tree>(alloc: A, world: &World<T>) -> Result<Listed<A>, NoMemory>
         ensures { IfOk result (Lists world.now.users world.now.groups) }
     {
@@ -39,7 +45,7 @@ impl<A: Allocator + Copy> Listed<A> {
         Ok(Listed { users, groups })
     }
 
-    /// Whether some listed user may search the directory or rules it.
+    /// Whether the node is a directory that some listed user may search or rules.
     pub fn may_pass<T: Tree>(&self, world: &World<T>, node: &Node<T::Alloc>) -> bool
         requires { Lists world.now.users world.now.groups self.now }
         ensures { result ≡ is_passable world.now.users world.now.groups node.now }
@@ -63,12 +69,27 @@ impl<A: Allocator + Copy> Listed<A> {
         self.has_one_of(world, Classes::to_rule(), node)
     }
 
-    /// Whether some listed user may write the directory or rules it.
+    /// Whether some listed user may write the node or rules it.
     pub fn may_alter<T: Tree>(&self, world: &World<T>, dir: &Node<T::Alloc>) -> bool
         requires { Lists world.now.users world.now.groups self.now }
         ensures { result ≡ is_alterable world.now.users world.now.groups dir.now }
     {
         self.has_one_of(world, Classes::to_alter(dir), dir)
+    }
+
+    /// Whether some listed user may write the directory that the node of this number is in, or rules
+    /// that, and so may remove and rename it. A root is in none.
+    pub fn may_remove<T: Tree>(&self, world: &World<T>, at: NodeRef, node: &Node<T::Alloc>) -> bool
+        requires { Lists world.now.users world.now.groups self.now }
+        ensures { result ≡ is_removable (policy_of world.now) world.now.forest at node.now }
+    {
+        let Some(parent) = node.parent() else {
+            return false;
+        };
+        match world.forest.node(at.beside(parent)) {
+            Some(dir) => self.may_alter(world, dir),
+            None => false,
+        }
     }
 
     // Whether some listed user is of one of the classes of the node.

@@ -4,7 +4,6 @@ ghost use Rattle.std.specs.Prelude.{◌≡◌, AllPairs, IsTrue, find};
 ghost use Rattle.p9_cert.specs.Closed.{AreNotBarred};
 ghost use Rattle.p9_cert.specs.Policy.{policy_of};
 ghost use Rattle.p9_cert.specs.Rows.{is_below};
-ghost use Rattle.p9_cert.specs.Gap.{is_removable};
 ghost use Rattle.p9_judge.specs.Breach.{breach_kind, first_passer, hidden_kind, may_be_passed_by};
 ghost use Rattle.p9_judge.specs.Breach.{passer_of, place_breach};
 ghost use Rattle.p9_judge.specs.Listed.{Lists};
@@ -77,29 +76,10 @@ fn hidden_kind<T: Tree, A: Allocator + Copy>(
         Some(BreachKind::Open)
     } else if listed.rule(world, node) {
         Some(BreachKind::Owned)
-    } else if is_removable(world, listed, at, node) {
+    } else if listed.may_remove(world, at, node) {
         Some(BreachKind::Removable)
     } else {
         None
-    }
-}
-
-// Whether some listed user may write the directory that the node is in, or rules that.
-fn is_removable<T: Tree, A: Allocator + Copy>(
-    world: &World<T>,
-    listed: &Listed<A>,
-    at: NodeRef,
-    node: &Node<T::Alloc>,
-) -> bool
-    requires { Lists world.now.users world.now.groups listed.now }
-    ensures { result ≡ is_removable (policy_of world.now) world.now.forest at node.now }
-{
-    let Some(parent) = node.parent() else {
-        return false;
-    };
-    match world.forest.node(at.beside(parent)) {
-        Some(dir) => listed.may_alter(world, dir),
-        None => false,
     }
 }
 

@@ -10,7 +10,8 @@ use Rattle.p9_wire.specs.Message.{RMessage, TMessage}
 use Rattle.p9_step.specs.State.{Setting, Session, SessionRow, changed_session, io_header, iounit_of}
 use Rattle.p9_step.specs.State.{session_at}
 use Rattle.p9_step.specs.Answer.{Answer}
-use Rattle.p9_requests.specs.Answers.{Answers, AnswersAmong, changes_of, frame_among, session_of}
+use Rattle.p9_walks.specs.Answers.{Answers, changes_of}
+use Rattle.p9_requests.specs.Answers.{AnswersAmong, frame_among, session_of}
 use Rattle.p9_requests.specs.Taken.{wants_taken_file}
 use Rattle.p9_step.specs.Sound.{IsMsize}
 use Rattle.p9_step.specs.Request.{request_of}

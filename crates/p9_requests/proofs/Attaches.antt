@@ -10,8 +10,8 @@ use Rattle.p9_fids.specs.Fid.{changed_fid, fid_at, trailed, without_fid}
 use Rattle.p9_fids.proofs.Places.{lookup-added, set-added}
 use Rattle.p9_step.specs.Attach.{attach_answer, attached}
 use Rattle.p9_step.specs.State.{Session, Setting}
-use Rattle.p9_requests.specs.Reserved.{IsAttachRoom, attach_rest, unkept}
-use Rattle.p9_requests.proofs.Reserved.{absent, placed}
+use Rattle.p9_walks.specs.Reserved.{IsAttachRoom, attach_rest, unkept}
+use Rattle.p9_walks.proofs.Reserved.{absent, placed}
 
 module _ (setting : Setting) (forest : List Server) (session : Session) (fid afid : ℕ)
     (uname aname : List ℕ) (names : List (List ℕ))

@@ -38,7 +38,8 @@ use Rattle.p9_step.specs.Memory.{is_done}
 use Rattle.p9_step.specs.Opening.{is_plain_read, opening_of}
 use Rattle.p9_step.specs.Qid.{qid_of}
 use Rattle.p9_requests.specs.declared.create.Asked.{Asked}
-use Rattle.p9_requests.specs.Answers.{Answers, IsRefusal, create_reply, replied}
+use Rattle.p9_walks.specs.Answers.{Answers, IsRefusal, replied}
+use Rattle.p9_requests.specs.Answers.{create_reply}
 use Rattle.p9_requests.specs.Create.{asked_of, create_steps, created_in, place_in, plan_answer}
 use Rattle.p9_requests.specs.Create.{target_among}
 

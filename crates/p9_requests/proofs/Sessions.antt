@@ -11,7 +11,7 @@ use Rattle.p9_base.proofs.Rows.{each-lookup, each-set}
 use Rattle.p9_space.specs.Table.{MountRow}
 use Rattle.p9_fids.proofs.Values.{lookup-mapped}
 use Rattle.p9_step.specs.State.{session_at}
-use Rattle.p9_requests.specs.Held.{HeldSession, SessionFits, SessionsFit, session_in, sessions_in}
+use Rattle.p9_walks.specs.Held.{HeldSession, SessionFits, SessionsFit, session_in, sessions_in}
 
 -- the session of a name, without its rows
 pub session-there : (name : ℕ) (rows : List (ℕ × HeldSession)) (held : HeldSession)

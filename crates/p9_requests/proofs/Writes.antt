@@ -18,7 +18,7 @@ use Rattle.p9_fids.specs.Fid.{Fid, fid_at}
 use Rattle.p9_step.specs.State.{Setting, Session, fid_ref}
 use Rattle.p9_step.specs.Answer.{Answer, Outcome}
 use Rattle.p9_step.specs.ForestChange.{applied, edited}
-use Rattle.p9_requests.specs.Answers.{Answers, replied}
+use Rattle.p9_walks.specs.Answers.{Answers, replied}
 use Rattle.p9_step.specs.Memory.{is_done}
 use Rattle.p9_step.specs.Sound.{IsWellOpen, IsOpenOn}
 use Rattle.p9_step.specs.Write.{is_writable, write_answer, write_offset, written}

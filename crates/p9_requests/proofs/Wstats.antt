@@ -21,7 +21,7 @@ use Rattle.p9_wire.specs.Message.{Rwstat, StatFields}
 use Rattle.p9_fids.specs.Fid.{Fid, fid_at}
 use Rattle.p9_step.specs.State.{Setting, Session, fid_file, fid_ref}
 use Rattle.p9_step.specs.Answer.{Answer}
-use Rattle.p9_requests.specs.Answers.{Answers, replied}
+use Rattle.p9_walks.specs.Answers.{Answers, replied}
 use Rattle.p9_step.specs.ForestChange.{ForestChange, EditNode, Rewrite, all_applied, applied, edited}
 use Rattle.p9_step.specs.End.{parent_marked}
 use Rattle.p9_step.specs.Qid.{stat_of}

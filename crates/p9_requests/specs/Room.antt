@@ -5,7 +5,7 @@ use Rattle.p9_base.specs.Fault.{text_of}
 use Rattle.p9_tree.specs.Server.{Server}
 use Rattle.p9_wire.specs.Message.{Rerror, r_view}
 use Rattle.p9_wire.specs.Spelling.{r_len, read_header}
-use Rattle.p9_requests.specs.Answers.{stat_reply}
+use Rattle.p9_walks.specs.Answers.{stat_reply}
 use Rattle.p9_requests.specs.declared.reply.Reply.{Reply}
 use Rattle.p9_requests.specs.declared.reply.Reply.TheVariants.{Message, Data, StatOf}
 

@@ -4,8 +4,9 @@ ghost use Rattle.std.specs.Prelude.{◌≡◌, ◌≤◌, List, IsSome, IfSome, 
 ghost use Rattle.std.specs.Option.{option_map_or};
 ghost use Rattle.p9_wire.specs.Message.{t_view};
 ghost use Rattle.p9_wire.specs.Spelling.{read_header};
-ghost use Rattle.p9_requests.specs.Held.{SessionFits, SessionsFit, sessions_in};
-ghost use Rattle.p9_requests.specs.Answers.{AnswersAmong, CanWrite, frame_among, replied, reply_view};
+ghost use Rattle.p9_walks.specs.Held.{SessionFits, SessionsFit, sessions_in};
+ghost use Rattle.p9_walks.specs.Answers.{replied};
+ghost use Rattle.p9_requests.specs.Answers.{AnswersAmong, CanWrite, frame_among, reply_view};
 ghost use Rattle.p9_requests.specs.Room.{IsDataWithin};
 ghost use Rattle.p9_requests.specs.Taken.{wants_taken_file};
 ghost use Rattle.p9_step.specs.Laws.{reply_max};
@@ -18,10 +19,10 @@ use crate::frame::request_of;
 use crate::message::message;
 use crate::open::{exclusive_file_of, is_in_use};
 use crate::reply::Reply;
-use crate::session::Session;
-use crate::setting::Setting;
 use p9_base::{Fault, NodeRef};
 use p9_tree::{Forest, Tree};
+use p9_walks::session::Session;
+use p9_walks::setting::Setting;
 use p9_wire::{READ_HEADER, TMsg};
 use std::collections::BTreeMap;
 

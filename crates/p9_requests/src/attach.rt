@@ -12,19 +12,19 @@ ghost use Rattle.p9_step.specs.Attach.{attach_answer, attach_walk, attached, is_
 ghost use Rattle.p9_step.specs.Attach.{listed_user};
 ghost use Rattle.p9_step.specs.Memory.{is_beyond_session};
 ghost use Rattle.p9_step.specs.State.{Session as SessionOf};
-ghost use Rattle.p9_requests.specs.Held.{SessionFits};
-ghost use Rattle.p9_requests.specs.Answers.{Answers, replied};
-ghost use Rattle.p9_requests.specs.Reserved.{IsAttachRoom, Leads, attach_rest, attach_tested};
-ghost use Rattle.p9_requests.specs.Reserved.{attach_with_memory, unkept};
+ghost use Rattle.p9_walks.specs.Held.{SessionFits};
+ghost use Rattle.p9_walks.specs.Answers.{Answers, replied};
+ghost use Rattle.p9_walks.specs.Reserved.{IsAttachRoom, Leads, attach_rest, attach_tested};
+ghost use Rattle.p9_walks.specs.Reserved.{attach_with_memory, unkept};
 
-use crate::qid::qid_of;
-use crate::session::Session;
-use crate::setting::Setting;
 use p9_base::{Fault, NOFID, NodeRef, Qid, User};
 use p9_clean::cleaned_elements;
 use p9_fids::Fid;
 use p9_space::{Channels, ROOT_PLACE, Way, advance_on};
 use p9_tree::{Forest, Tree};
+use p9_walks::qid::qid_of;
+use p9_walks::session::Session;
+use p9_walks::setting::Setting;
 use std::alloc::Allocator;
 
 // Reserves memory for an attach, and returns the names of its path; or returns `None`, where an

@@ -13,8 +13,9 @@ ghost use Rattle.p9_space.specs.Table.{MountRow};
 ghost use Rattle.p9_space.specs.Trail.{places_max};
 ghost use Rattle.p9_fids.specs.Fid.{fid_at};
 ghost use Rattle.p9_fids.specs.Held.{HeldFits};
-ghost use Rattle.p9_requests.specs.Held.{SessionFits};
-ghost use Rattle.p9_requests.specs.Answers.{Answers, IsRefusal, create_reply, replied};
+ghost use Rattle.p9_walks.specs.Held.{SessionFits};
+ghost use Rattle.p9_walks.specs.Answers.{Answers, IsRefusal, replied};
+ghost use Rattle.p9_requests.specs.Answers.{create_reply};
 ghost use Rattle.p9_requests.specs.Create.{asked_of, create_steps, created_in, place_in, plan_answer};
 ghost use Rattle.p9_requests.specs.Create.{target_among};
 ghost use Rattle.p9_step.specs.Create.{create_answer, created, entered, permitting};
@@ -23,14 +24,14 @@ ghost use Rattle.p9_step.specs.Memory.{is_done};
 ghost use Rattle.p9_step.specs.State.{Session as SessionOf};
 
 use crate::inherit::inherited;
-use crate::qid::new_qid;
-use crate::session::Session;
-use crate::setting::Setting;
 use p9_base::{Fault, Mode, Name, NoMemory, NodeRef, Qid, User};
 use p9_fids::Fid;
 use p9_space::{Channels, Member, MountTable, PLACES_MAX, TO_WRITE, dir_fault, may};
 use p9_step::Opening;
 use p9_tree::{Forest, NEXT_MAX, New, Node, Tree};
+use p9_walks::qid::new_qid;
+use p9_walks::session::Session;
+use p9_walks::setting::Setting;
 use std::alloc::Allocator;
 
 /// What a create asks for.

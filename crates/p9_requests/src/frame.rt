@@ -7,16 +7,17 @@ ghost use Rattle.p9_wire.specs.Message.{Rerror};
 ghost use Rattle.p9_wire.specs.Spelling.{r_len, read_header};
 ghost use Rattle.p9_wire.specs.Reply.{r_spelling};
 ghost use Rattle.p9_step.specs.Request.{request_of, tag_of};
-ghost use Rattle.p9_requests.specs.Answers.{CanWrite, message_of, replied, reply_view, request_view};
-ghost use Rattle.p9_requests.specs.Answers.{stat_reply};
+ghost use Rattle.p9_walks.specs.Answers.{replied};
+ghost use Rattle.p9_requests.specs.Answers.{CanWrite, message_of, reply_view, request_view};
+ghost use Rattle.p9_walks.specs.Answers.{stat_reply};
 ghost use Rattle.p9_requests.specs.Room.{IsRoom};
 
-use crate::qid::stat_of;
 use crate::reply::Reply;
-use crate::session::Session;
 use byteorder::{ByteOrder, LittleEndian};
 use p9_base::{Fault, NodeRef};
 use p9_tree::{Forest, Tree};
+use p9_walks::qid::stat_of;
+use p9_walks::session::Session;
 use p9_wire::{RMsg, TMsg, finish_read, read_t, write_r};
 use std::alloc::Allocator;
 

@@ -3,8 +3,9 @@
 ghost use Rattle.std.specs.Prelude.{◌≡◌, ◌≤◌, ◌+◌, List, length};
 ghost use Rattle.p9_wire.specs.Frame.{msize_max};
 ghost use Rattle.p9_wire.specs.Message.{t_view};
-ghost use Rattle.p9_requests.specs.Held.{SessionFits};
-ghost use Rattle.p9_requests.specs.Answers.{Answers, CanWrite, replied, reply_view};
+ghost use Rattle.p9_walks.specs.Held.{SessionFits};
+ghost use Rattle.p9_walks.specs.Answers.{Answers, replied};
+ghost use Rattle.p9_requests.specs.Answers.{CanWrite, reply_view};
 ghost use Rattle.p9_requests.specs.Room.{IsDataWithin};
 ghost use Rattle.p9_requests.specs.Taken.{wants_taken_file};
 ghost use Rattle.p9_step.specs.Sound.{AreWellOpen};
@@ -13,21 +14,21 @@ ghost use Rattle.p9_step.specs.Memory.{may_run_out};
 ghost use Rattle.p9_step.specs.Step.{message_answer};
 
 use crate::attach::attach;
-use crate::clunk::clunk;
 use crate::create::{NewFile, create};
 use crate::open::open;
-use crate::read::{ReadRequest, read};
-use crate::remove::remove;
 use crate::reply::Reply;
-use crate::session::Session;
-use crate::setting::Setting;
-use crate::stat::stat;
 use crate::version::version;
-use crate::walk::walk;
 use crate::write::write;
 use crate::wstat::wstat;
 use p9_base::Fault;
 use p9_tree::{Forest, Tree};
+use p9_walks::clunk::clunk;
+use p9_walks::read::{ReadRequest, read};
+use p9_walks::remove::remove;
+use p9_walks::session::Session;
+use p9_walks::setting::Setting;
+use p9_walks::stat::stat;
+use p9_walks::walk::walk;
 use p9_wire::{RMsg, TMsg};
 
 /// Answers a request of a session. `taken` says whether the file that an open asks for is taken

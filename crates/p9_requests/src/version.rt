@@ -4,14 +4,14 @@ ghost use Rattle.std.specs.Prelude.{◌≡◌, IfOk, false};
 ghost use Rattle.p9_wire.specs.Message.{r_view};
 ghost use Rattle.p9_step.specs.Sound.{AreWellOpen};
 ghost use Rattle.p9_step.specs.Version.{is_known, version_answer};
-ghost use Rattle.p9_requests.specs.Held.{SessionFits};
-ghost use Rattle.p9_requests.specs.Answers.{Answers, ReplyFits, replied};
+ghost use Rattle.p9_walks.specs.Held.{SessionFits};
+ghost use Rattle.p9_walks.specs.Answers.{Answers, ReplyFits, replied};
 
-use crate::end::end_fids;
-use crate::session::Session;
-use crate::setting::Setting;
 use p9_base::Fault;
 use p9_tree::{Forest, Tree};
+use p9_walks::end::end_fids;
+use p9_walks::session::Session;
+use p9_walks::setting::Setting;
 use p9_wire::{MSIZE_MAX, RMsg};
 
 /// The least msize that a client may ask for.

@@ -3,18 +3,18 @@
 ghost use Rattle.std.specs.Prelude.{◌≡◌};
 ghost use Rattle.p9_fids.specs.Opened.{writes};
 ghost use Rattle.p9_wire.specs.Message.{Rwrite};
-ghost use Rattle.p9_requests.specs.Held.{SessionFits};
-ghost use Rattle.p9_requests.specs.Answers.{Answers, replied};
+ghost use Rattle.p9_walks.specs.Held.{SessionFits};
+ghost use Rattle.p9_walks.specs.Answers.{Answers, replied};
 ghost use Rattle.p9_step.specs.Sound.{AreWellOpen};
 ghost use Rattle.p9_step.specs.Memory.{is_done};
 ghost use Rattle.p9_step.specs.Write.{is_writable, write_answer, write_offset};
 
 use crate::open::is_append_only;
-use crate::session::Session;
-use crate::setting::Setting;
 use p9_base::Fault;
 use p9_fids::Fid;
 use p9_tree::{Forest, Node, Tree, fits_file};
+use p9_walks::session::Session;
+use p9_walks::setting::Setting;
 use std::alloc::Allocator;
 
 /// Writes into the file of an open fid, at the offset, or at the end of an append-only file. A gap

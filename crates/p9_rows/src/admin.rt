@@ -2,8 +2,8 @@
 
 use crate::body::Ending;
 use p9_base::NoMemory;
-use p9_explain::explain;
-use p9_seal::{SealError, seal};
+use p9_explain::{explain, explain_change};
+use p9_seal::{SealError, Wishes, seal};
 use p9_tree::Tree;
 use p9_view::show_tree;
 use std::alloc::{AllocError, Global};
@@ -11,14 +11,19 @@ use std::alloc::{AllocError, Global};
 // What the program calls an input that is given no name.
 const NAME: &str = "input";
 
-/// How `p9_admin seal` ends over an input, with `anyway` as its argument for `--anyway`.
+/// How `p9_admin seal` ends over an input, with `anyway` in its argument for `--anyway`, and `fixed` for
+/// `--fixed`: words with a comma between them.
 pub fn sealed<T: Tree<Alloc = Global>>(
     alloc: Global,
     input: &[u8],
     argument: Option<&str>,
 ) -> Result<Ending, AllocError> {
     let mut ending = Ending::new(alloc);
-    match seal::<T>(alloc, input, argument == Some("anyway")) {
+    let wishes = Wishes {
+        anyway: has_word(argument, "anyway"),
+        fixed: has_word(argument, "fixed"),
+    };
+    match seal::<T>(alloc, input, wishes) {
         Ok(text) => ending.out = text.into_bytes(),
         Err(error) => {
             ending.status = 1;
@@ -28,7 +33,15 @@ pub fn sealed<T: Tree<Alloc = Global>>(
     Ok(ending)
 }
 
-// Why an input is not sealed: the way to what is hidden is explained.
+// Whether an argument has the word.
+fn has_word(argument: Option<&str>, word: &str) -> bool {
+    match argument {
+        Some(argument) => argument.split(',').any(|other| other == word),
+        None => false,
+    }
+}
+
+// Why an input is not sealed: the way to what is hidden is explained, and what can be changed.
 fn unsealed<T: Tree<Alloc = Global>>(
     alloc: Global,
     input: &[u8],
@@ -36,8 +49,14 @@ fn unsealed<T: Tree<Alloc = Global>>(
 ) -> Result<Vec<u8>, AllocError> {
     let text = error.text(alloc)?;
     let mut err = format!(in alloc; "{text}\n")?.into_bytes();
-    if let SealError::No(_) = error {
-        explain::<T>(NAME, input, &mut err).map_err(|_| AllocError)?;
+    match error {
+        SealError::No(_) => {
+            explain::<T>(NAME, input, &mut err).map_err(|_| AllocError)?;
+        }
+        SealError::Changeable(change) => {
+            explain_change::<T>(NAME, input, change, &mut err).map_err(|_| AllocError)?;
+        }
+        _ => {}
     }
     Ok(err)
 }

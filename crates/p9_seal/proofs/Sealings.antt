@@ -1,6 +1,6 @@
 -- The sealing of an input, from what its steps say.
-use Rattle.std.proofs.Common.{◌≡◌, ℕ, Bool, true, false, List, [], None, Result, Ok, Err}
-use Rattle.std.proofs.Common.{IfErr, IfOk, OnOk}
+use Rattle.std.proofs.Common.{◌≡◌, ℕ, true, false, List, [], Result, Ok, Err}
+use Rattle.std.proofs.Common.{IfErr, IfOk}
 use Rattle.std.proofs.Common.{refl, sym, ap, ◌∙◌, subst, arith}
 use Rattle.std.specs.Str.{is_utf8}
 use Rattle.p9_base.specs.declared.node_ref.NodeRef.{NodeRef}
@@ -19,11 +19,13 @@ use Rattle.p9_commands.specs.declared.prepared.Needs.{Needs}
 use Rattle.p9_commands.specs.declared.prepared.Needs.TheVariants.{Nothing}
 use Rattle.p9_commands.specs.declared.refusal.Refusal.{Refusal}
 use Rattle.p9_commands.specs.declared.refusal.Refusal.TheVariants.{BadSection, NotUtf8}
-use Rattle.p9_seal.specs.Error.{vacuity_against}
 use Rattle.p9_seal.specs.declared.error.SealError.{SealError}
 use Rattle.p9_seal.specs.declared.error.SealError.TheVariants.{Empty, Refused as RefusedInput, No, Vacuous}
+use Rattle.p9_seal.specs.declared.error.SealError.TheVariants.{Changeable}
 use Rattle.p9_seal.specs.declared.error.SealError.TheVariants.{NoMemory as OutOfMemory}
-use Rattle.p9_seal.specs.Sealing.{IsBundle, IsSealError, IsSealable, IsSealed, IsUnsealed, IsYes, is_empty, space_of}
+use Rattle.p9_seal.specs.Sealing.{IsBundle, IsSealError, IsSealable, IsSealed, IsUnsealed}
+use Rattle.p9_seal.specs.Sealing.{IsWished, is_empty, space_of}
+use Rattle.p9_seal.specs.declared.wishes.Wishes.{Wishes}
 use Rattle.p9_seal.specs.Sections.{HasCertificate}
 use Rattle.p9_seal.specs.Text.{sealed_text}
 use Rattle.p9_seal.proofs.Certificates.{cert_lines, cert_lines-begin, cert_lines-clean}
@@ -99,11 +101,11 @@ unfolding need
 no-text input utf8 = rw utf8 refl
 
 -- The output, from the name space, the certificate and what is written.
-pub sealed-ok : (input output : List ℕ) (anyway : Bool) (space : NameSpace) (rows : List NodeRef)
+pub sealed-ok : (input output : List ℕ) (wishes : Wishes) (space : NameSpace) (rows : List NodeRef)
     → is_empty input ≡ false → is_utf8 input ≡ true → is_utf8 output ≡ true → IsBundle input
-    → space_of input ≡ Ok space → IsYes space rows → vacuity_against anyway space ≡ None → IsCertificate rows
-    → output ≡ sealed_text input (certificate_text rows) → IsSealed input anyway output
-sealed-ok input output anyway space rows some utf8 utf8_output bundle read is_yes telling sound written =
+    → space_of input ≡ Ok space → IsWished space wishes rows → IsCertificate rows
+    → output ≡ sealed_text input (certificate_text rows) → IsSealed input wishes output
+sealed-ok input output wishes space rows some utf8 utf8_output bundle read wished sound written =
     let there = sealed-bundle input rows sound bundle.0 bundle.1 in
     let found = alone-ok (space_in bundle.0.world bundle.0.ns) (script_in bundle.0) rows space
     (sym (space_of-parts input bundle.0 utf8 bundle.1) ∙ read) in
@@ -113,8 +115,7 @@ sealed-ok input output anyway space rows some utf8 utf8_output bundle read is_ye
       events = found.0;
       some = some;
       read = read;
-      yes = is_yes;
-      telling = telling;
+      wished = wished;
       written = written;
       sections = record {
         texts = bundle.0;
@@ -131,24 +132,24 @@ sealed-ok input output anyway space rows some utf8 utf8_output bundle read is_ye
     }
 
 -- What is said of a certificate over a name space, of the input that it is read from.
-module _ {A : Type 0} (input : List ℕ) (anyway : Bool) (space : NameSpace)
+module _ {A : Type 0} (input : List ℕ) (wishes : Wishes) (space : NameSpace)
     (read : space_of input ≡ Ok space) where
   pub sealable : IsBundle input → (result : Result (List NodeRef) (SealError A))
-      → IfOk result (λ rows. IsYes space rows) → OnOk result (vacuity_against anyway space ≡ None)
-      → IfOk result (IsSealable input anyway)
-  sealable bundle (Ok rows) is_yes telling =
-      record { space = space; bundle = bundle; read = read; yes = is_yes; telling = telling }
-  sealable bundle (Err error) is_yes telling = tt
+      → IfOk result (IsWished space wishes) → IfOk result (IsSealable input wishes)
+  sealable bundle (Ok rows) wished =
+      record { space = space; bundle = bundle; read = read; wished = wished }
+  sealable bundle (Err error) wished = tt
 
-  unsealed-error : (error : SealError A) → IsUnsealed anyway space error
-      → IsSealError input anyway error
+  unsealed-error : (error : SealError A) → IsUnsealed space wishes error
+      → IsSealError input wishes error
   unsealed-error Empty none = absurd none
   unsealed-error (RefusedInput refusal) none = absurd none
   unsealed-error (No breach) none = (space, read, none)
   unsealed-error (Vacuous vacuity) none = (space, read, none)
+  unsealed-error (Changeable change) none = (space, read, none)
   unsealed-error OutOfMemory none = tt
 
   pub unsealed : (result : Result (List NodeRef) (SealError A))
-      → IfErr result (IsUnsealed anyway space) → IfErr result (IsSealError input anyway)
+      → IfErr result (IsUnsealed space wishes) → IfErr result (IsSealError input wishes)
   unsealed (Ok rows) none = tt
   unsealed (Err error) none = unsealed-error error none

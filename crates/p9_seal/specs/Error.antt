@@ -4,6 +4,9 @@ use Rattle.p9_base.specs.declared.node_ref.NodeRef.{NodeRef}
 use Rattle.p9_base.specs.declared.stop.Stop.{Stop}
 use Rattle.p9_base.specs.declared.stop.Stop.TheVariants.{Refused as RefusedInput}
 use Rattle.p9_base.specs.declared.stop.Stop.TheVariants.{NoMemory as OutOfMemory}
+use Rattle.p9_cert.specs.Policy.{policy_of}
+use Rattle.p9_fixed.specs.Change.{first_change}
+use Rattle.p9_fixed.specs.declared.change.Change.{Change}
 use Rattle.p9_nsline.specs.Space.{Report}
 use Rattle.p9_commands.specs.NameSpace.{NameSpace}
 use Rattle.p9_commands.specs.declared.refusal.Refusal.{Refusal}
@@ -35,6 +38,14 @@ vacuity_of space = with_reports space.reports space.world.hidden space.world.use
 -- the same, unless it is wanted anyway
 abbrev pub vacuity_against : Bool → NameSpace → Option Vacuity
 vacuity_against anyway space = if anyway then None else vacuity_of space
+
+-- the first node that some listed user can change, of all that they come to by a certificate of
+-- these rows, where a fixed name space is wished
+abbrev pub change_against : Bool → NameSpace → List NodeRef → Option Change
+change_against fixed space rows =
+    if fixed
+    then first_change (policy_of space.world) space.world.forest space.table rows
+    else None
 
 -- the error of an input that is refused, or of a failed allocation
 abbrev pub error_of_stop : {A : Type 0} → Stop Refusal → SealError A

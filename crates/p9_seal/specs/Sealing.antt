@@ -1,11 +1,15 @@
 -- The sealing of an input.
 use Rattle.std.specs.Prelude.{◌≡◌, ◌==◌, ◌||◌, ℕ, Bool, true, false, List, Some, None, Result, Ok, Err}
+use Rattle.std.specs.Prelude.{IsTrue}
 use Rattle.std.specs.List.{AllByRecursion, list_all}
 use Rattle.p9_base.specs.Line.{is_blank}
 use Rattle.p9_base.specs.declared.node_ref.NodeRef.{NodeRef}
 use Rattle.p9_base.specs.Results.{and_then}
 use Rattle.p9_cert.specs.Policy.{policy_of}
+use Rattle.p9_cert.specs.Rows.{is_row}
 use Rattle.p9_cert.specs.Text.{certificate_text}
+use Rattle.p9_fixed.specs.Fixed.{IsFixed}
+use Rattle.p9_fixed.specs.declared.change.Change.{Change}
 use Rattle.p9_judge.specs.Breach.{IsBreach, IsByFirst}
 use Rattle.p9_judge.specs.Verdict.{IsLeast}
 use Rattle.p9_judge.specs.declared.breach.Breach.{Breach}
@@ -15,12 +19,14 @@ use Rattle.p9_commands.specs.NameSpace.{NameSpace, gap_over}
 use Rattle.p9_commands.specs.Prepared.{opened, prepared_of, script_in}
 use Rattle.p9_commands.specs.declared.prepared.Needs.{Needs}
 use Rattle.p9_commands.specs.declared.refusal.Refusal.{Refusal}
-use Rattle.p9_seal.specs.Error.{vacuity_against}
+use Rattle.p9_seal.specs.Error.{change_against, vacuity_against}
 use Rattle.p9_seal.specs.Sections.{HasCertificate}
 use Rattle.p9_seal.specs.Text.{sealed_text}
 use Rattle.p9_seal.specs.declared.error.Vacuity.{Vacuity}
 use Rattle.p9_seal.specs.declared.error.SealError.{SealError}
-use Rattle.p9_seal.specs.declared.error.SealError.TheVariants.{Empty, Refused, No, Vacuous, NoMemory}
+use Rattle.p9_seal.specs.declared.error.SealError.TheVariants.{Empty, Refused, No, Vacuous}
+use Rattle.p9_seal.specs.declared.error.SealError.TheVariants.{Changeable, NoMemory}
+use Rattle.p9_seal.specs.declared.wishes.Wishes.{Wishes}
 
 -- the input has nothing but blanks, tabs and newlines
 abbrev pub is_empty : List ℕ → Bool
@@ -45,6 +51,14 @@ pub record IsNo {A : Type 0} (space : NameSpace) (breach : Breach A) : Type 0 wh
   pub by_first : AllByRecursion (IsByFirst (policy_of space.world) space.world.forest)
       breach.steps.items
 
+-- a yes that says something, unless it is wished anyway; and where a fixed name space is wished, it
+-- is one
+pub record IsWished (space : NameSpace) (wishes : Wishes) (rows : List NodeRef) : Type 0 where
+  pub yes : IsYes space rows
+  pub telling : vacuity_against wishes.anyway space ≡ None
+  pub fixed : IsTrue wishes.fixed
+      → IsFixed (policy_of space.world) space.world.forest space.table (is_row rows)
+
 -- What is written.
 
 -- the output is a bundle of the same sections, but for the certificate, which is this text
@@ -57,14 +71,13 @@ pub record IsBundleWith (input certificate output : List ℕ) : Type 0 where
 
 -- the output is the input with the text of a closed certificate over its name space; it is prepared
 -- as that name space with that certificate, whatever is needed
-pub record IsSealed (input : List ℕ) (anyway : Bool) (output : List ℕ) : Type 0 where
+pub record IsSealed (input : List ℕ) (wishes : Wishes) (output : List ℕ) : Type 0 where
   pub space : NameSpace
   pub rows : List NodeRef
   pub events : List Event
   pub some : is_empty input ≡ false
   pub read : space_of input ≡ Ok space
-  pub yes : IsYes space rows
-  pub telling : vacuity_against anyway space ≡ None
+  pub wished : IsWished space wishes rows
   pub written : output ≡ sealed_text input (certificate_text rows)
   pub sections : IsBundleWith input (certificate_text rows) output
   pub prepared : (needs : Needs)
@@ -74,36 +87,46 @@ pub record IsSealed (input : List ℕ) (anyway : Bool) (output : List ℕ) : Typ
 abbrev pub IsBundle : List ℕ → Type 0
 IsBundle text = (texts : Texts) × (bundle_of text ≡ Ok texts)
 
--- the input is a bundle, and the rows are a certificate over its name space that says something
-pub record IsSealable (input : List ℕ) (anyway : Bool) (rows : List NodeRef) : Type 0 where
+-- the input is a bundle, and the rows are a certificate over its name space as it is wished
+pub record IsSealable (input : List ℕ) (wishes : Wishes) (rows : List NodeRef) : Type 0 where
   pub space : NameSpace
   pub bundle : IsBundle input
   pub read : space_of input ≡ Ok space
-  pub yes : IsYes space rows
-  pub telling : vacuity_against anyway space ≡ None
+  pub wished : IsWished space wishes rows
 
 -- Why nothing is written.
 
 -- the yes, which these rows show, says little
-pub record IsVacuous (anyway : Bool) (space : NameSpace) (vacuity : Vacuity) : Type 0 where
+pub record IsVacuous (space : NameSpace) (wishes : Wishes) (vacuity : Vacuity) : Type 0 where
   pub rows : List NodeRef
   pub yes : IsYes space rows
-  pub against : vacuity_against anyway space ≡ Some vacuity
+  pub against : vacuity_against wishes.anyway space ≡ Some vacuity
 
--- why there is no certificate over a name space
-abbrev pub IsUnsealed : {A : Type 0} → (anyway : Bool) (space : NameSpace) → SealError A → Type 0
-IsUnsealed anyway space Empty = ⊥
-IsUnsealed anyway space (Refused refusal) = ⊥
-IsUnsealed anyway space (No breach) = IsNo space breach
-IsUnsealed anyway space (Vacuous vacuity) = IsVacuous anyway space vacuity
-IsUnsealed anyway space NoMemory = Unit {0}
+-- the yes, which these rows show, says something, but a fixed name space is wished, and this is the
+-- first node that some listed user can change
+pub record IsChangeable (space : NameSpace) (wishes : Wishes) (change : Change) : Type 0 where
+  pub rows : List NodeRef
+  pub yes : IsYes space rows
+  pub telling : vacuity_against wishes.anyway space ≡ None
+  pub against : change_against wishes.fixed space rows ≡ Some change
 
--- the input is empty, or has a first fault, or there is no certificate over its name space
-abbrev pub IsSealError : {A : Type 0} → (input : List ℕ) (anyway : Bool) → SealError A → Type 0
-IsSealError input anyway Empty = is_empty input ≡ true
-IsSealError input anyway (Refused refusal) = space_of input ≡ Err refusal
-IsSealError input anyway (No breach) =
+-- why there is no such certificate over a name space
+abbrev pub IsUnsealed : {A : Type 0} → (space : NameSpace) (wishes : Wishes) → SealError A → Type 0
+IsUnsealed space wishes Empty = ⊥
+IsUnsealed space wishes (Refused refusal) = ⊥
+IsUnsealed space wishes (No breach) = IsNo space breach
+IsUnsealed space wishes (Vacuous vacuity) = IsVacuous space wishes vacuity
+IsUnsealed space wishes (Changeable change) = IsChangeable space wishes change
+IsUnsealed space wishes NoMemory = Unit {0}
+
+-- the input is empty, or has a first fault, or there is no such certificate over its name space
+abbrev pub IsSealError : {A : Type 0} → (input : List ℕ) (wishes : Wishes) → SealError A → Type 0
+IsSealError input wishes Empty = is_empty input ≡ true
+IsSealError input wishes (Refused refusal) = space_of input ≡ Err refusal
+IsSealError input wishes (No breach) =
     (space : NameSpace) × (space_of input ≡ Ok space) × IsNo space breach
-IsSealError input anyway (Vacuous vacuity) =
-    (space : NameSpace) × (space_of input ≡ Ok space) × IsVacuous anyway space vacuity
-IsSealError input anyway NoMemory = Unit {0}
+IsSealError input wishes (Vacuous vacuity) =
+    (space : NameSpace) × (space_of input ≡ Ok space) × IsVacuous space wishes vacuity
+IsSealError input wishes (Changeable change) =
+    (space : NameSpace) × (space_of input ≡ Ok space) × IsChangeable space wishes change
+IsSealError input wishes NoMemory = Unit {0}

@@ -5,6 +5,7 @@ ghost use Rattle.p9_seal.specs.Error.{vacuity_against, vacuity_of};
 
 use p9_base::NoMemory;
 use p9_commands::{NameSpace, Refusal, Stop};
+use p9_fixed::Change;
 use p9_judge::Breach;
 use p9_nsfile::OpFault;
 use p9_tree::Tree;
@@ -59,6 +60,8 @@ pub enum SealError<A: Allocator> {
     No(Breach<A>),
     /// What is hidden is out of reach, but that says little.
     Vacuous(Vacuity),
+    /// A fixed name space is wished, and this is the first node that some listed user can change.
+    Changeable(Change),
     /// An allocation failed.
     NoMemory,
 }
@@ -92,6 +95,10 @@ impl<A: Allocator + Copy> SealError<A> {
                 let why = vacuity.text(alloc)?;
                 format!(in alloc; "not sealed: {why} (--anyway seals it)")
             }
+            SealError::Changeable(_) => String::from_str(
+                alloc,
+                "not sealed: listed users can change what they reach",
+            ),
             SealError::NoMemory => Err(AllocError),
         }
     }

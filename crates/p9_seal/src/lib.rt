@@ -4,6 +4,8 @@
 mod error;
 mod sealing;
 mod text;
+mod wishes;
 
 pub use error::{SealError, Vacuity};
 pub use sealing::seal;
+pub use wishes::Wishes;

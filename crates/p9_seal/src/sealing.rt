@@ -9,12 +9,14 @@ ghost use Rattle.p9_commands.specs.Bundle.{bundle_of};
 ghost use Rattle.p9_commands.specs.Refusal.{IsStop, or_refused};
 ghost use Rattle.p9_commands.specs.declared.refusal.Refusal.TheVariants.{BadSection};
 ghost use Rattle.p9_seal.specs.Error.{vacuity_against};
-ghost use Rattle.p9_seal.specs.Sealing.{IsBundle, IsSealError, IsSealable, IsSealed, IsUnsealed, IsYes};
+ghost use Rattle.p9_seal.specs.Sealing.{IsBundle, IsSealError, IsSealable, IsSealed, IsUnsealed, IsWished};
+ghost use Rattle.p9_seal.specs.Sealing.{IsYes};
 ghost use Rattle.p9_seal.specs.Sealing.{is_empty, space_of};
 ghost use Rattle.p9_seal.specs.Text.{sealed_text};
 
 use crate::error::{SealError, vacuity_against};
 use crate::text::with_certificate;
+use crate::wishes::{Wishes, change_against};
 use p9_base::NoMemory;
 use p9_cert::{Certificate, write_cert};
 use p9_commands::{BundleError, NameSpace, Needs, Prepared, Refusal, Stop, prepare, split_bundle};
@@ -35,16 +37,18 @@ use std::alloc::Allocator;
 /// 2. The input's first fault, as [`prepare`] has it, but for those of the old certificate, which is
 ///    not read: [`SealError::Refused`].
 /// 3. What is hidden is within reach: [`SealError::No`].
-/// 4. Unless `anyway` is given, a yes that says little: [`SealError::Vacuous`].
+/// 4. Unless it is wished [anyway](Wishes::anyway), a yes that says little: [`SealError::Vacuous`].
+/// 5. Where a [fixed](Wishes::fixed) name space is wished, the first node that some listed user can
+///    change: [`SealError::Changeable`].
 ///
 /// Where an allocation fails, the error is [`SealError::NoMemory`] in the place of any of these.
 pub fn seal<T: Tree>(
     alloc: T::Alloc,
     input: &[u8],
-    anyway: bool,
+    wishes: Wishes,
 ) -> Result<String<T::Alloc>, SealError<T::Alloc>>
-    ensures ok { IfOk result (λ output. IsSealed input.now anyway (string_bytes output)) }
-    ensures err { IfErr result (IsSealError input.now anyway) }
+    ensures ok { IfOk result (λ output. IsSealed input.now wishes (string_bytes output)) }
+    ensures err { IfErr result (IsSealError input.now wishes) }
 {
     if is_empty(input) {
         return Err(SealError::Empty);
@@ -52,7 +56,7 @@ pub fn seal<T: Tree>(
     let Ok(text) = str::from_utf8(input) else {
         return Err(SealError::Refused(Refusal::NotUtf8));
     };
-    let certificate = certificate_of::<T>(alloc, text, anyway)?;
+    let certificate = certificate_of::<T>(alloc, text, wishes)?;
     Ok(sealed(alloc, text, &certificate)?)
 }
 
@@ -65,17 +69,17 @@ fn is_empty(input: &[u8]) -> bool
         .all(|byte| matches!(byte, b' ' | b'\t' | b'\n'))
 }
 
-// The judge's certificate over the name space of an input, if the verdict is a yes that says something.
+// The judge's certificate over the name space of an input, if the verdict is a yes as it is wished.
 fn certificate_of<T: Tree>(
     alloc: T::Alloc,
     text: &str,
-    anyway: bool,
+    wishes: Wishes,
 ) -> Result<Certificate<T::Alloc>, SealError<T::Alloc>>
-    ensures ok { IfOk result (IsSealable text.now anyway) }
-    ensures err { IfErr result (IsSealError text.now anyway) }
+    ensures ok { IfOk result (IsSealable text.now wishes) }
+    ensures err { IfErr result (IsSealError text.now wishes) }
 {
     let prepared = prepare_draft::<T>(alloc, text)?;
-    let certificate = certificate_over(alloc, &prepared.space, anyway);
+    let certificate = certificate_over(alloc, &prepared.space, wishes);
     prepared.discard();
     certificate
 }
@@ -106,22 +110,39 @@ fn test_bundle<A: Allocator + Copy>(alloc: A, text: &str) -> Result<(), Stop>
     }
 }
 
-// The judge's certificate over a name space, if the verdict is a yes that says something.
+// The judge's certificate over a name space, if the verdict is a yes as it is wished.
 fn certificate_over<T: Tree>(
     alloc: T::Alloc,
     space: &NameSpace<T>,
-    anyway: bool,
+    wishes: Wishes,
 ) -> Result<Certificate<T::Alloc>, SealError<T::Alloc>>
-    ensures yes { IfOk result (λ rows. IsYes space.now rows) }
-    ensures telling { OnOk result (vacuity_against anyway space.now ≡ None) }
-    ensures err { IfErr result (IsUnsealed anyway space.now) }
+    ensures ok { IfOk result (IsWished space.now wishes) }
+    ensures err { IfErr result (IsUnsealed space.now wishes) }
 {
     match judge(alloc, &space.world, &space.table)? {
         Verdict::No(breach) => Err(SealError::No(breach)),
-        Verdict::Yes(certificate) => match vacuity_against(anyway, space) {
+        Verdict::Yes(certificate) => match vacuity_against(wishes.anyway, space) {
             Some(vacuity) => Err(SealError::Vacuous(vacuity)),
-            None => Ok(certificate),
+            None => fixed_certificate(alloc, space, wishes, certificate),
         },
+    }
+}
+
+// The certificate of a yes, unless a fixed name space is wished and some listed user can change it.
+fn fixed_certificate<T: Tree>(
+    alloc: T::Alloc,
+    space: &NameSpace<T>,
+    wishes: Wishes,
+    certificate: Certificate<T::Alloc>,
+) -> Result<Certificate<T::Alloc>, SealError<T::Alloc>>
+    requires yes { IsYes space.now certificate }
+    requires telling { vacuity_against wishes.anyway space.now ≡ None }
+    ensures ok { IfOk result (IsWished space.now wishes) }
+    ensures err { IfErr result (IsUnsealed space.now wishes) }
+{
+    match change_against(alloc, wishes.fixed, space, &certificate)? {
+        Some(change) => Err(SealError::Changeable(change)),
+        None => Ok(certificate),
     }
 }
 

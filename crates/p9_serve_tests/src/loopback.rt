@@ -4,7 +4,6 @@
 //! dropped is proved once, and not in each owner.
 
 use crate::rows::{READ, Row, WRITE};
-use byteorder::{ByteOrder, LittleEndian};
 use mio::net::{TcpListener, TcpStream};
 use p9_index::IndexTree;
 use p9_serve::{Listener, Server, Sockets, served_guard};
@@ -109,22 +108,6 @@ impl Loopback {
         assert!(rt; got.as_slice() == wanted.as_slice());
     }
 
-    /// Takes rounds until a client has got a whole reply, which has as many bytes as the size at its
-    /// front says, and returns it.
-    pub fn any_reply(
-        &mut self,
-        rt: &(impl Abort + AllocGlobal),
-        client: &mut TcpStream,
-    ) -> Vec<u8> {
-        let mut got = Vec::new(rt.alloc());
-        self.gather(rt, client, &mut got, 4);
-        assert!(rt; got.len() >= 4);
-        let size = LittleEndian::read_u32(got.as_slice()) as usize;
-        self.gather(rt, client, &mut got, size);
-        assert!(rt; got.len() == size);
-        got
-    }
-
     /// Takes rounds until something has come to a client, and returns what its first read gives.
     pub fn first_read(
         &mut self,
@@ -176,17 +159,6 @@ impl Loopback {
         assert!(rt; self.closed == count);
     }
 
-    /// Takes rounds until the server has ended a client's connection. No byte comes before that.
-    pub fn end(&mut self, rt: &impl Abort, client: &mut TcpStream) {
-        for _ in self.rounds..ROUNDS {
-            if is_ended(rt, client) {
-                break;
-            }
-            let _ = self.round();
-        }
-        assert!(rt; is_ended(rt, client));
-    }
-
     /// Closes all, and compares that no session of the first keys is open.
     pub fn finish(self, rt: &impl Abort, keys: u32) {
         finish(rt, self.server, keys);
@@ -213,20 +185,6 @@ fn receive(rt: &impl Abort, client: &mut TcpStream, got: &mut Vec<u8>) {
     match client.read(&mut buffer) {
         Ok(count) => assert!(rt; got.extend_from_slice(&buffer[..count]).is_ok()),
         Err(error) => assert!(rt; error.kind() == ErrorKind::WouldBlock),
-    }
-}
-
-/// Whether a client's connection is ended, by the server. No byte has come.
-pub fn is_ended(rt: &impl Abort, client: &mut TcpStream) -> bool {
-    match client.read(&mut [0; 8]) {
-        Ok(count) => {
-            assert!(rt; count == 0);
-            true
-        }
-        Err(error) => {
-            assert!(rt; error.kind() == ErrorKind::WouldBlock);
-            false
-        }
     }
 }
 

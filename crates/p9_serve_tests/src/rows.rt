@@ -102,72 +102,11 @@ dir 0 0
 dir 0 1
 ";
 
-/// The number of the first file that is made in that world.
-pub const FIRST: u64 = 3;
-
-/// Rob attaches fid 0.
-pub const ATTACH_ROB: Row = (
-    "16000000 68 0100 00000000 ffffffff 0300 726f62 0000",
-    "14000000 69 0100 80 00000000 0000000000000000",
-);
-
-/// Fid 1 is made to be rob's file, and is opened to read and to write.
-pub const OPEN_OWN: [Row; 2] = [
-    (
-        "14000000 6e 0200 00000000 01000000 0100 0100 66",
-        "16000000 6f 0200 0100 00 00000000 0200000000000000",
-    ),
-    (
-        "0c000000 70 0300 01000000 02",
-        "18000000 71 0300 00 00000000 0200000000000000 e81f0000",
-    ),
-];
-
 /// Fid 1 is made to be glenda's directory.
 pub const TO_HOME: Row = (
     "17000000 6e 0200 00000000 01000000 0100 0400 686f6d65",
     "16000000 6f 0200 0100 80 00000000 0100000000000000",
 );
-
-/// A stat of the root, whose reply has 70 bytes.
-pub const STAT: &str = "0b000000 7c 0800 00000000";
-
-/// A file `n` is made in glenda's directory as fid 2. Five bytes are written and read, and its stat
-/// is shown. It is found as fid 3, which is clunked. It is removed, and isn't found. Where a reply
-/// has the file's number, there is a `#`.
-pub const WORK: [Row; 9] = [
-    (
-        "11000000 6e 0300 01000000 02000000 0000",
-        "09000000 6f 0300 0000",
-    ),
-    (
-        "13000000 72 0400 02000000 0100 6e a4010000 02",
-        "18000000 73 0400 00 00000000 # e81f0000",
-    ),
-    (
-        "1c000000 76 0500 02000000 0000000000000000 05000000 68656c6c6f",
-        "0b000000 77 0500 05000000",
-    ),
-    (
-        "17000000 74 0600 02000000 0000000000000000 0a000000",
-        "10000000 75 0600 05000000 68656c6c6f",
-    ),
-    (
-        "0b000000 7c 0700 02000000",
-        "4d000000 7d 0700 4400 4200 0000 00000000 00 01000000 # 80010000 00000000 00000000 \
-        0500000000000000 0100 6e 0600 676c656e6461 0600 676c656e6461 0600 676c656e6461",
-    ),
-    (
-        "14000000 6e 0800 01000000 03000000 0100 0100 6e",
-        "16000000 6f 0800 0100 00 01000000 #",
-    ),
-    ("0b000000 78 0900 03000000", "07000000 79 0900"),
-    ("0b000000 7a 0a00 02000000", "07000000 7b 0a00"),
-    (
-        "14000000 6e 0b00 01000000 03000000 0100 0100 6e",
-        "1c000000 6b 0b00 1300 66696c6520646f6573206e6f74206578697374",
-    ),
-];
 
 /// Glenda makes a file `n` in her directory as fid 2, writes five bytes and reads them, and asks for
 /// its stat after each. It is made at the time 2^32 - 1, written four seconds later, and read four

@@ -42,6 +42,14 @@ impl<A: Allocator> Bytes<A> {
         }
     }
 
+    /// What they are allocated by.
+    pub fn allocator(&self) -> A
+    where
+        A: Copy,
+    {
+        *self.items.allocator()
+    }
+
     /// All of them.
     pub fn as_slice(&self) -> &[u8]
         ensures { result.now ≡ self.now }

@@ -10,6 +10,7 @@ mod change;
 mod forest;
 mod forest_change;
 mod journal;
+mod kept;
 mod new;
 mod node;
 mod plain;

@@ -16,6 +16,7 @@ ghost use Rattle.p9_tree.specs.Server.{root_mode, root_node};
 
 use crate::bytes::Bytes;
 use crate::change::Change;
+use crate::kept::{KeptEntry, KeptName, kept_entry, kept_name};
 use crate::new::New;
 use crate::saved::Saved;
 use p9_base::{Kind, Mode, Name, NoMemory, Permissions, Rights, User, valid_name};
@@ -26,7 +27,7 @@ use std::marker::Model;
 #[derive(Drop)]
 pub struct Node<A: Allocator> {
     pub(crate) number: u64,
-    pub(crate) entry: Option<Entry>,
+    pub(crate) entry: Option<KeptEntry<A>>,
     pub(crate) mode: Mode,
     pub(crate) uid: User,
     pub(crate) gid: User,
@@ -81,7 +82,7 @@ impl<A: Allocator> Node<A> {
     pub fn parent(&self) -> Option<u64>
         ensures { result ≡ self.now.parent }
     {
-        self.entry.map(|e| e.parent)
+        self.entry.as_ref().map(|e| e.parent)
     }
 
     /// The directory that it is in, and its name there. The root has none.
@@ -89,7 +90,7 @@ impl<A: Allocator> Node<A> {
         ensures { result ≡ option_map (λ parent. record { parent = parent; name = self.now.name })
             self.now.parent }
     {
-        self.entry
+        self.entry.as_ref().map(|e| e.entry())
     }
 
     /// Its name in its directory. The root's is `/`.
@@ -180,7 +181,7 @@ impl<A: Allocator> Node<A> {
     {
         self.entry
             .as_ref()
-            .is_some_and(|e| e.parent == dir && e.name == *name)
+            .is_some_and(|e| e.parent == dir && e.name.as_str() == name.as_str())
     }
 
     /// Whether its number is greater than the floor, if there is one.
@@ -203,7 +204,7 @@ impl<A: Allocator> Node<A> {
     {
         Saved {
             number: self.number,
-            entry: self.entry,
+            entry: self.entry(),
             mode: self.mode,
             uid: self.uid,
             gid: self.gid,
@@ -240,6 +241,8 @@ impl<A: Allocator> Node<A> {
     /// A new node of this number, in the directory. Its version is 0. The only error is a failed
     /// allocation.
     pub fn new(alloc: A, number: u64, dir: u64, new: &New<'_>) -> Result<Node<A>, NoMemory>
+    where
+        A: Copy,
         ensures node { IfOk result (λ node. node ≡ new_node number dir new.now) }
         ensures name { IsTrue (is_name new.now.name) }
         ensures tellable { IfOk result (λ node. IsTellable node) }
@@ -247,9 +250,9 @@ impl<A: Allocator> Node<A> {
         prove!(valid_name(new.name.as_str()));
         let node = Node {
             number,
-            entry: Some(Entry {
+            entry: Some(KeptEntry {
                 parent: dir,
-                name: new.name,
+                name: KeptName::copy_of(alloc, &new.name)?,
             }),
             mode: new.mode,
             uid: new.uid,
@@ -266,6 +269,8 @@ impl<A: Allocator> Node<A> {
 
     /// The node that is saved. The only error is a failed allocation.
     pub fn restored(alloc: A, saved: &Saved<'_>) -> Result<Node<A>, NoMemory>
+    where
+        A: Copy,
         ensures node { IfOk result (λ node. node ≡ saved_node saved.now) }
         ensures name { ForSome saved.now.entry (λ entry. IsTrue (is_name entry.name)) }
         ensures tellable { IfOk result (λ node. IsTellable node) }
@@ -273,7 +278,7 @@ impl<A: Allocator> Node<A> {
         prove_name_valid(&saved.entry);
         let restored = Node {
             number: saved.number,
-            entry: saved.entry,
+            entry: kept_entry(alloc, &saved.entry)?,
             mode: saved.mode,
             uid: saved.uid,
             gid: saved.gid,
@@ -367,6 +372,8 @@ impl<A: Allocator> Node<A> {
 
     /// Makes all of the change. Where an allocation fails, the node is as before.
     pub fn change(&mut self, change: &Change) -> Result<(), NoMemory>
+    where
+        A: Copy,
         requires named { ForSome change.now.name (λ name. IsSome self.old.parent) }
         requires small { ForSome change.now.length (λ size. size ≤ file_max) }
         ensures ok { OnOk result (self.new ≡ changed change.entry.now self.old) }
@@ -374,11 +381,12 @@ impl<A: Allocator> Node<A> {
         ensures tellable { OnOk result (IsTellable self.new) }
         ensures err { OnErr result (self.new ≡ self.old) }
     {
+        let name = kept_name(self.bytes.allocator(), &change.name)?;
         self.set_length(change)?;
         self.set_mtime(change);
         self.mode = change.mode.unwrap_or(self.mode);
         self.gid = change.gid.unwrap_or(self.gid);
-        self.rename(change.name);
+        self.rename(name);
         self.tellable();
         Ok(())
     }
@@ -419,13 +427,13 @@ impl<A: Allocator> Node<A> {
     }
 
     // Gives it the new name, if there is one.
-    fn rename(&mut self, name: Option<Name>)
+    fn rename(&mut self, name: Option<KeptName<A>>)
         requires { ForSome name (λ name. IsSome self.old.parent) }
         ensures name { self.new ≡ record self.old { name = unwrap_or name self.old.name } }
         ensures valid { ForSome name (λ name. IsTrue (is_name name)) }
     {
         if let (Some(entry), Some(name)) = (&mut self.entry, name) {
-            prove!(valid_name(name.as_str()));
+            let _valid = name.as_str();
             entry.name = name;
         }
     }

@@ -5,7 +5,7 @@
 //! A test is a text with a call in each line, and its expected result after `=`. So a proof loads
 //! one literal, whatever a test has in it, which costs much less than a table of values.
 //!
-//! `wire` has the tests of p9_wire, p9_words and p9_exchange.
+//! `wire` has the tests of p9_wire, p9_words and p9_exchange, `log` those of p9_log and p9_disk.
 #![tactic(auto)]
 
 #[cfg(test)]
@@ -28,6 +28,8 @@ mod forests;
 mod growths;
 #[cfg(test)]
 mod kept;
+#[cfg(test)]
+mod log;
 #[cfg(test)]
 mod looks;
 #[cfg(test)]

@@ -1,8 +1,8 @@
 //! Allocations that fail: a call says so, and made again it does all that it has to.
 
-use p9_explain::explain;
+use p9_explain::{explain, explain_change};
 use p9_index::IndexTree;
-use p9_seal::{SealError, seal};
+use p9_seal::{SealError, Wishes, seal};
 use p9_testing::{Refusing, refuse_each};
 use std::alloc::Allocator;
 use std::process::Abort;
@@ -41,12 +41,43 @@ open 1
 
 // Seals the vault. Where an allocation fails, the call says so.
 fn seal_again<A: Allocator + Copy>(rt: &impl Abort, alloc: A) {
-    let mut text = seal::<IndexTree<A>>(alloc, VAULT.as_bytes(), false);
+    let mut text = seal::<IndexTree<A>>(alloc, VAULT.as_bytes(), Wishes::default());
     if matches!(&text, Err(SealError::NoMemory)) {
-        text = seal::<IndexTree<A>>(alloc, VAULT.as_bytes(), false);
+        text = seal::<IndexTree<A>>(alloc, VAULT.as_bytes(), Wishes::default());
     }
     let text = text.ok().expect(rt, "a text");
     assert!(rt; text.as_str() == SEALED);
+}
+
+// What a listed user can change in the vault, and how that is mended.
+const CHANGE: &str =
+    "glenda may write main:/pub (mine:3, world:2, 777 sys sys: others may write), bound at main:/ (mine:8, ns:1)
+mend: give it to an owner and a group leader who is not listed, and no write bit to others or to groups with listed members
+";
+
+// Asks for the vault as a fixed name space, which it is not, and why. Where an allocation fails, a call
+// says so and writes nothing.
+fn refuse_again<A: Allocator + Copy>(rt: &impl Abort, alloc: A) {
+    let wishes = Wishes {
+        anyway: false,
+        fixed: true,
+    };
+    let mut text = seal::<IndexTree<A>>(alloc, VAULT.as_bytes(), wishes);
+    if matches!(&text, Err(SealError::NoMemory)) {
+        text = seal::<IndexTree<A>>(alloc, VAULT.as_bytes(), wishes);
+    }
+    let change = match text {
+        Err(SealError::Changeable(change)) => Some(change),
+        _ => None,
+    };
+    let change = change.expect(rt, "a change");
+    let mut out = Vec::new(alloc);
+    let mut told = explain_change::<IndexTree<A>>("mine", VAULT.as_bytes(), &change, &mut out);
+    if told.is_err() {
+        assert!(rt; out.is_empty());
+        told = explain_change::<IndexTree<A>>("mine", VAULT.as_bytes(), &change, &mut out);
+    }
+    assert!(rt; told.is_ok() && out.as_slice() == CHANGE.as_bytes());
 }
 
 // Explains an input. Where an allocation fails, the call says so and writes nothing.
@@ -74,6 +105,7 @@ cert 1
 // What is said of it.
 const EXPLAINED: &str = "claim: glenda neither sees nor changes what is inside main:/vault
 yes: clients can reach 1 directory, and nothing hidden
+fixed: no listed user can change anything that he reaches
 certificate: not accepted: a walk begins at main:/
   main:/ (mine:2, world:1, 755 sys sys) is no row: others may read and search it
 hint: mine:4, world:3: ann is no listed user
@@ -109,6 +141,8 @@ fn each_call_is_made_again_at_each_refusal(rt: HostRuntime) {
     let memory = Refusing::new(rt.alloc());
     let seals = refuse_each(&memory, || (), |()| seal_again(&rt, &memory));
     assert!(rt; seals > 50);
+    let refusals = refuse_each(&memory, || (), |()| refuse_again(&rt, &memory));
+    assert!(rt; refusals > 50);
     for (input, words) in &EXPLAINS {
         let explains = refuse_each(
             &memory,

@@ -20,7 +20,7 @@ returns-in_ok-format-in-Yes g c =
     (subst (λ s. IsTrue (is_table_given s.world.forest s.table)) same c.space.invariant)
     (subst (λ s. IsVerdict (policy_of s.world) s.world.forest s.table c.in_ok-least.field-0) same
     c.in_ok-least.ensures)
-    c.in_ok-format-in-Yes.ensures.ok)
+    c.in_ok-words-in-Yes.ensures c.in_ok-format-in-Yes.ensures.ok)
 
 pub returns-in_ok-format-in-No : goal.returns-in_ok-format-in-No
 returns-in_ok-format-in-No g c =

@@ -1,5 +1,5 @@
 use Rattle.std.proofs.Common.{ap, sym, ◌∙◌}
-use Rattle.p9_explain.specs.Walker.{TakesAll, takes_all}
+use Rattle.p9_explain.specs.Walker.{takes_all}
 use Rattle.p9_explain.proofs.Walkers.{takes-all}
 use Rattle.p9_explain.proofs.walker.walker_of.Goals as goal
 

@@ -7,7 +7,7 @@ use Rattle.std.specs.Ordering.{nat_cmp}
 use Rattle.std.specs.Map.{lookup, set_value}
 use Rattle.p9_base.proofs.Rows.{set_value-same}
 use Rattle.p9_fids.proofs.Values.{set-mapped}
-use Rattle.p9_requests.specs.Held.{SessionsFit, session_in, sessions_in}
+use Rattle.p9_walks.specs.Held.{SessionsFit, session_in, sessions_in}
 use Rattle.p9_requests.proofs.Sessions.{fits-lookup, fits-set, session-held, session-there}
 use Rattle.p9_wire.specs.Message.{t_view}
 use Rattle.p9_wire.specs.Spelling.{read_header}

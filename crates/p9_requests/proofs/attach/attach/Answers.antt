@@ -1,7 +1,7 @@
-use Rattle.p9_requests.specs.Answers.{replied}
+use Rattle.p9_walks.specs.Answers.{replied}
 use Rattle.p9_wire.specs.Message.{Rattach}
 use Rattle.std.specs.Prelude.{is_some}
-use Rattle.p9_requests.proofs.Beyond.{attach-or}
+use Rattle.p9_walks.proofs.Beyond.{attach-or}
 use Rattle.p9_requests.proofs.attach.attach.Goals as goal
 
 pub returns-clause-answer : goal.returns-clause-answer

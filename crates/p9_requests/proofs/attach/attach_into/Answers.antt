@@ -6,9 +6,9 @@ use Rattle.p9_fids.specs.Fid.{Fid, FidRow, changed_fid, fid_at, trailed}
 use Rattle.p9_fids.specs.Held.{Held, fid_of}
 use Rattle.p9_step.specs.Attach.{attach_answer, attached}
 use Rattle.p9_step.specs.State.{Session}
-use Rattle.p9_requests.specs.Reserved.{unkept}
+use Rattle.p9_walks.specs.Reserved.{unkept}
 use Rattle.p9_requests.proofs.Attaches.{attach-goes, attach-rests, attach-there}
-use Rattle.p9_requests.proofs.Reserved.{found-same, found-some}
+use Rattle.p9_walks.proofs.Reserved.{found-same, found-some}
 use Rattle.p9_requests.proofs.attach.attach_into.Goals as goal
 
 pub unwrap-requires : goal.unwrap-requires

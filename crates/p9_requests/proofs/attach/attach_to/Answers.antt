@@ -1,5 +1,5 @@
 use Rattle.std.proofs.Common.{sym}
-use Rattle.p9_requests.proofs.Places.{node_of-below}
+use Rattle.p9_walks.proofs.Places.{node_of-below}
 use Rattle.p9_requests.proofs.attach.attach_to.Goals as goal
 
 pub qid_of-requires : goal.qid_of-requires

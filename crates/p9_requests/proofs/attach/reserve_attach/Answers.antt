@@ -1,7 +1,7 @@
 use Rattle.std.proofs.Common.{◌∙◌, List, ap, le_refl}
 use Rattle.p9_fids.specs.Fid.{FidRow, without_fid}
 use Rattle.p9_fids.proofs.Places.{remove-added}
-use Rattle.p9_requests.proofs.Reserved.{absent, placed}
+use Rattle.p9_walks.proofs.Reserved.{absent, placed}
 use Rattle.p9_requests.proofs.attach.reserve_attach.Goals as goal
 
 pub add-requires : goal.add-requires

@@ -1,5 +1,5 @@
 use Rattle.std.proofs.Common.{sym}
-use Rattle.p9_requests.proofs.Places.{node_of-below}
+use Rattle.p9_walks.proofs.Places.{node_of-below}
 use Rattle.p9_requests.proofs.frame.write_stat_of.Goals as goal
 
 pub stat_of-stat-requires : goal.stat_of-stat-requires

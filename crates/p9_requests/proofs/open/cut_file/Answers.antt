@@ -3,7 +3,7 @@ use Rattle.std.specs.Option.{option_copied}
 use Rattle.p9_tree.specs.Forest.{forest_changed_at, node_of}
 use Rattle.p9_tree.specs.Node.{marked}
 use Rattle.p9_step.specs.ForestChange.{Cut, Mark, all_applied, edited}
-use Rattle.p9_requests.proofs.Places.{node_of-below}
+use Rattle.p9_walks.proofs.Places.{node_of-below}
 use Rattle.p9_requests.proofs.Truncation.{copied-some, cut-there, cuts, cuts-made, qid-after}
 use Rattle.p9_requests.proofs.Truncation.{still_there}
 use Rattle.p9_requests.proofs.open.cut_file.Goals as goal

@@ -4,7 +4,7 @@ use Rattle.std.specs.Map.{values_of}
 use Rattle.p9_fids.specs.Fid.{open_count}
 use Rattle.p9_fids.proofs.Values.{any-mapped, values-mapped}
 use Rattle.p9_step.specs.State.{Session}
-use Rattle.p9_requests.specs.Held.{session_in}
+use Rattle.p9_walks.specs.Held.{session_in}
 use Rattle.p9_requests.proofs.Sessions.{fits-all}
 use Rattle.p9_requests.proofs.open.is_in_use.Goals as goal
 

@@ -1,5 +1,5 @@
 use Rattle.std.proofs.Common.{sym}
-use Rattle.p9_requests.proofs.Places.{node_of-below}
+use Rattle.p9_walks.proofs.Places.{node_of-below}
 use Rattle.p9_requests.proofs.open.open.Goals as goal
 
 pub qid_of-qid-requires : goal.qid_of-qid-requires

@@ -14,7 +14,7 @@ use Rattle.p9_step.specs.State.{who_of}
 use Rattle.p9_requests.specs.Wstat.{touched_view}
 use Rattle.p9_step.specs.Wstat.{Touched, is_any, node_change, touched_of}
 use Rattle.p9_step.specs.Wstat.{touches_fixed, wstat_fault}
-use Rattle.p9_requests.proofs.Places.{node_of-below}
+use Rattle.p9_walks.proofs.Places.{node_of-below}
 use Rattle.p9_requests.proofs.Writes.{memory_refused}
 use Rattle.p9_step.proofs.Permits.{can_change, nothing_refuses}
 use Rattle.p9_requests.proofs.Wstats.{not_refused, passes, refuses, wstat-did, wstat-idle}

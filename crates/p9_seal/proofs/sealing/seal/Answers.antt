@@ -22,12 +22,12 @@ returns-in_err-sealed-clause-err g c =
 pub returns-clause-ok : goal.returns-clause-ok
 returns-clause-ok g c =
     let same = c.in-Ok.ensures.cases.0 in
-    subst (λ input. IsSealed input c.args.anyway (string_bytes c.in_ok-sealed.field-0)) same
-    (sealed-ok c.in-Ok.text.now (string_bytes c.in_ok-sealed.field-0) c.args.anyway
+    subst (λ input. IsSealed input c.args.wishes (string_bytes c.in_ok-sealed.field-0)) same
+    (sealed-ok c.in-Ok.text.now (string_bytes c.in_ok-sealed.field-0) c.args.wishes
     c.in_ok-certificate.ensures.ok.space c.in_ok-certificate.certificate
     (ap is_empty same ∙ sym c.is_empty.ensures ∙ c.if-is_empty.false)
     (subst (λ text. is_utf8 text ≡ true) (sym same)
     (is_utf8-from_IsUtf8 _ c.in-Ok.ensures.cases.1))
     c.in_ok-sealed.ensures.utf8
     c.in_ok-certificate.ensures.ok.bundle c.in_ok-certificate.ensures.ok.read
-    c.in_ok-certificate.ensures.ok.yes c.in_ok-certificate.ensures.ok.telling c.sealed.ensures.sound c.in_ok-sealed.ensures.written)
+    c.in_ok-certificate.ensures.ok.wished c.sealed.ensures.sound c.in_ok-sealed.ensures.written)

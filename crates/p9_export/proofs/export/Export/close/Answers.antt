@@ -5,7 +5,7 @@ use Rattle.p9_fids.proofs.Values.{remove-mapped}
 use Rattle.p9_step.specs.Sound.{AreWellOpen}
 use Rattle.p9_step.specs.State.{Session, session_at}
 use Rattle.p9_step.proofs.Sounds.{served-closed}
-use Rattle.p9_requests.specs.Held.{HeldSession, SessionFits, session_in, sessions_in}
+use Rattle.p9_walks.specs.Held.{HeldSession, SessionFits, session_in, sessions_in}
 use Rattle.p9_requests.proofs.Sessions.{fits-lookup, session-none, session-there}
 use Rattle.p9_export.proofs.Sessions.{fits-remove}
 use Rattle.p9_export.proofs.Sounds.{found-fits}

@@ -5,7 +5,7 @@ use Rattle.p9_wire.specs.Spelling.{read_header}
 use Rattle.p9_step.specs.Laws.{reply_max}
 use Rattle.p9_step.specs.State.{State, session_at}
 use Rattle.p9_step.specs.Sound.{IsState}
-use Rattle.p9_requests.specs.Held.{sessions_in}
+use Rattle.p9_walks.specs.Held.{sessions_in}
 use Rattle.p9_export.proofs.Rooms.{among-room, if-open}
 use Rattle.p9_export.proofs.Sounds.{reply-short, served-among}
 use Rattle.p9_step.proofs.Sounds.{each-session-served}

@@ -2,8 +2,8 @@ use Rattle.std.proofs.Common.{◌≡◌, ◌∙◌, true, false, ap, is_some, re
 use Rattle.std.specs.Ordering.{nat_cmp}
 use Rattle.p9_fids.proofs.Values.{insert-mapped}
 use Rattle.p9_step.specs.State.{fresh, session_at, with_session}
-use Rattle.p9_requests.specs.Held.{HeldSession, session_in, sessions_in}
-use Rattle.p9_requests.proofs.Removals.{absent}
+use Rattle.p9_walks.specs.Held.{HeldSession, session_in, sessions_in}
+use Rattle.p9_walks.proofs.Removals.{absent}
 use Rattle.p9_export.proofs.Sessions.{kept-put, session-open}
 use Rattle.p9_export.proofs.export.Export.open.Goals as goal
 

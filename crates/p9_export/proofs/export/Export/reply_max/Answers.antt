@@ -3,7 +3,7 @@ use Rattle.std.specs.Option.{option_copied}
 use Rattle.p9_wire.specs.Frame.{msize_max}
 use Rattle.p9_step.specs.State.{session_at}
 use Rattle.p9_step.proofs.Sounds.{each-session-served}
-use Rattle.p9_requests.specs.Held.{sessions_in}
+use Rattle.p9_walks.specs.Held.{sessions_in}
 use Rattle.p9_requests.proofs.Sessions.{session-none, session-there}
 use Rattle.p9_export.proofs.Rooms.{small-room}
 use Rattle.p9_export.proofs.export.Export.reply_max.Goals as goal

@@ -44,7 +44,7 @@ invariant_of-self-then-is_err g c =
                 c.take_out.ensures.listed
                 (unlisted-number t.nodes.entries t.next t.entries c.args.entry c.args.number
                 c.args.node t.index t.well_formed c.requires),
-            named_back t.entries c.enter.new.self c.take_out.new.self c.args.entry
+            named_back t.entries.numbers c.enter.new.self.numbers c.take_out.new.self.numbers c.args.entry
                 (Some c.args.number) c.in_ok-enter.ensures.named c.take_out.ensures.named
                 (free-entry t.nodes.entries t.next t.entries c.args.entry c.args.number c.args.node
                 t.index t.well_formed c.requires),

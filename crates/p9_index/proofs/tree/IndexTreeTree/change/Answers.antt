@@ -142,7 +142,7 @@ invariant_of-self-then-is_err g c =
     t.well_formed in
     let back : HasSame t.entries c.unname.new.self = (
       (λ q. c.unname.ensures.listed q ∙ c.in_ok-name.ensures.listed q),
-      named_back t.entries c.name.new.self c.unname.new.self to (Some c.args.number)
+      named_back t.entries.numbers c.name.new.self.numbers c.unname.new.self.numbers to (Some c.args.number)
           c.in_ok-name.ensures.named c.unname.ensures.named free,
     ) in
     record {

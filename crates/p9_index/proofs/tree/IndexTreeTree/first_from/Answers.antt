@@ -1,3 +1,4 @@
+use Rattle.std.proofs.Common.{◌∙◌, Some, ap}
 use Rattle.p9_index.proofs.FirstFrom.{first-none, first-some}
 use Rattle.p9_index.proofs.tree.IndexTreeTree.first_from.Goals as goal
 
@@ -9,5 +10,6 @@ returns-in_err-node g c =
 
 pub returns : goal.returns
 returns g c =
-    first-some c.args.number _ _ c.args.self.now.index.keyed (c.range.ensures.between tt) _ _
+    ap Some c.node.ensures
+    ∙ first-some c.args.number _ _ c.args.self.now.index.keyed (c.range.ensures.between tt) _ _
     c.in_ok-node.ensures.steps

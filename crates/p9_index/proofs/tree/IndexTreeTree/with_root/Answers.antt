@@ -13,11 +13,11 @@ pub invariant_of-result : goal.invariant_of-result
 invariant_of-result g c =
     let entries : c.insert.new.self.entries ≡ (0, root_node) ∷ [] =
     c.in_ok-insert.ensures.entries
-    ∙ ap (λ es. insert_entry nat_cmp es 0 c.root.result) c.new-nodes.ensures.empty
-    ∙ ap (λ (n : Node). (0, n) ∷ []) c.root.ensures in
+    ∙ ap (λ es. insert_entry nat_cmp es 0 c.in_ok-new.field-0) c.new-nodes.ensures.empty
+    ∙ ap (λ (n : Node). (0, n) ∷ []) (c.in_ok-new.ensures ∙ c.root.ensures) in
     record {
       well_formed = subst (λ es. WellFormed (server_of es 1)) (sym entries) WellFormed-rooted;
       index =
-          subst (λ es. IsIndex es (is_listed c.new.result) (number_at c.new.result)) (sym entries)
-          (IsIndex-rooted c.new.result c.new.ensures);
+          subst (λ es. IsIndex es (is_listed c.new-2.result) (number_at c.new-2.result)) (sym entries)
+          (IsIndex-rooted c.new-2.result c.new-2.ensures);
     }

@@ -1,0 +1,15 @@
+use Rattle.std.proofs.Common.{subst}
+use Rattle.std.specs.String.{string_bytes}
+use Rattle.p9_commands.specs.Prepared.{Prepared}
+use Rattle.p9_explain.specs.Change.{IsKindTold}
+use Rattle.p9_explain.proofs.Changes.{reach-told}
+use Rattle.p9_explain.proofs.explained.yes_words.Goals as goal
+
+pub returns : goal.returns
+returns g c =
+    let kind = string_bytes c.in_ok-kind.kind in
+    reach-told c.args.prepared.now.space c.args.least.now (string_bytes c.in_ok-format.field-0)
+    (string_bytes c.in_ok-reach.reach) kind (string_bytes c.match-prepared.hints)
+    (subst (λ (p : Prepared). IsKindTold p.space c.args.least.now kind) c.prepared.view_is
+    c.in_ok-kind.ensures)
+    c.in_ok-format.ensures.ok

@@ -1,0 +1,223 @@
+//! What listed users can change, in words.
+
+ghost use Rattle.std.specs.Prelude.{◌≡◌, ◌++◌, ℕ, IfOk, List, OnErr, OnOk};
+ghost use Rattle.std.specs.String.{string_bytes};
+ghost use Rattle.p9_explain.specs.Change.{IsChangeTold, IsDeedTold, IsVerb};
+
+use crate::breach::MEND_DIRECTORY;
+use crate::head::Section;
+use crate::member::dir_of;
+use crate::right::{Alteration, TO_USE, altering_class, class_of};
+use crate::source::Source;
+use crate::teller::{Teller, push, shown_path};
+use p9_base::{NoMemory, NodeRef, User};
+use p9_commands::{Needs, Prepared, Stop, prepare};
+use p9_fixed::{Change, ChangeKind, changer};
+use p9_shown::shown;
+use p9_tree::Tree;
+use p9_world::World;
+
+/// Says in words what a listed user can change in the name space of an input, and how that is mended:
+/// two lines, which are appended to `out`. They name the input by `name`, as those of
+/// [`explain`](crate::explain) do. The change is what [`first_change`](p9_fixed::first_change)
+/// returns over that name space. Neither the input's certificate nor its script is read. Of an input
+/// with a fault in its world nothing is said.
+///
+/// Where an allocation fails, it returns [`NoMemory`], and `out` is as before.
+pub fn explain_change<T: Tree>(
+    name: &str,
+    input: &[u8],
+    change: &Change,
+    out: &mut Vec<u8, T::Alloc>,
+) -> Result<(), NoMemory>
+    ensures ok { OnOk result ((text : List ℕ) × (out.new.items ≡ out.old.items ++ text)) }
+    ensures no_memory { OnErr result (out.new.items ≡ out.old.items) }
+{
+    let alloc = *out.allocator();
+    let source = Source::of(alloc, name, str::from_utf8(input).unwrap_or(""))?;
+    let text = mended_words::<T>(alloc, &source, change)?;
+    out.extend_from_slice(text.as_bytes())?;
+    Ok(())
+}
+
+// What a listed user can change in the name space of an input, and how that is mended.
+fn mended_words<T: Tree>(
+    alloc: T::Alloc,
+    source: &Source<'_, T::Alloc>,
+    change: &Change,
+) -> Result<String<T::Alloc>, NoMemory> {
+    match prepared_world::<T>(alloc, source)? {
+        Some(prepared) => {
+            let words = change_words(alloc, source, &prepared.space.world, change);
+            prepared.discard();
+            let words = words?;
+            let mend = mend(change.kind);
+            Ok(format!(in alloc; "{words}mend: {mend}\n")?)
+        }
+        None => Ok(String::new(alloc)),
+    }
+}
+
+// The world of an input, prepared without the other sections, if it has no fault.
+fn prepared_world<T: Tree>(
+    alloc: T::Alloc,
+    source: &Source<'_, T::Alloc>,
+) -> Result<Option<Prepared<T>>, NoMemory> {
+    let draft = match source.text(Section::World) {
+        Some(text) => format!(in alloc; "{}\n{text}", Section::World.head())?,
+        None => String::new(alloc),
+    };
+    match prepare::<T>(alloc, draft.as_str().as_bytes(), Needs::Nothing) {
+        Ok(prepared) => Ok(Some(prepared)),
+        Err(error) => match error.stop {
+            Stop::Refused(_) => Ok(None),
+            Stop::NoMemory => Err(NoMemory),
+        },
+    }
+}
+
+/// The line of a change: the first listed user who can make it, of which node, by which line that was
+/// made, by which right, and where it is bound.
+pub(crate) fn change_words<T: Tree>(
+    alloc: T::Alloc,
+    source: &Source<'_, T::Alloc>,
+    world: &World<T>,
+    change: &Change,
+) -> Result<String<T::Alloc>, NoMemory>
+    ensures { IfOk result (λ text. IsChangeTold world.now change.now (string_bytes text)) }
+{
+    match changer(world, change) {
+        Some(user) => deed_words(alloc, source, world, change, &user),
+        None => Ok(String::new(alloc)),
+    }
+}
+
+// The line of a change that this user can make.
+fn deed_words<T: Tree>(
+    alloc: T::Alloc,
+    source: &Source<'_, T::Alloc>,
+    world: &World<T>,
+    change: &Change,
+    user: &User,
+) -> Result<String<T::Alloc>, NoMemory>
+    ensures { IfOk result (λ text.
+        IsDeedTold world.now change.now user.now (string_bytes text)) }
+{
+    let name = shown(alloc, user.as_str())?;
+    let verb = verb(world, change, user);
+    let path = shown_path(alloc, world, change.member)?;
+    let mut rest = String::new(alloc);
+    push_right(&mut rest, &Teller { source, world }, change, user)?;
+    Ok(format!(in alloc; "{name}{verb}{path}{rest}")?)
+}
+
+// What a user may do to the node of a change, between his name and its path.
+fn verb<T: Tree>(world: &World<T>, change: &Change, user: &User) -> &'static str
+    ensures { IsVerb change.now.kind result.now }
+{
+    match change.kind {
+        ChangeKind::Alterable => match alteration(world, change.member, user) {
+            Alteration::Content => " may write ",
+            Alteration::Mode => " may change the mode of ",
+        },
+        ChangeKind::Removable => " may remove ",
+        ChangeKind::Exclusive => " may open ",
+    }
+}
+
+// What a user changes of a node that he may write or rules.
+fn alteration<T: Tree>(world: &World<T>, at: NodeRef, user: &User) -> Alteration {
+    let class = match world.forest.node(at) {
+        Some(node) => altering_class(world, user, node),
+        None => None,
+    };
+    match class {
+        Some((_, alteration)) => alteration,
+        None => Alteration::Mode,
+    }
+}
+
+// Adds what follows the path of the node of a change: the line that made it, the right of a user, and
+// where it is bound.
+fn push_right<T: Tree>(
+    text: &mut String<T::Alloc>,
+    teller: &Teller<'_, '_, T>,
+    change: &Change,
+    user: &User,
+) -> Result<(), NoMemory> {
+    match change.kind {
+        ChangeKind::Alterable => push_alteration(text, teller, change.member, user)?,
+        ChangeKind::Removable => push_removal(text, teller, change.member, user)?,
+        ChangeKind::Exclusive => push_opening(text, teller, change.member, user)?,
+    }
+    teller.end_line(text, Some(change.place), change.member)
+}
+
+// Adds the line that made a node which a user may write or rules, and as what.
+fn push_alteration<T: Tree>(
+    text: &mut String<T::Alloc>,
+    teller: &Teller<'_, '_, T>,
+    at: NodeRef,
+    user: &User,
+) -> Result<(), NoMemory> {
+    let world = teller.world;
+    push(text, " (")?;
+    teller.made(text, at)?;
+    if let Some(node) = world.forest.node(at) {
+        if let Some((class, alteration)) = altering_class(world, user, node) {
+            push(text, ": ")?;
+            class.push(text, node.gid())?;
+            push(text, alteration.deed())?;
+        }
+    }
+    push(text, ")")
+}
+
+// Adds the line that made a node, and the right of a user to the directory that it is in.
+fn push_removal<T: Tree>(
+    text: &mut String<T::Alloc>,
+    teller: &Teller<'_, '_, T>,
+    at: NodeRef,
+    user: &User,
+) -> Result<(), NoMemory> {
+    push(text, " (")?;
+    teller.made(text, at)?;
+    push(text, ") from ")?;
+    let dir = dir_of(teller.world, at).unwrap_or(at);
+    teller.path(text, dir)?;
+    push_alteration(text, teller, dir, user)
+}
+
+// Adds the line that made a file of exclusive use, and as what a user may open it.
+fn push_opening<T: Tree>(
+    text: &mut String<T::Alloc>,
+    teller: &Teller<'_, '_, T>,
+    at: NodeRef,
+    user: &User,
+) -> Result<(), NoMemory> {
+    let world = teller.world;
+    push(text, ", of exclusive use (")?;
+    teller.made(text, at)?;
+    if let Some(node) = world.forest.node(at) {
+        if let Some(class) = class_of(world, user, node, TO_USE) {
+            push(text, ": ")?;
+            class.push(text, node.gid())?;
+            push(text, " may open it")?;
+        }
+    }
+    push(text, ")")
+}
+
+// How it is mended that a listed user can change a node so.
+fn mend(kind: ChangeKind) -> &'static str {
+    match kind {
+        ChangeKind::Alterable => {
+            "give it to an owner and a group leader who is not listed, \
+             and no write bit to others or to groups with listed members"
+        }
+        ChangeKind::Removable => MEND_DIRECTORY,
+        ChangeKind::Exclusive => {
+            "take the letter l from its mode, or give no bits to others or to groups with listed members"
+        }
+    }
+}

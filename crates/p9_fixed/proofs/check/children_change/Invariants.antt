@@ -1,0 +1,17 @@
+use Rattle.std.proofs.Common.{◌≡◌, ◌-◌}
+use Rattle.p9_tree.specs.Forest.{next_of}
+use Rattle.p9_cert.specs.Gap.{first_of}
+use Rattle.p9_cert.specs.Policy.{policy_of}
+use Rattle.p9_cert.proofs.Children.{left_of, passed}
+use Rattle.p9_fixed.specs.Change.{child_change, children_change}
+use Rattle.p9_fixed.proofs.check.children_change.Given as goal
+
+-- the children that are left have the first change
+abbrev pub invariant-loop-child : goal.invariant-loop-child
+invariant-loop-child g l =
+    first_of (child_change (policy_of l.world) l.world.forest l.table l.row)
+    (left_of l.row l.floor l.world.forest)
+    ≡ children_change (policy_of l.world) l.world.forest l.table l.row
+
+abbrev pub decreases-loop-child : goal.decreases-loop-child
+decreases-loop-child g l = next_of l.row.server l.world.forest - passed l.floor

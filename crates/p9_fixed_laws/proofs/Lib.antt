@@ -1,0 +1,17 @@
+pub mod Unread
+pub mod Nodes
+pub mod Places
+pub mod Walks
+pub mod Opens
+pub mod Fids
+pub mod Blind
+pub mod Entries
+pub mod Near
+pub mod Answers
+pub mod Shared
+pub mod Same
+pub mod Rows
+pub mod Steps
+pub mod Runs
+pub mod Alone
+pub mod Own

@@ -1,0 +1,4 @@
+pub mod Answers
+pub mod Listing
+pub mod Held
+pub mod Reserved
