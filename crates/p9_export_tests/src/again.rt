@@ -36,11 +36,11 @@ pub fn play_refused(rt: &impl Abort, alloc: Global, script: Script<'_>, fewer: u
     assert!(rt; plain > fewer && index > fewer);
 }
 
-/// A file grows twice over each kind of tree with each request for memory refused in turn. Each
-/// growth asks for memory once, and nothing else does.
-pub fn grow_refused(rt: &impl Abort, alloc: Global, growth: Growth<'_>) {
+/// A file grows over each kind of tree with each request for memory refused in turn. There are this
+/// many requests over each.
+pub fn grow_refused(rt: &impl Abort, alloc: Global, growth: Growth<'_>, requests: u64) {
     let (plain, index) = refusals(rt, alloc, Trial::Play(Play::Growth(growth)));
-    assert!(rt; plain == 2 && index == 2);
+    assert!(rt; plain == requests && index == requests);
 }
 
 /// The exporter before memory is refused.

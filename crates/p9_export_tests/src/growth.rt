@@ -136,7 +136,8 @@ const TWICE: &str = "\
 0300000000000000 80010000 07000000 09000000 204e000000000000 0100 67 0600 676c656e6461 0600 \
 676c656e6461 0600 676c656e6461";
 
-// A wstat that makes a file longer asks for memory once, at each of two times.
+// A wstat that makes a file longer asks for memory once, at each of two times, and the first time
+// once more for a new name.
 #[test]
 fn a_growth_is_done_again_at_each_refusal(rt: HostRuntime) {
     let growth = Growth {
@@ -156,5 +157,5 @@ fn a_growth_is_done_again_at_each_refusal(rt: HostRuntime) {
             },
         ],
     };
-    grow_refused(&rt, rt.alloc(), growth);
+    grow_refused(&rt, rt.alloc(), growth, 3);
 }

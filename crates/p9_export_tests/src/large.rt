@@ -72,5 +72,5 @@ fn a_large_file_grows_again_at_each_refusal(rt: HostRuntime) {
             },
         ],
     };
-    grow_refused(&rt, rt.alloc(), growth);
+    grow_refused(&rt, rt.alloc(), growth, 2);
 }
