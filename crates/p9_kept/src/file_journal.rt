@@ -14,12 +14,15 @@ use p9_tree::{Forest, ForestChange, Journal, Tree, Unsettled};
 use std::alloc::Allocator;
 use thiserror::Error;
 
-// From so many bytes on that were noted a journal is settled between two events. An event notes at
-// most the bytes of a frame, and some more for each change.
-const RELIEVED: usize = 1 << 19;
+// From so many bytes on that were noted a journal is settled between two events.
+const RELIEVED: usize = 1 << 15;
 
-// For so many bytes there is room when a journal begins.
-const ROOM: usize = 1 << 20;
+// An event notes at most the bytes of a frame, which has at most 1,048,576, and some more for each
+// change: the end of a session removes at most the files of its 1,024 fids.
+const EVENT_MAX: usize = (1 << 20) + (1 << 15);
+
+// For so many bytes there is room when a journal begins, and in a block of its log.
+const ROOM: usize = RELIEVED + EVENT_MAX;
 
 /// Why a journal was not renewed. If it is still whole, it is as it was, and can be renewed later.
 #[derive(Clone, Copy, Debug, PartialEq, Eq, Error)]
@@ -109,7 +112,8 @@ impl<D: Device, A: Allocator + Copy> FileJournal<D, A> {
     ghost use Rattle.p9_kept.specs.Making.{IsAppendedAndKept, IsRenewed, IsUntouched, Makes};
 
     /// A journal behind the records of a log, with room for what is noted between two calls of
-    /// [`relieve`](Journal::relieve). The only error is a failed allocation.
+    /// [`relieve`](Journal::relieve), so that keeping changes takes no memory from then on. The only
+    /// error is a failed allocation.
     pub fn begin(alloc: A, log: Log<D, A>) -> Result<FileJournal<D, A>, NoMemory>
         requires whole { IsWhole (content_in Killed (D.seen log.device)) }
         requires as_seen { LeaveAsSeen (D.seen log.device) (D.may_leave log.device) }
@@ -119,6 +123,8 @@ impl<D: Device, A: Allocator + Copy> FileJournal<D, A> {
             ⟦<FileJournal<D, A> as Journal>⟧.stands_for journal
             ≡ stood_for (content_in Killed (D.seen log.device))) }
     {
+        let mut log = log;
+        log.reserve(ROOM)?;
         let noted = Vec::with_capacity(alloc, ROOM)?;
         Ok(FileJournal {
             log,

@@ -9,9 +9,9 @@ ghost use Rattle.p9_log.specs.Rest.{Begin, IsAtRest};
 use crate::device::{Device, DeviceError};
 use crate::error::LogError;
 use crate::keeping::keep;
-use crate::layout::{HEAD, MARK, MOST};
+use crate::layout::{HEAD, MARK, MOST, NEXT};
 use crate::staging::{stage, stage_open};
-use std::alloc::Allocator;
+use std::alloc::{AllocError, Allocator};
 
 /// A log in a file.
 ///
@@ -74,6 +74,17 @@ impl<D: Device, A: Allocator> Log<D, A> {
             drafting: false,
             drafted: 0,
         }
+    }
+
+    /// Takes memory for a block of so many bytes. Then [`append`](Log::append) takes none for a block that
+    /// is no longer. The only error is a failed allocation. All else is unchanged.
+    pub fn reserve(&mut self, bytes: usize) -> Result<(), AllocError>
+        ensures device { self.new.device ≡ self.old.device }
+        ensures end { self.new.end ≡ self.old.end }
+        ensures usable { self.new.usable ≡ self.old.usable }
+    {
+        self.block.clear();
+        self.block.reserve(bytes.saturating_add(HEAD + NEXT.len()))
     }
 
     /// The file.
