@@ -95,6 +95,14 @@ impl Folder {
     }
 }
 
+/// Whether the folder of a path belongs to this export. One that can't be read does not.
+pub fn belongs_to(rt: &HostRuntime, path: &str, export: &[u8]) -> bool {
+    match read_in(rt, path, EXPORT) {
+        Ok(Some(own)) => own.as_slice() == export,
+        Ok(None) | Err(_) => false,
+    }
+}
+
 // Puts bytes in the place of a file in a folder.
 fn put_at(rt: &HostRuntime, folder: &str, place: &str, bytes: &[u8]) -> io::Result<()> {
     check_place(rt, place, "not a regular file")?;
