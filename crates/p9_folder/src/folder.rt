@@ -15,6 +15,9 @@ const FOLDER_MODE: u32 = 0o700;
 // The file that is locked.
 const LOCK: &str = "lock";
 
+// Why something else in its place is refused.
+const NO_LOCK: &str = "its lock is not a regular file";
+
 /// The file with the export.
 pub const EXPORT: &str = "export";
 
@@ -57,10 +60,7 @@ impl Folder {
         let place = place_in(rt, self.path(), EXPORT)?;
         let read = read_in(rt, self.path(), EXPORT);
         match self.program.had(rt, place.as_str(), read)? {
-            None => {
-                let put = self.put(rt, EXPORT, export);
-                self.program.had(rt, place.as_str(), put)
-            }
+            None => self.put(rt, EXPORT, export),
             Some(own) if own.as_slice() == export => Ok(()),
             Some(_) => Err(self.refuse_other(rt, place.as_str(), file)),
         }
@@ -79,18 +79,12 @@ impl Folder {
         }
     }
 
-    /// Puts bytes in the place of a file in it, whole or not at all, and on the disk.
-    pub fn put(&self, rt: &HostRuntime, name: &str, bytes: &[u8]) -> io::Result<()> {
+    /// Puts bytes in the place of a file in it, whole or not at all, and on the disk. Something else there
+    /// than a regular file, as a pipe or a link, is refused. What fails is reported.
+    pub fn put(&self, rt: &HostRuntime, name: &str, bytes: &[u8]) -> Result<(), Failure> {
         let place = place_in(rt, self.path(), name)?;
-        let mut file = NewFile::create(rt, rt.alloc(), place.as_str())?;
-        match file.write_all(bytes) {
-            Ok(()) => file.finish(rt, OUTPUT_MODE)?,
-            Err(error) => {
-                file.discard(rt)?;
-                return Err(error);
-            }
-        }
-        File::open(rt, self.path())?.sync_all()
+        let put = put_at(rt, self.path(), place.as_str(), bytes);
+        self.program.had(rt, place.as_str(), put)
     }
 
     /// Removes a file in it.
@@ -98,6 +92,39 @@ impl Folder {
         let place = place_in(rt, self.path(), name)?;
         fs::remove_file(rt, place.as_str())?;
         File::open(rt, self.path())?.sync_all()
+    }
+}
+
+/// Whether the folder of a path belongs to this export. One that can't be read does not.
+pub fn belongs_to(rt: &HostRuntime, path: &str, export: &[u8]) -> bool {
+    match read_in(rt, path, EXPORT) {
+        Ok(Some(own)) => own.as_slice() == export,
+        Ok(None) | Err(_) => false,
+    }
+}
+
+// Puts bytes in the place of a file in a folder.
+fn put_at(rt: &HostRuntime, folder: &str, place: &str, bytes: &[u8]) -> io::Result<()> {
+    check_place(rt, place, "not a regular file")?;
+    let mut file = NewFile::create(rt, rt.alloc(), place)?;
+    match file.write_all(bytes) {
+        Ok(()) => file.finish(rt, OUTPUT_MODE)?,
+        Err(error) => {
+            file.discard(rt)?;
+            return Err(error);
+        }
+    }
+    File::open(rt, folder)?.sync_all()
+}
+
+// Refuses in these words something else in the place of a file than a regular one. A link there is not
+// followed, and a pipe is not waited for. The place may be free.
+fn check_place(rt: &HostRuntime, place: &str, why: &str) -> io::Result<()> {
+    match fs::symlink_metadata(rt, place) {
+        Ok(seen) if seen.is_file() => Ok(()),
+        Ok(_) => Err(Error::other(why)),
+        Err(error) if error.kind() == ErrorKind::NotFound => Ok(()),
+        Err(error) => Err(error),
     }
 }
 
@@ -122,9 +149,10 @@ fn lock(rt: &HostRuntime, path: &str) -> io::Result<Option<File>> {
     }
 }
 
-// Opens the file that is locked, which is made where it is missing. A pipe that is opened to be read and
-// written is not waited for.
+// Opens the file that is locked, which is made where it is missing. A link or a pipe in its place is
+// refused. A pipe that comes there meanwhile is not waited for, since it is opened to read and write.
 fn open_lock(rt: &HostRuntime, place: &str) -> io::Result<File> {
+    check_place(rt, place, NO_LOCK)?;
     let mut options = OpenOptions::new();
     options
         .read(true)
@@ -133,7 +161,7 @@ fn open_lock(rt: &HostRuntime, place: &str) -> io::Result<File> {
         .mode(OUTPUT_MODE);
     let file = options.open(rt, place)?;
     if !file.metadata()?.is_file() {
-        return Err(Error::other("its lock is not a file"));
+        return Err(Error::other(NO_LOCK));
     }
     Ok(file)
 }

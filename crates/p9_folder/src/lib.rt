@@ -10,7 +10,7 @@ mod reading;
 mod resuming;
 mod start;
 
-pub use folder::{EXPORT, Folder, JOURNAL};
+pub use folder::{EXPORT, Folder, JOURNAL, belongs_to};
 pub use found::Found;
 pub use kept::{Kept, read_kept};
 pub use resuming::go_on_with;

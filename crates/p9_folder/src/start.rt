@@ -3,6 +3,7 @@
 use crate::folder::Folder;
 use crate::reading::read_in;
 use p9_log::Crash;
+use p9_shell::Failure;
 use std::{fs, io};
 
 // Where the system names its start, which no other start has.
@@ -39,8 +40,8 @@ fn this_start(rt: &HostRuntime) -> Vec<u8> {
     }
 }
 
-/// Keeps that a folder is written in this start of the machine.
-pub fn note_start(rt: &HostRuntime, folder: &Folder) -> io::Result<()> {
+/// Keeps that a folder is written in this start of the machine. What fails is reported.
+pub fn note_start(rt: &HostRuntime, folder: &Folder) -> Result<(), Failure> {
     folder.put(rt, BOOT, this_start(rt).as_slice())
 }
 

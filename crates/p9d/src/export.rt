@@ -7,7 +7,7 @@ use crate::words::Asked;
 use p9_base::{NoMemory, NodeRef, User};
 use p9_commands::{Needs, Prepared, path_of, prepare, print_reports};
 use p9_explain::explain;
-use p9_folder::Folder;
+use p9_folder::{Folder, belongs_to};
 use p9_guard::Guard;
 use p9_shell::{Failure, tell};
 use p9_shown::AsShown;
@@ -35,8 +35,19 @@ pub(crate) struct About {
     pub text: String,
 }
 
-/// Reads the export of a file, and verifies its certificate. Where changes are kept, its trees are
-/// those that were kept. Where it can't be served, that is reported.
+// Where the changes of an input are kept.
+#[derive(Clone, Copy)]
+enum Place<'a> {
+    // In memory alone.
+    Memory,
+    // In a folder that belongs to the input. Its certificate was verified when that was given to it.
+    Own(&'a str),
+    // In a folder that is to be given to the input.
+    New(&'a str),
+}
+
+/// Reads the export of a file, and verifies its certificate. Where changes were kept, its trees are those
+/// that were kept, and a certificate over these is verified. Where it can't be served, that is reported.
 pub(crate) fn read_export(rt: &HostRuntime, asked: Asked<'_>) -> Result<Export, Failure> {
     let input = PROGRAM.had(rt, asked.export, fs::read(rt, asked.export))?;
     match export_of(rt, input.as_slice(), asked)? {
@@ -53,25 +64,35 @@ fn export_of(rt: &HostRuntime, input: &[u8], asked: Asked<'_>) -> Result<Option<
     }
 }
 
-// The export of an input that is prepared, where its certificate has no gap. Where changes are kept,
-// another certificate takes its place, so it is verified before.
+// The export of an input that is prepared, where its certificate has no gap. In a folder another
+// certificate takes its place. So it is verified before a folder is given to the input, and not again.
 fn guarded(
     rt: &HostRuntime,
     input: &[u8],
     prepared: Prepared<Trees>,
     asked: Asked<'_>,
 ) -> Result<Option<Export>, Failure> {
-    if asked.folder.is_some() && prepared.gap().is_some() {
+    let place = place_of(rt, input, asked.folder);
+    if matches!(place, Place::New(_)) && prepared.gap().is_some() {
         prepared.discard();
         return Ok(None);
     }
     let mut prepared = prepared;
-    match made_ready(rt, input, &mut prepared, asked) {
+    match made_ready(rt, input, &mut prepared, asked, place) {
         Ok((about, folder)) => Ok(with_guard(prepared, about, folder)),
         Err(failure) => {
             prepared.discard();
             Err(failure)
         }
+    }
+}
+
+// Where the changes of an input are kept that are kept in this folder, or in none.
+fn place_of<'a>(rt: &HostRuntime, input: &[u8], folder: Option<&'a str>) -> Place<'a> {
+    match folder {
+        Some(path) if belongs_to(rt, path, input) => Place::Own(path),
+        Some(path) => Place::New(path),
+        None => Place::Memory,
     }
 }
 
@@ -81,27 +102,33 @@ fn made_ready(
     input: &[u8],
     prepared: &mut Prepared<Trees>,
     asked: Asked<'_>,
+    place: Place<'_>,
 ) -> Result<(About, Option<Folder>), Failure> {
-    let folder = match asked.folder {
-        Some(path) => Some(kept(rt, input, prepared, asked.export, path)?),
-        None => None,
-    };
+    let folder = taken(rt, input, asked.export, place)?;
+    if let Some(folder) = &folder {
+        keep_in(rt, folder, prepared)?;
+    }
     let about = known(rt, prepared, asked.is_anyway)?;
     Ok((about, folder))
 }
 
-// Gives an input that is prepared the trees that are kept in a folder, which becomes its own.
-fn kept(
+// Takes the folder in which changes are kept, if they are kept in one. It belongs to this input, which is
+// in a file, from then on.
+fn taken(
     rt: &HostRuntime,
     input: &[u8],
-    prepared: &mut Prepared<Trees>,
-    export: &str,
-    path: &str,
-) -> Result<Folder, Failure> {
-    let folder = Folder::take(rt, PROGRAM, path)?;
-    folder.belong_to(rt, export, input)?;
-    keep_in(rt, &folder, prepared)?;
-    Ok(folder)
+    file: &str,
+    place: Place<'_>,
+) -> Result<Option<Folder>, Failure> {
+    match place {
+        Place::Memory => Ok(None),
+        Place::Own(path) => Ok(Some(Folder::take(rt, PROGRAM, path)?)),
+        Place::New(path) => {
+            let folder = Folder::take(rt, PROGRAM, path)?;
+            folder.belong_to(rt, file, input)?;
+            Ok(Some(folder))
+        }
+    }
 }
 
 // The guard of an input that is prepared, with what is known of it.

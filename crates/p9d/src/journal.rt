@@ -36,7 +36,7 @@ pub(crate) struct Journal {
 }
 
 impl Journal {
-    /// No lines. A quiet journal has failures alone.
+    /// No lines. A quiet journal has warnings and failures alone.
     pub fn new(alloc: Global, is_quiet: bool) -> Journal {
         Journal {
             lines: String::new(alloc),

@@ -59,7 +59,7 @@ pub(crate) fn keep_in(
 fn noted(rt: &HostRuntime, folder: &Folder, how: Crash) -> Result<(), Failure> {
     match how {
         Crash::Killed => Ok(()),
-        Crash::Stopped => PROGRAM.had(rt, folder.path(), note_start(rt, folder)),
+        Crash::Stopped => note_start(rt, folder),
     }
 }
 

@@ -22,7 +22,7 @@ pub(crate) struct Asked<'a> {
     pub sync_seconds: usize,
     /// Whether an export that hides nothing is served.
     pub is_anyway: bool,
-    /// Whether nothing but failures is told.
+    /// Whether nothing but warnings and failures is told.
     pub is_quiet: bool,
     pub limits: Limits,
 }
@@ -116,7 +116,7 @@ const ARGS: [ArgShape; 10] = [
         name: "quiet",
         given: Given::NameOr('q'),
         value: Value::None,
-        help: "Tell nothing but failures",
+        help: "Tell nothing but warnings and failures",
         is_needed: false,
     },
     ArgShape {
