@@ -79,7 +79,8 @@ impl Keeper {
         }
     }
 
-    /// Syncs where that is due, and puts a snapshot in the place of a journal that has grown long.
+    /// Brings all changes to the disk, where that is due: by a snapshot in the place of a journal that has
+    /// grown long, and else by a sync.
     pub fn begin_second(
         &mut self,
         now: u64,
@@ -90,12 +91,15 @@ impl Keeper {
             return Ok(());
         }
         self.synced = now;
-        clients.sync()?;
-        self.renew(clients, shared)
+        if self.renew(clients, shared)? {
+            return Ok(());
+        }
+        clients.sync()
     }
 
-    // Puts a snapshot in the place of a journal that has grown long.
-    fn renew(&mut self, clients: &mut Served, shared: &Shared) -> Result<(), Unsettled> {
+    // Puts a snapshot in the place of a journal that has grown long, and returns whether it did. Then all
+    // changes are on the disk, also those that the journal had not synced.
+    fn renew(&mut self, clients: &mut Served, shared: &Shared) -> Result<bool, Unsettled> {
         let Some(mut journal) = clients.take_journal() else {
             return Err(Unsettled::NoJournal);
         };
@@ -103,17 +107,15 @@ impl Keeper {
             Some(most) => most,
             None => most_over(size_of(clients.forest())),
         };
-        if journal.len() < most {
-            self.most = Some(most);
+        let is_long = journal.len() >= most;
+        let is_renewed = is_long && is_renewed(&mut journal, clients, shared);
+        self.most = Some(if is_long {
+            most_over(journal.len())
         } else {
-            match journal.renew(clients.forest()) {
-                Ok(()) => {}
-                Err(_) => shared.tell(Level::Warning, &NoSnapshot(journal.device().last_error())),
-            }
-            self.most = Some(most_over(journal.len()));
-        }
+            most
+        });
         clients.keep(journal);
-        Ok(())
+        Ok(is_renewed)
     }
 
     /// Brings all changes to the disk.
@@ -145,6 +147,18 @@ impl Keeper {
         let failure = failed(rt, &self.folder, &journal);
         drop(journal);
         failure
+    }
+}
+
+// Puts a snapshot in the place of a journal, and returns whether it did. Where it can't be written, that is
+// told.
+fn is_renewed(journal: &mut Changes, clients: &Served, shared: &Shared) -> bool {
+    match journal.renew(clients.forest()) {
+        Ok(()) => true,
+        Err(_) => {
+            shared.tell(Level::Warning, &NoSnapshot(journal.device().last_error()));
+            false
+        }
     }
 }
 
