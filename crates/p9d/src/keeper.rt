@@ -107,13 +107,16 @@ impl Keeper {
             Some(most) => most,
             None => most_over(size_of(clients.forest())),
         };
-        let is_long = journal.len() >= most;
-        let is_renewed = is_long && is_renewed(&mut journal, clients, shared);
-        self.most = Some(if is_long {
-            most_over(journal.len())
+        let mut is_renewed = false;
+        if journal.len() < most {
+            self.most = Some(most);
         } else {
-            most
-        });
+            match journal.renew(clients.forest()) {
+                Ok(()) => is_renewed = true,
+                Err(_) => shared.tell(Level::Warning, &NoSnapshot(journal.device().last_error())),
+            }
+            self.most = Some(most_over(journal.len()));
+        }
         clients.keep(journal);
         Ok(is_renewed)
     }
@@ -147,18 +150,6 @@ impl Keeper {
         let failure = failed(rt, &self.folder, &journal);
         drop(journal);
         failure
-    }
-}
-
-// Puts a snapshot in the place of a journal, and returns whether it did. Where it can't be written, that is
-// told.
-fn is_renewed(journal: &mut Changes, clients: &Served, shared: &Shared) -> bool {
-    match journal.renew(clients.forest()) {
-        Ok(()) => true,
-        Err(_) => {
-            shared.tell(Level::Warning, &NoSnapshot(journal.device().last_error()));
-            false
-        }
     }
 }
 
