@@ -55,9 +55,14 @@ impl Folder {
         self.path.as_str()
     }
 
+    /// The path of a file in it.
+    pub fn place(&self, rt: &HostRuntime, name: &str) -> Result<String, AllocError> {
+        place_in(rt, self.path(), name)
+    }
+
     /// Makes this export, which is in a file, its own, where it has none. Another one is refused.
     pub fn belong_to(&self, rt: &HostRuntime, file: &str, export: &[u8]) -> Result<(), Failure> {
-        let place = place_in(rt, self.path(), EXPORT)?;
+        let place = self.place(rt, EXPORT)?;
         let read = read_in(rt, self.path(), EXPORT);
         match self.program.had(rt, place.as_str(), read)? {
             None => self.put(rt, EXPORT, export),
@@ -82,14 +87,14 @@ impl Folder {
     /// Puts bytes in the place of a file in it, whole or not at all, and on the disk. Something else there
     /// than a regular file, as a pipe or a link, is refused. What fails is reported.
     pub fn put(&self, rt: &HostRuntime, name: &str, bytes: &[u8]) -> Result<(), Failure> {
-        let place = place_in(rt, self.path(), name)?;
+        let place = self.place(rt, name)?;
         let put = put_at(rt, self.path(), place.as_str(), bytes);
         self.program.had(rt, place.as_str(), put)
     }
 
     /// Removes a file in it.
     pub fn remove(&self, rt: &HostRuntime, name: &str) -> io::Result<()> {
-        let place = place_in(rt, self.path(), name)?;
+        let place = self.place(rt, name)?;
         fs::remove_file(rt, place.as_str())?;
         File::open(rt, self.path())?.sync_all()
     }

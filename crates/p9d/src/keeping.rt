@@ -65,10 +65,12 @@ fn noted(rt: &HostRuntime, folder: &Folder, how: Crash) -> Result<(), Failure> {
 
 // What is kept in a folder, and what was found there.
 fn opened(rt: &HostRuntime, folder: &Folder, how: Crash) -> Result<(Kept, Found), Failure> {
-    let device = match FileDevice::open(rt, folder.path(), JOURNAL) {
-        Ok(device) => device,
-        Err(error) => return Err(PROGRAM.failed(rt, folder.path(), error)),
-    };
+    let place = folder.place(rt, JOURNAL)?;
+    let device = PROGRAM.had(
+        rt,
+        place.as_str(),
+        FileDevice::open(rt, folder.path(), JOURNAL),
+    )?;
     let Reopened {
         forest,
         journal,
