@@ -8,7 +8,7 @@ ghost use Rattle.p9_tree.specs.Saved.{put_back};
 ghost use Rattle.p9_tree.specs.Server.{Server};
 ghost use Rattle.p9_kept.specs.Making.{IsNextOf, IsUntouched, Makes, with_front};
 
-use crate::noting::put_behind;
+use crate::noting::Noted;
 use p9_log::{Device, Log, LogError};
 use p9_tree::{ForestChange, Node, Saved, Tree, TreeChange};
 use std::alloc::Allocator;
@@ -22,14 +22,14 @@ const FLUSHED: usize = 1 << 19;
 /// Puts the changes that make a forest from none into the log's draft, which has none yet. They are
 /// spelled in a buffer, piece by piece, which is empty then.
 pub(crate) fn put_forest<D: Device, A: Allocator, T: Tree>(
-    log: &mut Log<D, A>,
-    noted: &mut Vec<u8, A>,
+    log: &mut Log<D>,
+    noted: &mut Noted<A>,
     trees: &[T],
 ) -> Result<(), LogError>
     requires { length trees.now ≤ servers_max }
-    ensures made { OnOk result (Makes (D.drafted log.old.device) noted.old.items []
-        → Makes (D.drafted log.new.device) noted.new.items (map T.state trees.now)) }
-    ensures empty { OnOk result (noted.new.items ≡ []) }
+    ensures made { OnOk result (Makes (D.drafted log.old.device) noted.old []
+        → Makes (D.drafted log.new.device) noted.new (map T.state trees.now)) }
+    ensures empty { OnOk result (noted.new ≡ []) }
     ensures usable { log.new.usable ≡ log.old.usable }
     ensures log { IsUntouched D.seen D.moment D.may_leave D.left_since log.old.device
         log.new.device }
@@ -42,14 +42,14 @@ pub(crate) fn put_forest<D: Device, A: Allocator, T: Tree>(
 
 // Puts the changes that make a server behind the others.
 fn put_tree<D: Device, A: Allocator, T: Tree>(
-    log: &mut Log<D, A>,
-    noted: &mut Vec<u8, A>,
+    log: &mut Log<D>,
+    noted: &mut Noted<A>,
     server: u16,
     tree: &T,
 ) -> Result<(), LogError>
     ensures made { OnOk result ((front : List Server) → length front ≡ server
-        → Makes (D.drafted log.old.device) noted.old.items front
-        → Makes (D.drafted log.new.device) noted.new.items (front ++ T.state tree.now ∷ [])) }
+        → Makes (D.drafted log.old.device) noted.old front
+        → Makes (D.drafted log.new.device) noted.new (front ++ T.state tree.now ∷ [])) }
     ensures usable { log.new.usable ≡ log.old.usable }
     ensures log { IsUntouched D.seen D.moment D.may_leave D.left_since log.old.device
         log.new.device }
@@ -66,15 +66,15 @@ fn put_tree<D: Device, A: Allocator, T: Tree>(
 
 // Puts the changes that put a node back, with all of its bytes.
 fn put_node<D: Device, A: Allocator, N: Allocator>(
-    log: &mut Log<D, A>,
-    noted: &mut Vec<u8, A>,
+    log: &mut Log<D>,
+    noted: &mut Noted<A>,
     server: u16,
     node: &Node<N>,
 ) -> Result<(), LogError>
     ensures made { OnOk result ((front : List Server) (made : Server) → length front ≡ server
         → IsNextOf made node.now
-        → Makes (D.drafted log.old.device) noted.old.items (front ++ made ∷ [])
-        → Makes (D.drafted log.new.device) noted.new.items
+        → Makes (D.drafted log.old.device) noted.old (front ++ made ∷ [])
+        → Makes (D.drafted log.new.device) noted.new
         (front ++ put_back node.now made ∷ [])) }
     ensures usable { log.new.usable ≡ log.old.usable }
     ensures log { IsUntouched D.seen D.moment D.may_leave D.left_since log.old.device
@@ -92,17 +92,17 @@ fn put_node<D: Device, A: Allocator, N: Allocator>(
 
 // Puts the changes that write a node's bytes from the index on, in pieces.
 fn put_rest<D: Device, A: Allocator, N: Allocator>(
-    log: &mut Log<D, A>,
-    noted: &mut Vec<u8, A>,
+    log: &mut Log<D>,
+    noted: &mut Noted<A>,
     server: u16,
     node: &Node<N>,
     from: usize,
 ) -> Result<(), LogError>
     ensures made { OnOk result ((front : List Server) (made : Server) → length front ≡ server
         → IsNextOf made node.now
-        → Makes (D.drafted log.old.device) noted.old.items
+        → Makes (D.drafted log.old.device) noted.old
         (front ++ put_back (with_front from node.now) made ∷ [])
-        → Makes (D.drafted log.new.device) noted.new.items
+        → Makes (D.drafted log.new.device) noted.new
         (front ++ put_back node.now made ∷ [])) }
     ensures usable { log.new.usable ≡ log.old.usable }
     ensures log { IsUntouched D.seen D.moment D.may_leave D.left_since log.old.device
@@ -126,19 +126,19 @@ fn put_rest<D: Device, A: Allocator, N: Allocator>(
 
 // Puts a change behind the others, and where they are many all of them into the draft.
 fn put<D: Device, A: Allocator>(
-    log: &mut Log<D, A>,
-    noted: &mut Vec<u8, A>,
+    log: &mut Log<D>,
+    noted: &mut Noted<A>,
     change: &ForestChange<'_>,
 ) -> Result<(), LogError>
     ensures made { OnOk result ((forest : List Server)
-        → Makes (D.drafted log.old.device) noted.old.items forest
-        → Makes (D.drafted log.new.device) noted.new.items
+        → Makes (D.drafted log.old.device) noted.old forest
+        → Makes (D.drafted log.new.device) noted.new
         (forest_edited (forest_edit_of change.now) forest)) }
     ensures usable { log.new.usable ≡ log.old.usable }
     ensures log { IsUntouched D.seen D.moment D.may_leave D.left_since log.old.device
         log.new.device }
 {
-    let Ok(()) = put_behind(noted, change) else {
+    let Ok(()) = noted.push(change) else {
         return Err(LogError::Memory);
     };
     if noted.len() >= FLUSHED {
@@ -148,19 +148,14 @@ fn put<D: Device, A: Allocator>(
 }
 
 // Puts what was spelled into the draft.
-fn flush<D: Device, A: Allocator>(
-    log: &mut Log<D, A>,
-    noted: &mut Vec<u8, A>,
-) -> Result<(), LogError>
+fn flush<D: Device, A: Allocator>(log: &mut Log<D>, noted: &mut Noted<A>) -> Result<(), LogError>
     ensures made { OnOk result ((forest : List Server)
-        → Makes (D.drafted log.old.device) noted.old.items forest
-        → Makes (D.drafted log.new.device) noted.new.items forest) }
-    ensures empty { OnOk result (noted.new.items ≡ []) }
+        → Makes (D.drafted log.old.device) noted.old forest
+        → Makes (D.drafted log.new.device) noted.new forest) }
+    ensures empty { OnOk result (noted.new ≡ []) }
     ensures usable { log.new.usable ≡ log.old.usable }
     ensures log { IsUntouched D.seen D.moment D.may_leave D.left_since log.old.device
         log.new.device }
 {
-    log.add_to_draft(noted)?;
-    noted.clear();
-    Ok(())
+    noted.add_to_draft(log)
 }

@@ -7,7 +7,7 @@ ghost use Rattle.p9_log.specs.Log.{LeaveAsSeen};
 ghost use Rattle.p9_kept.specs.Edits.{IsWhole, stood_for};
 
 use crate::drafting::put_forest;
-use crate::noting::put_behind;
+use crate::noting::Noted;
 use p9_base::NoMemory;
 use p9_log::{Device, Log, LogError};
 use p9_tree::{Forest, ForestChange, Journal, Tree, Unsettled};
@@ -21,7 +21,7 @@ const RELIEVED: usize = 1 << 15;
 // change: the end of a session removes at most the files of its 1,024 fids.
 const EVENT_MAX: usize = (1 << 20) + (1 << 15);
 
-// For so many bytes there is room when a journal begins, and in a block of its log.
+// For so many bytes there is room when a journal begins, with the block that its log makes of them.
 const ROOM: usize = RELIEVED + EVENT_MAX;
 
 /// Why a journal was not renewed. If it is still whole, it is as it was, and can be renewed later.
@@ -51,12 +51,12 @@ impl From<LogError> for RenewError {
 /// them in a log.
 #[derive(Drop)]
 pub struct FileJournal<D: Device, A: Allocator + Copy> {
-    log: Log<D, A>,
+    log: Log<D>,
     // the records that were noted since it was settled
-    noted: Vec<u8, A>,
+    noted: Noted<A>,
     whole: bool,
     ghost records: { IsTrue whole
-        → IsWhole (content_in Killed (D.seen log.device) ++ noted.items) },
+        → IsWhole (content_in Killed (D.seen log.device) ++ noted) },
     ghost as_seen: { IsTrue whole → LeaveAsSeen (D.seen log.device) (D.may_leave log.device) },
 }
 
@@ -68,7 +68,7 @@ impl<D: Device, A: Allocator + Copy> Journal for FileJournal<D, A> {
 
     ghost is_whole = { λ j. j.whole };
 
-    ghost stands_for = { λ j. stood_for (content_in Killed (D.seen j.log.device) ++ j.noted.items) };
+    ghost stands_for = { λ j. stood_for (content_in Killed (D.seen j.log.device) ++ j.noted) };
 
     ghost settled = { λ j. stood_for (content_in Killed (D.seen j.log.device)) };
 
@@ -114,7 +114,7 @@ impl<D: Device, A: Allocator + Copy> FileJournal<D, A> {
     /// A journal behind the records of a log, with room for what is noted between two calls of
     /// [`relieve`](Journal::relieve), so that keeping changes takes no memory from then on. The only
     /// error is a failed allocation.
-    pub fn begin(alloc: A, log: Log<D, A>) -> Result<FileJournal<D, A>, NoMemory>
+    pub fn begin(alloc: A, log: Log<D>) -> Result<FileJournal<D, A>, NoMemory>
         requires whole { IsWhole (content_in Killed (D.seen log.device)) }
         requires as_seen { LeaveAsSeen (D.seen log.device) (D.may_leave log.device) }
         ensures whole { IfOk result (λ journal.
@@ -123,12 +123,9 @@ impl<D: Device, A: Allocator + Copy> FileJournal<D, A> {
             ⟦<FileJournal<D, A> as Journal>⟧.stands_for journal
             ≡ stood_for (content_in Killed (D.seen log.device))) }
     {
-        let mut log = log;
-        log.reserve(ROOM)?;
-        let noted = Vec::with_capacity(alloc, ROOM)?;
         Ok(FileJournal {
             log,
-            noted,
+            noted: Noted::with_room(alloc, ROOM)?,
             whole: true,
         })
     }
@@ -149,7 +146,7 @@ impl<D: Device, A: Allocator + Copy> FileJournal<D, A> {
 
     /// Whether nothing was noted since the journal was settled.
     pub fn is_settled(&self) -> bool
-        ensures { result ≡ (length self.now.noted.items == 0) }
+        ensures { result ≡ (length self.now.noted == 0) }
     {
         self.noted.is_empty()
     }
@@ -160,14 +157,14 @@ impl<D: Device, A: Allocator + Copy> FileJournal<D, A> {
         ensures whole { result ≡ self.new.whole }
         ensures less { IsTrue self.new.whole → IsTrue self.old.whole }
         ensures log { self.new.log ≡ self.old.log }
-        ensures noted { IsTrue self.new.whole → self.new.noted.items
-            ≡ self.old.noted.items ++ closed_spelling (forest_edit_of change.now) }
+        ensures noted { IsTrue self.new.whole → self.new.noted
+            ≡ self.old.noted ++ closed_spelling (forest_edit_of change.now) }
         ensures fits { IsTrue self.new.whole → FitsForestEdit (forest_edit_of change.now) }
     {
         if !self.whole {
             return false;
         }
-        match put_behind(&mut self.noted, change) {
+        match self.noted.push(change) {
             Ok(()) => true,
             Err(_) => {
                 self.whole = false;
@@ -181,14 +178,14 @@ impl<D: Device, A: Allocator + Copy> FileJournal<D, A> {
         ensures whole { IsTrue self.new.whole → IsTrue self.old.whole }
         ensures ok { OnOk result (IsTrue self.new.whole) }
         ensures err { OnErr result (self.new.whole ≡ false) }
-        ensures empty { OnOk result (self.new.noted.items ≡ []) }
+        ensures empty { OnOk result (self.new.noted ≡ []) }
         ensures settled { OnOk result (content_in Killed (D.seen self.new.log.device)
-            ≡ content_in Killed (D.seen self.old.log.device) ++ self.old.noted.items) }
+            ≡ content_in Killed (D.seen self.old.log.device) ++ self.old.noted) }
         ensures synced { OnOk result (content_in Stopped (D.seen self.new.log.device)
             ≡ content_in Stopped (D.seen self.old.log.device)) }
         // A crash at any moment of the call leaves what it might have left before, or this.
         ensures any_moment { (how : Crash) → LeavesOnly D.moment D.left_since how
-            (IsAppended how (D.seen self.old.log.device) self.old.noted.items)
+            (IsAppended how (D.seen self.old.log.device) self.old.noted)
             self.old.log.device self.new.log.device }
     {
         if !self.whole {
@@ -197,11 +194,10 @@ impl<D: Device, A: Allocator + Copy> FileJournal<D, A> {
         if self.noted.is_empty() {
             return Ok(());
         }
-        if self.log.append(&self.noted).is_err() {
+        if self.noted.append_to(&mut self.log).is_err() {
             self.whole = false;
             return Err(Unsettled::Failed);
         }
-        self.noted.clear();
         Ok(())
     }
 
@@ -209,16 +205,16 @@ impl<D: Device, A: Allocator + Copy> FileJournal<D, A> {
     pub fn relieve_noted(&mut self)
         ensures whole { IsTrue self.new.whole → IsTrue self.old.whole }
         ensures same { IsTrue self.new.whole
-            → content_in Killed (D.seen self.new.log.device) ++ self.new.noted.items
-            ≡ content_in Killed (D.seen self.old.log.device) ++ self.old.noted.items }
+            → content_in Killed (D.seen self.new.log.device) ++ self.new.noted
+            ≡ content_in Killed (D.seen self.old.log.device) ++ self.old.noted }
         ensures settled { IsTrue self.new.whole
             → (D.seen self.new.log.device ≡ D.seen self.old.log.device)
-            ⊎ (self.new.noted.items ≡ []) }
+            ⊎ (self.new.noted ≡ []) }
         ensures synced { IsTrue self.new.whole → content_in Stopped (D.seen self.new.log.device)
             ≡ content_in Stopped (D.seen self.old.log.device) }
         // A crash at any moment of the call leaves what it might have left before, or this.
         ensures any_moment { (how : Crash) → LeavesOnly D.moment D.left_since how
-            (IsAppended how (D.seen self.old.log.device) self.old.noted.items)
+            (IsAppended how (D.seen self.old.log.device) self.old.noted)
             self.old.log.device self.new.log.device }
     {
         if self.noted.len() >= RELIEVED {
@@ -231,14 +227,14 @@ impl<D: Device, A: Allocator + Copy> FileJournal<D, A> {
         ensures whole { IsTrue self.new.whole → IsTrue self.old.whole }
         ensures ok { OnOk result (IsTrue self.new.whole) }
         ensures err { OnErr result (self.new.whole ≡ false) }
-        ensures empty { OnOk result (self.new.noted.items ≡ []) }
+        ensures empty { OnOk result (self.new.noted ≡ []) }
         ensures settled { OnOk result (content_in Killed (D.seen self.new.log.device)
-            ≡ content_in Killed (D.seen self.old.log.device) ++ self.old.noted.items) }
+            ≡ content_in Killed (D.seen self.old.log.device) ++ self.old.noted) }
         ensures synced { OnOk result (content_in Stopped (D.seen self.new.log.device)
-            ≡ content_in Killed (D.seen self.old.log.device) ++ self.old.noted.items) }
+            ≡ content_in Killed (D.seen self.old.log.device) ++ self.old.noted) }
         // A crash at any moment of the call leaves what it might have left before, or this.
         ensures any_moment { (how : Crash) → LeavesOnly D.moment D.left_since how
-            (IsAppendedAndKept how (D.seen self.old.log.device) self.old.noted.items)
+            (IsAppendedAndKept how (D.seen self.old.log.device) self.old.noted)
             self.old.log.device self.new.log.device }
     {
         self.settle_noted()?;
@@ -280,7 +276,7 @@ impl<D: Device, A: Allocator + Copy> FileJournal<D, A> {
             ⊎ (left ≡ ⟦<FileJournal<D, A> as Journal>⟧.synced self.old) ⊎ (left ≡ forest.now) }
         // A crash at any moment of the call leaves what it might have left before, or this.
         ensures any_moment { (how : Crash) → LeavesOnly D.moment D.left_since how
-            (IsRenewed how (D.seen self.old.log.device) self.old.noted.items forest.now)
+            (IsRenewed how (D.seen self.old.log.device) self.old.noted forest.now)
             self.old.log.device self.new.log.device }
     {
         self.settle_noted()?;
@@ -291,9 +287,9 @@ impl<D: Device, A: Allocator + Copy> FileJournal<D, A> {
 
     // Writes the changes that make a forest into a draft of the log.
     fn draft<T: Tree>(&mut self, forest: &Forest<T>) -> Result<(), LogError>
-        requires { self.old.noted.items ≡ [] }
+        requires { self.old.noted ≡ [] }
         ensures whole { self.new.whole ≡ self.old.whole }
-        ensures noted { self.new.noted.items ≡ [] }
+        ensures noted { self.new.noted ≡ [] }
         ensures made { OnOk result (Makes (D.drafted self.new.log.device) [] forest.now) }
         ensures log { IsUntouched D.seen D.moment D.may_leave D.left_since self.old.log.device
             self.new.log.device }
@@ -307,11 +303,11 @@ impl<D: Device, A: Allocator + Copy> FileJournal<D, A> {
 
     // Puts the draft in the place of the log.
     fn put_draft(&mut self) -> Result<(), LogError>
-        requires noted { self.old.noted.items ≡ [] }
+        requires noted { self.old.noted ≡ [] }
         requires draft { IsWhole (content_in Stopped (D.drafted self.old.log.device)) }
         ensures whole { IsTrue self.new.whole → IsTrue self.old.whole }
         ensures ok { OnOk result (self.new.whole ≡ self.old.whole) }
-        ensures noted { self.new.noted.items ≡ [] }
+        ensures noted { self.new.noted ≡ [] }
         ensures content { OnOk result (AlwaysHas (content_in Stopped (D.drafted self.old.log.device))
             (D.seen self.new.log.device)) }
         ensures outcomes { OnOk result (LeaveAsSeen (D.seen self.new.log.device)

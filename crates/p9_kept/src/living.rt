@@ -37,7 +37,7 @@ pub fn live<D: Device, A: Allocator + Copy>(
     steps: &[Step<'_>],
 ) -> usize
     requires whole { IsTrue journal.old.whole }
-    requires settled { journal.old.noted.items ≡ [] }
+    requires settled { journal.old.noted ≡ [] }
     requires synced { content_in Stopped (D.seen journal.old.log.device)
         ≡ content_in Killed (D.seen journal.old.log.device) }
     ensures few { result ≤ length steps.now }
@@ -62,9 +62,9 @@ fn take_step<D: Device, A: Allocator + Copy>(
     requires { IsTrue journal.old.whole }
     ensures whole { IsTrue result → IsTrue journal.new.whole }
     ensures taken { IsTrue result → IsTaken step.now (D.seen journal.old.log.device)
-        journal.old.noted.items (D.seen journal.new.log.device) journal.new.noted.items }
+        journal.old.noted (D.seen journal.new.log.device) journal.new.noted }
     ensures any_moment { (how : Crash) → LeavesOnly D.moment D.left_since how
-        (IsAppendedAndKept how (D.seen journal.old.log.device) journal.old.noted.items)
+        (IsAppendedAndKept how (D.seen journal.old.log.device) journal.old.noted)
         journal.old.log.device journal.new.log.device }
 {
     match step {

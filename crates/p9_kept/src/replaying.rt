@@ -14,10 +14,11 @@ ghost use Rattle.p9_tree.specs.Node.{is_dir};
 ghost use Rattle.p9_tree.specs.Saved.{CanPutBack, saved_node};
 ghost use Rattle.p9_tree.specs.Server.{child_of, has_children, is_dir_at};
 ghost use Rattle.p9_tree.specs.TreeChange.{edit_of};
+ghost use Rattle.p9_record.specs.Closed.{IsEarlier};
 ghost use Rattle.p9_kept.specs.Edits.{IsWhole, stood_for, stood_from};
 
 use p9_base::{NoMemory, SERVERS_MAX};
-use p9_record::take_closed;
+use p9_record::{is_earlier, take_closed};
 use p9_tree::{
     Change, FILE_MAX, Forest, ForestChange, NEXT_MAX, New, Node, Saved, Tree, TreeChange, fits_file,
 };
@@ -30,6 +31,9 @@ pub enum Refused {
     /// There are bytes that are no change, or a change that can't be made.
     #[error("damaged")]
     Damaged,
+    /// The changes are of an earlier version, whose records have another checksum.
+    #[error("the changes are of an earlier version, which can't be read")]
+    Earlier,
     /// An allocation failed.
     #[error("out of memory")]
     NoMemory,
@@ -66,7 +70,7 @@ fn replay_in<T: Tree>(
     let mut rest = bytes;
     while !rest.is_empty() {
         let Some((change, after)) = take_closed(rest) else {
-            return Err(Refused::Damaged);
+            return Err(refusal_of(rest));
         };
         if after.len() >= rest.len() {
             return Err(Refused::Damaged);
@@ -75,6 +79,17 @@ fn replay_in<T: Tree>(
         rest = after;
     }
     Ok(())
+}
+
+// Why bytes that begin with no closed record are refused.
+fn refusal_of(bytes: &[u8]) -> Refused
+    ensures { result ≡ Refused.Earlier → IsEarlier bytes.now }
+{
+    if is_earlier(bytes) {
+        Refused::Earlier
+    } else {
+        Refused::Damaged
+    }
 }
 
 // Makes a change of the trees of all servers.

@@ -13,4 +13,5 @@ mod Readings
 mod Repaired
 mod Rest
 mod Splits
+mod Staged
 mod Writes

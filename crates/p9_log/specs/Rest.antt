@@ -1,6 +1,6 @@
 -- A file at rest: blocks, with a closed sync gate before what was written since the last sync, and
 -- behind them an open sync gate and a closed write gate.
-use Rattle.std.specs.Prelude.{◌≡◌, ℕ, ◌+◌, ◌<◌, ◌≤◌, ◌==◌, false, List, [], ◌∷◌, ◌++◌, None}
+use Rattle.std.specs.Prelude.{◌≡◌, ℕ, ◌+◌, ◌-◌, ◌<◌, ◌≤◌, ◌==◌, false, List, [], ◌∷◌, ◌++◌, None}
 use Rattle.std.specs.Prelude.{length, get_or, take, drop}
 use Rattle.p9_log.specs.declared.crash.Crash.{Crash}
 use Rattle.p9_log.specs.declared.crash.Crash.TheVariants.{Killed, Stopped}
@@ -9,6 +9,10 @@ use Rattle.p9_log.specs.Blocks.{number, block_at, content_in}
 -- a block of these bytes, whose write gate is open
 abbrev pub block : (synced : ℕ) → List ℕ → List ℕ
 block synced bytes = synced ∷ 1 ∷ number (length bytes) ++ bytes
+
+-- the bytes of a block in a buffer: those up to an index, behind the room for a head
+abbrev pub held : List ℕ → (end : ℕ) → List ℕ
+held buffer end = take (end - 10) (drop 10 buffer)
 
 -- what a block is written as behind its sync gate, and the gates of the next
 abbrev pub staged : List ℕ → List ℕ

@@ -22,6 +22,7 @@ pub use crash::Crash;
 pub use device::{Device, DeviceError};
 pub use error::LogError;
 pub use fuse::Fuse;
+pub use layout::{HEAD, TAIL};
 pub use log::Log;
 pub use memory::MemoryDevice;
 pub use opening::{Recovered, create, recover};

@@ -9,9 +9,8 @@ ghost use Rattle.p9_log.specs.Rest.{Begin, IsAtRest};
 use crate::device::{Device, DeviceError};
 use crate::error::LogError;
 use crate::keeping::keep;
-use crate::layout::{HEAD, MARK, MOST, NEXT};
-use crate::staging::{stage, stage_open};
-use std::alloc::{AllocError, Allocator};
+use crate::layout::{HEAD, MARK, MOST, TAIL};
+use crate::staging::stage;
 
 /// A log in a file.
 ///
@@ -22,10 +21,8 @@ use std::alloc::{AllocError, Allocator};
 /// nothing. What its file then has is as before that call, or as after it. A call for a draft that
 /// fails ends the draft, and the log is as it was.
 #[derive(Drop)]
-pub struct Log<D: Device, A: Allocator> {
+pub struct Log<D: Device> {
     device: D,
-    // the block that is written
-    block: Vec<u8, A>,
     // where the closed sync gate is, before what was written since the last sync
     kept: usize,
     // where the gates of the next block are
@@ -47,14 +44,15 @@ pub struct Log<D: Device, A: Allocator> {
     ghost draft: { IsTrue drafting → IsDraft (D.drafted device) drafted },
 }
 
-impl<D: Device, A: Allocator> Log<D, A> {
+impl<D: Device> Log<D> {
     ghost use Rattle.std.specs.Prelude.{◌++◌, ◌<◌, [], length, IsErrOf, List, OnErr, OnOk, ℕ};
     ghost use Rattle.p9_log.specs.declared.crash.Crash.{Crash};
     ghost use Rattle.p9_log.specs.Device.{LeavesOnly, Only};
     ghost use Rattle.p9_log.specs.Log.{AlwaysHas, IfRefused, IsAppended, IsKept, LeaveAsSeen, NoMore, Nothing};
+    ghost use Rattle.p9_log.specs.Rest.{held};
 
     /// A log in a file at rest, all of it on the disk.
-    pub(crate) fn at_rest(alloc: A, device: D, kept: usize) -> Log<D, A>
+    pub(crate) fn at_rest(device: D, kept: usize) -> Log<D>
         requires rest { IsAtRest (D.seen device) kept (kept + 10) }
         requires front { Begin (kept + 1) (D.seen device) (D.may_leave device Stopped) }
         requires synced { content_in Killed (D.seen device) ≡ content_in Stopped (D.seen device) }
@@ -66,7 +64,6 @@ impl<D: Device, A: Allocator> Log<D, A> {
     {
         Log {
             device,
-            block: Vec::new(alloc),
             kept,
             end: kept + HEAD,
             pending: false,
@@ -74,17 +71,6 @@ impl<D: Device, A: Allocator> Log<D, A> {
             drafting: false,
             drafted: 0,
         }
-    }
-
-    /// Takes memory for a block of so many bytes. Then [`append`](Log::append) takes none for a block that
-    /// is no longer. The only error is a failed allocation. All else is unchanged.
-    pub fn reserve(&mut self, bytes: usize) -> Result<(), AllocError>
-        ensures device { self.new.device ≡ self.old.device }
-        ensures end { self.new.end ≡ self.old.end }
-        ensures usable { self.new.usable ≡ self.old.usable }
-    {
-        self.block.clear();
-        self.block.reserve(bytes.saturating_add(HEAD + NEXT.len()))
     }
 
     /// The file.
@@ -119,26 +105,33 @@ impl<D: Device, A: Allocator> Log<D, A> {
     /// Adds bytes, of which a crash leaves all or none. At `Ok` a process that is killed leaves them.
     /// A machine that stops leaves what was synced before.
     ///
-    /// The errors are a failed allocation, a log that would be longer than 2^60 bytes or has failed
-    /// before, which change nothing, and a failure of the device.
-    pub fn append(&mut self, bytes: &[u8]) -> Result<(), LogError>
+    /// The bytes are in a buffer, from [`HEAD`] to `end`. The block is made around them, in the room
+    /// before and behind them.
+    ///
+    /// The errors are a log that would be longer than 2^60 bytes or has failed before, which change
+    /// nothing, and a failure of the device.
+    pub fn append(&mut self, buffer: &mut [u8], end: usize) -> Result<(), LogError>
+        requires head { 10 ≤ end }
+        requires room { end + 2 ≤ length buffer.old }
         ensures usable { OnOk result (IsTrue self.new.usable) }
         ensures written { OnOk result (content_in Killed (D.seen self.new.device)
-            ≡ content_in Killed (D.seen self.old.device) ++ bytes.now) }
+            ≡ content_in Killed (D.seen self.old.device) ++ held buffer.old end) }
         ensures synced { OnOk result (content_in Stopped (D.seen self.new.device)
             ≡ content_in Stopped (D.seen self.old.device)) }
         ensures outcomes { OnOk result (LeaveAsSeen (D.seen self.new.device)
             (D.may_leave self.new.device)) }
         // A crash at any moment of the call leaves what it might have left before, or this.
         ensures any_moment { (how : Crash) → LeavesOnly D.moment D.left_since how
-            (IsAppended how (D.seen self.old.device) bytes.now) self.old.device self.new.device }
+            (IsAppended how (D.seen self.old.device) (held buffer.old end)) self.old.device
+            self.new.device }
         ensures refused { IfRefused result
             ((self.new.device ≡ self.old.device) × (self.new.usable ≡ self.old.usable)) }
         // It doesn't give up by itself.
         ensures ended { IsErrOf result LogError.Ended → self.old.usable ≡ false }
         ensures no_draft { IsErrOf result LogError.NoDraft → ⊥ }
         ensures full { IsErrOf result LogError.Full
-            → 2 ^ 60 < length (D.seen self.old.device) + length bytes.now }
+            → 2 ^ 60 < length (D.seen self.old.device) + length (held buffer.old end) }
+        ensures memory { IsErrOf result LogError.Memory → ⊥ }
         ensures faults { D.faults self.old.device ≤ D.faults self.new.device }
         ensures failed { IsErrOf result (LogError.Device DeviceError.Failed)
             → D.faults self.old.device < D.faults self.new.device }
@@ -146,14 +139,14 @@ impl<D: Device, A: Allocator> Log<D, A> {
         if !self.usable {
             return Err(LogError::Ended);
         }
-        if self.end > MOST || bytes.len() > MOST {
+        if self.end > MOST || end - HEAD > MOST {
             return Err(LogError::Full);
         }
-        stage(&mut self.block, bytes)?;
+        stage(buffer, end);
         self.usable = false;
         self.drafting = false;
-        self.device.write_at(self.end + 1, &self.block)?;
-        self.end += HEAD + bytes.len();
+        self.device.write_at(self.end + 1, &buffer[1..end + TAIL])?;
+        self.end += end;
         self.pending = true;
         self.usable = true;
         Ok(())
@@ -236,14 +229,17 @@ impl<D: Device, A: Allocator> Log<D, A> {
         Ok(())
     }
 
-    /// Adds bytes to the draft. The log is as it was, and a crash leaves what it might have left before.
+    /// Adds bytes to the draft, which are in a buffer as for [`append`](Log::append). The log is as it
+    /// was, and a crash leaves what it might have left before.
     ///
-    /// The errors are a failed allocation, a draft that would be longer than 2^60 bytes or isn't open,
-    /// which change nothing, and a failure of the device, after which no draft is open.
-    pub fn add_to_draft(&mut self, bytes: &[u8]) -> Result<(), LogError>
+    /// The errors are a draft that would be longer than 2^60 bytes or isn't open, which change nothing,
+    /// and a failure of the device, after which no draft is open.
+    pub fn add_to_draft(&mut self, buffer: &mut [u8], end: usize) -> Result<(), LogError>
+        requires head { 10 ≤ end }
+        requires room { end + 2 ≤ length buffer.old }
         ensures drafting { OnOk result (IsTrue self.new.drafting) }
         ensures drafted { OnOk result (content_in Stopped (D.drafted self.new.device)
-            ≡ content_in Stopped (D.drafted self.old.device) ++ bytes.now) }
+            ≡ content_in Stopped (D.drafted self.old.device) ++ held buffer.old end) }
         ensures seen { D.seen self.new.device ≡ D.seen self.old.device }
         ensures usable { self.new.usable ≡ self.old.usable }
         ensures outcomes { NoMore (D.may_leave self.old.device) (D.may_leave self.new.device) }
@@ -256,7 +252,8 @@ impl<D: Device, A: Allocator> Log<D, A> {
         ensures ended { IsErrOf result LogError.Ended → ⊥ }
         ensures no_draft { IsErrOf result LogError.NoDraft → self.old.drafting ≡ false }
         ensures full { IsErrOf result LogError.Full
-            → 2 ^ 60 < length (D.drafted self.old.device) + length bytes.now }
+            → 2 ^ 60 < length (D.drafted self.old.device) + length (held buffer.old end) }
+        ensures memory { IsErrOf result LogError.Memory → ⊥ }
         ensures faults { D.faults self.old.device ≤ D.faults self.new.device }
         ensures failed { IsErrOf result (LogError.Device DeviceError.Failed)
             → D.faults self.old.device < D.faults self.new.device }
@@ -264,13 +261,13 @@ impl<D: Device, A: Allocator> Log<D, A> {
         if !self.drafting {
             return Err(LogError::NoDraft);
         }
-        if self.drafted > MOST || bytes.len() > MOST {
+        if self.drafted > MOST || end - HEAD > MOST {
             return Err(LogError::Full);
         }
-        stage_open(&mut self.block, bytes)?;
+        stage(buffer, end);
         self.drafting = false;
-        self.device.add_to_draft(&self.block)?;
-        self.drafted += HEAD + bytes.len();
+        self.device.add_to_draft(&buffer[..end])?;
+        self.drafted += end;
         self.drafting = true;
         Ok(())
     }

@@ -21,7 +21,7 @@ use std::alloc::Allocator;
 /// A log that was recovered, and what is in it.
 #[derive(Drop)]
 pub struct Recovered<D: Device, A: Allocator> {
-    pub log: Log<D, A>,
+    pub log: Log<D>,
     /// All that was added to the log, but for what was lost.
     pub bytes: Vec<u8, A>,
     /// How many bytes of the file were behind the last block that counts. Without a crash these are
@@ -62,7 +62,7 @@ pub fn recover<D: Device, A: Allocator + Copy>(
     let mut device = device;
     match reopen(alloc, &mut device, how) {
         Ok(found) => Ok(Recovered {
-            log: Log::at_rest(alloc, device, found.end),
+            log: Log::at_rest(device, found.end),
             bytes: found.bytes,
             left_out: found.left_out,
         }),
@@ -102,7 +102,7 @@ fn reopen<D: Device, A: Allocator + Copy>(
 }
 
 /// An empty log, in place of whatever is in the file. An `Err` hands the file back: the device failed.
-pub fn create<D: Device, A: Allocator>(alloc: A, device: D) -> Result<Log<D, A>, (DeviceError, D)>
+pub fn create<D: Device>(device: D) -> Result<Log<D>, (DeviceError, D)>
     ensures content { IfOk result (λ log. (next : Crash) → content_in next (D.seen log.device) ≡ []) }
     ensures usable { IfOk result (λ log. IsTrue log.usable) }
     ensures outcomes { IfOk result (λ log. LeaveAsSeen (D.seen log.device)
@@ -115,7 +115,7 @@ pub fn create<D: Device, A: Allocator>(alloc: A, device: D) -> Result<Log<D, A>,
 {
     let mut device = device;
     match empty(&mut device) {
-        Ok(()) => Ok(Log::at_rest(alloc, device, 0)),
+        Ok(()) => Ok(Log::at_rest(device, 0)),
         Err(error) => Err((error, device)),
     }
 }

@@ -1,47 +1,30 @@
-//! A block is added behind the blocks of a file, or of a draft.
+//! A block is made in a buffer, around its bytes.
 
-ghost use Rattle.std.specs.Prelude.{◌≡◌, ◌≤◌, ◌++◌, ◌^◌, OnOk, length};
-ghost use Rattle.p9_log.specs.Blocks.{number};
-ghost use Rattle.p9_log.specs.Rest.{block, staged};
+ghost use Rattle.std.specs.Prelude.{◌≡◌, ◌≤◌, ◌+◌, ◌++◌, ◌^◌, ◌∷◌, [], length, take, drop};
+ghost use Rattle.p9_log.specs.Rest.{block, held};
 
-use crate::layout::{NEXT, OPEN, WRITTEN};
+use crate::layout::{HEAD, NEXT, OPEN};
 use byteorder::{ByteOrder, LittleEndian};
-use std::alloc::{AllocError, Allocator};
 
-/// Puts the open write gate of a block, its size, its bytes and the gates of the next into a buffer, in
-/// place of what is there.
-pub(crate) fn stage<A: Allocator>(buffer: &mut Vec<u8, A>, bytes: &[u8]) -> Result<(), AllocError>
-    requires { length bytes.now ≤ 2 ^ 60 }
-    ensures { OnOk result (buffer.new.items ≡ staged bytes.now) }
-{
-    buffer.clear();
-    buffer.extend_from_slice(&WRITTEN)?;
-    add_sized(buffer, bytes)?;
-    buffer.extend_from_slice(&NEXT)
-}
-
-/// Puts a block with open gates into a buffer, in place of what is there.
-pub(crate) fn stage_open<A: Allocator>(
-    buffer: &mut Vec<u8, A>,
-    bytes: &[u8],
-) -> Result<(), AllocError>
-    requires { length bytes.now ≤ 2 ^ 60 }
-    ensures { OnOk result (buffer.new.items ≡ block 1 bytes.now) }
-{
-    buffer.clear();
-    buffer.extend_from_slice(&OPEN)?;
-    add_sized(buffer, bytes)
-}
-
-/// Adds the number of bytes and the bytes.
-#[tactic(auto, unfolding(crate::specs::Blocks::number))]
-fn add_sized<A: Allocator>(buffer: &mut Vec<u8, A>, bytes: &[u8]) -> Result<(), AllocError>
-    requires { length bytes.now ≤ 2 ^ 60 }
-    ensures { OnOk result (buffer.new.items
-        ≡ buffer.old.items ++ number (length bytes.now) ++ bytes.now) }
+/// Puts the open gates of a block and its size in front of its bytes, which are in a buffer from
+/// [`HEAD`] to `end`, and the gates of the next block behind them.
+pub(crate) fn stage(buffer: &mut [u8], end: usize)
+    requires head { 10 ≤ end }
+    requires room { end + 2 ≤ length buffer.old }
+    requires few { end ≤ 2 ^ 62 }
+    ensures { take (end + 2) buffer.new ≡ block 1 (held buffer.old end) ++ 1 ∷ 0 ∷ [] }
 {
     let mut size = [0; 8];
-    LittleEndian::write_u64(&mut size, bytes.len() as u64);
-    buffer.extend_from_slice(&size)?;
-    buffer.extend_from_slice(bytes)
+    LittleEndian::write_u64(&mut size, (end - HEAD) as u64);
+    put_over(buffer, 0, &OPEN);
+    put_over(buffer, OPEN.len(), &size);
+    put_over(buffer, end, &NEXT);
+}
+
+// Puts bytes over those of a buffer from an index on.
+fn put_over(buffer: &mut [u8], at: usize, bytes: &[u8])
+    requires { at + length bytes.now ≤ length buffer.old }
+    ensures { buffer.new ≡ take at buffer.old ++ bytes.now ++ drop (at + length bytes.now) buffer.old }
+{
+    buffer[at..at + bytes.len()].copy_from_slice(bytes);
 }

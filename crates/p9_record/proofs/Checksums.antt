@@ -9,7 +9,7 @@ use Rattle.std.proofs.lemmas.List.{take-append-drop}
 use Rattle.std.proofs.lemmas.List.Elements.{All-from_get_or}
 use Rattle.std.proofs.lemmas.Option.{cond_some, same_Some}
 use Rattle.std.proofs.lemmas.Slice.Eq.{bytes_eq-Decides}
-use Rattle.std.specs.Hash.DefaultHasher as sip
+use Rattle.std.specs.Hash.FoldHasher as folding
 use Rattle.byteorder.specs.Numbers.{length-bytes_low_first}
 use Rattle.p9_tree.specs.ForestEdit.{ForestEdit}
 use Rattle.p9_wire.specs.FieldReading.{◌and_then◌, bytes_at}
@@ -29,7 +29,7 @@ all_bytes bytes each = All-from_get_or (λ b. b < 256) bytes 0 (λ i lt. omega (
 -- a checksum is eight bytes
 pub length-checksum : (bytes : List ℕ) → length (checksum bytes) ≡ 8
 unfolding checksum
-length-checksum bytes = length-bytes_low_first 0 8 (sip.finish (sip.write sip.initial bytes))
+length-checksum bytes = length-bytes_low_first 0 8 (folding.finish (folding.write folding.initial bytes))
 
 -- what was put is between its two indices
 pub put_between : (bytes old new : List ℕ) (at next : ℕ) → at ≤ length old → Puts bytes at next old new

@@ -7,5 +7,5 @@ pub mod laws;
 mod reading;
 mod writing;
 
-pub use closed::{put_closed, take_closed};
+pub use closed::{is_earlier, put_closed, take_closed};
 pub use writing::data_len;

@@ -1,8 +1,8 @@
 //! A draft takes the place of a log.
 
-use crate::log::logs::{InMemory, MemoryLog, log_over, new_log, recovers};
+use crate::log::logs::{InMemory, MemoryLog, add, draft, log_over, new_log, recovers};
 use p9_log::{Crash, Device, Fuse, Log, LogError, MemoryDevice};
-use std::alloc::{Allocator, Global};
+use std::alloc::Global;
 
 const OLD: [u8; 2] = [1, 2];
 
@@ -16,19 +16,19 @@ fn old_log(alloc: Global) -> Option<MemoryLog> {
 }
 
 // Whether the old bytes are added and synced.
-fn add_synced<D: Device, A: Allocator>(log: &mut Log<D, A>) -> bool {
-    log.append(&OLD).is_ok() && log.sync().is_ok()
+fn add_synced<D: Device>(log: &mut Log<D>) -> bool {
+    add(log, &OLD).is_ok() && log.sync().is_ok()
 }
 
-fn write_draft<D: Device, A: Allocator>(log: &mut Log<D, A>) -> Result<(), LogError> {
+fn write_draft<D: Device>(log: &mut Log<D>) -> Result<(), LogError> {
     log.begin_draft()?;
-    log.add_to_draft(&NEW[..2])?;
-    log.add_to_draft(&NEW[2..])
+    draft(log, &NEW[..2])?;
+    draft(log, &NEW[2..])
 }
 
 // Whether a draft is put in the place of the log. It is None where a log that had no draft to put can't
 // be used.
-fn put<D: Device, A: Allocator>(log: &mut Log<D, A>) -> Option<bool> {
+fn put<D: Device>(log: &mut Log<D>) -> Option<bool> {
     if write_draft(log).is_ok() {
         return Some(log.put_draft().is_ok());
     }
@@ -36,17 +36,17 @@ fn put<D: Device, A: Allocator>(log: &mut Log<D, A>) -> Option<bool> {
 }
 
 // Whether these bytes are recovered of a log's file.
-fn leaves<D: InMemory>(alloc: Global, log: &Log<D, Global>, how: Crash, bytes: &[u8]) -> bool {
+fn leaves<D: InMemory>(alloc: Global, log: &Log<D>, how: Crash, bytes: &[u8]) -> bool {
     recovers(alloc, log.device().file(), how, bytes)
 }
 
 // Whether a draft that is put is the log, and it goes on from there.
-fn goes_on_from_a_draft<D: InMemory>(alloc: Global, log: &mut Log<D, Global>) -> bool {
+fn goes_on_from_a_draft<D: InMemory>(alloc: Global, log: &mut Log<D>) -> bool {
     put(log) == Some(true)
         && log.put_draft() == Err(LogError::NoDraft)
         && leaves(alloc, log, Crash::Killed, &NEW)
         && leaves(alloc, log, Crash::Stopped, &NEW)
-        && log.append(&[5]).is_ok()
+        && add(log, &[5]).is_ok()
         && leaves(alloc, log, Crash::Killed, &[7, 8, 9, 5])
         && leaves(alloc, log, Crash::Stopped, &NEW)
         && log.sync().is_ok()
@@ -63,10 +63,10 @@ fn a_draft_that_is_put_is_the_log(rt: HostRuntime) {
 }
 
 // Whether a log has no draft once it is added to.
-fn has_no_draft_then<D: InMemory>(alloc: Global, log: &mut Log<D, Global>) -> bool {
+fn has_no_draft_then<D: InMemory>(alloc: Global, log: &mut Log<D>) -> bool {
     write_draft(log).is_ok()
-        && log.append(&[3]).is_ok()
-        && log.add_to_draft(&[4]) == Err(LogError::NoDraft)
+        && add(log, &[3]).is_ok()
+        && draft(log, &[4]) == Err(LogError::NoDraft)
         && log.put_draft() == Err(LogError::NoDraft)
         && leaves(alloc, log, Crash::Killed, &[1, 2, 3])
 }
@@ -81,7 +81,7 @@ fn a_log_that_is_added_to_has_no_draft(rt: HostRuntime) {
 }
 
 // The device below a log that is used up to its failure, and whether a draft was put.
-fn put_and_ended<D: Device, A: Allocator>(log: Log<D, A>) -> (D, Option<bool>) {
+fn put_and_ended<D: Device>(log: Log<D>) -> (D, Option<bool>) {
     let mut log = log;
     let put = put(&mut log);
     (log.into_device(), put)

@@ -1,29 +1,29 @@
 //! Each call of the device fails in turn.
 
-use crate::log::logs::bytes_over;
+use crate::log::logs::{add, bytes_over};
 use p9_log::{Crash, Device, Fuse, Log, LogError, MemoryDevice, create};
-use std::alloc::{Allocator, Global};
+use std::alloc::Global;
 
 // Adds three runs, and syncs behind the second. It returns how many were added, or 9 where a log that
 // has failed takes more.
-fn run<D: Device, A: Allocator>(log: &mut Log<D, A>) -> u8 {
-    if log.append(&[1, 1]).is_err() {
+fn run<D: Device>(log: &mut Log<D>) -> u8 {
+    if add(log, &[1, 1]).is_err() {
         return unless_it_takes_more(log, 0);
     }
-    if log.append(&[2]).is_err() {
+    if add(log, &[2]).is_err() {
         return unless_it_takes_more(log, 1);
     }
     if log.sync().is_err() {
         return unless_it_takes_more(log, 2);
     }
-    if log.append(&[3, 3, 3]).is_err() {
+    if add(log, &[3, 3, 3]).is_err() {
         return unless_it_takes_more(log, 2);
     }
     3
 }
 
-fn unless_it_takes_more<D: Device, A: Allocator>(log: &mut Log<D, A>, added: u8) -> u8 {
-    match log.append(&[9]) {
+fn unless_it_takes_more<D: Device>(log: &mut Log<D>, added: u8) -> u8 {
+    match add(log, &[9]) {
         Err(LogError::Ended) => added,
         _ => 9,
     }
@@ -31,14 +31,14 @@ fn unless_it_takes_more<D: Device, A: Allocator>(log: &mut Log<D, A>, added: u8)
 
 // The device after a log over it was run, and how many runs were added.
 fn run_over<D: Device>(alloc: Global, device: D) -> (D, u8) {
-    match create(alloc, device) {
+    match create(device) {
         Ok(log) => run_and_ended(log),
         Err(refused) => (refused.1, 0),
     }
 }
 
 // The device below a log after it was run, and how many runs were added.
-fn run_and_ended<D: Device, A: Allocator>(log: Log<D, A>) -> (D, u8) {
+fn run_and_ended<D: Device>(log: Log<D>) -> (D, u8) {
     let mut log = log;
     let added = run(&mut log);
     (log.into_device(), added)

@@ -1,6 +1,6 @@
 //! Logs in files of a folder.
 
-use crate::log::logs::{bytes_over, is_found};
+use crate::log::logs::{add, bytes_over, is_found};
 use p9_disk::FileDevice;
 use p9_log::{Crash, Device, DeviceError, Log, create};
 use std::alloc::Global;
@@ -19,15 +19,15 @@ fn is_made(rt: &HostRuntime, folder: &str) -> bool {
     let Ok(device) = FileDevice::open(rt, folder, "log") else {
         return false;
     };
-    let Ok(log) = create(rt.alloc(), device) else {
+    let Ok(log) = create(device) else {
         return false;
     };
     is_written(log)
 }
 
-fn is_written(log: Log<FileDevice, Global>) -> bool {
+fn is_written(log: Log<FileDevice>) -> bool {
     let mut log = log;
-    log.append(&[7, 8]).is_ok() && log.sync().is_ok() && log.append(&[9]).is_ok()
+    add(&mut log, &[7, 8]).is_ok() && log.sync().is_ok() && add(&mut log, &[9]).is_ok()
 }
 
 // What is recovered of it.

@@ -1,6 +1,6 @@
 //! The bytes of a log's file.
 
-use crate::log::logs::{MemoryLog, log_of, new_log, recovers};
+use crate::log::logs::{MemoryLog, add, draft, log_of, new_log, recovers};
 use p9_log::Crash;
 
 // An open sync gate, an open write gate, the size and the bytes of a block; a mark, with its sync gate
@@ -22,7 +22,7 @@ const PUT: [u8; 24] = [
 
 // Whether the bytes are those when a block is written, and when it is synced.
 fn writes_a_block(log: &mut MemoryLog) -> bool {
-    log.append(&[7, 8]).is_ok()
+    add(log, &[7, 8]).is_ok()
         && log.device().bytes() == APPENDED.as_slice()
         && log.sync().is_ok()
         && log.device().bytes() == SYNCED.as_slice()
@@ -49,7 +49,7 @@ fn what_is_recovered_is_on_the_disk(rt: HostRuntime) {
 // Whether the bytes are those of a draft that was put.
 fn puts_a_draft(log: &mut MemoryLog) -> bool {
     log.begin_draft().is_ok()
-        && log.add_to_draft(&[7, 8]).is_ok()
+        && draft(log, &[7, 8]).is_ok()
         && log.put_draft().is_ok()
         && log.device().bytes() == PUT.as_slice()
         && log.len() == 22

@@ -1,10 +1,15 @@
 //! Logs over devices in memory, for tests.
 
-use p9_log::{Crash, Device, Log, MemoryDevice, create, recover};
+ghost use Rattle.std.specs.Prelude.{◌≡◌, ◌≤◌, ◌+◌, length};
+
+use p9_log::{Crash, Device, HEAD, Log, LogError, MemoryDevice, TAIL, create, recover};
 use std::alloc::{Allocator, Global};
 
+// The most bytes that a test adds at once.
+const ADDED_MAX: usize = 8;
+
 /// A log over a device in memory.
-pub(crate) type MemoryLog = Log<MemoryDevice<Global>, Global>;
+pub(crate) type MemoryLog = Log<MemoryDevice<Global>>;
 
 /// A device whose file is in memory. What is generic over it is cheaper to prove than what names the
 /// device.
@@ -21,7 +26,34 @@ impl<A: Allocator + Copy> InMemory for MemoryDevice<A> {
 
 /// A log without bytes.
 pub(crate) fn new_log(alloc: Global) -> Option<MemoryLog> {
-    create(alloc, MemoryDevice::new(alloc, Vec::new(alloc))).ok()
+    create(MemoryDevice::new(alloc, Vec::new(alloc))).ok()
+}
+
+// A buffer with room for a block, and where the bytes end in it.
+fn staged(bytes: &[u8]) -> ([u8; HEAD + ADDED_MAX + TAIL], usize)
+    requires { length bytes.now ≤ 8 }
+    ensures { result.1 ≡ 10 + length bytes.now }
+{
+    let mut buffer = [0; HEAD + ADDED_MAX + TAIL];
+    let end = HEAD + bytes.len();
+    buffer[HEAD..end].copy_from_slice(bytes);
+    (buffer, end)
+}
+
+/// Adds bytes to a log.
+pub(crate) fn add<D: Device>(log: &mut Log<D>, bytes: &[u8]) -> Result<(), LogError>
+    requires { length bytes.now ≤ 8 }
+{
+    let (mut buffer, end) = staged(bytes);
+    log.append(&mut buffer, end)
+}
+
+/// Adds bytes to the draft of a log.
+pub(crate) fn draft<D: Device>(log: &mut Log<D>, bytes: &[u8]) -> Result<(), LogError>
+    requires { length bytes.now ≤ 8 }
+{
+    let (mut buffer, end) = staged(bytes);
+    log.add_to_draft(&mut buffer, end)
 }
 
 /// The log that is recovered of a file.
@@ -31,11 +63,7 @@ pub(crate) fn log_of(alloc: Global, file: &[u8], how: Crash) -> Option<MemoryLog
 }
 
 /// The log that is recovered of a device, or the device where none is.
-pub(crate) fn log_over<D: Device>(
-    alloc: Global,
-    device: D,
-    how: Crash,
-) -> Result<Log<D, Global>, D> {
+pub(crate) fn log_over<D: Device>(alloc: Global, device: D, how: Crash) -> Result<Log<D>, D> {
     match recover(alloc, device, how) {
         Ok(found) => Ok(found.log),
         Err(refused) => Err(refused.1),

@@ -18,7 +18,7 @@ loop-server-preserved g c =
     let state = g.T.Tree.state in
     record {
       made = λ old.
-          subst (Makes (D.drafted c.put_tree.new.log.device) c.put_tree.new.noted.items)
+          subst (Makes (D.drafted c.put_tree.new.log.device) c.put_tree.new.noted)
           (sym (map-take-more state c.args.trees.now c.loop-server.server c.index-trees-server.result
           c.loop-server-test.true c.index-trees-server.is))
           (c.in_ok-put_tree.ensures.made (map state (take c.loop-server.server c.args.trees.now))
@@ -36,7 +36,7 @@ returns-clause-made g c =
     let D = g.D.Device in
     on_ok_weaker c.flush.result
     (λ last old.
-    subst (Makes (D.drafted c.flush.new.log.device) c.flush.new.noted.items)
+    subst (Makes (D.drafted c.flush.new.log.device) c.flush.new.noted)
     (ap (map g.T.Tree.state)
     (take_all c.loop-server.server c.args.trees.now c.loop-server-test.false))
     (last _ (c.loop-server.invariant.made old)))

@@ -10,7 +10,7 @@ returns-clause-made g c =
     on_ok_weaker c.put_rest.result
     (λ rest front made is next old.
     rest front made is next
-    (subst (Makes (g.D.Device.drafted c.put.new.log.device) c.put.new.noted.items)
+    (subst (Makes (g.D.Device.drafted c.put.new.log.device) c.put.new.noted)
     (node-put_back front made _ (with_front c.min-first.result c.args.node.now) c.args.server is
     (saved-front c.saved.result c.args.node.now c.min-first.result _ c.saved.ensures
     (ap (take c.min-first.result) c.bytes-2.ensures)))

@@ -17,7 +17,7 @@ loop-at-preserved g c =
     ap length c.bytes-bytes.ensures in
     record {
       made = λ front made is next old.
-          subst (Makes (D.drafted c.put.new.log.device) c.put.new.noted.items)
+          subst (Makes (D.drafted c.put.new.log.device) c.put.new.noted)
           (piece-written front made c.args.node.now c.loop-at.at (c.loop-at.at + c.min.result) _ next
           (omega (arith, size, c.loop-at-test.true)) (omega arith) (omega (arith, size, c.min.ensures))
           (piece-joined c.loop-at.at c.min.result c.args.node.now.bytes c.bytes-bytes.result.now

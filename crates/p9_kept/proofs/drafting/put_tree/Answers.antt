@@ -66,7 +66,7 @@ returns-clause-made g c =
     let w : WellFormed s = g.met.T.Tree.well_formed c.args.tree.now in
     on_ok_weaker c.put-2.result
     (λ last front is old.
-    subst (Makes (D.drafted c.put-2.new.log.device) c.put-2.new.noted.items)
+    subst (Makes (D.drafted c.put-2.new.log.device) c.put-2.new.noted)
     (next-skipped front c.loop-node.invariant.server c.next.result c.args.server is
     ∙ ap (λ k. front ++ skipped_to k c.loop-node.invariant.server ∷ []) c.next.ensures
     ∙ ap (λ t. front ++ t ∷ [])

@@ -9,8 +9,8 @@ invariant-loop-node g l = record {
   server : Server;
   so_far : IsMadeTo l.number (g.T.Tree.state l.tree) server;
   made : (front : List Server) → length front ≡ l.server
-      → Makes (g.D.Device.drafted l.fn.log.device) l.fn.noted.items front
-      → Makes (g.D.Device.drafted l.log.device) l.noted.items (front ++ server ∷ []);
+      → Makes (g.D.Device.drafted l.fn.log.device) l.fn.noted front
+      → Makes (g.D.Device.drafted l.log.device) l.noted (front ++ server ∷ []);
   usable : l.log.usable ≡ l.fn.log.usable;
   log : IsUntouched g.D.Device.seen g.D.Device.moment g.D.Device.may_leave g.D.Device.left_since
       l.fn.log.device l.log.device;

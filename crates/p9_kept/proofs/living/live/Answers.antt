@@ -13,7 +13,7 @@ returns-then-not-take_step-clause-lives g c = λ how k le.
     let journal = c.loop-taken.journal in
     lives-on D.seen D.moment D.may_leave D.left_since how c.args.steps.now
     (stood_for (content_in Killed (D.seen c.args.journal.now.log.device))) c.loop-taken.taken k
-    journal.noted.items c.args.journal.now.log.device journal.log.device
+    journal.noted c.args.journal.now.log.device journal.log.device
     c.take_step.new.journal.log.device le c.loop-taken.invariant.at (c.take_step.ensures.any_moment how)
     (c.loop-taken.invariant.lives how k le)
 
@@ -28,7 +28,7 @@ loop-taken-preserved g c =
     let done : IsTrue c.take_step.result = c.if-not-take_step.false in
     let at =
     after-next steps c.loop-taken.taken c.index-steps-taken.result forest (D.seen journal.log.device)
-    journal.noted.items (D.seen new.log.device) new.noted.items c.loop-taken-test.true
+    journal.noted (D.seen new.log.device) new.noted c.loop-taken-test.true
     c.index-steps-taken.is c.loop-taken.invariant.at (journal.records c.loop-taken.invariant.whole)
     (c.take_step.ensures.taken done) in
     let sooner : D.moment old ≤ D.moment journal.log.device = c.loop-taken.invariant.later in
@@ -42,7 +42,7 @@ loop-taken-preserved g c =
         | inl lt ↦
             (let before : k ≤ c.loop-taken.taken = omega arith in
             lives-on D.seen D.moment D.may_leave D.left_since how steps forest c.loop-taken.taken k
-            journal.noted.items old journal.log.device new.log.device before
+            journal.noted old journal.log.device new.log.device before
             c.loop-taken.invariant.at (c.take_step.ensures.any_moment how)
             (c.loop-taken.invariant.lives how k before))
         | inr ge ↦
@@ -50,7 +50,7 @@ loop-taken-preserved g c =
             subst (λ (k : ℕ). Lives D.seen D.moment D.left_since how steps (take k steps) forest old new.log.device)
             same
             (lives-now D.seen D.moment D.may_leave D.left_since how steps forest (c.loop-taken.taken + 1)
-            new.noted.items old new.log.device (omega arith)
+            new.noted old new.log.device (omega arith)
             (g.met.D.Device.only_now new.log.device how)
             (new.as_seen (c.take_step.ensures.whole done) how) at))
       ];

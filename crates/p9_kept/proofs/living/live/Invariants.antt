@@ -11,7 +11,7 @@ invariant-loop-taken g l = record {
   whole : IsTrue l.journal.whole;
   at : IsAfter l.steps (take l.taken l.steps)
       (stood_for (content_in Killed (g.D.Device.seen l.fn.journal.log.device)))
-      (g.D.Device.seen l.journal.log.device) l.journal.noted.items;
+      (g.D.Device.seen l.journal.log.device) l.journal.noted;
   later : g.D.Device.moment l.fn.journal.log.device ≤ g.D.Device.moment l.journal.log.device;
   lives : (how : Crash) (k : ℕ) → k ≤ l.taken
       → Lives g.D.Device.seen g.D.Device.moment g.D.Device.left_since how l.steps (take k l.steps)

@@ -9,8 +9,8 @@ returns-in-Settle-clause-any_moment g c = λ how.
     let D = g.D.Device in
     let journal = c.args.journal.now in
     leaves-weaker D.moment D.left_since how
-    (IsAppended how (D.seen journal.log.device) journal.noted.items)
-    (IsAppendedAndKept how (D.seen journal.log.device) journal.noted.items) journal.log.device
+    (IsAppended how (D.seen journal.log.device) journal.noted)
+    (IsAppendedAndKept how (D.seen journal.log.device) journal.noted) journal.log.device
     c.settle_noted.new.self.log.device
-    (appended-kept how (D.seen journal.log.device) journal.noted.items)
+    (appended-kept how (D.seen journal.log.device) journal.noted)
     (c.settle_noted.ensures.any_moment how)

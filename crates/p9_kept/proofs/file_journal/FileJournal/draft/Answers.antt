@@ -16,8 +16,8 @@ returns-clause-made g c =
     both c.put_forest-drafted.result
     (λ made empty.
     subst (λ b. Makes new b c.args.forest.now) empty
-    (subst (Makes new c.put_forest-drafted.new.noted.items) c.trees.ensures
-    (made (makes-none (D.drafted c.begin_draft.new.self.device) c.args.self.now.noted.items
+    (subst (Makes new c.put_forest-drafted.new.noted) c.trees.ensures
+    (made (makes-none (D.drafted c.begin_draft.new.self.device) c.args.self.now.noted
     c.in_ok-begin_draft.ensures.drafted c.requires))))
     c.put_forest-drafted.ensures.made c.put_forest-drafted.ensures.empty
 

@@ -8,7 +8,7 @@ pub invariant_of-self : goal.invariant_of-self
 invariant_of-self g c = record {
   records = λ whole.
       noted-whole (content_in Killed (g.D.Device.seen c.args.self.now.log.device))
-      c.args.self.now.noted.items c.put_behind.new.noted.items (forest_edit_of c.args.change.now)
+      c.args.self.now.noted c.push.new.self (forest_edit_of c.args.change.now)
       c.in-Ok.ensures.ok c.in-Ok.ensures.fits (c.args.self.now.records whole);
   as_seen = c.args.self.now.as_seen;
 }

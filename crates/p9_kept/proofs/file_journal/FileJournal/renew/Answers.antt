@@ -8,14 +8,14 @@ pub returns-in_err-settle_noted-clause-any_moment :
 returns-in_err-settle_noted-clause-any_moment g c = λ how.
     let D = g.D.Device in
     let self = c.args.self.now in
-    renew-settled D.moment D.left_since how (D.seen self.log.device) self.noted.items c.args.forest.now
+    renew-settled D.moment D.left_since how (D.seen self.log.device) self.noted c.args.forest.now
     self.log.device c.settle_noted.new.self.log.device (c.settle_noted.ensures.any_moment how)
 
 pub returns-in_err-draft-clause-any_moment : goal.returns-in_err-draft-clause-any_moment
 returns-in_err-draft-clause-any_moment g c = λ how.
     let D = g.D.Device in
     let self = c.args.self.now in
-    renew-drafted D.moment D.left_since how (D.seen self.log.device) self.noted.items c.args.forest.now
+    renew-drafted D.moment D.left_since how (D.seen self.log.device) self.noted c.args.forest.now
     self.log.device c.settle_noted.new.self.log.device (c.settle_noted.ensures.any_moment how)
     c.draft.new.self.log.device (c.draft.ensures.log.any_moment how)
 
@@ -23,7 +23,7 @@ pub returns-in_err-put_draft-clause-any_moment : goal.returns-in_err-put_draft-c
 returns-in_err-put_draft-clause-any_moment g c = λ how.
     let D = g.D.Device in
     let self = c.args.self.now in
-    renew-put D.moment D.left_since how (D.seen self.log.device) self.noted.items c.args.forest.now
+    renew-put D.moment D.left_since how (D.seen self.log.device) self.noted c.args.forest.now
     self.log.device c.settle_noted.new.self.log.device (c.settle_noted.ensures.any_moment how)
     c.draft.new.self.log.device (c.draft.ensures.log.any_moment how)
     (D.drafted c.draft.new.self.log.device) c.put_draft.new.self.log.device c.in_ok-draft.ensures.made
@@ -33,7 +33,7 @@ pub returns-clause-any_moment : goal.returns-clause-any_moment
 returns-clause-any_moment g c = λ how.
     let D = g.D.Device in
     let self = c.args.self.now in
-    renew-put D.moment D.left_since how (D.seen self.log.device) self.noted.items c.args.forest.now
+    renew-put D.moment D.left_since how (D.seen self.log.device) self.noted c.args.forest.now
     self.log.device c.settle_noted.new.self.log.device (c.settle_noted.ensures.any_moment how)
     c.draft.new.self.log.device (c.draft.ensures.log.any_moment how)
     (D.drafted c.draft.new.self.log.device) c.put_draft.new.self.log.device c.in_ok-draft.ensures.made
@@ -44,7 +44,7 @@ returns-in_err-settle_noted-clause-stay g c =
     let D = g.D.Device in
     let self = c.args.self.now in
     renewed-stay D.moment D.may_leave D.left_since g.met.D.Device.counts_now g.met.D.Device.only_now
-    (D.seen self.log.device) self.noted.items c.args.forest.now self.log.device
+    (D.seen self.log.device) self.noted c.args.forest.now self.log.device
     c.settle_noted.new.self.log.device (returns-in_err-settle_noted-clause-any_moment g c Killed)
 
 pub returns-in_err-settle_noted-clause-stand : goal.returns-in_err-settle_noted-clause-stand
@@ -52,7 +52,7 @@ returns-in_err-settle_noted-clause-stand g c =
     let D = g.D.Device in
     let self = c.args.self.now in
     renewed-stand D.moment D.may_leave D.left_since g.met.D.Device.counts_now g.met.D.Device.only_now
-    (D.seen self.log.device) self.noted.items c.args.forest.now self.log.device
+    (D.seen self.log.device) self.noted c.args.forest.now self.log.device
     c.settle_noted.new.self.log.device (returns-in_err-settle_noted-clause-any_moment g c Stopped)
 
 pub returns-in_err-draft-clause-stay : goal.returns-in_err-draft-clause-stay
@@ -60,7 +60,7 @@ returns-in_err-draft-clause-stay g c =
     let D = g.D.Device in
     let self = c.args.self.now in
     renewed-stay D.moment D.may_leave D.left_since g.met.D.Device.counts_now g.met.D.Device.only_now
-    (D.seen self.log.device) self.noted.items c.args.forest.now self.log.device
+    (D.seen self.log.device) self.noted c.args.forest.now self.log.device
     c.draft.new.self.log.device (returns-in_err-draft-clause-any_moment g c Killed)
 
 pub returns-in_err-draft-clause-stand : goal.returns-in_err-draft-clause-stand
@@ -68,7 +68,7 @@ returns-in_err-draft-clause-stand g c =
     let D = g.D.Device in
     let self = c.args.self.now in
     renewed-stand D.moment D.may_leave D.left_since g.met.D.Device.counts_now g.met.D.Device.only_now
-    (D.seen self.log.device) self.noted.items c.args.forest.now self.log.device
+    (D.seen self.log.device) self.noted c.args.forest.now self.log.device
     c.draft.new.self.log.device (returns-in_err-draft-clause-any_moment g c Stopped)
 
 pub returns-in_err-put_draft-clause-stay : goal.returns-in_err-put_draft-clause-stay
@@ -76,7 +76,7 @@ returns-in_err-put_draft-clause-stay g c =
     let D = g.D.Device in
     let self = c.args.self.now in
     renewed-stay D.moment D.may_leave D.left_since g.met.D.Device.counts_now g.met.D.Device.only_now
-    (D.seen self.log.device) self.noted.items c.args.forest.now self.log.device
+    (D.seen self.log.device) self.noted c.args.forest.now self.log.device
     c.put_draft.new.self.log.device (returns-in_err-put_draft-clause-any_moment g c Killed)
 
 pub returns-in_err-put_draft-clause-stand : goal.returns-in_err-put_draft-clause-stand
@@ -84,7 +84,7 @@ returns-in_err-put_draft-clause-stand g c =
     let D = g.D.Device in
     let self = c.args.self.now in
     renewed-stand D.moment D.may_leave D.left_since g.met.D.Device.counts_now g.met.D.Device.only_now
-    (D.seen self.log.device) self.noted.items c.args.forest.now self.log.device
+    (D.seen self.log.device) self.noted c.args.forest.now self.log.device
     c.put_draft.new.self.log.device (returns-in_err-put_draft-clause-any_moment g c Stopped)
 
 pub returns-clause-stay : goal.returns-clause-stay
@@ -92,7 +92,7 @@ returns-clause-stay g c =
     let D = g.D.Device in
     let self = c.args.self.now in
     renewed-stay D.moment D.may_leave D.left_since g.met.D.Device.counts_now g.met.D.Device.only_now
-    (D.seen self.log.device) self.noted.items c.args.forest.now self.log.device
+    (D.seen self.log.device) self.noted c.args.forest.now self.log.device
     c.put_draft.new.self.log.device (returns-clause-any_moment g c Killed)
 
 pub returns-clause-stand : goal.returns-clause-stand
@@ -100,5 +100,5 @@ returns-clause-stand g c =
     let D = g.D.Device in
     let self = c.args.self.now in
     renewed-stand D.moment D.may_leave D.left_since g.met.D.Device.counts_now g.met.D.Device.only_now
-    (D.seen self.log.device) self.noted.items c.args.forest.now self.log.device
+    (D.seen self.log.device) self.noted c.args.forest.now self.log.device
     c.put_draft.new.self.log.device (returns-clause-any_moment g c Stopped)

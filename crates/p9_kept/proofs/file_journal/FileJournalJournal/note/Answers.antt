@@ -10,9 +10,9 @@ pub returns-clause-noted : goal.returns-clause-noted
 returns-clause-noted g c = λ whole.
     let D = g.D.Device in
     let self = c.args.self.now in
-    ap (λ log. stood_for (content_in Killed (D.seen log.device) ++ c.note_change.new.self.noted.items))
+    ap (λ log. stood_for (content_in Killed (D.seen log.device) ++ c.note_change.new.self.noted))
     c.note_change.ensures.log
-    ∙ noted-stood (content_in Killed (D.seen self.log.device)) self.noted.items
-    c.note_change.new.self.noted.items (forest_edit_of c.args.change.now)
+    ∙ noted-stood (content_in Killed (D.seen self.log.device)) self.noted
+    c.note_change.new.self.noted (forest_edit_of c.args.change.now)
     (c.note_change.ensures.noted whole) (c.note_change.ensures.fits whole)
     (self.records (c.note_change.ensures.less whole))

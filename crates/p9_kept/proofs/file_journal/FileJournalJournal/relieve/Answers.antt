@@ -7,7 +7,7 @@ returns-clause-stay g c =
     let D = g.D.Device in
     let self = c.args.self.now in
     appended-stay D.moment D.may_leave D.left_since g.met.D.Device.counts_now g.met.D.Device.only_now
-    (D.seen self.log.device) self.noted.items self.log.device c.relieve_noted.new.self.log.device
+    (D.seen self.log.device) self.noted self.log.device c.relieve_noted.new.self.log.device
     (c.relieve_noted.ensures.any_moment Killed)
 
 pub returns-clause-stand : goal.returns-clause-stand
@@ -15,5 +15,5 @@ returns-clause-stand g c =
     let D = g.D.Device in
     let self = c.args.self.now in
     appended-stand D.moment D.may_leave D.left_since g.met.D.Device.counts_now g.met.D.Device.only_now
-    (D.seen self.log.device) self.noted.items self.log.device c.relieve_noted.new.self.log.device
+    (D.seen self.log.device) self.noted self.log.device c.relieve_noted.new.self.log.device
     (c.relieve_noted.ensures.any_moment Stopped)
