@@ -1,6 +1,6 @@
 -- Who passes a directory, class by class.
-use Rattle.std.proofs.Common.{◌≡◌, ℕ, ◌+◌, ◌<◌, Bool, true, false, cond, ◌&&◌, ◌||◌, List, [], ◌∷◌, Option}
-use Rattle.std.proofs.Common.{Some, None, refl, sym, ap, ◌∙◌, subst, arith, inl, inr, ◌⊎◌, get_or}
+use Rattle.std.proofs.Common.{◌≡◌, ℕ, ◌<◌, Bool, true, false, cond, ◌&&◌, ◌||◌, List, [], ◌∷◌, Option}
+use Rattle.std.proofs.Common.{Some, None, refl, sym, ap, ◌∙◌, arith, inl, inr, ◌⊎◌, get_or}
 use Rattle.std.proofs.Common.{◌++◌, append-nil, length}
 use Rattle.std.specs.Prelude.{filter}
 use Rattle.std.specs.List.{cons_option, list_any}
@@ -9,12 +9,11 @@ use Rattle.std.specs.Str.{bytes_eq}
 use Rattle.std.proofs.lemmas.List.Folds.{list_any_at}
 use Rattle.std.proofs.lemmas.Slice.Eq.{bytes_eq-Decides}
 use Rattle.p9_base.specs.Group.{Group, GroupRow, group_of, has_member, is_member, leads}
-use Rattle.p9_base.specs.Rights.{is_granted}
 use Rattle.p9_tree.specs.Forest.{node_of}
 use Rattle.p9_tree.specs.Node.{Node, is_dir}
 use Rattle.p9_tree.specs.Server.{Server}
 use Rattle.p9_space.specs.declared.row.Member.{Member}
-use Rattle.p9_space.specs.Rights.{Who, to_execute}
+use Rattle.p9_space.specs.Rights.{Who}
 use Rattle.p9_cert.specs.Listed.{may_pass}
 use Rattle.p9_cert.proofs.Basics.{clash}
 use Rattle.p9_cert.proofs.ByClass.{pass-by-classes}
@@ -33,6 +32,7 @@ module _ {X : Type 0} where
       or-true : (b : Bool) → (b || true) ≡ true
       or-true true = refl
       or-true false = refl
+
       go : (b : Bool) → f x ≡ b → (b || list_any f xs) ≡ true
           → (list_any f xs ≡ true → list_any g xs ≡ true) → (g x || list_any g xs) ≡ true
       go true e u later = ap (λ b. b || list_any g xs) (h x e)
@@ -128,8 +128,11 @@ module _ (n : Node) (groups : List GroupRow) (user : List ℕ) where
           | inr group ↦ inr (elim (either _ (leads groups n.gid user) group) [
             | inl member ↦
                 let parts = both n.mode.permissions.group.execute _ member in
-                inl (parts.0, sym (ap (λ o. option_map_or (has_member user) o (bytes_eq n.gid user)) some)
-                ∙ parts.1)
+                inl (
+                  parts.0,
+                  sym (ap (λ o. option_map_or (has_member user) o (bytes_eq n.gid user)) some)
+                      ∙ parts.1,
+                )
             | inr leader ↦ inr (same g.leader (sym (ap (λ o. option_map_or (λ g. bytes_eq g.leader user)
                 o (bytes_eq n.gid user)) some)
                 ∙ leader))
@@ -145,6 +148,7 @@ public-passed forest groups user m = go (node_of m.node forest)
     both-of : (a b : Bool) → (a && b) ≡ true → (a ≡ true) × (b ≡ true)
     both-of true b t = (refl, t)
     both-of false b t = let no : false ≡ true = t in absurd (cc)
+
     go : (o : Option Node)
         → option_map_or (λ n. is_dir n && n.mode.permissions.others.execute) o false ≡ true
         → option_map_or (λ n. is_dir n && may_pass n (record { user = user; groups = groups })) o false

@@ -6,23 +6,15 @@ use Rattle.std.specs.Prelude.{filter, slice_get, position, not, nat_lt}
 use Rattle.std.specs.BTreeMap.{is_at}
 use Rattle.std.specs.List.{AllByRecursion, IsDistinct, cons_option, filter_map, list_any, position_or_len}
 use Rattle.std.specs.List.Sorted.{IsStrictlySortedBy}
-use Rattle.std.specs.Ordering.{is_eq, nat_cmp}
+use Rattle.std.specs.Ordering.{nat_cmp}
 use Rattle.std.specs.declared.cmp.Ordering.TheVariants.{Less}
 use Rattle.std.specs.Str.{bytes_eq}
 use Rattle.std.proofs.lemmas.Bool.Decides.{nat_tests}
 use Rattle.std.proofs.lemmas.List.Folds.{list_any_more}
 use Rattle.std.proofs.lemmas.Slice.Eq.{bytes_eq-Decides}
+use Rattle.p9_cert.proofs.Basics.{clash, not_some, some_same}
 use Rattle.p9_view.specs.Ranks.{HasAdded, has_rank}
 use Rattle.std.proofs.lemmas.Option.{slice_get_within}
-
-clash : {X : Type 0} (b : Bool) → b ≡ true → b ≡ false → X
-clash b t f = let no : true ≡ false = sym t ∙ f in absurd (cc)
-
-some_same : {X : Type 0} (x y : X) → Some x ≡ Some y → x ≡ y
-some_same x y e = cc
-
-not_some : {X Y : Type 0} (x : X) → None ≡ Some x → Y
-not_some x e = absurd (cc)
 
 below_of : (a b : ℕ) → nat_cmp a b ≡ Less → a < b
 below_of a b e = grind (arith, nat_tests)
@@ -93,6 +85,7 @@ module _ {X : Type 0} (p : X → Bool) where
     where
       at0 : n + 0 ≡ n
       at0 = omega arith
+
       go : (b : Bool) → p x ≡ b → p x ≡ false
       go false t = t
       go true t =
@@ -211,6 +204,7 @@ rank_of users i user name distinct there same =
     joined : (x y : List ℕ) → bytes_eq name x ≡ true → bytes_eq name y ≡ true → bytes_eq x y ≡ true
     joined x y a b =
         grind (arith, bytes_eq-Decides name x, bytes_eq-Decides name y, bytes_eq-Decides x y)
+
     is : bytes_eq name user ≡ true
     is = grind (arith, bytes_eq-Decides name user)
 
@@ -265,11 +259,11 @@ pub among-more : (names : List (List ℕ)) (i : ℕ) (d : List ℕ) → i < leng
     → (list_any (bytes_eq user) (take i names) ≡ true) ⊎ (user ≡ get_or names i d)
 among-more names i d within user t =
     go (list_any (bytes_eq user) (take i names)) refl
-    where
-      go : (b : Bool) → list_any (bytes_eq user) (take i names) ≡ b
-          → (list_any (bytes_eq user) (take i names) ≡ true) ⊎ (user ≡ get_or names i d)
-      go true e = inl e
-      go false e =
-          let either = sym (ap (λ b. b || bytes_eq user (get_or names i d)) e)
-          ∙ sym (list_any_more (bytes_eq user) names i d within) ∙ t in
-          inr (grind (arith, bytes_eq-Decides user (get_or names i d)))
+  where
+    go : (b : Bool) → list_any (bytes_eq user) (take i names) ≡ b
+        → (list_any (bytes_eq user) (take i names) ≡ true) ⊎ (user ≡ get_or names i d)
+    go true e = inl e
+    go false e =
+        let either = sym (ap (λ b. b || bytes_eq user (get_or names i d)) e)
+        ∙ sym (list_any_more (bytes_eq user) names i d within) ∙ t in
+        inr (grind (arith, bytes_eq-Decides user (get_or names i d)))
