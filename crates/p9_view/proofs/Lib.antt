@@ -6,3 +6,5 @@ pub mod Tours
 pub mod Walks
 mod Names
 mod Refusals
+mod Ranked
+mod Passers

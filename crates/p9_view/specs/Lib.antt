@@ -3,6 +3,7 @@ pub mod Met
 pub mod Tour
 pub mod Visit
 pub mod Mode
+pub mod Ranks
 pub mod Passing
 pub mod Line
 pub mod Tree

@@ -22,12 +22,19 @@ abbrev pub is_passed : List Server → Option Who → Member → Bool
 is_passed forest who m =
     option_map_or (λ n. is_dir n && may_pass_by who n) (node_of m.node forest) false
 
+-- the member is a directory that exists and that everybody may search
+abbrev pub is_public : List Server → Member → Bool
+is_public forest m =
+    option_map_or (λ n. is_dir n && n.mode.permissions.others.execute) (node_of m.node forest) false
+
+-- a listed user may pass the member
+abbrev pub is_passed_by : World → (user : List ℕ) → Member → Bool
+is_passed_by world user =
+    is_passed world.forest (Some (record { user = user; groups = world.groups }))
+
 -- the listed users who may pass one of the members
 abbrev pub passers : World → List Member → List (List ℕ)
-passers world ms =
-    filter
-    (λ user. list_any (is_passed world.forest (Some (record { user = user; groups = world.groups }))) ms)
-    world.users
+passers world ms = filter (λ user. list_any (is_passed_by world user) ms) world.users
 
 -- users by name
 abbrev pub users_text : (first : List ℕ) (others : List (List ℕ)) → List ℕ

@@ -5,6 +5,7 @@ mod line;
 mod met;
 mod mode;
 mod passing;
+mod ranks;
 mod text;
 mod tour;
 mod tree;

@@ -1,6 +1,6 @@
 //! The line of an entry of a tour.
 
-ghost use Rattle.std.specs.Prelude.{◌≡◌, ◌++◌, OnOk};
+ghost use Rattle.std.specs.Prelude.{◌≡◌, ◌++◌, IfSome, OnOk};
 ghost use Rattle.std.specs.List.{list_any};
 ghost use Rattle.std.specs.Option.{option_copied, option_map};
 ghost use Rattle.p9_space.specs.Place.{file_of};
@@ -10,14 +10,14 @@ ghost use Rattle.p9_view.specs.Line.{access_text, dir_text, file_text, hidden_te
 ghost use Rattle.p9_view.specs.Line.{member_text, members_text, node_text, same_text};
 
 use crate::mode::print_mode;
-use crate::passing::print_passing;
+use crate::passing::{View, print_passing};
 use crate::text::print_shown;
 use crate::tour::Entry;
 use crate::way::Access;
 use p9_base::{NoMemory, NodeRef};
 use p9_cert::is_hidden;
 use p9_commands::{NameSpace, path_of};
-use p9_space::{Member, Who, dir_fault};
+use p9_space::{Member, dir_fault};
 use p9_tree::{Node, Tree};
 use p9_world::World;
 use std::alloc::Allocator;
@@ -28,15 +28,16 @@ use std::alloc::Allocator;
 /// printed as they are shown to people. Where an allocation fails, a part of it may be there.
 pub(crate) fn print_line<T: Tree>(
     space: &NameSpace<T>,
-    who: Option<Who<'_, T::Alloc>>,
+    view: &View<'_, T::Alloc>,
     path: &str,
     same: Option<&str>,
     entry: &Entry,
     out: &mut Vec<u8, T::Alloc>,
 ) -> Result<(), NoMemory>
+    requires { IfSome view.now.ranks (λ ranks. ranks.users.keys ≡ space.now.world.users) }
     ensures { OnOk result (out.new.items ≡ out.old.items
-        ++ line_text space.now (option_map who_view who.entry) path.now (option_copied same.entry)
-        entry.now) }
+        ++ line_text space.now (option_map who_view view.now.who) path.now
+        (option_copied same.entry) entry.now) }
 {
     let members = space.table.members(entry.place);
     let members = members.as_slice();
@@ -46,7 +47,7 @@ pub(crate) fn print_line<T: Tree>(
         print_members(&space.world, members, out)?;
     }
     out.extend_from_slice(hidden_text(&space.world, members).as_bytes())?;
-    print_directory(&space.world, who, members, same, out)?;
+    print_directory(&space.world, view, members, same, out)?;
     out.extend_from_slice(access_text(entry.access).as_bytes())?;
     out.push(b'\n')?;
     Ok(())
@@ -147,20 +148,21 @@ fn has_hidden(hidden: &[NodeRef], members: &[Member]) -> bool
 // met before, and who passes it.
 fn print_directory<T: Tree>(
     world: &World<T>,
-    who: Option<Who<'_, T::Alloc>>,
+    view: &View<'_, T::Alloc>,
     members: &[Member],
     same: Option<&str>,
     out: &mut Vec<u8, T::Alloc>,
 ) -> Result<(), NoMemory>
+    requires { IfSome view.now.ranks (λ ranks. ranks.users.keys ≡ world.now.users) }
     ensures { OnOk result (out.new.items ≡ out.old.items
-        ++ dir_text world.now (option_map who_view who.entry) members.now
+        ++ dir_text world.now (option_map who_view view.now.who) members.now
         (option_copied same.entry)) }
 {
     if dir_fault(&world.forest, members).is_some() {
         return Ok(());
     }
     print_same(same, out)?;
-    print_passing(world, who, members, out)
+    print_passing(world, view, members, out)
 }
 
 // Prints the path under which the same members were met before, if there is one.

@@ -1,6 +1,6 @@
 //! The tree of a name space, as it is printed.
 
-ghost use Rattle.std.specs.Prelude.{◌≡◌, ◌++◌, ℕ, IfOk, List, OnOk, find, length};
+ghost use Rattle.std.specs.Prelude.{◌≡◌, ◌++◌, ℕ, IfOk, IfSome, List, OnOk, find, length};
 ghost use Rattle.std.specs.Option.{option_copied, option_map};
 ghost use Rattle.std.specs.Str.{bytes_eq};
 ghost use Rattle.std.specs.String.{string_bytes};
@@ -10,6 +10,7 @@ ghost use Rattle.p9_space.specs.Rights.{who_view};
 ghost use Rattle.p9_view.specs.Tree.{AreLines, IsInputShown, IsShownTo, IsTree, unlisted_text};
 
 use crate::line::print_line;
+use crate::passing::View;
 use crate::text::print_shown;
 use crate::tour::Tour;
 use crate::visit::tour_of;
@@ -101,24 +102,39 @@ pub fn print_tree<'a, T: Tree>(
         × (out.new.items ≡ out.old.items ++ text)) }
 {
     let tour = tour_of(*out.allocator(), &space.world.forest, &space.table, who)?;
-    print_lines(space, who, &tour, out)
+    let view = view_of(*out.allocator(), &space.world, who)?;
+    print_lines(space, &view, &tour, out)
+}
+
+// The view of a user of a world, or without one that of all listed users.
+fn view_of<'a, T: Tree>(
+    alloc: T::Alloc,
+    world: &World<T>,
+    who: Option<Who<'a, T::Alloc>>,
+) -> Result<View<'a, T::Alloc>, NoMemory>
+    ensures who { IfOk result (λ view. view.who ≡ who.entry) }
+    ensures ranks { IfOk result (λ view. IfSome view.ranks (λ ranks.
+        ranks.users.keys ≡ world.now.users)) }
+{
+    View::of(alloc, world.users.as_slice(), who)
 }
 
 // Prints the lines of a tour.
 fn print_lines<T: Tree>(
     space: &NameSpace<T>,
-    who: Option<Who<'_, T::Alloc>>,
+    view: &View<'_, T::Alloc>,
     tour: &Tour<T::Alloc>,
     out: &mut Vec<u8, T::Alloc>,
 ) -> Result<(), NoMemory>
+    requires { IfSome view.now.ranks (λ ranks. ranks.users.keys ≡ space.now.world.users) }
     ensures { OnOk result ((text : List ℕ)
-        × AreLines space.now (option_map who_view who.entry) tour.now (length tour.now) text
+        × AreLines space.now (option_map who_view view.now.who) tour.now (length tour.now) text
         × (out.new.items ≡ out.old.items ++ text)) }
 {
     for (index, entry) in tour.entries().iter().enumerate() {
         let path = tour.path_to(index)?;
         let same = tour.path_to_same(index)?;
-        print_line(space, who, path.as_str(), as_text(&same), entry, out)?;
+        print_line(space, view, path.as_str(), as_text(&same), entry, out)?;
     }
     Ok(())
 }

@@ -15,7 +15,7 @@ loop-index-init g c = ([], NoLine, sym (append-nil c.args.out.now.items))
 pub loop-index-preserved : goal.loop-index-preserved
 loop-index-preserved g c =
     let space = c.args.space.now in
-    let who = option_map who_view c.args.who in
+    let who = option_map who_view c.args.view.now.who in
     let tour = c.args.tour.now in
     let items = c.entries-entry-items.result.now in
     let i = c.loop-index.index in
@@ -41,7 +41,7 @@ loop-index-preserved g c =
 pub returns : goal.returns
 returns g c =
     let space = c.args.space.now in
-    let who = option_map who_view c.args.who in
+    let who = option_map who_view c.args.view.now.who in
     let tour = c.args.tour.now in
     let items = c.entries-entry-items.result.now in
     let done = c.loop-index.invariant in

@@ -9,5 +9,5 @@ abbrev pub invariant-loop-index : goal.invariant-loop-index
 invariant-loop-index g l =
     let space = l.space in
     let tour = l.tour in
-    (text : List ℕ) × AreLines space (option_map who_view l.who) tour l.index text
+    (text : List ℕ) × AreLines space (option_map who_view l.view.who) tour l.index text
     × (l.out.items ≡ l.initial.out.items ++ text)

@@ -2,7 +2,7 @@ use Rattle.std.proofs.Common.{◌≡◌, ◌++◌, drop}
 use Rattle.std.specs.Prelude.{codes}
 use Rattle.std.specs.List.{flat_map}
 use Rattle.p9_shown.specs.Text.{shown_text}
-use Rattle.p9_view.proofs.passing.print_users.Given as goal
+use Rattle.p9_view.proofs.passing.print_names.Given as goal
 
 -- what is printed, and what the users that are left print
 abbrev pub invariant-loop-user : goal.invariant-loop-user
