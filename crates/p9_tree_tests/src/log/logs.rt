@@ -1,70 +1,99 @@
 //! Logs over devices in memory, for tests.
 
-use p9_log::{Crash, Device, Log, MemoryDevice, create, recover};
+use p9_log::{Crash, Device, Log, LogError, MemoryDevice, Recovered, recover};
 use std::alloc::{Allocator, Global};
-
-/// A log over a device in memory.
-pub(crate) type MemoryLog = Log<MemoryDevice<Global>, Global>;
 
 /// A device whose file is in memory. What is generic over it is cheaper to prove than what names the
 /// device.
 pub(crate) trait InMemory: Device {
+    /// A device of a file with these bytes.
+    fn with_file(alloc: Global, bytes: &[u8]) -> Option<Self>;
+
     /// The bytes of the file.
     fn file(&self) -> &[u8];
 }
 
-impl<A: Allocator + Copy> InMemory for MemoryDevice<A> {
+impl InMemory for MemoryDevice<Global> {
+    fn with_file(alloc: Global, bytes: &[u8]) -> Option<MemoryDevice<Global>> {
+        let copy = bytes.to_vec(alloc).ok()?;
+        Some(MemoryDevice::new(alloc, copy))
+    }
+
     fn file(&self) -> &[u8] {
         self.bytes()
     }
 }
 
-/// A log without bytes.
-pub(crate) fn new_log(alloc: Global) -> Option<MemoryLog> {
-    create(alloc, MemoryDevice::new(alloc, Vec::new(alloc))).ok()
-}
-
-/// The log that is recovered of a file.
-pub(crate) fn log_of(alloc: Global, file: &[u8], how: Crash) -> Option<MemoryLog> {
-    let copy = file.to_vec(alloc).ok()?;
-    log_over(alloc, MemoryDevice::new(alloc, copy), how).ok()
-}
-
-/// The log that is recovered of a device, or the device where none is.
-pub(crate) fn log_over<D: Device>(
+/// What is recovered of a file.
+pub(crate) fn found_in<D: InMemory>(
     alloc: Global,
-    device: D,
+    file: &[u8],
     how: Crash,
-) -> Result<Log<D, Global>, D> {
-    match recover(alloc, device, how) {
-        Ok(found) => Ok(found.log),
-        Err(refused) => Err(refused.1),
-    }
+) -> Option<Recovered<D, Global>> {
+    recover(alloc, D::with_file(alloc, file)?, how).ok()
 }
 
-/// What is recovered of a device, if it is.
-pub(crate) fn bytes_over<D: Device>(alloc: Global, device: D, how: Crash) -> Option<Vec<u8>> {
-    match recover(alloc, device, how) {
-        Ok(found) => Some(found.bytes),
-        Err(_) => None,
-    }
-}
-
-/// Whether these bytes are recovered of a file.
-pub(crate) fn recovers(alloc: Global, file: &[u8], how: Crash, bytes: &[u8]) -> bool {
-    let Ok(copy) = file.to_vec(alloc) else {
-        return false;
-    };
-    is_found(
-        bytes_over(alloc, MemoryDevice::new(alloc, copy), how),
-        bytes,
-    )
-}
-
-/// Whether these bytes were found.
-pub(crate) fn is_found(found: Option<Vec<u8>>, bytes: &[u8]) -> bool {
-    match found {
-        Some(found) => found.as_slice() == bytes,
+/// Whether these bytes are recovered of a file, and once more of what the recovery leaves.
+pub(crate) fn recovers<D: InMemory>(alloc: Global, file: &[u8], how: Crash, bytes: &[u8]) -> bool {
+    match found_in::<D>(alloc, file, how) {
+        Some(found) => {
+            let left = found.log.device().file();
+            let is_found = found.bytes.as_slice() == bytes && holds::<D>(alloc, left, bytes);
+            drop(found);
+            is_found
+        }
         None => false,
     }
+}
+
+// Whether these bytes are recovered of a file after a machine has stopped.
+fn holds<D: InMemory>(alloc: Global, file: &[u8], bytes: &[u8]) -> bool {
+    match found_in::<D>(alloc, file, Crash::Stopped) {
+        Some(found) => {
+            let is_found = found.bytes.as_slice() == bytes;
+            drop(found);
+            is_found
+        }
+        None => false,
+    }
+}
+
+/// A step with a log.
+#[derive(Clone, Copy)]
+pub(crate) enum Step<'a> {
+    Append(&'a [u8]),
+    Sync,
+    BeginDraft,
+    AddToDraft(&'a [u8]),
+    PutDraft,
+    /// There is no draft to be added to, and none to be put.
+    HasNoDraft,
+}
+
+// Whether a step succeeds.
+fn does<D: Device, A: Allocator>(log: &mut Log<D, A>, step: Step<'_>) -> bool {
+    match step {
+        Step::Append(bytes) => log.append(bytes).is_ok(),
+        Step::Sync => log.sync().is_ok(),
+        Step::BeginDraft => log.begin_draft().is_ok(),
+        Step::AddToDraft(bytes) => log.add_to_draft(bytes).is_ok(),
+        Step::PutDraft => log.put_draft().is_ok(),
+        Step::HasNoDraft => {
+            log.add_to_draft(&[4]) == Err(LogError::NoDraft)
+                && log.put_draft() == Err(LogError::NoDraft)
+        }
+    }
+}
+
+/// How many steps succeed, up to the first that doesn't.
+pub(crate) fn count_done<D: Device, A: Allocator>(
+    log: &mut Log<D, A>,
+    steps: &[Step<'_>],
+) -> usize {
+    for (position, step) in steps.iter().enumerate() {
+        if !does(log, *step) {
+            return position;
+        }
+    }
+    steps.len()
 }
