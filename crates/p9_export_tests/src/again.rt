@@ -2,7 +2,7 @@
 //! again.
 
 use crate::both::{Trial, refusals};
-use crate::exchange::{Row, exchange, in_session, is_reply, room, row_of, send};
+use crate::exchange::{Row, exchange, in_session, is_reply, row_of, send};
 use crate::growth::{Growth, before_growth, grow_all};
 use crate::worlds::{ATTACH, Bind, VERSION, exporter};
 use p9_export::Export;
@@ -11,8 +11,8 @@ use p9_tree::Tree;
 use std::alloc::Global;
 use std::process::Abort;
 
-/// A world, its binds, how many sessions begin in it, the reading of the clock, and the requests
-/// that are sent then.
+/// A world, its binds, how many sessions begin in it, the reading of the clock, the requests that are
+/// sent then, and a number above which the number of requests for memory is.
 #[derive(Clone, Copy)]
 pub struct Script<'a> {
     pub world: &'a str,
@@ -20,6 +20,7 @@ pub struct Script<'a> {
     pub sessions: u32,
     pub now: u32,
     pub rows: &'a str,
+    pub fewer: u64,
 }
 
 /// What is played with each request for memory refused in turn.
@@ -29,11 +30,10 @@ pub enum Play<'a> {
     Growth(Growth<'a>),
 }
 
-/// Plays the script over each kind of tree with each request for memory refused in turn. There are
-/// more requests than these over each.
-pub fn play_refused(rt: &impl Abort, alloc: Global, script: Script<'_>, fewer: u64) {
+/// Plays the script over each kind of tree with each request for memory refused in turn.
+pub fn play_refused(rt: &impl Abort, alloc: Global, script: Script<'_>) {
     let (plain, index) = refusals(rt, alloc, Trial::Play(Play::Script(script)));
-    assert!(rt; plain > fewer && index > fewer);
+    assert!(rt; plain > script.fewer && index > script.fewer);
 }
 
 /// A file grows over each kind of tree with each request for memory refused in turn. There are this
@@ -44,17 +44,27 @@ pub fn grow_refused(rt: &impl Abort, alloc: Global, growth: Growth<'_>, requests
 }
 
 /// The exporter before memory is refused.
-pub fn ready<T: Tree>(rt: &impl Abort, alloc: Global, lent: T::Alloc, play: Play<'_>) -> Export<T> {
+pub fn ready<T: Tree>(
+    rt: &impl Abort,
+    alloc: Global,
+    lent: T::Alloc,
+    play: Play<'_>,
+    reply: &mut [u8],
+) -> Export<T> {
     match play {
         Play::Script(script) => exporter(rt, lent, script.world, script.binds),
-        Play::Growth(growth) => before_growth(rt, alloc, lent, growth),
+        Play::Growth(growth) => before_growth(rt, alloc, lent, growth, reply),
     }
 }
 
 /// Plays with the exporter.
-pub fn play_again<T: Tree>(rt: &impl Abort, alloc: Global, export: &mut Export<T>, play: Play<'_>) {
-    let mut room = room(rt, alloc);
-    let reply = room.as_mut_slice();
+pub fn play_again<T: Tree>(
+    rt: &impl Abort,
+    alloc: Global,
+    export: &mut Export<T>,
+    play: Play<'_>,
+    reply: &mut [u8],
+) {
     match play {
         Play::Script(script) => play_script(rt, alloc, export, script, reply),
         Play::Growth(growth) => grow_all(rt, alloc, export, growth, reply),

@@ -3,9 +3,7 @@
 
 use crate::again::{Play, play_again, ready};
 use crate::exchange::room;
-use crate::sessions::opens_and_closes;
-use crate::space::{Given, SMALL, Space, Way, make_given, plays_over, run, space_of, walk_again};
-use crate::worlds::exporter;
+use crate::nsfile::{Given, make_given, run};
 use p9_export::Export;
 use p9_index::IndexTree;
 use p9_testing::Refusing;
@@ -13,65 +11,27 @@ use p9_tree::{PlainTree, Tree};
 use std::alloc::Global;
 use std::process::Abort;
 
-/// Opens sessions and closes them, with an exporter of the world of a text, over each kind of tree.
-pub fn sessions_on_both(rt: &impl Abort, alloc: Global, text: &str) {
-    let mut room = room(rt, alloc);
-    over_both(rt, alloc, text, Job::Sessions, room.as_mut_slice());
-}
-
-/// Over the world of a text, in a tree of each kind, makes the call of each line, and compares what
-/// it prints with the text after `=`.
-pub fn plays(rt: &impl Abort, alloc: Global, text: &str, lines: &str) {
-    over_both(rt, alloc, text, Job::Calls(lines), &mut []);
-}
-
-// What is done over the world of a text.
-#[derive(Clone, Copy)]
-enum Job<'a> {
-    // Sessions are opened and closed.
-    Sessions,
-    // The calls of these lines.
-    Calls(&'a str),
-}
-
-// Does it over each kind of tree.
-fn over_both(rt: &impl Abort, alloc: Global, text: &str, job: Job<'_>, reply: &mut [u8]) {
-    over::<PlainTree<Global>>(rt, alloc, alloc, text, job, reply);
-    over::<IndexTree<Global>>(rt, alloc, alloc, text, job, reply);
-}
-
-// Does it over one kind of tree.
-fn over<T: Tree>(
-    rt: &impl Abort,
-    alloc: Global,
-    lent: T::Alloc,
-    text: &str,
-    job: Job<'_>,
-    reply: &mut [u8],
-) {
-    match job {
-        Job::Sessions => {
-            let mut export = exporter::<T>(rt, lent, text, &[]);
-            opens_and_closes(rt, alloc, &mut export, reply);
-            drop(export);
-        }
-        Job::Calls(lines) => plays_over::<T>(rt, alloc, lent, text, lines),
-    }
-}
-
 /// What is done with each request for memory refused in turn.
 #[derive(Clone, Copy)]
 pub enum Trial<'a> {
     Play(Play<'a>),
-    Walk(Way),
     File,
 }
 
 /// How many requests for memory there are over each kind of tree.
 pub fn refusals(rt: &impl Abort, alloc: Global, trial: Trial<'_>) -> (u64, u64) {
+    let mut room = room(rt, alloc);
+    let refusals = refusals_in(rt, alloc, trial, room.as_mut_slice());
+    drop(room);
+    refusals
+}
+
+// How many there are over each kind of tree, with room for replies.
+fn refusals_in(rt: &impl Abort, alloc: Global, trial: Trial<'_>, reply: &mut [u8]) -> (u64, u64) {
     let memory = Refusing::new(alloc);
-    let plain = refusals_over::<PlainTree<&Refusing<Global>>>(rt, alloc, &memory, &memory, trial);
-    let index = refusals_over::<IndexTree<&Refusing<Global>>>(rt, alloc, &memory, &memory, trial);
+    let lent = &memory;
+    let plain = refusals_over::<PlainTree<&Refusing<Global>>>(rt, alloc, lent, lent, trial, reply);
+    let index = refusals_over::<IndexTree<&Refusing<Global>>>(rt, alloc, lent, lent, trial, reply);
     (plain, index)
 }
 
@@ -82,11 +42,12 @@ fn refusals_over<T: Tree>(
     memory: &Refusing<Global>,
     lent: T::Alloc,
     trial: Trial<'_>,
+    reply: &mut [u8],
 ) -> u64 {
     let mut refusals = 0;
     for n in 1..u64::MAX {
         refusals = n - 1;
-        if !is_refused::<T>(rt, alloc, memory, lent, trial, n) {
+        if !is_refused::<T>(rt, alloc, memory, lent, trial, n, reply) {
             break;
         }
     }
@@ -102,10 +63,11 @@ fn is_refused<T: Tree>(
     lent: T::Alloc,
     trial: Trial<'_>,
     n: u64,
+    reply: &mut [u8],
 ) -> bool {
-    let mut made = make::<T>(rt, alloc, lent, trial);
+    let mut made = make::<T>(rt, alloc, lent, trial, reply);
     memory.refuse(n);
-    try_once(rt, alloc, &mut made, trial);
+    try_once(rt, alloc, &mut made, trial, reply);
     drop(made);
     memory.has_refused()
 }
@@ -114,25 +76,34 @@ fn is_refused<T: Tree>(
 #[derive(Drop)]
 enum Made<T: Tree> {
     Export(Export<T>),
-    Space(Space<T>, Way),
     Given(Given<T>),
 }
 
 // Makes it.
-fn make<T: Tree>(rt: &impl Abort, alloc: Global, lent: T::Alloc, trial: Trial<'_>) -> Made<T> {
+fn make<T: Tree>(
+    rt: &impl Abort,
+    alloc: Global,
+    lent: T::Alloc,
+    trial: Trial<'_>,
+    reply: &mut [u8],
+) -> Made<T> {
     match trial {
-        Trial::Play(play) => Made::Export(ready(rt, alloc, lent, play)),
-        Trial::Walk(way) => Made::Space(space_of(rt, lent, SMALL), way),
+        Trial::Play(play) => Made::Export(ready(rt, alloc, lent, play, reply)),
         Trial::File => Made::Given(make_given(rt, lent)),
     }
 }
 
 // Does once with it what is tried.
-fn try_once<T: Tree>(rt: &impl Abort, alloc: Global, made: &mut Made<T>, trial: Trial<'_>) {
+fn try_once<T: Tree>(
+    rt: &impl Abort,
+    alloc: Global,
+    made: &mut Made<T>,
+    trial: Trial<'_>,
+    reply: &mut [u8],
+) {
     match made {
-        Made::Export(export) => play_again(rt, alloc, export, play_of(rt, trial)),
-        Made::Space(space, way) => walk_again(rt, alloc, space, *way),
-        Made::Given(given) => run(rt, alloc, given),
+        Made::Export(export) => play_again(rt, alloc, export, play_of(rt, trial), reply),
+        Made::Given(given) => run(rt, given),
     }
 }
 
@@ -140,6 +111,6 @@ fn try_once<T: Tree>(rt: &impl Abort, alloc: Global, made: &mut Made<T>, trial: 
 fn play_of<'a>(rt: &impl Abort, trial: Trial<'a>) -> Play<'a> {
     match trial {
         Trial::Play(play) => play,
-        _ => panic!(rt; "no play"),
+        Trial::File => panic!(rt; "no play"),
     }
 }

@@ -1,6 +1,5 @@
 //! Frames and their replies.
 
-use crate::checks::are_bytes;
 use p9_export::{Export, is_frame};
 use p9_testing::bytes_of;
 use p9_tree::Tree;
@@ -86,4 +85,9 @@ pub fn exchange_all<T: Tree>(
 pub fn is_reply(rt: &impl Abort, alloc: Global, reply: &[u8], wanted: &str) {
     let wanted = bytes_of(alloc, wanted).expect(rt, "hexadecimal digits");
     are_bytes(rt, reply, wanted.as_slice());
+}
+
+// The bytes that were found are the wanted ones.
+fn are_bytes(rt: &impl Abort, found: &[u8], want: &[u8]) {
+    assert!(rt; found == want, "{found:?}, not {want:?}");
 }

@@ -2,7 +2,7 @@
 //! changes all that it asks for, or nothing.
 
 use crate::again::{grow_refused, is_answered};
-use crate::exchange::{exchange, exchange_all, room, row_of};
+use crate::exchange::{exchange, exchange_all, row_of};
 use crate::worlds::{SMALL, exporter};
 use p9_export::Export;
 use p9_tree::Tree;
@@ -35,17 +35,23 @@ pub fn before_growth<T: Tree>(
     alloc: Global,
     memory: T::Alloc,
     growth: Growth<'_>,
+    reply: &mut [u8],
 ) -> Export<T> {
     let mut export = exporter(rt, memory, SMALL, &[]);
-    get_ready(rt, alloc, &mut export, growth.ready);
+    get_ready(rt, alloc, &mut export, growth.ready, reply);
     export
 }
 
 // Begins session 1.
-fn get_ready<T: Tree>(rt: &impl Abort, alloc: Global, export: &mut Export<T>, ready: &str) {
-    let mut room = room(rt, alloc);
+fn get_ready<T: Tree>(
+    rt: &impl Abort,
+    alloc: Global,
+    export: &mut Export<T>,
+    ready: &str,
+    reply: &mut [u8],
+) {
     export.open(1).expect(rt, "a session");
-    exchange_all(rt, alloc, export, 0, ready, room.as_mut_slice());
+    exchange_all(rt, alloc, export, 0, ready, reply);
 }
 
 /// Makes the file longer at each step.

@@ -4,24 +4,19 @@
 use crate::again::{Script, play_refused};
 use crate::worlds::SMALL;
 
-// The exporter is as before at each refusal of a session's beginning.
-#[test]
-fn an_attach_is_done_again_at_each_refusal(rt: HostRuntime) {
-    let script = Script {
+const MESSAGES: [Script<'static>; 5] = [
+    // The exporter is as before at each refusal of a session's beginning.
+    Script {
         world: "server main\nuser glenda\n",
         binds: &[],
         sessions: 1,
         now: 0,
         rows: "",
-    };
-    play_refused(&rt, rt.alloc(), script, 1);
-}
-
-// Attaches by a path, which is cleaned and walked; refusals, in whose place memory may run out; and
-// `..`, which stays at the attach point.
-#[test]
-fn an_attach_by_a_path_is_done_again_at_each_refusal(rt: HostRuntime) {
-    let script = Script {
+        fewer: 1,
+    },
+    // Attaches by a path, which is cleaned and walked; refusals, in whose place memory may run out; and
+    // `..`, which stays at the attach point.
+    Script {
         world: SMALL,
         binds: &[],
         sessions: 1,
@@ -41,14 +36,10 @@ fn an_attach_by_a_path_is_done_again_at_each_refusal(rt: HostRuntime) {
 0100000000000000 00 00000000 0300000000000000
 1 15000000 6e 0800 02000000 04000000 0100 0200 2e2e = 16000000 6f 0800 0100 80 00000000 \
 0200000000000000",
-    };
-    play_refused(&rt, rt.alloc(), script, 1);
-}
-
-// Creates in a. A refusal is the same where memory would run out.
-#[test]
-fn a_create_is_done_again_at_each_refusal(rt: HostRuntime) {
-    let script = Script {
+        fewer: 1,
+    },
+    // Creates in a. A refusal is the same where memory would run out.
+    Script {
         world: SMALL,
         binds: &[],
         sessions: 1,
@@ -68,14 +59,10 @@ e81f0000
 0500000000000000 ed010080 00000000 00000000 0000000000000000 0100 64 0600 676c656e6461 0600 \
 676c656e6461 0600 676c656e6461
 1 0b000000 78 0100 01000000 = 07000000 79 0100",
-    };
-    play_refused(&rt, rt.alloc(), script, 8);
-}
-
-// Walks to newfid and on.
-#[test]
-fn a_walk_is_done_again_at_each_refusal(rt: HostRuntime) {
-    let script = Script {
+        fewer: 8,
+    },
+    // Walks to newfid and on.
+    Script {
         world: SMALL,
         binds: &[],
         sessions: 1,
@@ -92,14 +79,10 @@ fn a_walk_is_done_again_at_each_refusal(rt: HostRuntime) {
 6e6f742061206469726563746f7279
 1 0b000000 78 0100 02000000 = 14000000 6b 0100 0b00 756e6b6e6f776e20666964
 1 0b000000 78 0100 01000000 = 07000000 79 0100",
-    };
-    play_refused(&rt, rt.alloc(), script, 8);
-}
-
-// Opens a/f and writes to it. A refusal is the same where memory would run out.
-#[test]
-fn a_write_is_done_again_at_each_refusal(rt: HostRuntime) {
-    let script = Script {
+        fewer: 8,
+    },
+    // Opens a/f and writes to it. A refusal is the same where memory would run out.
+    Script {
         world: SMALL,
         binds: &[],
         sessions: 1,
@@ -117,6 +100,13 @@ fn a_write_is_done_again_at_each_refusal(rt: HostRuntime) {
 1 18000000 76 0100 01000000 0000000100000000 01000000 21 = 17000000 6b 0100 0e00 \
 66696c6520746f6f206c61726765
 1 0b000000 78 0100 01000000 = 07000000 79 0100",
-    };
-    play_refused(&rt, rt.alloc(), script, 6);
+        fewer: 6,
+    },
+];
+
+#[test]
+fn messages_are_sent_again_at_each_refusal(rt: HostRuntime) {
+    for script in &MESSAGES {
+        play_refused(&rt, rt.alloc(), *script);
+    }
 }

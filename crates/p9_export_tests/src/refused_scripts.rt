@@ -24,10 +24,9 @@ file /vault/key 666 sys sys 01
 user glenda
 ";
 
-// A file is made in /x, whose second member permits creation.
-#[test]
-fn a_union_is_created_in_at_each_refusal(rt: HostRuntime) {
-    let script = Script {
+const SCRIPTS: [Script<'static>; 7] = [
+    // A file is made in /x, whose second member permits creation.
+    Script {
         world: TWO_UNIONS,
         binds: &[Bind {
             key: 3,
@@ -44,14 +43,10 @@ fn a_union_is_created_in_at_each_refusal(rt: HostRuntime) {
 0500000000000000 e81f0000
 1 19000000 6e 0700 00000000 04000000 0200 0100 75 0300 6e6577 = 23000000 6f 0700 0200 80 01000000 \
 0100000000000000 00 00000000 0500000000000000",
-    };
-    play_refused(&rt, rt.alloc(), script, 4);
-}
-
-// No member of /x permits creation, so no file is made.
-#[test]
-fn a_union_is_not_created_in_at_each_refusal(rt: HostRuntime) {
-    let script = Script {
+        fewer: 4,
+    },
+    // No member of /x permits creation, so no file is made.
+    Script {
         world: TWO_UNIONS,
         binds: &[Bind {
             key: 3,
@@ -68,14 +63,10 @@ fn a_union_is_not_created_in_at_each_refusal(rt: HostRuntime) {
 6d6f756e746564206469726563746f727920666f7262696473206372656174696f6e
 1 19000000 6e 0700 00000000 04000000 0200 0100 75 0300 6e6577 = 16000000 6f 0700 0100 80 00000000 \
 0100000000000000",
-    };
-    play_refused(&rt, rt.alloc(), script, 4);
-}
-
-// One session removes the file that another one has open.
-#[test]
-fn a_file_is_removed_under_a_fid_at_each_refusal(rt: HostRuntime) {
-    let script = Script {
+        fewer: 4,
+    },
+    // One session removes the file that another one has open.
+    Script {
         world: SMALL,
         binds: &[],
         sessions: 2,
@@ -91,14 +82,10 @@ fn a_file_is_removed_under_a_fid_at_each_refusal(rt: HostRuntime) {
 2 0b000000 78 0500 01000000 = 07000000 79 0500
 2 17000000 6e 0600 00000000 01000000 0200 0100 61 0100 66 = 16000000 6f 0600 0100 80 01000000 \
 0100000000000000",
-    };
-    play_refused(&rt, rt.alloc(), script, 4);
-}
-
-// A directory is bound over another, and a file beside it is made, renamed and removed.
-#[test]
-fn a_bound_directory_is_walked_at_each_refusal(rt: HostRuntime) {
-    let script = Script {
+        fewer: 4,
+    },
+    // A directory is bound over another, and a file beside it is made, renamed and removed.
+    Script {
         world: VAULT,
         binds: &[Bind {
             key: 2,
@@ -119,15 +106,11 @@ ffffffff ffffffff ffffffffffffffff 0100 6b 0000 0000 0000 = 07000000 7f 0400
 1 0c000000 70 0600 02000000 00 = 18000000 71 0600 80 00000000 0100000000000000 e81f0000
 1 17000000 74 0700 02000000 0000000000000000 00040000 = 0b000000 75 0700 00000000
 1 0b000000 7a 0800 01000000 = 07000000 7b 0800",
-    };
-    play_refused(&rt, rt.alloc(), script, 4);
-}
-
-// A directory is bound in the place of a file, and a file is made in it, found by both ways and
-// removed.
-#[test]
-fn a_directory_is_walked_for_a_file_at_each_refusal(rt: HostRuntime) {
-    let script = Script {
+        fewer: 4,
+    },
+    // A directory is bound in the place of a file, and a file is made in it, found by both ways and
+    // removed.
+    Script {
         world: SMALL,
         binds: &[Bind {
             key: 3,
@@ -151,14 +134,10 @@ e81f0000
 0100000000000000
 1 17000000 6e 0800 04000000 05000000 0200 0100 66 0100 6e = 16000000 6f 0800 0100 80 02000000 \
 0200000000000000",
-    };
-    play_refused(&rt, rt.alloc(), script, 4);
-}
-
-// A file that is only appended to is made, written and read.
-#[test]
-fn a_file_is_appended_to_at_each_refusal(rt: HostRuntime) {
-    let script = Script {
+        fewer: 4,
+    },
+    // A file that is only appended to is made, written and read.
+    Script {
         world: SMALL,
         binds: &[],
         sessions: 1,
@@ -174,14 +153,10 @@ fn a_file_is_appended_to_at_each_refusal(rt: HostRuntime) {
 1 0b000000 7c 0700 01000000 = 4f000000 7d 0700 4600 4400 0000 00000000 40 02000000 \
 0400000000000000 80010040 00000000 00000000 0400000000000000 0300 6c6f67 0600 676c656e6461 0600 \
 676c656e6461 0600 676c656e6461",
-    };
-    play_refused(&rt, rt.alloc(), script, 4);
-}
-
-// A file is renamed and made longer, and other changes are refused.
-#[test]
-fn a_wstat_is_done_again_at_each_refusal(rt: HostRuntime) {
-    let script = Script {
+        fewer: 4,
+    },
+    // A file is renamed and made longer, and other changes are refused.
+    Script {
         world: SMALL,
         binds: &[],
         sessions: 1,
@@ -212,6 +187,13 @@ ffffffff ffffffff 8813000000000000 0000 0000 0000 0000 = 07000000 7f 0900
 1 09000000 6c 0b00 0a00 = 07000000 6d 0b00
 1 15000000 66 0c00 03000000 0600 676c656e6461 0000 = 24000000 6b 0c00 1b00 \
 61757468656e7469636174696f6e206e6f74207265717569726564",
-    };
-    play_refused(&rt, rt.alloc(), script, 4);
+        fewer: 4,
+    },
+];
+
+#[test]
+fn scripts_go_on_at_each_refusal(rt: HostRuntime) {
+    for script in &SCRIPTS {
+        play_refused(&rt, rt.alloc(), *script);
+    }
 }

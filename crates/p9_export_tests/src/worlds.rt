@@ -60,7 +60,8 @@ fn table_of<A: Allocator + Copy>(rt: &impl Abort, alloc: A, binds: &[Bind]) -> M
     table
 }
 
-fn node(number: u64) -> NodeRef {
+/// The node of this number at the one server.
+pub fn node(number: u64) -> NodeRef {
     NodeRef { server: 0, number }
 }
 

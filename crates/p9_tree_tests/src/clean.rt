@@ -1,8 +1,6 @@
 //! Paths and what cleaning makes of them, with rows from the manual and of the same kind.
 
-use crate::checks::is_text_of;
-use crate::text::are;
-use p9_clean::{clean, elements};
+use p9_clean::clean;
 use std::alloc::Global;
 use std::process::Abort;
 
@@ -50,13 +48,5 @@ fn row_cleaning(rt: HostRuntime) {
 fn is_cleaned(rt: &impl Abort, alloc: Global, line: &str) {
     let (path, want) = line.split_once('|').expect(rt, "a path");
     let cleaned = clean(alloc, path).expect(rt, "memory");
-    is_text_of(rt, cleaned.as_str(), want, path);
-}
-
-#[test]
-fn elements_stand_between_slashes(rt: HostRuntime) {
-    let found = elements(rt.alloc(), "/usr//./glenda/../λ/").expect(&rt, "memory");
-    are(&rt, &found, "usr|glenda|..|λ");
-    let found = elements(rt.alloc(), "//").expect(&rt, "memory");
-    assert!(rt; found.is_empty());
+    assert!(rt; cleaned.as_str() == want, "{path}");
 }

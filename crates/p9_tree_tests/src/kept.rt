@@ -1,12 +1,14 @@
-//! A forest tells a journal of its changes.
+//! A forest tells a journal of its changes. Which they are is proved, but not that the journal stays, or
+//! that it is asked to settle and to sync.
 
-use crate::calls::{make_all, two_servers};
+use p9_base::{NodeRef, Permissions, User};
 use p9_index::IndexTree;
 use p9_tree::{Forest, ForestChange, Journal, Tree, Unsettled};
 use std::alloc::Global;
+use std::process::Abort;
 
 // A journal that keeps nothing, and counts what it is asked for.
-#[derive(Drop)]
+#[derive(Clone, Copy, Drop, PartialEq, Eq)]
 struct Counts {
     notes: u32,
     settles: u32,
@@ -45,15 +47,23 @@ impl Journal for Counts {
     }
 }
 
-// Six changes, and a read, of which a journal is not told.
-const CHANGES: &str = "\
-1 add 0 g 1a4 rob rob rob 1 2 new
-1 write 4 1 op
-1 cut 4 2
-1 mark 4 7
-1 touch 4 8
-1 change 4 h - - - -
-1 drop 4";
+// The forest of a server of a root alone.
+fn forest_of<T: Tree>(rt: &impl Abort, alloc: T::Alloc) -> Forest<T> {
+    let mut trees = Vec::new(alloc);
+    let root = T::with_root(alloc).expect(rt, "memory");
+    trees.push(root).expect(rt, "memory");
+    Forest::new(trees)
+}
+
+// Makes three changes, and a read, of which a journal is not told.
+fn change<T: Tree>(rt: &impl Abort, forest: &mut Forest<T>) {
+    let (user, server, number) = (User::new("glenda").expect(rt, "a user"), 0, 0);
+    let root = NodeRef { server, number };
+    forest.bump(root, user, 7);
+    forest.touch(root, 8);
+    forest.set_root(server, Permissions::from_bits(0o777), user, user);
+    forest.cut(root, 0);
+}
 
 // Whether a forest has no journal, and so nothing is settled or synced.
 fn has_none<T: Tree>(forest: &mut Forest<T>) -> bool {
@@ -69,24 +79,29 @@ fn asks<T: Tree>(forest: &mut Forest<T>) -> bool {
         && matches!(forest.sync(), Err(Unsettled::Failed))
 }
 
-// What a forest's journal has counted: changes, settles and syncs.
-fn counted(forest: &Forest<IndexTree<Global, Counts>>) -> Option<(u32, u32, u32)> {
-    let counts = forest.journal()?;
-    Some((counts.notes, counts.settles, counts.syncs))
-}
-
-#[test]
-fn changes_are_noted(rt: HostRuntime) {
-    let mut forest = two_servers(&rt, rt.alloc());
+// What a forest's journal has counted.
+fn counted<T: Tree<Journal = Counts>>(rt: &impl Abort, alloc: T::Alloc) -> Option<Counts> {
+    let mut forest = forest_of::<T>(rt, alloc);
     let had_none = has_none(&mut forest);
     forest.keep(Counts {
         notes: 0,
         settles: 0,
         syncs: 0,
     });
-    make_all(&rt, rt.alloc(), &mut forest, CHANGES);
+    change(rt, &mut forest);
     let is_asked = asks(&mut forest);
-    let counted = counted(&forest);
+    let found = forest.journal().copied();
     drop(forest);
-    assert!(rt; had_none && is_asked && counted == Some((6, 1, 2)));
+    if had_none && is_asked { found } else { None }
+}
+
+#[test]
+fn changes_are_noted(rt: HostRuntime) {
+    let counts = counted::<IndexTree<Global, Counts>>(&rt, rt.alloc());
+    let wanted = Counts {
+        notes: 3,
+        settles: 1,
+        syncs: 2,
+    };
+    assert!(rt; counts == Some(wanted));
 }

@@ -1,78 +1,77 @@
-//! Nodes are put back with all their fields, and found from a number on.
+//! Nodes are put back. What they are then is proved, but not that there is memory for them.
 
-use crate::both::{Work, on_both};
-use crate::growths::is_dir;
-use crate::looks::tell;
-use crate::words::{mode_of, name, take_number, take_u32, take_word, user};
-use p9_base::NoMemory;
-use p9_tree::{Entry, FILE_MAX, NEXT_MAX, Saved, Tree};
-use std::alloc::Global;
+ghost use Rattle.std.specs.Prelude.{◌≡◌, false};
+ghost use Rattle.std.specs.Option.{option_copied, option_map_or};
+ghost use Rattle.p9_tree.specs.Node.{is_dir as is_dir_node};
+
+use p9_base::{DMDIR, Mode, Name, NoMemory, User};
+use p9_index::IndexTree;
+use p9_tree::{Entry, FILE_MAX, NEXT_MAX, Node, PlainTree, Saved, Tree};
+use std::alloc::{Allocator, Global};
 use std::process::Abort;
 
-/// Makes the calls over a tree of a root alone. What a look returns is the text after `=` in its
-/// line.
-pub fn restores<T: Tree>(rt: &impl Abort, alloc: T::Alloc, printing: Global, lines: &str) {
+// A node's number, the entry that it has, the bits of its mode, and its bytes.
+struct Kept<'a> {
+    number: u64,
+    entry: Option<(u64, &'a str)>,
+    mode: u32,
+    bytes: &'a [u8],
+}
+
+// The root, a directory and a file in it. Numbers are left out between them.
+const NODES: [Kept<'static>; 3] = [
+    Kept {
+        number: 0,
+        entry: None,
+        mode: DMDIR | 0o700,
+        bytes: b"",
+    },
+    Kept {
+        number: 5,
+        entry: Some((0, "d")),
+        mode: DMDIR | 0o755,
+        bytes: b"",
+    },
+    Kept {
+        number: 9,
+        entry: Some((5, "f")),
+        mode: 0o644,
+        bytes: b"hi there",
+    },
+];
+
+// The nodes come back in a tree of this kind, whose next number is then the one after them.
+fn come_back<T: Tree>(rt: &impl Abort, alloc: T::Alloc) {
     let mut tree = T::with_root(alloc).expect(rt, "memory");
-    for line in lines.lines() {
-        match line.split_once(" = ") {
-            Some((words, want)) => is_found(rt, printing, &tree, words, want),
-            None => restore(rt, &mut tree, line),
-        }
+    for node in &NODES {
+        comes_back(rt, &mut tree, node);
     }
+    let next = tree.next();
     drop(tree);
+    assert!(rt; next == 10);
 }
 
-// The look finds this: `next`, or `from` a number on. A node that is found is the one that its
-// fields say.
-fn is_found<T: Tree>(rt: &impl Abort, printing: Global, tree: &T, words: &str, want: &str) {
-    let mut told = String::new(printing);
-    match words.strip_prefix("from ") {
-        Some(number) => {
-            let number = number.parse::<u64>().expect(rt, "a number");
-            tell(rt, tree.first_from(number), &mut told);
-        }
-        None => assert!(rt; write!(told, "{}", tree.next()).is_ok()),
-    }
-    assert!(rt; told.as_str() == want, "{words}");
+fn comes_back<T: Tree>(rt: &impl Abort, tree: &mut T, node: &Kept<'_>) {
+    let saved = saved_of(rt, node);
+    assert!(rt; put_back(rt, tree, &saved).is_ok());
 }
 
-// `skip` to a number, or `root` or `node` with the fields of a node.
-fn restore<T: Tree>(rt: &impl Abort, tree: &mut T, line: &str) {
-    let mut rest = line;
-    let restored = match take_word(&mut rest) {
-        "skip" => Ok(skip(rt, tree, take_number(rt, &mut rest))),
-        "root" => put_back(rt, tree, &take_saved(rt, 0, None, rest)),
-        _ => {
-            let number = take_number(rt, &mut rest);
-            let entry = Entry {
-                parent: take_number(rt, &mut rest),
-                name: name(rt, take_word(&mut rest)),
-            };
-            put_back(rt, tree, &take_saved(rt, number, Some(entry), rest))
-        }
-    };
-    assert!(rt; restored.is_ok());
-}
-
-fn skip<T: Tree>(rt: &impl Abort, tree: &mut T, next: u64) {
-    assert!(rt; tree.next() <= next && next <= NEXT_MAX);
-    tree.skip_to(next);
-}
-
-// A mode, an owner, a group, a last changer, a version, two times and bytes.
-fn take_saved<'a>(rt: &impl Abort, number: u64, entry: Option<Entry>, line: &'a str) -> Saved<'a> {
-    let mut rest = line;
+fn saved_of<'a>(rt: &impl Abort, node: &Kept<'a>) -> Saved<'a> {
+    let user = User::new("glenda").expect(rt, "a user");
     Saved {
-        number,
-        entry,
-        mode: mode_of(take_word(&mut rest)).expect(rt, "a mode"),
-        uid: user(rt, take_word(&mut rest)),
-        gid: user(rt, take_word(&mut rest)),
-        muid: user(rt, take_word(&mut rest)),
-        version: take_u32(rt, &mut rest),
-        atime: take_u32(rt, &mut rest),
-        mtime: take_u32(rt, &mut rest),
-        bytes: rest.as_bytes(),
+        number: node.number,
+        entry: node.entry.map(|(parent, name)| Entry {
+            parent,
+            name: Name::new(name).expect(rt, "a name"),
+        }),
+        mode: Mode::from_bits(node.mode).expect(rt, "a mode"),
+        uid: user,
+        gid: user,
+        muid: user,
+        version: 3,
+        atime: 4,
+        mtime: 5,
+        bytes: node.bytes,
     }
 }
 
@@ -86,28 +85,18 @@ fn put_back<T: Tree>(rt: &impl Abort, tree: &mut T, saved: &Saved<'_>) -> Result
     tree.put_back(saved)
 }
 
-// The root keeps its kind, and numbers that were given are not given again.
+// Whether it is a directory that exists.
+fn is_dir<A: Allocator>(found: Option<&Node<A>>) -> bool
+    ensures { result ≡ option_map_or is_dir_node (option_copied found.entry) false }
+{
+    match found {
+        Some(node) => node.is_dir(),
+        None => false,
+    }
+}
+
 #[test]
 fn nodes_come_back(rt: HostRuntime) {
-    let lines = "\
-from 0 = 0 None / 800001ed sys sys sys 0 0 0 []
-from 1 = none
-root 1c0 glenda users rob 7 8 9
-from 0 = 0 None / 800001c0 glenda users rob 7 8 9 []
-next = 1
-node 5 0 d 800001ed glenda glenda rob 3 4 5
-next = 6
-node 9 5 f 1a4 rob users glenda 4294967295 0 1 hi there
-from 0 = 0 None / 800001c0 glenda users rob 7 8 9 []
-from 1 = 5 Some(0) d 800001ed glenda glenda rob 3 4 5 []
-from 5 = 5 Some(0) d 800001ed glenda glenda rob 3 4 5 []
-from 6 = 9 Some(5) f 1a4 rob users glenda 4294967295 0 1 [hi there]
-from 10 = none
-next = 10
-skip 10
-next = 10
-skip 281474976710656
-next = 281474976710656
-from 9 = 9 Some(5) f 1a4 rob users glenda 4294967295 0 1 [hi there]";
-    on_both(&rt, rt.alloc(), Work::Restored(lines));
+    come_back::<PlainTree<Global>>(&rt, rt.alloc());
+    come_back::<IndexTree<Global>>(&rt, rt.alloc());
 }

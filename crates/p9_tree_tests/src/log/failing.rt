@@ -1,77 +1,152 @@
 //! Each call of the device fails in turn.
 
-use crate::log::logs::{add, bytes_over};
-use p9_log::{Crash, Device, Fuse, Log, LogError, MemoryDevice, create};
+use crate::log::logs::{InMemory, Step, add, count_done, found_in, recovers};
+use crate::log::memory::{Work, in_memory};
+use p9_log::{Crash, Device, Fuse, Log, LogError, create, recover};
 use std::alloc::Global;
+use std::process::Abort;
 
-// Adds three runs, and syncs behind the second. It returns how many were added, or 9 where a log that
-// has failed takes more.
-fn run<D: Device>(log: &mut Log<D>) -> u8 {
-    if add(log, &[1, 1]).is_err() {
-        return unless_it_takes_more(log, 0);
-    }
-    if add(log, &[2]).is_err() {
-        return unless_it_takes_more(log, 1);
-    }
-    if log.sync().is_err() {
-        return unless_it_takes_more(log, 2);
-    }
-    if add(log, &[3, 3, 3]).is_err() {
-        return unless_it_takes_more(log, 2);
-    }
-    3
+/// What is done over a device that fails.
+#[derive(Clone, Copy)]
+pub(crate) enum Trial {
+    /// A log is made, three runs are added, and a sync is behind the second.
+    Runs,
+    /// A draft takes the place of a log.
+    Draft,
 }
 
-fn unless_it_takes_more<D: Device>(log: &mut Log<D>, added: u8) -> u8 {
-    match add(log, &[9]) {
-        Err(LogError::Ended) => added,
-        _ => 9,
-    }
+const RUNS: [Step<'static>; 4] = [
+    Step::Append(&[1, 1]),
+    Step::Append(&[2]),
+    Step::Sync,
+    Step::Append(&[3, 3, 3]),
+];
+
+const DRAFT: [Step<'static>; 4] = [
+    Step::BeginDraft,
+    Step::AddToDraft(&[7, 8]),
+    Step::AddToDraft(&[9]),
+    Step::PutDraft,
+];
+
+// A log of a synced block of the bytes 1 and 2.
+const OLD: [u8; 24] = [
+    1, 1, 2, 0, 0, 0, 0, 0, 0, 0, 1, 2, 0, 1, 0, 0, 0, 0, 0, 0, 0, 0, 1, 0,
+];
+
+// How it went: how many steps were done, and whether the log can be used then.
+#[derive(Clone, Copy)]
+struct End {
+    done: usize,
+    is_usable: bool,
 }
 
-// The device after a log over it was run, and how many runs were added.
-fn run_over<D: Device>(alloc: Global, device: D) -> (D, u8) {
-    match create(device) {
-        Ok(log) => run_and_ended(log),
-        Err(refused) => (refused.1, 0),
-    }
-}
-
-// The device below a log after it was run, and how many runs were added.
-fn run_and_ended<D: Device>(log: Log<D>) -> (D, u8) {
+// The device below a log after these steps, and how they went. A log that can't be used takes no more.
+fn end_of<D: Device>(log: Log<D>, steps: &[Step<'_>]) -> (D, Option<End>) {
     let mut log = log;
-    let added = run(&mut log);
-    (log.into_device(), added)
+    let done = count_done(&mut log, steps);
+    let is_usable = log.is_usable();
+    let is_well = is_usable || add(&mut log, &[9]) == Err(LogError::Ended);
+    let end = if is_well {
+        Some(End { done, is_usable })
+    } else {
+        None
+    };
+    (log.into_device(), end)
 }
 
-// What is recovered where the device fails after so many calls, and how many runs were added.
-fn after_failure(alloc: Global, calls: usize, short: usize) -> Option<(Vec<u8>, u8)> {
-    let device = MemoryDevice::new(alloc, Vec::new(alloc));
-    let (device, added) = run_over(alloc, Fuse::new(alloc, device, calls, short));
-    let bytes = bytes_over(alloc, device.into_device(), Crash::Killed)?;
-    Some((bytes, added))
+// The device after the work, and how it went.
+fn work_over<D: Device>(alloc: Global, device: D, trial: Trial) -> (D, Option<End>) {
+    let not_begun = Some(End {
+        done: 0,
+        is_usable: true,
+    });
+    match trial {
+        Trial::Runs => match create(device) {
+            Ok(log) => end_of(log, &RUNS),
+            Err(refused) => (refused.1, not_begun),
+        },
+        Trial::Draft => match recover(alloc, device, Crash::Stopped) {
+            Ok(found) => end_of(found.log, &DRAFT),
+            Err(refused) => (refused.1, not_begun),
+        },
+    }
 }
 
-// The runs that were added, or one more.
-fn is_as_told(bytes: &[u8], added: u8) -> bool {
+// Whether these are the bytes of the runs that were added, or of one more.
+fn are_runs(bytes: &[u8], done: usize) -> bool {
     match bytes {
-        [] => added == 0,
-        [1, 1] => added <= 1,
-        [1, 1, 2] => added == 1 || added == 2,
-        [1, 1, 2, 3, 3, 3] => added == 2 || added == 3,
+        [] => done == 0,
+        [1, 1] => done <= 1,
+        [1, 1, 2] => done >= 1 && done <= 3,
+        [1, 1, 2, 3, 3, 3] => done >= 3,
         _ => false,
+    }
+}
+
+// Whether the runs that were added are recovered, or one more. A log that has failed can't be used.
+fn has_runs<D: InMemory>(alloc: Global, file: &[u8], end: End) -> bool {
+    match found_in::<D>(alloc, file, Crash::Killed) {
+        Some(found) => {
+            let are_runs = are_runs(&found.bytes, end.done);
+            drop(found);
+            are_runs && (end.is_usable == (end.done == 4) || end.done == 0)
+        }
+        None => false,
+    }
+}
+
+// Whether the draft is recovered where it was put, and else the old bytes. A log whose draft could not be
+// written can be used.
+fn has_draft<D: InMemory>(alloc: Global, file: &[u8], end: End) -> bool {
+    let want: &[u8] = if end.done == 4 { &[7, 8, 9] } else { &[1, 2] };
+    (end.is_usable || end.done == 3)
+        && recovers::<D>(alloc, file, Crash::Killed, want)
+        && recovers::<D>(alloc, file, Crash::Stopped, want)
+}
+
+// How many steps are done where the device fails after so many calls, if all is well then.
+fn done_at<D: InMemory>(alloc: Global, trial: Trial, calls: usize, short: usize) -> Option<usize> {
+    let old: &[u8] = match trial {
+        Trial::Runs => &[],
+        Trial::Draft => &OLD,
+    };
+    let device = D::with_file(alloc, old)?;
+    let (device, end) = work_over(alloc, Fuse::new(alloc, device, calls, short), trial);
+    judged(alloc, device.into_device(), trial, end?)
+}
+
+// How many steps were done, if the device has what it is to have.
+fn judged<D: InMemory>(alloc: Global, device: D, trial: Trial, end: End) -> Option<usize> {
+    let is_well = match trial {
+        Trial::Runs => has_runs::<D>(alloc, device.file(), end),
+        Trial::Draft => has_draft::<D>(alloc, device.file(), end),
+    };
+    drop(device);
+    if is_well { Some(end.done) } else { None }
+}
+
+/// Each call of the device fails, with each number of bytes of a write that is cut short. A log is made and
+/// added to in 13 calls, and a draft is put in 14.
+pub(crate) fn fail_each_call<D: InMemory>(rt: &impl Abort, alloc: Global, trial: Trial) {
+    let needed = match trial {
+        Trial::Runs => 13,
+        Trial::Draft => 14,
+    };
+    for calls in 0..=needed {
+        for short in 0..16 {
+            let done = done_at::<D>(alloc, trial, calls, short).expect(rt, "a log");
+            assert!(rt; (done == 4) == (calls == needed), "{calls} calls");
+        }
     }
 }
 
 #[test]
 fn nothing_that_was_added_is_lost(rt: HostRuntime) {
-    let alloc = rt.alloc();
-    for calls in 0..24 {
-        for short in 0..16 {
-            let Some((bytes, added)) = after_failure(alloc, calls, short) else {
-                panic!(rt; "not recovered");
-            };
-            assert!(rt; is_as_told(&bytes, added));
-        }
-    }
+    in_memory(&rt, rt.alloc(), Work::Fail(Trial::Runs));
+}
+
+#[test]
+fn a_draft_is_put_or_not(rt: HostRuntime) {
+    in_memory(&rt, rt.alloc(), Work::Fail(Trial::Draft));
 }

@@ -1,98 +1,125 @@
 //! Logs over devices in memory, for tests.
 
-ghost use Rattle.std.specs.Prelude.{◌≡◌, ◌≤◌, ◌+◌, length};
+ghost use Rattle.std.specs.Prelude.{◌≤◌};
 
-use p9_log::{Crash, Device, HEAD, Log, LogError, MemoryDevice, TAIL, create, recover};
-use std::alloc::{Allocator, Global};
+use p9_log::{Crash, Device, HEAD, Log, LogError, MemoryDevice, Recovered, TAIL, recover};
+use std::alloc::Global;
 
-// The most bytes that a test adds at once.
+// The most bytes that are added at once.
 const ADDED_MAX: usize = 8;
-
-/// A log over a device in memory.
-pub(crate) type MemoryLog = Log<MemoryDevice<Global>>;
 
 /// A device whose file is in memory. What is generic over it is cheaper to prove than what names the
 /// device.
 pub(crate) trait InMemory: Device {
+    /// A device of a file with these bytes.
+    fn with_file(alloc: Global, bytes: &[u8]) -> Option<Self>;
+
     /// The bytes of the file.
     fn file(&self) -> &[u8];
 }
 
-impl<A: Allocator + Copy> InMemory for MemoryDevice<A> {
+impl InMemory for MemoryDevice<Global> {
+    fn with_file(alloc: Global, bytes: &[u8]) -> Option<MemoryDevice<Global>> {
+        let copy = bytes.to_vec(alloc).ok()?;
+        Some(MemoryDevice::new(alloc, copy))
+    }
+
     fn file(&self) -> &[u8] {
         self.bytes()
     }
 }
 
-/// A log without bytes.
-pub(crate) fn new_log(alloc: Global) -> Option<MemoryLog> {
-    create(MemoryDevice::new(alloc, Vec::new(alloc))).ok()
+/// What is recovered of a file.
+pub(crate) fn found_in<D: InMemory>(
+    alloc: Global,
+    file: &[u8],
+    how: Crash,
+) -> Option<Recovered<D, Global>> {
+    recover(alloc, D::with_file(alloc, file)?, how).ok()
 }
 
-// A buffer with room for a block, and where the bytes end in it.
+/// Whether these bytes are recovered of a file, and once more of what the recovery leaves.
+pub(crate) fn recovers<D: InMemory>(alloc: Global, file: &[u8], how: Crash, bytes: &[u8]) -> bool {
+    match found_in::<D>(alloc, file, how) {
+        Some(found) => {
+            let left = found.log.device().file();
+            let is_found = found.bytes.as_slice() == bytes && holds::<D>(alloc, left, bytes);
+            drop(found);
+            is_found
+        }
+        None => false,
+    }
+}
+
+// Whether these bytes are recovered of a file after a machine has stopped.
+fn holds<D: InMemory>(alloc: Global, file: &[u8], bytes: &[u8]) -> bool {
+    match found_in::<D>(alloc, file, Crash::Stopped) {
+        Some(found) => {
+            let is_found = found.bytes.as_slice() == bytes;
+            drop(found);
+            is_found
+        }
+        None => false,
+    }
+}
+
+/// A step with a log.
+#[derive(Clone, Copy)]
+pub(crate) enum Step<'a> {
+    Append(&'a [u8]),
+    Sync,
+    BeginDraft,
+    AddToDraft(&'a [u8]),
+    PutDraft,
+    /// There is no draft to be added to, and none to be put.
+    HasNoDraft,
+}
+
+// A buffer with the first eight of these bytes and with room for their block, and where they end.
 fn staged(bytes: &[u8]) -> ([u8; HEAD + ADDED_MAX + TAIL], usize)
-    requires { length bytes.now ≤ 8 }
-    ensures { result.1 ≡ 10 + length bytes.now }
+    ensures low { 10 ≤ result.1 }
+    ensures high { result.1 ≤ 18 }
 {
     let mut buffer = [0; HEAD + ADDED_MAX + TAIL];
-    let end = HEAD + bytes.len();
-    buffer[HEAD..end].copy_from_slice(bytes);
+    let count = bytes.len().min(ADDED_MAX);
+    let end = HEAD + count;
+    buffer[HEAD..end].copy_from_slice(&bytes[..count]);
     (buffer, end)
 }
 
-/// Adds bytes to a log.
-pub(crate) fn add<D: Device>(log: &mut Log<D>, bytes: &[u8]) -> Result<(), LogError>
-    requires { length bytes.now ≤ 8 }
-{
+/// Adds at most eight bytes to a log.
+pub(crate) fn add<D: Device>(log: &mut Log<D>, bytes: &[u8]) -> Result<(), LogError> {
     let (mut buffer, end) = staged(bytes);
     log.append(&mut buffer, end)
 }
 
-/// Adds bytes to the draft of a log.
-pub(crate) fn draft<D: Device>(log: &mut Log<D>, bytes: &[u8]) -> Result<(), LogError>
-    requires { length bytes.now ≤ 8 }
-{
+// Adds at most eight bytes to the draft of a log.
+fn draft<D: Device>(log: &mut Log<D>, bytes: &[u8]) -> Result<(), LogError> {
     let (mut buffer, end) = staged(bytes);
     log.add_to_draft(&mut buffer, end)
 }
 
-/// The log that is recovered of a file.
-pub(crate) fn log_of(alloc: Global, file: &[u8], how: Crash) -> Option<MemoryLog> {
-    let copy = file.to_vec(alloc).ok()?;
-    log_over(alloc, MemoryDevice::new(alloc, copy), how).ok()
-}
-
-/// The log that is recovered of a device, or the device where none is.
-pub(crate) fn log_over<D: Device>(alloc: Global, device: D, how: Crash) -> Result<Log<D>, D> {
-    match recover(alloc, device, how) {
-        Ok(found) => Ok(found.log),
-        Err(refused) => Err(refused.1),
+// Whether a step succeeds.
+fn does<D: Device>(log: &mut Log<D>, step: Step<'_>) -> bool {
+    match step {
+        Step::Append(bytes) => add(log, bytes).is_ok(),
+        Step::Sync => log.sync().is_ok(),
+        Step::BeginDraft => log.begin_draft().is_ok(),
+        Step::AddToDraft(bytes) => draft(log, bytes).is_ok(),
+        Step::PutDraft => log.put_draft().is_ok(),
+        Step::HasNoDraft => {
+            draft(log, &[4]) == Err(LogError::NoDraft)
+                && log.put_draft() == Err(LogError::NoDraft)
+        }
     }
 }
 
-/// What is recovered of a device, if it is.
-pub(crate) fn bytes_over<D: Device>(alloc: Global, device: D, how: Crash) -> Option<Vec<u8>> {
-    match recover(alloc, device, how) {
-        Ok(found) => Some(found.bytes),
-        Err(_) => None,
+/// How many steps succeed, up to the first that doesn't.
+pub(crate) fn count_done<D: Device>(log: &mut Log<D>, steps: &[Step<'_>]) -> usize {
+    for (position, step) in steps.iter().enumerate() {
+        if !does(log, *step) {
+            return position;
+        }
     }
-}
-
-/// Whether these bytes are recovered of a file.
-pub(crate) fn recovers(alloc: Global, file: &[u8], how: Crash, bytes: &[u8]) -> bool {
-    let Ok(copy) = file.to_vec(alloc) else {
-        return false;
-    };
-    is_found(
-        bytes_over(alloc, MemoryDevice::new(alloc, copy), how),
-        bytes,
-    )
-}
-
-/// Whether these bytes were found.
-pub(crate) fn is_found(found: Option<Vec<u8>>, bytes: &[u8]) -> bool {
-    match found {
-        Some(found) => found.as_slice() == bytes,
-        None => false,
-    }
+    steps.len()
 }

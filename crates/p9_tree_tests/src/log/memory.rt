@@ -1,0 +1,37 @@
+//! Work over devices in memory. Their type is named here once, as naming it costs a proof much.
+
+use crate::log::failing::{Trial, fail_each_call};
+use crate::log::logs::InMemory;
+use crate::log::told::plays_all;
+use crate::log::torn::{cut_each_byte, exchange_each_byte};
+use p9_log::MemoryDevice;
+use std::alloc::Global;
+use std::process::Abort;
+
+/// What is done.
+#[derive(Clone, Copy)]
+pub(crate) enum Work {
+    /// Logs do as they are told.
+    Tell,
+    /// A block is cut short at each byte.
+    Cut,
+    /// Each byte behind a closed gate is exchanged.
+    Exchange,
+    /// Each call of the device fails in turn.
+    Fail(Trial),
+}
+
+/// Does the work over devices in memory.
+pub(crate) fn in_memory(rt: &impl Abort, alloc: Global, work: Work) {
+    over::<MemoryDevice<Global>>(rt, alloc, work);
+}
+
+// Does the work over devices of a kind.
+fn over<D: InMemory>(rt: &impl Abort, alloc: Global, work: Work) {
+    match work {
+        Work::Tell => plays_all::<D>(rt, alloc),
+        Work::Cut => cut_each_byte::<D>(rt, alloc),
+        Work::Exchange => exchange_each_byte::<D>(rt, alloc),
+        Work::Fail(trial) => fail_each_call::<D>(rt, alloc, trial),
+    }
+}
