@@ -188,14 +188,17 @@ fn is_played_with(rt: &impl Abort, alloc: Global, play: Play, came: (&str, bool)
     is_played(rt, alloc, stream, &memory, &memory, play, came)
 }
 
+// A file of so many bytes is read and written.
+fn is_read_and_written(rt: &impl Abort, alloc: Global, len: usize) {
+    is_played_with(rt, alloc, fine(false, len), DONE);
+    is_played_with(rt, alloc, fine(true, len), DONE);
+}
+
 #[test]
 fn files_of_any_number_of_pieces_are_read_and_written(rt: HostRuntime) {
-    for is_write in [false, true] {
-        for pieces in 0..20 {
-            for more in [0, 1, 231] {
-                let file = fine(is_write, pieces * PIECE + more);
-                is_played_with(&rt, rt.alloc(), file, DONE);
-            }
+    for pieces in 0..20 {
+        for more in [0, 1, 231] {
+            is_read_and_written(&rt, rt.alloc(), pieces * PIECE + more);
         }
     }
 }
@@ -279,6 +282,20 @@ fn number_of(rt: &impl Abort, word: &str) -> usize {
     number(word, 1 << 20).expect(rt, "a number") as usize
 }
 
+// Plays this at each place from the first up to the second.
+fn is_played_at(
+    rt: &impl Abort,
+    alloc: Global,
+    play: Play,
+    what: &str,
+    (first, end): (usize, usize),
+    came: (&str, bool),
+) {
+    for place in first..end {
+        is_played_with(rt, alloc, with(play, what, place), came);
+    }
+}
+
 // Plays a row at each of its places, given by its words. It comes to this, and the session goes on
 // then, or it has failed.
 fn is_row(rt: &impl Abort, alloc: Global, asked: &str, came: (&str, bool)) {
@@ -287,9 +304,8 @@ fn is_row(rt: &impl Abort, alloc: Global, asked: &str, came: (&str, bool)) {
         panic!(rt; "five words");
     };
     let play = fine(*call == "write", number_of(rt, len));
-    for place in number_of(rt, first)..number_of(rt, end) {
-        is_played_with(rt, alloc, with(play, what, place), came);
-    }
+    let places = (number_of(rt, first), number_of(rt, end));
+    is_played_at(rt, alloc, play, what, places, came);
 }
 
 #[test]
