@@ -1,22 +1,17 @@
-//! Tests of the program's commands that no row of `p9_rows` has: failed allocations, inputs that are
-//! prepared for other programs, calls that the commands don't make, a command of a name that no row
-//! can write, and frames that are too large for the data of a row. And of p9_asked and the libraries
-//! of p9_admin.
+//! Tests of the program's commands and of those of p9_admin that no row of `p9_rows` has: failed
+//! allocations, mount tables that no input makes, and the texts of errors. And of p9_asked and
+//! p9_pack.
 //!
-//! `cert` has the tests of p9_world, p9_cert and p9_judge.
+//! What is tried is a text, as that costs a proof much less than a table of values.
 #![tactic(auto)]
 
 #[cfg(test)]
-mod admin;
-#[cfg(test)]
 mod asked;
 #[cfg(test)]
-mod calls;
+mod gaps;
 #[cfg(test)]
-mod cert;
-#[cfg(test)]
-mod large;
-#[cfg(test)]
-mod prepared;
+mod pack;
 #[cfg(test)]
 mod refusals;
+#[cfg(test)]
+mod texts;

@@ -1,10 +1,187 @@
 //! Allocations that fail: a command says so, and run again it does all that it has to.
 
 use p9_base::NoMemory;
-use p9_commands::run_command;
-use p9_testing::{Refusing, refuse_each};
-use std::alloc::{Allocator, Global};
+use p9_commands::run_command_over;
+use p9_explain::{explain, explain_change};
+use p9_index::IndexTree;
+use p9_map::map;
+use p9_seal::{SealError, Wishes, seal};
+use p9_testing::Refusing;
+use p9_tree::Tree;
+use p9_view::show_tree;
+use std::alloc::Global;
 use std::process::Abort;
+use std::str::from_utf8;
+
+// A command over an input, and how it is to end. Where an allocation of an attach fails, the
+// command may print something else.
+#[derive(Clone, Copy)]
+struct Run {
+    word: &'static str,
+    input: &'static str,
+    out: &'static str,
+    refused_out: &'static str,
+    err: &'static str,
+    status: u8,
+}
+
+const PLAYS: [Run; 4] = [
+    Run {
+        word: "play",
+        input: ATTACH,
+        out: ATTACH_OUT,
+        refused_out: ATTACH_REFUSED,
+        err: "",
+        status: 0,
+    },
+    Run {
+        word: "play",
+        input: CERTIFIED,
+        out: ATTACH_OUT,
+        refused_out: ATTACH_REFUSED,
+        err: VAULT_ERR,
+        status: 0,
+    },
+    // Nothing is played with a certificate that has a gap.
+    Run {
+        word: "play",
+        input: GAP,
+        out: "",
+        refused_out: "",
+        err: "ns:1: not mounted\ncert: gap root member 0 0 missing\n",
+        status: 1,
+    },
+    Run {
+        word: "ns",
+        input: NAME_SPACE,
+        out: "bind #main/x #main/x\nbind -ac #main/u #main/x\n",
+        refused_out: "",
+        err: "ns:2: not mounted\n",
+        status: 0,
+    },
+];
+
+const VERDICTS: [Run; 6] = [
+    Run {
+        word: "check",
+        input: VAULT,
+        out: "yes\ncert 1\ndir 0 0\ndir 0 1\n",
+        refused_out: "",
+        err: VAULT_ERR,
+        status: 0,
+    },
+    Run {
+        word: "check",
+        input: LEAK,
+        out: "no\nstep 0 0 glenda pub\nbreach inside 0 3\n",
+        refused_out: "",
+        err: VAULT_ERR,
+        status: 1,
+    },
+    Run {
+        word: "check",
+        input: DEEP,
+        out: "no\nstep 0 0 glenda a\nstep 0 1 glenda b\nstep 0 2 glenda e\nstep 0 5 glenda v\n\
+            breach owned 0 6\n",
+        refused_out: "",
+        err: "",
+        status: 1,
+    },
+    Run {
+        word: "check",
+        input: GUARDED,
+        out: "yes\ncert 1\ndir 0 0\ndir 0 1\ndir 0 2\ndir 0 3\ndir 0 4\ndir 0 5\n",
+        refused_out: "",
+        err: "",
+        status: 0,
+    },
+    Run {
+        word: "verify",
+        input: CERTIFIED,
+        out: "ok\n",
+        refused_out: "",
+        err: VAULT_ERR,
+        status: 0,
+    },
+    Run {
+        word: "verify",
+        input: GAP,
+        out: "gap root member 0 0 missing\n",
+        refused_out: "",
+        err: VAULT_ERR,
+        status: 1,
+    },
+];
+
+const EXPLAINED: [Run; 5] = [
+    Run {
+        word: "seal",
+        input: UNSEALED,
+        out: SEALED,
+        refused_out: "",
+        err: "",
+        status: 0,
+    },
+    Run {
+        word: "seal as fixed",
+        input: UNSEALED,
+        out: CHANGE,
+        refused_out: "",
+        err: "",
+        status: 1,
+    },
+    Run {
+        word: "explain",
+        input: UNSEALED,
+        out: "refused: cert:1: bad line\nmine:10, cert:1: bad line: 'cert 1' is to be the first\n",
+        refused_out: "",
+        err: "",
+        status: 1,
+    },
+    Run {
+        word: "explain",
+        input: ROOTLESS,
+        out: ROOTLESS_EXPLAINED,
+        refused_out: "",
+        err: "",
+        status: 1,
+    },
+    Run {
+        word: "explain",
+        input: OPEN,
+        out: OPEN_EXPLAINED,
+        refused_out: "",
+        err: "",
+        status: 1,
+    },
+];
+
+const SHOWN: [Run; 3] = [
+    Run {
+        word: "map",
+        input: WALKED,
+        out: "verdict: no",
+        refused_out: "",
+        err: "",
+        status: 1,
+    },
+    Run {
+        word: "tree",
+        input: RULED,
+        out: RULED_TREE,
+        refused_out: "",
+        err: "",
+        status: 0,
+    },
+    Run {
+        word: "tree of glenda",
+        input: RULED,
+        out: GLENDAS_TREE,
+        refused_out: "",
+        err: "",
+        status: 0,
+    },
+];
 
 // The first attach, and its replies.
 const ATTACH: &str = "%% script
@@ -22,33 +199,6 @@ const ATTACH_REFUSED: &str = "1300000065ffff002000000600395032303030
 160000006b01000d006f7574206f66206d656d6f7279
 ";
 
-// Plays an input whose script is the first attach, with what is reported of its namespace file. Where
-// an allocation fails, the command says so, or the attach's reply does.
-fn play_again<A: Allocator + Copy>(rt: &impl Abort, alloc: A, input: &str, reported: &str) {
-    let mut out = Vec::new(alloc);
-    let mut err = Vec::new(alloc);
-    let outcome = run_command("play", input.as_bytes(), &mut out, &mut err);
-    let run = Run {
-        word: "play",
-        input,
-        out: if out.as_slice() == ATTACH_REFUSED.as_bytes() {
-            ATTACH_REFUSED
-        } else {
-            ATTACH_OUT
-        },
-        err: reported,
-        status: 0,
-    };
-    ends_again(rt, run, outcome, &mut out, &mut err);
-}
-
-#[test]
-fn a_play_is_run_again_at_each_refusal(rt: HostRuntime) {
-    let memory = Refusing::new(rt.alloc());
-    let refusals = refuse_each(&memory, || (), |()| play_again(&rt, &memory, ATTACH, ""));
-    assert!(rt; refusals > 20);
-}
-
 // A world of one's own, a namespace file with an operation that fails, and a script that isn't
 // played.
 const NAME_SPACE: &str = "%% world
@@ -63,70 +213,6 @@ unmount /u
 %% script
 open 1
 ";
-
-const NAME_SPACE_OUT: &str = "bind #main/x #main/x
-bind -ac #main/u #main/x
-";
-
-const NAME_SPACE_ERR: &str = "ns:2: not mounted\n";
-
-#[test]
-fn a_table_is_listed_again_at_each_refusal(rt: HostRuntime) {
-    let run = Run {
-        word: "ns",
-        input: NAME_SPACE,
-        out: NAME_SPACE_OUT,
-        err: NAME_SPACE_ERR,
-        status: 0,
-    };
-    assert!(rt; refusals_of(&rt, rt.alloc(), run) > 50);
-}
-
-// A command over an input, and how it is to end.
-#[derive(Clone, Copy)]
-struct Run<'a> {
-    word: &'a str,
-    input: &'a str,
-    out: &'a str,
-    err: &'a str,
-    status: u8,
-}
-
-// Runs a command with each request for memory refused in turn, and returns how many there are.
-// Where an allocation fails, the command says so and prints nothing, and run again it ends as it is
-// to.
-fn refusals_of(rt: &impl Abort, alloc: Global, run: Run<'_>) -> u64 {
-    let memory = Refusing::new(alloc);
-    refuse_each(&memory, || (), |()| run_again(rt, &memory, run))
-}
-
-fn run_again<A: Allocator + Copy>(rt: &impl Abort, alloc: A, run: Run<'_>) {
-    let mut out = Vec::new(alloc);
-    let mut err = Vec::new(alloc);
-    let outcome = run_command(run.word, run.input.as_bytes(), &mut out, &mut err);
-    ends_again(rt, run, outcome, &mut out, &mut err);
-}
-
-// A command that was run ends as it is to, or where an allocation failed and it printed nothing, when
-// it is run again.
-fn ends_again<A: Allocator + Copy>(
-    rt: &impl Abort,
-    run: Run<'_>,
-    outcome: Result<u8, NoMemory>,
-    out: &mut Vec<u8, A>,
-    err: &mut Vec<u8, A>,
-) {
-    let mut outcome = outcome;
-    if outcome.is_err() {
-        assert!(rt; out.is_empty() && err.is_empty());
-        outcome = run_command(run.word, run.input.as_bytes(), out, err);
-    }
-    assert!(rt;
-        outcome == Ok(run.status)
-            && out.as_slice() == run.out.as_bytes()
-            && err.as_slice() == run.err.as_bytes()
-    );
-}
 
 // A vault, with a namespace file of which an operation fails.
 const VAULT: &str = "%% world
@@ -144,18 +230,6 @@ unmount /pub
 const VAULT_ERR: &str = "ns:1: not mounted
 ";
 
-#[test]
-fn a_yes_is_said_again_at_each_refusal(rt: HostRuntime) {
-    let run = Run {
-        word: "check",
-        input: VAULT,
-        out: "yes\ncert 1\ndir 0 0\ndir 0 1\n",
-        err: VAULT_ERR,
-        status: 0,
-    };
-    assert!(rt; refusals_of(&rt, rt.alloc(), run) > 30);
-}
-
 // A vault, with a namespace file that fails at its first line, and binds a part of the vault at its
 // second.
 const LEAK: &str = "%% world
@@ -171,17 +245,42 @@ unmount /pub
 bind -a /vault/in /pub
 ";
 
-#[test]
-fn a_no_is_said_again_at_each_refusal(rt: HostRuntime) {
-    let run = Run {
-        word: "check",
-        input: LEAK,
-        out: "no\nstep 0 0 glenda pub\nbreach inside 0 3\n",
-        err: VAULT_ERR,
-        status: 1,
-    };
-    assert!(rt; refusals_of(&rt, rt.alloc(), run) > 30);
-}
+// A chain of directories, with a hidden one at its end that its owner may open, and groups and a
+// variable.
+const DEEP: &str = "%% world
+server main
+dir /a 755 sys sys
+dir /a/b 755 sys sys
+dir /a/c 755 sys sys
+dir /a/d 755 sys sys
+dir /a/b/e 755 sys sys
+dir /a/b/e/v 000 glenda sys
+file /a/b/f alt406 glenda sys 00ff0a
+user glenda
+user rob
+hide main /a/b/e/v
+group staff rob glenda
+group both rob ken glenda rob
+group empty sys
+set home /a/b
+%% ns
+bind -a /a/c /a/d
+";
+
+// A chain of directories, with a guarded hidden one at its end.
+const GUARDED: &str = "%% world
+server main
+dir /a 755 sys sys
+dir /a/b 755 sys sys
+dir /a/c 755 sys sys
+dir /a/d 755 sys sys
+dir /a/b/e 755 sys sys
+dir /a/b/e/v 000 sys sys
+user glenda
+hide main /a/b/e/v
+%% ns
+bind -a /a/c /a/d
+";
 
 // The vault with its certificate, and a script that a verification reads and does not play.
 const CERTIFIED: &str = "%% world
@@ -204,18 +303,6 @@ msg 1 0 1300000064ffff002000000600395032303030
 msg 1 0 1900000068010000000000ffffffff0600676c656e64610000
 ";
 
-#[test]
-fn a_certificate_is_verified_again_at_each_refusal(rt: HostRuntime) {
-    let run = Run {
-        word: "verify",
-        input: CERTIFIED,
-        out: "ok\n",
-        err: VAULT_ERR,
-        status: 0,
-    };
-    assert!(rt; refusals_of(&rt, rt.alloc(), run) > 30);
-}
-
 // The vault with a certificate that has a gap, and a script.
 const GAP: &str = "%% world
 server main
@@ -235,38 +322,231 @@ open 1
 msg 1 0 1300000064ffff002000000600395032303030
 ";
 
-#[test]
-fn a_gap_is_printed_again_at_each_refusal(rt: HostRuntime) {
-    let run = Run {
-        word: "verify",
-        input: GAP,
-        out: "gap root member 0 0 missing\n",
-        err: VAULT_ERR,
-        status: 1,
-    };
-    assert!(rt; refusals_of(&rt, rt.alloc(), run) > 30);
+// A vault with a bad certificate, before a script.
+const UNSEALED: &str = "%% world
+server main
+dir /pub 777 sys sys
+dir /vault 700 sys sys
+user glenda
+hide main /vault
+%% ns
+bind -a /pub /
+%% cert
+none
+%% script
+open 1
+";
+
+// The vault with its certificate.
+const SEALED: &str = "%% world
+server main
+dir /pub 777 sys sys
+dir /vault 700 sys sys
+user glenda
+hide main /vault
+%% ns
+bind -a /pub /
+%% cert
+cert 1
+dir 0 0
+dir 0 1
+%% script
+open 1
+";
+
+// What a listed user can change in the vault, which so is no fixed name space, and how that is
+// mended.
+const CHANGE: &str =
+    "glenda may write main:/pub (mine:3, world:2, 777 sys sys: others may write), bound at main:/ (mine:8, ns:1)
+mend: give it to an owner and a group leader who is not listed, and no write bit to others or to groups with listed members
+";
+
+// An input whose certificate has a gap, and what is said of it.
+const ROOTLESS: &str = "%% world
+server main
+dir /vault 700 ken ken
+file /note 644 ann ann -
+user glenda
+hide main /vault
+%% cert
+cert 1
+";
+
+const ROOTLESS_EXPLAINED: &str = "claim: glenda neither sees nor changes what is inside main:/vault
+yes: clients can reach 1 directory, and nothing hidden
+fixed: no listed user can change anything that he reaches
+certificate: not accepted: a walk begins at main:/
+  main:/ (mine:2, world:1, 755 sys sys) is no row: others may read and search it
+hint: mine:4, world:3: ann is no listed user
+";
+
+// An input that leaks, and what is said of it.
+const OPEN: &str = "%% world\nserver a\ndir /v 755 u u\nuser u\nhide a /v\n%% ns\nbind /x /\n";
+
+const OPEN_EXPLAINED: &str = "claim: u neither sees nor changes what is inside a:/v
+no: the inside of a:/v is within reach
+  u attaches at a:/
+  u passes a:/   (mine:2, world:1, 755 sys sys: others may search)
+  a:/v           (mine:3, world:2, 755 u u) is open: others may read, write and search it
+mend: give it to an owner and a group leader who is not listed, and no bits to others or to groups with listed members
+certificate: none
+hint: mine:7, ns:1: this failed, and did nothing: file does not exist
+";
+
+// A walk into a hidden directory, and a union of two servers.
+const WALKED: &str = "%% world
+server main
+dir /vault 755 sys sys
+dir /vault/in 755 sys sys
+server other
+user glenda
+hide main /vault
+%% ns
+mount -a other /
+";
+
+// A union of two servers, and a directory that a user rules in two places.
+const RULED: &str = "%% world
+server main
+dir /own 600 glenda sys
+dir /own/in 755 sys sys
+dir /m 755 sys sys
+server other
+user glenda
+%% ns
+mount -a other /
+bind /own /m
+";
+
+// Its trees: of all places, and of those that the user meets.
+const RULED_TREE: &str = "/ d-rwxr-xr-x sys sys 0 -> main:/ + other:/ passed by everybody
+/own d-rw------- glenda sys 0 passed by everybody
+/own/in d-rwxr-xr-x sys sys 0 passed by everybody
+/m d-rw------- glenda sys 0 -> main:/own as /own passed by everybody
+";
+
+const GLENDAS_TREE: &str = "/ d-rwxr-xr-x sys sys 0 -> main:/ + other:/
+/own d-rw------- glenda sys 0 (ruled, not searched)
+/own/in d-rwxr-xr-x sys sys 0 (after a change of mode)
+/m d-rw------- glenda sys 0 -> main:/own as /own (ruled, not searched)
+";
+
+// Seals an input.
+fn sealed<T: Tree>(input: &[u8], out: &mut Vec<u8, T::Alloc>) -> Result<u8, NoMemory> {
+    match seal::<T>(*out.allocator(), input, Wishes::default()) {
+        Ok(text) => {
+            out.extend_from_slice(text.as_bytes())?;
+            Ok(0)
+        }
+        Err(SealError::NoMemory) => Err(NoMemory),
+        Err(_) => Ok(2),
+    }
 }
 
-// Nothing is played with a certificate that has a gap.
-#[test]
-fn a_play_is_refused_again_at_each_refusal(rt: HostRuntime) {
-    let run = Run {
-        word: "play",
-        input: GAP,
-        out: "",
-        err: "ns:1: not mounted\ncert: gap root member 0 0 missing\n",
-        status: 1,
+// Seals an input as a fixed name space, and explains why it is none.
+fn sealed_as_fixed<T: Tree>(input: &[u8], out: &mut Vec<u8, T::Alloc>) -> Result<u8, NoMemory> {
+    let wishes = Wishes {
+        anyway: false,
+        fixed: true,
     };
-    assert!(rt; refusals_of(&rt, rt.alloc(), run) > 30);
+    match seal::<T>(*out.allocator(), input, wishes) {
+        Err(SealError::Changeable(change)) => {
+            explain_change::<T>("mine", input, &change, out)?;
+            Ok(1)
+        }
+        Err(SealError::NoMemory) => Err(NoMemory),
+        _ => Ok(2),
+    }
+}
+
+// Draws an input. What is printed is the verdict, if it is in the picture.
+fn drawn<T: Tree>(
+    input: &[u8],
+    out: &mut Vec<u8, T::Alloc>,
+    err: &mut Vec<u8, T::Alloc>,
+) -> Result<u8, NoMemory> {
+    let mut picture = Vec::new(*out.allocator());
+    let status = map::<T>(input, &mut picture, err)?;
+    if from_utf8(picture.as_slice()).is_ok_and(|text| text.contains("verdict: no")) {
+        out.extend_from_slice(b"verdict: no")?;
+    }
+    Ok(status)
+}
+
+// Does what a word says.
+fn run_word<T: Tree>(
+    word: &str,
+    input: &[u8],
+    out: &mut Vec<u8, T::Alloc>,
+    err: &mut Vec<u8, T::Alloc>,
+) -> Result<u8, NoMemory> {
+    match word {
+        "seal" => sealed::<T>(input, out),
+        "seal as fixed" => sealed_as_fixed::<T>(input, out),
+        "explain" => explain::<T>("mine", input, out),
+        "map" => drawn::<T>(input, out, err),
+        "tree" => show_tree::<T>(input, None, out, err),
+        "tree of glenda" => show_tree::<T>(input, Some("glenda"), out, err),
+        _ => run_command_over::<T>(word, input, out, err),
+    }
+}
+
+// A command ends as it is to, or says that an allocation failed, and when it is run again it ends so.
+fn is_run<T: Tree>(rt: &impl Abort, lent: T::Alloc, run: &Run) {
+    let mut out = Vec::new(lent);
+    let mut err = Vec::new(lent);
+    let mut ended = Err(NoMemory);
+    for _ in 0..2 {
+        out.clear();
+        err.clear();
+        ended = run_word::<T>(run.word, run.input.as_bytes(), &mut out, &mut err);
+        if ended.is_ok() {
+            break;
+        }
+    }
+    assert!(rt; ended == Ok(run.status) && err.as_slice() == run.err.as_bytes());
+    let is_refused = !run.refused_out.is_empty() && out.as_slice() == run.refused_out.as_bytes();
+    assert!(rt; is_refused || out.as_slice() == run.out.as_bytes());
+}
+
+// The same with each request for memory refused in turn. Returns how many there are.
+fn refusals_of(rt: &impl Abort, alloc: Global, run: &Run) -> u64 {
+    let memory = Refusing::new(alloc);
+    let mut refusals = 0;
+    for n in 1..u64::MAX {
+        refusals = n - 1;
+        memory.refuse(n);
+        is_run::<IndexTree<&Refusing<Global>>>(rt, &memory, run);
+        if !memory.has_refused() {
+            break;
+        }
+    }
+    refusals
+}
+
+// There are more than 20 of each.
+fn are_run_again(rt: &impl Abort, alloc: Global, runs: &[Run]) {
+    for run in runs {
+        assert!(rt; refusals_of(rt, alloc, run) > 20);
+    }
 }
 
 #[test]
-fn a_guarded_play_is_run_again_at_each_refusal(rt: HostRuntime) {
-    let memory = Refusing::new(rt.alloc());
-    let refusals = refuse_each(
-        &memory,
-        || (),
-        |()| play_again(&rt, &memory, CERTIFIED, VAULT_ERR),
-    );
-    assert!(rt; refusals > 30);
+fn a_play_is_run_again_at_each_refusal(rt: HostRuntime) {
+    are_run_again(&rt, rt.alloc(), &PLAYS);
+}
+
+#[test]
+fn a_verdict_is_printed_again_at_each_refusal(rt: HostRuntime) {
+    are_run_again(&rt, rt.alloc(), &VERDICTS);
+}
+
+#[test]
+fn an_input_is_sealed_and_explained_again_at_each_refusal(rt: HostRuntime) {
+    are_run_again(&rt, rt.alloc(), &EXPLAINED);
+}
+
+#[test]
+fn a_picture_and_a_tree_are_printed_again_at_each_refusal(rt: HostRuntime) {
+    are_run_again(&rt, rt.alloc(), &SHOWN);
 }

@@ -50,21 +50,18 @@ fn is_reported(
     assert!(rt; narrow.taken.as_slice() == text.as_bytes());
 }
 
-const FAILURES: [(ErrorKind, u8, &str); 4] = [
-    (ErrorKind::OutOfMemory, 3, "out of memory\n"),
-    (ErrorKind::AddrInUse, 4, "input or output failed\n"),
-    (ErrorKind::Other, 4, "input or output failed\n"),
-    (ErrorKind::WouldBlock, 4, "input or output failed\n"),
+// A failure, how many bytes a writer takes, the status, and what it got.
+const FAILURES: [(ErrorKind, usize, u8, &str); 5] = [
+    (ErrorKind::OutOfMemory, 100, 3, "out of memory\n"),
+    (ErrorKind::AddrInUse, 100, 4, "input or output failed\n"),
+    (ErrorKind::Other, 100, 4, "input or output failed\n"),
+    (ErrorKind::WouldBlock, 100, 4, "input or output failed\n"),
+    (ErrorKind::OutOfMemory, 6, 3, "out of"),
 ];
 
 #[test]
-fn a_failure_is_reported_by_its_text(rt: HostRuntime) {
-    for row in &FAILURES {
-        is_reported(&rt, rt.alloc(), row.0, 100, row.1, row.2);
-    }
-}
-
-#[test]
 fn a_failure_is_reported_as_far_as_the_writer_takes_it(rt: HostRuntime) {
-    is_reported(&rt, rt.alloc(), ErrorKind::OutOfMemory, 6, 3, "out of");
+    for (kind, room, status, text) in &FAILURES {
+        is_reported(&rt, rt.alloc(), *kind, *room, *status, text);
+    }
 }

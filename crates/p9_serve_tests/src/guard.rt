@@ -1,15 +1,8 @@
-//! Tests of the guard: replies that hidden directories don't change, allocations that fail, and
-//! memory that is freed.
+//! Tests of the guard: scripts with each request for memory refused in turn, and memory that is freed.
 
 mod again;
-mod both;
-mod lent;
-mod misfits;
-mod pairs;
 mod plays;
 mod refusals;
-mod refused;
-mod rows;
 mod runs;
 mod scripts;
 mod stops;

@@ -1,13 +1,14 @@
-//! Tests of the server: clients on loopback, in one process with it, hostile ones among them, inputs
-//! that are served at an address, and allocations that fail while a client is taken in.
+//! Tests of the server: clients on loopback, in one process with it, an input that is served at an
+//! address, and allocations that fail while a client is taken in.
 //!
 //! `guard` has the tests of p9_guard, `conn` those of connections and of the client.
+//!
+//! What is played is a text, as that costs a proof much less than a table of values. A function that
+//! names a kind of tree costs most of all, so there are few: what they call is over trees of any kind.
 #![tactic(auto)]
 
 #[cfg(test)]
 mod clients;
-#[cfg(test)]
-mod clock;
 #[cfg(test)]
 mod conn;
 #[cfg(test)]
@@ -15,19 +16,15 @@ mod failures;
 #[cfg(test)]
 mod guard;
 #[cfg(test)]
-mod inputs;
-#[cfg(test)]
-mod loopback;
-#[cfg(test)]
 mod machine;
 #[cfg(test)]
 mod memory;
 #[cfg(test)]
 mod refused;
 #[cfg(test)]
-mod rests;
-#[cfg(test)]
 mod rows;
+#[cfg(test)]
+mod scripts;
 #[cfg(test)]
 mod served;
 #[cfg(test)]

@@ -15,9 +15,11 @@ pub struct Machine<'a, R> {
     host: &'a R,
     first: u64,
     most: u64,
-    readings: Cell<u64>,
-    sleeps: Cell<u64>,
-    slept: Cell<Duration>,
+    /// How often the clock was read.
+    pub readings: Cell<u64>,
+    /// How often it was to sleep, and how long in all.
+    pub sleeps: Cell<u64>,
+    pub slept: Cell<Duration>,
 }
 
 impl<R> Machine<'_, R> {
@@ -31,21 +33,6 @@ impl<R> Machine<'_, R> {
             sleeps: Cell::new(0),
             slept: Cell::new(Duration::ZERO),
         }
-    }
-
-    /// How often the clock was read.
-    pub fn readings(&self) -> u64 {
-        self.readings.get()
-    }
-
-    /// How often it was to sleep.
-    pub fn sleeps(&self) -> u64 {
-        self.sleeps.get()
-    }
-
-    /// How long it was to sleep in all.
-    pub fn slept(&self) -> Duration {
-        self.slept.get()
     }
 }
 

@@ -64,36 +64,26 @@ impl Write for Late<'_> {
     }
 }
 
-// A socket over a stream.
-fn socket_over<'a>(rt: &impl Abort, alloc: Global, log: &'a Log) -> Socket<Late<'a>, Global> {
-    Socket::new(alloc, Late { log }).expect(rt, "memory")
-}
+// Replies that are sent: whether more will follow, how many bytes of the socket's stream are free
+// before each call, and how long the reply is. Of a batch, some are longer than what a socket
+// keeps.
+const REPLIES: [(bool, usize, usize); 9] = [
+    (true, 0, 9),
+    (false, 0, 9),
+    (true, 10_000, 20),
+    (true, 10_000, 100_000),
+    (true, 10_000, 7),
+    (true, 10_000, 65_536),
+    (true, 10_000, 65_535),
+    (true, 10_000, 100_000),
+    (false, 10_000, 30),
+];
 
-// Two replies wait until the client reads: they are sent before anything is read from it.
-#[test]
-fn what_a_late_client_did_not_take_is_sent_later(rt: HostRuntime) {
-    let log = Log::new(rt.alloc(), 0);
-    let mut socket = socket_over(&rt, rt.alloc(), &log);
-    assert!(rt; matches!(socket.send(b"one reply", true), Ok(9)));
-    assert!(rt; matches!(socket.send(b", another", false), Ok(9)));
-    assert!(rt; log.has(b""));
-    log.room.set(100);
-    assert!(rt; socket.receive(&mut [0; 8]).is_err());
-    assert!(rt; log.has(b"one reply, another"));
-}
-
-// A reply of so many bytes, which are those of its place.
-fn reply_of(rt: &impl Abort, alloc: Global, place: u8, len: usize) -> Vec<u8, Global> {
-    let mut reply = Vec::new(alloc);
-    assert!(rt; reply.resize(len, place).is_ok());
-    reply
-}
-
-// Sends a reply whole, in as many calls as that takes. The stream takes 10,000 bytes more for each.
-fn send_whole(socket: &mut Socket<Late<'_>, Global>, log: &Log, reply: &[u8], more: bool) {
-    let mut rest = reply;
+// Sends bytes whole, in as many calls as that takes. The stream takes so many bytes more for each.
+fn send_whole<W: Stream>(socket: &mut W, log: &Log, bytes: &[u8], more: bool, room: usize) {
+    let mut rest = bytes;
     for _ in 0..1_000 {
-        log.room.set(10_000);
+        log.room.set(room);
         if let Ok(count) = socket.send(rest, more) {
             rest = rest.get(count..).unwrap_or(&[]);
         }
@@ -103,26 +93,27 @@ fn send_whole(socket: &mut Socket<Late<'_>, Global>, log: &Log, reply: &[u8], mo
     }
 }
 
-// Replies of a batch, of which some are longer than what a socket keeps, go out in their order.
-#[test]
-fn long_replies_follow_what_is_kept(rt: HostRuntime) {
-    let alloc = rt.alloc();
-    let log = Log::new(alloc, 0);
-    let mut socket = socket_over(&rt, alloc, &log);
-    let mut wanted = Vec::new(alloc);
-    for (place, len) in [
-        (1, 20),
-        (2, 100_000),
-        (3, 7),
-        (4, 65_536),
-        (5, 65_535),
-        (6, 100_000),
-        (7, 30),
-    ] {
-        let reply = reply_of(&rt, alloc, place, len);
-        send_whole(&mut socket, &log, reply.as_slice(), place < 7);
-        assert!(rt; wanted.extend_from_slice(reply.as_slice()).is_ok());
+// Sends all replies, of which each has the bytes of its place, and adds them to those that are
+// wanted.
+fn send_all<W: Stream>(rt: &impl Abort, socket: &mut W, log: &Log, wanted: &mut Vec<u8>) {
+    let mut place = 0u8;
+    for (more, room, len) in &REPLIES {
+        let begun = wanted.len();
+        place = place.saturating_add(1);
+        assert!(rt; wanted.resize(begun.saturating_add(*len), place).is_ok());
+        let reply = wanted.get(begun..).unwrap_or(&[]);
+        send_whole(socket, log, reply, *more, *room);
     }
+}
+
+// Two replies wait until the client reads: they are sent before those that come later, and what is
+// kept at the end before anything is read from the client.
+#[test]
+fn replies_are_sent_in_their_order(rt: HostRuntime) {
+    let log = Log::new(rt.alloc(), 0);
+    let mut wanted = Vec::new(rt.alloc());
+    let mut socket = Socket::new(rt.alloc(), Late { log: &log }).expect(&rt, "memory");
+    send_all(&rt, &mut socket, &log, &mut wanted);
     log.room.set(usize::MAX);
     assert!(rt; socket.receive(&mut [0; 8]).is_err());
     assert!(rt; log.has(wanted.as_slice()));

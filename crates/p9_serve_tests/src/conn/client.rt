@@ -3,12 +3,7 @@
 
 mod ahead;
 mod answered;
-mod canned;
 mod hostile;
 mod kinds;
-mod listings;
-mod memory;
 mod pieces;
-mod served;
 mod sessions;
-mod tree;

@@ -1,11 +1,7 @@
-//! Streams that fail, at each of their calls.
+//! Streams that fail, at each of their calls, and sizes that no frame has.
 
-use crate::conn::rows::{FOUND, GONE, LOOK, WORK};
-use crate::conn::scripted::{Answer, Scripted};
-use crate::conn::serving::{
-    Pair, Served, are_answered, one_is_closed, serve_session, served_beside, stream_of,
-};
-use p9_testing::bytes_of;
+use crate::conn::plays::{PLAIN, Play, WORK, run_play};
+use crate::conn::scripted::Answer;
 use std::alloc::Global;
 use std::process::Abort;
 
@@ -18,77 +14,64 @@ const WRITES: u64 = 9;
 // One more read would block.
 const CALLS: u64 = READS + WRITES + 1;
 
-// All was read and written.
-fn has_moved(rt: &impl Abort, stream: &Scripted) {
-    assert!(rt; stream.moving_reads() == READS && stream.moving_writes() == WRITES);
-}
+// A version, an attach, and walks to the public directory and to `n`, which is there, as node 4, and
+// was written to once.
+const FOUND: &str = "\
+13000000 64 ffff 00200000 0600 395032303030 > 13000000 65 ffff 00200000 0600 395032303030
+19000000 68 0100 00000000 ffffffff 0600 676c656e6461 0000 > \
+    14000000 69 0100 80 00000000 0000000000000000
+19000000 6e 0200 00000000 01000000 0200 0300 707562 0100 6e > \
+    23000000 6f 0200 0200 80 01000000 0100000000000000 00 01000000 0400000000000000
+";
 
-// A stream of the work, whose call after so many others has this answer.
-fn stream_with(rt: &impl Abort, alloc: Global, before: u64, answer: Answer) -> Scripted {
-    let mut stream = stream_of(rt, alloc, &WORK, 16);
-    for _ in 0..before {
-        stream.then(rt, Answer::Moves(16));
-    }
-    stream.then(rt, answer);
-    stream
-}
+// A version, and an attach at `n`, which isn't there: file does not exist.
+const GONE: &str = "\
+13000000 64 ffff 00200000 0600 395032303030 > 13000000 65 ffff 00200000 0600 395032303030
+1f000000 68 0100 00000000 ffffffff 0600 676c656e6461 0600 2f7075622f6e > \
+    1c000000 6b 0100 1300 66696c6520646f6573206e6f74206578697374
+";
 
-// A third session looks for the file, and the last of its replies is this.
-fn look(rt: &impl Abort, alloc: Global, guard: &mut Served, last: &str) {
-    let input = bytes_of(alloc, LOOK).expect(rt, "hexadecimal digits");
-    let conn = serve_session(rt, alloc, guard, 3, Scripted::new(alloc, input, 100));
-    ends_with(rt, alloc, conn.stream(), last);
-    drop(conn);
-}
+// The work in pieces, after which the file is there.
+const DONE: Play<'static> = Play {
+    rows: WORK,
+    most: 16,
+    later: FOUND,
+    ..PLAIN
+};
 
-// The last bytes that were written to a stream are these.
-fn ends_with(rt: &impl Abort, alloc: Global, stream: &Scripted, last: &str) {
-    let wanted = bytes_of(alloc, last).expect(rt, "hexadecimal digits");
-    assert!(rt; stream.output().ends_with(wanted.as_slice()));
-}
-
-// The work is done, and the other connection is undisturbed.
-fn is_done(rt: &impl Abort, alloc: Global, pair: &mut Pair) {
-    are_answered(rt, alloc, pair, &WORK);
-    has_moved(rt, pair.one.stream());
-    look(rt, alloc, &mut pair.guard, FOUND);
-}
-
-// The work came to an end after so many calls, and the other connection is undisturbed.
-fn is_ended(rt: &impl Abort, alloc: Global, pair: &mut Pair, calls: u64) {
-    one_is_closed(rt, alloc, pair, &WORK);
-    assert!(rt; pair.one.stream().calls() == calls);
-    look(rt, alloc, &mut pair.guard, GONE);
+// The call after so many others answers so, which closes the connection: the file is gone.
+fn ends_at(rt: &impl Abort, alloc: Global, before: u64, answer: Answer) {
+    let answers = [answer];
+    let ended = Play {
+        before,
+        answers: &answers,
+        is_closed: true,
+        is_whole: false,
+        later: GONE,
+        ..DONE
+    };
+    let (counts, _) = run_play(rt, alloc, ended);
+    assert!(rt; counts.calls == before.saturating_add(1));
 }
 
 #[test]
-fn without_a_fault_the_file_is_there(rt: HostRuntime) {
-    let stream = stream_of(&rt, rt.alloc(), &WORK, 16);
-    let mut pair = served_beside(&rt, rt.alloc(), stream, 16);
-    is_done(&rt, rt.alloc(), &mut pair);
-    drop(pair);
-}
-
-#[test]
-fn a_stream_that_breaks_closes_its_connection_alone(rt: HostRuntime) {
+fn a_stream_that_fails_closes_its_connection_alone(rt: HostRuntime) {
     for before in 0..CALLS {
         ends_at(&rt, rt.alloc(), before, Answer::Broken);
-    }
-}
-
-#[test]
-fn a_stream_that_moves_nothing_closes_its_connection_alone(rt: HostRuntime) {
-    for before in 0..CALLS {
         ends_at(&rt, rt.alloc(), before, Answer::Moves(0));
     }
 }
 
-// The call after so many others has an answer that closes the connection.
-fn ends_at(rt: &impl Abort, alloc: Global, before: u64, answer: Answer) {
-    let stream = stream_with(rt, alloc, before, answer);
-    let mut pair = served_beside(rt, alloc, stream, 16);
-    is_ended(rt, alloc, &mut pair, before.saturating_add(1));
-    drop(pair);
+// The call after so many others answers so, which closes no connection.
+fn waits_at(rt: &impl Abort, alloc: Global, before: u64, answer: Answer) {
+    let answers = [answer];
+    let waited = Play {
+        before,
+        answers: &answers,
+        ..DONE
+    };
+    let (counts, _) = run_play(rt, alloc, waited);
+    assert!(rt; counts.reads == READS && counts.writes == WRITES);
 }
 
 #[test]
@@ -99,10 +82,18 @@ fn a_stream_that_is_waited_for_changes_nothing(rt: HostRuntime) {
     }
 }
 
-// The call after so many others has an answer that closes no connection.
-fn waits_at(rt: &impl Abort, alloc: Global, before: u64, answer: Answer) {
-    let stream = stream_with(rt, alloc, before, answer);
-    let mut pair = served_beside(rt, alloc, stream, 16);
-    is_done(rt, alloc, &mut pair);
-    drop(pair);
+// Below the least frame, which has 7 bytes, and above the greatest, which has 1,048,576.
+const SIZES: [&str; 5] = ["00000000", "04000000", "06000000", "01001000", "ffffffff"];
+
+// What comes before is answered.
+#[test]
+fn a_broken_size_closes_its_connection(rt: HostRuntime) {
+    for size in SIZES {
+        let broken = Play {
+            rest: size,
+            is_closed: true,
+            ..PLAIN
+        };
+        run_play(&rt, rt.alloc(), broken);
+    }
 }

@@ -1,9 +1,9 @@
-//! Scripts over a guard with each request for memory refused in turn: a request that is answered
-//! `out of memory` is sent again, and an opening that was refused is made again.
+//! A script over a guard, frame by frame, where a request for memory is refused: a request that is
+//! answered `out of memory` is sent again, and an opening that was refused is made again.
 
-use crate::guard::plays::{Play, play_refused};
 use crate::guard::refusals::{is_refusal, may_run_out};
-use crate::guard::scripts::{SCRIPTS, Script, Step, step_of};
+use crate::guard::scripts::Script;
+use crate::scripts::{Step, step_of};
 use p9_export::{OpenError, is_frame};
 use p9_guard::Guard;
 use p9_testing::bytes_of;
@@ -19,21 +19,6 @@ fn open_again<T: Tree>(rt: &impl Abort, guard: &mut Guard<T>, session: u32) {
     }
 }
 
-// Answers a frame.
-fn answer<T: Tree>(
-    rt: &impl Abort,
-    guard: &mut Guard<T>,
-    session: u32,
-    frame: &[u8],
-    now: u32,
-    reply: &mut [u8],
-) -> usize {
-    assert!(rt; is_frame(frame));
-    let room = guard.reply_max(session).expect(rt, "a session");
-    assert!(rt; reply.len() >= room);
-    guard.answer(session, frame, now, reply)
-}
-
 // Answers a frame, again where an allocation failed.
 fn answer_again<T: Tree>(
     rt: &impl Abort,
@@ -43,12 +28,18 @@ fn answer_again<T: Tree>(
     now: u32,
     reply: &mut [u8],
 ) -> usize {
-    let size = answer(rt, guard, session, frame, now, reply);
-    if !is_refusal(frame, reply.get(..size).expect(rt, "a reply")) {
-        return size;
+    let mut size = 0;
+    for _ in 0..2 {
+        assert!(rt; is_frame(frame));
+        let room = guard.reply_max(session).expect(rt, "a session");
+        assert!(rt; reply.len() >= room);
+        size = guard.answer(session, frame, now, reply);
+        if !is_refusal(frame, reply.get(..size).unwrap_or(&[])) {
+            break;
+        }
+        assert!(rt; may_run_out(frame));
     }
-    assert!(rt; may_run_out(frame));
-    answer(rt, guard, session, frame, now, reply)
+    size
 }
 
 // Does the step of a line, and compares the reply.
@@ -56,20 +47,21 @@ fn step_again<T: Tree>(
     rt: &impl Abort,
     alloc: Global,
     guard: &mut Guard<T>,
-    line: &'static str,
+    line: &str,
     now: u32,
     reply: &mut [u8],
 ) {
     match step_of(rt, line) {
         Step::Open(session) => open_again(rt, guard, session),
+        Step::Close => (),
         Step::Send {
             session,
             request,
             reply: wanted,
         } => {
             let frame = bytes_of(alloc, request).expect(rt, "hexadecimal digits");
-            let size = answer_again(rt, guard, session, frame.as_slice(), now, reply);
             let wanted = bytes_of(alloc, wanted).expect(rt, "hexadecimal digits");
+            let size = answer_again(rt, guard, session, frame.as_slice(), now, reply);
             assert!(rt; reply.get(..size) == Some(wanted.as_slice()));
         }
     }
@@ -80,12 +72,5 @@ pub fn play_again<T: Tree>(rt: &impl Abort, alloc: Global, guard: &mut Guard<T>,
     let mut room = vec![in alloc; 0u8; 8_192].expect(rt, "memory");
     for line in script.steps.lines() {
         step_again(rt, alloc, guard, line, script.now, room.as_mut_slice());
-    }
-}
-
-#[test]
-fn a_guard_answers_again_at_each_refusal(rt: HostRuntime) {
-    for script in &SCRIPTS {
-        play_refused(&rt, rt.alloc(), script, Play::Again, 4);
     }
 }

@@ -1,7 +1,6 @@
 //! Lists of events, with their replies.
 
-use crate::guard::scripts::{Script, Step, step_of};
-use crate::guard::worlds::{ATTACH, Row, VERSION};
+use crate::scripts::{Step, step_of};
 use p9_export::Event;
 use p9_testing::bytes_of;
 use std::alloc::Global;
@@ -23,62 +22,43 @@ impl Run {
         }
     }
 
-    /// Adds an event without its reply.
-    pub fn add(&mut self, rt: &impl Abort, event: Event<Global>) {
-        assert!(rt; self.events.push(event).is_ok());
+    /// Adds an opening.
+    pub fn open(&mut self, rt: &impl Abort, session: u32) {
+        assert!(rt; self.events.push(Event::Open(session)).is_ok());
     }
 
-    /// Adds a request of a session at a reading of the clock, without its reply.
-    pub fn ask(&mut self, rt: &impl Abort, alloc: Global, session: u32, request: &str, now: u32) {
-        let frame = bytes_of(alloc, request).expect(rt, "hexadecimal digits");
-        self.add(rt, Event::Message(session, frame, now));
-    }
-
-    /// Adds a request of a session at a reading of the clock, with its reply.
+    /// Adds a request of a session at a reading of the clock, and its reply.
     pub fn send(
         &mut self,
         rt: &impl Abort,
-        alloc: Global,
         session: u32,
-        row: &(&str, &str),
+        frame: Vec<u8, Global>,
         now: u32,
+        reply: &[u8],
     ) {
-        self.ask(rt, alloc, session, row.0, now);
-        let reply = bytes_of(alloc, row.1).expect(rt, "hexadecimal digits");
-        self.answer(rt, reply.as_slice());
-    }
-
-    /// Adds a reply.
-    pub fn answer(&mut self, rt: &impl Abort, reply: &[u8]) {
+        let event = Event::Message(session, frame, now);
+        assert!(rt; self.events.push(event).is_ok());
         assert!(rt; self.replies.extend_from_slice(reply).is_ok());
     }
 }
 
-/// The whole script.
-pub fn whole(rt: &impl Abort, alloc: Global, script: &Script) -> Run {
+/// The whole of a script's steps.
+pub fn whole(rt: &impl Abort, alloc: Global, steps: &str, now: u32) -> Run {
     let mut run = Run::new(alloc);
-    for line in script.steps.lines() {
+    for line in steps.lines() {
         match step_of(rt, line) {
-            Step::Open(session) => run.add(rt, Event::Open(session)),
+            Step::Open(session) => run.open(rt, session),
+            Step::Close => (),
             Step::Send {
                 session,
                 request,
                 reply,
-            } => run.send(rt, alloc, session, &(request, reply), script.now),
+            } => {
+                let frame = bytes_of(alloc, request).expect(rt, "hexadecimal digits");
+                let reply = bytes_of(alloc, reply).expect(rt, "hexadecimal digits");
+                run.send(rt, session, frame, now, reply.as_slice());
+            }
         }
-    }
-    run
-}
-
-/// A run of session 1: it is opened, its version is set, glenda attaches fid 0, and the rows'
-/// requests come.
-pub fn session(rt: &impl Abort, alloc: Global, rows: &[Row]) -> Run {
-    let mut run = Run::new(alloc);
-    run.add(rt, Event::Open(1));
-    run.send(rt, alloc, 1, &VERSION, 0);
-    run.send(rt, alloc, 1, &ATTACH, 0);
-    for row in rows {
-        run.send(rt, alloc, 1, row, 0);
     }
     run
 }

@@ -1,11 +1,10 @@
 //! Scripts of sessions over a guard. Their worlds, requests and replies come from outside.
 
-use crate::guard::worlds::{Bind, CERTIFICATE, COVER, COVERED_VAULT, Scene};
+use crate::guard::worlds::{Bind, CERTIFICATE, COVER, COVERED_VAULT, Scene, VAULT};
+use crate::scripts::REMOVED;
 use p9_space::Order;
-use std::process::Abort;
 
-/// A scene, the reading of the clock, and the steps: each line opens a session, or has a session, a
-/// request of it, `>` and the reply, in hexadecimal digits.
+/// A scene, the reading of the clock, and the steps.
 #[derive(Clone, Copy)]
 pub struct Script {
     pub scene: Scene<'static>,
@@ -14,7 +13,7 @@ pub struct Script {
 }
 
 /// The scripts that are played with each request for memory refused in turn.
-pub const SCRIPTS: [Script; 6] = [
+pub const SCRIPTS: [Script; 8] = [
     Script {
         scene: Scene {
             world: TWO_UNIONS,
@@ -85,6 +84,26 @@ pub const SCRIPTS: [Script; 6] = [
         now: 7,
         steps: CHANGED,
     },
+    Script {
+        scene: Scene {
+            world: VAULT,
+            without_last: false,
+            certificate: CERTIFICATE,
+            bind: None,
+        },
+        now: 0,
+        steps: NEAR_THE_VAULT,
+    },
+    Script {
+        scene: Scene {
+            world: VAULT,
+            without_last: true,
+            certificate: CERTIFICATE,
+            bind: None,
+        },
+        now: 0,
+        steps: NEAR_THE_VAULT,
+    },
 ];
 
 // The sample world: /a is 1, /a/b is 2 and /a/f is 3.
@@ -134,29 +153,6 @@ open 1
     2b000000 6b 0600 2200 6d6f756e746564206469726563746f727920666f7262696473206372656174696f6e
 1 19000000 6e 0700 00000000 04000000 0200 0100 75 0300 6e6577 > \
     16000000 6f 0700 0100 80 00000000 0100000000000000
-";
-
-// One session removes the file that another one has open.
-const REMOVED: &str = "\
-open 1
-1 13000000 64 ffff 00200000 0600 395032303030 > 13000000 65 ffff 00200000 0600 395032303030
-1 19000000 68 0100 00000000 ffffffff 0600 676c656e6461 0000 > \
-    14000000 69 0100 80 00000000 0000000000000000
-open 2
-2 13000000 64 ffff 00200000 0600 395032303030 > 13000000 65 ffff 00200000 0600 395032303030
-2 19000000 68 0100 00000000 ffffffff 0600 676c656e6461 0000 > \
-    14000000 69 0100 80 00000000 0000000000000000
-2 17000000 6e 0200 00000000 01000000 0200 0100 61 0100 66 > \
-    23000000 6f 0200 0200 80 00000000 0100000000000000 00 00000000 0300000000000000
-2 0c000000 70 0300 01000000 00 > 18000000 71 0300 00 00000000 0300000000000000 e81f0000
-1 17000000 6e 0200 00000000 01000000 0200 0100 61 0100 66 > \
-    23000000 6f 0200 0200 80 00000000 0100000000000000 00 00000000 0300000000000000
-1 0b000000 7a 0300 01000000 > 07000000 7b 0300
-2 17000000 74 0400 01000000 0000000000000000 0a000000 > \
-    14000000 6b 0400 0b00 7068617365206572726f72
-2 0b000000 78 0500 01000000 > 07000000 79 0500
-2 17000000 6e 0600 00000000 01000000 0200 0100 61 0100 66 > \
-    16000000 6f 0600 0100 80 01000000 0100000000000000
 ";
 
 // A directory is bound over the hidden one, and a file beside it is made, renamed and removed.
@@ -233,31 +229,14 @@ open 1
     24000000 6b 0c00 1b00 61757468656e7469636174696f6e206e6f74207265717569726564
 ";
 
-/// A step of a script.
-#[derive(Clone, Copy)]
-pub enum Step {
-    Open(u32),
-    Send {
-        session: u32,
-        request: &'static str,
-        reply: &'static str,
-    },
-}
-
-/// The step of a line.
-pub fn step_of(rt: &impl Abort, line: &'static str) -> Step {
-    let (first, rest) = line.split_once(' ').expect(rt, "two words");
-    if first == "open" {
-        return Step::Open(session_of(rt, rest));
-    }
-    let (request, reply) = rest.split_once('>').expect(rt, "a request and its reply");
-    Step::Send {
-        session: session_of(rt, first),
-        request,
-        reply,
-    }
-}
-
-fn session_of(rt: &impl Abort, word: &str) -> u32 {
-    word.parse::<u32>().ok().expect(rt, "a session")
-}
+// The vault is walked to, and its removal is refused before its entries are looked at: so nothing
+// tells whether its key, the last node of the world, is gone.
+const NEAR_THE_VAULT: &str = "\
+open 1
+1 13000000 64 ffff 00200000 0600 395032303030 > 13000000 65 ffff 00200000 0600 395032303030
+1 19000000 68 0100 00000000 ffffffff 0600 676c656e6461 0000 > \
+    14000000 69 0100 80 00000000 0000000000000000
+1 18000000 6e 0200 00000000 01000000 0100 0500 7661756c74 > \
+    16000000 6f 0200 0100 80 00000000 0200000000000000
+1 0b000000 7a 0300 01000000 > 1a000000 6b 0300 1100 7065726d697373696f6e2064656e696564
+";

@@ -1,30 +1,29 @@
-//! Lists of events with each request for memory refused in turn. A run that stopped goes on with
-//! the events that are left. Its bytes are then those of a run without a refusal over the list
-//! without the openings and the requests that were refused, and at the place of each such request
-//! the reply `out of memory`.
+//! A list of events over a guard, where a request for memory is refused. A run that stopped goes
+//! on with the events that are left. Its bytes are then those of a run without a refusal over the
+//! list without the openings and the requests that were refused, and at the place of each such
+//! request the reply `out of memory`.
 
-use crate::guard::both::{plain_replies, run};
-use crate::guard::plays::{Play, play_refused};
 use crate::guard::refusals::{is_refusal, may_run_out};
 use crate::guard::runs::{Run, whole};
-use crate::guard::scripts::{SCRIPTS, Script, Step, step_of};
+use crate::guard::scripts::Script;
+use crate::guard::worlds::guard_of;
+use crate::scripts::{Step, step_of};
 use byteorder::{ByteOrder, LittleEndian};
 use p9_export::Event;
 use p9_guard::{Guard, Stopped};
-use p9_testing::bytes_of;
+use p9_testing::{Refusing, bytes_of};
 use p9_tree::Tree;
-use std::alloc::Global;
+use std::alloc::{Allocator, Global};
 use std::process::Abort;
 
 // The first of the replies, and those after it.
 fn split_reply<'a>(rt: &impl Abort, replies: &'a [u8]) -> (&'a [u8], &'a [u8]) {
     assert!(rt; replies.len() >= 4);
     let size = LittleEndian::read_u32(replies) as usize;
-    assert!(rt; replies.len() >= size);
-    replies.split_at(size)
+    replies.split_at_checked(size).expect(rt, "a reply")
 }
 
-// Adds a request that was not refused, with its reply. Returns the replies to the later requests.
+// Adds a request with its reply, if it was not refused. Returns the replies to the later requests.
 fn keep_message<'a>(
     rt: &impl Abort,
     alloc: Global,
@@ -39,8 +38,7 @@ fn keep_message<'a>(
     if is_refusal(frame.as_slice(), reply) {
         assert!(rt; may_run_out(frame.as_slice()));
     } else {
-        kept.ask(rt, alloc, session, request, now);
-        kept.answer(rt, reply);
+        kept.send(rt, session, frame, now, reply);
     }
     behind
 }
@@ -58,22 +56,15 @@ fn kept<T: Tree>(
     let mut rest = replies;
     for line in script.steps.lines() {
         match step_of(rt, line) {
-            Step::Open(session) => {
-                if guard.live(session) {
-                    kept.add(rt, Event::Open(session));
-                }
-            }
+            Step::Open(session) if guard.live(session) => kept.open(rt, session),
             Step::Send {
                 session,
                 request,
                 ..
-            } => {
-                if guard.live(session) {
-                    rest = keep_message(rt, alloc, &mut kept, session, request, script.now, rest);
-                } else {
-                    kept.ask(rt, alloc, session, request, script.now);
-                }
+            } if guard.live(session) => {
+                rest = keep_message(rt, alloc, &mut kept, session, request, script.now, rest);
             }
+            _ => (),
         }
     }
     assert!(rt; rest.is_empty());
@@ -87,47 +78,60 @@ fn run_on<T: Tree>(
     events: &[Event<Global>],
     bytes: &mut Vec<u8, T::Alloc>,
 ) {
-    if let Err(Stopped { done }) = guard.run(events, bytes) {
-        let rest = events.get(done..).expect(rt, "events");
-        assert!(rt; matches!(rest.first(), Some(Event::Message(_, _, _))));
-        run(rt, guard, rest, bytes);
+    let mut rest = events;
+    for _ in 0..2 {
+        match guard.run(rest, bytes) {
+            Ok(()) => return,
+            Err(Stopped { done }) => {
+                rest = rest.get(done..).unwrap_or(&[]);
+                assert!(rt; matches!(rest.first(), Some(Event::Message(_, _, _))));
+            }
+        }
     }
+    panic!(rt; "stopped twice")
 }
 
-// Does events where memory is not refused, and compares the replies.
-fn is_undisturbed(rt: &impl Abort, alloc: Global, script: &Script, run: &Run) {
-    let replies = plain_replies(rt, alloc, &script.scene, run.events.as_slice(), 1);
-    assert!(rt; replies.as_slice() == run.replies.as_slice());
+// A new guard, where memory is not refused, makes of these events their replies.
+fn is_answered<T: Tree>(rt: &impl Abort, lent: T::Alloc, script: &Script, run: &Run) {
+    let mut guard = guard_of::<T>(rt, lent, &script.scene);
+    let mut bytes = Vec::new(lent);
+    assert!(rt; guard.run(run.events.as_slice(), &mut bytes) == Ok(()));
+    assert!(rt; bytes.as_slice() == run.replies.as_slice());
+    drop(guard);
 }
 
-/// Runs the script, and what was not refused of it where memory is not refused.
-pub fn run_refused<T: Tree>(
+// Runs the script. Without a refusal these are its replies.
+fn run_whole<T: Tree, B: Allocator>(
     rt: &impl Abort,
     alloc: Global,
-    guard: &mut Guard<T>,
+    memory: &Refusing<B>,
     lent: T::Alloc,
+    guard: &mut Guard<T>,
     script: &Script,
-) {
-    let whole = whole(rt, alloc, script);
+) -> Vec<u8, T::Alloc> {
+    let whole = whole(rt, alloc, script.steps, script.now);
     let mut bytes = Vec::new(lent);
     run_on(rt, guard, whole.events.as_slice(), &mut bytes);
+    assert!(rt; memory.has_refused() || bytes.as_slice() == whole.replies.as_slice());
     drop(whole);
+    bytes
+}
+
+/// Runs the script, and then what was not refused of it where memory is not refused. Returns
+/// whether a request was refused.
+pub fn run_refused<T: Tree, B: Allocator>(
+    rt: &impl Abort,
+    alloc: Global,
+    memory: &Refusing<B>,
+    lent: T::Alloc,
+    guard: &mut Guard<T>,
+    script: &Script,
+) -> bool {
+    let bytes = run_whole(rt, alloc, memory, lent, guard, script);
+    let was_refused = memory.has_refused();
+    memory.refuse(0);
     let kept = kept(rt, alloc, guard, script, bytes.as_slice());
-    is_undisturbed(rt, alloc, script, &kept);
+    is_answered::<T>(rt, lent, script, &kept);
     drop(kept);
-}
-
-// The whole script gives its replies.
-fn is_whole(rt: &impl Abort, alloc: Global, script: &Script) {
-    let whole = whole(rt, alloc, script);
-    is_undisturbed(rt, alloc, script, &whole);
-    drop(whole);
-}
-
-#[test]
-fn a_run_goes_on_after_each_refusal(rt: HostRuntime) {
-    for script in &SCRIPTS {
-        is_whole(&rt, rt.alloc(), script);
-        play_refused(&rt, rt.alloc(), script, Play::List, 5);
-    }
+    was_refused
 }

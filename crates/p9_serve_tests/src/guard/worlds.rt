@@ -5,15 +5,12 @@
 
 use p9_base::NodeRef;
 use p9_cert::{Certificate, read_cert};
-use p9_guard::Guard;
+use p9_guard::{Cause, Guard};
 use p9_space::{MountTable, Order};
 use p9_tree::Tree;
 use p9_world::{World, read_world};
 use std::alloc::Allocator;
 use std::process::Abort;
-
-/// A request and its reply, as hexadecimal digits from outside.
-pub type Row = (&'static str, &'static str);
 
 /// The root and a public directory, which is 1, beside a vault, which is 2, with its key.
 pub const VAULT: &str = "\
@@ -39,18 +36,6 @@ hide main /vault
 
 /// The certificate of the root and of node 1.
 pub const CERTIFICATE: &str = "cert 1\ndir 0 0\ndir 0 1\n";
-
-/// A client asks for an msize of 8,192.
-pub const VERSION: Row = (
-    "13000000 64 ffff 00200000 0600 395032303030",
-    "13000000 65 ffff 00200000 0600 395032303030",
-);
-
-/// Glenda attaches fid 0.
-pub const ATTACH: Row = (
-    "19000000 68 0100 00000000 ffffffff 0600 676c656e6461 0000",
-    "14000000 69 0100 80 00000000 0000000000000000",
-);
 
 /// A node of server 0 that is bound at the place of another, in this order, with or without
 /// creation.
@@ -79,20 +64,19 @@ pub struct Scene<'a> {
     pub bind: Option<Bind>,
 }
 
-/// The world of a text, read again where an allocation failed.
-pub fn world_of<T: Tree>(rt: &impl Abort, alloc: T::Alloc, text: &str) -> World<T> {
-    match read_world(alloc, text) {
+// The world of a text, read again where an allocation failed.
+fn world_of<T: Tree>(rt: &impl Abort, lent: T::Alloc, text: &str) -> World<T> {
+    match read_world(lent, text) {
         Ok(world) => world,
-        Err(_) => read_world(alloc, text).expect(rt, "a world"),
+        Err(_) => read_world(lent, text).expect(rt, "a world"),
     }
 }
 
-// Takes node 3 out of a world, if the scene is without it.
-fn take_out<T: Tree>(rt: &impl Abort, world: &mut World<T>, scene: &Scene<'_>) {
-    if scene.without_last {
-        drop_leaf(rt, world, node_ref(3));
-        assert!(rt; world.forest.node(node_ref(3)).is_none() && world.forest.next_of(0) == 4);
-    }
+// Takes node 3, which is the last one and a leaf, out of a world.
+fn take_out<T: Tree>(rt: &impl Abort, world: &mut World<T>) {
+    let last = node_ref(3);
+    drop_leaf(rt, world, last);
+    assert!(rt; world.forest.node(last).is_none() && world.forest.next_of(0) == 4);
 }
 
 // Takes a file or an empty directory out of its server.
@@ -102,13 +86,9 @@ fn drop_leaf<T: Tree>(rt: &impl Abort, world: &mut World<T>, at: NodeRef) {
     world.forest.drop_leaf(at);
 }
 
-/// A mount table with a bind, if there is one. It is bound again where an allocation failed.
-pub fn table_of<A: Allocator + Copy>(
-    rt: &impl Abort,
-    alloc: A,
-    bind: Option<Bind>,
-) -> MountTable<A> {
-    let mut table = MountTable::new(alloc);
+// A mount table with a bind, if there is one. It is bound again where an allocation failed.
+fn table_of<A: Allocator + Copy>(rt: &impl Abort, lent: A, bind: Option<Bind>) -> MountTable<A> {
+    let mut table = MountTable::new(lent);
     if let Some(bind) = bind {
         let (key, nodes) = (node_ref(bind.key), [node_ref(bind.node)]);
         if table.bind(key, &nodes, bind.order, bind.create).is_err() {
@@ -123,40 +103,30 @@ fn node_ref(number: u64) -> NodeRef {
     NodeRef { server: 0, number }
 }
 
-/// The certificate of a text, read again where an allocation failed.
-pub fn certificate_of<A: Allocator + Copy>(
-    rt: &impl Abort,
-    alloc: A,
-    text: &str,
-) -> Certificate<A> {
-    match read_cert(alloc, text) {
+// The certificate of a text, read again where an allocation failed.
+fn certificate_of<A: Allocator + Copy>(rt: &impl Abort, lent: A, text: &str) -> Certificate<A> {
+    match read_cert(lent, text) {
         Ok(certificate) => certificate,
-        Err(_) => read_cert(alloc, text).expect(rt, "a certificate"),
+        Err(_) => read_cert(lent, text).expect(rt, "a certificate"),
     }
 }
 
 /// The guard of a scene, whose certificate is good. It is made again where an allocation failed.
-pub fn guard_of<T: Tree>(rt: &impl Abort, alloc: T::Alloc, scene: &Scene<'_>) -> Guard<T> {
-    let mut world = world_of::<T>(rt, alloc, scene.world);
-    take_out(rt, &mut world, scene);
-    let table = table_of(rt, alloc, scene.bind);
-    let certificate = certificate_of(rt, alloc, scene.certificate);
+pub fn guard_of<T: Tree>(rt: &impl Abort, lent: T::Alloc, scene: &Scene<'_>) -> Guard<T> {
+    let mut world = world_of::<T>(rt, lent, scene.world);
+    if scene.without_last {
+        take_out(rt, &mut world);
+    }
+    let table = table_of(rt, lent, scene.bind);
+    let certificate = certificate_of(rt, lent, scene.certificate);
     match Guard::new(world, table, certificate) {
         Ok(guard) => guard,
-        Err((world, table, _)) => guard_with(rt, alloc, world, table, scene.certificate),
+        Err((world, table, cause)) => {
+            assert!(rt; cause == Cause::NoMemory);
+            let certificate = certificate_of(rt, lent, scene.certificate);
+            Guard::new(world, table, certificate)
+                .ok()
+                .expect(rt, "a guard")
+        }
     }
-}
-
-/// The guard of a world and a mount table for which the certificate is good.
-pub fn guard_with<T: Tree>(
-    rt: &impl Abort,
-    alloc: T::Alloc,
-    world: World<T>,
-    table: MountTable<T::Alloc>,
-    certificate: &str,
-) -> Guard<T> {
-    let certificate = certificate_of(rt, alloc, certificate);
-    Guard::new(world, table, certificate)
-        .ok()
-        .expect(rt, "a guard")
 }

@@ -17,16 +17,26 @@ pub trait Server: Drop {
     ) -> io::Result<()>;
 }
 
+/// What a test sees of a stream to a server.
+pub trait Seen: Stream + Drop {
+    type Server: Server;
+
+    /// The server.
+    fn server(&self) -> &Self::Server;
+
+    /// How many bytes were written.
+    fn written(&self) -> usize;
+}
+
 /// A stream to a server. What was written is answered when a reply is to be read and none is left.
 #[derive(Drop)]
 pub struct Answered<S: Server> {
-    pub server: S,
+    server: S,
     /// The number of the call that fails.
     pub broken: usize,
     /// How many bytes a call moves at most.
     pub most: usize,
-    /// How many bytes were written.
-    pub written: usize,
+    written: usize,
     calls: usize,
     // What was written and is not answered yet.
     input: Vec<u8, Global>,
@@ -99,6 +109,18 @@ impl<S: Server> Stream for Answered<S> {
 
     fn send(&mut self, bytes: &[u8]) -> io::Result<usize> {
         self.write(bytes)
+    }
+}
+
+impl<S: Server> Seen for Answered<S> {
+    type Server = S;
+
+    fn server(&self) -> &S {
+        &self.server
+    }
+
+    fn written(&self) -> usize {
+        self.written
     }
 }
 

@@ -2,8 +2,8 @@
 
 use p9_client::{ClientError, FileError};
 
-/// The name of an error of a session.
-pub fn kind_of(error: &ClientError) -> &'static str {
+// The name of an error of a session.
+fn kind_of(error: &ClientError) -> &'static str {
     match error {
         ClientError::Refused(_) => "refused",
         ClientError::TooLong => "too long",

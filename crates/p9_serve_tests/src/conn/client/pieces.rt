@@ -32,6 +32,22 @@ pub enum Fault {
     Silent,
 }
 
+/// What this word says.
+pub fn fault_of(word: &str) -> Fault {
+    match word {
+        "short" => Fault::Short,
+        "refused" => Fault::Refused,
+        "refused_and_other" => Fault::RefusedAndOther,
+        "late" => Fault::Late,
+        "backwards" => Fault::Backwards,
+        "other_tag" => Fault::OtherTag,
+        "again" => Fault::Again,
+        "more" => Fault::More,
+        "other_type" => Fault::OtherType,
+        _ => Fault::Nothing,
+    }
+}
+
 /// A server of one file.
 #[derive(Drop)]
 pub struct Pieces {

@@ -2,18 +2,80 @@
 
 use crate::conn::client::answered::{Answered, Server};
 use crate::conn::client::kinds::outcome;
-use crate::conn::client::served::{attach, serve};
-use p9_client::{ClientError, Entry, FileError, Session};
-use p9_wire::Stat;
+use p9_base::{DMDIR, Qid};
+use p9_client::{ClientError, FileError, Session, Stream};
+use p9_guard::Guard;
+use p9_serve::served_guard;
+use p9_tree::Tree;
+use p9_wire::{Frame, Stat, frame_of};
 use std::alloc::{Allocator, Global};
+use std::io;
 use std::process::Abort;
+
+// The name of the guard's one session.
+const SESSION: u32 = 1;
+
+// A directory that all may write, with a file of glenda's, a directory that only sys may read, and
+// one that has one.
+const INPUT: &str = "\
+%% world
+server main
+dir /pub 777 sys sys
+file /pub/hello 644 glenda glenda 68656c6c6f
+dir /shut 700 sys sys
+dir /pub/sub 755 glenda glenda
+user glenda
+%% cert
+cert 1
+dir 0 0
+dir 0 1
+dir 0 3
+dir 0 4
+";
+
+// A guard, whose one session is served.
+#[derive(Drop)]
+struct Served<T: Tree> {
+    guard: Guard<T>,
+}
+
+impl<T: Tree> Server for Served<T> {
+    fn answer(
+        &mut self,
+        input: &mut Vec<u8, Global>,
+        output: &mut Vec<u8, Global>,
+    ) -> io::Result<()> {
+        let taken = answer_first(&mut self.guard, input.as_slice(), output)?;
+        *input = input.split_off(taken.min(input.len()))?;
+        Ok(())
+    }
+}
+
+// Makes the reply of a guard to the first request, if it is whole. Returns how many bytes that has.
+fn answer_first<T: Tree>(
+    guard: &mut Guard<T>,
+    input: &[u8],
+    output: &mut Vec<u8, Global>,
+) -> io::Result<usize> {
+    let Frame::Whole(size) = frame_of(input) else {
+        return Ok(0);
+    };
+    let size = size.min(input.len());
+    let Some(room) = guard.reply_max(SESSION) else {
+        return Ok(0);
+    };
+    output.resize(room, 0)?;
+    let len = guard.answer(SESSION, &input[..size], 0, output.as_mut_slice());
+    output.truncate(len);
+    Ok(size)
+}
 
 // A stat that changes nothing but the name.
 fn renaming(name: &str) -> Stat<'_> {
     Stat {
         kind: u16::MAX,
         dev: u32::MAX,
-        qid: p9_base::Qid {
+        qid: Qid {
             kind: u8::MAX,
             version: u32::MAX,
             path: u64::MAX,
@@ -29,66 +91,22 @@ fn renaming(name: &str) -> Stat<'_> {
     }
 }
 
-/// Makes a fid for the file of a path, and opens it for reading.
-pub fn open_path<S: Server, A: Allocator + Copy>(
-    session: &mut Session<Answered<S>, A>,
-    fid: u32,
-    path: &[&str],
+// A file is made, and six bytes are written to it.
+fn is_made<S: Stream + Drop, A: Allocator + Copy>(
+    session: &mut Session<S, A>,
 ) -> Result<(), FileError> {
-    session.walk_path(0, fid, path)?;
-    session.open(fid, 0)?;
-    Ok(())
-}
-
-/// The bytes of the file of a path.
-pub fn contents<S: Server>(
-    rt: &impl Abort,
-    alloc: Global,
-    session: &mut Session<Answered<S>, Global>,
-    path: &[&str],
-) -> Result<Vec<u8>, FileError> {
-    open_path(session, 1, path)?;
-    let mut out = Vec::new(alloc);
-    let count = session.read_to(1, &mut out)?;
-    session.clunk(1)?;
-    assert!(rt; count == out.len() as u64);
-    Ok(out)
-}
-
-/// The entries of the directory of a path.
-pub fn entries<S: Server>(
-    alloc: Global,
-    session: &mut Session<Answered<S>, Global>,
-    path: &[&str],
-) -> Result<Vec<Entry<Global>>, FileError> {
-    open_path(session, 1, path)?;
-    let entries = session.list(alloc, 1);
-    session.clunk(1)?;
-    entries
-}
-
-/// Makes a file in the directory of a path, opens it in this mode, and writes these bytes. Where
-/// there are none, nothing is written, so that a directory is made too.
-pub fn make<S: Server>(
-    session: &mut Session<Answered<S>, Global>,
-    path: &[&str],
-    name: &str,
-    perm: u32,
-    mode: u8,
-    bytes: &[u8],
-) -> Result<(), FileError> {
-    session.walk_path(0, 1, path)?;
-    session.create(1, name, perm, mode)?;
-    session.write_whole(1, bytes)?;
+    session.walk_path(0, 1, &["pub"])?;
+    session.create(1, "note", 0o644, 1)?;
+    session.write_whole(1, b"a note")?;
     session.clunk(1)?;
     Ok(())
 }
 
-// Gives a file another name.
-fn is_renamed<S: Server>(
+// It gets another name.
+fn is_renamed<S: Stream + Drop, A: Allocator + Copy>(
     rt: &impl Abort,
-    alloc: Global,
-    session: &mut Session<Answered<S>, Global>,
+    alloc: A,
+    session: &mut Session<S, A>,
 ) -> Result<(), FileError> {
     session.walk_path(0, 1, &["pub", "note"])?;
     session.wstat(1, renaming("other"))?;
@@ -101,49 +119,60 @@ fn is_renamed<S: Server>(
     Ok(())
 }
 
-// Removes it.
-fn ends<S: Server>(
-    rt: &impl Abort,
-    session: &mut Session<Answered<S>, Global>,
+// A directory is made beside it.
+fn is_joined<S: Stream + Drop, A: Allocator + Copy>(
+    session: &mut Session<S, A>,
 ) -> Result<(), FileError> {
+    session.walk_path(0, 1, &["pub"])?;
+    session.create(1, "more", DMDIR | 0o755, 0)?;
+    session.clunk(1)?;
+    Ok(())
+}
+
+// The directory that all may write has its entries, in the order in which they were made.
+fn is_listed<S: Stream + Drop, A: Allocator + Copy>(
+    rt: &impl Abort,
+    alloc: A,
+    session: &mut Session<S, A>,
+) -> Result<(), FileError> {
+    session.walk_path(0, 1, &["pub"])?;
+    session.open(1, 0)?;
+    let entries = session.list(alloc, 1)?;
+    let names = [
+        ("hello", false),
+        ("sub", true),
+        ("other", false),
+        ("more", true),
+    ];
+    let found = entries
+        .iter()
+        .map(|entry| (entry.name.as_str(), entry.is_dir()));
+    assert!(rt; found.eq(names.iter().copied()));
+    session.clunk(1)?;
+    Ok(())
+}
+
+// The file is read and removed.
+fn ends<S: Stream + Drop, A: Allocator + Copy>(
+    rt: &impl Abort,
+    alloc: A,
+    session: &mut Session<S, A>,
+) -> Result<(), FileError> {
+    let mut out = Vec::new(alloc);
     session.walk_path(0, 1, &["pub", "other"])?;
+    session.open(1, 0)?;
+    session.read_to(1, &mut out)?;
+    assert!(rt; out.as_slice() == b"a note".as_slice());
     session.remove(1)?;
     let gone = outcome(&session.walk_path(0, 1, &["pub", "other"]));
     assert!(rt; gone == "not walked" && !session.is_failed());
     Ok(())
 }
 
-// A file is made, gets another name, is read, and is removed.
-fn lives<S: Server>(
-    rt: &impl Abort,
-    alloc: Global,
-    session: &mut Session<Answered<S>, Global>,
-) -> Result<(), FileError> {
-    make(session, &["pub"], "note", 0o644, 1, b"a note")?;
-    is_renamed(rt, alloc, session)?;
-    let note = contents(rt, alloc, session, &["pub", "other"])?;
-    assert!(rt; note.as_slice() == b"a note".as_slice());
-    ends(rt, session)
-}
-
-// A file's life over a stream whose calls move at most so many bytes.
-fn lives_by<S: Server>(rt: &impl Abort, alloc: Global, mut stream: Answered<S>, most: usize) {
-    stream.most = most;
-    let mut session = attach(rt, alloc, stream);
-    lives(rt, alloc, &mut session).expect(rt, "a life");
-}
-
-#[test]
-fn a_file_lives(rt: HostRuntime) {
-    for most in [usize::MAX, 1] {
-        lives_by(&rt, rt.alloc(), serve(&rt, rt.alloc()), most);
-    }
-}
-
 // A directory that only sys may read is walked to and not opened. A name with a NUL has no message.
-fn is_refused<S: Server>(
+fn is_refused<S: Stream + Drop, A: Allocator + Copy>(
     rt: &impl Abort,
-    session: &mut Session<Answered<S>, Global>,
+    session: &mut Session<S, A>,
 ) -> Result<(), FileError> {
     session.walk_path(0, 1, &["shut"])?;
     let is_denied = match &session.open(1, 0) {
@@ -156,43 +185,12 @@ fn is_refused<S: Server>(
     Ok(())
 }
 
-// A session over this stream is refused what it may not do.
-fn is_refused_over<S: Server>(rt: &impl Abort, alloc: Global, stream: Answered<S>) {
-    let mut session = attach(rt, alloc, stream);
-    is_refused(rt, &mut session).expect(rt, "a refusal");
-}
-
-#[test]
-fn a_refusal_has_the_servers_text(rt: HostRuntime) {
-    is_refused_over(&rt, rt.alloc(), serve(&rt, rt.alloc()));
-}
-
-// The directory that all may write has its entries.
-fn is_listed<S: Server>(rt: &impl Abort, alloc: Global, stream: Answered<S>) {
-    let mut session = attach(rt, alloc, stream);
-    let entries = entries(alloc, &mut session, &["pub"]).expect(rt, "a listing");
-    are_hello_and_sub(rt, entries.as_slice());
-}
-
-// A file `hello` and a directory `sub`.
-fn are_hello_and_sub(rt: &impl Abort, entries: &[Entry<Global>]) {
-    let [hello, sub] = entries else {
-        panic!(rt; "two entries");
-    };
-    let is_hello = hello.name.as_str() == "hello" && !hello.is_dir();
-    assert!(rt; is_hello && sub.name.as_str() == "sub" && sub.is_dir());
-}
-
-#[test]
-fn a_directory_is_listed(rt: HostRuntime) {
-    is_listed(&rt, rt.alloc(), serve(&rt, rt.alloc()));
-}
-
-// The twentieth of forty names isn't there. The new fid is none then, and the first one is where it was.
-fn leads_nowhere<S: Server>(
+// The twentieth of forty names isn't there. The new fid is none then, and the first one is where
+// it was.
+fn leads_nowhere<S: Stream + Drop, A: Allocator + Copy>(
     rt: &impl Abort,
-    alloc: Global,
-    session: &mut Session<Answered<S>, Global>,
+    alloc: A,
+    session: &mut Session<S, A>,
 ) -> Result<(), FileError> {
     let mut path = [".."; 40];
     path[19] = "missing";
@@ -205,13 +203,47 @@ fn leads_nowhere<S: Server>(
     Ok(())
 }
 
-// A long path over this stream.
-fn leads_nowhere_over<S: Server>(rt: &impl Abort, alloc: Global, stream: Answered<S>) {
-    let mut session = attach(rt, alloc, stream);
-    leads_nowhere(rt, alloc, &mut session).expect(rt, "a walk");
+// The life of a session, in which glenda attaches fid 0.
+fn lives<S: Stream + Drop, A: Allocator + Copy>(
+    rt: &impl Abort,
+    alloc: A,
+    session: &mut Session<S, A>,
+) -> Result<(), FileError> {
+    assert!(rt; session.version()? == 8_192);
+    session.attach(0, "glenda", "")?;
+    is_made(session)?;
+    is_renamed(rt, alloc, session)?;
+    is_joined(session)?;
+    is_listed(rt, alloc, session)?;
+    ends(rt, alloc, session)?;
+    is_refused(rt, session)?;
+    leads_nowhere(rt, alloc, session)
+}
+
+// A session's life over this stream.
+fn lives_over<S: Stream + Drop>(rt: &impl Abort, alloc: Global, stream: S) {
+    let mut session = Session::new(alloc, stream, 8_192).expect(rt, "memory");
+    lives(rt, alloc, &mut session).expect(rt, "a life");
+}
+
+// A session's life with a guard, over a stream whose calls move at most so many bytes.
+fn lives_by<T: Tree>(rt: &impl Abort, alloc: Global, mut guard: Guard<T>, most: usize) {
+    assert!(rt; guard.open(SESSION).is_ok());
+    let mut stream = Answered::new(alloc, Served { guard });
+    stream.most = most;
+    lives_over(rt, alloc, stream);
+}
+
+// The same with a new guard.
+fn lives_anew(rt: &impl Abort, alloc: Global, most: usize) {
+    let mut reported = Vec::new(alloc);
+    let guard = served_guard(INPUT.as_bytes(), &mut reported).expect(rt, "memory");
+    lives_by(rt, alloc, guard.expect(rt, "a guard"), most);
 }
 
 #[test]
-fn a_long_path_that_leads_nowhere_makes_no_fid(rt: HostRuntime) {
-    leads_nowhere_over(&rt, rt.alloc(), serve(&rt, rt.alloc()));
+fn a_file_lives(rt: HostRuntime) {
+    for most in [usize::MAX, 1] {
+        lives_anew(&rt, rt.alloc(), most);
+    }
 }
