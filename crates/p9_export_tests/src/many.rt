@@ -74,5 +74,5 @@ fn many_files_are_made_and_changed_at_each_refusal(rt: HostRuntime) {
     let (plain, index) = refusals_with(&rt, rt.alloc(), rows.as_str());
     drop(rows);
     let files = u64::from(FILES);
-    assert!(rt; plain > 8 * files && index > plain + 8, "{plain}, {index}");
+    assert!(rt; plain > 4 * files && index > plain, "{plain}, {index}");
 }
