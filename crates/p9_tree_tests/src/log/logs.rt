@@ -108,8 +108,7 @@ fn does<D: Device>(log: &mut Log<D>, step: Step<'_>) -> bool {
         Step::AddToDraft(bytes) => draft(log, bytes).is_ok(),
         Step::PutDraft => log.put_draft().is_ok(),
         Step::HasNoDraft => {
-            draft(log, &[4]) == Err(LogError::NoDraft)
-                && log.put_draft() == Err(LogError::NoDraft)
+            draft(log, &[4]) == Err(LogError::NoDraft) && log.put_draft() == Err(LogError::NoDraft)
         }
     }
 }
