@@ -87,21 +87,16 @@ fn is_played<T: Tree, B: Allocator>(
 }
 
 // The same, over a tree of each kind.
-fn is_played_on_both(
+fn is_played_on_both<B: Allocator>(
     rt: &impl Abort,
     alloc: Global,
     heap: &LocalHeap,
+    memory: &Refusing<B>,
     script: &Script,
     play: Play,
 ) {
-    let memory = Refusing::new(heap);
-    let lent = &memory;
-    is_played::<PlainTree<&Refusing<&LocalHeap>>, &LocalHeap>(
-        rt, alloc, heap, lent, lent, script, play,
-    );
-    is_played::<IndexTree<&Refusing<&LocalHeap>>, &LocalHeap>(
-        rt, alloc, heap, lent, lent, script, play,
-    );
+    is_played::<PlainTree<&Refusing<B>>, B>(rt, alloc, heap, memory, memory, script, play);
+    is_played::<IndexTree<&Refusing<B>>, B>(rt, alloc, heap, memory, memory, script, play);
 }
 
 #[test]
@@ -109,7 +104,8 @@ fn a_guard_does_again_what_was_refused(rt: HostRuntime) {
     let heap = LocalHeap::new(rt.alloc(), 1 << 20).expect(&rt, "memory");
     for script in &SCRIPTS {
         for play in [Play::Make, Play::Again, Play::List] {
-            is_played_on_both(&rt, rt.alloc(), &heap, script, play);
+            let memory = Refusing::new(&heap);
+            is_played_on_both(&rt, rt.alloc(), &heap, &memory, script, play);
         }
     }
 }
