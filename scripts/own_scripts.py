@@ -12,8 +12,8 @@ from pathlib import Path
 REPOSITORY = Path(__file__).resolve().parent.parent
 # The scripts with their words, and the seconds that each may take.
 SCRIPTS = (
-    "trusted --check", "program", "pack", "pages", "pictures", "completions --check", "misled", "hostile-server", "daemon", "kept",
-    "unpack",
+    "trusted --check", "program", "pack", "pages", "pictures", "completions --check", "misled", "faults 200", "hostile-server", "daemon",
+    "kept", "unpack",
 )
 # Those that the gate runs too, which take too long over programs that are built without a proof.
 OF_THE_GATE = ("large", "soak --kept --minutes 0.3")
