@@ -1,39 +1,26 @@
 //! What is reported of a failure, to writers that take all of it or fail.
 
+use crate::conn::{Answer, Scripted, Tape};
 use p9_serve::report_failure;
 use std::alloc::Global;
 use std::io;
-use std::io::{ErrorKind, Write};
+use std::io::ErrorKind;
 use std::process::Abort;
 
-// A writer that takes a byte a call, of which every second one is interrupted. It fails where its
-// room is used up.
-#[derive(Drop)]
-struct Narrow {
-    taken: Vec<u8, Global>,
-    room: usize,
-    is_interrupted: bool,
+// A stream that takes so many bytes, one a call, of which every second one is interrupted. Then it fails.
+fn narrow<S: Tape>(rt: &impl Abort, alloc: Global, room: usize) -> S {
+    let mut stream = S::new(alloc, Vec::new(alloc), 1);
+    for _ in 0..room {
+        for answer in [Answer::Interrupted, Answer::Moves(1)] {
+            assert!(rt; stream.then(answer).is_ok());
+        }
+    }
+    assert!(rt; stream.then(Answer::Broken).is_ok());
+    stream
 }
 
-impl Write for Narrow {
-    fn write(&mut self, buf: &[u8]) -> io::Result<usize> {
-        self.is_interrupted = !self.is_interrupted;
-        if self.is_interrupted {
-            return Err(io::Error::from(ErrorKind::Interrupted));
-        }
-        if self.taken.len() >= self.room {
-            return Err(io::Error::from(ErrorKind::Other));
-        }
-        self.taken.write(&buf[..buf.len().min(1)])
-    }
-
-    fn flush(&mut self) -> io::Result<()> {
-        Ok(())
-    }
-}
-
-// Compares the status of a failure, and what a writer of so much room got.
-fn is_reported(
+// Compares the status of a failure, and what a stream of so much room got.
+fn is_reported<S: Tape>(
     rt: &impl Abort,
     alloc: Global,
     kind: ErrorKind,
@@ -41,13 +28,10 @@ fn is_reported(
     status: u8,
     text: &str,
 ) {
-    let mut narrow = Narrow {
-        taken: Vec::new(alloc),
-        room,
-        is_interrupted: false,
-    };
-    assert!(rt; report_failure(&io::Error::from(kind), &mut narrow) == status);
-    assert!(rt; narrow.taken.as_slice() == text.as_bytes());
+    let mut stream: S = narrow(rt, alloc, room);
+    let found = report_failure(&io::Error::from(kind), &mut stream);
+    assert!(rt; found == status && stream.output() == text.as_bytes());
+    drop(stream);
 }
 
 // A failure, how many bytes a writer takes, the status, and what it got.
@@ -62,6 +46,6 @@ const FAILURES: [(ErrorKind, usize, u8, &str); 5] = [
 #[test]
 fn a_failure_is_reported_as_far_as_the_writer_takes_it(rt: HostRuntime) {
     for (kind, room, status, text) in &FAILURES {
-        is_reported(&rt, rt.alloc(), *kind, *room, *status, text);
+        is_reported::<Scripted>(&rt, rt.alloc(), *kind, *room, *status, text);
     }
 }

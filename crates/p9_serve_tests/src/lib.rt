@@ -1,5 +1,5 @@
-//! Tests of the server: clients on loopback, in one process with it, an input that is served at an
-//! address, and allocations that fail while a client is taken in.
+//! Tests of the server: clients in memory, an input that is served at an address to a client on loopback,
+//! and allocations that fail while a client is taken in.
 //!
 //! `guard` has the tests of p9_guard, `conn` those of connections and of the client.
 //!
@@ -8,9 +8,9 @@
 #![tactic(auto)]
 
 #[cfg(test)]
-mod clients;
-#[cfg(test)]
 mod conn;
+#[cfg(test)]
+mod copied;
 #[cfg(test)]
 mod failures;
 #[cfg(test)]

@@ -5,11 +5,11 @@ ghost use Rattle.std.specs.Prelude.{◌≡◌, Some};
 ghost use Rattle.std.specs.Io.{ReadsAtMost, WritesAtMost};
 ghost use Rattle.std.specs.Io.KnownBytes.{ReadConsumes, WriteAppends};
 
-use crate::rows::{replies, requests};
+use crate::copied::Copied;
+use crate::rows::{add, replies, requests};
 use crate::scripts::SMALL;
 use p9_serve::{Listener, Stream, Timer, serve_clients};
 use std::alloc::Global;
-use std::cell::RefCell;
 use std::collections::VecDeque;
 use std::io;
 use std::io::{Cursor, ErrorKind, Read, Write};
@@ -17,10 +17,58 @@ use std::process::Abort;
 use std::time::Duration;
 
 // More rounds than the clients take.
-const ROUNDS: u64 = 40;
+const ROUNDS: u64 = 200;
 
-// One client has a file open when the other removes it. The first is taken in a round before the
-// other one, and what it asks then comes a round after the removal.
+// A client: its requests with their replies, and bytes behind them; whether it stays then; and how many
+// of its kind come, one behind the other.
+#[derive(Clone, Copy)]
+struct Guest {
+    rows: &'static str,
+    rest: &'static str,
+    stays: bool,
+    times: u32,
+}
+
+// They come in this order, one in a round. One says nothing, one goes within a frame, and many go at
+// once. Then one has a file open when the other removes it: what the first one asks then comes a round
+// after the removal.
+const GUESTS: [Guest; 5] = [
+    Guest {
+        rows: "",
+        rest: "",
+        stays: true,
+        times: 1,
+    },
+    Guest {
+        rows: SHORT,
+        rest: "19000000 68",
+        stays: false,
+        times: 1,
+    },
+    Guest {
+        rows: SHORT,
+        rest: "",
+        stays: false,
+        times: 100,
+    },
+    Guest {
+        rows: FIRST,
+        rest: "",
+        stays: true,
+        times: 1,
+    },
+    Guest {
+        rows: SECOND,
+        rest: "",
+        stays: true,
+        times: 1,
+    },
+];
+
+const SHORT: &str = "\
+13000000 64 ffff 00200000 0600 395032303030 > 13000000 65 ffff 00200000 0600 395032303030
+";
+
 const FIRST: &str = "\
 13000000 64 ffff 00200000 0600 395032303030 > 13000000 65 ffff 00200000 0600 395032303030
 19000000 68 0100 00000000 ffffffff 0600 676c656e6461 0000 > \
@@ -44,41 +92,11 @@ const SECOND: &str = "\
 0b000000 7a 0300 01000000 > 07000000 7b 0300
 ";
 
-// A copy of what a client got, for the test.
-#[derive(Drop)]
-struct Copied {
-    bytes: RefCell<Vec<u8, Global>>,
-}
-
-impl Copied {
-    fn new(alloc: Global) -> Copied {
-        Copied {
-            bytes: RefCell::new(Vec::new(alloc)),
-        }
-    }
-
-    // Takes bytes, or none.
-    fn take(&self, bytes: &[u8]) -> io::Result<()> {
-        let Ok(mut all) = self.bytes.try_borrow_mut() else {
-            return Err(io::Error::from(ErrorKind::Other));
-        };
-        all.extend_from_slice(bytes)?;
-        Ok(())
-    }
-
-    // Whether these are all that were taken.
-    fn has(&self, bytes: &[u8]) -> bool {
-        match self.bytes.try_borrow() {
-            Ok(all) => all.as_slice() == bytes,
-            Err(_) => false,
-        }
-    }
-}
-
-// A client's stream. It gives the client's requests, and would block then.
+// A client's stream. It gives the client's requests, and then would block or ends.
 #[derive(Drop)]
 struct Memory<'a> {
     input: Cursor<Vec<u8, Global>>,
+    stays: bool,
     output: Vec<u8, Global>,
     copied: &'a Copied,
 }
@@ -92,7 +110,7 @@ impl Read for Memory<'_> {
             (⟦<Cursor<Vec<u8, Global>> as Read>⟧.remaining self.new.input) result buf.new }
         ensures kept { self.new.output ≡ self.old.output }
     {
-        if self.input.position() >= self.input.get_ref().len() as u64 {
+        if self.stays && self.input.position() >= self.input.get_ref().len() as u64 {
             return Err(io::Error::from(ErrorKind::WouldBlock));
         }
         self.input.read(buf)
@@ -161,20 +179,27 @@ impl Timer for Seconds {
     fn rest(&mut self, _length: Duration) {}
 }
 
-// The stream of a client that asks these.
-fn client<'a>(rt: &impl Abort, alloc: Global, rows: &str, copied: &'a Copied) -> Memory<'a> {
+// The stream of a client.
+fn stream_of<'a>(rt: &impl Abort, alloc: Global, guest: &Guest, copied: &'a Copied) -> Memory<'a> {
+    let mut input = requests(rt, alloc, guest.rows);
+    add(rt, alloc, &mut input, guest.rest);
     Memory {
-        input: Cursor::new(requests(rt, alloc, rows)),
+        input: Cursor::new(input),
+        stays: guest.stays,
         output: Vec::new(alloc),
         copied,
     }
 }
 
-// Both clients wait.
-fn both<'a>(rt: &impl Abort, alloc: Global, first: &'a Copied, second: &'a Copied) -> Waiting<'a> {
+// All clients wait, and what each kind gets is copied.
+fn queue<'a>(rt: &impl Abort, alloc: Global, copies: &'a [Copied]) -> Waiting<'a> {
     let mut clients = VecDeque::new(alloc);
-    assert!(rt; clients.push_back(client(rt, alloc, FIRST, first)).is_ok());
-    assert!(rt; clients.push_back(client(rt, alloc, SECOND, second)).is_ok());
+    for (guest, copied) in GUESTS.iter().zip(copies) {
+        for _ in 0..guest.times {
+            let stream = stream_of(rt, alloc, guest, copied);
+            assert!(rt; clients.push_back(stream).is_ok());
+        }
+    }
     Waiting { clients }
 }
 
@@ -196,11 +221,36 @@ fn serve<L: Listener>(rt: &impl Abort, alloc: Global, listener: L) -> bool {
     matches!(served, Ok(Some(_)))
 }
 
+// A copy for each kind of client.
+fn copies(rt: &impl Abort, alloc: Global) -> Vec<Copied> {
+    let mut copies = Vec::new(alloc);
+    for _ in &GUESTS {
+        assert!(rt; copies.push(Copied::new(alloc)).is_ok());
+    }
+    copies
+}
+
+// All clients of a kind got the replies.
+fn has_replies(rt: &impl Abort, alloc: Global, guest: &Guest, copied: &Copied) {
+    let mut wanted = Vec::new(alloc);
+    for _ in 0..guest.times {
+        let more = replies(rt, alloc, guest.rows);
+        assert!(rt; wanted.extend_from_slice(more.as_slice()).is_ok());
+    }
+    assert!(rt; copied.has(wanted.as_slice()));
+}
+
+// All clients are served.
+fn are_served(rt: &impl Abort, alloc: Global) {
+    let copies = copies(rt, alloc);
+    assert!(rt; serve(rt, alloc, queue(rt, alloc, copies.as_slice())));
+    for (guest, copied) in GUESTS.iter().zip(copies.as_slice()) {
+        has_replies(rt, alloc, guest, copied);
+    }
+    drop(copies);
+}
+
 #[test]
 fn each_client_in_memory_gets_its_replies(rt: HostRuntime) {
-    let first = Copied::new(rt.alloc());
-    let second = Copied::new(rt.alloc());
-    assert!(rt; serve(&rt, rt.alloc(), both(&rt, rt.alloc(), &first, &second)));
-    assert!(rt; first.has(replies(&rt, rt.alloc(), FIRST).as_slice()));
-    assert!(rt; second.has(replies(&rt, rt.alloc(), SECOND).as_slice()));
+    are_served(&rt, rt.alloc());
 }

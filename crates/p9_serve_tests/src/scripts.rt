@@ -1,4 +1,4 @@
-//! Scripts: what the sessions of a guard, or the clients of a server, do one after the other.
+//! Scripts: what the sessions of a guard do one after the other.
 
 use std::process::Abort;
 
@@ -40,12 +40,11 @@ open 2
     16000000 6f 0600 0100 80 01000000 0100000000000000
 ";
 
-/// A step of a script. A line opens a session or closes one, or has a session, a request of it, `>`
-/// and the reply, in hexadecimal digits.
+/// A step of a script. A line opens a session, or has a session, a request of it, `>` and the reply, in
+/// hexadecimal digits.
 #[derive(Clone, Copy)]
 pub enum Step<'a> {
     Open(u32),
-    Close,
     Send {
         session: u32,
         request: &'a str,
@@ -58,9 +57,6 @@ pub fn step_of<'a>(rt: &impl Abort, line: &'a str) -> Step<'a> {
     let (first, rest) = line.split_once(' ').expect(rt, "two words");
     if first == "open" {
         return Step::Open(session_of(rt, rest));
-    }
-    if first == "close" {
-        return Step::Close;
     }
     let (request, reply) = rest.split_once('>').expect(rt, "a request and its reply");
     Step::Send {

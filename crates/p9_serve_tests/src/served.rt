@@ -1,14 +1,13 @@
 //! An input that is served at an address: what serving asks of the clock, and a client of it. The
 //! client is the server's output, and connects when the address is printed.
 
-use crate::clients::any_port;
 use crate::machine::Machine;
 use crate::rows::{replies, requests};
 use p9_base::number;
 use p9_serve::run_serve;
 use std::alloc::Global;
 use std::io::{ErrorKind, Read, Write};
-use std::net::{Net, SocketAddr, TcpStream};
+use std::net::{Ipv4Addr, Net, SocketAddr, TcpStream};
 use std::process::Abort;
 use std::rt::Clock;
 use std::time::Duration;
@@ -48,59 +47,11 @@ const ROUNDS: &str = "\
 5010 5010 = 0 5010 10 18350
 6000 6000 = 0 6000 1000 3978350";
 
-// Serves an input for so many rounds on a machine. Returns the exit status.
-fn serve<R: AllocGlobal + Net, W: Write>(
-    machine: &Machine<'_, R>,
-    rounds: u64,
-    input: &str,
-    out: &mut W,
-) -> u8 {
-    let mut err = Vec::new(machine.alloc());
-    run_serve(machine, any_port(), rounds, input.as_bytes(), out, &mut err)
-}
-
 // The address in the line that is printed of it.
 fn address_in(line: &[u8]) -> Option<SocketAddr> {
     let line = str::from_utf8(line).ok()?;
     let address = line.strip_prefix("listening ")?.strip_suffix("\n")?;
     address.parse::<SocketAddr>().ok()
-}
-
-// Serves the vault for so many rounds, where the clock can be read so often. Returns what that
-// comes to. The one line that is printed has the port that the system chose.
-fn told_of<R: Abort + AllocGlobal + Net>(rt: &R, rounds: u64, most: u64) -> String {
-    let machine = Machine::new(rt, 0, most);
-    let mut out = Vec::new(rt.alloc());
-    let status = serve(&machine, rounds, VAULT, &mut out);
-    assert!(rt; address_in(out.as_slice()).is_some_and(|address| address.port() > 0));
-    let told = format!(in rt.alloc();
-        "{status} {} {} {}",
-        machine.readings.get(),
-        machine.sleeps.get(),
-        machine.slept.get().as_micros()
-    );
-    told.expect(rt, "memory")
-}
-
-// The numbers of a text of two.
-fn two_numbers(rt: &impl Abort, text: &str) -> (u64, u64) {
-    let (first, second) = text.split_once(' ').expect(rt, "two numbers");
-    let first = number(first, u64::MAX).expect(rt, "a number");
-    (first, number(second, u64::MAX).expect(rt, "a number"))
-}
-
-// Serves the vault as a row says.
-fn is_served<R: Abort + AllocGlobal + Net>(rt: &R, row: &str) {
-    let (asked, wanted) = row.split_once(" = ").expect(rt, "a row");
-    let (rounds, most) = two_numbers(rt, asked);
-    assert!(rt; told_of(rt, rounds, most).as_str() == wanted);
-}
-
-#[test]
-fn the_clock_is_read_once_a_round(rt: HostRuntime) {
-    for row in ROUNDS.lines() {
-        is_served(&rt, row);
-    }
 }
 
 // A world of glenda's directory, which is 1, and a file of rob's, and a certificate that is closed
@@ -121,7 +72,8 @@ dir 0 1
 
 // Glenda makes a file `n` in her directory as fid 2, writes five bytes and reads them, and asks for
 // its stat after each. It is made at the time 2^32 - 1, written four seconds later, and read four
-// seconds after that.
+// seconds after that. The ten requests are read in the first round. Then each is answered in a round, and
+// its reply is written in the next.
 const TIMED: &str = "\
 13000000 64 ffff 00200000 0600 395032303030 > 13000000 65 ffff 00200000 0600 395032303030
 19000000 68 0100 00000000 ffffffff 0600 676c656e6461 0000 > \
@@ -150,15 +102,22 @@ const TIMED: &str = "\
 // The clock at the first round: the file of the rows is made ten rounds on, at 2^32 - 1.
 const FIRST_SECOND: u64 = 0xFFFF_FFF6;
 
-// The ten requests are read in the first round. Then each is answered in a round, and its reply is
-// written in the next.
-const TIMED_ROUNDS: u64 = 21;
-
 // More milliseconds than the system takes to hand a connection and its bytes to the server.
 const HANDING_ON: u64 = 200;
 
-// The output of a server, and a client of it. When it is flushed, the client connects to the address
-// that was written, and sends all its requests.
+// An input that is served for so many rounds at a clock that shows `first` seconds at first and can be
+// read so often; and what a client asks, if there is one.
+#[derive(Clone, Copy)]
+struct Serving<'a> {
+    input: &'a str,
+    rounds: u64,
+    first: u64,
+    readings: u64,
+    requests: &'a [u8],
+}
+
+// The output of a server, and a client of it. When it is flushed, a client that has requests connects to
+// the address that was written, and sends all of them.
 #[derive(Drop)]
 struct Client<'a, R> {
     host: &'a R,
@@ -176,6 +135,9 @@ impl<R: Clock + Net<Stream = TcpStream>> Write for Client<'_, R> {
         let Some(address) = address_in(self.printed.as_slice()) else {
             return Err(io::Error::from(ErrorKind::InvalidData));
         };
+        if self.requests.is_empty() {
+            return Ok(());
+        }
         let mut stream = TcpStream::connect(self.host, address)?;
         stream.write_all(self.requests)?;
         thread::sleep(self.host, Duration::from_millis(HANDING_ON));
@@ -184,31 +146,105 @@ impl<R: Clock + Net<Stream = TcpStream>> Write for Client<'_, R> {
     }
 }
 
-// Serves the world of glenda's directory to a client with these requests, and returns all that it got
-// before the server ended the connection.
-fn served_to<R: Abort + AllocGlobal + Clock + Net<Stream = TcpStream>>(
+// Serves at a port that the system chooses. Returns the exit status.
+fn serve<R: AllocGlobal + Net, W: Write>(
+    machine: &Machine<'_, R>,
+    serving: &Serving<'_>,
+    out: &mut W,
+) -> u8 {
+    let mut err = Vec::new(machine.alloc());
+    let address = SocketAddr::from((Ipv4Addr::LOCALHOST, 0));
+    let input = serving.input.as_bytes();
+    run_serve(machine, address, serving.rounds, input, out, &mut err)
+}
+
+// What a serving came to: its status, and what it asked of the clock.
+fn told<R: AllocGlobal>(rt: &impl Abort, machine: &Machine<'_, R>, status: u8) -> String {
+    let told = format!(in machine.alloc();
+        "{status} {} {} {}",
+        machine.readings.get(),
+        machine.sleeps.get(),
+        machine.slept.get().as_micros()
+    );
+    told.expect(rt, "memory")
+}
+
+// All that a client got before the server ended the connection, if there was a client.
+fn got<R: Read + Drop>(rt: &impl Abort, alloc: Global, stream: Option<R>) -> Vec<u8> {
+    let mut got = Vec::new(alloc);
+    if let Some(mut stream) = stream {
+        assert!(rt; stream.read_to_end(&mut got).is_ok());
+    }
+    got
+}
+
+// Serves. It comes to this, and the client gets these replies. The one line that is printed has the
+// address.
+fn is_served<R: Abort + AllocGlobal + Clock + Net<Stream = TcpStream>>(
     rt: &R,
-    requests: &[u8],
-) -> Vec<u8> {
-    let machine = Machine::new(rt, FIRST_SECOND, TIMED_ROUNDS);
+    serving: &Serving<'_>,
+    wanted: &str,
+    replies: &[u8],
+) {
+    let machine = Machine::new(rt, serving.first, serving.readings);
     let mut client = Client {
         host: rt,
-        requests,
+        requests: serving.requests,
         printed: Vec::new(rt.alloc()),
         stream: None,
     };
-    assert!(rt; serve(&machine, TIMED_ROUNDS, HOME, &mut client) == 0);
-    let mut got = Vec::new(rt.alloc());
-    let mut stream = client.stream.expect(rt, "a connection");
-    assert!(rt; stream.read_to_end(&mut got).is_ok());
-    got
+    let status = serve(&machine, serving, &mut client);
+    let came = told(rt, &machine, status);
+    assert!(rt; came.as_str() == wanted);
+    let got = got(rt, rt.alloc(), client.stream);
+    assert!(rt; got.as_slice() == replies);
+}
+
+// The numbers of a text of two.
+fn two_numbers(rt: &impl Abort, text: &str) -> (u64, u64) {
+    let (first, second) = text.split_once(' ').expect(rt, "two numbers");
+    let first = number(first, u64::MAX).expect(rt, "a number");
+    (first, number(second, u64::MAX).expect(rt, "a number"))
+}
+
+// Serves the vault, without a client, as a row says.
+fn is_row<R: Abort + AllocGlobal + Clock + Net<Stream = TcpStream>>(rt: &R, row: &str) {
+    let (asked, wanted) = row.split_once(" = ").expect(rt, "a row");
+    let (rounds, readings) = two_numbers(rt, asked);
+    let serving = Serving {
+        input: VAULT,
+        rounds,
+        first: 0,
+        readings,
+        requests: b"",
+    };
+    is_served(rt, &serving, wanted, b"");
 }
 
 // Each request is answered at the clock's reading in its round, modulo 2^32. Behind the last round
 // the connection is ended.
+fn are_timed<R: Abort + AllocGlobal + Clock + Net<Stream = TcpStream>>(rt: &R) {
+    let asked = requests(rt, rt.alloc(), TIMED);
+    let answered = replies(rt, rt.alloc(), TIMED);
+    let serving = Serving {
+        input: HOME,
+        rounds: 21,
+        first: FIRST_SECOND,
+        readings: 21,
+        requests: asked.as_slice(),
+    };
+    is_served(rt, &serving, "0 21 0 0", answered.as_slice());
+}
+
+// Serves as all rows say, and with a client.
+fn are_served<R: Abort + AllocGlobal + Clock + Net<Stream = TcpStream>>(rt: &R) {
+    for row in ROUNDS.lines() {
+        is_row(rt, row);
+    }
+    are_timed(rt);
+}
+
 #[test]
 fn each_round_has_its_time(rt: HostRuntime) {
-    let asked = requests(&rt, rt.alloc(), TIMED);
-    let got = served_to(&rt, asked.as_slice());
-    assert!(rt; got.as_slice() == replies(&rt, rt.alloc(), TIMED).as_slice());
+    are_served(&rt);
 }

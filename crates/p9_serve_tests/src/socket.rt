@@ -1,41 +1,18 @@
 //! What a client's socket keeps, and when it is sent.
 
+use crate::copied::Copied;
 use p9_conn::Stream;
 use p9_serve::Socket;
-use std::alloc::Global;
-use std::cell::{Cell, RefCell};
+use std::cell::Cell;
 use std::io::{self, ErrorKind, Read, Write};
 use std::process::Abort;
 
-// What a stream took, and how many bytes it takes before it would block.
-#[derive(Drop)]
-struct Log {
-    taken: RefCell<Vec<u8, Global>>,
-    room: Cell<usize>,
-}
-
-impl Log {
-    // Nothing was taken.
-    fn new(alloc: Global, room: usize) -> Log {
-        Log {
-            taken: RefCell::new(Vec::new(alloc)),
-            room: Cell::new(room),
-        }
-    }
-
-    // Whether these bytes were taken.
-    fn has(&self, bytes: &[u8]) -> bool {
-        match self.taken.try_borrow() {
-            Ok(taken) => taken.as_slice() == bytes,
-            Err(_) => false,
-        }
-    }
-}
-
-// A stream that has nothing to read.
+// A stream that has nothing to read. What it takes is copied, and it takes so many bytes before it would
+// block.
 #[derive(Clone, Copy)]
 struct Late<'a> {
-    log: &'a Log,
+    copied: &'a Copied,
+    room: &'a Cell<usize>,
 }
 
 impl Read for Late<'_> {
@@ -46,16 +23,13 @@ impl Read for Late<'_> {
 
 impl Write for Late<'_> {
     fn write(&mut self, bytes: &[u8]) -> io::Result<usize> {
-        let room = self.log.room.get();
+        let room = self.room.get();
         let count = room.min(bytes.len());
         if count == 0 {
             return Err(io::Error::from(ErrorKind::WouldBlock));
         }
-        self.log.room.set(room - count);
-        let Ok(mut taken) = self.log.taken.try_borrow_mut() else {
-            return Err(io::Error::from(ErrorKind::Other));
-        };
-        taken.extend_from_slice(&bytes[..count])?;
+        self.room.set(room - count);
+        self.copied.take(&bytes[..count])?;
         Ok(count)
     }
 
@@ -80,10 +54,16 @@ const REPLIES: [(bool, usize, usize); 9] = [
 ];
 
 // Sends bytes whole, in as many calls as that takes. The stream takes so many bytes more for each.
-fn send_whole<W: Stream>(socket: &mut W, log: &Log, bytes: &[u8], more: bool, room: usize) {
+fn send_whole<W: Stream>(
+    socket: &mut W,
+    room: &Cell<usize>,
+    bytes: &[u8],
+    more: bool,
+    free: usize,
+) {
     let mut rest = bytes;
     for _ in 0..1_000 {
-        log.room.set(room);
+        room.set(free);
         if let Ok(count) = socket.send(rest, more) {
             rest = rest.get(count..).unwrap_or(&[]);
         }
@@ -95,14 +75,14 @@ fn send_whole<W: Stream>(socket: &mut W, log: &Log, bytes: &[u8], more: bool, ro
 
 // Sends all replies, of which each has the bytes of its place, and adds them to those that are
 // wanted.
-fn send_all<W: Stream>(rt: &impl Abort, socket: &mut W, log: &Log, wanted: &mut Vec<u8>) {
+fn send_all<W: Stream>(rt: &impl Abort, socket: &mut W, room: &Cell<usize>, wanted: &mut Vec<u8>) {
     let mut place = 0u8;
-    for (more, room, len) in &REPLIES {
+    for (more, free, len) in &REPLIES {
         let begun = wanted.len();
         place = place.saturating_add(1);
         assert!(rt; wanted.resize(begun.saturating_add(*len), place).is_ok());
         let reply = wanted.get(begun..).unwrap_or(&[]);
-        send_whole(socket, log, reply, *more, *room);
+        send_whole(socket, room, reply, *more, *free);
     }
 }
 
@@ -110,11 +90,16 @@ fn send_all<W: Stream>(rt: &impl Abort, socket: &mut W, log: &Log, wanted: &mut 
 // kept at the end before anything is read from the client.
 #[test]
 fn replies_are_sent_in_their_order(rt: HostRuntime) {
-    let log = Log::new(rt.alloc(), 0);
+    let copied = Copied::new(rt.alloc());
+    let room = Cell::new(0);
+    let late = Late {
+        copied: &copied,
+        room: &room,
+    };
     let mut wanted = Vec::new(rt.alloc());
-    let mut socket = Socket::new(rt.alloc(), Late { log: &log }).expect(&rt, "memory");
-    send_all(&rt, &mut socket, &log, &mut wanted);
-    log.room.set(usize::MAX);
+    let mut socket = Socket::new(rt.alloc(), late).expect(&rt, "memory");
+    send_all(&rt, &mut socket, &room, &mut wanted);
+    room.set(usize::MAX);
     assert!(rt; socket.receive(&mut [0; 8]).is_err());
-    assert!(rt; log.has(wanted.as_slice()));
+    assert!(rt; copied.has(wanted.as_slice()));
 }

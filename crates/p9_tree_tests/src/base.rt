@@ -1,6 +1,7 @@
 //! The faults, as the table of them has them. No row reaches one of them, that qid numbers are used up.
 
 use p9_base::Fault;
+use std::alloc::AllocError;
 
 // The faults by their numbers, from 1.
 const FAULTS: [Fault; 30] = [
@@ -70,12 +71,17 @@ const TOLD: &str = "\
 30 path too deep = path too deep
 ";
 
+// Adds the line of a fault.
+fn tell(told: &mut String, fault: Fault) -> Result<(), AllocError> {
+    let (number, text) = (fault.number(), fault.text());
+    writeln!(told, "{number} {text} = {fault}")
+}
+
 #[test]
 fn faults_have_their_numbers_and_texts(rt: HostRuntime) {
     let mut told = String::new(rt.alloc());
     for fault in &FAULTS {
-        let (number, text) = (fault.number(), fault.text());
-        writeln!(told, "{number} {text} = {fault}").expect(&rt, "memory");
+        assert!(rt; tell(&mut told, *fault).is_ok());
     }
     assert!(rt; told.as_str() == TOLD);
 }

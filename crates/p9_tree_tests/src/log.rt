@@ -1,10 +1,9 @@
 //! Tests of p9_log: the bytes of a log's file, a draft that takes the place of a log, and what is recovered
-//! where a block was torn at each of its bytes, and where each call of the device fails in turn. Tests of
-//! p9_disk: a log in a file of a folder.
+//! where a block was torn, and where each call of the device fails in turn. Tests of p9_disk: a log in a
+//! file of a folder.
 
 mod failing;
 mod files;
 mod logs;
 mod memory;
 mod told;
-mod torn;

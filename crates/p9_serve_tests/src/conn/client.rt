@@ -3,7 +3,8 @@
 
 mod ahead;
 mod answered;
+mod calls;
 mod hostile;
-mod kinds;
 mod pieces;
+mod plays;
 mod sessions;

@@ -53,7 +53,6 @@ fn step_again<T: Tree>(
 ) {
     match step_of(rt, line) {
         Step::Open(session) => open_again(rt, guard, session),
-        Step::Close => (),
         Step::Send {
             session,
             request,

@@ -48,7 +48,6 @@ pub fn whole(rt: &impl Abort, alloc: Global, steps: &str, now: u32) -> Run {
     for line in steps.lines() {
         match step_of(rt, line) {
             Step::Open(session) => run.open(rt, session),
-            Step::Close => (),
             Step::Send {
                 session,
                 request,

@@ -1,6 +1,6 @@
 //! Each call of the device fails in turn.
 
-use crate::log::logs::{InMemory, Step, add, count_done, found_in, recovers};
+use crate::log::logs::{InMemory, add, count_done, found_in, recovers};
 use crate::log::memory::{Work, in_memory};
 use p9_log::{Crash, Device, Fuse, Log, LogError, create, recover};
 use std::alloc::Global;
@@ -15,19 +15,9 @@ pub(crate) enum Trial {
     Draft,
 }
 
-const RUNS: [Step<'static>; 4] = [
-    Step::Append(&[1, 1]),
-    Step::Append(&[2]),
-    Step::Sync,
-    Step::Append(&[3, 3, 3]),
-];
+const RUNS: &str = "append aa\nappend b\nsync\nappend ccc";
 
-const DRAFT: [Step<'static>; 4] = [
-    Step::BeginDraft,
-    Step::AddToDraft(&[7, 8]),
-    Step::AddToDraft(&[9]),
-    Step::PutDraft,
-];
+const DRAFT: &str = "begin\ndraft de\ndraft f\nput";
 
 // A log of a synced block of the bytes 1 and 2.
 const OLD: [u8; 24] = [
@@ -42,11 +32,11 @@ struct End {
 }
 
 // The device below a log after these steps, and how they went. A log that can't be used takes no more.
-fn end_of<D: Device>(log: Log<D>, steps: &[Step<'_>]) -> (D, Option<End>) {
+fn end_of<D: Device>(log: Log<D>, steps: &str) -> (D, Option<End>) {
     let mut log = log;
     let done = count_done(&mut log, steps);
     let is_usable = log.is_usable();
-    let is_well = is_usable || add(&mut log, &[9]) == Err(LogError::Ended);
+    let is_well = is_usable || add(&mut log, b"g") == Err(LogError::Ended);
     let end = if is_well {
         Some(End { done, is_usable })
     } else {
@@ -63,11 +53,11 @@ fn work_over<D: Device>(alloc: Global, device: D, trial: Trial) -> (D, Option<En
     });
     match trial {
         Trial::Runs => match create(device) {
-            Ok(log) => end_of(log, &RUNS),
+            Ok(log) => end_of(log, RUNS),
             Err(refused) => (refused.1, not_begun),
         },
         Trial::Draft => match recover(alloc, device, Crash::Stopped) {
-            Ok(found) => end_of(found.log, &DRAFT),
+            Ok(found) => end_of(found.log, DRAFT),
             Err(refused) => (refused.1, not_begun),
         },
     }
@@ -76,10 +66,10 @@ fn work_over<D: Device>(alloc: Global, device: D, trial: Trial) -> (D, Option<En
 // Whether these are the bytes of the runs that were added, or of one more.
 fn are_runs(bytes: &[u8], done: usize) -> bool {
     match bytes {
-        [] => done == 0,
-        [1, 1] => done <= 1,
-        [1, 1, 2] => done >= 1 && done <= 3,
-        [1, 1, 2, 3, 3, 3] => done >= 3,
+        b"" => done == 0,
+        b"aa" => done <= 1,
+        b"aab" => done >= 1 && done <= 3,
+        b"aabccc" => done >= 3,
         _ => false,
     }
 }
@@ -99,7 +89,7 @@ fn has_runs<D: InMemory>(alloc: Global, file: &[u8], end: End) -> bool {
 // Whether the draft is recovered where it was put, and else the old bytes. A log whose draft could not be
 // written can be used.
 fn has_draft<D: InMemory>(alloc: Global, file: &[u8], end: End) -> bool {
-    let want: &[u8] = if end.done == 4 { &[7, 8, 9] } else { &[1, 2] };
+    let want: &[u8] = if end.done == 4 { b"def" } else { &[1, 2] };
     (end.is_usable || end.done == 3)
         && recovers::<D>(alloc, file, Crash::Killed, want)
         && recovers::<D>(alloc, file, Crash::Stopped, want)

@@ -156,19 +156,25 @@ fn refusal(rt: &HostRuntime, name: &str) -> Option<ErrorKind> {
     }
 }
 
-// Whether a file gets another name.
-fn gets_a_name(rt: &HostRuntime) -> bool {
-    fs::hard_link(rt, "refused_files/other", "refused_files/second").is_ok()
+// Whether all that is no file is refused, and nothing is made where a link leads.
+fn refuses_all(rt: &HostRuntime) -> bool {
+    refusal(rt, "link").is_some()
+        && refusal(rt, "dangling").is_some()
+        && refusal(rt, "folder").is_some()
+        && refusal(rt, "folder/log").is_some()
+        && is_free(rt, "refused_files/nothing")
+}
+
+// Whether a file is refused once it has two names.
+fn refuses_a_second_name(rt: &HostRuntime) -> bool {
+    refusal(rt, "other").is_none()
+        && fs::hard_link(rt, "refused_files/other", "refused_files/second").is_ok()
+        && refusal(rt, "other").is_some()
 }
 
 #[test]
 fn what_is_no_file_of_its_own_is_refused(rt: HostRuntime) {
-    assert!(rt; makes_entries(&rt));
-    for name in ["link", "dangling", "folder", "folder/log"] {
-        assert!(rt; refusal(&rt, name).is_some(), "{name}");
-    }
-    assert!(rt; refusal(&rt, "other").is_none() && gets_a_name(&rt));
-    assert!(rt; refusal(&rt, "other").is_some() && is_free(&rt, "refused_files/nothing"));
+    assert!(rt; makes_entries(&rt) && refuses_all(&rt) && refuses_a_second_name(&rt));
     assert!(rt; removes_folder(&rt, "refused_files"));
     assert!(rt; refusal(&rt, "log") == Some(ErrorKind::NotFound));
 }

@@ -63,18 +63,6 @@ fn holds<D: InMemory>(alloc: Global, file: &[u8], bytes: &[u8]) -> bool {
     }
 }
 
-/// A step with a log.
-#[derive(Clone, Copy)]
-pub(crate) enum Step<'a> {
-    Append(&'a [u8]),
-    Sync,
-    BeginDraft,
-    AddToDraft(&'a [u8]),
-    PutDraft,
-    /// There is no draft to be added to, and none to be put.
-    HasNoDraft,
-}
-
 // A buffer with the first eight of these bytes and with room for their block, and where they end.
 fn staged(bytes: &[u8]) -> ([u8; HEAD + ADDED_MAX + TAIL], usize)
     ensures low { 10 ≤ result.1 }
@@ -99,26 +87,32 @@ fn draft<D: Device>(log: &mut Log<D>, bytes: &[u8]) -> Result<(), LogError> {
     log.add_to_draft(&mut buffer, end)
 }
 
-// Whether a step succeeds.
-fn does<D: Device>(log: &mut Log<D>, step: Step<'_>) -> bool {
-    match step {
-        Step::Append(bytes) => add(log, bytes).is_ok(),
-        Step::Sync => log.sync().is_ok(),
-        Step::BeginDraft => log.begin_draft().is_ok(),
-        Step::AddToDraft(bytes) => draft(log, bytes).is_ok(),
-        Step::PutDraft => log.put_draft().is_ok(),
-        Step::HasNoDraft => {
-            draft(log, &[4]) == Err(LogError::NoDraft) && log.put_draft() == Err(LogError::NoDraft)
-        }
+/// Whether a step succeeds: what is done with the log, and the bytes that are added to it or to its draft.
+/// Where there is no draft, nothing is added to one and none is put.
+pub(crate) fn does<D: Device>(log: &mut Log<D>, step: &str) -> bool {
+    let (what, bytes) = step.split_once(' ').unwrap_or((step, ""));
+    match what {
+        "append" => add(log, bytes.as_bytes()).is_ok(),
+        "sync" => log.sync().is_ok(),
+        "begin" => log.begin_draft().is_ok(),
+        "draft" => draft(log, bytes.as_bytes()).is_ok(),
+        "put" => log.put_draft().is_ok(),
+        _ => has_no_draft(log),
     }
 }
 
-/// How many steps succeed, up to the first that doesn't.
-pub(crate) fn count_done<D: Device>(log: &mut Log<D>, steps: &[Step<'_>]) -> usize {
-    for (position, step) in steps.iter().enumerate() {
-        if !does(log, *step) {
-            return position;
+fn has_no_draft<D: Device>(log: &mut Log<D>) -> bool {
+    draft(log, b"z") == Err(LogError::NoDraft) && log.put_draft() == Err(LogError::NoDraft)
+}
+
+/// How many steps succeed, each of a line, up to the first that doesn't.
+pub(crate) fn count_done<D: Device>(log: &mut Log<D>, steps: &str) -> usize {
+    let mut done = 0usize;
+    for step in steps.lines() {
+        if !does(log, step) {
+            break;
         }
+        done = done.saturating_add(1);
     }
-    steps.len()
+    done
 }

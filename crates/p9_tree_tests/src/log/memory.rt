@@ -3,7 +3,6 @@
 use crate::log::failing::{Trial, fail_each_call};
 use crate::log::logs::InMemory;
 use crate::log::told::plays_all;
-use crate::log::torn::{cut_each_byte, exchange_each_byte};
 use p9_log::MemoryDevice;
 use std::alloc::Global;
 use std::process::Abort;
@@ -13,10 +12,6 @@ use std::process::Abort;
 pub(crate) enum Work {
     /// Logs do as they are told.
     Tell,
-    /// A block is cut short at each byte.
-    Cut,
-    /// Each byte behind a closed gate is exchanged.
-    Exchange,
     /// Each call of the device fails in turn.
     Fail(Trial),
 }
@@ -30,8 +25,6 @@ pub(crate) fn in_memory(rt: &impl Abort, alloc: Global, work: Work) {
 fn over<D: InMemory>(rt: &impl Abort, alloc: Global, work: Work) {
     match work {
         Work::Tell => plays_all::<D>(rt, alloc),
-        Work::Cut => cut_each_byte::<D>(rt, alloc),
-        Work::Exchange => exchange_each_byte::<D>(rt, alloc),
         Work::Fail(trial) => fail_each_call::<D>(rt, alloc, trial),
     }
 }

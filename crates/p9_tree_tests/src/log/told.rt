@@ -1,162 +1,138 @@
 //! Logs do as they are told: what is then in their files, and what crashes leave.
 
-use crate::log::logs::{InMemory, Step, count_done, found_in, recovers};
+use crate::log::logs::{InMemory, does, found_in, recovers};
 use crate::log::memory::{Work, in_memory};
-use p9_log::{Crash, Log};
+use p9_log::{Crash, Log, Recovered};
+use p9_testing::bytes_of;
 use std::alloc::Global;
 use std::process::Abort;
 
-// Steps that succeed, and what is recovered after them, where the process is killed and where the
-// machine stops. Where a file is told, it has these bytes.
-struct Turn<'a> {
-    steps: &'a [Step<'a>],
-    killed: &'a [u8],
-    stopped: &'a [u8],
-    file: &'a [u8],
+// A crash with the bytes of the file that it left, and behind that a line each for what is done with the
+// log, for what is recovered then, where the process is killed and where the machine stops, and for the
+// bytes of the file.
+//
+// A block has a sync gate and a write gate, which are open where they are 01, and its size. A mark is a
+// block without bytes, with its sync gate closed. At the end are the gates of the next block.
+const STORIES: [&str; 9] = [
+    // A block is written and synced.
+    "\
+stopped
+append ab
+left ab -
+file 0001 0000000000000000 0101 0200000000000000 6162 0100
+sync
+left ab ab
+file 0101 0000000000000000 0101 0200000000000000 6162 0001 0000000000000000 0100",
+    // What is recovered is on the disk.
+    "\
+killed 0001 0000000000000000 0101 0200000000000000 6162 0100
+left ab ab
+file 0101 0000000000000000 0101 0200000000000000 6162 0001 0000000000000000 0100",
+    // A draft is blocks and a mark.
+    "\
+stopped 0001 0000000000000000 0101 0200000000000000 6162 0100
+begin
+draft ab
+put
+none
+left ab ab
+file 0101 0200000000000000 6162 0001 0000000000000000 0100",
+    // A draft that is put is the log, which goes on from there.
+    "\
+stopped 0101 0000000000000000 0101 0200000000000000 6162 0001 0000000000000000 0100
+begin
+draft cd
+draft e
+put
+left cde cde
+none
+append f
+left cdef cde
+sync
+left cdef cdef",
+    // A log that is added to has no draft.
+    "\
+stopped 0101 0000000000000000 0101 0200000000000000 6162 0001 0000000000000000 0100
+begin
+draft cd
+append e
+none
+left abe ab",
+    // Behind a mark is a block: whole, without its last byte, and with its write gate closed.
+    "\
+killed 0101 0000000000000000 0101 0100000000000000 65 0001 0000000000000000 0101 0200000000000000 6162 0100
+left eab eab",
+    "\
+stopped 0101 0000000000000000 0101 0100000000000000 65 0001 0000000000000000 0101 0200000000000000 6162 0100
+left e e",
+    "\
+killed 0101 0000000000000000 0101 0100000000000000 65 0001 0000000000000000 0101 0200000000000000 61
+left e e",
+    "\
+killed 0101 0000000000000000 0101 0100000000000000 65 0001 0000000000000000 0100 0200000000000000 6162 0100
+left e e",
+];
+
+// What is recovered of the file of a crash.
+fn recovered<D: InMemory>(rt: &impl Abort, alloc: Global, crash: &str) -> Recovered<D, Global> {
+    let (how, file) = crash.split_once(' ').unwrap_or((crash, ""));
+    let file = bytes_of(alloc, file).expect(rt, "hexadecimal digits");
+    let how = if how == "killed" {
+        Crash::Killed
+    } else {
+        Crash::Stopped
+    };
+    found_in(alloc, file.as_slice(), how).expect(rt, "a log")
 }
 
-// The log of a file that such a crash left, and what is done with it.
-struct Story<'a> {
-    file: &'a [u8],
-    how: Crash,
-    turns: &'a [Turn<'a>],
-}
-
-// An open sync gate, an open write gate, the size and the bytes of a block; a mark, with its sync gate
-// closed; and the gates of the next block.
-const SYNCED: [u8; 34] = [
-    1, 1, 0, 0, 0, 0, 0, 0, 0, 0, 1, 1, 2, 0, 0, 0, 0, 0, 0, 0, 7, 8, 0, 1, 0, 0, 0, 0, 0, 0, 0, 0,
-    1, 0,
-];
-
-// The same before the sync: the gate of the first mark is closed, and there is no other.
-const APPENDED: [u8; 24] = [
-    0, 1, 0, 0, 0, 0, 0, 0, 0, 0, 1, 1, 2, 0, 0, 0, 0, 0, 0, 0, 7, 8, 1, 0,
-];
-
-// A draft of a block, which was put.
-const PUT: [u8; 24] = [
-    1, 1, 2, 0, 0, 0, 0, 0, 0, 0, 7, 8, 0, 1, 0, 0, 0, 0, 0, 0, 0, 0, 1, 0,
-];
-
-// A block is written and synced. What is recovered is on the disk. A draft is blocks and a mark.
-const LAYOUT: [Story<'static>; 3] = [
-    Story {
-        file: &[],
-        how: Crash::Stopped,
-        turns: &[
-            Turn {
-                steps: &[Step::Append(&[7, 8])],
-                killed: &[7, 8],
-                stopped: &[],
-                file: &APPENDED,
-            },
-            Turn {
-                steps: &[Step::Sync],
-                killed: &[7, 8],
-                stopped: &[7, 8],
-                file: &SYNCED,
-            },
-        ],
-    },
-    Story {
-        file: &APPENDED,
-        how: Crash::Killed,
-        turns: &[Turn {
-            steps: &[],
-            killed: &[7, 8],
-            stopped: &[7, 8],
-            file: &SYNCED,
-        }],
-    },
-    Story {
-        file: &APPENDED,
-        how: Crash::Stopped,
-        turns: &[Turn {
-            steps: &[
-                Step::BeginDraft,
-                Step::AddToDraft(&[7, 8]),
-                Step::PutDraft,
-                Step::HasNoDraft,
-            ],
-            killed: &[7, 8],
-            stopped: &[7, 8],
-            file: &PUT,
-        }],
-    },
-];
-
-// A draft that is put is the log, which goes on from there. A log that is added to has no draft.
-const DRAFTS: [Story<'static>; 2] = [
-    Story {
-        file: &SYNCED,
-        how: Crash::Stopped,
-        turns: &[
-            Turn {
-                steps: &[
-                    Step::BeginDraft,
-                    Step::AddToDraft(&[1, 2]),
-                    Step::AddToDraft(&[3]),
-                    Step::PutDraft,
-                ],
-                killed: &[1, 2, 3],
-                stopped: &[1, 2, 3],
-                file: &[],
-            },
-            Turn {
-                steps: &[Step::HasNoDraft, Step::Append(&[5])],
-                killed: &[1, 2, 3, 5],
-                stopped: &[1, 2, 3],
-                file: &[],
-            },
-            Turn {
-                steps: &[Step::Sync],
-                killed: &[1, 2, 3, 5],
-                stopped: &[1, 2, 3, 5],
-                file: &[],
-            },
-        ],
-    },
-    Story {
-        file: &SYNCED,
-        how: Crash::Stopped,
-        turns: &[Turn {
-            steps: &[
-                Step::BeginDraft,
-                Step::AddToDraft(&[1, 2]),
-                Step::Append(&[3]),
-                Step::HasNoDraft,
-            ],
-            killed: &[7, 8, 3],
-            stopped: &[7, 8],
-            file: &[],
-        }],
-    },
-];
-
-// The steps of a turn succeed, and all is as it says.
-fn goes<D: InMemory>(alloc: Global, log: &mut Log<D>, turn: &Turn<'_>) -> bool {
-    if count_done(log, turn.steps) < turn.steps.len() {
-        return false;
+// Whether crashes leave these bytes of a file: where the process is killed, and where the machine stops.
+fn leaves<D: InMemory>(alloc: Global, file: &[u8], bytes: &str) -> bool {
+    match bytes.split_once(' ') {
+        Some((killed, stopped)) => {
+            recovers::<D>(alloc, file, Crash::Killed, bytes_in(killed))
+                && recovers::<D>(alloc, file, Crash::Stopped, bytes_in(stopped))
+        }
+        None => false,
     }
-    let file = log.device().file();
-    (turn.file.is_empty() || file == turn.file)
-        && recovers::<D>(alloc, file, Crash::Killed, turn.killed)
-        && recovers::<D>(alloc, file, Crash::Stopped, turn.stopped)
+}
+
+// The bytes of a word, or none.
+fn bytes_in(word: &str) -> &[u8] {
+    if word == "-" { b"" } else { word.as_bytes() }
+}
+
+// Whether a file has these bytes.
+fn has_bytes(alloc: Global, file: &[u8], digits: &str) -> bool {
+    match bytes_of(alloc, digits) {
+        Ok(bytes) => file == bytes.as_slice(),
+        Err(_) => false,
+    }
+}
+
+// Whether it goes as a line says.
+fn goes<D: InMemory>(alloc: Global, log: &mut Log<D>, line: &str) -> bool {
+    if let Some(bytes) = line.strip_prefix("left ") {
+        return leaves::<D>(alloc, log.device().file(), bytes);
+    }
+    match line.strip_prefix("file ") {
+        Some(digits) => has_bytes(alloc, log.device().file(), digits),
+        None => does(log, line),
+    }
 }
 
 // A log does as it is told.
-fn plays<D: InMemory>(rt: &impl Abort, alloc: Global, story: &Story<'_>) {
-    let mut found = found_in::<D>(alloc, story.file, story.how).expect(rt, "a log");
-    for turn in story.turns {
-        assert!(rt; goes(alloc, &mut found.log, turn));
+fn plays<D: InMemory>(rt: &impl Abort, alloc: Global, story: &str) {
+    let (crash, lines) = story.split_once('\n').expect(rt, "a crash");
+    let mut found = recovered::<D>(rt, alloc, crash);
+    for line in lines.lines() {
+        assert!(rt; goes(alloc, &mut found.log, line));
     }
     drop(found);
 }
 
 /// Plays all of them.
 pub(crate) fn plays_all<D: InMemory>(rt: &impl Abort, alloc: Global) {
-    for story in LAYOUT.iter().chain(&DRAFTS) {
+    for story in STORIES {
         plays::<D>(rt, alloc, story);
     }
 }

@@ -1,10 +1,9 @@
 //! A stream whose requests a server in memory answers.
 
 use p9_client::Stream;
-use p9_wire::{Frame, frame_of};
 use std::alloc::Global;
+use std::io;
 use std::io::{ErrorKind, Read, Write};
-use std::{io, mem};
 
 /// A server in memory.
 pub trait Server: Drop {
@@ -23,9 +22,6 @@ pub trait Seen: Stream + Drop {
 
     /// The server.
     fn server(&self) -> &Self::Server;
-
-    /// How many bytes were written.
-    fn written(&self) -> usize;
 }
 
 /// A stream to a server. What was written is answered when a reply is to be read and none is left.
@@ -36,7 +32,6 @@ pub struct Answered<S: Server> {
     pub broken: usize,
     /// How many bytes a call moves at most.
     pub most: usize,
-    written: usize,
     calls: usize,
     // What was written and is not answered yet.
     input: Vec<u8, Global>,
@@ -52,7 +47,6 @@ impl<S: Server> Answered<S> {
             server,
             broken: usize::MAX,
             most: usize::MAX,
-            written: 0,
             calls: 0,
             input: Vec::new(alloc),
             output: Vec::new(alloc),
@@ -93,7 +87,6 @@ impl<S: Server> Write for Answered<S> {
         self.count_call()?;
         let count = buf.len().min(self.most);
         self.input.extend_from_slice(&buf[..count])?;
-        self.written = self.written.saturating_add(count);
         Ok(count)
     }
 
@@ -118,32 +111,4 @@ impl<S: Server> Seen for Answered<S> {
     fn server(&self) -> &S {
         &self.server
     }
-
-    fn written(&self) -> usize {
-        self.written
-    }
-}
-
-/// Takes the first of the frames that were written, if it is whole.
-pub fn take_frame(input: &mut Vec<u8, Global>) -> io::Result<Option<Vec<u8, Global>>> {
-    let Frame::Whole(size) = frame_of(input.as_slice()) else {
-        return Ok(None);
-    };
-    let rest = input.split_off(size.min(input.len()))?;
-    Ok(Some(mem::replace(input, rest)))
-}
-
-/// The frame of a reply of this type.
-pub fn reply_frame(alloc: Global, kind: u8, tag: u16, body: &[u8]) -> io::Result<Vec<u8, Global>> {
-    let size = len_of(body).saturating_add(7);
-    let mut frame = Vec::from_slice(alloc, &size.to_le_bytes())?;
-    frame.push(kind)?;
-    frame.extend_from_slice(&tag.to_le_bytes())?;
-    frame.extend_from_slice(body)?;
-    Ok(frame)
-}
-
-/// How many bytes these are, as a message says it.
-pub fn len_of(bytes: &[u8]) -> u32 {
-    u32::try_from(bytes.len()).unwrap_or(u32::MAX)
 }

@@ -1,7 +1,7 @@
-//! A server of one file in memory, which does one thing wrong.
+//! A server of one file in memory, which does one thing wrong, or gives bytes in place of its answers.
 
-use crate::conn::client::answered::{Server, len_of, reply_frame, take_frame};
-use p9_wire::{TMsg, read_t};
+use crate::conn::client::answered::Server;
+use p9_wire::{Frame, TMsg, frame_of, read_t};
 use std::alloc::Global;
 use std::io;
 
@@ -51,6 +51,8 @@ pub fn fault_of(word: &str) -> Fault {
 /// A server of one file.
 #[derive(Drop)]
 pub struct Pieces {
+    /// The bytes that it gives once, whatever is asked, in place of its answers.
+    pub given: Vec<u8, Global>,
     pub file: Vec<u8, Global>,
     // The reply that is late.
     late: Vec<u8, Global>,
@@ -62,10 +64,14 @@ pub struct Pieces {
     pub most_waiting: usize,
 }
 
+// More bytes than a read asks for.
+const MORE: [u8; 256] = [0; 256];
+
 impl Pieces {
     /// A server of this file, which does this wrong at the request of this number.
     pub fn new(alloc: Global, file: Vec<u8, Global>, fault: Fault, place: usize) -> Pieces {
         Pieces {
+            given: Vec::new(alloc),
             file,
             late: Vec::new(alloc),
             fault,
@@ -88,66 +94,75 @@ impl Pieces {
         }
     }
 
+    // Answers the requests of whole frames, up to a hundred.
+    fn answer_all(&mut self, input: &[u8], output: &mut Vec<u8, Global>) -> io::Result<()> {
+        let mut rest = input;
+        let mut waiting = 0usize;
+        for _ in 0..100 {
+            let Frame::Whole(size) = frame_of(rest) else {
+                break;
+            };
+            let (frame, behind) = rest.split_at(size.min(rest.len()));
+            self.answer_one(frame, output)?;
+            rest = behind;
+            waiting = waiting.saturating_add(1);
+        }
+        self.most_waiting = self.most_waiting.max(waiting);
+        self.place_late(output)
+    }
+
     // Answers one request.
     fn answer_one(&mut self, frame: &[u8], output: &mut Vec<u8, Global>) -> io::Result<()> {
         let fault = self.next_fault();
-        let Some((tag, message)) = read_t(frame) else {
-            return Ok(());
-        };
-        let reply = self.reply(fault, tag_for(fault, tag), &message)?;
+        let mut reply = Vec::new(*self.file.allocator());
+        if let Some((tag, message)) = read_t(frame) {
+            self.reply(fault, tag_for(fault, tag), &message, &mut reply)?;
+        }
         self.place_reply(fault, reply, output)
     }
 
     // The reply to a request: what is read, or how many bytes were written; nothing for others.
-    fn reply(&mut self, fault: Fault, tag: u16, message: &TMsg<'_>) -> io::Result<Vec<u8, Global>> {
-        let alloc = *self.file.allocator();
-        match (fault, message) {
-            (Fault::Silent, _) => Ok(Vec::new(alloc)),
-            (Fault::Refused | Fault::RefusedAndOther, _) => {
-                reply_frame(alloc, 107, tag, &[2, 0, b'n', b'o'])
-            }
-            (Fault::OtherType, _) | (_, TMsg::Clunk { .. }) => reply_frame(alloc, 121, tag, &[]),
-            (_, TMsg::Read { offset, count, .. }) => self.read(fault, tag, *offset, *count),
-            (_, TMsg::Write { offset, bytes, .. }) => self.write(fault, tag, *offset, bytes),
-            _ => Ok(Vec::new(alloc)),
-        }
-    }
-
-    // The reply with the bytes of the file from an offset on.
-    fn read(&self, fault: Fault, tag: u16, offset: u64, count: u32) -> io::Result<Vec<u8, Global>> {
-        let alloc = *self.file.allocator();
-        let rest = self.file.get(offset as usize..).unwrap_or(&[]);
-        let rest = &rest[..rest.len().min(count as usize)];
-        let mut data = Vec::from_slice(alloc, moved(fault, rest))?;
-        if matches!(fault, Fault::More) {
-            data.resize((count as usize).saturating_add(1), 0)?;
-        }
-        let mut body = Vec::from_slice(alloc, &len_of(data.as_slice()).to_le_bytes())?;
-        body.extend_from_slice(data.as_slice())?;
-        reply_frame(alloc, 117, tag, body.as_slice())
-    }
-
-    // Writes bytes to the file from an offset on. The reply says how many these are.
-    fn write(
+    fn reply(
         &mut self,
         fault: Fault,
         tag: u16,
-        offset: u64,
-        bytes: &[u8],
-    ) -> io::Result<Vec<u8, Global>> {
-        let bytes = moved(fault, bytes);
-        self.store(offset as usize, bytes)?;
-        let count = len_of(bytes).saturating_add(u32::from(matches!(fault, Fault::More)));
-        reply_frame(*self.file.allocator(), 119, tag, &count.to_le_bytes())
+        message: &TMsg<'_>,
+        reply: &mut Vec<u8, Global>,
+    ) -> io::Result<()> {
+        match (fault, message) {
+            (Fault::Silent, _) => Ok(()),
+            (Fault::Refused | Fault::RefusedAndOther, _) => {
+                put_frame(reply, 107, tag, &[2, 0], b"no")
+            }
+            (Fault::OtherType, _) | (_, TMsg::Clunk { .. }) => put_frame(reply, 121, tag, b"", b""),
+            (_, TMsg::Read { offset, count, .. }) => {
+                let data = self.part(fault, *offset as usize, *count as usize);
+                put_frame(reply, 117, tag, &len_of(data).to_le_bytes(), data)
+            }
+            (_, TMsg::Write { offset, bytes, .. }) => {
+                let bytes = moved(fault, bytes);
+                self.store(*offset as usize, bytes)?;
+                let more = u32::from(matches!(fault, Fault::More));
+                let count = len_of(bytes).saturating_add(more);
+                put_frame(reply, 119, tag, &count.to_le_bytes(), b"")
+            }
+            _ => Ok(()),
+        }
     }
 
-    // Puts bytes into the file from a place on.
-    fn store(&mut self, start: usize, bytes: &[u8]) -> io::Result<()> {
-        let end = start.saturating_add(bytes.len());
-        self.file.resize(self.file.len().max(end), 0)?;
-        for (place, byte) in self.file.iter_mut().skip(start).zip(bytes) {
-            *place = *byte;
+    // The bytes of the file from an offset on that a read of so many gives.
+    fn part(&self, fault: Fault, offset: usize, count: usize) -> &[u8] {
+        if matches!(fault, Fault::More) {
+            return MORE.get(..count.saturating_add(1)).unwrap_or(&[]);
         }
+        let rest = self.file.get(offset..).unwrap_or(&[]);
+        moved(fault, &rest[..rest.len().min(count)])
+    }
+
+    // Puts bytes behind this place, and nothing behind them.
+    fn store(&mut self, place: usize, bytes: &[u8]) -> io::Result<()> {
+        self.file.resize(place, 0)?;
+        self.file.extend_from_slice(bytes)?;
         Ok(())
     }
 
@@ -159,17 +174,26 @@ impl Pieces {
         output: &mut Vec<u8, Global>,
     ) -> io::Result<()> {
         match fault {
-            Fault::Late => self.late = reply,
+            Fault::Late => {
+                self.late = reply;
+                Ok(())
+            }
             Fault::Backwards => {
                 reply.extend_from_slice(output.as_slice())?;
                 *output = reply;
+                Ok(())
             }
             _ => {
                 output.extend_from_slice(reply.as_slice())?;
-                output.extend_from_slice(self.late.as_slice())?;
-                self.late.clear();
+                self.place_late(output)
             }
         }
+    }
+
+    // Adds the reply that is late, if there is one.
+    fn place_late(&mut self, output: &mut Vec<u8, Global>) -> io::Result<()> {
+        output.extend_from_slice(self.late.as_slice())?;
+        self.late.clear();
         Ok(())
     }
 }
@@ -180,17 +204,13 @@ impl Server for Pieces {
         input: &mut Vec<u8, Global>,
         output: &mut Vec<u8, Global>,
     ) -> io::Result<()> {
-        let mut waiting = 0usize;
-        for _ in 0..100 {
-            let Some(frame) = take_frame(input)? else {
-                break;
-            };
-            self.answer_one(frame.as_slice(), output)?;
-            waiting = waiting.saturating_add(1);
+        if self.given.is_empty() {
+            self.answer_all(input.as_slice(), output)?;
+        } else {
+            output.extend_from_slice(self.given.as_slice())?;
+            self.given.clear();
         }
-        self.most_waiting = self.most_waiting.max(waiting);
-        output.extend_from_slice(self.late.as_slice())?;
-        self.late.clear();
+        input.clear();
         Ok(())
     }
 }
@@ -210,4 +230,26 @@ fn moved(fault: Fault, bytes: &[u8]) -> &[u8] {
         Fault::Short => &bytes[..bytes.len() / 2],
         _ => bytes,
     }
+}
+
+// Adds the frame of a reply of this type.
+fn put_frame(
+    reply: &mut Vec<u8, Global>,
+    kind: u8,
+    tag: u16,
+    head: &[u8],
+    data: &[u8],
+) -> io::Result<()> {
+    let size = len_of(head).saturating_add(len_of(data)).saturating_add(7);
+    reply.extend_from_slice(&size.to_le_bytes())?;
+    reply.push(kind)?;
+    reply.extend_from_slice(&tag.to_le_bytes())?;
+    reply.extend_from_slice(head)?;
+    reply.extend_from_slice(data)?;
+    Ok(())
+}
+
+// How many bytes these are, as a message says it.
+fn len_of(bytes: &[u8]) -> u32 {
+    u32::try_from(bytes.len()).unwrap_or(u32::MAX)
 }

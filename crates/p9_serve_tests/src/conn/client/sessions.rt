@@ -1,14 +1,14 @@
 //! A session over a guard: each call once.
 
 use crate::conn::client::answered::{Answered, Server};
-use crate::conn::client::kinds::outcome;
-use p9_base::{DMDIR, Qid};
-use p9_client::{ClientError, FileError, Session, Stream};
+use crate::conn::client::calls::call;
+use crate::conn::client::plays::parted;
+use p9_client::{Session, Stream};
 use p9_guard::Guard;
 use p9_serve::served_guard;
 use p9_tree::Tree;
-use p9_wire::{Frame, Stat, frame_of};
-use std::alloc::{Allocator, Global};
+use p9_wire::{Frame, frame_of};
+use std::alloc::Global;
 use std::io;
 use std::process::Abort;
 
@@ -70,160 +70,66 @@ fn answer_first<T: Tree>(
     Ok(size)
 }
 
-// A stat that changes nothing but the name.
-fn renaming(name: &str) -> Stat<'_> {
-    Stat {
-        kind: u16::MAX,
-        dev: u32::MAX,
-        qid: Qid {
-            kind: u8::MAX,
-            version: u32::MAX,
-            path: u64::MAX,
-        },
-        mode: u32::MAX,
-        atime: u32::MAX,
-        mtime: u32::MAX,
-        length: u64::MAX,
-        name,
-        uid: "",
-        gid: "",
-        muid: "",
-    }
-}
+// A session's life: calls, and what they come to. Glenda attaches fid 0. A file is made and written, and
+// gets another name. A directory is made beside it, and the directory that all may write has its entries,
+// in the order in which they were made. The file is read and removed. A directory that only sys may read is
+// walked to and not opened, and a name with a NUL has no message. The twentieth of forty names isn't there:
+// the new fid is none then, and the first one is where it was.
+const LIFE: &str = "\
+version = done
+attach glenda = done
+walk pub = done
+make note = done
+put a note = done
+clunk = done
+walk pub note = done
+rename other = done
+stat = done other 6
+clunk = done
+walk pub = done
+mkdir more = done
+clunk = done
+walk pub = done
+open = done
+list = done hello sub/ other more/
+clunk = done
+walk pub other = done
+open = done
+get = done a note
+remove = done
+walk pub other = file does not exist
+walk shut = done
+open = permission denied
+attach glen\0da = the request is too long for a message
+clunk = done
+walk .. .. .. .. .. .. .. .. .. .. .. .. .. .. .. .. .. .. .. missing .. .. .. .. .. .. .. .. .. .. .. \
+    .. .. .. .. .. .. .. .. .. = file does not exist
+stat = unknown fid
+walk .. .. .. .. .. .. .. .. .. .. .. .. .. .. .. .. .. .. .. .. .. .. .. .. .. .. .. .. .. .. .. \
+    .. .. .. .. .. .. .. .. .. = done
+clunk = done
+";
 
-// A file is made, and six bytes are written to it.
-fn is_made<S: Stream + Drop, A: Allocator + Copy>(
-    session: &mut Session<S, A>,
-) -> Result<(), FileError> {
-    session.walk_path(0, 1, &["pub"])?;
-    session.create(1, "note", 0o644, 1)?;
-    session.write_whole(1, b"a note")?;
-    session.clunk(1)?;
-    Ok(())
-}
-
-// It gets another name.
-fn is_renamed<S: Stream + Drop, A: Allocator + Copy>(
+// A call comes to this.
+fn is_told<S: Stream + Drop>(
     rt: &impl Abort,
-    alloc: A,
-    session: &mut Session<S, A>,
-) -> Result<(), FileError> {
-    session.walk_path(0, 1, &["pub", "note"])?;
-    session.wstat(1, renaming("other"))?;
-    let is_other = match &session.stat(alloc, 1) {
-        Ok(entry) => entry.name.as_str() == "other" && entry.length == 6,
-        Err(_) => false,
-    };
-    assert!(rt; is_other);
-    session.clunk(1)?;
-    Ok(())
-}
-
-// A directory is made beside it.
-fn is_joined<S: Stream + Drop, A: Allocator + Copy>(
-    session: &mut Session<S, A>,
-) -> Result<(), FileError> {
-    session.walk_path(0, 1, &["pub"])?;
-    session.create(1, "more", DMDIR | 0o755, 0)?;
-    session.clunk(1)?;
-    Ok(())
-}
-
-// The directory that all may write has its entries, in the order in which they were made.
-fn is_listed<S: Stream + Drop, A: Allocator + Copy>(
-    rt: &impl Abort,
-    alloc: A,
-    session: &mut Session<S, A>,
-) -> Result<(), FileError> {
-    session.walk_path(0, 1, &["pub"])?;
-    session.open(1, 0)?;
-    let entries = session.list(alloc, 1)?;
-    let names = [
-        ("hello", false),
-        ("sub", true),
-        ("other", false),
-        ("more", true),
-    ];
-    let found = entries
-        .iter()
-        .map(|entry| (entry.name.as_str(), entry.is_dir()));
-    assert!(rt; found.eq(names.iter().copied()));
-    session.clunk(1)?;
-    Ok(())
-}
-
-// The file is read and removed.
-fn ends<S: Stream + Drop, A: Allocator + Copy>(
-    rt: &impl Abort,
-    alloc: A,
-    session: &mut Session<S, A>,
-) -> Result<(), FileError> {
-    let mut out = Vec::new(alloc);
-    session.walk_path(0, 1, &["pub", "other"])?;
-    session.open(1, 0)?;
-    session.read_to(1, &mut out)?;
-    assert!(rt; out.as_slice() == b"a note".as_slice());
-    session.remove(1)?;
-    let gone = outcome(&session.walk_path(0, 1, &["pub", "other"]));
-    assert!(rt; gone == "not walked" && !session.is_failed());
-    Ok(())
-}
-
-// A directory that only sys may read is walked to and not opened. A name with a NUL has no message.
-fn is_refused<S: Stream + Drop, A: Allocator + Copy>(
-    rt: &impl Abort,
-    session: &mut Session<S, A>,
-) -> Result<(), FileError> {
-    session.walk_path(0, 1, &["shut"])?;
-    let is_denied = match &session.open(1, 0) {
-        Err(ClientError::Refused(reason)) => reason.as_str() == "permission denied",
-        _ => false,
-    };
-    let is_too_long = matches!(session.attach(2, "glen\0da", ""), Err(ClientError::TooLong));
-    assert!(rt; is_denied && is_too_long);
-    session.clunk(1)?;
-    Ok(())
-}
-
-// The twentieth of forty names isn't there. The new fid is none then, and the first one is where
-// it was.
-fn leads_nowhere<S: Stream + Drop, A: Allocator + Copy>(
-    rt: &impl Abort,
-    alloc: A,
-    session: &mut Session<S, A>,
-) -> Result<(), FileError> {
-    let mut path = [".."; 40];
-    path[19] = "missing";
-    let came = outcome(&session.walk_path(0, 1, &path));
-    let is_none = matches!(session.stat(alloc, 1), Err(ClientError::Refused(_)));
-    assert!(rt; came == "not walked" && is_none);
-    path[19] = "..";
-    session.walk_path(0, 1, &path)?;
-    session.clunk(1)?;
-    Ok(())
-}
-
-// The life of a session, in which glenda attaches fid 0.
-fn lives<S: Stream + Drop, A: Allocator + Copy>(
-    rt: &impl Abort,
-    alloc: A,
-    session: &mut Session<S, A>,
-) -> Result<(), FileError> {
-    assert!(rt; session.version()? == 8_192);
-    session.attach(0, "glenda", "")?;
-    is_made(session)?;
-    is_renamed(rt, alloc, session)?;
-    is_joined(session)?;
-    is_listed(rt, alloc, session)?;
-    ends(rt, alloc, session)?;
-    is_refused(rt, session)?;
-    leads_nowhere(rt, alloc, session)
+    alloc: Global,
+    session: &mut Session<S, Global>,
+    row: &str,
+) {
+    let (line, wanted) = parted(rt, row, " = ");
+    let mut told = String::new(alloc);
+    assert!(rt; call(session, alloc, line, &mut told).is_ok());
+    assert!(rt; told.as_str() == wanted, "{row}: {told}");
 }
 
 // A session's life over this stream.
 fn lives_over<S: Stream + Drop>(rt: &impl Abort, alloc: Global, stream: S) {
     let mut session = Session::new(alloc, stream, 8_192).expect(rt, "memory");
-    lives(rt, alloc, &mut session).expect(rt, "a life");
+    for row in LIFE.lines() {
+        is_told(rt, alloc, &mut session, row);
+    }
+    drop(session);
 }
 
 // A session's life with a guard, over a stream whose calls move at most so many bytes.
