@@ -6,14 +6,16 @@ use crate::sink::write_text;
 use clap::ArgMatches;
 use p9_base::{NoMemory, NodeRef, Stop, lines, words};
 use p9_commands::{Bundle, BundleError, NameSpace, Needs, path_of, prepare, split_bundle};
+use p9_index::IndexTree;
 use p9_pack::{Unfit, UnfitNode, is_same_world, unfit_nodes, write_world};
 use p9_shell::Failure;
 use p9_shell::status::{DONE, REFUSED};
 use p9_shown::AsShown;
 use p9_space::Member;
-use p9_tree::Tree;
 use p9_world::World;
 use std::alloc::Global;
+
+type Space = NameSpace<IndexTree<Global>>;
 
 /// Prints what is kept in a folder as an input without a certificate, or writes it into the file of the
 /// option `--output`. Returns the exit status.
@@ -30,11 +32,11 @@ pub(crate) fn run_world(rt: &HostRuntime, options: &ArgMatches<'_>) -> Result<u8
 }
 
 // The text of an input, and the exit status with which it is printed.
-fn text_in<T: Tree<Alloc = Global>>(
+fn text_in(
     rt: &HostRuntime,
     folder: &str,
     export: &[u8],
-    space: &NameSpace<T>,
+    space: &Space,
 ) -> Result<(Vec<u8>, u8), Failure> {
     refuse_unfit(rt, &space.world)?;
     let text = match input_text(rt.alloc(), export, &space.world) {
@@ -49,10 +51,7 @@ fn text_in<T: Tree<Alloc = Global>>(
 }
 
 // Reports each file or directory that a world's text can't have. Where there is one, nothing is printed.
-fn refuse_unfit<T: Tree<Alloc = Global>>(
-    rt: &HostRuntime,
-    world: &World<T>,
-) -> Result<(), Failure> {
+fn refuse_unfit(rt: &HostRuntime, world: &World<IndexTree<Global>>) -> Result<(), Failure> {
     let found = unfit_nodes(rt.alloc(), world)?;
     for node in found.as_slice() {
         report_unfit(rt, world, node)?;
@@ -61,9 +60,9 @@ fn refuse_unfit<T: Tree<Alloc = Global>>(
 }
 
 // Reports a file or directory that a world's text can't have.
-fn report_unfit<T: Tree<Alloc = Global>>(
+fn report_unfit(
     rt: &HostRuntime,
-    world: &World<T>,
+    world: &World<IndexTree<Global>>,
     node: &UnfitNode,
 ) -> Result<(), Failure> {
     let path = path_of(rt.alloc(), world, node.at)?;
@@ -82,10 +81,10 @@ fn refuse_some(rt: &HostRuntime, count: usize) -> Result<(), Failure> {
 }
 
 // The text of an input: the present world, and the other sections of its export but for the certificate.
-fn input_text<T: Tree<Alloc = Global>>(
+fn input_text(
     alloc: Global,
     export: &[u8],
-    world: &World<T>,
+    world: &World<IndexTree<Global>>,
 ) -> Result<Vec<u8>, Stop<Unfit>> {
     let bundle = sections(alloc, export)?;
     let mut text = Vec::new(alloc);
@@ -142,13 +141,8 @@ fn push_section(head: &str, section: &Option<String>, text: &mut Vec<u8>) -> Res
 
 // Reads a text back, and returns the exit status with which it is printed. One that is not read as the same
 // world is refused.
-fn read_back<T: Tree<Alloc = Global>>(
-    rt: &HostRuntime,
-    folder: &str,
-    text: &[u8],
-    space: &NameSpace<T>,
-) -> Result<u8, Failure> {
-    match prepare::<T>(rt.alloc(), text, Needs::Nothing) {
+fn read_back(rt: &HostRuntime, folder: &str, text: &[u8], space: &Space) -> Result<u8, Failure> {
+    match prepare::<IndexTree<Global>>(rt.alloc(), text, Needs::Nothing) {
         Ok(read) => {
             let told = told_of(rt, folder, space, &read.space);
             read.discard();
@@ -159,12 +153,7 @@ fn read_back<T: Tree<Alloc = Global>>(
 }
 
 // Tells what is other in a text that was read back, and returns the exit status.
-fn told_of<T: Tree<Alloc = Global>>(
-    rt: &HostRuntime,
-    folder: &str,
-    space: &NameSpace<T>,
-    read: &NameSpace<T>,
-) -> Result<u8, Failure> {
+fn told_of(rt: &HostRuntime, folder: &str, space: &Space, read: &Space) -> Result<u8, Failure> {
     if !is_same_world(&space.world, &read.world) {
         let why = "the text is not read as the same world";
         return Err(PROGRAM.refuse(rt, folder, &why, Failure::Refused));
@@ -186,7 +175,7 @@ fn told_of<T: Tree<Alloc = Global>>(
 }
 
 // How many hidden directories are not there any more.
-fn gone_hidden<T: Tree<Alloc = Global>>(world: &World<T>) -> usize {
+fn gone_hidden(world: &World<IndexTree<Global>>) -> usize {
     world
         .hidden
         .iter()
@@ -195,11 +184,7 @@ fn gone_hidden<T: Tree<Alloc = Global>>(world: &World<T>) -> usize {
 }
 
 // Whether the mount tables of two name spaces are the same by the paths of their places.
-fn is_same_table<T: Tree<Alloc = Global>>(
-    alloc: Global,
-    one: &NameSpace<T>,
-    other: &NameSpace<T>,
-) -> Result<bool, NoMemory> {
+fn is_same_table(alloc: Global, one: &Space, other: &Space) -> Result<bool, NoMemory> {
     if one.table.len() != other.table.len() {
         return Ok(false);
     }
@@ -212,10 +197,10 @@ fn is_same_table<T: Tree<Alloc = Global>>(
 }
 
 // Whether the rows at a position of the mount tables are the same by the paths of their places.
-fn is_same_row<T: Tree<Alloc = Global>>(
+fn is_same_row(
     alloc: Global,
-    one: &NameSpace<T>,
-    other: &NameSpace<T>,
+    one: &Space,
+    other: &Space,
     position: usize,
 ) -> Result<bool, NoMemory> {
     let (Some((key, members)), Some((other_key, other_members))) = (
@@ -237,11 +222,11 @@ fn is_same_row<T: Tree<Alloc = Global>>(
 }
 
 // Whether the members of two rows are the same by their paths.
-fn are_same_members<T: Tree<Alloc = Global>>(
+fn are_same_members(
     alloc: Global,
-    one: &NameSpace<T>,
+    one: &Space,
     members: &[Member],
-    other: &NameSpace<T>,
+    other: &Space,
     others: &[Member],
 ) -> Result<bool, NoMemory> {
     if members.len() != others.len() {
@@ -258,11 +243,11 @@ fn are_same_members<T: Tree<Alloc = Global>>(
 }
 
 // Whether two nodes have the same path.
-fn is_same_path<T: Tree<Alloc = Global>>(
+fn is_same_path(
     alloc: Global,
-    one: &NameSpace<T>,
+    one: &Space,
     at: NodeRef,
-    other: &NameSpace<T>,
+    other: &Space,
     other_at: NodeRef,
 ) -> Result<bool, NoMemory> {
     let path = path_of(alloc, &one.world, at)?;
