@@ -6,38 +6,33 @@
 mod accounts;
 mod attributes;
 mod demo;
-mod explain;
 mod hide;
-mod map;
 mod node;
 mod output;
+mod over_input;
 mod owner;
 mod pack;
+mod pack_tree;
 mod present;
 mod reason;
 mod rename;
-mod seal;
 mod settings;
 mod sink;
 mod source;
 mod streams;
-mod tree;
 mod unpack;
 mod unpacking;
-mod view;
 mod words;
 mod world;
 
 use crate::demo::run_demo;
-use crate::explain::run_explain;
-use crate::map::run_map;
+use crate::over_input::run_over_input;
 use crate::pack::run_pack;
-use crate::seal::run_seal;
 use crate::unpack::run_unpack;
-use crate::view::run_tree;
 use crate::words::SHAPE;
 use crate::world::run_world;
 use clap::ArgMatches;
+use p9_inputs::InputCommand;
 use p9_shell::status::DONE;
 use p9_shell::{Failure, Program, exit};
 use std::process::ExitCode;
@@ -62,13 +57,13 @@ fn run(rt: &HostRuntime) -> Result<u8, Failure> {
 fn run_command(rt: &HostRuntime, matches: &ArgMatches<'_>) -> Result<u8, Failure> {
     match matches.subcommand() {
         Some(("pack", options)) => run_pack(rt, options),
-        Some(("seal", options)) => run_seal(rt, options),
-        Some(("explain", options)) => run_explain(rt, options),
-        Some(("tree", options)) => run_tree(rt, options),
-        Some(("map", _)) => run_map(rt),
         Some(("demo", options)) => run_demo(rt, options),
         Some(("world", options)) => run_world(rt, options),
         Some(("unpack", options)) => run_unpack(rt, options),
-        _ => Err(PROGRAM.bad_words(rt)),
+        Some((name, options)) => match InputCommand::named(name) {
+            Some(command) => run_over_input(rt, command, options),
+            None => Err(PROGRAM.bad_words(rt)),
+        },
+        None => Err(PROGRAM.bad_words(rt)),
     }
 }

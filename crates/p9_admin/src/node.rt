@@ -10,7 +10,7 @@ use crate::reason::Reason;
 use crate::rename::{Rename, is_taken, with_new_names};
 use crate::settings::{Settings, add_user};
 use p9_base::FileFlags;
-use p9_files::Dir;
+use p9_files::{Dir, Listing};
 use p9_pack::{
     Accounts, DirLine, FileLine, PlainName, PlainUser, ServerName, fit_size, write_dir, write_file,
     write_server,
@@ -20,12 +20,14 @@ use p9_shown::AsShown;
 use p9_tree::FILE_MAX;
 use std::alloc::Global;
 use std::fs::{File, FileType, Metadata};
-use std::io::{self, ErrorKind, Read};
+use std::io::{self, Read};
 
 /// What is packed so far.
 pub(crate) struct Packing<'s> {
     pub output: Output,
     pub settings: &'s Settings,
+    /// The files of accounts.
+    pub accounts: &'s Accounts<'s, Global>,
     /// What is renamed.
     pub renames: &'s [Rename<'s>],
     /// What is to be hidden, each once.
@@ -72,38 +74,60 @@ pub(crate) struct Entry<'a> {
     pub disk: &'a str,
 }
 
+/// An open directory of the disk.
+#[derive(Drop)]
+pub(crate) struct OpenDir {
+    pub dir: Dir,
+    /// Its path on the disk, as it is shown.
+    pub disk: String,
+    pub attributes: Attributes,
+}
+
+// A file of the disk that was read.
+#[derive(Drop)]
+struct ReadFile {
+    bytes: Vec<u8>,
+    attributes: Attributes,
+}
+
 impl Packing<'_> {
     /// Packs the directory or file of an entry, which has these names from the root of its server on.
     /// Of a directory it returns the entries, unless it is left out, or they are not to be packed.
     pub fn entry(
         &mut self,
         rt: &HostRuntime,
-        accounts: &Accounts<'_, Global>,
         server: &ServerName,
         names: &[PlainName],
         entry: Entry<'_>,
     ) -> Result<Option<Level>, Failure> {
-        let seen = match entry.dir.look(rt, entry.name) {
-            Ok(seen) => seen,
-            Err(error) => {
-                self.fail(rt, entry.disk, error)?;
-                return Ok(None);
-            }
-        };
+        match entry.dir.look(rt, entry.name) {
+            Ok(seen) => self.seen(rt, server, names, entry, &seen),
+            Err(error) => self.none(rt, entry.disk, Reason::System(error)),
+        }
+    }
+
+    // Packs what was seen of an entry.
+    fn seen(
+        &mut self,
+        rt: &HostRuntime,
+        server: &ServerName,
+        names: &[PlainName],
+        entry: Entry<'_>,
+        seen: &Metadata,
+    ) -> Result<Option<Level>, Failure> {
         if let Some(reason) = why_not(seen.file_type()) {
-            self.output.leave_out(rt, entry.disk, reason)?;
-            return Ok(None);
+            return self.none(rt, entry.disk, reason);
         }
         if !seen.is_dir() {
-            self.file(rt, accounts, names, entry)?;
+            self.file(rt, names, entry)?;
             return Ok(None);
         }
         if is_entered(self.hides.as_slice(), self.with_hidden, server, names) {
-            return self.open_dir(rt, accounts, server, names, entry);
+            return self.open_dir(rt, server, names, entry);
         }
-        match attributes_of(self.settings, accounts, &seen) {
+        match attributes_of(self.settings, self.accounts, seen) {
             Ok(attributes) => self.dir_lines(rt, server, names, attributes, entry.disk)?,
-            Err(reason) => self.output.leave_out(rt, entry.disk, reason)?,
+            Err(reason) => self.leave_out(rt, entry.disk, reason)?,
         }
         Ok(None)
     }
@@ -112,26 +136,13 @@ impl Packing<'_> {
     fn open_dir(
         &mut self,
         rt: &HostRuntime,
-        accounts: &Accounts<'_, Global>,
         server: &ServerName,
         names: &[PlainName],
         entry: Entry<'_>,
     ) -> Result<Option<Level>, Failure> {
-        match opened_dir(rt, entry) {
-            Ok((dir, metadata)) => match attributes_of(self.settings, accounts, &metadata) {
-                Ok(attributes) => {
-                    let disk = String::from_str(rt.alloc(), entry.disk)?;
-                    self.dir(rt, server, names, attributes, dir, disk)
-                }
-                Err(reason) => {
-                    self.output.leave_out(rt, entry.disk, reason)?;
-                    Ok(None)
-                }
-            },
-            Err(error) => {
-                self.fail(rt, entry.disk, error)?;
-                Ok(None)
-            }
+        match opened_dir(rt, self.settings, self.accounts, entry) {
+            Ok(open) => self.dir(rt, server, names, open),
+            Err(reason) => self.none(rt, entry.disk, reason),
         }
     }
 
@@ -141,17 +152,28 @@ impl Packing<'_> {
         rt: &HostRuntime,
         server: &ServerName,
         names: &[PlainName],
-        attributes: Attributes,
-        dir: Dir,
-        disk: String,
+        open: OpenDir,
     ) -> Result<Option<Level>, Failure> {
-        let found = match dir.names(rt) {
-            Ok(found) => found,
-            Err(error) => {
-                self.fail(rt, disk.as_str(), error)?;
-                return Ok(None);
-            }
-        };
+        match open.dir.names(rt) {
+            Ok(found) => self.level(rt, server, names, open, found),
+            Err(error) => self.none(rt, open.disk.as_str(), Reason::System(error)),
+        }
+    }
+
+    // Packs an open directory of these names.
+    fn level(
+        &mut self,
+        rt: &HostRuntime,
+        server: &ServerName,
+        names: &[PlainName],
+        open: OpenDir,
+        found: Listing,
+    ) -> Result<Option<Level>, Failure> {
+        let OpenDir {
+            dir,
+            disk,
+            attributes,
+        } = open;
         self.dir_lines(rt, server, names, attributes, disk.as_str())?;
         self.output
             .leave_out_names(rt, disk.as_str(), found.others)?;
@@ -212,41 +234,23 @@ impl Packing<'_> {
     fn file(
         &mut self,
         rt: &HostRuntime,
-        accounts: &Accounts<'_, Global>,
         names: &[PlainName],
         entry: Entry<'_>,
     ) -> Result<(), Failure> {
-        match opened_file(rt, entry) {
-            Ok((file, metadata)) => match attributes_of(self.settings, accounts, &metadata) {
-                Ok(attributes) => {
-                    self.open_file(rt, names, attributes, file, metadata.len(), entry.disk)
-                }
-                Err(reason) => self.output.leave_out(rt, entry.disk, reason),
-            },
-            Err(error) => self.fail(rt, entry.disk, error),
+        match read_file(rt, self.settings, self.accounts, entry) {
+            Ok(file) => self.file_line(rt, names, &file, entry.disk),
+            Err(reason) => self.leave_out(rt, entry.disk, reason),
         }
     }
 
-    // Packs an open file of so many bytes.
-    fn open_file(
+    // Packs a file that was read.
+    fn file_line(
         &mut self,
         rt: &HostRuntime,
         names: &[PlainName],
-        attributes: Attributes,
-        file: File,
-        len: u64,
+        file: &ReadFile,
         disk: &str,
     ) -> Result<(), Failure> {
-        if let Err(unfit) = fit_size(len) {
-            return self.output.leave_out(rt, disk, Reason::Unfit(unfit));
-        }
-        let bytes = match contents(rt, file, len) {
-            Ok(bytes) => bytes,
-            Err(error) => return self.fail(rt, disk, error),
-        };
-        if let Err(unfit) = fit_size(bytes.len() as u64) {
-            return self.output.leave_out(rt, disk, Reason::Unfit(unfit));
-        }
         let line = FileLine {
             path: names,
             flags: FileFlags {
@@ -254,14 +258,14 @@ impl Packing<'_> {
                 exclusive: false,
                 temporary: false,
             },
-            permissions: attributes.permissions,
-            uid: attributes.uid,
-            gid: attributes.gid,
-            bytes: bytes.as_slice(),
+            permissions: file.attributes.permissions,
+            uid: file.attributes.uid,
+            gid: file.attributes.gid,
+            bytes: file.bytes.as_slice(),
         };
         let added = write_file(rt.alloc(), &line, &mut self.output.text);
         self.output.count(rt, added)?;
-        self.note(rt, attributes, disk)
+        self.note(rt, file.attributes, disk)
     }
 
     // Notes a group that occurs, and reports the bits of a mode that are lost.
@@ -279,27 +283,57 @@ impl Packing<'_> {
         Ok(())
     }
 
-    // Leaves out what the system refused, unless an allocation failed.
-    fn fail(&mut self, rt: &HostRuntime, disk: &str, error: io::Error) -> Result<(), Failure> {
-        if error.kind() == ErrorKind::OutOfMemory {
+    /// Leaves out an entry, of which nothing is to be packed. Where the reason is a failed allocation, it
+    /// fails.
+    pub fn none(
+        &mut self,
+        rt: &HostRuntime,
+        disk: &str,
+        reason: Reason,
+    ) -> Result<Option<Level>, Failure> {
+        self.leave_out(rt, disk, reason)?;
+        Ok(None)
+    }
+
+    // Leaves out what can't be packed, unless an allocation failed.
+    fn leave_out(&mut self, rt: &HostRuntime, disk: &str, reason: Reason) -> Result<(), Failure> {
+        if reason.is_no_memory() {
             return Err(Failure::NoMemory);
         }
-        self.output.leave_out(rt, disk, Reason::System(error))
+        self.output.leave_out(rt, disk, reason)
     }
 }
 
 // Opens the directory of an entry.
-fn opened_dir(rt: &HostRuntime, entry: Entry<'_>) -> io::Result<(Dir, Metadata)> {
+fn opened_dir(
+    rt: &HostRuntime,
+    settings: &Settings,
+    accounts: &Accounts<'_, Global>,
+    entry: Entry<'_>,
+) -> Result<OpenDir, Reason> {
     let dir = entry.dir.open_dir(entry.name)?;
-    let metadata = dir.metadata(rt)?;
-    Ok((dir, metadata))
+    let attributes = attributes_of(settings, accounts, &dir.metadata(rt)?)?;
+    Ok(OpenDir {
+        dir,
+        disk: String::from_str(rt.alloc(), entry.disk).map_err(io::Error::from)?,
+        attributes,
+    })
 }
 
-// Opens the file of an entry.
-fn opened_file(rt: &HostRuntime, entry: Entry<'_>) -> io::Result<(File, Metadata)> {
+// Reads the file of an entry.
+fn read_file(
+    rt: &HostRuntime,
+    settings: &Settings,
+    accounts: &Accounts<'_, Global>,
+    entry: Entry<'_>,
+) -> Result<ReadFile, Reason> {
     let file = entry.dir.open_file(rt, entry.name)?;
     let metadata = file.metadata()?;
-    Ok((file, metadata))
+    let attributes = attributes_of(settings, accounts, &metadata)?;
+    fit_size(metadata.len())?;
+    let bytes = contents(rt, file, metadata.len())?;
+    fit_size(bytes.len() as u64)?;
+    Ok(ReadFile { bytes, attributes })
 }
 
 // The bytes of an open file, of which there are `len`. Where it grew, at most one more than

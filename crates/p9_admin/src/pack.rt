@@ -9,11 +9,11 @@ use crate::hide::Hide;
 use crate::node::Packing;
 use crate::output::Output;
 use crate::owner::leader_of;
+use crate::pack_tree::pack_tree;
 use crate::reason::Reason;
 use crate::rename::{Rename, renames_in};
 use crate::settings::{Settings, settings_asked};
 use crate::source::{Source, hides_in, sources_in};
-use crate::tree::pack_tree;
 use clap::ArgMatches;
 use p9_pack::{
     Accounts, GroupLine, HideLine, PlainName, PlainUser, write_group, write_hide, write_user,
@@ -70,8 +70,8 @@ fn pack_sources(
     renames: &[Rename<'_>],
     sources: Vec<Source>,
 ) -> Result<u8, Failure> {
-    let mut packing = packing_of(rt, options, settings, renames, sources.as_slice())?;
-    let done = pack_world(rt, &mut packing, accounts, sources);
+    let mut packing = packing_of(rt, options, settings, accounts, renames, sources.as_slice())?;
+    let done = pack_world(rt, &mut packing, sources);
     end(rt, packing, done, options.get_flag("skip"))
 }
 
@@ -80,6 +80,7 @@ fn packing_of<'s>(
     rt: &HostRuntime,
     options: &ArgMatches<'_>,
     settings: &'s Settings,
+    accounts: &'s Accounts<'s, Global>,
     renames: &'s [Rename<'s>],
     sources: &[Source],
 ) -> Result<Packing<'s>, Failure> {
@@ -90,6 +91,7 @@ fn packing_of<'s>(
     Ok(Packing {
         output,
         settings,
+        accounts,
         renames,
         hides,
         with_hidden,
@@ -108,6 +110,7 @@ fn end(
     let Packing {
         output,
         settings: _,
+        accounts: _,
         renames: _,
         hides,
         with_hidden: _,
@@ -135,12 +138,11 @@ fn exit_status(left_out: u64, is_whole: bool, skip: bool) -> u8
 fn pack_world(
     rt: &HostRuntime,
     packing: &mut Packing<'_>,
-    accounts: &Accounts<'_, Global>,
     sources: Vec<Source>,
 ) -> Result<(), Failure> {
     packing.output.text.extend_from_slice(b"%% world\n")?;
-    pack_trees(rt, packing, accounts, sources)?;
-    pack_groups(rt, packing, accounts)?;
+    pack_trees(rt, packing, sources)?;
+    pack_groups(rt, packing)?;
     pack_users(rt, &mut packing.output, packing.settings.users.as_slice())?;
     pack_hides(rt, &mut packing.output, packing.hides.as_slice())?;
     packing.output.flush(rt)?;
@@ -151,24 +153,19 @@ fn pack_world(
 fn pack_trees(
     rt: &HostRuntime,
     packing: &mut Packing<'_>,
-    accounts: &Accounts<'_, Global>,
     sources: Vec<Source>,
 ) -> Result<(), Failure> {
     for source in sources {
-        pack_tree(rt, packing, accounts, source)?;
+        pack_tree(rt, packing, source)?;
     }
     Ok(())
 }
 
 // Packs the groups that occur.
-fn pack_groups(
-    rt: &HostRuntime,
-    packing: &mut Packing<'_>,
-    accounts: &Accounts<'_, Global>,
-) -> Result<(), Failure> {
+fn pack_groups(rt: &HostRuntime, packing: &mut Packing<'_>) -> Result<(), Failure> {
     for group in packing.groups.as_slice() {
-        let leader = leader_of(packing.settings.leader, accounts, *group);
-        pack_group(rt, &mut packing.output, accounts, *group, leader)?;
+        let leader = leader_of(packing.settings.leader, packing.accounts, *group);
+        pack_group(rt, &mut packing.output, packing.accounts, *group, leader)?;
     }
     Ok(())
 }

@@ -1,7 +1,7 @@
 //! Why something is left out or refused.
 
 use p9_pack::Unfit;
-use std::io;
+use std::io::{self, ErrorKind};
 use thiserror::Error;
 
 /// Why something of the disk is left out of a world, or can't be what an option names.
@@ -43,6 +43,22 @@ pub(crate) enum Reason {
     /// It is inside of another hidden directory, or has one inside.
     #[error("another --hide is on its path; with --with-hidden both are there")]
     Nested,
+}
+
+impl Reason {
+    /// Whether an allocation failed.
+    pub fn is_no_memory(self) -> bool {
+        match self {
+            Reason::System(error) => error.kind() == ErrorKind::OutOfMemory,
+            _ => false,
+        }
+    }
+}
+
+impl From<io::Error> for Reason {
+    fn from(error: io::Error) -> Reason {
+        Reason::System(error)
+    }
 }
 
 impl From<Unfit> for Reason {

@@ -7,6 +7,7 @@ ghost use Rattle.p9_admin.specs.Server.{new_server};
 use crate::PROGRAM;
 use crate::attributes::{Attributes, attributes_of};
 use crate::hide::{Hide, HideFault, hide_in, is_below, is_hidden};
+use crate::node::OpenDir;
 use crate::reason::Reason;
 use crate::rename::{Rename, renamed_place};
 use crate::settings::Settings;
@@ -24,10 +25,7 @@ use std::path::Path;
 #[derive(Drop)]
 pub(crate) struct Source {
     pub server: ServerName,
-    pub dir: Dir,
-    /// Its path.
-    pub disk: String,
-    pub attributes: Attributes,
+    pub root: OpenDir,
 }
 
 /// The directories of the disk, each opened. Where one can't be had, that is reported.
@@ -111,9 +109,11 @@ fn source_of(
     match dir_of(rt, settings, accounts, path) {
         Ok((dir, attributes)) => Ok(Source {
             server,
-            dir,
-            disk,
-            attributes,
+            root: OpenDir {
+                dir,
+                disk,
+                attributes,
+            },
         }),
         Err(reason) => Err(PROGRAM.refuse_option(rt, "directory", path, &reason)),
     }
@@ -278,7 +278,7 @@ fn why_not_there(
 ) -> Option<Reason> {
     for source in sources {
         if source.server == *server {
-            if let Some(reason) = why_no_path(rt, &source.dir, names) {
+            if let Some(reason) = why_no_path(rt, &source.root.dir, names) {
                 return Some(reason);
             }
         }

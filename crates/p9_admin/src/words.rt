@@ -1,24 +1,7 @@
 //! The words of the command line.
 
+use p9_inputs::shapes::{EXPLAIN, MAP, OUTPUT, SEAL, TREE};
 use p9_shell::{ArgShape, CommandShape, Given, ProgramShape, Value};
-
-// The option that names the input.
-const INPUT_NAME: ArgShape = ArgShape {
-    name: "name",
-    given: Given::Name,
-    value: Value::TextOr("NAME", "input"),
-    help: "The input's name in what is printed",
-    is_needed: false,
-};
-
-// The option that names the file of the output.
-const OUTPUT: ArgShape = ArgShape {
-    name: "output",
-    given: Given::NameOr('o'),
-    value: Value::Text("FILE"),
-    help: "The file of the output, which is replaced once all of it is written",
-    is_needed: false,
-};
 
 // The folder in which `p9d -d` keeps changes.
 const FOLDER: ArgShape = ArgShape {
@@ -124,49 +107,10 @@ const COMMANDS: [CommandShape; 8] = [
         about: "Prints the text of a world of directories of the disk",
         args: &PACK,
     },
-    CommandShape {
-        name: "seal",
-        about: "Prints the input with its certificate, where what is hidden is out of reach",
-        args: &[
-            INPUT_NAME,
-            OUTPUT,
-            ArgShape {
-                name: "anyway",
-                given: Given::Name,
-                value: Value::None,
-                help: "Seals also where nothing is hidden, no user is listed, or an operation failed",
-                is_needed: false,
-            },
-            ArgShape {
-                name: "fixed",
-                given: Given::Name,
-                value: Value::None,
-                help: "Seals only where no listed user can change anything that he reaches",
-                is_needed: false,
-            },
-        ],
-    },
-    CommandShape {
-        name: "explain",
-        about: "Says in words whether what is hidden is out of reach, and why not",
-        args: &[INPUT_NAME],
-    },
-    CommandShape {
-        name: "tree",
-        about: "Prints the name space as a user meets it",
-        args: &[ArgShape {
-            name: "user",
-            given: Given::Word,
-            value: Value::Text("USER"),
-            help: "A listed user; without one all places are printed",
-            is_needed: false,
-        }],
-    },
-    CommandShape {
-        name: "map",
-        about: "Prints the input as a picture, in SVG",
-        args: &[],
-    },
+    SEAL,
+    EXPLAIN,
+    TREE,
+    MAP,
     CommandShape {
         name: "demo",
         about: "Makes an example to pack, with the commands that pack and seal it",

@@ -5,7 +5,8 @@ ghost use Rattle.std.specs.Prelude.{◌≤◌, IfOk};
 use crate::failure::{Failure, report, report_about, report_text};
 use crate::watched::Watched;
 use clap::ArgMatches;
-use p9_client::{ClientError, FileError, Session};
+use p9_client::{ClientError, FileError, MSIZE_MIN, Session};
+use p9_wire::MSIZE_MAX;
 use std::alloc::{AllocError, Global};
 use std::io::ErrorKind;
 use std::net::{TcpStream, ToSocketAddrs};
@@ -18,12 +19,8 @@ pub type Client = Session<Watched, Global>;
 /// The fid of the root.
 pub const ROOT: u32 = 0;
 
-// The msize that is offered where none is given, and the bounds of one that is.
+// The msize that is offered where none is given.
 const MSIZE: usize = 65_536;
-
-const MSIZE_MIN: usize = 256;
-
-const MSIZE_MAX: usize = 1_048_576;
 
 // The seconds that a reply has where none are given, and the most of them.
 const TIMEOUT: usize = 30;
@@ -55,7 +52,7 @@ fn msize_of(rt: &HostRuntime, words: &ArgMatches<'_>) -> Result<usize, Failure>
     ensures within { IfOk result (λ msize. msize ≤ 1048576) }
 {
     let msize = words.get_one::<usize>("msize").unwrap_or(MSIZE);
-    if msize < MSIZE_MIN || msize > MSIZE_MAX {
+    if msize < MSIZE_MIN || msize > MSIZE_MAX as usize {
         return Err(report_text(rt, "an msize is from 256 to 1048576", Failure::BadWords));
     }
     Ok(msize)

@@ -435,8 +435,8 @@ fn make_dir(rt: &HostRuntime, client: &mut Client, path: &str, mode: u32) -> Res
         Some(_) => return Err(report_about(rt, path, &"not a directory", Failure::Refused)),
         None => {}
     }
-    match try_make_dir(rt, client, path, mode | OWNER_ALL)? {
+    match try_make_dir(rt, client, path, mode | OWNER_ALL) {
         Ok(()) => Ok(true),
-        Err(error) => Err(report(rt, path, &FileError::Session(error))),
+        Err(error) => Err(error.report(rt, path)),
     }
 }

@@ -114,21 +114,39 @@ fn listed(alloc: Global, client: &mut Client, most: u32) -> Result<Vec<Entry<Glo
     client.list_within(alloc, FILE, most)
 }
 
-/// Prints the names of a directory's entries, or the name of a file; or their long lines.
-pub fn list(rt: &HostRuntime, client: &mut Client, path: &str, long: bool) -> Result<(), Failure> {
+/// What is printed of a file that is listed.
+#[derive(Clone, Copy)]
+pub enum Listing {
+    /// Its name.
+    Short,
+    /// Its [`long_line`].
+    Long,
+}
+
+/// Lists the entries of a directory, or a file.
+pub fn list(
+    rt: &HostRuntime,
+    client: &mut Client,
+    path: &str,
+    listing: Listing,
+) -> Result<(), Failure> {
     let entry = stat_of(rt, client, path)?;
     if entry.is_dir() {
         let entries = entries_of(rt, client, path, LISTING_MAX)?;
-        print_sorted(rt, entries.as_slice(), long)
+        print_sorted(rt, entries.as_slice(), listing)
     } else {
-        print_entry(rt, &entry, long)
+        print_entry(rt, &entry, listing)
     }
 }
 
 // Prints entries in the order of their names.
-fn print_sorted(rt: &HostRuntime, entries: &[Entry<Global>], long: bool) -> Result<(), Failure> {
+fn print_sorted(
+    rt: &HostRuntime,
+    entries: &[Entry<Global>],
+    listing: Listing,
+) -> Result<(), Failure> {
     let order = by_name(rt.alloc(), entries)?;
-    print_entries(rt, entries, order.as_slice(), long)
+    print_entries(rt, entries, order.as_slice(), listing)
 }
 
 // The places of entries, in the order of their names.
@@ -146,22 +164,21 @@ fn print_entries(
     rt: &HostRuntime,
     entries: &[Entry<Global>],
     order: &[(&str, usize)],
-    long: bool,
+    listing: Listing,
 ) -> Result<(), Failure> {
     for (_, at) in order {
         if let Some(entry) = entries.get(*at) {
-            print_entry(rt, entry, long)?;
+            print_entry(rt, entry, listing)?;
         }
     }
     Ok(())
 }
 
-// Prints the name of an entry, or its long line.
-fn print_entry(rt: &HostRuntime, entry: &Entry<Global>, long: bool) -> Result<(), Failure> {
-    if long {
-        print(rt, &long_line(rt.alloc(), entry)?)
-    } else {
-        print(rt, &AsShown(entry.name.as_str()))
+// Prints an entry.
+fn print_entry(rt: &HostRuntime, entry: &Entry<Global>, listing: Listing) -> Result<(), Failure> {
+    match listing {
+        Listing::Short => print(rt, &AsShown(entry.name.as_str())),
+        Listing::Long => print(rt, &long_line(rt.alloc(), entry)?),
     }
 }
 
@@ -208,26 +225,56 @@ fn read_out(rt: &HostRuntime, client: &mut Client, path: &str) -> Result<(), Fai
 
 /// Makes a directory.
 pub fn make_dir(rt: &HostRuntime, client: &mut Client, path: &str) -> Result<(), Failure> {
-    match try_make_dir(rt, client, path, NEW_DIR)? {
+    match try_make_dir(rt, client, path, NEW_DIR) {
         Ok(()) => Ok(()),
-        Err(error) => Err(report(rt, path, &FileError::Session(error))),
+        Err(error) => Err(error.report(rt, path)),
     }
 }
 
-/// Makes a directory with these permissions. The inner error is that the server refuses it.
+/// Why a directory is not made.
+#[derive(Drop)]
+pub enum NotMade {
+    /// A call of the session failed, which is not reported yet.
+    Unreported(ClientError),
+    /// The directory above could not be had, which is reported.
+    Reported(Failure),
+}
+
+impl NotMade {
+    /// Reports why the directory of a path is not made, unless that is done, and returns how the command
+    /// failed.
+    pub fn report(self, rt: &HostRuntime, path: &str) -> Failure {
+        match self {
+            NotMade::Unreported(error) => report(rt, path, &FileError::Session(error)),
+            NotMade::Reported(failure) => failure,
+        }
+    }
+}
+
+impl From<ClientError> for NotMade {
+    fn from(error: ClientError) -> NotMade {
+        NotMade::Unreported(error)
+    }
+}
+
+impl From<Failure> for NotMade {
+    fn from(failure: Failure) -> NotMade {
+        NotMade::Reported(failure)
+    }
+}
+
+/// Makes a directory with these permissions.
 pub fn try_make_dir(
     rt: &HostRuntime,
     client: &mut Client,
     path: &str,
     permissions: u32,
-) -> Result<Result<(), ClientError>, Failure> {
+) -> Result<(), NotMade> {
     let name = walk_to_parent(rt, client, path)?;
     let made = client.create(FILE, name, DMDIR | permissions, OREAD);
     let clunked = client.clunk(FILE);
-    match (made, clunked) {
-        (Err(error), _) | (Ok(_), Err(error)) => Ok(Err(error)),
-        (Ok(_), Ok(())) => Ok(Ok(())),
-    }
+    made?;
+    Ok(clunked?)
 }
 
 /// Makes a directory, and those above it that are not there. A directory that is there is no error.
@@ -259,12 +306,13 @@ fn make_missing(rt: &HostRuntime, client: &mut Client, path: &str) -> Result<(),
     if let Some(entry) = found(rt, client, path)? {
         return need_dir(rt, path, &entry);
     }
-    match try_make_dir(rt, client, path, NEW_DIR)? {
+    match try_make_dir(rt, client, path, NEW_DIR) {
         Ok(()) => Ok(()),
+        Err(NotMade::Reported(failure)) => Err(failure),
         // Another client may have made it meanwhile.
         Err(error) => match found(rt, client, path)? {
             Some(entry) => need_dir(rt, path, &entry),
-            None => Err(report(rt, path, &FileError::Session(error))),
+            None => Err(error.report(rt, path)),
         },
     }
 }

@@ -15,7 +15,7 @@ use std::io;
 /// Runs one command. `sh` within lines is refused as a bad word.
 pub fn run_line(rt: &HostRuntime, client: &mut Client, verb: Verb<'_>) -> Result<(), Failure> {
     match verb {
-        Verb::List { path, long } => list(rt, client, path, long),
+        Verb::List { path, listing } => list(rt, client, path, listing),
         Verb::Cat { path } => cat(rt, client, path),
         Verb::Stat { path } => print_stat(rt, client, path),
         Verb::Get {

@@ -2,6 +2,7 @@
 
 use crate::get::GetOptions;
 use crate::limits::Limits;
+use crate::remote::Listing;
 use clap::{ArgMatches, Command};
 use p9_shell::{ArgShape, CommandShape, Given, ProgramShape, Value, with_commands};
 use std::alloc::{AllocError, Global};
@@ -9,10 +10,10 @@ use std::alloc::{AllocError, Global};
 /// What is asked for.
 #[derive(Clone, Copy)]
 pub enum Verb<'a> {
-    /// The entries of a directory, or a file; by name, or in long lines.
+    /// The entries of a directory, or a file.
     List {
         path: &'a str,
-        long: bool,
+        listing: Listing,
     },
     /// The bytes of a file.
     Cat {
@@ -64,7 +65,11 @@ pub fn verb_of<'a>(words: &ArgMatches<'a>) -> Option<Verb<'a>> {
     match name {
         "ls" => Some(Verb::List {
             path: words.get_str("path").unwrap_or("/"),
-            long: words.get_flag("long"),
+            listing: if words.get_flag("long") {
+                Listing::Long
+            } else {
+                Listing::Short
+            },
         }),
         "sh" => Some(Verb::Shell),
         _ => file_verb(name, words, words.get_str("path")?),

@@ -1,94 +1,90 @@
 //! How the commands of `p9_admin` end that read an input.
 
 use crate::body::Ending;
+use clap::error::ErrorKind;
+use clap::{ArgMatches, Error};
 use p9_base::NoMemory;
-use p9_explain::{explain, explain_change};
-use p9_seal::{SealError, Wishes, seal};
+use p9_inputs::InputCommand;
+use p9_inputs::shapes::{EXPLAIN, MAP, SEAL, TREE};
+use p9_shell::status::{BAD_COMMAND_LINE, DONE};
+use p9_shell::{ProgramShape, program_of};
 use p9_tree::Tree;
-use p9_view::show_tree;
 use std::alloc::{AllocError, Global};
 
-// What the program calls an input that is given no name.
-const NAME: &str = "input";
+// The program, as far as it is played here.
+const ADMIN: ProgramShape = ProgramShape {
+    name: "p9_admin",
+    about: "What an administrator of an export does",
+    args: &[],
+    commands: &[SEAL, EXPLAIN, TREE, MAP],
+    is_helping: true,
+};
 
-/// How `p9_admin seal` ends over an input, with `anyway` in its argument for `--anyway`, and `fixed` for
-/// `--fixed`: words with a comma between them.
-pub fn sealed<T: Tree<Alloc = Global>>(
+/// How `p9_admin` ends over an input, by the name of a command and the words after it, with a comma
+/// between them.
+pub fn administered<T: Tree<Alloc = Global>>(
     alloc: Global,
     input: &[u8],
+    name: &str,
     argument: Option<&str>,
 ) -> Result<Ending, AllocError> {
+    let words = words_of(alloc, name, argument)?;
+    match program_of(alloc, &ADMIN)?.try_get_matches_from(words.as_slice()) {
+        Ok(matches) => run::<T>(alloc, input, &matches),
+        Err(error) => told(alloc, &error),
+    }
+}
+
+// The words of the command line.
+fn words_of<'a>(
+    alloc: Global,
+    name: &'a str,
+    argument: Option<&'a str>,
+) -> Result<Vec<&'a str>, AllocError> {
+    let mut words = Vec::new(alloc);
+    words.push(ADMIN.name)?;
+    words.push(name)?;
+    if let Some(argument) = argument {
+        words.extend(argument.split(','))?;
+    }
+    Ok(words)
+}
+
+// How the command ends that `clap` read.
+fn run<T: Tree<Alloc = Global>>(
+    alloc: Global,
+    input: &[u8],
+    matches: &ArgMatches<'_>,
+) -> Result<Ending, AllocError> {
     let mut ending = Ending::new(alloc);
-    let wishes = Wishes {
-        anyway: has_word(argument, "anyway"),
-        fixed: has_word(argument, "fixed"),
+    let Some((name, options)) = matches.subcommand() else {
+        return Ok(ending);
     };
-    match seal::<T>(alloc, input, wishes) {
-        Ok(text) => ending.out = text.into_bytes(),
-        Err(error) => {
-            ending.status = 1;
-            ending.err = unsealed::<T>(alloc, input, &error)?;
+    let Some(command) = InputCommand::named(name) else {
+        return Ok(ending);
+    };
+    match command.run::<T>(input, options, &mut ending.out, &mut ending.err) {
+        Ok(status) => {
+            ending.status = status;
+            Ok(ending)
         }
+        Err(NoMemory) => Err(AllocError),
+    }
+}
+
+// How the program ends where `clap` reads no command in the words: as it says.
+fn told(alloc: Global, error: &Error) -> Result<Ending, AllocError> {
+    if error.kind() == ErrorKind::OutOfMemory {
+        return Err(AllocError);
+    }
+    let mut ending = Ending::new(alloc);
+    let text = error.to_string(alloc)?.into_bytes();
+    if error.use_stderr() {
+        ending.err = text;
+        ending.status = BAD_COMMAND_LINE;
+    } else {
+        ending.out = text;
+        ending.status = DONE;
     }
     Ok(ending)
-}
-
-// Whether an argument has the word.
-fn has_word(argument: Option<&str>, word: &str) -> bool {
-    match argument {
-        Some(argument) => argument.split(',').any(|other| other == word),
-        None => false,
-    }
-}
-
-// Why an input is not sealed: the way to what is hidden is explained, and what can be changed.
-fn unsealed<T: Tree<Alloc = Global>>(
-    alloc: Global,
-    input: &[u8],
-    error: &SealError<Global>,
-) -> Result<Vec<u8>, AllocError> {
-    let text = error.text(alloc)?;
-    let mut err = format!(in alloc; "{text}\n")?.into_bytes();
-    match error {
-        SealError::No(_) => {
-            explain::<T>(NAME, input, &mut err).map_err(|_| AllocError)?;
-        }
-        SealError::Changeable(change) => {
-            explain_change::<T>(NAME, input, change, &mut err).map_err(|_| AllocError)?;
-        }
-        _ => {}
-    }
-    Ok(err)
-}
-
-/// How `p9_admin explain` ends over an input, which is named by the argument.
-pub fn explained<T: Tree<Alloc = Global>>(
-    alloc: Global,
-    input: &[u8],
-    argument: Option<&str>,
-) -> Result<Ending, AllocError> {
-    let mut ending = Ending::new(alloc);
-    match explain::<T>(argument.unwrap_or(NAME), input, &mut ending.out) {
-        Ok(status) => {
-            ending.status = status;
-            Ok(ending)
-        }
-        Err(NoMemory) => Err(AllocError),
-    }
-}
-
-/// How `p9_admin tree` ends over an input, for the user whom the argument names.
-pub fn shown<T: Tree<Alloc = Global>>(
-    alloc: Global,
-    input: &[u8],
-    argument: Option<&str>,
-) -> Result<Ending, AllocError> {
-    let mut ending = Ending::new(alloc);
-    match show_tree::<T>(input, argument, &mut ending.out, &mut ending.err) {
-        Ok(status) => {
-            ending.status = status;
-            Ok(ending)
-        }
-        Err(NoMemory) => Err(AllocError),
-    }
 }

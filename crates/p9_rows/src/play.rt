@@ -1,6 +1,6 @@
 //! Plays rows, and prints which differ.
 
-use crate::admin::{explained, sealed, shown};
+use crate::admin::administered;
 use crate::body::Ending;
 use crate::row::Row;
 use crate::words::{exchange, first_not_read_back, frames, played};
@@ -73,7 +73,8 @@ fn ends_as_written<T: Tree<Alloc = Global>>(
 }
 
 // How a command ends over an input. What follows a colon is its argument. `frames` and `exchange`
-// are those of p9_fcall, `seal`, `explain` and `tree` those of p9_admin, and all others those of p9.
+// are those of p9_fcall, `seal`, `explain`, `tree` and `map` those of p9_admin, and all others those of
+// p9.
 fn play<T: Tree<Alloc = Global>>(
     alloc: Global,
     command: &str,
@@ -86,9 +87,7 @@ fn play<T: Tree<Alloc = Global>>(
     match name {
         "frames" => frames(alloc, input),
         "exchange" => exchange::<T>(alloc, input),
-        "seal" => sealed::<T>(alloc, input, argument),
-        "explain" => explained::<T>(alloc, input, argument),
-        "tree" => shown::<T>(alloc, input, argument),
+        "seal" | "explain" | "tree" | "map" => administered::<T>(alloc, input, name, argument),
         _ => played::<T>(alloc, command, input),
     }
 }

@@ -3,36 +3,29 @@
 use crate::node::{Entry, Level, Packing};
 use crate::reason::Reason;
 use crate::source::Source;
-use p9_pack::{Accounts, PlainName, ServerName};
+use p9_pack::{PlainName, ServerName};
 use p9_shell::Failure;
-use std::alloc::{AllocError, Global};
+use std::alloc::AllocError;
 
 /// Packs the directory of a source, with everything below it, as a server.
 pub(crate) fn pack_tree(
     rt: &HostRuntime,
     packing: &mut Packing<'_>,
-    accounts: &Accounts<'_, Global>,
     source: Source,
 ) -> Result<(), Failure> {
-    let Source {
-        server,
-        dir,
-        disk,
-        attributes,
-    } = source;
-    let Some(root) = packing.dir(rt, &server, &[], attributes, dir, disk)? else {
+    let Source { server, root } = source;
+    let Some(root) = packing.dir(rt, &server, &[], root)? else {
         return Ok(());
     };
     let mut levels = Vec::new(rt.alloc());
     levels.push(root)?;
-    pack_levels(rt, packing, accounts, &server, levels)
+    pack_levels(rt, packing, &server, levels)
 }
 
 // Packs what is below the last of some directories, and then below those before it.
 fn pack_levels(
     rt: &HostRuntime,
     packing: &mut Packing<'_>,
-    accounts: &Accounts<'_, Global>,
     server: &ServerName,
     mut levels: Vec<Level>,
 ) -> Result<(), Failure> {
@@ -41,7 +34,7 @@ fn pack_levels(
         if levels.is_empty() {
             break;
         }
-        pack_next(rt, packing, accounts, server, &mut names, &mut levels)?;
+        pack_next(rt, packing, server, &mut names, &mut levels)?;
     }
     Ok(())
 }
@@ -50,7 +43,6 @@ fn pack_levels(
 fn pack_next(
     rt: &HostRuntime,
     packing: &mut Packing<'_>,
-    accounts: &Accounts<'_, Global>,
     server: &ServerName,
     names: &mut Vec<PlainName>,
     levels: &mut Vec<Level>,
@@ -63,7 +55,7 @@ fn pack_next(
         let _ = names.pop();
         return Ok(());
     };
-    let below = pack_name(rt, packing, accounts, server, names, level, &pair)?;
+    let below = pack_name(rt, packing, server, names, level, &pair)?;
     let (name, _) = pair;
     level.before = Some(name);
     if let Some(below) = below {
@@ -77,7 +69,6 @@ fn pack_next(
 fn pack_name(
     rt: &HostRuntime,
     packing: &mut Packing<'_>,
-    accounts: &Accounts<'_, Global>,
     server: &ServerName,
     names: &mut Vec<PlainName>,
     level: &Level,
@@ -86,17 +77,14 @@ fn pack_name(
     let (name, on_disk) = (pair.0.as_str(), pair.1.as_str());
     let disk = joined(rt, level.disk.as_str(), on_disk)?;
     if level.is_taken(name, on_disk) {
-        packing
-            .output
-            .leave_out(rt, disk.as_str(), Reason::SameName)?;
-        return Ok(None);
+        return packing.none(rt, disk.as_str(), Reason::SameName);
     }
     let entry = Entry {
         dir: &level.dir,
         name: on_disk,
         disk: disk.as_str(),
     };
-    pack_entry(rt, packing, accounts, server, names, name, entry)
+    pack_entry(rt, packing, server, names, name, entry)
 }
 
 // Packs an entry of the directory of these names under a name, after which they are those of a
@@ -104,7 +92,6 @@ fn pack_name(
 fn pack_entry(
     rt: &HostRuntime,
     packing: &mut Packing<'_>,
-    accounts: &Accounts<'_, Global>,
     server: &ServerName,
     names: &mut Vec<PlainName>,
     name: &str,
@@ -112,14 +99,9 @@ fn pack_entry(
 ) -> Result<Option<Level>, Failure> {
     match PlainName::new(name) {
         Ok(name) => names.push(name)?,
-        Err(unfit) => {
-            packing
-                .output
-                .leave_out(rt, entry.disk, Reason::from(unfit))?;
-            return Ok(None);
-        }
+        Err(unfit) => return packing.none(rt, entry.disk, Reason::from(unfit)),
     }
-    let below = packing.entry(rt, accounts, server, names.as_slice(), entry)?;
+    let below = packing.entry(rt, server, names.as_slice(), entry)?;
     if below.is_none() {
         let _ = names.pop();
     }

@@ -1,0 +1,2 @@
+pub mod Showings
+pub mod Drawings
