@@ -1,5 +1,5 @@
 -- Whether a name space is fixed, in words.
-use Rattle.std.proofs.Common.{◌≡◌, ℕ, List, ◌++◌, Option, Some, sym, ap, ◌∙◌, subst, append_assoc}
+use Rattle.std.proofs.Common.{◌≡◌, ℕ, List, [], ◌++◌, Option, Some, length, sym, ap, ◌∙◌, subst, append_assoc, refl}
 use Rattle.std.specs.Prelude.{codes}
 use Rattle.p9_base.specs.declared.node_ref.NodeRef.{NodeRef}
 use Rattle.p9_cert.specs.Policy.{policy_of}
@@ -10,27 +10,21 @@ use Rattle.p9_fixed.specs.declared.change.Change.{Change}
 use Rattle.p9_shown.specs.Text.{shown_text}
 use Rattle.p9_world.specs.World.{World}
 use Rattle.p9_explain.specs.Change.{IsChangeTold, IsDeedTold, IsFirstTold, IsKindTold, IsReachTold}
-use Rattle.p9_explain.specs.Change.{IsVerb}
+use Rattle.p9_explain.specs.Change.{IsVerb, reach_text}
+use Rattle.p9_explain.specs.Free.{first_line, free_lines}
 
 module _ (world : World) (change : Change) where
   -- the line of a change, by its parts
-  pub deed-told : (user text name verb path rest : List ℕ) → IsVerb change.kind verb
+  pub deed-told : (user text name verb path right said : List ℕ) → IsVerb change.kind verb
       → name ≡ shown_text user → path ≡ shown_text (path_of world change.member)
-      → text ≡ name ++ (verb ++ (path ++ rest)) → IsDeedTold world change user text
-  deed-told user text name verb path rest is_verb name_is path_is written =
-      let here = shown_text (path_of world change.member) in
-      let shown = shown_text user in
-      record {
-        verb = verb;
-        is_verb = is_verb;
-        rest = rest;
-        is =
-            written
-            ∙ ap (λ n. n ++ (verb ++ (path ++ rest))) name_is
-            ∙ ap (λ p. shown ++ (verb ++ (p ++ rest))) path_is
-            ∙ sym (append_assoc shown verb (here ++ rest))
-            ∙ sym (append_assoc (shown ++ verb) here rest);
-      }
+      → right ≡ first_line said
+      → text ≡ name ++ (verb ++ (path ++ (right ++ codes "\n"))) → IsDeedTold world change user text
+  deed-told user text name verb path right said is_verb name_is path_is right_is written = record {
+    verb = verb;
+    is_verb = is_verb;
+    right = said;
+    is = rw (written, name_is, path_is, right_is) (simp append_assoc);
+  }
 
 module _ (space : NameSpace) (rows : List NodeRef) where
   -- of a change
@@ -44,12 +38,16 @@ module _ (space : NameSpace) (rows : List NodeRef) where
       (words, told, written)
 
   -- what follows a yes, by its parts
-  pub reach-told : (text reach kind hints : List ℕ) → IsKindTold space rows kind
-      → text ≡ reach ++ (kind ++ hints) → IsReachTold space rows text
-  reach-told text reach kind hints told written = record {
-    reach = reach;
+  pub reach-told : (count : ℕ) (text reach kind hints none said : List ℕ) → count ≡ length rows
+      → reach ≡ reach_text count → none ≡ [] → hints ≡ none ++ free_lines said
+      → IsKindTold space rows kind → text ≡ reach ++ (kind ++ hints) → IsReachTold space rows text
+  reach-told count text reach kind hints none said count_is reach_is none_is hints_is told written = record {
     kind = kind;
-    rest = hints;
+    hints = hints;
     told = told;
-    is = written ∙ sym (append_assoc reach kind hints);
+    free = (said, hints_is ∙ ap (λ n. n ++ free_lines said) none_is);
+    is =
+        written
+        ∙ ap (λ r. r ++ (kind ++ hints)) (reach_is ∙ ap reach_text count_is)
+        ∙ sym (append_assoc (reach_text (length rows)) kind hints);
   }

@@ -1,4 +1,5 @@
 pub mod Walks
+pub mod Pieces
 pub mod Numbers
 pub mod Verdicts
 pub mod Refusals

@@ -5,47 +5,38 @@ use Rattle.std.proofs.lemmas.List.{take_all, take_more}
 use Rattle.std.specs.Prelude.{codes}
 use Rattle.p9_base.specs.declared.node_ref.NodeRef.{NodeRef}
 use Rattle.p9_commands.specs.Path.{path_of}
+use Rattle.p9_judge.specs.declared.breach.BreachKind.{BreachKind}
 use Rattle.p9_judge.specs.declared.breach.Step.{Step}
 use Rattle.p9_shown.specs.Text.{shown_text}
 use Rattle.p9_world.specs.World.{World}
-use Rattle.p9_explain.specs.Told.{IsStepTold, IsWalkTold}
+use Rattle.p9_explain.specs.Free.{first_line}
+use Rattle.p9_explain.specs.Passing.{passing_text}
+use Rattle.p9_explain.specs.Told.{IsEndTold, IsStepTold, IsWalkTold, fault_of, fault_words}
 
 module _ (world : World) where
   -- the line of a step, by its parts
-  pub step-pushed : (step : Step) (old new name path rest : List ℕ)
+  pub step-pushed : (step : Step) (old new name path made right bound said_made said_bound : List ℕ)
       → name ≡ shown_text step.user → path ≡ shown_text (path_of world step.member)
-      → new ≡ old ++ (codes "  " ++ (name ++ (codes " passes " ++ (path ++ rest))))
+      → made ≡ first_line said_made → right ≡ passing_text world step.user step.member
+      → bound ≡ first_line said_bound →
+      new ≡ old ++ (codes "  " ++ (name ++ (codes " passes " ++ (path ++ (made ++ (right ++ (codes ")" ++ (bound ++ codes "\n"))))))))
       → (line : List ℕ) × IsStepTold world step line × (new ≡ old ++ line)
-  step-pushed step old new name path rest name_is path_is written =
-      let blanks = codes "  " in
-      let passes = codes " passes " in
-      let here = shown_text (path_of world step.member) in
-      let user = shown_text step.user in
-      let line = blanks ++ user ++ passes ++ here ++ rest in (
-        line,
-        (rest, refl),
-        written
-            ∙ ap (λ n. old ++ (blanks ++ (n ++ (passes ++ (path ++ rest))))) name_is
-            ∙ ap (λ p. old ++ (blanks ++ (user ++ (passes ++ (p ++ rest))))) path_is
-            ∙ ap (λ l. old ++ l)
-            (sym (append_assoc blanks user (passes ++ (here ++ rest)))
-            ∙ sym (append_assoc (blanks ++ user) passes (here ++ rest))
-            ∙ sym (append_assoc (blanks ++ user ++ passes) here rest)),
-      )
+  step-pushed step old new name path made right bound said_made said_bound name_is path_is made_is
+      right_is bound_is written =
+      let line = codes "  " ++ shown_text step.user ++ codes " passes "
+      ++ shown_text (path_of world step.member) ++ first_line said_made
+      ++ passing_text world step.user step.member ++ codes ")" ++ first_line said_bound ++ codes "\n" in
+      (line, (said_made, said_bound, refl), rw (written, name_is, path_is, made_is, right_is, bound_is) (simp append_assoc))
 
-  -- the text of a breach, by its parts
-  pub breach-parts : (member : NodeRef) (text head walk path rest : List ℕ)
-      → path ≡ shown_text (path_of world member)
-      → text ≡ head ++ (walk ++ (codes "  " ++ (path ++ rest)))
-      → text ≡ head ++ walk ++ codes "  " ++ shown_text (path_of world member) ++ rest
-  breach-parts member text head walk path rest path_is written =
-      let blanks = codes "  " in
-      let here = shown_text (path_of world member) in
-      written
-      ∙ ap (λ p. head ++ (walk ++ (blanks ++ (p ++ rest)))) path_is
-      ∙ sym (append_assoc head walk (blanks ++ (here ++ rest)))
-      ∙ sym (append_assoc (head ++ walk) blanks (here ++ rest))
-      ∙ sym (append_assoc (head ++ walk ++ blanks) here rest)
+  -- the line of a member, by its parts
+  pub end-told : (member : NodeRef) (kind : BreachKind) (text path made words why said_made said_why : List ℕ)
+      → path ≡ shown_text (path_of world member) → made ≡ first_line said_made
+      → words ≡ fault_words (fault_of kind) → why ≡ first_line said_why →
+      text ≡ codes "  " ++ (path ++ (made ++ (codes ") " ++ (words ++ (why ++ codes "\n")))))
+      → IsEndTold world member kind text
+  end-told member kind text path made words why said_made said_why path_is made_is words_is why_is
+      written =
+      (said_made, said_why, rw (written, path_is, made_is, words_is, why_is) (simp append_assoc))
 
   -- a step more
   walk-push : (steps : List Step) (text : List ℕ) (step : Step) (line : List ℕ)

@@ -2,10 +2,14 @@
 
 ghost use Rattle.std.specs.Prelude.{◌≡◌, ◌++◌, ℕ, IfOk, List, OnOk};
 ghost use Rattle.std.specs.String.{string_bytes};
-ghost use Rattle.p9_explain.specs.Told.{IsBreachTold, IsStepTold, IsWalkTold};
+ghost use Rattle.p9_explain.specs.Free.{AreFree};
+ghost use Rattle.p9_explain.specs.Told.{IsBreachTold, IsEndTold, IsHeadTold, IsStepTold, IsWalkTold};
+ghost use Rattle.p9_explain.specs.Told.{fault_of, start_text};
 
-use crate::column::{column_of, path_width, prefix_width, width};
-use crate::member::{Found, hidden_dir, push_found};
+use crate::column::{column_of, prefix_width, width};
+use crate::free::{first_line, push_free};
+use crate::member::{Found, fault_words, hidden_dir, push_why};
+use crate::passing::passing_words;
 use crate::right::{TO_USE, has};
 use crate::source::Source;
 use crate::teller::{Teller, push, push_blanks, shown_path};
@@ -13,7 +17,7 @@ use crate::walker::{steps_by, walker_of};
 use p9_base::{NoMemory, NodeRef, User};
 use p9_cert::MemberFault;
 use p9_judge::{Breach, BreachKind, Step};
-use p9_shown::{AsShown, shown};
+use p9_shown::shown;
 use p9_space::ROOT_PLACE;
 use p9_tree::Tree;
 use p9_world::World;
@@ -28,43 +32,123 @@ pub(crate) fn breach_words<T: Tree>(
     breach: &Breach<T::Alloc>,
 ) -> Result<String<T::Alloc>, NoMemory>
     ensures { IfOk result (λ text. IsBreachTold world.now breach.now.steps.items
-        breach.now.member (string_bytes text)) }
+        breach.now.member breach.now.kind (string_bytes text)) }
 {
-    let teller = Teller { source, world };
     let walker = walker_of(world, breach);
     let steps = steps_by(alloc, walker, breach.steps.as_slice())?;
     let column = column_of(alloc, world, steps.as_slice(), breach.member)?;
-    let mut head = String::new(alloc);
-    push_head(&mut head, &teller, steps.first(), breach.member)?;
+    let head = head_words(alloc, world, breach.member)?;
+    let start = start_words(alloc, world, steps.as_slice())?;
     let walk = walk_words(alloc, source, world, steps.as_slice(), column)?;
-    let path = shown_path(alloc, world, breach.member)?;
-    let mut rest = String::new(alloc);
-    push_end(&mut rest, &teller, breach, walker, column)?;
-    Ok(format!(in alloc; "{head}{walk}  {path}{rest}")?)
+    let end = end_words(alloc, source, world, breach, walker, column)?;
+    let mend = mend_words(alloc, world, breach, walker)?;
+    Ok(format!(in alloc; "{head}{start}{walk}{end}{mend}")?)
 }
 
-// Adds what follows the path of the member that the walk leads to: what is wrong with it, and how to
-// mend that.
-fn push_end<T: Tree>(
-    text: &mut String<T::Alloc>,
-    teller: &Teller<'_, '_, T>,
+// What is within reach: the inside of the hidden directory that a member is, or is inside of.
+fn head_words<T: Tree>(
+    alloc: T::Alloc,
+    world: &World<T>,
+    member: NodeRef,
+) -> Result<String<T::Alloc>, NoMemory>
+    ensures { IfOk result (λ text. IsHeadTold world.now (string_bytes text)) }
+{
+    let path = shown_path(alloc, world, hidden_dir(world, member))?;
+    Ok(format!(in alloc; "the inside of {path} is within reach\n")?)
+}
+
+// Who attaches: the user of the first step.
+fn start_words<T: Tree>(
+    alloc: T::Alloc,
+    world: &World<T>,
+    steps: &[Step],
+) -> Result<String<T::Alloc>, NoMemory>
+    ensures { IfOk result (λ text. string_bytes text ≡ start_text world.now steps.now) }
+{
+    match steps {
+        [step, ..] => {
+            let first = shown(alloc, step.user.as_str())?;
+            let root = shown_path(alloc, world, ROOT_PLACE)?;
+            Ok(format!(in alloc; "  {first} attaches at {root}\n")?)
+        }
+        [] => Ok(String::new(alloc)),
+    }
+}
+
+// The member that the walk leads to, and what is wrong with it, in a line.
+fn end_words<T: Tree>(
+    alloc: T::Alloc,
+    source: &Source<'_, T::Alloc>,
+    world: &World<T>,
     breach: &Breach<T::Alloc>,
     walker: Option<User>,
     column: usize,
-) -> Result<(), NoMemory> {
-    let world = teller.world;
-    let left = path_width(*text.allocator(), world, breach.member)?.saturating_add(2);
-    push_blanks(text, column.saturating_sub(left))?;
-    push_found(text, teller, &found_of(world, breach, walker))?;
-    if walker.is_none() {
-        push(
-            text,
-            "  no listed user may take this way alone; together they may\n",
-        )?;
-    }
-    writeln!(text, "mend: {}", mend(world, breach))?;
-    Ok(())
+) -> Result<String<T::Alloc>, NoMemory>
+    ensures { IfOk result (λ text.
+        IsEndTold world.now breach.now.member breach.now.kind (string_bytes text)) }
+{
+    let teller = Teller { source, world };
+    let path = shown_path(alloc, world, breach.member)?;
+    let made = made_words(
+        &teller,
+        alloc,
+        breach.member,
+        width(path.as_str()).saturating_add(2),
+        column,
+    )?;
+    let made = first_line(alloc, made.as_str())?;
+    let fault = fault_words(fault_of(breach.kind));
+    let why = why_words(&teller, alloc, &found_of(world, breach, walker))?;
+    let why = first_line(alloc, why.as_str())?;
+    Ok(format!(in alloc; "  {path}{made}) {fault}{why}\n")?)
 }
+
+// By which right a directory that is found is within reach, or what it is inside of, and where it is
+// bound.
+fn why_words<T: Tree>(
+    teller: &Teller<'_, '_, T>,
+    alloc: T::Alloc,
+    found: &Found,
+) -> Result<String<T::Alloc>, NoMemory> {
+    let mut text = String::new(alloc);
+    push_why(&mut text, teller, found)?;
+    Ok(text)
+}
+
+// Blanks up to the column after so many characters, and the line that made a node, after a
+// parenthesis.
+fn made_words<T: Tree>(
+    teller: &Teller<'_, '_, T>,
+    alloc: T::Alloc,
+    at: NodeRef,
+    before: usize,
+    column: usize,
+) -> Result<String<T::Alloc>, NoMemory> {
+    let mut text = String::new(alloc);
+    push_blanks(&mut text, column.saturating_sub(before))?;
+    push(&mut text, "(")?;
+    teller.made(&mut text, at)?;
+    Ok(text)
+}
+
+// That users take the way together, where none may take it alone, and how a breach is mended.
+fn mend_words<T: Tree>(
+    alloc: T::Alloc,
+    world: &World<T>,
+    breach: &Breach<T::Alloc>,
+    walker: Option<User>,
+) -> Result<String<T::Alloc>, NoMemory>
+    ensures { IfOk result (λ text. AreFree (string_bytes text)) }
+{
+    let together = if walker.is_none() { TOGETHER } else { "" };
+    let said = format!(in alloc; "{together}mend: {}\n", mend(world, breach))?;
+    let mut text = String::new(alloc);
+    push_free(said.as_str(), &mut text)?;
+    Ok(text)
+}
+
+// What is said where no listed user may take a walk alone.
+const TOGETHER: &str = "  no listed user may take this way alone; together they may\n";
 
 // The member that the walk leads to, at the place after the last step.
 fn found_of<T: Tree>(world: &World<T>, breach: &Breach<T::Alloc>, walker: Option<User>) -> Found {
@@ -81,32 +165,14 @@ fn found_of<T: Tree>(world: &World<T>, breach: &Breach<T::Alloc>, walker: Option
 }
 
 // What is wrong with the member of a breach, as of a certificate's gap.
-fn fault_of(kind: BreachKind) -> MemberFault {
+fn fault_of(kind: BreachKind) -> MemberFault
+    ensures { result ≡ fault_of kind }
+{
     match kind {
         BreachKind::Inside => MemberFault::Inside,
         BreachKind::Open => MemberFault::Open,
         BreachKind::Owned => MemberFault::Owned,
         BreachKind::Removable => MemberFault::Removable,
-    }
-}
-
-// Adds what is within reach, and who attaches: the user of the first step.
-fn push_head<T: Tree>(
-    text: &mut String<T::Alloc>,
-    teller: &Teller<'_, '_, T>,
-    first: Option<&Step>,
-    member: NodeRef,
-) -> Result<(), NoMemory> {
-    push(text, "the inside of ")?;
-    teller.path(text, hidden_dir(teller.world, member))?;
-    push(text, " is within reach\n")?;
-    match first {
-        Some(step) => {
-            write!(text, "  {} attaches at ", AsShown(step.user.as_str()))?;
-            teller.path(text, ROOT_PLACE)?;
-            push(text, "\n")
-        }
-        None => Ok(()),
     }
 }
 
@@ -178,29 +244,27 @@ fn push_step<T: Tree>(
         × (string_bytes text.new ≡ string_bytes text.old ++ line)) }
 {
     let alloc = *text.allocator();
-    let path = shown_path(alloc, world, step.member)?;
-    let user = shown(alloc, step.user.as_str())?;
-    let left = prefix_width(alloc, step)?.saturating_add(width(path.as_str()));
     let teller = Teller { source, world };
-    let mut rest = String::new(alloc);
-    push_pass(&mut rest, &teller, step, place, column.saturating_sub(left))?;
-    write!(text, "  {user} passes {path}{rest}")?;
+    let user = shown(alloc, step.user.as_str())?;
+    let path = shown_path(alloc, world, step.member)?;
+    let before = prefix_width(alloc, step)?.saturating_add(width(path.as_str()));
+    let made = made_words(&teller, alloc, step.member, before, column)?;
+    let made = first_line(alloc, made.as_str())?;
+    let right = passing_words(alloc, world, &step.user, step.member)?;
+    let bound = bound_words(&teller, alloc, place, step.member)?;
+    let bound = first_line(alloc, bound.as_str())?;
+    writeln!(text, "  {user} passes {path}{made}{right}){bound}")?;
     Ok(())
 }
 
-// Adds what follows the path of a step: so many blanks, the line that made its directory, by which
-// right it is passed, and where it is bound.
-fn push_pass<T: Tree>(
-    text: &mut String<T::Alloc>,
+// Where a node is bound, if that isn't its own place.
+fn bound_words<T: Tree>(
     teller: &Teller<'_, '_, T>,
-    step: &Step,
+    alloc: T::Alloc,
     place: Option<NodeRef>,
-    blanks: usize,
-) -> Result<(), NoMemory> {
-    push_blanks(text, blanks)?;
-    push(text, "(")?;
-    teller.made(text, step.member)?;
-    teller.pass(text, &step.user, step.member)?;
-    push(text, ")")?;
-    teller.end_line(text, place, step.member)
+    at: NodeRef,
+) -> Result<String<T::Alloc>, NoMemory> {
+    let mut text = String::new(alloc);
+    teller.end_line(&mut text, place, at)?;
+    Ok(text)
 }

@@ -1,5 +1,10 @@
 //! What is said of the certificate of an input: whether it is accepted, and its first gap in words.
 
+ghost use Rattle.std.specs.Prelude.{◌≡◌, IfOk, option_copied};
+ghost use Rattle.std.specs.String.{string_bytes};
+ghost use Rattle.p9_explain.specs.Certificate.{IsCertificateTold, IsGapTold};
+
+use crate::free::{first_line, push_free};
 use crate::head::Section;
 use crate::member::{Found, push_found};
 use crate::source::Source;
@@ -11,22 +16,41 @@ use p9_tree::Tree;
 use p9_world::World;
 use std::alloc::Allocator;
 
-/// Adds to a text what is said of the input's own certificate: that there is none, that it is accepted,
-/// or this first gap of it, told as a breach is.
-pub(crate) fn push_certificate<T: Tree>(
-    text: &mut String<T::Alloc>,
+/// What is said of the input's own certificate: that there is none, that it is accepted, or this first
+/// gap of it, told as a breach is.
+pub(crate) fn certificate_words<T: Tree>(
     teller: &Teller<'_, '_, T>,
+    alloc: T::Alloc,
     certificate: Option<&Certificate<T::Alloc>>,
     gap: Option<Gap>,
-) -> Result<(), NoMemory> {
-    match (certificate, gap) {
-        (None, _) => push(text, "certificate: none\n"),
-        (Some(_), None) => push(text, "certificate: accepted\n"),
-        (Some(certificate), Some(gap)) => {
-            push(text, "certificate: not accepted: ")?;
-            push_gap(text, teller, certificate.rows(), gap)
-        }
+) -> Result<String<T::Alloc>, NoMemory>
+    ensures { IfOk result (λ text.
+        IsCertificateTold (option_copied certificate.entry) gap (string_bytes text)) }
+{
+    let Some(certificate) = certificate else {
+        return Ok(String::from_str(alloc, "certificate: none\n")?);
+    };
+    match gap {
+        None => Ok(String::from_str(alloc, "certificate: accepted\n")?),
+        Some(gap) => gap_words(teller, alloc, certificate.rows(), gap),
     }
+}
+
+// What is said of a certificate that has a gap.
+fn gap_words<T: Tree>(
+    teller: &Teller<'_, '_, T>,
+    alloc: T::Alloc,
+    rows: &[NodeRef],
+    gap: Gap,
+) -> Result<String<T::Alloc>, NoMemory>
+    ensures { IfOk result (λ text. IsGapTold (string_bytes text)) }
+{
+    let mut said = String::new(alloc);
+    push_gap(&mut said, teller, rows, gap)?;
+    let first = first_line(alloc, said.as_str())?;
+    let mut text = format!(in alloc; "certificate: not accepted: {first}\n")?;
+    push_free(said.as_str(), &mut text)?;
+    Ok(text)
 }
 
 // Adds a gap in words.
@@ -87,7 +111,7 @@ fn push_row_gap<T: Tree>(
     match (kind, row_at(rows, row)) {
         (RowFault::Absent, _) => push(text, " is no directory\n"),
         (RowFault::Inside, Some(at)) => {
-            push(text, " ")?;
+            push(text, " is inside ")?;
             teller.inside(text, at)?;
             push(text, "\n")
         }

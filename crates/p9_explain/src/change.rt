@@ -5,6 +5,7 @@ ghost use Rattle.std.specs.String.{string_bytes};
 ghost use Rattle.p9_explain.specs.Change.{IsChangeTold, IsDeedTold, IsVerb};
 
 use crate::breach::MEND_DIRECTORY;
+use crate::free::first_line;
 use crate::head::Section;
 use crate::member::dir_of;
 use crate::right::{Alteration, TO_USE, altering_class, class_of};
@@ -106,9 +107,10 @@ fn deed_words<T: Tree>(
     let name = shown(alloc, user.as_str())?;
     let verb = verb(world, change, user);
     let path = shown_path(alloc, world, change.member)?;
-    let mut rest = String::new(alloc);
-    push_right(&mut rest, &Teller { source, world }, change, user)?;
-    Ok(format!(in alloc; "{name}{verb}{path}{rest}")?)
+    let mut right = String::new(alloc);
+    push_right(&mut right, &Teller { source, world }, change, user)?;
+    let right = first_line(alloc, right.as_str())?;
+    Ok(format!(in alloc; "{name}{verb}{path}{right}\n")?)
 }
 
 // What a user may do to the node of a change, between his name and its path.

@@ -4,20 +4,22 @@ ghost use Rattle.std.specs.Prelude.{◌≡◌, ◌++◌, ℕ, IfOk, List, OnErr}
 ghost use Rattle.std.specs.String.{string_bytes};
 ghost use Rattle.p9_commands.specs.Prepared.{prepared_of};
 ghost use Rattle.p9_commands.specs.declared.prepared.Needs.TheVariants.{Nothing};
-ghost use Rattle.p9_explain.specs.Change.{IsKindTold, IsReachTold};
-ghost use Rattle.p9_explain.specs.Explained.{IsExplained, IsRefusal, IsRefusalTold};
-ghost use Rattle.p9_explain.specs.Explained.{IsVerdictTold, yes_status};
+ghost use Rattle.p9_explain.specs.Change.{IsKindTold, IsReachTold, directories, reach_text};
+ghost use Rattle.p9_explain.specs.Claim.{claim_text};
+ghost use Rattle.p9_explain.specs.Explained.{IsExplained, IsFurtherTold, IsRefusal, IsRefusalTold};
+ghost use Rattle.p9_explain.specs.Explained.{IsRestTold, IsVerdict, IsVerdictTold, yes_status};
 
 use crate::breach::breach_words;
-use crate::certificate::push_certificate;
+use crate::certificate::certificate_words;
 use crate::change::change_words;
 use crate::claim::push_claim;
 use crate::faults::push_faults;
+use crate::free::push_free;
 use crate::hints::{push_hints, push_unneeded_rows};
 use crate::leaks::other_leaks;
 use crate::member::hidden_dir;
 use crate::source::Source;
-use crate::teller::Teller;
+use crate::teller::{Teller, push};
 use p9_base::{NoMemory, NodeRef};
 use p9_cert::{Certificate, Gap};
 use p9_commands::status::{DONE, REFUSED};
@@ -128,8 +130,24 @@ fn rest_of<T: Tree>(
     source: &Source<'_, T::Alloc>,
     prepared: Prepared<T>,
     leak: Option<NodeRef>,
-) -> Result<String<T::Alloc>, NoMemory> {
+) -> Result<String<T::Alloc>, NoMemory>
+    ensures { IfOk result (λ text. IsRestTold prepared (string_bytes text)) }
+{
     let further = further_words(alloc, source, &prepared)?;
+    let leaks = leaks_said(alloc, source, prepared, leak)?;
+    let mut text = String::new(alloc);
+    push_free(leaks.as_str(), &mut text)?;
+    push(&mut text, further.as_str())?;
+    Ok(text)
+}
+
+// What is said of the hidden directories that leak beside the one that the verdict names.
+fn leaks_said<T: Tree>(
+    alloc: T::Alloc,
+    source: &Source<'_, T::Alloc>,
+    prepared: Prepared<T>,
+    leak: Option<NodeRef>,
+) -> Result<String<T::Alloc>, NoMemory> {
     match leak {
         Some(dir) => {
             let Prepared {
@@ -137,12 +155,11 @@ fn rest_of<T: Tree>(
                 certificate: _,
                 events: _,
             } = prepared;
-            let others = other_leaks(alloc, source, space, dir)?;
-            Ok(format!(in alloc; "{others}{further}")?)
+            other_leaks(alloc, source, space, dir)
         }
         None => {
             prepared.discard();
-            Ok(further)
+            Ok(String::new(alloc))
         }
     }
 }
@@ -153,11 +170,11 @@ fn tell<T: Tree>(
     source: &Source<'_, T::Alloc>,
     prepared: &Prepared<T>,
 ) -> Result<Told<T::Alloc>, NoMemory>
-    ensures { IfOk result (λ told. IsVerdictTold prepared.now told.status (string_bytes told.text)) }
+    ensures { IfOk result (λ told.
+        IsVerdict prepared.now told.status (string_bytes told.text)) }
 {
-    let world = &prepared.space.world;
     let mut claim = String::new(alloc);
-    push_claim(&mut claim, &Teller { source, world })?;
+    push_claim(&mut claim, &prepared.space.world)?;
     verdict_told(alloc, source, prepared, claim.as_str())
 }
 
@@ -168,7 +185,9 @@ fn verdict_told<T: Tree>(
     prepared: &Prepared<T>,
     claim: &str,
 ) -> Result<Told<T::Alloc>, NoMemory>
-    ensures { IfOk result (λ told. IsVerdictTold prepared.now told.status (string_bytes told.text)) }
+    requires { claim.now ≡ claim_text prepared.now.space.world }
+    ensures { IfOk result (λ told.
+        IsVerdict prepared.now told.status (string_bytes told.text)) }
 {
     let space = &prepared.space;
     match judge(alloc, &space.world, &space.table)? {
@@ -218,21 +237,43 @@ fn yes_words<T: Tree>(
 {
     let reach = reach_words(alloc, least.rows().len())?;
     let kind = kind_words(alloc, source, &prepared.space, least)?;
+    let said = rows_said(alloc, source, prepared.certificate.as_ref(), least)?;
     let mut hints = String::new(alloc);
-    if let Some(certificate) = &prepared.certificate {
-        push_unneeded_rows(&mut hints, source, certificate, least)?;
-    }
+    push_free(said.as_str(), &mut hints)?;
     Ok(format!(in alloc; "{reach}{kind}{hints}")?)
 }
 
+// What is said of the rows of a certificate, if there is one, that are not in the least one.
+fn rows_said<A: Allocator + Copy>(
+    alloc: A,
+    source: &Source<'_, A>,
+    certificate: Option<&Certificate<A>>,
+    least: &Certificate<A>,
+) -> Result<String<A>, NoMemory> {
+    let mut said = String::new(alloc);
+    if let Some(certificate) = certificate {
+        push_unneeded_rows(&mut said, source, certificate, least)?;
+    }
+    Ok(said)
+}
+
 // How many directories clients can reach.
-fn reach_words<A: Allocator + Copy>(alloc: A, count: usize) -> Result<String<A>, NoMemory> {
-    let directories = if count == 1 {
-        "directory"
+fn reach_words<A: Allocator + Copy>(alloc: A, count: usize) -> Result<String<A>, NoMemory>
+    ensures { IfOk result (λ text. string_bytes text ≡ reach_text count) }
+{
+    let directories = directories(count);
+    Ok(format!(in alloc; "clients can reach {count}{directories}, and nothing hidden\n")?)
+}
+
+// What follows the number of directories.
+fn directories(count: usize) -> &'static str
+    ensures { result.now ≡ directories count }
+{
+    if count == 1 {
+        " directory"
     } else {
-        "directories"
-    };
-    Ok(format!(in alloc; "clients can reach {count} {directories}, and nothing hidden\n")?)
+        " directories"
+    }
 }
 
 // Whether a name space is fixed, by its least certificate, or what can be changed first.
@@ -262,14 +303,17 @@ fn further_words<T: Tree>(
     alloc: T::Alloc,
     source: &Source<'_, T::Alloc>,
     prepared: &Prepared<T>,
-) -> Result<String<T::Alloc>, NoMemory> {
+) -> Result<String<T::Alloc>, NoMemory>
+    ensures { IfOk result (λ text. IsFurtherTold prepared.now (string_bytes text)) }
+{
     let space = &prepared.space;
     let world = &space.world;
     let teller = Teller { source, world };
-    let mut text = String::new(alloc);
-    let certificate = prepared.certificate.as_ref();
-    push_certificate(&mut text, &teller, certificate, prepared.gap())?;
-    push_hints(&mut text, &teller, &space.table, space.reports.as_slice())?;
+    let gap = prepared.gap();
+    let mut text = certificate_words(&teller, alloc, prepared.certificate.as_ref(), gap)?;
+    let mut said = String::new(alloc);
+    push_hints(&mut said, &teller, &space.table, space.reports.as_slice())?;
+    push_free(said.as_str(), &mut text)?;
     Ok(text)
 }
 
@@ -280,14 +324,22 @@ fn refusal_words<T: Tree>(
     input: &[u8],
     refusal: Refusal,
 ) -> Result<String<T::Alloc>, NoMemory>
-    ensures { IfOk result (λ text. IsRefusal (string_bytes text)) }
+    ensures { IfOk result (λ text. IsRefusal refusal (string_bytes text)) }
 {
-    let mut rest = refusal.text(alloc)?;
-    rest.push('\n')?;
+    let reason = refusal.text(alloc)?;
+    let faults = faults_said::<T>(alloc, name, input)?;
+    Ok(format!(in alloc; "refused: {reason}\n{faults}")?)
+}
+
+// What is said of the bad lines of an input.
+fn faults_said<T: Tree>(
+    alloc: T::Alloc,
+    name: &str,
+    input: &[u8],
+) -> Result<String<T::Alloc>, NoMemory> {
+    let mut said = String::new(alloc);
     if let Ok(input) = str::from_utf8(input) {
-        push_faults::<T>(&mut rest, &Source::of(alloc, name, input)?)?;
+        push_faults::<T>(&mut said, &Source::of(alloc, name, input)?)?;
     }
-    let mut text = String::from_str(alloc, "refused: ")?;
-    text.push_str(rest.as_str())?;
-    Ok(text)
+    Ok(said)
 }

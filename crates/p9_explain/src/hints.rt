@@ -1,15 +1,14 @@
 //! Hints: what is allowed and may not be meant.
 
 use crate::head::Section;
-use crate::right::passing_class;
 use crate::source::Source;
 use crate::strangers::push_strangers;
 use crate::teller::Teller;
 use p9_base::{NoMemory, NodeRef, Statement, User};
-use p9_cert::Certificate;
+use p9_cert::{Certificate, may_pass};
 use p9_nsline::OpFault;
 use p9_shown::AsShown;
-use p9_space::{MountTable, ROOT_PLACE};
+use p9_space::{MountTable, ROOT_PLACE, Who};
 use p9_tree::Tree;
 use p9_world::World;
 use std::alloc::Allocator;
@@ -134,10 +133,11 @@ fn passes_root<T: Tree>(world: &World<T>, table: &MountTable<T::Alloc>, user: &U
 
 // Whether the user may search the node, or rules it.
 fn passes<T: Tree>(world: &World<T>, user: &User, at: NodeRef) -> bool {
-    let Some(node) = world.forest.node(at) else {
-        return false;
-    };
-    passing_class(world, user, node).is_some()
+    let groups = &world.groups;
+    match world.forest.node(at) {
+        Some(node) => may_pass(Who { user, groups }, node),
+        None => false,
+    }
 }
 
 // The operations of the namespace file that failed.

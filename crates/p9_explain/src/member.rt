@@ -1,5 +1,8 @@
 //! What is wrong with a directory that a walk leads to: by which user, and by which right.
 
+ghost use Rattle.std.specs.Prelude.{◌≡◌};
+ghost use Rattle.p9_explain.specs.Told.{fault_words};
+
 use crate::right::{NO_RIGHTS, TO_USE, push_right};
 use crate::teller::{Teller, push};
 use p9_base::{NoMemory, NodeRef, Rights, User};
@@ -28,34 +31,46 @@ pub(crate) fn push_found<T: Tree>(
     push(text, "(")?;
     teller.made(text, found.member)?;
     push(text, ") ")?;
-    push_fault(text, teller, found)?;
-    teller.end_line(text, found.place, found.member)
+    push(text, fault_words(found.fault))?;
+    push_why(text, teller, found)
 }
 
-// What is wrong with a directory that a walk leads to.
-fn push_fault<T: Tree>(
+/// What is wrong with a directory, in words: what follows them says by which right, or of what.
+pub(crate) fn fault_words(fault: MemberFault) -> &'static str
+    ensures { result.now ≡ fault_words fault }
+{
+    match fault {
+        MemberFault::Inside => "is inside ",
+        MemberFault::Removable => "is removable from ",
+        MemberFault::Open => "is open: ",
+        MemberFault::Owned => "is owned: ",
+        MemberFault::Missing => "is no row: ",
+    }
+}
+
+/// Adds what follows the words of a fault: by which right or of what, and where the directory is bound.
+pub(crate) fn push_why<T: Tree>(
     text: &mut String<T::Alloc>,
     teller: &Teller<'_, '_, T>,
     found: &Found,
 ) -> Result<(), NoMemory> {
     match found.fault {
-        MemberFault::Inside => teller.inside(text, found.member),
-        MemberFault::Removable => push_removal(text, teller, found),
-        MemberFault::Open => push_use(text, teller, "is open: ", found, TO_USE),
-        MemberFault::Owned => push_use(text, teller, "is owned: ", found, NO_RIGHTS),
-        MemberFault::Missing => push_use(text, teller, "is no row: ", found, TO_EXECUTE),
+        MemberFault::Inside => teller.inside(text, found.member)?,
+        MemberFault::Removable => push_removal(text, teller, found)?,
+        MemberFault::Open => push_use(text, teller, found, TO_USE)?,
+        MemberFault::Owned => push_use(text, teller, found, NO_RIGHTS)?,
+        MemberFault::Missing => push_use(text, teller, found, TO_EXECUTE)?,
     }
+    teller.end_line(text, found.place, found.member)
 }
 
-// What a node is, and who has one of these rights of it.
+// Adds who has one of these rights of a directory.
 fn push_use<T: Tree>(
     text: &mut String<T::Alloc>,
     teller: &Teller<'_, '_, T>,
-    what: &'static str,
     found: &Found,
     wanted: Rights,
 ) -> Result<(), NoMemory> {
-    push(text, what)?;
     push_right(text, teller, found.member, wanted, found.walker)
 }
 
@@ -66,7 +81,6 @@ fn push_removal<T: Tree>(
     found: &Found,
 ) -> Result<(), NoMemory> {
     let dir = dir_of(teller.world, found.member).unwrap_or(found.member);
-    push(text, "is removable from ")?;
     teller.path(text, dir)?;
     push(text, " (")?;
     teller.made(text, dir)?;

@@ -108,18 +108,6 @@ pub(crate) fn ruling_class<T: Tree>(
     }
 }
 
-/// As what a user passes a directory, and what that is.
-pub(crate) fn passing_class<T: Tree>(
-    world: &World<T>,
-    user: &User,
-    node: &Node<T::Alloc>,
-) -> Option<(Class, &'static str)> {
-    match class_of(world, user, node, TO_EXECUTE) {
-        Some(class) => Some((class, " may search")),
-        None => Some((ruling_class(world, user, node)?, " may change its mode")),
-    }
-}
-
 /// As what a user writes a node or rules it, and what that is.
 pub(crate) fn altering_class<T: Tree>(
     world: &World<T>,

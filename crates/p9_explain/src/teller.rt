@@ -1,6 +1,6 @@
 //! Words about the nodes of a world.
 
-ghost use Rattle.std.specs.Prelude.{◌≡◌, IfOk};
+ghost use Rattle.std.specs.Prelude.{◌≡◌, ◌++◌, IfOk, OnOk};
 ghost use Rattle.std.specs.String.{string_bytes};
 ghost use Rattle.p9_commands.specs.Path.{path_of};
 ghost use Rattle.p9_shown.specs.Text.{shown_text};
@@ -8,11 +8,10 @@ ghost use Rattle.p9_shown.specs.Text.{shown_text};
 use crate::bound::bind_line;
 use crate::head::Section;
 use crate::member::hidden_dir;
-use crate::right::passing_class;
 use crate::source::Source;
-use p9_base::{NoMemory, NodeRef, User};
+use p9_base::{NoMemory, NodeRef};
 use p9_commands::path_of;
-use p9_shown::{AsShown, shown};
+use p9_shown::{AsShown, push_shown, shown};
 use p9_tree::{Node, Tree};
 use p9_world::World;
 use std::alloc::Allocator;
@@ -27,33 +26,12 @@ pub(crate) struct Teller<'a, 'b, T: Tree> {
 impl<T: Tree> Teller<'_, '_, T> {
     /// Adds the path of a node.
     pub fn path(&self, text: &mut String<T::Alloc>, at: NodeRef) -> Result<(), NoMemory> {
-        let path = shown_path(*text.allocator(), self.world, at)?;
-        push(text, path.as_str())
+        push_path(text, self.world, at)
     }
 
-    /// Adds `is inside PATH`, for the hidden directory that a node is inside of.
+    /// Adds the path of the hidden directory that a node is inside of.
     pub fn inside(&self, text: &mut String<T::Alloc>, at: NodeRef) -> Result<(), NoMemory> {
-        push(text, "is inside ")?;
         self.path(text, hidden_dir(self.world, at))
-    }
-
-    /// Adds `: CLASS DEED` for a user who passes a directory: as what, and what that is.
-    pub fn pass(
-        &self,
-        text: &mut String<T::Alloc>,
-        user: &User,
-        at: NodeRef,
-    ) -> Result<(), NoMemory> {
-        let world = self.world;
-        let Some(node) = world.forest.node(at) else {
-            return Ok(());
-        };
-        let Some((class, deed)) = passing_class(world, user, node) else {
-            return Ok(());
-        };
-        push(text, ": ")?;
-        class.push(text, node.gid())?;
-        push(text, deed)
     }
 
     /// Adds `, bound at PATH (NAME:L)` for a place and a node that is bound there by this line, if that
@@ -121,6 +99,20 @@ fn push_rights<A: Allocator + Copy>(text: &mut String<A>, node: &Node<A>) -> Res
     Ok(())
 }
 
+/// Adds the path of a node, as it is shown.
+pub(crate) fn push_path<T: Tree>(
+    text: &mut String<T::Alloc>,
+    world: &World<T>,
+    at: NodeRef,
+) -> Result<(), NoMemory>
+    ensures { OnOk result (string_bytes text.new
+        ≡ string_bytes text.old ++ shown_text (path_of world.now at)) }
+{
+    let path = path_of(*text.allocator(), world, at)?;
+    push_shown(path.as_str(), text)?;
+    Ok(())
+}
+
 /// The path of a node, as it is shown.
 pub(crate) fn shown_path<T: Tree>(
     alloc: T::Alloc,
@@ -142,7 +134,9 @@ pub(crate) fn push_blanks<A: Allocator + Copy>(
 }
 
 /// Adds words to a text.
-pub(crate) fn push<A: Allocator + Copy>(text: &mut String<A>, words: &str) -> Result<(), NoMemory> {
+pub(crate) fn push<A: Allocator + Copy>(text: &mut String<A>, words: &str) -> Result<(), NoMemory>
+    ensures { OnOk result (string_bytes text.new ≡ string_bytes text.old ++ words.now) }
+{
     text.push_str(words)?;
     Ok(())
 }

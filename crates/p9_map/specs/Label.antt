@@ -16,7 +16,7 @@ use Rattle.p9_judge.specs.declared.breach.Step.{Step}
 use Rattle.p9_commands.specs.Path.{server_name}
 use Rattle.p9_shown.specs.Text.{shown_text}
 use Rattle.p9_map.specs.Fault.{fault_note}
-use Rattle.p9_map.specs.Right.{right_of, right_words}
+use Rattle.p9_right.specs.Right.{right_of, right_words}
 use Rattle.p9_map.specs.Walk.{Walk}
 use Rattle.p9_map.specs.declared.label.Label.{Label}
 

@@ -5,7 +5,6 @@ pub mod Escape
 pub mod Svg
 pub mod Order
 pub mod Plan
-pub mod Right
 pub mod Walk
 pub mod Scene
 pub mod Mark

@@ -13,11 +13,11 @@ ghost use Rattle.p9_map.specs.Walk.{walk_in, walk_of};
 
 use crate::fault::fault_note;
 use crate::order::Spot;
-use crate::right::right_of;
 use crate::scene::Scene;
 use p9_base::{NoMemory, NodeRef};
 use p9_commands::server_name;
 use p9_judge::{Breach, Step};
+use p9_right::right_of;
 use p9_shown::shown;
 use p9_space::Who;
 use p9_tree::{Forest, Tree};

@@ -23,7 +23,6 @@ mod pen;
 mod picture;
 mod plan;
 mod rect;
-mod right;
 mod scene;
 mod standing;
 mod svg;

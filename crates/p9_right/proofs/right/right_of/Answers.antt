@@ -3,7 +3,7 @@ use Rattle.std.specs.Str.{bytes_eq}
 use Rattle.std.proofs.lemmas.Bool.{or_left, or_right}
 use Rattle.p9_base.specs.Group.{is_member, leads}
 use Rattle.p9_base.specs.Rights.{has_right}
-use Rattle.p9_map.proofs.right.right_of.Goals as goal
+use Rattle.p9_right.proofs.right.right_of.Goals as goal
 
 -- whoever may search the directory passes it
 granted : (reads writes searches rules : Bool) → searches ≡ true

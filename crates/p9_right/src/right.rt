@@ -3,7 +3,7 @@
 ghost use Rattle.std.specs.Prelude.{◌≡◌, is_some};
 ghost use Rattle.p9_cert.specs.Listed.{may_pass};
 ghost use Rattle.p9_space.specs.Rights.{who_view};
-ghost use Rattle.p9_map.specs.Right.{right_of, right_words};
+ghost use Rattle.p9_right.specs.Right.{right_of, right_words};
 
 use p9_space::Who;
 use p9_tree::Node;
@@ -11,7 +11,7 @@ use std::alloc::Allocator;
 
 /// The right by which a user passes a directory.
 #[derive(Clone, Copy)]
-pub(crate) enum Right {
+pub enum Right {
     OthersSearch,
     OwnerSearches,
     MemberSearches,
@@ -36,10 +36,7 @@ impl Right {
 
 /// The first right by which the user passes the directory: none exactly where he may neither search it
 /// nor change its mode.
-pub(crate) fn right_of<A: Allocator, B: Allocator + Copy>(
-    who: Who<'_, B>,
-    dir: &Node<A>,
-) -> Option<Right>
+pub fn right_of<A: Allocator, B: Allocator + Copy>(who: Who<'_, B>, dir: &Node<A>) -> Option<Right>
     ensures right { result ≡ right_of (who_view who.entry) dir.now }
     ensures passed { is_some result ≡ may_pass dir.now (who_view who.entry) }
 {

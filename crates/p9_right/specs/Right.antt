@@ -4,9 +4,9 @@ use Rattle.std.specs.Str.{bytes_eq}
 use Rattle.p9_base.specs.Group.{is_member, leads}
 use Rattle.p9_tree.specs.Node.{Node}
 use Rattle.p9_space.specs.Rights.{Who}
-use Rattle.p9_map.specs.declared.right.Right.{Right}
-use Rattle.p9_map.specs.declared.right.Right.TheVariants.{OthersSearch, OwnerSearches, MemberSearches}
-use Rattle.p9_map.specs.declared.right.Right.TheVariants.{OwnerRules, LeaderRules}
+use Rattle.p9_right.specs.declared.right.Right.{Right}
+use Rattle.p9_right.specs.declared.right.Right.TheVariants.{OthersSearch, OwnerSearches, MemberSearches}
+use Rattle.p9_right.specs.declared.right.Right.TheVariants.{OwnerRules, LeaderRules}
 
 -- the first that the user has: the others' right to search, the owner's, that of a member of its
 -- group; and then the right of the owner, and of who leads the group, to change its mode
