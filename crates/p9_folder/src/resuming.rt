@@ -6,7 +6,7 @@ ghost use Rattle.p9_log.specs.Blocks.{content_in};
 ghost use Rattle.p9_log.specs.Log.{LeaveAsSeen};
 ghost use Rattle.p9_kept.specs.Edits.{stood_for};
 
-use p9_base::NoMemory;
+use p9_base::{NoMemory, SERVERS_MAX};
 use p9_commands::NameSpace;
 use p9_kept::{FileJournal, Refused, ReopenError, Reopened, resume};
 use p9_log::{Crash, Device, Recovered, recover};
@@ -49,10 +49,14 @@ pub fn reopen_for<D: Device, A: Allocator + Copy, T: Tree<Alloc = A>>(
       world = record space.old.world { forest = space.new.world.forest };
     } }
 {
-    match recover(alloc, device, how) {
-        Ok(recovered) if recovered.bytes.is_empty() => resume(alloc, recovered),
-        Ok(recovered) => resume_bare(alloc, recovered, space),
-        Err((error, _device)) => Err(ReopenError::Log(error)),
+    let recovered = match recover(alloc, device, how) {
+        Ok(recovered) => recovered,
+        Err((error, _device)) => return Err(ReopenError::Log(error)),
+    };
+    if recovered.bytes.is_empty() {
+        resume(alloc, recovered)
+    } else {
+        resume_bare(alloc, recovered, space)
     }
 }
 
@@ -82,25 +86,27 @@ fn resume_bare<D: Device, A: Allocator + Copy, T: Tree<Alloc = A>>(
     Ok(reopened)
 }
 
-// Puts bare trees in the place of those of a name space. Where an allocation fails, it is unchanged.
+// Puts bare trees in the place of those of a name space. Where that can't be done, it is unchanged.
 fn lay_bare<T: Tree>(alloc: T::Alloc, space: &mut NameSpace<T>)
     ensures { space.new ≡ record space.old {
       world = record space.old.world { forest = space.new.world.forest };
     } }
 {
-    if let Ok(bare) = bare_forest(alloc, &space.world.forest) {
-        go_on_with(space, bare);
+    let Ok(trees) = bare_trees(alloc, space.world.forest.trees()) else {
+        return;
+    };
+    if trees.len() <= SERVERS_MAX {
+        go_on_with(space, Forest::new(trees));
     }
 }
 
-// A forest of as many trees, each of them bare.
-fn bare_forest<T: Tree>(alloc: T::Alloc, forest: &Forest<T>) -> Result<Forest<T>, NoMemory> {
-    forest.well_formed();
-    let mut trees = Vec::with_capacity(alloc, forest.trees().len())?;
-    for tree in forest.trees() {
-        trees.push(bare_tree(alloc, tree)?)?;
+// A bare tree for each of these.
+fn bare_trees<T: Tree>(alloc: T::Alloc, trees: &[T]) -> Result<Vec<T, T::Alloc>, NoMemory> {
+    let mut bare = Vec::new(alloc);
+    for tree in trees {
+        bare.push(bare_tree(alloc, tree)?)?;
     }
-    Ok(Forest::new(trees))
+    Ok(bare)
 }
 
 // A tree of a root alone, with the next number of another one.
